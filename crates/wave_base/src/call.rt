@@ -1,0 +1,60 @@
+ghost use Rattle.std.specs.Prelude.{◌≡◌, IfOk};
+
+use crate::copied::Copied;
+use crate::memory::OutOfMemory;
+use crate::seq::Seq;
+use crate::text::Txt;
+use crate::value::Value;
+use std::alloc::Global;
+
+/// A call of an event: its number in the shape, its arguments, and its generation.
+#[derive(PartialEq, Eq, Debug, Drop)]
+pub struct Call {
+    pub event: u16,
+    pub args: Seq<Value>,
+    pub generation: u8,
+}
+
+/// What an event sends out.
+#[derive(PartialEq, Eq, Debug, Drop)]
+pub struct Message {
+    pub label: Txt,
+    pub value: Value,
+}
+
+impl Call {
+    /// A call equal to this one.
+    pub fn copy(&self, alloc: Global) -> Result<Call, OutOfMemory>
+        ensures { IfOk result (λ c. c ≡ self.now) }
+    {
+        Ok(Call {
+            event: self.event,
+            args: self.args.copy(alloc)?,
+            generation: self.generation,
+        })
+    }
+}
+
+impl Message {
+    /// A message equal to this one.
+    pub fn copy(&self, alloc: Global) -> Result<Message, OutOfMemory>
+        ensures { IfOk result (λ m. m ≡ self.now) }
+    {
+        Ok(Message {
+            label: self.label.copy(alloc)?,
+            value: self.value.copy(alloc)?,
+        })
+    }
+}
+
+impl Copied for Call {
+    fn copied(&self, alloc: Global) -> Result<Call, OutOfMemory> {
+        self.copy(alloc)
+    }
+}
+
+impl Copied for Message {
+    fn copied(&self, alloc: Global) -> Result<Message, OutOfMemory> {
+        self.copy(alloc)
+    }
+}

@@ -1,0 +1,109 @@
+ghost use Rattle.std.specs.Prelude.{◌≡◌, IfOk};
+
+use crate::copied::Copied;
+use crate::memory::OutOfMemory;
+use crate::path::Class;
+use crate::seq::Seq;
+use crate::text::Txt;
+use crate::value::{Kind, Value};
+use std::alloc::Global;
+
+/// A field of a class, with the value that it begins with.
+#[derive(PartialEq, Eq, Debug, Drop)]
+pub struct FieldInfo {
+    pub name: Txt,
+    pub kind: Kind,
+    pub initial: Value,
+}
+
+/// A class of contexts. The root's has no parent.
+#[derive(PartialEq, Eq, Debug, Drop)]
+pub struct ClassInfo {
+    pub name: Txt,
+    pub parent: Option<Class>,
+    pub fields: Seq<FieldInfo>,
+}
+
+/// An event of a service.
+#[derive(PartialEq, Eq, Debug, Drop)]
+pub struct EventInfo {
+    pub name: Txt,
+    pub params: Seq<Kind>,
+    pub reply: Option<Kind>,
+}
+
+/// What a service declares: its classes, the root first and the others in text order, and its events.
+#[derive(PartialEq, Eq, Debug, Drop)]
+pub struct Shape {
+    pub classes: Seq<ClassInfo>,
+    pub events: Seq<EventInfo>,
+}
+
+impl FieldInfo {
+    /// A field equal to this one.
+    pub fn copy(&self, alloc: Global) -> Result<FieldInfo, OutOfMemory>
+        ensures { IfOk result (λ f. f ≡ self.now) }
+    {
+        Ok(FieldInfo {
+            name: self.name.copy(alloc)?,
+            kind: self.kind,
+            initial: self.initial.copy(alloc)?,
+        })
+    }
+}
+
+impl ClassInfo {
+    /// A class equal to this one.
+    pub fn copy(&self, alloc: Global) -> Result<ClassInfo, OutOfMemory>
+        ensures { IfOk result (λ c. c ≡ self.now) }
+    {
+        Ok(ClassInfo {
+            name: self.name.copy(alloc)?,
+            parent: self.parent,
+            fields: self.fields.copy(alloc)?,
+        })
+    }
+}
+
+impl EventInfo {
+    /// An event equal to this one.
+    pub fn copy(&self, alloc: Global) -> Result<EventInfo, OutOfMemory>
+        ensures { IfOk result (λ e. e ≡ self.now) }
+    {
+        Ok(EventInfo {
+            name: self.name.copy(alloc)?,
+            params: self.params.copy(alloc)?,
+            reply: self.reply,
+        })
+    }
+}
+
+impl Shape {
+    /// A shape equal to this one.
+    pub fn copy(&self, alloc: Global) -> Result<Shape, OutOfMemory>
+        ensures { IfOk result (λ s. s ≡ self.now) }
+    {
+        Ok(Shape {
+            classes: self.classes.copy(alloc)?,
+            events: self.events.copy(alloc)?,
+        })
+    }
+}
+
+impl Copied for FieldInfo {
+    fn copied(&self, alloc: Global) -> Result<FieldInfo, OutOfMemory> {
+        self.copy(alloc)
+    }
+}
+
+impl Copied for ClassInfo {
+    fn copied(&self, alloc: Global) -> Result<ClassInfo, OutOfMemory> {
+        self.copy(alloc)
+    }
+}
+
+impl Copied for EventInfo {
+    fn copied(&self, alloc: Global) -> Result<EventInfo, OutOfMemory> {
+        self.copy(alloc)
+    }
+}
