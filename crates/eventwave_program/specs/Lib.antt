@@ -1,0 +1,4 @@
+pub mod Commands
+pub mod Due
+pub mod Ends
+pub mod Listing

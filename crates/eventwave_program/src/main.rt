@@ -1,0 +1,54 @@
+//! Runs a service: reads a service and a script from standard input, and writes what its events answer.
+#![tactic(auto)]
+
+mod answer;
+mod command;
+mod judge;
+mod listing;
+#[cfg(test)]
+mod tests;
+mod top;
+
+use std::env;
+use std::io::ErrorKind;
+use std::process::ExitCode;
+use top::eventwave;
+use wave_base::{OutOfMemory, Words};
+use wave_io::{OpenGate, StdSink, StdSource};
+
+/// The status of want of memory.
+const NO_MEMORY: u8 = 7;
+
+/// The words after the program's name. Where they can't be had, or one is no text, there are none, which is no command.
+fn words_given(rt: &HostRuntime) -> Result<Words, OutOfMemory> {
+    let mut words = Words::new(rt.alloc());
+    match env::args(rt) {
+        Ok(args) => {
+            for arg in args.skip(1) {
+                words.push(arg.as_str())?;
+            }
+        }
+        Err(error) if error.kind() == ErrorKind::OutOfMemory => return Err(OutOfMemory),
+        Err(_) => {}
+    }
+    Ok(words)
+}
+
+fn main(rt: HostRuntime) -> ExitCode {
+    let Ok(words) = words_given(&rt) else {
+        return ExitCode::from(NO_MEMORY);
+    };
+    let mut input = StdSource::new(rt.stdin());
+    let mut out = StdSink::new(rt.stdout());
+    let mut notes = StdSink::new(rt.stderr());
+    let status = eventwave(
+        &rt,
+        rt.alloc(),
+        &words,
+        &mut input,
+        &mut out,
+        &mut notes,
+        &OpenGate,
+    );
+    ExitCode::from(status)
+}

@@ -1,0 +1,16 @@
+use wave_base::{Path, Ticket};
+
+/// What a worker tells before it runs a segment, so that a test can hold it there.
+pub trait Gate {
+    /// The worker is about to run a segment of the ticket's event at the context. It answers nothing, and changes
+    /// nothing that a contract speaks of; it may wait.
+    fn reach(&self, ticket: Ticket, path: &Path);
+}
+
+/// It holds nobody.
+#[derive(Clone, Copy, Debug, PartialEq, Eq)]
+pub struct OpenGate;
+
+impl Gate for OpenGate {
+    fn reach(&self, _ticket: Ticket, _path: &Path) {}
+}

@@ -1,0 +1,18 @@
+//! Sources and sinks of bytes, whose faults are counted; whole reads and writes over them; and the gate before a segment.
+#![tactic(auto)]
+
+mod ends;
+mod gate;
+mod memory;
+mod standard;
+mod sure;
+#[cfg(test)]
+mod tests;
+mod whole;
+
+pub use ends::{Failed, Sink, Source};
+pub use gate::{Gate, OpenGate};
+pub use memory::{MemSink, MemSource};
+pub use standard::{StdSink, StdSource};
+pub use sure::{SureSink, SureSource};
+pub use whole::{ReadError, read_all, write_all};
