@@ -1,17 +1,29 @@
-ghost use Rattle.std.specs.Prelude.{None};
+ghost use Rattle.std.specs.Prelude.{◌≡◌, None};
 
 use crate::ends::{Failed, Sink, Source};
 use std::io::{Read, Write};
+use std::marker::Model;
 
-/// A reader of the system, whose errors are counted. It doesn't tell its bytes.
+/// A reader of the system, whose errors are counted. It doesn't tell its bytes, and is seen as the count of its errors.
 #[derive(Drop)]
 pub struct StdSource<R: Read> {
     inner: R,
     faults: u64,
 }
 
+impl<R: Read> Model for StdSource<R> {
+    ghost use Rattle.std.specs.Prelude.{ℕ};
+
+    ghost Value = { ℕ };
+
+    ghost view = { λ s. s.faults };
+}
+
 impl<R: Read> StdSource<R> {
-    pub fn new(inner: R) -> StdSource<R> {
+    /// No error has come yet.
+    pub fn new(inner: R) -> StdSource<R>
+        ensures { result ≡ 0 }
+    {
         StdSource { inner, faults: 0 }
     }
 }
@@ -19,7 +31,7 @@ impl<R: Read> StdSource<R> {
 impl<R: Read> Source for StdSource<R> {
     ghost left = { λ _. None };
 
-    ghost faults = { λ s. s.faults };
+    ghost faults = { λ s. s };
 
     fn read(&mut self, buf: &mut [u8]) -> Result<usize, Failed> {
         match self.inner.read(buf) {
@@ -32,15 +44,27 @@ impl<R: Read> Source for StdSource<R> {
     }
 }
 
-/// A writer of the system, whose errors are counted; a write that takes nothing is one. It doesn't tell its bytes.
+/// A writer of the system, whose errors are counted; a write that takes nothing is one. It doesn't tell its bytes, and is
+/// seen as the count of its errors.
 #[derive(Drop)]
 pub struct StdSink<W: Write> {
     inner: W,
     faults: u64,
 }
 
+impl<W: Write> Model for StdSink<W> {
+    ghost use Rattle.std.specs.Prelude.{ℕ};
+
+    ghost Value = { ℕ };
+
+    ghost view = { λ s. s.faults };
+}
+
 impl<W: Write> StdSink<W> {
-    pub fn new(inner: W) -> StdSink<W> {
+    /// No error has come yet.
+    pub fn new(inner: W) -> StdSink<W>
+        ensures { result ≡ 0 }
+    {
         StdSink { inner, faults: 0 }
     }
 }
@@ -48,7 +72,7 @@ impl<W: Write> StdSink<W> {
 impl<W: Write> Sink for StdSink<W> {
     ghost written = { λ _. None };
 
-    ghost faults = { λ s. s.faults };
+    ghost faults = { λ s. s };
 
     fn write(&mut self, piece: &[u8]) -> Result<usize, Failed> {
         match self.inner.write(piece) {
