@@ -1,0 +1,269 @@
+ghost use Rattle.std.specs.Prelude.{◌≡◌, ◌++◌, ◌∷◌, [], ◌<◌, ℕ, length, All, IfOk, OnOk, codes};
+ghost use Rattle.std.specs.Fmt.{decimal};
+ghost use Rattle.service_code.specs.Instructions.{operands_of, HasOperator};
+ghost use Rattle.service_code.specs.Listing.{spaced, place_text, line_text, lines_text, class_name, function_name, head_words, function_text, program_text, CanList};
+
+use crate::instr::Instr;
+use crate::program::{Function, Program};
+use std::alloc::Global;
+use std::string::ToString;
+use wave_base::{Class, OutOfMemory, Seq, Shape, Span, operator_name};
+
+/// The listing of a program: a line per function, and then a line per instruction with its number, name, operands and place.
+pub fn code_listing(alloc: Global, program: &Program) -> Result<Seq<u8>, OutOfMemory>
+    requires { All (CanList program.now.shape) program.now.functions }
+    ensures { IfOk result (λ text. text ≡ program_text program.now) }
+{
+    let mut text = Vec::new(alloc);
+    for (number, function) in program.functions.as_slice().iter().enumerate() {
+        put_function(alloc, &mut text, &program.shape, number, function)?;
+    }
+    Ok(Seq::from_vec(text))
+}
+
+// A function's line, and those of its instructions.
+fn put_function(
+    alloc: Global,
+    text: &mut Vec<u8>,
+    shape: &Shape,
+    number: usize,
+    function: &Function,
+) -> Result<(), OutOfMemory>
+    requires { CanList shape.now function.now }
+    ensures { OnOk result (text.new.items ≡ text.old.items ++ function_text shape.now number function.now) }
+{
+    put_head(alloc, text, shape, number, function)?;
+    put_lines(alloc, text, function)
+}
+
+// The line that begins a function.
+fn put_head(
+    alloc: Global,
+    text: &mut Vec<u8>,
+    shape: &Shape,
+    number: usize,
+    function: &Function,
+) -> Result<(), OutOfMemory>
+    requires { CanList shape.now function.now }
+    ensures { OnOk result (text.new.items ≡ text.old.items ++ codes "function" ++ spaced (head_words shape.now number function.now) ++ 10 ∷ []) }
+{
+    text.extend_from_slice(b"function")?;
+    put_number(alloc, text, number as u64)?;
+    put_name(text, shape, function)?;
+    put_count(alloc, text, b"args", function.args.len() as u64)?;
+    put_count(alloc, text, b"locals", function.locals.len() as u64)?;
+    put_count(alloc, text, b"stack", u64::from(function.stack))?;
+    text.push(b'\n')?;
+    Ok(())
+}
+
+// An event's name, or a method's with its class.
+fn put_name(text: &mut Vec<u8>, shape: &Shape, function: &Function) -> Result<(), OutOfMemory>
+    requires { CanList shape.now function.now }
+    ensures { OnOk result (text.new.items ≡ text.old.items ++ spaced (function_name shape.now function.now ∷ [])) }
+{
+    if function.is_event {
+        return put_word(text, function.name.bytes());
+    }
+    put_word(text, name_of_class(shape, function.class))?;
+    text.push(b'.')?;
+    text.extend_from_slice(function.name.bytes())?;
+    Ok(())
+}
+
+fn name_of_class(shape: &Shape, class: Class) -> &[u8]
+    requires { class.0 < length shape.now.classes }
+    ensures { result.now ≡ class_name shape.now class.0 }
+{
+    shape.classes.as_slice()[class.0 as usize].name.bytes()
+}
+
+// A line per instruction.
+fn put_lines(alloc: Global, text: &mut Vec<u8>, function: &Function) -> Result<(), OutOfMemory>
+    requires places { length function.now.places ≡ length function.now.code }
+    requires operators { All HasOperator function.now.code }
+    ensures { OnOk result (text.new.items ≡ text.old.items ++ lines_text 0 function.now.code function.now.places) }
+{
+    let places = function.places.as_slice();
+    for (number, instr) in function.code.as_slice().iter().enumerate() {
+        put_line(alloc, text, number, instr, &places[number])?;
+    }
+    Ok(())
+}
+
+// An instruction's line.
+fn put_line(
+    alloc: Global,
+    text: &mut Vec<u8>,
+    number: usize,
+    instr: &Instr,
+    place: &Span,
+) -> Result<(), OutOfMemory>
+    requires { HasOperator instr.now }
+    ensures { OnOk result (text.new.items ≡ text.old.items ++ line_text number instr.now place.now) }
+{
+    put_digits(alloc, text, number as u64)?;
+    put_word(text, instr.name())?;
+    put_operands(alloc, text, instr)?;
+    put_word(text, b"@")?;
+    put_digits(alloc, text, u64::from(place.line))?;
+    text.push(b':')?;
+    put_digits(alloc, text, u64::from(place.col))?;
+    text.push(b'\n')?;
+    Ok(())
+}
+
+// The operands of an instruction.
+fn put_operands(alloc: Global, text: &mut Vec<u8>, instr: &Instr) -> Result<(), OutOfMemory>
+    requires { HasOperator instr.now }
+    ensures { OnOk result (text.new.items ≡ text.old.items ++ spaced (operands_of instr.now)) }
+{
+    match *instr {
+        Instr::PushInt(n) => put_word(text, n.to_string(alloc)?.as_bytes()),
+        Instr::PushBool(true) => put_word(text, b"true"),
+        Instr::PushBool(false) => put_word(text, b"false"),
+        Instr::PushText(i) | Instr::Send(i) => put_number(alloc, text, u64::from(i)),
+        Instr::Load(n)
+        | Instr::Store(n)
+        | Instr::Field(n)
+        | Instr::SetField(n)
+        | Instr::PutLocal(n)
+        | Instr::PutField(n)
+        | Instr::CutLocal(n)
+        | Instr::CutField(n)
+        | Instr::Jump(n)
+        | Instr::JumpFalse(n)
+        | Instr::Call(n)
+        | Instr::Spawn(n) => put_number(alloc, text, u64::from(n)),
+        Instr::Go(class) => put_number(alloc, text, u64::from(class.0)),
+        Instr::Above(level, field) => put_two(alloc, text, level, field),
+        Instr::CallDown(class, function) => put_two(alloc, text, class.0, function),
+        Instr::Op(row) => put_word(text, operator_name(row as usize)),
+        Instr::PushEmpty
+        | Instr::Tick
+        | Instr::Return
+        | Instr::Pop
+        | Instr::Require
+        | Instr::Reply
+        | Instr::End => Ok(()),
+    }
+}
+
+// What is counted, and its number.
+fn put_count(alloc: Global, text: &mut Vec<u8>, word: &[u8], n: u64) -> Result<(), OutOfMemory>
+    ensures { OnOk result (text.new.items ≡ text.old.items ++ spaced (word.now ∷ decimal n ∷ [])) }
+{
+    put_word(text, word)?;
+    put_number(alloc, text, n)
+}
+
+fn put_two(alloc: Global, text: &mut Vec<u8>, first: u16, second: u16) -> Result<(), OutOfMemory>
+    ensures { OnOk result (text.new.items ≡ text.old.items ++ spaced (decimal first ∷ decimal second ∷ [])) }
+{
+    put_number(alloc, text, u64::from(first))?;
+    put_number(alloc, text, u64::from(second))
+}
+
+fn put_number(alloc: Global, text: &mut Vec<u8>, n: u64) -> Result<(), OutOfMemory>
+    ensures { OnOk result (text.new.items ≡ text.old.items ++ spaced (decimal n ∷ [])) }
+{
+    text.push(b' ')?;
+    put_digits(alloc, text, n)
+}
+
+fn put_digits(alloc: Global, text: &mut Vec<u8>, n: u64) -> Result<(), OutOfMemory>
+    ensures { OnOk result (text.new.items ≡ text.old.items ++ decimal n) }
+{
+    let digits = n.to_string(alloc)?;
+    text.extend_from_slice(digits.as_bytes())?;
+    Ok(())
+}
+
+// A space and a word.
+fn put_word(text: &mut Vec<u8>, word: &[u8]) -> Result<(), OutOfMemory>
+    ensures { OnOk result (text.new.items ≡ text.old.items ++ spaced (word.now ∷ [])) }
+{
+    text.push(b' ')?;
+    text.extend_from_slice(word)?;
+    Ok(())
+}
+
+#[cfg(test)]
+mod tests {
+    use super::*;
+    use std::test::Fail;
+    use wave_base::{ClassInfo, EventInfo, FieldInfo, Kind, Txt, Value};
+
+    fn tick_shape(alloc: Global) -> Result<Shape, OutOfMemory>
+        ensures { IfOk result (λ s. length s.classes ≡ 1) }
+    {
+        let field = FieldInfo {
+            name: Txt::from_bytes(alloc, b"n")?,
+            kind: Kind::Int,
+            initial: Value::Int(0),
+        };
+        let class = ClassInfo {
+            name: Txt::from_bytes(alloc, b"Tick")?,
+            parent: None,
+            fields: Seq::from_vec(vec![in alloc; field]?),
+        };
+        let event = EventInfo {
+            name: Txt::from_bytes(alloc, b"hit")?,
+            params: Seq::new(alloc),
+            reply: Some(Kind::Int),
+        };
+        Ok(Shape {
+            classes: Seq::from_vec(vec![in alloc; class]?),
+            events: Seq::from_vec(vec![in alloc; event]?),
+        })
+    }
+
+    fn at(col: u32) -> Span {
+        Span { line: 1, col }
+    }
+
+    fn hit(alloc: Global, shape: &Shape) -> Result<Function, OutOfMemory>
+        requires { 0 < length shape.now.classes }
+        ensures { IfOk result (CanList shape.now) }
+    {
+        let (zero, one) = (Instr::Field(0), Instr::PushInt(1));
+        let code = vec![in alloc;
+            zero,
+            one,
+            Instr::Op(0),
+            Instr::SetField(0),
+            zero,
+            Instr::Reply,
+        ]?;
+        let places = vec![in alloc; at(62), at(66), at(62), at(58), at(77), at(71)]?;
+        Ok(Function {
+            name: Txt::from_bytes(alloc, b"hit")?,
+            class: Class(0),
+            is_event: true,
+            args: Seq::new(alloc),
+            result: Some(Kind::Int),
+            locals: Seq::new(alloc),
+            stack: 2,
+            code: Seq::from_vec(code),
+            places: Seq::from_vec(places),
+        })
+    }
+
+    #[test]
+    fn lists_the_code_of_a_counter(rt: HostRuntime) -> Result<(), Fail> {
+        let alloc = rt.alloc();
+        let shape = tick_shape(alloc)?;
+        let function = hit(alloc, &shape)?;
+        let program = Program {
+            shape,
+            functions: Seq::from_vec(vec![in alloc; function]?),
+            texts: Seq::new(alloc),
+            events: Seq::from_vec(vec![in alloc; 0]?),
+        };
+        let text = code_listing(alloc, &program)?;
+        let due =
+            b"function 0 hit args 0 locals 0 stack 2\n0 Field 0 @1:62\n1 PushInt 1 @1:66\n2 Op add @1:62\n3 SetField 0 @1:58\n4 Field 0 @1:77\n5 Reply @1:71\n";
+        assert_eq!(rt; text.as_slice(), due.as_slice());
+        Ok(())
+    }
+}
