@@ -1,0 +1,126 @@
+ghost use Rattle.std.specs.Prelude.{◌≡◌, ◌<◌, ◌++◌, ◌∷◌, [], length, Some, IsSome, IfOk, OnOk, OnErr};
+ghost use Rattle.wave_base.specs.declared.value.Kind.TheVariants as k;
+ghost use Rattle.wave_base.specs.declared.value.Value.TheVariants as v;
+ghost use Rattle.downgrade_views.specs.Levels.{field_at, HasField};
+
+use std::alloc::Global;
+use std::marker::Model;
+use wave_base::{OutOfMemory, Record, Seq, Value};
+
+/// Copies of the fields of the contexts above an event, from the root.
+#[derive(Debug, Drop)]
+pub struct Views {
+    levels: Vec<Seq<Value>>,
+    alloc: Global,
+}
+
+impl Model for Views {
+    ghost use Rattle.std.specs.Prelude.{List};
+    ghost use Rattle.wave_base.specs.declared.value.Value.{Value as FieldValue};
+
+    ghost Value = { List (List FieldValue) };
+
+    ghost view = { λ v. v.levels.items };
+}
+
+impl Views {
+    /// No levels.
+    pub fn new(alloc: Global) -> Views
+        ensures { result ≡ [] }
+    {
+        Views {
+            levels: Vec::new(alloc),
+            alloc,
+        }
+    }
+
+    /// Adds a copy of a context's fields below the others.
+    pub fn leave(&mut self, body: &Record) -> Result<(), OutOfMemory>
+        ensures ok { OnOk result (self.new ≡ self.old ++ body.now.fields ∷ []) }
+        ensures err { OnErr result (self.new ≡ self.old) }
+    {
+        let fields = body.fields.copy(self.alloc)?;
+        self.levels.push(fields)?;
+        Ok(())
+    }
+
+    /// Drops the last level.
+    pub fn back(&mut self)
+        requires { 0 < length self.old }
+        ensures { (last : _) × (self.old ≡ self.new ++ last ∷ []) }
+    {
+        let _ = self.levels.pop();
+    }
+
+    /// A copy of a field of a level, the root's being 0.
+    pub fn read(&self, level: usize, field: usize) -> Result<Value, OutOfMemory>
+        requires { IsSome (field_at self.now level field) }
+        ensures { IfOk result (λ v. field_at self.now level field ≡ Some v) }
+    {
+        self.at(level, field).copy(self.alloc)
+    }
+
+    /// A whole number of a level.
+    pub fn read_int(&self, level: usize, field: usize) -> i64
+        requires { HasField self.now level field k.Int }
+        ensures { field_at self.now level field ≡ Some (v.Int result) }
+    {
+        match self.at(level, field) {
+            Value::Int(n) => *n,
+            _ => unreachable!(),
+        }
+    }
+
+    /// A truth value of a level.
+    pub fn read_bool(&self, level: usize, field: usize) -> bool
+        requires { HasField self.now level field k.Bool }
+        ensures { field_at self.now level field ≡ Some (v.Bool result) }
+    {
+        match self.at(level, field) {
+            Value::Bool(b) => *b,
+            _ => unreachable!(),
+        }
+    }
+
+    // The field itself.
+    fn at(&self, level: usize, field: usize) -> &Value
+        requires { IsSome (field_at self.now level field) }
+        ensures { field_at self.now level field ≡ Some result.now }
+    {
+        &self.levels[level].as_slice()[field]
+    }
+}
+
+#[cfg(test)]
+mod tests {
+    use super::*;
+    use std::test::Fail;
+    use wave_base::{Children, Txt};
+
+    fn body(alloc: Global, name: Txt, count: i64, busy: bool) -> Result<Record, OutOfMemory>
+        ensures { IfOk result (λ r. r.fields ≡ v.Str name ∷ v.Int count ∷ v.Bool busy ∷ []) }
+    {
+        let (count, busy) = (Value::Int(count), Value::Bool(busy));
+        let fields = Seq::from_vec(vec![in alloc; Value::Str(name), count, busy]?);
+        let children = Children::new(alloc);
+        Ok(Record { fields, children })
+    }
+
+    #[test]
+    fn reads_what_was_left(rt: HostRuntime) -> Result<(), Fail> {
+        let alloc = rt.alloc();
+        let root = body(alloc, Txt::from_bytes(alloc, b"root")?, 7, true)?;
+        let hall = body(alloc, Txt::from_bytes(alloc, b"hall")?, -1, false)?;
+        let mut views = Views::new(alloc);
+        views.leave(&root)?;
+        views.leave(&hall)?;
+        let text = views.read(1, 0)?;
+        assert!(rt; text == Value::Str(Txt::from_bytes(alloc, b"hall")?));
+        assert_eq!(rt; views.read_int(0, 1), 7);
+        assert_eq!(rt; views.read_int(1, 1), -1);
+        assert!(rt; views.read_bool(0, 2));
+        assert!(rt; !views.read_bool(1, 2));
+        views.back();
+        Ok(())
+    }
+}

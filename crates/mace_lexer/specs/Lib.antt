@@ -1,0 +1,6 @@
+pub mod Codes
+pub mod Words
+pub mod Texts
+pub mod Pieces
+pub mod Cuts
+pub mod Lexed

@@ -1,0 +1,104 @@
+-- Which bytes make a name, a keyword, a number and a sign.
+use Rattle.std.specs.Prelude.{ℕ, ◌+◌, ◌-◌, ◌*◌, Bool, false, not, ◌&&◌, ◌||◌, ◌==◌, if◌then◌else◌, List, [], ◌∷◌, map, fold, slice_index, slice_index_or, Option, Some, None}
+use Rattle.std.specs.Char.{is_ascii_digit, is_ascii_alphabetic, is_ascii_alphanumeric}
+use Rattle.std.specs.List.{list_all}
+use Rattle.std.specs.Str.{bytes_eq}
+use Rattle.mace_lexer.specs.Codes.{key_code, sign_code}
+use Rattle.mace_lexer.specs.declared.cut.Class.{Class}
+use Rattle.mace_lexer.specs.declared.cut.Class.TheVariants as class
+use Rattle.mace_lexer.specs.declared.cut.Form.{Form}
+use Rattle.mace_lexer.specs.declared.cut.Form.TheVariants as form
+use Rattle.mace_lexer.specs.declared.keyword.Keyword.{Keyword}
+use Rattle.mace_lexer.specs.declared.keyword.TheConstants.{KEYWORDS}
+use Rattle.mace_lexer.specs.declared.sign.Sign.{Sign}
+use Rattle.mace_lexer.specs.declared.sign.TheConstants.{SIGNS}
+
+-- ---- blanks and comments
+
+-- a space, a tab, a line feed, or a carriage return with the line feed behind it
+abbrev pub is_blank : List ℕ → Bool
+is_blank [] = false
+is_blank (a ∷ []) = a == 32 || a == 9 || a == 10
+is_blank (a ∷ b ∷ []) = a == 13 && b == 10
+is_blank (a ∷ b ∷ c ∷ bs) = false
+
+abbrev pub is_inside_line : ℕ → Bool
+is_inside_line b = not (b == 10)
+
+-- two slashes, and then any bytes but a line feed
+abbrev pub is_comment : List ℕ → Bool
+is_comment [] = false
+is_comment (a ∷ []) = false
+is_comment (a ∷ b ∷ bs) = a == 47 && b == 47 && list_all is_inside_line bs
+
+-- ---- names
+
+abbrev pub is_letter : ℕ → Bool
+is_letter b = is_ascii_alphabetic b || b == 95
+
+abbrev pub is_name_byte : ℕ → Bool
+is_name_byte b = is_ascii_alphanumeric b || b == 95
+
+-- a letter or `_`, and then letters, digits and `_`
+abbrev pub is_name : List ℕ → Bool
+is_name [] = false
+is_name (a ∷ bs) = is_letter a && list_all is_name_byte bs
+
+-- ---- numbers
+
+-- one or more digits
+abbrev pub is_number : List ℕ → Bool
+is_number [] = false
+is_number (a ∷ bs) = is_ascii_digit a && list_all is_ascii_digit bs
+
+abbrev pub with_digit : ℕ → ℕ → ℕ
+with_digit value digit = 10 * value + (digit - 48)
+
+abbrev pub value_of : List ℕ → ℕ
+value_of digits = fold with_digit 0 digits
+
+-- the greatest number that can be written
+abbrev pub greatest : ℕ
+greatest = 9223372036854775807
+
+-- ---- keywords and signs, by their tables
+
+abbrev pub entry_of : {A : Type 0} → List (List ℕ × A) → List ℕ → Option A
+entry_of [] bs = None
+entry_of (e ∷ es) bs = if bytes_eq e.0 bs then Some e.1 else entry_of es bs
+
+unfoldable pub keyword : List ℕ → Option Keyword
+keyword = entry_of (map (λ e. (e.0.now, e.1)) KEYWORDS)
+
+-- how a keyword is written
+unfoldable pub keyword_bytes : Keyword → List ℕ
+keyword_bytes k = slice_index_or (map (λ e. e.0.now) KEYWORDS) (key_code k) []
+
+unfoldable pub sign : List ℕ → Option Sign
+sign = entry_of (map (λ e. (e.0.now, e.1)) SIGNS)
+
+-- how a sign is written
+unfoldable pub sign_bytes : Sign → List ℕ
+sign_bytes s = slice_index_or (map (λ e. e.0.now) SIGNS) (sign_code s) []
+
+-- ---- which bytes go on with a comment, a name and a number
+
+abbrev pub is_in : Class → ℕ → Bool
+is_in class.Line b = is_inside_line b
+is_in class.Name b = is_name_byte b
+is_in class.Digit b = is_ascii_digit b
+
+-- ---- the form of a piece, by its first two bytes
+
+abbrev pub form_by : ℕ → ℕ → Form
+form_by a b =
+    if a == 32 || a == 9 || a == 10 then form.Blank
+    else if a == 13 && b == 10 then form.LineEnd
+    else if a == 47 && b == 47 then form.Comment
+    else if a == 34 then form.Text
+    else if is_letter a then form.Name
+    else if is_ascii_digit a then form.Number
+    else form.Sign
+
+abbrev pub form_of : List ℕ → Form
+form_of bs = form_by (slice_index bs 0) (slice_index bs 1)
