@@ -1,0 +1,68 @@
+ghost use Rattle.std.specs.Prelude.{◌≡◌, map};
+ghost use Rattle.std.specs.Option.{option_map};
+ghost use Rattle.mace_ast.specs.Exprs.{expr_tree};
+ghost use Rattle.mace_ast.specs.Stmts as tree;
+ghost use Rattle.mace_ast.specs.Stmts.{stmt_tree, stmts_of, else_of};
+
+use crate::expr::Expr;
+use crate::name::Name;
+use wave_base::{Seq, Span, Txt};
+
+/// What is written or cut: a local or an own field, or `C.f` with its class in `above`.
+#[derive(Debug, Drop, PartialEq, Eq)]
+pub struct Target {
+    pub above: Option<Txt>,
+    pub name: Txt,
+}
+
+/// A statement, with the place of its first token.
+#[derive(Debug, Drop)]
+#[cycle(stmt)]
+pub struct Stmt {
+    pub at: Span,
+    pub action: Action,
+}
+
+#[derive(Debug, Drop)]
+#[cycle(stmt)]
+pub enum Action {
+    Let(Name, Expr),
+    If(Expr, Vec<Stmt>, Option<Vec<Stmt>>),
+    While(Expr, Vec<Stmt>),
+    /// The name, the first bound, and the bound above the last turn.
+    For(Name, Expr, Expr, Vec<Stmt>),
+    Require(Expr),
+    Send(Txt, Expr),
+    Spawn(Txt, Seq<Expr>),
+    /// `drop x[k];`
+    Cut(Target, Expr),
+    /// `x = e;`, or `x[k] = e;` with the key in the middle.
+    Set(Target, Option<Expr>, Expr),
+    Call(Txt, Seq<Expr>),
+    /// `C[k].f(..);`
+    ChildCall(Txt, Expr, Txt, Seq<Expr>),
+}
+
+impl Stmt {
+    pub fn if_else(at: Span, test: Expr, body: Vec<Stmt>, other: Option<Vec<Stmt>>) -> Stmt
+        ensures { stmt_tree result ≡ tree.If at (expr_tree test) (stmts_of (map stmt_tree body.items))
+            (else_of (option_map (λ b. map stmt_tree b.items) other)) }
+    {
+        let action = Action::If(test, body, other);
+        Stmt { at, action }
+    }
+
+    pub fn while_do(at: Span, test: Expr, body: Vec<Stmt>) -> Stmt
+        ensures { stmt_tree result ≡ tree.While at (expr_tree test) (stmts_of (map stmt_tree body.items)) }
+    {
+        let action = Action::While(test, body);
+        Stmt { at, action }
+    }
+
+    pub fn for_in(at: Span, name: Name, low: Expr, high: Expr, body: Vec<Stmt>) -> Stmt
+        ensures { stmt_tree result ≡ tree.For at name (expr_tree low) (expr_tree high) (stmts_of (map stmt_tree body.items)) }
+    {
+        let action = Action::For(name, low, high, body);
+        Stmt { at, action }
+    }
+}

@@ -1,0 +1,5 @@
+pub mod Jobs
+pub mod Meaning
+pub mod Steps
+pub mod View
+pub mod World

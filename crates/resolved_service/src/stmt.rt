@@ -1,0 +1,37 @@
+use crate::expr::Expr;
+use wave_base::{Span, Txt};
+
+/// A statement, with the place where it starts.
+#[derive(Debug, Drop)]
+#[cycle(stmt)]
+pub struct Stmt {
+    pub at: Span,
+    pub action: Action,
+}
+
+/// Locals go by their slots, fields by their places in their class, events by their places in the shape.
+#[derive(Debug, Drop)]
+#[cycle(stmt)]
+pub enum Action {
+    /// Gives a local a value.
+    SetLocal(u16, Expr),
+    /// Gives a field a value.
+    SetField(u16, Expr),
+    /// Puts a pair into a local map: the key, and then the value.
+    PutLocal(u16, Expr, Expr),
+    /// Puts a pair into a field's map: the key, and then the value.
+    PutField(u16, Expr, Expr),
+    /// Takes a key out of a local map.
+    CutLocal(u16, Expr),
+    /// Takes a key out of a field's map.
+    CutField(u16, Expr),
+    If(Expr, Vec<Stmt>, Option<Vec<Stmt>>),
+    While(Expr, Vec<Stmt>),
+    /// Counts from the first number up to the second: the slot of the counter; the bound and the name have the two next ones.
+    For(u16, Expr, Expr, Vec<Stmt>),
+    Require(Expr),
+    Send(Txt, Expr),
+    Spawn(u16, Vec<Expr>),
+    /// A call whose value, if any, is dropped.
+    Do(Expr),
+}

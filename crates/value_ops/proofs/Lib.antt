@@ -1,0 +1,9 @@
+pub mod AnswerLemmas
+pub mod Examples
+pub mod FindLemmas
+pub mod IntLemmas
+pub mod LawLemmas
+pub mod MapLemmas
+pub mod OperandLemmas
+pub mod RowLemmas
+pub mod TextLemmas

@@ -1,0 +1,64 @@
+use Rattle.std.proofs.Common.{◌≡◌, ◌∙◌, ap, sym, subst, rules, arith, refl, not, pos, length, Ok, w64, to_z}
+use Rattle.std.proofs.lemmas.Int.{to_z_pos}
+use Rattle.wave_base.specs.declared.value.Value.TheVariants as value
+use Rattle.value_ops.specs.Answers.{Answers}
+use Rattle.value_ops.specs.Operators.{apply_row, operators}
+use Rattle.value_ops.proofs.OperandLemmas.{of_one, of_two, of_three, passed_on}
+use Rattle.value_ops.proofs.AnswerLemmas.{traps}
+use Rattle.value_ops.proofs.RowLemmas.{not_row, len_row, size_row, part_row, put_row}
+use Rattle.value_ops.proofs.values.apply_by_kinds.Goals as goal
+
+pub returns-in_err-apply_ints-in-Ints : goal.returns-in_err-apply_ints-in-Ints
+returns-in_err-apply_ints-in-Ints c =
+    of_two (λ vs. Answers (apply_row c.args.row vs) c.from_residual.result) c.args.args.now (c.requires.kinds ∙ sym c.in-Ints.ensures) (passed_on _ (search rules) c.int.ensures) (passed_on _ (search rules) c.int-in-Ints.ensures)
+    (traps _ _ _ c.from_residual.ensures.1 (sym c.in_err-apply_ints-in-Ints.ensures))
+
+pub returns-in_ok-apply_ints-in-Ints : goal.returns-in_ok-apply_ints-in-Ints
+returns-in_ok-apply_ints-in-Ints c =
+    of_two (λ vs. apply_row c.args.row vs ≡ Ok c.in_ok-apply_ints-in-Ints.field-0) c.args.args.now (c.requires.kinds ∙ sym c.in-Ints.ensures) (passed_on _ (search rules) c.int.ensures) (passed_on _ (search rules) c.int-in-Ints.ensures)
+    (sym c.in_ok-apply_ints-in-Ints.ensures)
+
+pub returns-in-Int : goal.returns-in-Int
+returns-in-Int c = of_one (λ vs. Answers (apply_row c.args.row vs) c.apply_int.result) c.args.args.now (c.requires.kinds ∙ sym c.in-Int.ensures) (passed_on _ (search rules) c.int-in-Int.ensures) c.apply_int.ensures
+
+pub returns-in-Bool : goal.returns-in-Bool
+unfolding apply_row operators
+returns-in-Bool c =
+    of_one (λ vs. apply_row c.args.row vs ≡ Ok (value.Bool (not c.flag.result))) c.args.args.now (c.requires.kinds ∙ sym c.in-Bool.ensures) c.flag.ensures
+    (rw (not_row c.args.row (sym c.in-Bool.ensures)) refl)
+
+pub returns-in-Bools : goal.returns-in-Bools
+returns-in-Bools c =
+    of_two (λ vs. apply_row c.args.row vs ≡ Ok (value.Bool c.compare_flags.result)) c.args.args.now (c.requires.kinds ∙ sym c.in-Bools.ensures) c.flag-in-Bools.ensures c.flag-in-Bools-2.ensures c.compare_flags.ensures
+
+pub returns-in-Text : goal.returns-in-Text
+unfolding apply_row operators
+returns-in-Text c =
+    let count : to_z w64 (length c.bytes.result.now) ≡ pos (length c.text.result.now) = to_z_pos w64 _ (omega (arith, c.bytes.ensures.text.short)) ∙ ap (λ t. pos (length t)) c.bytes.ensures.bytes in
+    of_one (λ vs. apply_row c.args.row vs ≡ Ok (value.Int (to_z w64 (length c.bytes.result.now)))) c.args.args.now (c.requires.kinds ∙ sym c.in-Text.ensures) c.text.ensures
+    (rw (len_row c.args.row (sym c.in-Text.ensures), count) refl)
+
+pub returns-in-Map : goal.returns-in-Map
+unfolding apply_row operators
+returns-in-Map c =
+    let count : to_z w64 c.len.result ≡ pos (length c.table.result.now) = to_z_pos w64 _ (omega (arith, c.len.ensures.len, c.len.ensures.short)) ∙ ap pos c.len.ensures.len in
+    of_one (λ vs. apply_row c.args.row vs ≡ Ok (value.Int (to_z w64 c.len.result))) c.args.args.now (c.requires.kinds ∙ sym c.in-Map.ensures) c.table.ensures
+    (rw (size_row c.args.row (sym c.in-Map.ensures), count) refl)
+
+pub returns-in-TextIntInt : goal.returns-in-TextIntInt
+returns-in-TextIntInt c =
+    subst (λ row. Answers (apply_row row c.args.args.now) c.part.result) (sym (part_row c.args.row (sym c.in-TextIntInt.ensures)))
+    (of_three (λ vs. Answers (apply_row _ vs) c.part.result) c.args.args.now (c.requires.kinds ∙ sym c.in-TextIntInt.ensures) c.text-in-TextIntInt.ensures (passed_on _ (search rules) c.int-in-TextIntInt.ensures) (passed_on _ (search rules) c.int-in-TextIntInt-2.ensures) c.part.ensures)
+
+pub returns-in-MapIntInt : goal.returns-in-MapIntInt
+returns-in-MapIntInt c =
+    subst (λ row. Answers (apply_row row c.args.args.now) c.put.result) (sym (put_row c.args.row (sym c.in-MapIntInt.ensures)))
+    (of_three (λ vs. Answers (apply_row _ vs) c.put.result) c.args.args.now (c.requires.kinds ∙ sym c.in-MapIntInt.ensures) c.table-in-MapIntInt.ensures (passed_on _ (search rules) c.int-in-MapIntInt.ensures) (passed_on _ (search rules) c.int-in-MapIntInt-2.ensures) c.put.ensures)
+
+pub returns-in-Texts : goal.returns-in-Texts
+returns-in-Texts c =
+    of_two (λ vs. Answers (apply_row c.args.row vs) c.apply_texts.result) c.args.args.now (c.requires.kinds ∙ sym c.in-Texts.ensures) c.text-in-Texts.ensures c.text-in-Texts-2.ensures c.apply_texts.ensures
+
+pub returns-in-MapInt : goal.returns-in-MapInt
+returns-in-MapInt c =
+    of_two (λ vs. Answers (apply_row c.args.row vs) c.apply_map.result) c.args.args.now (c.requires.kinds ∙ sym c.in-MapInt.ensures) c.table-in-MapInt.ensures (passed_on _ (search rules) c.int-in-MapInt.ensures) c.apply_map.ensures

@@ -1,0 +1,25 @@
+//! The operators and builtins of the language: the table of their rows, and what each row gives.
+#![tactic(auto)]
+
+mod error;
+mod ints;
+mod laws;
+mod maps;
+mod operands;
+mod row;
+mod table;
+mod takes;
+mod texts;
+mod values;
+
+pub use error::OpError;
+pub use ints::apply_ints;
+pub use laws::{quotient_and_remainder, rows_give_their_kind, str_reads_back};
+pub use maps::{put_pair, read_map};
+pub use row::OpRow;
+pub use table::{OpTable, find, wave_ops};
+pub use texts::compare_texts;
+pub use values::apply;
+
+#[cfg(test)]
+mod tests;

@@ -1,0 +1,207 @@
+//! Each row once at an edge, through `apply`, and each of the other calls once.
+
+ghost use Rattle.std.specs.Prelude.{◌≡◌, ◌<◌, ◌∷◌, []};
+ghost use Rattle.value_ops.specs.Operators.{takes_of};
+ghost use Rattle.wave_base.specs.declared.value.Kind.{Kind};
+
+use super::*;
+use std::alloc::Global;
+use std::process::Abort;
+use std::test::Fail;
+use wave_base::{Kind, OPERATORS, PutError, TABLE_PAIRS, Table, TrapKind, Txt, Value};
+
+const LEAST: i64 = -9223372036854775808;
+
+const GREATEST: i64 = 9223372036854775807;
+
+fn trap(kind: TrapKind) -> Result<Value, OpError> {
+    Err(OpError::Trap(kind))
+}
+
+fn int(n: i64) -> Result<Value, OpError> {
+    Ok(Value::Int(n))
+}
+
+fn flag(b: bool) -> Result<Value, OpError> {
+    Ok(Value::Bool(b))
+}
+
+// A number as a text.
+#[tactic(auto, unfolding(crate::specs::Operators::takes_of, crate::specs::Operators::operators))]
+fn digits(alloc: Global, n: i64) -> Result<Txt, OpError> {
+    match apply(alloc, 26, &[Value::Int(n)])? {
+        Value::Str(text) => Ok(text),
+        _ => Err(OpError::OutOfMemory),
+    }
+}
+
+fn text(alloc: Global, n: i64) -> Result<Value, OpError> {
+    Ok(Value::Str(digits(alloc, n)?))
+}
+
+#[tactic(auto, unfolding(crate::specs::Operators::takes_of, crate::specs::Operators::operators))]
+fn joined(alloc: Global, s: Txt, t: Txt) -> Result<Txt, OpError> {
+    match apply(alloc, 18, &[Value::Str(s), Value::Str(t)])? {
+        Value::Str(text) => Ok(text),
+        _ => Err(OpError::OutOfMemory),
+    }
+}
+
+// A map in which one pair was put twice.
+fn sample(alloc: Global) -> Result<Table, PutError> {
+    let mut table = Table::new(alloc);
+    table.put(2, 7)?;
+    table.put(-3, 1)?;
+    table.put(2, 8)?;
+    Ok(table)
+}
+
+fn of_ints(
+    rt: &impl Abort,
+    alloc: Global,
+    row: usize,
+    a: i64,
+    b: i64,
+    wanted: Result<Value, OpError>,
+)
+    requires row { row < OPERATORS }
+    requires kinds { takes_of row ≡ Kind.Int ∷ Kind.Int ∷ [] }
+{
+    assert!(rt;
+        apply(alloc, row, &[Value::Int(a), Value::Int(b)]) == wanted,
+        "row {row}"
+    );
+}
+
+// The row's answer at the texts of two numbers.
+fn of_texts(alloc: Global, row: usize, s: i64, t: i64) -> Result<Value, OpError>
+    requires row { row < OPERATORS }
+    requires kinds { takes_of row ≡ Kind.Text ∷ Kind.Text ∷ [] }
+{
+    let s = digits(alloc, s)?;
+    let t = digits(alloc, t)?;
+    apply(alloc, row, &[Value::Str(s), Value::Str(t)])
+}
+
+#[tactic(auto, unfolding(crate::specs::Operators::takes_of, crate::specs::Operators::operators))]
+fn part_of(alloc: Global, text: i64, from: i64, to: i64) -> Result<Value, OpError> {
+    let text = digits(alloc, text)?;
+    apply(
+        alloc,
+        27,
+        &[Value::Str(text), Value::Int(from), Value::Int(to)],
+    )
+}
+
+// The row's answer at a map and an int.
+fn of_map(alloc: Global, row: usize, map: Table, key: i64) -> Result<Value, OpError>
+    requires row { row < OPERATORS }
+    requires kinds { takes_of row ≡ Kind.Map ∷ Kind.Int ∷ [] }
+{
+    apply(alloc, row, &[Value::Map(map), Value::Int(key)])
+}
+
+#[test]
+#[tactic(auto, unfolding(crate::specs::Operators::takes_of, crate::specs::Operators::operators))]
+fn rows_of_ints(rt: HostRuntime) -> Result<(), Fail> {
+    let alloc = rt.alloc();
+    of_ints(&rt, alloc, 0, GREATEST, 1, trap(TrapKind::Overflow));
+    of_ints(&rt, alloc, 1, LEAST, 1, trap(TrapKind::Overflow));
+    of_ints(&rt, alloc, 2, 4294967296, -2147483648, int(LEAST));
+    of_ints(&rt, alloc, 3, LEAST, -1, trap(TrapKind::Overflow));
+    of_ints(&rt, alloc, 4, -7, 2, int(-1));
+    of_ints(&rt, alloc, 4, 1, 0, trap(TrapKind::DivZero));
+    of_ints(&rt, alloc, 7, -5, 5, flag(false));
+    of_ints(&rt, alloc, 8, -5, 5, flag(true));
+    of_ints(&rt, alloc, 9, -1, 0, flag(true));
+    of_ints(&rt, alloc, 10, 3, 3, flag(true));
+    of_ints(&rt, alloc, 11, 3, 3, flag(false));
+    of_ints(&rt, alloc, 12, LEAST, GREATEST, flag(false));
+    assert!(rt; apply_ints(3, 7, -2) == Ok(Value::Int(-3)));
+    Ok(())
+}
+
+#[test]
+#[tactic(auto, unfolding(crate::specs::Operators::takes_of, crate::specs::Operators::operators))]
+fn rows_of_one_operand(rt: HostRuntime) -> Result<(), Fail> {
+    let alloc = rt.alloc();
+    assert!(rt; apply(alloc, 5, &[Value::Int(LEAST)]) == trap(TrapKind::Overflow));
+    assert!(rt; apply(alloc, 6, &[Value::Bool(true)]) == flag(false));
+    assert!(rt; apply(alloc, 13, &[Value::Bool(false), Value::Bool(false)]) == flag(true));
+    assert!(rt; apply(alloc, 14, &[Value::Bool(false), Value::Bool(false)]) == flag(false));
+    assert!(rt; apply(alloc, 23, &[Value::Map(sample(alloc)?)]) == int(2));
+    assert!(rt; apply(alloc, 25, &[Value::Str(digits(alloc, LEAST)?)]) == int(20));
+    Ok(())
+}
+
+#[test]
+#[tactic(auto, unfolding(crate::specs::Operators::takes_of, crate::specs::Operators::gives_of, crate::specs::Operators::operators))]
+fn rows_of_texts(rt: HostRuntime) -> Result<(), Fail> {
+    let alloc = rt.alloc();
+    assert!(rt; of_texts(alloc, 15, 7, 7) == flag(true));
+    assert!(rt; of_texts(alloc, 16, 7, 7) == flag(false));
+    assert!(rt; of_texts(alloc, 17, 10, 9) == flag(true));
+    assert!(rt; of_texts(alloc, 18, -12, 34) == text(alloc, -1234));
+    assert!(rt; part_of(alloc, 12345, 1, 3) == text(alloc, 23));
+    assert!(rt; part_of(alloc, 12, 1, 3) == trap(TrapKind::Absent));
+    let one = digits(alloc, 1)?;
+    assert!(rt; compare_texts(15, &one, &one));
+    Ok(())
+}
+
+#[test]
+#[tactic(auto, unfolding(crate::specs::Operators::takes_of, crate::specs::Operators::operators))]
+fn longest_text(rt: HostRuntime) -> Result<(), Fail> {
+    let alloc = rt.alloc();
+    let mut long = digits(alloc, 12345678)?;
+    for _ in 0..124 {
+        long = joined(alloc, long, digits(alloc, 12345678)?)?;
+    }
+    assert!(rt; long.bytes().len() == 1000);
+    assert!(rt; joined(alloc, long, digits(alloc, 1)?) == Err(OpError::Trap(TrapKind::TooLong)));
+    Ok(())
+}
+
+#[test]
+#[tactic(auto, unfolding(crate::specs::Operators::takes_of, crate::specs::Operators::gives_of, crate::specs::Operators::operators))]
+fn rows_of_maps(rt: HostRuntime) -> Result<(), Fail> {
+    let alloc = rt.alloc();
+    assert!(rt; of_map(alloc, 19, sample(alloc)?, 2) == int(8));
+    assert!(rt; of_map(alloc, 19, sample(alloc)?, 8) == trap(TrapKind::Absent));
+    assert!(rt; of_map(alloc, 22, sample(alloc)?, 7) == flag(false));
+    assert!(rt; of_map(alloc, 24, sample(alloc)?, 0) == int(-3));
+    assert!(rt; of_map(alloc, 24, sample(alloc)?, 2) == trap(TrapKind::Absent));
+    let mut cut = Table::new(alloc);
+    cut.put(-3, 1)?;
+    assert!(rt; of_map(alloc, 21, sample(alloc)?, 2) == Ok(Value::Map(cut)));
+    assert!(rt; read_map(24, &sample(alloc)?, 1) == Ok(Value::Int(2)));
+    Ok(())
+}
+
+// A map takes a thousand pairs, and then no further key.
+#[test]
+#[tactic(auto, unfolding(crate::specs::Operators::takes_of, crate::specs::Operators::operators))]
+fn full_map(rt: HostRuntime) -> Result<(), Fail> {
+    let alloc = rt.alloc();
+    let mut map = Table::new(alloc);
+    for key in 0..1000 {
+        put_pair(&mut map, key, key)?;
+    }
+    assert!(rt; map.len() == TABLE_PAIRS);
+    assert!(rt; put_pair(&mut map, 1000, 0) == Err(OpError::Trap(TrapKind::Full)));
+    put_pair(&mut map, 999, 0)?;
+    let full = [Value::Map(map), Value::Int(-1), Value::Int(0)];
+    assert!(rt; apply(alloc, 20, &full) == trap(TrapKind::Full));
+    Ok(())
+}
+
+#[test]
+fn builtins_by_name(rt: HostRuntime) -> Result<(), Fail> {
+    let ops = wave_ops();
+    assert!(rt; find(&ops, b"part") == Some(27));
+    assert!(rt; find(&ops, b"put").is_none());
+    let row = ops.row(19);
+    assert!(rt; row.name == b"at".as_slice());
+    assert!(rt; row.takes == [Some(Kind::Map), Some(Kind::Int), None]);
+    Ok(())
+}

@@ -1,0 +1,65 @@
+ghost use Rattle.std.specs.Prelude.{◌≡◌, ◌<◌, ◌↔◌, ◌∷◌, [], map, Ok, Err};
+ghost use Rattle.value_ops.specs.Answers.{Answers};
+ghost use Rattle.value_ops.specs.Operators.{takes_of, apply_row};
+ghost use Rattle.wave_base.specs.declared.trap.TrapKind.{TrapKind};
+ghost use Rattle.wave_base.specs.declared.value.Kind.{Kind};
+ghost use Rattle.wave_base.specs.declared.value.Value.{Value};
+ghost use Rattle.wave_base.specs.Values.{kind_of};
+
+use crate::error::OpError;
+use crate::ints::{apply_ints, number};
+use crate::maps::{apply_map, put};
+use crate::operands::{flag, int, table, text};
+use crate::takes::{Takes, takes_of};
+use crate::texts::{apply_texts, part, written};
+use std::alloc::Global;
+use wave_base::{OPERATORS, Value};
+
+/// What a row gives of these values. Ints and truth values are given without memory.
+pub fn apply(alloc: Global, row: usize, args: &[Value]) -> Result<Value, OpError>
+    requires row { row < OPERATORS }
+    requires kinds { map kind_of args.now ≡ takes_of row }
+    ensures answer { Answers (apply_row row args.now) result }
+    ensures trap { (trap : TrapKind) → (result ≡ Err (OpError.Trap trap)) ↔ (apply_row row args.now ≡ Err trap) }
+{
+    apply_by_kinds(alloc, row, args)
+}
+
+fn apply_by_kinds(alloc: Global, row: usize, args: &[Value]) -> Result<Value, OpError>
+    requires row { row < OPERATORS }
+    requires kinds { map kind_of args.now ≡ takes_of row }
+    ensures { Answers (apply_row row args.now) result }
+{
+    match takes_of(row) {
+        Takes::Ints => Ok(apply_ints(row, int(args, 0), int(args, 1))?),
+        Takes::Int => apply_int(alloc, row, int(args, 0)),
+        Takes::Bool => Ok(Value::Bool(!flag(args, 0))),
+        Takes::Bools => Ok(Value::Bool(compare_flags(row, flag(args, 0), flag(args, 1)))),
+        Takes::Text => Ok(Value::Int(text(args, 0).bytes().len() as i64)),
+        Takes::Texts => apply_texts(alloc, row, text(args, 0), text(args, 1)),
+        Takes::TextIntInt => part(alloc, text(args, 0), int(args, 1), int(args, 2)),
+        Takes::Map => Ok(Value::Int(table(args, 0).len() as i64)),
+        Takes::MapInt => apply_map(row, table(args, 0), int(args, 1)),
+        Takes::MapIntInt => put(table(args, 0), int(args, 1), int(args, 2)),
+    }
+}
+
+// What a row gives of an int.
+fn apply_int(alloc: Global, row: usize, a: i64) -> Result<Value, OpError>
+    requires { takes_of row ≡ Kind.Int ∷ [] }
+    ensures { Answers (apply_row row (Value.Int a ∷ [])) result }
+{
+    if row == 5 {
+        Ok(number(a.checked_neg())?)
+    } else {
+        written(alloc, a)
+    }
+}
+
+// What a row says of two truth values.
+fn compare_flags(row: usize, b: bool, c: bool) -> bool
+    requires { takes_of row ≡ Kind.Bool ∷ Kind.Bool ∷ [] }
+    ensures { apply_row row (Value.Bool b ∷ Value.Bool c ∷ []) ≡ Ok (Value.Bool result) }
+{
+    if row == 13 { b == c } else { b != c }
+}
