@@ -1,3 +1,4 @@
+pub mod Fits
 pub mod Jobs
 pub mod Meaning
 pub mod Steps
