@@ -1,0 +1,5 @@
+pub mod ClassLemmas
+pub mod Examples
+pub mod FitLemmas
+pub mod KeptLemmas
+pub mod OrderLemmas

@@ -1,0 +1,11 @@
+//! The tree of contexts: which contexts are there, and the fields of each.
+#![tactic(auto)]
+
+mod laws;
+mod tree;
+
+pub use laws::{trees_tell_contexts, trees_that_fit};
+pub use tree::Tree;
+
+#[cfg(test)]
+mod tests;

@@ -1,0 +1,106 @@
+//! Small trees: contexts join, are read, set and listed.
+
+ghost use Rattle.std.specs.Prelude.{◌≡◌, ◌∷◌, [], pos, length, Some, IfOk};
+ghost use Rattle.context_tree.specs.Contexts.{IsOrdered, HasField};
+ghost use Rattle.wave_base.specs.declared.value.Value.TheVariants.{Int};
+ghost use Rattle.wave_base.specs.Shapes.{parent_class};
+
+use super::*;
+use std::alloc::Global;
+use std::test::Fail;
+use wave_base::{
+    Class, ClassInfo, FieldInfo, Kind, OutOfMemory, Path, Seq, Shape, Shot, Step, Txt, Value,
+};
+
+fn field(alloc: Global, initial: i64) -> Result<FieldInfo, OutOfMemory> {
+    Ok(FieldInfo {
+        name: Txt::from_bytes(alloc, b"")?,
+        kind: Kind::Int,
+        initial: Value::Int(initial),
+    })
+}
+
+fn class(alloc: Global, parent: Option<Class>, initial: i64) -> Result<ClassInfo, OutOfMemory>
+    ensures { IfOk result (λ c. c.parent ≡ parent) }
+{
+    Ok(ClassInfo {
+        name: Txt::from_bytes(alloc, b"")?,
+        parent,
+        fields: Seq::from_vec(vec![in alloc; field(alloc, initial)?]?),
+    })
+}
+
+// A root and a class below it, each with a counter.
+fn halls(alloc: Global) -> Result<Shape, OutOfMemory>
+    ensures classes { IfOk result (λ s. length s.classes ≡ 2) }
+    ensures hall { IfOk result (λ s. parent_class s 1 ≡ Some (record { 0 = 0 })) }
+{
+    let root = class(alloc, None, 3)?;
+    let hall = class(alloc, Some(Class(0)), 7)?;
+    Ok(Shape {
+        classes: Seq::from_vec(vec![in alloc; root, hall]?),
+        events: Seq::new(alloc),
+    })
+}
+
+fn hall(key: i64) -> Path
+    ensures { result ≡ record { class = record { 0 = 1 }; key = key } ∷ [] }
+{
+    let class = Class(1);
+    Path::root().child(Step { class, key })
+}
+
+fn shot(alloc: Global, path: Path, count: i64) -> Result<Shot, OutOfMemory>
+    ensures { IfOk result (λ s. s ≡ record { path = path; fields = Int count ∷ [] }) }
+{
+    let fields = Seq::from_vec(vec![in alloc; Value::Int(count)]?);
+    Ok(Shot { path, fields })
+}
+
+// Two contexts in path order.
+fn two(alloc: Global) -> Result<Seq<Shot>, OutOfMemory>
+    ensures ordered { IfOk result IsOrdered }
+    ensures field { IfOk result (λ shots. HasField (record { shots = shots }) (record { class = record { 0 = 1 }; key = pos 2 } ∷ []) 0) }
+{
+    let low = shot(alloc, hall(-5), 1)?;
+    let high = shot(alloc, hall(2), 9)?;
+    Ok(Seq::from_vec(vec![in alloc; low, high]?))
+}
+
+#[test]
+fn contexts_join_with_initial_fields(rt: HostRuntime) -> Result<(), Fail> {
+    let alloc = rt.alloc();
+    let shape = halls(alloc)?;
+    let mut tree = Tree::start(alloc, &shape)?;
+    tree.enter(alloc, &shape, &hall(2))?;
+    match tree.get(&hall(2)) {
+        Some(record) => assert!(rt; record.fields.as_slice() == [Value::Int(7)].as_slice()),
+        None => assert!(rt; false),
+    }
+    assert!(rt; tree.get(&hall(-2)).is_none());
+    let shots = tree.shots(alloc)?;
+    assert!(rt; shots.len() == 2);
+    Ok(())
+}
+
+#[test]
+fn a_field_is_replaced(rt: HostRuntime) -> Result<(), Fail> {
+    let alloc = rt.alloc();
+    let shots = two(alloc)?;
+    let mut tree = Tree::from_shots(alloc, shots.as_slice())?;
+    assert!(rt; tree.replace(&hall(2), 0, Value::Int(4)) == Value::Int(9));
+    let wanted = [shot(alloc, hall(-5), 1)?, shot(alloc, hall(2), 4)?];
+    assert!(rt; tree.shots(alloc)?.as_slice() == wanted.as_slice());
+    Ok(())
+}
+
+#[test]
+fn a_field_is_set(rt: HostRuntime) -> Result<(), Fail> {
+    let alloc = rt.alloc();
+    let shots = two(alloc)?;
+    let mut tree = Tree::from_shots(alloc, shots.as_slice())?;
+    tree.set(&hall(2), 0, Value::Int(4));
+    let wanted = [shot(alloc, hall(-5), 1)?, shot(alloc, hall(2), 4)?];
+    assert!(rt; tree.shots(alloc)?.as_slice() == wanted.as_slice());
+    Ok(())
+}
