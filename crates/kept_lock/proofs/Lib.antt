@@ -1,0 +1,5 @@
+pub mod Accounts
+pub mod Entries
+mod Examples
+pub mod Laws
+pub mod Steps

@@ -1,0 +1,9 @@
+pub mod History
+pub mod Knowing
+pub mod Rule
+pub mod Plays
+pub mod Seats
+pub mod Locks
+pub mod Guards
+pub mod Visits
+pub mod Law

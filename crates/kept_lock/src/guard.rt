@@ -1,0 +1,43 @@
+// The value, while it is out of the lock.
+ghost use Rattle.std.specs.Prelude.{◌≡◌, Some, IfSome};
+ghost use Rattle.kept_lock.specs.History.{Adds};
+ghost use Rattle.kept_lock.specs.Knowing.{left_at};
+ghost use Rattle.kept_lock.specs.Locks.{name_of, known, IsPassOf, IsInside, value_of};
+
+use crate::kept::Kept;
+use crate::lock::{KeptLock, Pass};
+
+/// The right to the value, which is out with the pass. It has no `Drop`, so it ends in `leave`.
+pub struct Guard<'a, V: Kept> {
+    pub(crate) lock: &'a KeptLock<V>,
+    pub(crate) pass: &'a mut Pass<V>,
+}
+
+impl<'a, V: Kept> Guard<'a, V> {
+    ghost use Rattle.kept_lock.specs.Guards.{lock_in, pass_in, value_in};
+
+    /// The value.
+    pub fn get(&self) -> &V
+        requires { IsInside (lock_in self.now) (pass_in self.now) }
+        ensures { value_in self.now ≡ Some result.now }
+    {
+        match &self.pass.out {
+            Some(value) => value,
+            None => unreachable!(),
+        }
+    }
+
+    /// Puts the value back. It stands for the name, and its history grew by entries of this pass alone.
+    pub fn leave(self)
+        requires inside { IsInside (lock_in self) (pass_in self) }
+        requires stands { IfSome (value_in self) (λ y. V.stands y (name_of (lock_in self))) }
+        requires adds { IfSome (value_in self) (λ y. Adds V.owner (known (pass_in self)).number (known (pass_in self)).seen (V.history y)) }
+
+        // What the guard leaves behind its borrow of the pass is `self.exit.1.0.now`.
+        ensures outside { IsPassOf (lock_in self.entry) self.exit.1.0.now }
+        ensures left { IfSome (value_in self.entry) (λ y. known self.exit.1.0.now ≡ left_at (known (pass_in self.entry)) (V.history y)) }
+    {
+        let Guard { lock, pass } = self;
+        lock.put_back(pass);
+    }
+}

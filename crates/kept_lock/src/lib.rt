@@ -1,0 +1,30 @@
+//! A lock that keeps one value, whose history only grows. A pass is a token of what its holder has seen of that history, and made in it.
+//!
+//! `KeptLock::new` gives a lock and its first pass, and `split` makes a pass for each further thread. A thread goes to the value by `enter`, `get_mut` and `leave`,
+//! or by `visit`, which is all three in one. Each time it finds a value that stands for the lock's name and whose history goes on from what its pass has seen;
+//! it leaves one whose history has grown by entries of its own alone. `nap` waits for another to leave. At the end `join` puts passes together, and `close` gives the value.
+#![tactic(auto)]
+
+mod bell;
+mod close;
+mod cross;
+mod enter;
+mod guard;
+mod kept;
+mod law;
+mod lends;
+mod lock;
+mod open;
+mod passes;
+mod plays;
+#[cfg(test)]
+mod tests;
+mod view;
+mod visit;
+mod wait;
+
+pub use guard::Guard;
+pub use kept::Kept;
+pub use law::passes_share_one_history;
+pub use lock::{KeptLock, Pass};
+pub use view::{Account, Known};

@@ -1,0 +1,40 @@
+// The lock and its passes.
+ghost use Rattle.std.specs.Prelude.{◌≡◌, None};
+
+use crate::bell::Bell;
+use crate::kept::Kept;
+use crate::plays::Keeping;
+use crate::view::View;
+use atomic_table::{Seat, Table};
+use std::alloc::Global;
+
+/// A lock that keeps one value, whose history only grows.
+/// Its table has one word, odd exactly while a pass is inside, and one slot, where the value is while none is.
+/// Contracts see its name, which is the table's key.
+#[derive(Drop)]
+pub struct KeptLock<V: Kept> {
+    pub(crate) table: Table<Option<V>, View<V::Name, V::Entry>, V::Name, Keeping<V>, Global>,
+    pub(crate) bell: Bell,
+    ghost sized: { (table.shared.table_id.words ≡ 1) × (table.shared.table_id.slots ≡ 1) },
+}
+
+/// The right to enter one lock. Contracts see what its holder knows: `Known`.
+#[derive(Drop)]
+pub struct Pass<V: Kept> {
+    pub(crate) seat: Seat<Option<V>, View<V::Name, V::Entry>>,
+    // The word at its last leave.
+    pub(crate) last: Option<u64>,
+    // The value, while the pass is inside.
+    pub(crate) out: Option<V>,
+}
+
+impl<V: Kept> Pass<V> {
+    pub(crate) fn into_parts(self) -> (Seat<Option<V>, View<V::Name, V::Entry>>, Option<u64>)
+        requires { self.out ≡ None }
+        ensures { (result.0 ≡ self.seat) × (result.1 ≡ self.last) }
+    {
+        let Pass { seat, last, out } = self;
+        let None = out else { unreachable!() };
+        (seat, last)
+    }
+}

@@ -1,0 +1,51 @@
+// The beginning of a lock.
+ghost use Rattle.std.specs.Prelude.{◌≡◌, [], IfOk, IfErr};
+ghost use Rattle.kept_lock.specs.Knowing.{first};
+ghost use Rattle.kept_lock.specs.Locks.{name_of, known, IsPassOf};
+
+use crate::bell::Bell;
+use crate::kept::Kept;
+use crate::lock::{KeptLock, Pass};
+use atomic_table::{Refused, Table};
+use std::alloc::Global;
+use wave_base::OutOfMemory;
+
+impl<V: Kept> KeptLock<V> {
+    /// A lock with this value, and its first pass. Where there is no memory the value comes back.
+    pub fn new(
+        alloc: Global,
+        name: V::Name,
+        value: V,
+    ) -> Result<(KeptLock<V>, Pass<V>), (V, OutOfMemory)>
+        requires stands { V.stands value name }
+        requires empty { V.history value ≡ [] }
+        ensures pass { IfOk result (λ r. IsPassOf r.0 r.1) }
+        ensures name { IfOk result (λ r. name_of r.0 ≡ name) }
+        ensures first { IfOk result (λ r. known r.1 ≡ first) }
+        ensures back { IfErr result (λ r. r.0 ≡ value) }
+    {
+        let Ok(mut slots) = Vec::with_capacity(alloc, 1) else {
+            return Err((value, OutOfMemory));
+        };
+        slots.push_reserved(Some(value));
+        match Table::new(alloc, &[0], slots, &name) {
+            Ok((table, seat)) => {
+                let lock = KeptLock {
+                    table,
+                    bell: Bell::new(),
+                };
+                let pass = Pass {
+                    seat,
+                    last: None,
+                    out: None,
+                };
+                Ok((lock, pass))
+            }
+            Err(Refused { mut slots }) => {
+                let value = slots.pop().unwrap().unwrap();
+                slots.destroy_empty();
+                Err((value, OutOfMemory))
+            }
+        }
+    }
+}

@@ -1,0 +1,182 @@
+ghost use Rattle.std.specs.Prelude.{◌≡◌, ◌++◌, ◌∷◌, [], MatchResult};
+ghost use Rattle.kept_lock.specs.Locks.{known, IsPassOf};
+
+use crate::cross::{sent_lock, sent_pass, shared_lock};
+use crate::{Kept, KeptLock, Pass, passes_share_one_history};
+use std::alloc::{AllocError, Global};
+use std::sync::Wait;
+use std::test::Fail;
+
+// Notes, each with the number of the pass that made it, under a title.
+#[derive(Drop)]
+struct Notes {
+    title: u64,
+    notes: Vec<(u64, u64)>,
+}
+
+impl Kept for Notes {
+    type Name = u64;
+
+    type Entry = (u64, u64);
+
+    ghost history = { λ n. n.notes.items };
+
+    ghost owner = { λ e. e.0 };
+
+    ghost stands = { λ n title. n.title ≡ title };
+}
+
+impl Notes {
+    fn new(alloc: Global, title: u64) -> Notes
+        ensures { (result.title ≡ title) × (result.notes.items ≡ []) }
+    {
+        Notes {
+            title,
+            notes: Vec::new(alloc),
+        }
+    }
+
+    fn add(&mut self, by: u64, note: u64) -> Result<(), AllocError>
+        ensures title { self.new.title ≡ self.old.title }
+        ensures notes { MatchResult result (λ _. self.new.notes.items ≡ self.old.notes.items ++ (by, note) ∷ []) (λ _. self.new.notes.items ≡ self.old.notes.items) }
+    {
+        self.notes.push((by, note))?;
+        Ok(())
+    }
+}
+
+fn add<R: Wait>(
+    rt: &R,
+    lock: &KeptLock<Notes>,
+    pass: &mut Pass<Notes>,
+    me: u64,
+    note: u64,
+) -> Result<(), AllocError>
+    requires pass { IsPassOf lock.now pass.old }
+    requires number { (known pass.old).number ≡ me }
+    ensures pass { IsPassOf lock.now pass.new }
+    ensures number { (known pass.new).number ≡ me }
+{
+    let mut guard = lock.enter(rt, pass);
+    let added = guard.get_mut().add(me, note);
+    guard.leave();
+    added
+}
+
+// The title and the notes of the value that is in the lock.
+fn look<R: Wait>(rt: &R, lock: &KeptLock<Notes>, pass: &mut Pass<Notes>) -> (u64, usize)
+    requires { IsPassOf lock.now pass.old }
+    ensures pass { IsPassOf lock.now pass.new }
+    ensures number { (known pass.new).number ≡ (known pass.old).number }
+{
+    let guard = lock.enter(rt, pass);
+    let notes = guard.get();
+    let seen = (notes.title, notes.notes.len());
+    guard.leave();
+    seen
+}
+
+#[test]
+fn the_value_comes_back_whole(rt: HostRuntime) -> Result<(), Fail> {
+    let Ok((lock, mut pass)) = KeptLock::new(rt.alloc(), 7, Notes::new(rt.alloc(), 7)) else {
+        return Err("memory".into());
+    };
+    add(&rt, &lock, &mut pass, 0, 40)?;
+    add(&rt, &lock, &mut pass, 0, 41)?;
+    let notes = lock.close(&rt, pass);
+    assert_eq!(rt; notes.title, 7);
+    assert_eq!(rt; notes.notes.as_slice(), [(0, 40), (0, 41)].as_slice());
+    Ok(())
+}
+
+// A lock that handed out a value which stands for another name would show the other's title here.
+#[test]
+fn each_of_two_locks_has_its_own_value(rt: HostRuntime) -> Result<(), Fail> {
+    let alloc = rt.alloc();
+    let Ok((one, mut first)) = KeptLock::new(alloc, 1, Notes::new(alloc, 1)) else {
+        return Err("memory".into());
+    };
+    let Ok((other, mut second)) = KeptLock::new(alloc, 2, Notes::new(alloc, 2)) else {
+        return Err("memory".into());
+    };
+    add(&rt, &one, &mut first, 0, 10)?;
+    assert_eq!(rt; look(&rt, &one, &mut first), (1, 1));
+    assert_eq!(rt; look(&rt, &other, &mut second), (2, 0));
+    assert_eq!(rt; one.close(&rt, first).title, 1);
+    assert_eq!(rt; other.close(&rt, second).title, 2);
+    Ok(())
+}
+
+// A lock that handed out the opening value after a leave would show no note here.
+#[test]
+fn what_one_pass_left_the_next_one_finds(rt: HostRuntime) -> Result<(), Fail> {
+    let Ok((lock, mut first)) = KeptLock::new(rt.alloc(), 3, Notes::new(rt.alloc(), 3)) else {
+        return Err("memory".into());
+    };
+    let mut second = lock.split(&mut first);
+    assert_eq!(rt; look(&rt, &lock, &mut second), (3, 0));
+    add(&rt, &lock, &mut first, 0, 30)?;
+    assert_eq!(rt; look(&rt, &lock, &mut second), (3, 1));
+    add(&rt, &lock, &mut second, 1, 31)?;
+    assert_eq!(rt; look(&rt, &lock, &mut first), (3, 2));
+    let pass = lock.join(first, second);
+    let notes = lock.close(&rt, pass);
+    assert_eq!(rt; notes.notes.as_slice(), [(0, 30), (1, 31)].as_slice());
+    Ok(())
+}
+
+#[test]
+fn a_pass_that_never_left_does_not_nap(rt: HostRuntime) -> Result<(), Fail> {
+    let Ok((lock, mut first)) = KeptLock::new(rt.alloc(), 4, Notes::new(rt.alloc(), 4)) else {
+        return Err("memory".into());
+    };
+    lock.nap(&rt, &mut first);
+    let mut second = lock.split(&mut first);
+    assert_eq!(rt; look(&rt, &lock, &mut first), (4, 0));
+    // The word has moved on since the first one's leave, so neither sleeps.
+    assert_eq!(rt; look(&rt, &lock, &mut second), (4, 0));
+    lock.nap(&rt, &mut first);
+    drop(second);
+    assert_eq!(rt; lock.close(&rt, first).title, 4);
+    Ok(())
+}
+
+#[test]
+fn a_visit_gives_what_its_work_gives(rt: HostRuntime) -> Result<(), Fail> {
+    let Ok((lock, mut pass)) = KeptLock::new(rt.alloc(), 5, Notes::new(rt.alloc(), 5)) else {
+        return Err("memory".into());
+    };
+    let added = lock.visit(&rt, &mut pass, |notes: &mut Notes| notes.add(0, 50));
+    added?;
+    assert_eq!(rt; look(&rt, &lock, &mut pass), (5, 1));
+    assert_eq!(rt; lock.close(&rt, pass).notes.len(), 1);
+    Ok(())
+}
+
+#[test]
+fn locks_and_passes_cross_threads(rt: HostRuntime) -> Result<(), Fail> {
+    passes_share_one_history::<Notes>();
+    let Ok((lock, pass)) = KeptLock::new(rt.alloc(), 6, Notes::new(rt.alloc(), 6)) else {
+        return Err("memory".into());
+    };
+    let lock = sent_lock(&rt, lock);
+    assert_eq!(rt; shared_lock(&rt, &lock), (0, 0));
+    drop(sent_pass(&rt, pass));
+    drop(lock);
+    Ok(())
+}
+
+// Under `--fail-alloc` each allocation fails in turn: the value then comes back as it was.
+#[test]
+fn without_memory_the_value_comes_back(rt: HostRuntime) -> Result<(), Fail> {
+    let alloc = rt.alloc();
+    let title = 8;
+    match KeptLock::new(alloc, title, Notes::new(alloc, title)) {
+        Ok((lock, pass)) => assert_eq!(rt; lock.close(&rt, pass).title, 8),
+        Err((notes, _)) => {
+            assert_eq!(rt; notes.title, 8);
+            assert_eq!(rt; notes.notes.len(), 0);
+        }
+    }
+    Ok(())
+}

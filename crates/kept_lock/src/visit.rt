@@ -1,0 +1,37 @@
+// A visit of the value: an entry, some work and a leave, in one call. It serves callers whose value names a lifetime too.
+ghost use Rattle.std.specs.Prelude.{◌≡◌};
+ghost use Rattle.std.specs.Fn.{FnOnceTakesAtMut, FnOnceReturnsAtMut};
+ghost use Rattle.kept_lock.specs.History.{Adds};
+ghost use Rattle.kept_lock.specs.Knowing.{entered, left_at};
+ghost use Rattle.kept_lock.specs.Locks.{name_of, known, IsPassOf};
+ghost use Rattle.kept_lock.specs.Visits.{Meets};
+
+use crate::kept::Kept;
+use crate::lock::{KeptLock, Pass};
+use std::sync::Wait;
+
+impl<V: Kept> KeptLock<V> {
+    /// Waits as `enter` does, does the work on the value, and leaves. In the clauses y is the value that the work met, and z what it made of it.
+    pub fn visit<R: Wait, T, F: FnOnce(&mut V) -> T>(
+        &self,
+        rt: &R,
+        pass: &mut Pass<V>,
+        work: F,
+    ) -> T
+        requires pass { IsPassOf self.now pass.old }
+        requires may { (y : V) → Meets V.history V.owner V.stands (name_of self.now) (known pass.old) y
+            → FnOnceTakesAtMut F.FnOnce work y }
+        requires keeps { (y : V) (r : T) (z : V) → Meets V.history V.owner V.stands (name_of self.now) (known pass.old) y
+            → FnOnceReturnsAtMut F.FnOnce work y r z
+            → V.stands z (name_of self.now) × Adds V.owner (known pass.old).number (V.history y) (V.history z) }
+        ensures pass { IsPassOf self.now pass.new }
+        ensures done { (y : V) × (z : V) × Meets V.history V.owner V.stands (name_of self.now) (known pass.old) y
+            × FnOnceReturnsAtMut F.FnOnce work y result z
+            × (known pass.new ≡ left_at (entered (known pass.old) (V.history y)) (V.history z)) }
+    {
+        let mut guard = self.enter(rt, pass);
+        let result = work(guard.get_mut());
+        guard.leave();
+        result
+    }
+}

@@ -1,0 +1,22 @@
+-- What a thread's pass knows before and after its work.
+use Rattle.std.specs.Prelude.{◌≡◌, ℕ, ◌++◌, [], List, replicate}
+use Rattle.kept_lock.specs.declared.view.Known.{Known}
+use Rattle.kept_lock.specs.History.{StartsWith}
+use Rattle.lock_counter.specs.declared.counter.Addition.{Addition}
+use Rattle.lock_counter.specs.Counters.{addition}
+
+-- the pass has this number, and has made nothing
+abbrev pub IsFresh : Known Addition → ℕ → Type 0
+IsFresh pass number = (pass.number ≡ number) × (pass.made ≡ []) × (pass.accounts ≡ [])
+
+-- the pass made these entries more, and is else as it was
+pub record Made (before after : Known Addition) (more : List Addition) : Type 0 where
+  pub number : after.number ≡ before.number
+  pub passes : after.passes ≡ before.passes
+  pub accounts : after.accounts ≡ before.accounts
+  pub made : after.made ≡ before.made ++ more
+  pub seen : StartsWith after.seen before.seen
+
+-- the pass with this number has added this amount so often, and nothing else
+abbrev pub HasAdded : Known Addition → ℕ → ℕ → ℕ → Type 0
+HasAdded pass number amount times = (pass.number ≡ number) × (pass.made ≡ replicate times (addition number amount)) × (pass.accounts ≡ [])

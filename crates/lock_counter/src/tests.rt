@@ -1,0 +1,186 @@
+ghost use Rattle.std.specs.Prelude.{◌≡◌};
+ghost use Rattle.kept_lock.specs.Locks.{known, IsPassOf};
+ghost use Rattle.lock_counter.specs.Passes.{IsFresh};
+ghost use Rattle.lock_counter.specs.Jobs.{IsReady, IsDone};
+
+use crate::{
+    Addition, Counter, Done, Job, Order, Plan, Turn, add, add_again, add_by_four, add_by_two,
+    add_one, run, run_all, total, wait_for,
+};
+use kept_lock::{KeptLock, Pass};
+use std::alloc::AllocError;
+use std::sync::Wait;
+use std::test::Fail;
+use std::thread::{Threads, join};
+
+// How many additions of this pass the history has, and what they add up to.
+fn share(log: &[Addition], by: u64) -> (usize, u64) {
+    let mut count = 0usize;
+    let mut sum = 0u64;
+    for addition in log {
+        if addition.by == by {
+            count = count.wrapping_add(1);
+            sum = sum.wrapping_add(addition.amount);
+        }
+    }
+    (count, sum)
+}
+
+#[test]
+fn two_threads_add(rt: HostRuntime) -> Result<(), Fail> {
+    let plan = Plan { label: 2 };
+    let counter = add_by_two(&rt, rt.alloc(), &plan, (5, 7), 1000)?;
+    assert_eq!(rt; counter.plan.label, 2);
+    assert_eq!(rt; counter.total, 12_000);
+    assert_eq!(rt; counter.log.len(), 2000);
+    assert_eq!(rt; share(counter.log.as_slice(), 0), (1000, 5000));
+    assert_eq!(rt; share(counter.log.as_slice(), 1), (1000, 7000));
+    Ok(())
+}
+
+#[test]
+fn four_threads_add(rt: HostRuntime) -> Result<(), Fail> {
+    let plan = Plan { label: 4 };
+    let counter = add_by_four(&rt, rt.alloc(), &plan, (1, 2, 3, 4), 1000)?;
+    assert_eq!(rt; counter.plan.label, 4);
+    assert_eq!(rt; counter.total, 10_000);
+    assert_eq!(rt; counter.log.len(), 4000);
+    for by in 0..4u64 {
+        assert_eq!(rt;
+            share(counter.log.as_slice(), by),
+            (1000, 1000 + 1000 * by),
+            "pass {by}"
+        );
+    }
+    Ok(())
+}
+
+fn wait<'l, 'p, R: Wait>(rt: &R, job: Job<'l, 'p>) -> (Pass<Counter<'p>>, u64)
+    requires { IsReady job }
+    ensures { IsPassOf job.entry.lock.now result.0 }
+{
+    let Job {
+        lock,
+        mut pass,
+        me: _,
+        amount,
+        times,
+    } = job;
+    let least = amount.wrapping_mul(times);
+    let visits = wait_for(rt, lock, &mut pass, least);
+    (pass, visits)
+}
+
+// The first waits until the total is what the other adds.
+fn wait_and_add<'l, 'p, R: Threads + Wait + Sync>(
+    rt: &R,
+    one: Job<'l, 'p>,
+    other: Job<'l, 'p>,
+) -> ((Pass<Counter<'p>>, u64), Done<'p>)
+    requires one { IsReady one }
+    requires other { IsReady other }
+    ensures one { IsPassOf one.entry.lock.now result.0.0 }
+    ensures other { IsDone other.entry result.1 }
+{
+    join(
+        rt,
+        move ||
+            requires { IsReady one }
+            ensures { IsPassOf one.entry.lock.now result.0 }
+        { wait(rt, one) },
+        move ||
+            requires { IsReady other }
+            ensures { IsDone other.entry result }
+        { run(rt, other) },
+    )
+}
+
+#[test]
+fn one_naps_until_the_other_is_done(rt: HostRuntime) -> Result<(), Fail> {
+    let plan = Plan { label: 1 };
+    let alloc = rt.alloc();
+    let Ok((lock, mut first)) = KeptLock::new(alloc, &plan, Counter::new(alloc, &plan)) else {
+        return Err("memory".into());
+    };
+    let second = lock.split(&mut first);
+    let (amount, times) = (3, 5000);
+    let one = Job {
+        lock: &lock,
+        pass: first,
+        me: 0,
+        amount,
+        times,
+    };
+    let other = Job {
+        lock: &lock,
+        pass: second,
+        me: 1,
+        amount,
+        times,
+    };
+    let ((pass, visits), (other, done)) = wait_and_add(&rt, one, other);
+    done?;
+    assert!(rt; visits >= 1);
+    let mut pass = lock.join(pass, other);
+    assert_eq!(rt; total(&rt, &lock, &mut pass), 15_000);
+    let counter = lock.close(&rt, pass);
+    assert_eq!(rt; share(counter.log.as_slice(), 1), (5000, 15_000));
+    assert_eq!(rt; counter.log.len(), 5000);
+    Ok(())
+}
+
+#[test]
+fn as_many_threads_as_jobs(rt: HostRuntime) -> Result<(), Fail> {
+    let plan = Plan { label: 3 };
+    let alloc = rt.alloc();
+    let Ok((lock, mut first)) = KeptLock::new(alloc, &plan, Counter::new(alloc, &plan)) else {
+        return Err("memory".into());
+    };
+    let second = lock.split(&mut first);
+    let third = lock.split(&mut first);
+    let mut turns = Vec::new(alloc);
+    turns.push(Turn {
+        job: Job {
+            lock: &lock,
+            pass: second,
+            me: 1,
+            amount: 1,
+            times: 100,
+        },
+    })?;
+    turns.push(Turn {
+        job: Job {
+            lock: &lock,
+            pass: third,
+            me: 2,
+            amount: 2,
+            times: 100,
+        },
+    })?;
+    let done = run_all(&rt, turns)?;
+    assert_eq!(rt; done.len(), 2);
+    drop(done);
+    let counter = lock.close(&rt, first);
+    assert_eq!(rt; counter.total, 300);
+    Ok(())
+}
+
+#[test]
+fn one_after_another(rt: HostRuntime) -> Result<(), Fail> {
+    let plan = Plan { label: 5 };
+    let alloc = rt.alloc();
+    let Ok((lock, mut pass)) = KeptLock::new(alloc, &plan, Counter::new(alloc, &plan)) else {
+        return Err("memory".into());
+    };
+    add(&rt, &lock, &mut pass, 0, 4)?;
+    let order = Order {
+        amount: 6,
+        notes: Vec::new(alloc),
+    };
+    assert!(rt; add_again(&rt, &lock, &mut pass, 0, order).is_ok());
+    assert_eq!(rt; add_one(&rt, &lock, &mut pass, 0), 3);
+    let counter = lock.close(&rt, pass);
+    assert_eq!(rt; counter.plan.label, 5);
+    assert_eq!(rt; counter.total, 11);
+    Ok(())
+}

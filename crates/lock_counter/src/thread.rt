@@ -1,0 +1,37 @@
+// One thread's share of the work.
+ghost use Rattle.lock_counter.specs.Jobs.{IsReady, IsDone};
+
+use crate::counter::Counter;
+use crate::work::add_times;
+use kept_lock::{KeptLock, Pass};
+use std::alloc::AllocError;
+use std::sync::Wait;
+
+/// What a thread has: its pass, that pass's number, and what it is to add how often.
+#[derive(Drop)]
+pub struct Job<'l, 'p> {
+    pub lock: &'l KeptLock<Counter<'p>>,
+    pub pass: Pass<Counter<'p>>,
+    pub me: u64,
+    pub amount: u64,
+    pub times: u64,
+}
+
+/// What a thread gives back.
+pub type Done<'p> = (Pass<Counter<'p>>, Result<(), AllocError>);
+
+/// Does the job.
+pub fn run<'l, 'p, R: Wait>(rt: &R, job: Job<'l, 'p>) -> Done<'p>
+    requires { IsReady job }
+    ensures { IsDone job.entry result }
+{
+    let Job {
+        lock,
+        mut pass,
+        me,
+        amount,
+        times,
+    } = job;
+    let done = add_times(rt, lock, &mut pass, me, amount, times);
+    (pass, done)
+}

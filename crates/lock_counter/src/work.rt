@@ -1,0 +1,94 @@
+// What a thread does with the lock.
+ghost use Rattle.std.specs.Prelude.{◌≡◌, ◌∷◌, ◌%◌, ◌^◌, [], MatchResult, OnOk, length, sum_by, replicate};
+ghost use Rattle.kept_lock.specs.History.{entries_of};
+ghost use Rattle.kept_lock.specs.Locks.{known, IsPassOf};
+ghost use Rattle.lock_counter.specs.Counters.{StandsFor, Added, addition};
+ghost use Rattle.lock_counter.specs.Passes.{Made};
+
+use crate::counter::Counter;
+use kept_lock::{KeptLock, Pass};
+use std::alloc::AllocError;
+use std::sync::Wait;
+
+/// Adds under the lock, as the pass's own number.
+pub fn add<'p, R: Wait>(
+    rt: &R,
+    lock: &KeptLock<Counter<'p>>,
+    pass: &mut Pass<Counter<'p>>,
+    me: u64,
+    amount: u64,
+) -> Result<(), AllocError>
+    requires pass { IsPassOf lock.now pass.old }
+    requires number { (known pass.old).number ≡ me }
+    ensures pass { IsPassOf lock.now pass.new }
+    ensures made { MatchResult result (λ _. Made (known pass.old) (known pass.new) (addition me amount ∷ [])) (λ _. Made (known pass.old) (known pass.new) []) }
+{
+    lock.visit(
+        rt,
+        pass,
+        |counter: &mut Counter| -> Result<(), AllocError>
+            requires { StandsFor counter.now counter.now.plan }
+            ensures { Added counter.entry.now me amount result counter.exit.now }
+        { counter.add(me, amount) },
+    )
+}
+
+/// Adds as often as `times` says.
+pub fn add_times<'p, R: Wait>(
+    rt: &R,
+    lock: &KeptLock<Counter<'p>>,
+    pass: &mut Pass<Counter<'p>>,
+    me: u64,
+    amount: u64,
+    times: u64,
+) -> Result<(), AllocError>
+    requires pass { IsPassOf lock.now pass.old }
+    requires number { (known pass.old).number ≡ me }
+    ensures pass { IsPassOf lock.now pass.new }
+    ensures number { (known pass.new).number ≡ me }
+    ensures made { OnOk result (Made (known pass.old) (known pass.new) (replicate times (addition me amount))) }
+{
+    for _ in 0..times {
+        add(rt, lock, pass, me, amount)?;
+    }
+    Ok(())
+}
+
+/// The total at the moment of the visit.
+pub fn total<'p, R: Wait>(rt: &R, lock: &KeptLock<Counter<'p>>, pass: &mut Pass<Counter<'p>>) -> u64
+    requires { IsPassOf lock.now pass.old }
+    ensures pass { IsPassOf lock.now pass.new }
+    ensures made { Made (known pass.old) (known pass.new) [] }
+    ensures sum { result ≡ sum_by (λ e. e.amount) (known pass.new).seen % 2 ^ 64 }
+{
+    lock.visit(
+        rt,
+        pass,
+        |counter: &mut Counter| -> u64
+            requires { StandsFor counter.now counter.now.plan }
+            ensures { (result ≡ counter.entry.now.total) × (counter.exit.now ≡ counter.entry.now) }
+        { counter.total },
+    )
+}
+
+/// Naps until the total is at least `least`, and counts its visits.
+pub fn wait_for<'p, R: Wait>(
+    rt: &R,
+    lock: &KeptLock<Counter<'p>>,
+    pass: &mut Pass<Counter<'p>>,
+    least: u64,
+) -> u64
+    requires { IsPassOf lock.now pass.old }
+    ensures pass { IsPassOf lock.now pass.new }
+    ensures made { Made (known pass.old) (known pass.new) [] }
+{
+    let mut visits = 0u64;
+    for _ in rt.forever() {
+        visits = visits.wrapping_add(1);
+        if total(rt, lock, pass) >= least {
+            return visits;
+        }
+        lock.nap(rt, pass);
+    }
+    unreachable!()
+}
