@@ -11,7 +11,7 @@ use Rattle.eventwave_program.specs.declared.command.Command.{Command}
 use Rattle.eventwave_program.specs.Commands.{command_of}
 use Rattle.eventwave_program.specs.Due.{IsDue, IsOnlyDue, too_large_input}
 use Rattle.eventwave_program.specs.Ends.{is_given, note_for, IsInput, SomeDue, SomeInputDue, IsLong, ReadsAll, ReadsDue, WritesFront, Told, status_of, note_of, Gave, Ended}
-use Rattle.eventwave_program.proofs.DueLemmas.{only_too_large, due_given}
+use Rattle.eventwave_program.proofs.DueLemmas.{only_too_large}
 
 -- where more was read than is allowed, the input is too large
 pub long_input : (old new : Option (List ℕ)) (bytes : List ℕ) → Consumes old new bytes → INPUT_BYTES < length bytes → IsLong old

@@ -11,6 +11,21 @@ const TICK: &[u8] =
 const FULL_TICK: &[u8] =
     b"service Tick { var n: int = 9223372036854775807; event hit(): int { here { n = n + 1; } reply n; } }\n----\nrequest hit()\n";
 
+const COUNTER: &[u8] = b"service Counter {
+  var hits: int = 0;
+  var points: int = 100;
+  event hit(): int { here { hits = hits + 1; points = points + 10; } reply hits; }
+  event score(): int { here { } reply points + hits; }
+}
+----
+request hit()
+request hit()
+request score()
+";
+
+const NO_REQUESTS: &[u8] =
+    b"service Tick { var n: int = 0; event hit(): int { here { n = n + 1; } reply n; } }\n----\n";
+
 fn bytes(alloc: Global, text: &[u8]) -> Result<Seq<u8>, OutOfMemory> {
     Ok(Seq::from_vec(Vec::from_slice(alloc, text)?))
 }
@@ -84,6 +99,9 @@ fn rows(rt: HostRuntime) -> Result<(), Fail> {
             b"",
         ),
     )?;
+    let counted = b"#1 hit = 1\n#2 hit = 2\n#3 score = 122\ndone 3\n";
+    holds(&rt, alloc, &plain("run", COUNTER, 0, counted, b""))?;
+    holds(&rt, alloc, &plain("run", NO_REQUESTS, 0, b"done 0\n", b""))?;
     holds(&rt, alloc, &plain("walk", TICK, 2, b"", b"words\n"))?;
     holds(
         &rt,

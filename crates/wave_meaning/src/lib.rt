@@ -4,6 +4,9 @@
 ghost use Rattle.std.specs.Prelude.{◌≡◌, ◌++◌, map, slice_get, slice_set, IfOk};
 ghost use Rattle.wave_meaning.specs.Meaning.{checked_sum, atom_value, sum_on, sum_value, overflow_at, reply_of, run_sets, run_event, results_of, initial_value};
 
+#[cfg(test)]
+mod tests;
+
 use mace_parser::{Small, SmallAtom, SmallEvent, SmallWhat};
 use std::alloc::{AllocError, Global};
 use wave_base::{EventResult, FieldInfo, OutOfMemory, Outcome, Seq, Span, Trap, TrapKind, Value};

@@ -1,0 +1,26 @@
+use Rattle.std.proofs.Common.{◌≡◌, ◌+◌, ◌-◌, [], ◌∷◌, length, true, sym, ◌∙◌, ap, arith}
+use Rattle.std.proofs.lemmas.Result.{err_from_is_err_and}
+use Rattle.mace_parser.specs.Run.{sees}
+use Rattle.mace_parser.specs.SmallReaders as reader
+use Rattle.mace_parser.proofs.SmallTurns.{more_goes_on, more_fails, more_done, more_spent}
+use Rattle.mace_parser.proofs.small.events.sets.Goals as goal
+use Rattle.mace_parser.proofs.small.events.sets.Goals.{else-turns-test, then-turns-test+then-not-sees_name}
+
+pub returns-in_err-next : goal.returns-in_err-next
+returns-in_err-next c =
+    let fails = err_from_is_err_and c.from_residual.result c.from_residual.ensures.1 in
+    let seen : sees reader.class (0 ∷ []) c.turns.rest.now ≡ true = sym c.sees_name.ensures ∙ c.if-not-sees_name.false in
+    rw (fails.1, fails.2) (more_fails (0 ∷ []) (reader.set_at c.args.fields.now) (length c.args.tokens.now) c.turns.counter c.turns.found.items c.turns.rest.now c.turns-test.true seen c.in_err-next.field-0.0 (reader.sets_at c.args.fields.now c.args.tokens.now) c.in_err-next.ensures c.turns.invariant)
+
+pub turns-preserved : goal.turns-preserved
+turns-preserved c =
+    let seen : sees reader.class (0 ∷ []) c.turns.rest.now ≡ true = sym c.sees_name.ensures ∙ c.if-not-sees_name.false in
+    let step = more_goes_on (0 ∷ []) (reader.set_at c.args.fields.now) (length c.args.tokens.now) c.turns.counter c.turns.found.items c.turns.rest.now c.turns-test.true seen c.in_ok-next.next c.in_ok-next.after.now c.in_ok-next.ensures in
+    ap (λ found. reader.more (0 ∷ []) (reader.set_at c.args.fields.now) (length c.args.tokens.now - (c.turns.counter + 1)) found c.in_ok-next.after.now) c.in_ok-push.ensures.items ∙ sym step ∙ c.turns.invariant
+
+pub returns : goal.returns
+returns c =
+    elim c.turns-test.branch [
+      | else-turns-test w ↦ more_spent (0 ∷ []) (reader.set_at c.args.fields.now) (length c.args.tokens.now - c.turns.counter) c.turns.found.items c.turns.rest.now _ (omega arith) c.turns.invariant
+      | then-turns-test+then-not-sees_name w ↦ more_done (0 ∷ []) (reader.set_at c.args.fields.now) (length c.args.tokens.now - c.turns.counter) c.turns.found.items c.turns.rest.now _ (sym w.sees_name.ensures ∙ w.if-not-sees_name.true) c.turns.invariant
+    ]
