@@ -1,0 +1,11 @@
+pub mod Actors
+pub mod Alone
+pub mod Begins
+pub mod Canonical
+pub mod Labels
+pub mod Owes
+pub mod Owners
+pub mod Runs
+pub mod States
+pub mod Steps
+pub mod Work

@@ -1,0 +1,7 @@
+//! The machine as definitions, over any actors: its state, its labels, runs and drives, and one event alone.
+#![tactic(auto)]
+
+ghost use Rattle.std.specs.Prelude.{◌≡◌};
+
+/// There is nothing to call here: what this crate gives stands in `specs/`.
+pub fn nothing() {}

@@ -1,0 +1,13 @@
+//! The laws of the machine, for all actors, plans, and lists of labels.
+#![tactic(auto)]
+
+mod acting;
+mod counter;
+mod laws;
+
+pub use acting::Acting;
+pub use counter::{Counter, at_the_counter};
+pub use laws::{
+    bounds, by_owners, complete, hands_stay, independent, never_stuck, numbers, one_owner, records,
+    results, tickets, trails,
+};
