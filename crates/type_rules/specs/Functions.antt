@@ -1,0 +1,171 @@
+-- Methods and events of a service: what is asked of them, and what they are with each name resolved.
+use Rattle.std.specs.Prelude.{ℕ, ◌+◌, ◌&&◌, not, false, nat_lt, List, [], ◌∷◌, ◌++◌, map, length, Option, Some, None, is_some, is_none}
+use Rattle.std.specs.Option.{option_map, option_map_or}
+use Rattle.wave_base.specs.declared.limits.TheConstants.{PARAMS}
+use Rattle.wave_base.specs.declared.span.Span.{Span}
+use Rattle.wave_base.specs.declared.value.Kind.{Kind}
+use Rattle.wave_base.specs.declared.value.Kind.TheVariants as k
+use Rattle.mace_ast.specs.declared.name.Name.{Name}
+use Rattle.mace_ast.specs.declared.method.Param.{Param}
+use Rattle.mace_ast.specs.Decls.{LastTree, MethodTree, PhaseTree, EventTree}
+use Rattle.mace_ast.specs.Stmts.{StmtTrees, no_stmts, stmts_of}
+use Rattle.value_ops.specs.Rows.{wave_rows, first_builtin}
+use Rattle.resolved_service.specs.Steps.{Steps}
+use Rattle.resolved_service.specs.View.{Tree}
+use Rattle.type_rules.specs.declared.error.TypeError.TheVariants.{UnknownName, Duplicate, Mismatch, NotDownward, MissingReply, Limit}
+use Rattle.type_rules.specs.declared.error.Which.TheVariants.{Params}
+use Rattle.type_rules.specs.declared.known.Known.{Known}
+use Rattle.type_rules.specs.Demands.{Demand, ask}
+use Rattle.type_rules.specs.Kinds.{same_kind}
+use Rattle.type_rules.specs.Known.{kinds_of, class_named, event_named, method_named, none_before}
+use Rattle.type_rules.specs.Here.{Here, start, declared, in_class, local_named, is_child}
+use Rattle.type_rules.specs.Exprs.{or_zero, resolve, class_asks, demands_as}
+use Rattle.type_rules.specs.Stmts.{after_all, resolve_stmts, stmts_demands}
+
+-- ---- parameters
+
+abbrev pub after_params : Here → List Param → Here
+after_params h [] = h
+after_params h (p ∷ ps) = after_params (declared h p.name.text p.kind) ps
+
+abbrev pub param_asks : Here → Param → List Demand
+param_asks h p =
+    ask (nat_lt (length h.slots) PARAMS) (Limit Params p.name.at)
+    ∷ ask (is_none (local_named h p.name.text)) (Duplicate p.name.at)
+    ∷ []
+
+-- an event takes no map
+abbrev pub no_map : Param → List Demand
+no_map p = ask (not (same_kind p.kind k.Map)) (Mismatch p.name.at) ∷ []
+
+abbrev pub method_params_demands : Here → List Param → List Demand
+method_params_demands h [] = []
+method_params_demands h (p ∷ ps) = param_asks h p ++ method_params_demands (declared h p.name.text p.kind) ps
+
+abbrev pub event_params_demands : Here → List Param → List Demand
+event_params_demands h [] = []
+event_params_demands h (p ∷ ps) = (param_asks h p ++ no_map p) ++ event_params_demands (declared h p.name.text p.kind) ps
+
+-- ---- the end of a function, by its type and by what is written there
+
+abbrev pub last_demands : Here → Name → Option Kind → Option LastTree → List Demand
+last_demands h name None None = []
+last_demands h name (Some kind) None = ask false (MissingReply name.at) ∷ []
+last_demands h name None (Some last) = ask false (Mismatch last.at) ∷ []
+last_demands h name (Some kind) (Some last) = demands_as h kind last.value
+
+pub record LastView : Type 0 where
+  pub at : Span
+  pub value : Tree
+
+abbrev pub resolve_last : Here → LastTree → LastView
+resolve_last h last = record { at = last.at; value = resolve h last.value }
+
+-- ---- methods
+
+pub record MethodView : Type 0 where
+  pub at : Span
+  pub name : List ℕ
+  pub class : ℕ
+  pub params : List Kind
+  pub result : Option Kind
+  pub locals : List Kind
+  pub body : Steps
+  pub last : Option LastView
+
+-- where the body of a method begins
+abbrev pub method_start : Known → ℕ → ℕ → MethodTree → Here
+method_start known class number m = after_params (start known class number) m.params
+
+abbrev pub method_end : Known → ℕ → ℕ → MethodTree → Here
+method_end known class number m = after_all (method_start known class number m) (stmts_of m.body)
+
+-- of a class's method with a number among all methods
+abbrev pub method_demands : Known → ℕ → ℕ → MethodTree → List Demand
+method_demands known class number m =
+    ask (none_before number (method_named known class m.name.text) && is_none (first_builtin wave_rows m.name.text)) (Duplicate m.name.at)
+    ∷ (method_params_demands (start known class number) m.params
+    ++ (stmts_demands (method_start known class number m) (stmts_of m.body)
+    ++ last_demands (method_end known class number m) m.name m.result m.last))
+
+abbrev pub resolve_method : Known → ℕ → ℕ → MethodTree → MethodView
+resolve_method known class number m = record {
+  at = m.at;
+  name = m.name.text;
+  class = class;
+  params = kinds_of m.params;
+  result = m.result;
+  locals = (method_end known class number m).slots;
+  body = resolve_stmts (method_start known class number m) (stmts_of m.body);
+  last = option_map (resolve_last (method_end known class number m)) m.last;
+}
+
+-- ---- events
+
+pub record PhaseView : Type 0 where
+  pub at : Span
+  pub class : ℕ
+  pub key : Tree
+  pub body : Steps
+
+pub record EventView : Type 0 where
+  pub at : Span
+  pub locals : List Kind
+  pub here : Steps
+  pub phases : List PhaseView
+  pub last : Option LastView
+
+-- all methods come before an event
+abbrev pub event_start : Known → EventTree → Here
+event_start known e = after_params (start known 0 (length known.methods)) e.params
+
+-- the first phase, at the root, is empty where none is written
+abbrev pub here_stmts : EventTree → StmtTrees
+here_stmts e = option_map_or stmts_of e.here no_stmts
+
+-- below `down`
+abbrev pub inside : Here → PhaseTree → Here
+inside h p = in_class h (or_zero (class_named h.known p.class))
+
+abbrev pub phase_end : Here → PhaseTree → Here
+phase_end h p = after_all (inside h p) (stmts_of p.body)
+
+abbrev pub event_end : Here → List PhaseTree → Here
+event_end h [] = h
+event_end h (p ∷ ps) = event_end (phase_end h p) ps
+
+-- the key belongs to the phase before
+abbrev pub phase_demands : Here → PhaseTree → List Demand
+phase_demands h p = class_asks h p.at p.class ++ (demands_as h k.Int p.key ++ stmts_demands (inside h p) (stmts_of p.body))
+
+abbrev pub phases_demands : Here → List PhaseTree → List Demand
+phases_demands h [] = []
+phases_demands h (p ∷ ps) = phase_demands h p ++ phases_demands (phase_end h p) ps
+
+abbrev pub here_end : Known → EventTree → Here
+here_end known e = after_all (event_start known e) (here_stmts e)
+
+-- of the event with a number among all events
+abbrev pub event_demands : Known → ℕ → EventTree → List Demand
+event_demands known number e =
+    ask (none_before number (event_named known e.name.text)) (Duplicate e.name.at)
+    ∷ (event_params_demands (start known 0 (length known.methods)) e.params
+    ++ (stmts_demands (event_start known e) (here_stmts e)
+    ++ (phases_demands (here_end known e) e.phases
+    ++ last_demands (event_end (here_end known e) e.phases) e.name e.result e.last)))
+
+abbrev pub resolve_phase : Here → PhaseTree → PhaseView
+resolve_phase h p = record { at = p.at; class = or_zero (class_named h.known p.class); key = resolve h p.key; body = resolve_stmts (inside h p) (stmts_of p.body) }
+
+abbrev pub resolve_phases : Here → List PhaseTree → List PhaseView
+resolve_phases h [] = []
+resolve_phases h (p ∷ ps) = resolve_phase h p ∷ resolve_phases (phase_end h p) ps
+
+abbrev pub resolve_event : Known → EventTree → EventView
+resolve_event known e = record {
+  at = e.at;
+  locals = (event_end (here_end known e) e.phases).slots;
+  here = resolve_stmts (event_start known e) (here_stmts e);
+  phases = resolve_phases (here_end known e) e.phases;
+  last = option_map (resolve_last (event_end (here_end known e) e.phases)) e.last;
+}

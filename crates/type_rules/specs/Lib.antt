@@ -1,0 +1,9 @@
+pub mod Demands
+pub mod Kinds
+pub mod Known
+pub mod Here
+pub mod Exprs
+pub mod Stmts
+pub mod Functions
+pub mod Services
+pub mod Views

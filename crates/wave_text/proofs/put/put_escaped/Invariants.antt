@@ -1,0 +1,6 @@
+use Rattle.std.proofs.Common.{◌≡◌, ◌++◌, drop}
+use Rattle.mace_lexer.specs.Texts.{escaped}
+use Rattle.wave_text.proofs.put.put_escaped.Given as goal
+
+abbrev pub invariant-loop-b : goal.invariant-loop-b
+invariant-loop-b l = l.out.items ++ escaped (drop l.b-index l.text) ≡ l.fn.out.items ++ escaped l.text

@@ -1,0 +1,19 @@
+-- The numbers that digits stand for. What is written of a number is std's `decimal`, and `signed_decimal`.
+use Rattle.std.specs.Prelude.{ℕ, ◌^◌, ℤ, pos, neg_ℤ, ◌==◌, nat_lt, nat_le, if◌then◌else◌, List, [], ◌∷◌, Option, Some, None}
+use Rattle.std.specs.Str.Parse.{digits_value}
+
+-- the number that digits stand for, whatever its size
+abbrev pub number_of : List ℕ → ℕ
+number_of digits = digits_value 10 digits
+
+-- a number and its negative, where they fit 64 bits with sign
+abbrev pub positive : ℕ → Option ℤ
+positive n = if nat_lt n (2 ^ 63) then Some (pos n) else None
+
+abbrev pub negative : ℕ → Option ℤ
+negative n = if nat_le n (2 ^ 63) then Some (neg_ℤ (pos n)) else None
+
+-- the number that an optional minus and digits stand for, where it fits
+abbrev pub whole_of : List ℕ → Option ℤ
+whole_of [] = None
+whole_of (b ∷ bs) = if b == 45 then negative (number_of bs) else positive (number_of (b ∷ bs))

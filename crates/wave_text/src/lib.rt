@@ -1,0 +1,16 @@
+//! Words, numbers, quoted texts, values and lines as bytes: how they are written, and how they are read.
+#![tactic(auto)]
+
+mod lines;
+mod numbers;
+mod put;
+mod quotes;
+#[cfg(test)]
+mod tests;
+mod words;
+
+pub use lines::first_line;
+pub use numbers::{whole_of, written_numbers_are_read};
+pub use put::{put_bytes, put_number, put_quoted, put_value, put_whole};
+pub use quotes::read_quoted;
+pub use words::{is_blank, is_digits, is_whole, is_word};

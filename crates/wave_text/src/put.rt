@@ -1,0 +1,109 @@
+ghost use Rattle.std.specs.Prelude.{◌≡◌, ◌<◌, ◌++◌, length, slice_get, IfSome, OnOk};
+ghost use Rattle.std.specs.List.Sorted.{IsStrictlySortedBy};
+ghost use Rattle.std.specs.Map.{keys_of};
+ghost use Rattle.std.specs.Ordering.{int_cmp};
+ghost use Rattle.std.specs.Fmt.{decimal, signed_decimal};
+ghost use Rattle.mace_lexer.specs.Texts.{escaped, quoted};
+ghost use Rattle.wave_text.specs.ValueTexts.{pair_text, comma_before, pairs_text, value_text};
+
+use std::alloc::Global;
+use std::string::ToString;
+use wave_base::{OutOfMemory, Table, Value};
+
+/// Appends bytes.
+pub fn put_bytes(out: &mut Vec<u8>, bytes: &[u8]) -> Result<(), OutOfMemory>
+    ensures { OnOk result (out.new.items ≡ out.old.items ++ bytes.now) }
+{
+    out.extend_from_slice(bytes)?;
+    Ok(())
+}
+
+/// Appends a number in decimal.
+pub fn put_number(alloc: Global, out: &mut Vec<u8>, n: u64) -> Result<(), OutOfMemory>
+    ensures { OnOk result (out.new.items ≡ out.old.items ++ decimal n) }
+{
+    let text = n.to_string(alloc)?;
+    put_bytes(out, text.as_bytes())
+}
+
+/// Appends a whole number in decimal.
+pub fn put_whole(alloc: Global, out: &mut Vec<u8>, n: i64) -> Result<(), OutOfMemory>
+    ensures { OnOk result (out.new.items ≡ out.old.items ++ signed_decimal n) }
+{
+    let text = n.to_string(alloc)?;
+    put_bytes(out, text.as_bytes())
+}
+
+// Appends a text, with a backslash before each quote and backslash.
+fn put_escaped(out: &mut Vec<u8>, text: &[u8]) -> Result<(), OutOfMemory>
+    ensures { OnOk result (out.new.items ≡ out.old.items ++ escaped text.now) }
+{
+    for b in text {
+        if *b == b'"' || *b == b'\\' {
+            out.push(b'\\')?;
+        }
+        out.push(*b)?;
+    }
+    Ok(())
+}
+
+/// Appends a text in quotes.
+pub fn put_quoted(out: &mut Vec<u8>, text: &[u8]) -> Result<(), OutOfMemory>
+    ensures { OnOk result (out.new.items ≡ out.old.items ++ quoted text.now) }
+{
+    put_bytes(out, b"\"")?;
+    put_escaped(out, text)?;
+    put_bytes(out, b"\"")
+}
+
+// Appends the pair at place `i` in the order of the keys.
+fn put_pair(alloc: Global, out: &mut Vec<u8>, table: &Table, i: usize) -> Result<(), OutOfMemory>
+    requires within { i < length table.now }
+    requires rises { IsStrictlySortedBy int_cmp (keys_of table.now) }
+    ensures { OnOk result (IfSome (slice_get table.now i) (λ p. out.new.items ≡ out.old.items ++ pair_text p)) }
+{
+    let key = table.key_at(i).unwrap();
+    let value = table.get(key).unwrap();
+    put_whole(alloc, out, key)?;
+    put_bytes(out, b": ")?;
+    put_whole(alloc, out, value)
+}
+
+// Appends a comma before all pairs but the first.
+fn put_comma(out: &mut Vec<u8>, i: usize) -> Result<(), OutOfMemory>
+    ensures { OnOk result (out.new.items ≡ out.old.items ++ comma_before i) }
+{
+    if i == 0 {
+        Ok(())
+    } else {
+        put_bytes(out, b", ")
+    }
+}
+
+// Appends the pairs of a map in the order of their keys.
+fn put_pairs(alloc: Global, out: &mut Vec<u8>, table: &Table) -> Result<(), OutOfMemory>
+    ensures { OnOk result (out.new.items ≡ out.old.items ++ pairs_text table.now) }
+{
+    for i in 0..table.len() {
+        put_comma(out, i)?;
+        put_pair(alloc, out, table, i)?;
+    }
+    Ok(())
+}
+
+/// Appends a value as it is printed.
+pub fn put_value(alloc: Global, out: &mut Vec<u8>, value: &Value) -> Result<(), OutOfMemory>
+    ensures { OnOk result (out.new.items ≡ out.old.items ++ value_text value.now) }
+{
+    match value {
+        Value::Int(n) => put_whole(alloc, out, *n),
+        Value::Bool(true) => put_bytes(out, b"true"),
+        Value::Bool(false) => put_bytes(out, b"false"),
+        Value::Str(text) => put_quoted(out, text.bytes()),
+        Value::Map(table) => {
+            put_bytes(out, b"{")?;
+            put_pairs(alloc, out, table)?;
+            put_bytes(out, b"}")
+        }
+    }
+}
