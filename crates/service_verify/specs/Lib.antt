@@ -1,0 +1,12 @@
+pub mod Asks
+pub mod Boxes
+pub mod Copies
+pub mod Faults
+pub mod Fit
+pub mod Nexts
+pub mod Points
+pub mod Rules
+pub mod Segments
+pub mod Standing
+pub mod Steps
+pub mod Tours
