@@ -20,7 +20,6 @@ same_bytes xs ys e = subst (λ z. bytes_eq xs z ≡ true) e (nat_list_eq_equiv.r
 is_same : (xs ys : List ℕ) → bytes_eq xs ys ≡ true → xs ≡ ys
 is_same xs ys h = same_text xs ys (sym h)
 
-
 -- behind the first word no two parentheses end the line
 pub no_parens : (name line call : List ℕ) → call ≡ drop 8 line → bytes_eq (drop (length call - 2) call) (codes "()") ≡ false → bytes_eq (request_line name) line ≡ false
 no_parens name line call split none = is_false (bytes_eq (request_line name) line) (λ h.

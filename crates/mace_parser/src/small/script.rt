@@ -24,9 +24,7 @@ fn requested_place(events: &[SmallEvent], line: &[u8]) -> Option<usize>
     ensures place { result ≡ requested events.now line.now }
     ensures within { IfSome result (λ i. i < length events.now) }
 {
-    events
-        .iter()
-        .position(|e| is_request(e.name.bytes(), line))
+    events.iter().position(|e| is_request(e.name.bytes(), line))
 }
 
 /// The number of the event that the line requests.
