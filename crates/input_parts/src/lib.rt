@@ -1,0 +1,9 @@
+//! An input in its parts: the text of a service, and a script.
+#![tactic(auto)]
+
+mod lines;
+mod parts;
+#[cfg(test)]
+mod tests;
+
+pub use parts::parts_of;
