@@ -60,6 +60,10 @@ abbrev pub is_start : Act → Bool
 is_start (Start t p) = true
 is_start _ = false
 
+abbrev pub is_stop : Act → Bool
+is_stop (Stop t p) = true
+is_stop _ = false
+
 abbrev pub is_pass : Act → Bool
 is_pass (Pass t k p g) = true
 is_pass _ = false

@@ -18,17 +18,17 @@ use Rattle.wave_states.specs.States.{ask_in, is_coming, is_release, entry_in}
 use Rattle.wave_states.specs.Steps.{step_by, act_bench, only_if, next_ticket, mail_for, letter_at, visit, grant, queue, entry_for, passed_on, may_join, ready_at, Deliver, Born, Wait, route_by}
 use Rattle.std.specs.Prelude.{option_map, option_and_then}
 
-then_can : {X Y : Type 0} (f : X → Option Y) (o : Option X) (x : X) → o ≡ Some x → is_some (f x) ≡ true → is_some (option_and_then f o) ≡ true
+pub then_can : {X Y : Type 0} (f : X → Option Y) (o : Option X) (x : X) → o ≡ Some x → is_some (f x) ≡ true → is_some (option_and_then f o) ≡ true
 then_can f o x e k = subst (λ i. is_some (option_and_then f i) ≡ true) (sym e) k
 
-only_can : {X : Type 0} (i : Bool) (x : X) → i ≡ true → is_some (only_if i x) ≡ true
+pub only_can : {X : Type 0} (i : Bool) (x : X) → i ≡ true → is_some (only_if i x) ≡ true
 only_can i x e = subst (λ j. is_some (only_if j x) ≡ true) (sym e) refl
 
-map_can : {X Y : Type 0} (f : X → Y) (o : Option X) → is_some o ≡ true → is_some (option_map f o) ≡ true
+pub map_can : {X Y : Type 0} (f : X → Y) (o : Option X) → is_some o ≡ true → is_some (option_map f o) ≡ true
 map_can f None e = e
 map_can f (Some x) e = refl
 
-if_can : {X : Type 0} (i : Bool) (o : Option X) → i ≡ true → is_some o ≡ true → is_some (if i then o else None) ≡ true
+pub if_can : {X : Type 0} (i : Bool) (o : Option X) → i ≡ true → is_some o ≡ true → is_some (if i then o else None) ≡ true
 if_can true o e k = k
 if_can false o e k = absurd (clash false e refl)
 

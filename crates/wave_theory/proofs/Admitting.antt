@@ -1,6 +1,6 @@
 -- Admits and Commits keep what the state shows.
 use Rattle.wave_theory.proofs.Ranks.{rank_le}
-use Rattle.std.proofs.Common.{◌≡◌, ℕ, suc, ◌<◌, ◌≤◌, ◌&&◌, not, inl, inr, nat_eq, Bool, true, false, Some, None, [], ◌∷◌, ◌++◌, refl, sym, ◌∙◌, ap, subst, arith}
+use Rattle.std.proofs.Common.{◌≡◌, ℕ, suc, ◌<◌, ◌≤◌, ◌&&◌, not, inl, inr, nat_eq, Bool, true, false, Some, None, [], ◌∷◌, ◌++◌, refl, sym, ◌∙◌, ap, subst, arith, ◌+◌, ap₂}
 use Rattle.std.proofs.lemmas.Bool.Decides.{nat_tests}
 use Rattle.wave_base.specs.declared.path.Step.{Step}
 use Rattle.wave_base.specs.declared.path.Path.{Path}
@@ -14,6 +14,7 @@ use Rattle.wave_theory.proofs.Stops.{admit_good, root_number}
 use Rattle.wave_theory.proofs.Leaves.{Course, IsCourse}
 use Rattle.wave_theory.proofs.Frames.{cell_frame, entry_frame, column_frame, hand_frame}
 use Rattle.wave_theory.proofs.Alive
+use Rattle.wave_theory.proofs.Tallies
 use Rattle.wave_theory.proofs.Shows
 
 module _ {A F R J : Type 0} (sys : Actors A F R J) (w : Way) (law : IsWay w) (course : Course sys) (low : ℕ) (is_real : ℕ → Type 0) (courses : IsCourse sys w course low is_real) where
@@ -203,6 +204,33 @@ module _ {A F R J : Type 0} (sys : Actors A F R J) (w : Way) (law : IsWay w) (co
             at_or_below : (a b : ℕ) → a ≤ suc b → nat_eq (suc b) a ≡ false → a ≤ b
             at_or_below a b l e = grind (arith, nat_tests)
 
+    pub admit_tally : (c : ℕ → ℕ) → Tallies.Tally sys w course low is_real g c → Tallies.Tally sys w course low is_real ga (set nat_eq c t 1)
+    admit_tally c y = record {
+      counted = λ b lb l. elim (number_cases t b) [
+        | inl z ↦ subst (λ i. set nat_eq c t 1 i ≡ Tallies.progress sys w course low is_real ga i) z (set_at c t 1 ∙ sym (ap suc (ap₂ (λ i j. i + j) (ap (λ n. Tallies.sum_to n (Tallies.over_parts sys w course low is_real ga t)) (set_at g.lines.pos t 0) ∙ Tallies.sum_zero _)
+            (ap (λ u. Tallies.stage_part (w.fresh t ((ga).lines.pos t)) u ((ga).out t)) (set_at g.lines.stage t Entering)))))
+        | inr z ↦ set_there nat_eq c t 1 b z ∙ y.counted b lb (older b l z) ∙ sym (others b z)
+      ];
+      stale = λ b lb l e. elim (number_cases t b) [
+        | inl z ↦ absurd (entering_coming (sym (set_at g.lines.stage t Entering) ∙ ap (ga).lines.stage z ∙ e))
+        | inr z ↦ ap (w.fresh b) (set_there nat_eq g.lines.pos t 0 b z) ∙ y.stale b lb (older b l z) (sym (set_there nat_eq g.lines.stage t Entering b z) ∙ e)
+      ];
+    }
+      where
+        entering_coming : Entering ≡ Coming → ⊥
+        entering_coming e = grind arith
+
+        older : (b : ℕ) → b ≤ suc g.lines.admitted → nat_eq t b ≡ false → b ≤ g.lines.admitted
+        older b l z = at_or_below b g.lines.admitted l z
+          where
+            at_or_below : (a b : ℕ) → a ≤ suc b → nat_eq (suc b) a ≡ false → a ≤ b
+            at_or_below a b l e = grind (arith, nat_tests)
+
+        others : (b : ℕ) → nat_eq t b ≡ false → Tallies.progress sys w course low is_real ga b ≡ Tallies.progress sys w course low is_real g b
+        others b z = ap suc (ap₂ (λ i j. i + j)
+            (ap (λ n. Tallies.sum_to n (Tallies.over_parts sys w course low is_real ga b)) (set_there nat_eq g.lines.pos t 0 b z))
+            (ap₂ (λ i j. Tallies.stage_part (w.fresh b i) j ((ga).out b)) (set_there nat_eq g.lines.pos t 0 b z) (set_there nat_eq g.lines.stage t Entering b z) ∙ ap (Tallies.stage_part (w.fresh b (g.lines.pos b)) (g.lines.stage b)) (set_there nat_eq g.out t false b z)))
+
     pub admit_alive : (n : ℕ) → n ≡ suc g.lines.admitted → Alive.Alive sys w course low is_real s g → Alive.Alive sys w course low is_real (admitted sys s n j) ga
     admit_alive n e a = subst (λ i. Alive.Alive sys w course low is_real (admitted sys s i j) ga) (sym e) (record {
       one = λ b lb l. elim (number_cases t b) [
@@ -212,6 +240,11 @@ module _ {A F R J : Type 0} (sys : Actors A F R J) (w : Way) (law : IsWay w) (co
       out = λ b u. elim (number_cases t b) [
         | inl z ↦ absurd (clash _ (ap (ga).out z ∙ u) (set_at g.out t false))
         | inr z ↦ a.out b (sym (set_there nat_eq g.out t false b z) ∙ u)
+      ];
+      housed = a.housed;
+      no_zero = λ b. elim (number_cases t b) [
+        | inl z ↦ subst (λ i. (set nat_eq s.cells t (new_cell sys (sys.make j t) t) i).mails 0 ≡ None) z (ap (λ (c : Cell A F R). c.mails 0) (set_at s.cells t (new_cell sys (sys.make j t) t)))
+        | inr z ↦ ap (λ (c : Cell A F R). c.mails 0) (set_there nat_eq s.cells t (new_cell sys (sys.make j t) t) b z) ∙ a.no_zero b
       ];
       few = λ r. (let z = a.few r in let y = rank_le w r g.lines.admitted in omega (arith, z, y));
       kids = λ q st c u. elim (a.kids q st c u) [ inl m ↦ inl m | inr m ↦ inr (record { ticket = m.ticket; first = m.first; known = omega (arith, m.known); comes = m.comes }) ];

@@ -74,6 +74,8 @@ module _ {A F R J : Type 0} (sys : Actors A F R J) (w : Way) (course : Course sy
     pub away : (p : Path) → g.born p ≡ true → (g.trail p).stored ≡ false → AwayBy g p
     pub few : (p : Path) → g.lines.served p ≤ rank w p g.lines.admitted
     pub kids : (q : Path) → Kids g q
+    pub housed : (r : Path) (i : ℕ) → i ≤ (g.trail r).last → (g.trail r).at i < course.hosts
+    pub no_zero : (t : ℕ) → (s.cells t).mails 0 ≡ None
 
   -- where as many are admitted
   pub kids_same : (g g' : Shows.Ghost F) (q : Path) → g'.lines.admitted ≡ g.lines.admitted → ((st : Step) → g.born (q ++ st ∷ []) ≡ true → g'.born (q ++ st ∷ []) ≡ true) → g'.body q ≡ g.body q → Kids g q → Kids g' q
@@ -87,8 +89,9 @@ module _ {A F R J : Type 0} (sys : Actors A F R J) (w : Way) (course : Course sy
       ((b : ℕ) (c : Claim) → nat_eq t b ≡ false → (g.entry p).waiting (rank w p b) ≡ Some c → visits w b p ≡ true → (g'.entry p).waiting (rank w p b) ≡ Some c) →
       ((h : Hand A F) → s.hands v ≡ Some h → h.ticket ≡ t) → AliveOne g' t y.part.cell.mails → (g'.out t ≡ true → HandThere (set nat_eq s.hands v y.hand) (g'.worker t) t) →
       ((r : Path) → path_eq p r ≡ false → g.lines.holds r t ≡ true → w.held t (g.lines.pos t) r ≡ false → w.held t (g'.lines.pos t) r ≡ false) → (g'.born p ≡ true → (g'.trail p).stored ≡ false → AwayBy g' p) →
-      g'.lines.served p ≤ rank w p g.lines.admitted → (g.born p ≡ true → g'.born p ≡ true) → Kids g' p → (law : IsWay w) → Alive (with_bench sys s t p v y) g'
-  alive_update s g g' t p v y x f same la lt a wait mine one own later at_p few_p grows kids_p law = record {
+      g'.lines.served p ≤ rank w p g.lines.admitted → (g.born p ≡ true → g'.born p ≡ true) → Kids g' p →
+      ((r : Path) (i : ℕ) → i ≤ (g'.trail r).last → (g'.trail r).at i < course.hosts) → y.part.cell.mails 0 ≡ None → (law : IsWay w) → Alive (with_bench sys s t p v y) g'
+  alive_update s g g' t p v y x f same la lt a wait mine one own later at_p few_p grows kids_p housed' zero_p law = record {
     one = λ b lb l. elim (number_cases t b) [
       | inl z ↦ subst (λ i. AliveOne g' i (set nat_eq s.cells t y.part.cell i).mails) z (subst (λ (c : Cell A F R). AliveOne g' t c.mails) (sym (set_at s.cells t y.part.cell)) one)
       | inr z ↦ subst (λ (c : Cell A F R). AliveOne g' b c.mails) (sym (set_there nat_eq s.cells t y.part.cell b z)) (others b z lb (subst (λ i. b ≤ i) same l))
@@ -107,6 +110,11 @@ module _ {A F R J : Type 0} (sys : Actors A F R J) (w : Way) (course : Course sy
         | inr u ↦ absurd (clash _ (sym (f.born r d) ∙ b) u.1)
         | inl u ↦ away_there r d (a.away r (sym (f.born r d) ∙ b) (ap (λ i. i.stored) (sym u) ∙ e))
       ]
+    ];
+    housed = housed';
+    no_zero = λ b. elim (number_cases t b) [
+      | inl z ↦ subst (λ i. (set nat_eq s.cells t y.part.cell i).mails 0 ≡ None) z (ap (λ (c : Cell A F R). c.mails 0) (set_at s.cells t y.part.cell) ∙ zero_p)
+      | inr z ↦ ap (λ (c : Cell A F R). c.mails 0) (set_there nat_eq s.cells t y.part.cell b z) ∙ a.no_zero b
     ];
     few = λ r. subst (λ i. g'.lines.served r ≤ rank w r i) (sym same) (elim (path_cases p r) [
       | inl d ↦ subst (λ q. g'.lines.served q ≤ rank w q g.lines.admitted) d few_p
@@ -174,3 +182,10 @@ module _ {F : Type 0} where
   pub coming_no : (m : Letter F) → is_coming m ≡ true → (m ≡ Release) ⊎ ((en : Entry F) × (m ≡ Transfer en)) → ⊥
   coming_no m e (inl z) = clash false (sym (ap is_coming z) ∙ e) refl
   coming_no m e (inr z) = clash false (sym (ap is_coming z.1) ∙ e) refl
+
+-- a mail less
+pub cut_zero : {F : Type 0} (mails : ℕ → Option (Mail F)) (k : ℕ) → mails 0 ≡ None → set nat_eq mails k None 0 ≡ None
+cut_zero mails k e = elim (number_cases k 0) [
+  | inl z ↦ subst (λ i. set nat_eq mails k None i ≡ None) z (set_at mails k None)
+  | inr z ↦ set_there nat_eq mails k None 0 z ∙ e
+]

@@ -325,3 +325,18 @@ module _ {A F R J : Type 0} (sys : Actors A F R J) (hosts : ℕ) (fits : Path �
     root = begins.root;
     root_birth = birth₀;
   }
+
+  -- every host of a trail is one of the hosts
+  pub housed₀ : 0 < hosts → (p : Path) (i : ℕ) → i ≤ ((ghost₀).trail p).last → ((ghost₀).trail p).at i < hosts
+  housed₀ some p i = by (there b.tree p) refl
+    where
+      moved : there b.tree p ≡ true → (j : Bool) → (i : ℕ) → i ≤ (moved_trail j p).last → (moved_trail j p).at i < hosts
+      moved u false i l = begins.within p u
+      moved u true i l = elim (number_cases 0 i) [
+        | inl e ↦ subst (λ a. set nat_eq (λ n. b.places.fields p) 0 0 a < hosts) e some
+        | inr e ↦ subst (λ a. a < hosts) (sym (set_there nat_eq (λ n. b.places.fields p) 0 0 i e)) (begins.within p u)
+      ]
+
+      by : (j : Bool) → there b.tree p ≡ j → i ≤ (if j then moved_trail (has_moved b p) p else unborn 0).last → (if j then moved_trail (has_moved b p) p else unborn 0).at i < hosts
+      by false u l = some
+      by true u l = moved u (has_moved b p) i l

@@ -43,8 +43,8 @@ module _ {A F R J : Type 0} (sys : Actors A F R J) where
   abbrev pub way_by : (ℕ → View A F R) → Way
   way_by f = way_of (λ t. (f t).one)
 
-  abbrev pub course_by : (ℕ → View A F R) → Course sys
-  course_by f = record { actor = λ t. (f t).actor; result = λ t. (f t).result; leaf = λ t. (f t).leaf }
+  abbrev pub course_by : ℕ → (ℕ → View A F R) → Course sys
+  course_by hosts f = record { actor = λ t. (f t).actor; result = λ t. (f t).result; leaf = λ t. (f t).leaf; hosts = hosts }
 
   abbrev pub view_of : Alone A F R → ℕ → View A F R
   view_of x n = record { one = one_of sys x n; actor = λ k. Some (after_segments sys k x).actor; result = λ k. (after_segments sys k x).result; leaf = λ k p. leaf_of (after_segments sys k x).tree p }
@@ -94,7 +94,7 @@ module _ {A F R J : Type 0} (sys : Actors A F R J) (hosts : ℕ) (fits : Path �
     z_is = next_is sys k x ∙ ap (segment_if sys y) none
 
     Seg : Type 0
-    Seg = Segment sys (way_by sys (λ t. view_of sys x n)) (course_by sys (λ t. view_of sys x n)) 0 k
+    Seg = Segment sys (way_by sys (λ t. view_of sys x n)) (course_by sys hosts (λ t. view_of sys x n)) 0 k
 
     more : z.result ≡ None → suc k ≤ n
     more e = elim (at_or_below k n l) [ inl m ↦ m | inr m ↦ absurd (none_not (sym e ∙ subst (λ i. (after_segments sys (suc i) x).result ≡ Some c.result) (sym m) c.ends)) ]
@@ -103,7 +103,7 @@ module _ {A F R J : Type 0} (sys : Actors A F R J) (hosts : ℕ) (fits : Path �
         at_or_below a b l = grind arith
 
     into_next : (s : Step) (peek : Bool) (keep : Path → Bool) (kept : List Path) → ((p : Path) → has kept p ≡ keep p) → z ≡ into y (segment_alone sys y).actor (segment_alone sys y).fields (y.at ++ s ∷ []) peek kept (has y.held (y.at ++ s ∷ [])) →
-        (z.actor ≡ (segment_alone sys y).actor) × (z.tree.fields y.at ≡ (segment_alone sys y).fields) × Enters sys (way_by sys (λ t. view_of sys x n)) (course_by sys (λ t. view_of sys x n)) 0 k s peek keep
+        (z.actor ≡ (segment_alone sys y).actor) × (z.tree.fields y.at ≡ (segment_alone sys y).fields) × Enters sys (way_by sys (λ t. view_of sys x n)) (course_by sys hosts (λ t. view_of sys x n)) 0 k s peek keep
     into_next s peek keep kept same e = by (has y.held (y.at ++ s ∷ [])) refl e
       where
         a : A
@@ -116,7 +116,7 @@ module _ {A F R J : Type 0} (sys : Actors A F R J) (hosts : ℕ) (fits : Path �
         q = y.at ++ s ∷ []
 
         by : (was : Bool) → has y.held (y.at ++ s ∷ []) ≡ was → z ≡ into y (segment_alone sys y).actor (segment_alone sys y).fields (y.at ++ s ∷ []) peek kept was →
-            (z.actor ≡ (segment_alone sys y).actor) × (z.tree.fields y.at ≡ (segment_alone sys y).fields) × Enters sys (way_by sys (λ t. view_of sys x n)) (course_by sys (λ t. view_of sys x n)) 0 k s peek keep
+            (z.actor ≡ (segment_alone sys y).actor) × (z.tree.fields y.at ≡ (segment_alone sys y).fields) × Enters sys (way_by sys (λ t. view_of sys x n)) (course_by sys hosts (λ t. view_of sys x n)) 0 k s peek keep
         by true was e = (
           ap (λ (v : Alone A F R). v.actor) e,
           ap (λ (v : Alone A F R). v.tree.fields y.at) e ∙ (rw (path_self y.at) refl),
@@ -166,11 +166,11 @@ module _ {A F R J : Type 0} (sys : Actors A F R J) (hosts : ℕ) (fits : Path �
     looking o e = (let fk = fine_after sys hosts fits is_job fine owes x fin k in
         owes.looks y.actor y.at (length (ready.1).below) (y.tree.fields y.at) (children_of y.tree y.at) (ready.1).ready (fk.fitting y.at) (fk.peeking (peeking e o)).1)
 
-    pub segment_view : IsOne (one_of sys x n) → Segment sys (way_by sys (λ t. view_of sys x n)) (course_by sys (λ t. view_of sys x n)) 0 k
+    pub segment_view : IsOne (one_of sys x n) → Segment sys (way_by sys (λ t. view_of sys x n)) (course_by sys hosts (λ t. view_of sys x n)) 0 k
     unfolding L
     segment_view o = by (segment_alone sys y).pause refl
       where
-        over_facts : (r : R) → z ≡ goes_on sys y (segment_alone sys y).actor (segment_alone sys y).fields (Over r) → Ends sys (way_by sys (λ t. view_of sys x n)) (course_by sys (λ t. view_of sys x n)) 0 k r
+        over_facts : (r : R) → z ≡ goes_on sys y (segment_alone sys y).actor (segment_alone sys y).fields (Over r) → Ends sys (way_by sys (λ t. view_of sys x n)) (course_by sys hosts (λ t. view_of sys x n)) 0 k r
         over_facts r e = record {
           last_is = last;
           steps_old = ap (λ (v : Alone A F R). children_of v.tree y.at) e;
@@ -186,9 +186,9 @@ module _ {A F R J : Type 0} (sys : Actors A F R J) (hosts : ℕ) (fits : Path �
             ok : All is_job (sys.created r) × MovesOnly hosts z.at (sys.moved r)
             ok = result_ok sys hosts fits is_job fine owes x fin under (suc k) r res
 
-            moves_here : (m : Option (Path × ℕ)) (q : Path) (g : ℕ) → m ≡ Some (q, g) → MovesOnly hosts y.at m → q ≡ y.at
+            moves_here : (m : Option (Path × ℕ)) (q : Path) (g : ℕ) → m ≡ Some (q, g) → MovesOnly hosts y.at m → (q ≡ y.at) × (g < hosts)
             moves_here None q g e h = absurd (none_not e)
-            moves_here (Some a) q g e h = ap (λ (v : Path × ℕ). v.0) (sym (some_same a (q, g) e)) ∙ h.0
+            moves_here (Some a) q g e h = (ap (λ (v : Path × ℕ). v.0) (sym (some_same a (q, g) e)) ∙ h.0, subst (λ (v : Path × ℕ). v.1 < hosts) (some_same a (q, g) e) h.1)
 
             last : k ≡ n
             last = elim (at_or_below k n l) [ inr m ↦ m | inl m ↦ absurd (none_not (sym (c.under (suc k) (omega arith)) ∙ res)) ]
@@ -203,8 +203,8 @@ module _ {A F R J : Type 0} (sys : Actors A F R J) (hosts : ℕ) (fits : Path �
         kept_fields e = (let o' = looking o e in let zo = z_by (Over o'.result) o'.over in
             pair_is _ _ _ _ (ap (λ (v : Alone A F R). v.tree.fields y.at) zo ∙ (rw (path_self y.at) refl) ∙ o'.same) (ap (λ (v : Alone A F R). children_of v.tree y.at) zo))
 
-        whole : (z.actor ≡ (segment_alone sys y).actor) → (z.tree.fields y.at ≡ (segment_alone sys y).fields) → Follows sys (way_by sys (λ t. view_of sys x n)) (course_by sys (λ t. view_of sys x n)) 0 k (segment_alone sys y) (segment_alone sys y).pause →
-            Segment sys (way_by sys (λ t. view_of sys x n)) (course_by sys (λ t. view_of sys x n)) 0 k
+        whole : (z.actor ≡ (segment_alone sys y).actor) → (z.tree.fields y.at ≡ (segment_alone sys y).fields) → Follows sys (way_by sys (λ t. view_of sys x n)) (course_by sys hosts (λ t. view_of sys x n)) 0 k (segment_alone sys y) (segment_alone sys y).pause →
+            Segment sys (way_by sys (λ t. view_of sys x n)) (course_by sys hosts (λ t. view_of sys x n)) 0 k
         whole ea ef fo = record {
           actor = y.actor;
           actor_is = refl;
@@ -217,13 +217,13 @@ module _ {A F R J : Type 0} (sys : Actors A F R J) (hosts : ℕ) (fits : Path �
           ends = λ e. ((looking o e).result, (looking o e).over);
         }
 
-        by : (v : Pause R) → (segment_alone sys y).pause ≡ v → Segment sys (way_by sys (λ t. view_of sys x n)) (course_by sys (λ t. view_of sys x n)) 0 k
+        by : (v : Pause R) → (segment_alone sys y).pause ≡ v → Segment sys (way_by sys (λ t. view_of sys x n)) (course_by sys hosts (λ t. view_of sys x n)) 0 k
         by (Go s) e = (let i = into_next s (sys.peeks (segment_alone sys y).actor) (λ p. is_above (y.at ++ s ∷ []) p && has y.held p) (filter (is_above (y.at ++ s ∷ [])) y.held) (λ p. has_filter (is_above (y.at ++ s ∷ [])) y.held p) (z_by (Go s) e) in
-            whole i.0 i.1 (subst (λ u. Follows sys (way_by sys (λ t. view_of sys x n)) (course_by sys (λ t. view_of sys x n)) 0 k (segment_alone sys y) u) (sym e) i.2))
+            whole i.0 i.1 (subst (λ u. Follows sys (way_by sys (λ t. view_of sys x n)) (course_by sys hosts (λ t. view_of sys x n)) 0 k (segment_alone sys y) u) (sym e) i.2))
         by (Down s) e = (let i = into_next s false (λ p. has y.held p) y.held (λ p. refl) (z_by (Down s) e) in
-            whole i.0 i.1 (subst (λ u. Follows sys (way_by sys (λ t. view_of sys x n)) (course_by sys (λ t. view_of sys x n)) 0 k (segment_alone sys y) u) (sym e) i.2))
+            whole i.0 i.1 (subst (λ u. Follows sys (way_by sys (λ t. view_of sys x n)) (course_by sys hosts (λ t. view_of sys x n)) 0 k (segment_alone sys y) u) (sym e) i.2))
         by Back e = (let zb = z_by Back e in whole (ap (λ (v : Alone A F R). v.actor) zb) (ap (λ (v : Alone A F R). v.tree.fields y.at) zb ∙ (rw (path_self y.at) refl))
-            (subst (λ u. Follows sys (way_by sys (λ t. view_of sys x n)) (course_by sys (λ t. view_of sys x n)) 0 k (segment_alone sys y) u) (sym e) (record {
+            (subst (λ u. Follows sys (way_by sys (λ t. view_of sys x n)) (course_by sys hosts (λ t. view_of sys x n)) 0 k (segment_alone sys y) u) (sym e) (record {
               more = more (ap (λ (v : Alone A F R). v.result) zb);
               place_is = ap (λ (v : Alone A F R). v.at) zb;
               not_fresh = ap (λ (v : Alone A F R). v.fresh) zb;
@@ -232,16 +232,16 @@ module _ {A F R J : Type 0} (sys : Actors A F R J) (hosts : ℕ) (fits : Path �
               no_result = ap (λ (v : Alone A F R). v.result) zb;
             })))
         by (Over r) e = (let zo = z_by (Over r) e in whole (ap (λ (v : Alone A F R). v.actor) zo) (ap (λ (v : Alone A F R). v.tree.fields y.at) zo ∙ (rw (path_self y.at) refl))
-            (subst (λ u. Follows sys (way_by sys (λ t. view_of sys x n)) (course_by sys (λ t. view_of sys x n)) 0 k (segment_alone sys y) u) (sym e) (over_facts r zo)))
+            (subst (λ u. Follows sys (way_by sys (λ t. view_of sys x n)) (course_by sys hosts (λ t. view_of sys x n)) 0 k (segment_alone sys y) u) (sym e) (over_facts r zo)))
 
   -- the same for a ticket whose view is that of the event
-  copy_follows : (f : ℕ → View A F R) (t k : ℕ) (a : Left A F R) (v : Pause R) → Follows sys (way_by sys (λ i. f t)) (course_by sys (λ i. f t)) 0 k a v → Follows sys (way_by sys f) (course_by sys f) t k a v
+  copy_follows : (f : ℕ → View A F R) (t k : ℕ) (a : Left A F R) (v : Pause R) → Follows sys (way_by sys (λ i. f t)) (course_by sys hosts (λ i. f t)) 0 k a v → Follows sys (way_by sys f) (course_by sys hosts f) t k a v
   copy_follows f t k a (Go s) e = record { more = e.more; place_is = e.place_is; fresh_is = e.fresh_is; held_is = e.held_is; steps_old = e.steps_old; steps_new = e.steps_new; looks_is = e.looks_is; no_result = e.no_result }
   copy_follows f t k a (Down s) e = record { more = e.more; place_is = e.place_is; fresh_is = e.fresh_is; held_is = e.held_is; steps_old = e.steps_old; steps_new = e.steps_new; looks_is = e.looks_is; no_result = e.no_result }
   copy_follows f t k a Back e = record { more = e.more; place_is = e.place_is; not_fresh = e.not_fresh; held_is = e.held_is; steps_old = e.steps_old; no_result = e.no_result }
   copy_follows f t k a (Over r) e = record { last_is = e.last_is; steps_old = e.steps_old; result_is = e.result_is; moves = e.moves; looking = e.looking }
 
-  copy_segment : (f : ℕ → View A F R) (t k : ℕ) → Segment sys (way_by sys (λ i. f t)) (course_by sys (λ i. f t)) 0 k → Segment sys (way_by sys f) (course_by sys f) t k
+  copy_segment : (f : ℕ → View A F R) (t k : ℕ) → Segment sys (way_by sys (λ i. f t)) (course_by sys hosts (λ i. f t)) 0 k → Segment sys (way_by sys f) (course_by sys hosts f) t k
   copy_segment f t k e = record { actor = e.actor; actor_is = e.actor_is; no_result = e.no_result; actor_next = e.actor_next; fields_next = e.fields_next; follows = copy_follows f t k (sys.segment e.actor ((f t).leaf k ((f t).one.place k)).0 ((f t).leaf k ((f t).one.place k)).1) (sys.segment e.actor ((f t).leaf k ((f t).one.place k)).0 ((f t).leaf k ((f t).one.place k)).1).pause e.follows; blind = e.blind; unchanged = e.unchanged; ends = e.ends }
 
   module _ (b : Begin F) (batches : List (List J)) (begins : IsBegin sys hosts fits is_job fine b) (jobs : All (All is_job) batches) where
@@ -256,7 +256,7 @@ module _ {A F R J : Type 0} (sys : Actors A F R J) (hosts : ℕ) (fits : Path �
     w = way_by sys view
 
     abbrev pub course : Course sys
-    course = course_by sys view
+    course = course_by sys hosts view
 
     -- a ticket of this run
     pub record Real (t : ℕ) : Type 0 where
@@ -364,7 +364,7 @@ module _ {A F R J : Type 0} (sys : Actors A F R J) (hosts : ℕ) (fits : Path �
         | inr i ↦ (let v = ap view i.1 ∙ view_later i.0 in ap (λ (u : View A F R). u.leaf (suc k) p) v ∙ own_at i.0 (job_after sys b batches i.0) k p (sym (ap (λ (u : View A F R). path_eq (u.one.place k) p) v) ∙ e) ∙ sym (ap (λ (u : View A F R). u.leaf k p) v))
       ];
       segment = λ t k r l. copy_segment view t k (let v = ap view r.ticket_is ∙ view_real r.index r.job r.job_is in
-          subst (λ (u : View A F R). Segment sys (way_by sys (λ i. u)) (course_by sys (λ i. u)) 0 k) (sym v)
+          subst (λ (u : View A F R). Segment sys (way_by sys (λ i. u)) (course_by sys hosts (λ i. u)) 0 k) (sym v)
           (segment_view (first_of sys hosts fits is_job fine owes b batches begins jobs r.index r.job) (last_of sys hosts fits is_job fine owes b batches begins jobs r.index r.job) (first_ok sys hosts fits is_job fine owes b batches begins jobs r.index r.job r.job_is) refl (counts sys hosts fits is_job fine owes b batches begins jobs r.index r.job r.job_is)
           (enter_sorted (at sys hosts fits is_job fine owes b batches begins jobs r.index).tree [] (holds sys hosts fits is_job fine owes b batches begins jobs r.index).ordered) k (subst (λ (u : View A F R). k ≤ u.one.last) v l) (view_ok r.index (Some r.job) r.job_is)));
       is_later = λ t r. subst (λ a. b.before < a) (sym r.ticket_is) (omega arith);

@@ -19,6 +19,8 @@ use Rattle.wave_theory.proofs.Own.{mails_but, unused_but, shows_letter, status_o
 use Rattle.wave_theory.proofs.Found.{Found, found, changed, claims_others, all_others}
 use Rattle.wave_theory.proofs.Frames.{update, at_spot, visits_of}
 use Rattle.wave_theory.proofs.Alive
+use Rattle.wave_theory.proofs.Tracks
+use Rattle.wave_theory.proofs.Tallies
 use Rattle.wave_theory.proofs.Shows
 
 module _ {A F R J : Type 0} (sys : Actors A F R J) (w : Way) (law : IsWay w) (course : Course sys) (low : ℕ) (is_real : ℕ → Type 0) (courses : IsCourse sys w course low is_real) where
@@ -206,6 +208,11 @@ module _ {A F R J : Type 0} (sys : Actors A F R J) (w : Way) (law : IsWay w) (co
     pub leaves_shows : Shows.ColumnShows sys w course low is_real (g.born p) gf p col → Shows.Shows sys w course low is_real (with_bench sys s t p v (record { part = record { cell = without_mail (s.cells t) k; column = col }; hand = None })) gf
     leaves_shows k = update sys w law course low is_real s g gf t p v (record { part = record { cell = without_mail (s.cells t) _; column = col }; hand = None }) x frame good kept refl lt la cell entry k (λ hd z. absurd (none_not z)) x.root
 
+    pub leaves_tally : (n : ℕ → ℕ) → Tallies.Tally sys w course low is_real g n → Tallies.Tally sys w course low is_real gf (set nat_eq n t (suc (n t)))
+    leaves_tally n y = Tallies.tally_update sys w course low is_real g gf t p v n frame refl lt la y
+        (Tallies.free_more sys w course low is_real law g gf t p refl refl refl (x.good.within t la) (x.good.let_in t p q.leaving.holds).entered q.leaving.not_held q.leaving.holds (holds_now t ∙ set_at (g.lines.holds p) t false) (λ a d. ap (λ f. f t) (set_there path_eq g.lines.holds p _ a d)))
+        (λ z. y.stale t lt la z)
+
     pub leaves_alive : r.stored ≡ true → Alive.Alive sys w course low is_real s g → s.hands v ≡ None → Alive.Alive sys w course low is_real (with_bench sys s t p v (record { part = record { cell = without_mail (s.cells t) k; column = col }; hand = None })) gf
     leaves_alive st a idle = Alive.alive_update sys w course low is_real s g gf t p v (record { part = record { cell = without_mail (s.cells t) k; column = col }; hand = None }) x frame refl la lt a
         (λ b cl n z vb. ap (λ (u : Entry F). u.waiting (rank w p b)) entry_now ∙ z)
@@ -216,7 +223,7 @@ module _ {A F R J : Type 0} (sys : Actors A F R J) (w : Way) (law : IsWay w) (co
           parting = λ r hd n. let i = own_one.parting r (cut_was g.lines.holds p t r t hd) n in record { mail = i.mail; there = apart (g.parting t r) i.mail i.there (λ m. cut_here g.lines.holds p t (subst (λ j. (gf).lines.holds j t ≡ true) (sym i.path_is ∙ the_path i.mail (ap (s.cells t).mails m ∙ i.there)) hd)) ∙ i.there; path_is = i.path_is; letter = i.letter };
           lined = λ z. let i = own_one.lined z in record { claim = i.claim; there = same_waiting (here w g.lines t) (rank w (here w g.lines t) t) ∙ i.there; ticket_is = i.ticket_is };
         })
-        (λ z. let o = a.out t z in record { hand = o.hand; there = set_there nat_eq s.hands v None (g.worker t) (elim (number_cases v (g.worker t)) [ inr n ↦ n | inl n ↦ absurd (none_not (sym idle ∙ ap s.hands n ∙ o.there)) ]) ∙ o.there; ticket_is = o.ticket_is }) (λ a d hd n. n) (λ b e. absurd (clash _ (ap (λ z. z.stored) trail_now ∙ st) e)) (a.few p) (λ e. e) (Alive.kids_same sys w course low is_real g gf p refl (λ st e. e) refl (a.kids p)) law
+        (λ z. let o = a.out t z in record { hand = o.hand; there = set_there nat_eq s.hands v None (g.worker t) (elim (number_cases v (g.worker t)) [ inr n ↦ n | inl n ↦ absurd (none_not (sym idle ∙ ap s.hands n ∙ o.there)) ]) ∙ o.there; ticket_is = o.ticket_is }) (λ a d hd n. n) (λ b e. absurd (clash _ (ap (λ z. z.stored) trail_now ∙ st) e)) (a.few p) (λ e. e) (Alive.kids_same sys w course low is_real g gf p refl (λ st e. e) refl (a.kids p)) (Tracks.housed_set course.hosts g.trail p r a.housed (λ i m. subst (λ z. z < course.hosts) (sym (q.at_same i)) (a.housed p i (subst (λ z. i ≤ z) q.last_same m)))) (Alive.cut_zero (s.cells t).mails k (a.no_zero t)) law
       where
         own_one : Alive.AliveOne sys w course low is_real g t (s.cells t).mails
         own_one = a.one t lt la
@@ -273,6 +280,9 @@ module _ {A F R J : Type 0} (sys : Actors A F R J) (w : Way) (law : IsWay w) (co
         (leaves_shows s g x t k p h v (others t (g.entry p).holders) (g.trail p) leaves_f (with_entry (s.columns p) h (Some (with_holders q.entry (others t q.entry.holders)))) lt la (λ e. none_not (sym e ∙ q.letter_at.mail_is)) (inl q.letter_at)
         (changed sys w course low is_real g free_ghost p (s.columns p) h q.entry (with_holders q.entry (others t q.entry.holders)) f refl (set_at_path g.trail p (g.trail p)) (set_at_path g.entry p _ ∙ ap (λ (z : Entry F). with_holders z (others t z.holders)) (sym f.entry_is))))
 
+    pub free_tally : (n : ℕ → ℕ) → Tallies.Tally sys w course low is_real g n → Tallies.Tally sys w course low is_real free_ghost (set nat_eq n t (suc (n t)))
+    free_tally n y = leaves_tally s g x t k p h v (others t (g.entry p).holders) (g.trail p) leaves_f (with_entry (s.columns p) h (Some (with_holders q.entry (others t q.entry.holders)))) lt la (λ e. none_not (sym e ∙ q.letter_at.mail_is)) (inl q.letter_at) n y
+
     pub free_alive : Alive.Alive sys w course low is_real s g → s.hands v ≡ None → Alive.Alive sys w course low is_real (with_bench sys s t p v (record { part = y; hand = None })) free_ghost
     free_alive a idle = subst (λ z. Alive.Alive sys w course low is_real (with_bench sys s t p v (record { part = z; hand = None })) free_ghost) q.gives
         (leaves_alive s g x t k p h v (others t (g.entry p).holders) (g.trail p) leaves_f (with_entry (s.columns p) h (Some (with_holders q.entry (others t q.entry.holders)))) lt la (λ e. none_not (sym e ∙ q.letter_at.mail_is)) (inl q.letter_at) f.stored a idle)
@@ -317,6 +327,9 @@ module _ {A F R J : Type 0} (sys : Actors A F R J) (w : Way) (law : IsWay w) (co
           there = λ z. ap (λ r. set nat_eq (s.columns p).store h (Some (with_holders q.entry [])) (owner r)) (set_at_path g.trail p (arrived (g.trail p))) ∙ ap (λ i. set nat_eq (s.columns p).store h (Some (with_holders q.entry [])) i) (sym ll.0.host_is) ∙ set_at (s.columns p).store h (Some (with_holders q.entry []))
               ∙ ap (λ e. Some (with_holders e [])) ll.2 ∙ ap Some (sym (set_at_path g.entry p (with_holders (g.entry p) [])));
         })))
+
+    pub land_tally : (n : ℕ → ℕ) → Tallies.Tally sys w course low is_real g n → Tallies.Tally sys w course low is_real land_ghost (set nat_eq n t (suc (n t)))
+    land_tally n y = leaves_tally s g x t k p h v [] (arrived (g.trail p)) leaves_l (landed (s.columns p) h (with_holders q.entry [])) lt la (λ e. none_not (sym e ∙ q.letter_at.mail_is)) (inr (q.entry, q.letter_at)) n y
 
     pub land_alive : Alive.Alive sys w course low is_real s g → s.hands v ≡ None → Alive.Alive sys w course low is_real (with_bench sys s t p v (record { part = y; hand = None })) land_ghost
     land_alive a idle = subst (λ z. Alive.Alive sys w course low is_real (with_bench sys s t p v (record { part = z; hand = None })) land_ghost) q.gives
@@ -429,7 +442,7 @@ module _ {A F R J : Type 0} (sys : Actors A F R J) (w : Way) (law : IsWay w) (co
           parting = λ r hd n. let i = (a.one t lt la).parting r hd n in record { mail = i.mail; there = set_there nat_eq (s.cells t).mails k _ (g.parting t r) (differ k (g.parting t r) (λ m. Alive.enter_not q.ask i.mail.letter (ap (λ (u : Mail F). u.letter) (some_same i.mail q.letter_at.mail (sym (ap (s.cells t).mails m ∙ i.there) ∙ q.letter_at.mail_is)) ∙ q.letter_at.letter_is) i.letter)) ∙ i.there; path_is = i.path_is; letter = i.letter };
           lined = λ z. (a.one t lt la).lined z;
         }))
-        (λ z. let o = a.out t z in record { hand = o.hand; there = set_there nat_eq s.hands v None (g.worker t) (elim (number_cases v (g.worker t)) [ inr n ↦ n | inl n ↦ absurd (none_not (sym idle ∙ ap s.hands n ∙ o.there)) ]) ∙ o.there; ticket_is = o.ticket_is }) (λ r d hd n. n) (λ b e. let o = a.away p b e in record { ticket = o.ticket; holds = o.holds; not_held = o.not_held }) (a.few p) (λ e. e) (Alive.kids_same sys w course low is_real g g p refl (λ st e. e) refl (a.kids p)) law
+        (λ z. let o = a.out t z in record { hand = o.hand; there = set_there nat_eq s.hands v None (g.worker t) (elim (number_cases v (g.worker t)) [ inr n ↦ n | inl n ↦ absurd (none_not (sym idle ∙ ap s.hands n ∙ o.there)) ]) ∙ o.there; ticket_is = o.ticket_is }) (λ r d hd n. n) (λ b e. let o = a.away p b e in record { ticket = o.ticket; holds = o.holds; not_held = o.not_held }) (a.few p) (λ e. e) (Alive.kids_same sys w course low is_real g g p refl (λ st e. e) refl (a.kids p)) a.housed (subst (λ (z : Part A F R). z.cell.mails 0 ≡ None) q.gives (set_there nat_eq (s.cells t).mails k _ 0 (differ k 0 (λ z. none_not (sym (ap (s.cells t).mails z ∙ a.no_zero t) ∙ q.letter_at.mail_is))) ∙ a.no_zero t)) law
       where
         entering_coming : Entering ≡ Coming → ⊥
         entering_coming e = grind arith

@@ -1,5 +1,5 @@
 -- Visits, Grants and Starts keep what the state shows.
-use Rattle.std.proofs.Common.{◌≡◌, ℕ, zero, suc, ◌<◌, ◌≤◌, ◌&&◌, ◌||◌, not, inl, inr, nat_eq, Bool, true, false, Option, Some, None, is_some, refl, sym, ◌∙◌, ap, subst, arith}
+use Rattle.std.proofs.Common.{◌≡◌, ℕ, zero, suc, ◌<◌, ◌≤◌, ◌&&◌, ◌||◌, not, inl, inr, nat_eq, Bool, true, false, Option, Some, None, is_some, refl, sym, ◌∙◌, ap, subst, arith, ap₂}
 use Rattle.std.specs.Prelude.{cond}
 use Rattle.std.specs.List.{AllByRecursion}
 use Rattle.wave_base.specs.declared.path.Path.{Path}
@@ -23,6 +23,7 @@ use Rattle.wave_theory.proofs.Found.{Found, found, changed, claims_append, all_a
 use Rattle.wave_theory.proofs.Frames.{update, at_spot, entered_spot, visits_of}
 use Rattle.wave_theory.proofs.Ranks.{rank_same}
 use Rattle.wave_theory.proofs.Alive
+use Rattle.wave_theory.proofs.Tallies
 use Rattle.wave_theory.proofs.Shows
 
 coming_there : Coming ≡ There → ⊥
@@ -160,6 +161,11 @@ module _ {A F R J : Type 0} (sys : Actors A F R J) (w : Way) (law : IsWay w) (co
         (subst (λ (z : Part A F R). Shows.CellShows sys w course low is_real gv t z.cell) q.gives cell_v) entry_v
         (subst (λ (z : Part A F R). Shows.ColumnShows sys w course low is_real (g.born p) gv p z.column) q.gives (column_same (g.born p) (s.columns p) (x.columns p))) (λ hd z. absurd (none_not z)) x.root
 
+    pub visit_tally : (n : ℕ → ℕ) → Tallies.Tally sys w course low is_real g n → Tallies.Tally sys w course low is_real gv (set nat_eq n t (suc (n t)))
+    visit_tally n y = Tallies.tally_update sys w course low is_real g gv t p v n frame_v refl lt la y
+        (Tallies.stage_more sys w course low is_real g gv t refl (λ i l. refl) (ap₂ (λ u o. Tallies.stage_part (w.fresh t (g.lines.pos t)) u o) stage_v out_v ∙ ap (λ f. Tallies.stage_part f There false) (y.stale t lt la ev.stage) ∙ sym (ap (λ u. suc (Tallies.stage_part (w.fresh t (g.lines.pos t)) u (g.out t))) ev.stage)))
+        (λ z. absurd (there_coming (sym stage_v ∙ z)))
+
     pub visit_alive : Alive.Alive sys w course low is_real s g → s.hands v ≡ None → Alive.Alive sys w course low is_real (with_bench sys s t p v (record { part = y; hand = None })) gv
     visit_alive a idle = Alive.alive_update sys w course low is_real s g gv t p v (record { part = y; hand = None }) x frame_v refl la lt a
         (λ b cl n z vb. z)
@@ -170,7 +176,7 @@ module _ {A F R J : Type 0} (sys : Actors A F R J) (w : Way) (law : IsWay w) (co
           parting = λ r hd n. Alive.parting_but (s.cells t).mails k (g.parting t r) r ((a.one t lt la).parting r hd n) (λ m z d l. Alive.coming_no m.letter (ap is_coming (ap (λ (u : Mail F). u.letter) (some_same m q.letter_at.mail (sym z ∙ q.letter_at.mail_is)) ∙ q.letter_at.letter_is) ∙ q.coming) l);
           lined = λ z. absurd (there_lined (sym stage_v ∙ z));
         }))
-        (λ z. absurd (clash _ z out_v)) (λ r d hd n. n) (λ b e. let o = a.away p b e in record { ticket = o.ticket; holds = o.holds; not_held = o.not_held }) (a.few p) (λ e. e) (Alive.kids_same sys w course low is_real g gv p refl (λ st e. e) refl (a.kids p)) law
+        (λ z. absurd (clash _ z out_v)) (λ r d hd n. n) (λ b e. let o = a.away p b e in record { ticket = o.ticket; holds = o.holds; not_held = o.not_held }) (a.few p) (λ e. e) (Alive.kids_same sys w course low is_real g gv p refl (λ st e. e) refl (a.kids p)) a.housed (subst (λ (z : Part A F R). z.cell.mails 0 ≡ None) q.gives (Alive.cut_zero (s.cells t).mails k (a.no_zero t))) law
 
   -- Grant
   abbrev let_in_now : Shows.Ghost F → ℕ → Path → Claim → Shows.Ghost F
@@ -434,6 +440,15 @@ module _ {A F R J : Type 0} (sys : Actors A F R J) (w : Way) (law : IsWay w) (co
     served_g : (gg).lines.served p ≡ suc (g.lines.served p)
     served_g = ap (λ i. set path_eq g.lines.served i (suc (g.lines.served i)) p) now.place ∙ set_at_path g.lines.served p _
 
+    pub grant_tally : (n : ℕ → ℕ) → Tallies.Tally sys w course low is_real g n → Tallies.Tally sys w course low is_real gg (set nat_eq n t (suc (n t)))
+    grant_tally n y = Tallies.tally_update sys w course low is_real g gg t p v n frame_g refl now.later now.known y
+        (Tallies.stage_more sys w course low is_real g gg t refl (λ i l. ap (Tallies.over_part (w.fresh t i)) (ap (λ f. f t) (set_there path_eq g.lines.holds (here w g.lines t) _ (w.place t i) (Tallies.place_new law t i (g.lines.pos t) l going fresh_now))))
+        (ap₂ (λ u o. Tallies.stage_part (w.fresh t (g.lines.pos t)) u o) stage_g out_g ∙ ap (λ f. Tallies.stage_part f There false) fresh_now ∙ sym (ap (λ u. suc (Tallies.stage_part (w.fresh t (g.lines.pos t)) u (g.out t))) now.stage)))
+        (λ z. absurd (there_coming (sym stage_g ∙ z)))
+      where
+        fresh_now : w.fresh t (g.lines.pos t) ≡ true
+        fresh_now = x.good.is_fresh t now.known (ap is_pending now.stage)
+
     pub grant_alive : Alive.Alive sys w course low is_real s g → s.hands v ≡ None → Alive.Alive sys w course low is_real (with_bench sys s t p v (record { part = y; hand = None })) gg
     grant_alive a idle = Alive.alive_update sys w course low is_real s g gg t p v (record { part = y; hand = None }) x frame_g refl now.known now.later a
         (λ b cl n z vb. ap (λ (u : Entry F). u.waiting (rank w p b)) entry_now_g ∙ set_there nat_eq (g.entry p).waiting (suc (g.entry p).served) None (rank w p b) (elim (number_cases (suc (g.entry p).served) (rank w p b)) [
@@ -450,7 +465,7 @@ module _ {A F R J : Type 0} (sys : Actors A F R J) (w : Way) (law : IsWay w) (co
           ]) n;
           lined = λ z. absurd (there_lined (sym stage_g ∙ z));
         }))
-        (λ z. absurd (clash _ z out_g)) (λ r d hd n. n) (λ b e. absurd (clash _ fg.stored e)) (subst (λ i. i ≤ rank w p g.lines.admitted) (sym served_g) (subst (λ i. i ≤ rank w p g.lines.admitted) rank_is (rank_up_to w p t g.lines.admitted now.known))) (λ e. e) (Alive.kids_same sys w course low is_real g gg p refl (λ st e. e) refl (a.kids p)) law
+        (λ z. absurd (clash _ z out_g)) (λ r d hd n. n) (λ b e. absurd (clash _ fg.stored e)) (subst (λ i. i ≤ rank w p g.lines.admitted) (sym served_g) (subst (λ i. i ≤ rank w p g.lines.admitted) rank_is (rank_up_to w p t g.lines.admitted now.known))) (λ e. e) (Alive.kids_same sys w course low is_real g gg p refl (λ st e. e) refl (a.kids p)) a.housed (subst (λ (z : Part A F R). z.cell.mails 0 ≡ None) q.gives (a.no_zero t)) law
       where
         vt : visits w t p ≡ true
         vt = subst (λ r. visits w t r ≡ true) now.place (visits_of sys w law course low is_real g x.good t (here w g.lines t) now.known (entered_spot sys w law course low is_real g x.good t now.known (λ z. lined_done (sym now.stage ∙ z))))

@@ -11,11 +11,12 @@ use Rattle.wave_theory.proofs.Ranks.{le_cases, rank_in, rank_out, rank_up_to, co
 
 -- a leaf: the fields of a context and the steps to its children
 module _ {A F R J : Type 0} (sys : Actors A F R J) where
-  -- the segments of a ticket: its actor and its result before each, and the leaves of the tree there
+  -- the segments of a ticket: its actor and its result before each, and the leaves of the tree there; and how many hosts there are
   pub record Course : Type 0 where
     pub actor : ℕ → ℕ → Option A
     pub result : ℕ → ℕ → Option R
     pub leaf : ℕ → ℕ → Path → F × List Step
+    pub hosts : ℕ
 
   module _ (w : Way) (c : Course) where
     -- into a child: `kept` says what is held of the rest
@@ -41,7 +42,7 @@ module _ {A F R J : Type 0} (sys : Actors A F R J) where
       pub last_is : k ≡ w.last t
       pub steps_old : (c.leaf t (suc k) (w.place t k)).1 ≡ (c.leaf t k (w.place t k)).1
       pub result_is : c.result t (suc k) ≡ Some r
-      pub moves : (q : Path) (g : ℕ) → sys.moved r ≡ Some (q, g) → q ≡ w.place t k
+      pub moves : (q : Path) (g : ℕ) → sys.moved r ≡ Some (q, g) → (q ≡ w.place t k) × (g < c.hosts)
       pub looking : w.looks t (w.place t k) ≡ true → sys.moved r ≡ None
 
     abbrev pub Follows : ℕ → ℕ → Left A F R → Pause R → Type 0

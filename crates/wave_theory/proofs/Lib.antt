@@ -4,6 +4,7 @@ pub mod Alive
 pub mod Alone
 pub mod Basics
 pub mod Beginning
+pub mod Canon
 pub mod Commute
 pub mod Courses
 pub mod Desks
@@ -27,10 +28,12 @@ pub mod Queueing
 pub mod Ranks
 pub mod Reached
 pub mod Shows
+pub mod Sizes
 pub mod Starting
 pub mod Stopping
 pub mod Stops
 pub mod Stuck
+pub mod Tallies
 pub mod Told
 pub mod Tracks
 pub mod Turns

@@ -43,6 +43,9 @@ use Rattle.wave_theory.proofs.Able
 use Rattle.wave_theory.proofs.Stuck
 use Rattle.wave_theory.proofs.Told
 
+pub less_is : (a c : ℕ) → a < c → nat_lt a c ≡ true
+less_is a c l = grind (arith, nat_tests)
+
 module _ {A F R J : Type 0} (sys : Actors A F R J) (hosts : ℕ) (fits : Path → F → Type 0) (is_job : J → Type 0) (fine : A → Path → ℕ → Type 0) (owes : Owes sys hosts fits is_job fine) (b : Begin F) (batches : List (List J)) (begins : IsBegin sys hosts fits is_job fine b) (jobs : All (All is_job) batches) where
   abbrev w : Way
   w = Courses.w sys hosts fits is_job fine owes b batches begins jobs
@@ -59,7 +62,7 @@ module _ {A F R J : Type 0} (sys : Actors A F R J) (hosts : ℕ) (fits : Path �
   abbrev at : ℕ → Progress F R J
   at n = fold_alone sys b batches n
 
-  done_below : (n : ℕ) → (at n).head.done ≤ n
+  pub done_below : (n : ℕ) → (at n).head.done ≤ n
   done_below zero = subst (λ i. i ≤ 0) (sym (Folds.zero_done sys b batches)) (omega arith)
   done_below (suc n) = by (next_job (at n).head) refl (done_below n)
     where
@@ -102,7 +105,7 @@ module _ {A F R J : Type 0} (sys : Actors A F R J) (hosts : ℕ) (fits : Path �
       by (Some j) r = keeps_segments _ _ [] (keeps_enter (at n).tree [] [] r)
 
   -- once there is no next job there is none
-  over_stays : (d i : ℕ) → next_job (at d).head ≡ None → at (i + d) ≡ at d
+  pub over_stays : (d i : ℕ) → next_job (at d).head ≡ None → at (i + d) ≡ at d
   over_stays d zero e = ap at (let z : 0 + d ≡ d = omega arith in z)
   over_stays d (suc i) e = ap at (let z : suc i + d ≡ suc (i + d) = omega arith in z) ∙ Folds.stays sys b batches (i + d) (ap (λ (v : Progress F R J). next_job v.head) (over_stays d i e) ∙ e) ∙ over_stays d i e
 
@@ -126,7 +129,7 @@ module _ {A F R J : Type 0} (sys : Actors A F R J) (hosts : ℕ) (fits : Path �
     x : Shows.Shows sys w course b.before Is_real s k.ghost
     x = k.shows
 
-    stage_cases : (u : Stage) → (u ≡ Done) ⊎ (u ≡ Done → ⊥)
+    pub stage_cases : (u : Stage) → (u ≡ Done) ⊎ (u ≡ Done → ⊥)
     stage_cases Done = inl refl
     stage_cases Entering = inr entering_done
       where
@@ -181,9 +184,6 @@ module _ {A F R J : Type 0} (sys : Actors A F R J) (hosts : ℕ) (fits : Path �
         at_or_less : (a c : ℕ) → a ≤ c → (a < c) ⊎ (a ≡ c)
         at_or_less a c l = grind arith
 
-        less_is : (a c : ℕ) → a < c → nat_lt a c ≡ true
-        less_is a c l = grind (arith, nat_tests)
-
         job : (j : J) × (slice_get s.head.known s.head.done ≡ Some j)
         job = elim (options (next_job s.head)) [
           | inr j ↦ (j.0, j.1)
@@ -220,7 +220,7 @@ module _ {A F R J : Type 0} (sys : Actors A F R J) (hosts : ℕ) (fits : Path �
           few_index : (t i : ℕ) → t ≡ suc b.before + i → suc i ≤ s.head.done → t ≤ b.before + s.head.done
           few_index t i e l = omega (arith, e)
 
-      stage_done : (t : ℕ) → t ≤ (g).lines.admitted → (g).lines.stage t ≡ Done
+      pub stage_done : (t : ℕ) → t ≤ (g).lines.admitted → (g).lines.stage t ≡ Done
       stage_done t m = elim (below_or b.before t) [
         | inl l ↦ earlier_done t (all_done t l m)
         | inr l ↦ earlier_done t (omega (arith, l))
@@ -230,15 +230,12 @@ module _ {A F R J : Type 0} (sys : Actors A F R J) (hosts : ℕ) (fits : Path �
           below_or a c = grind arith
 
       -- nobody holds a context
-      unheld : (p : Path) (t : ℕ) → (g).lines.holds p t ≡ true → ⊥
+      pub unheld : (p : Path) (t : ℕ) → (g).lines.holds p t ≡ true → ⊥
       unheld p t h = nothing t (Stuck.parting_can sys w law course b.before Is_real (Courses.courses sys hosts fits is_job fine owes b batches begins jobs) s k.ghost x k.alive workers 0 (less_is 0 workers some_worker) (fin.idle 0) t p h
           (ap (λ i. w.held t i p) (x.good.ended t known (stage_done t known)) ∙ law.none t p))
         where
           known : t ≤ (g).lines.admitted
           known = (x.good.let_in t p h).known
-
-          less_is : (a c : ℕ) → a < c → nat_lt a c ≡ true
-          less_is a c l = grind (arith, nat_tests)
 
       no_mail : (t i : ℕ) (m : Mail F) → (s.cells t).mails i ≡ Some m → ⊥
       no_mail t i m e = by m.letter ((x.cells t n.0 n.1).mails i m e)
@@ -271,10 +268,10 @@ module _ {A F R J : Type 0} (sys : Actors A F R J) (hosts : ℕ) (fits : Path �
           same : (r n : ℕ) → n ≤ r → (0 < r → r ≤ n) → r ≡ n
           same r n l h = grind arith
 
-      done_is : s.head.done ≡ (at s.head.done).head.done
+      pub done_is : s.head.done ≡ (at s.head.done).head.done
       done_is = ap (λ (u : Head J). u.done) (k.heads).head_is
 
-      admitted_is : (g).lines.admitted ≡ b.before + s.head.done
+      pub admitted_is : (g).lines.admitted ≡ b.before + s.head.done
       admitted_is = elim (above_or s.admitted) [
         | inl e ↦ (let z = (k.heads).few in omega (arith, x.admitted, e, z))
         | inr l ↦ (let z = all_done (g).lines.admitted (omega (arith, x.admitted, l)) (omega arith) in let y = (k.heads).few in omega (arith, x.admitted, z, y))

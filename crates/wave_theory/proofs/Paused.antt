@@ -1,16 +1,17 @@
 -- A Stop keeps what the state shows, whatever its pause.
-use Rattle.std.proofs.Common.{◌≡◌, ℕ, ◌==◌, inl, inr, nat_eq, Bool, true, false, Option, Some, None, [], ◌∷◌, ◌++◌, refl, sym, ◌∙◌, ap, subst}
+use Rattle.std.proofs.Common.{◌≡◌, ℕ, ◌==◌, inl, inr, nat_eq, Bool, true, false, Option, Some, None, [], ◌∷◌, ◌++◌, refl, sym, ◌∙◌, ap, subst, suc}
 use Rattle.std.specs.Prelude.{if◌then◌else◌}
 use Rattle.wave_base.specs.declared.path.Step.{Step}
 use Rattle.wave_base.specs.declared.path.Path.{Path}
 use Rattle.wave_states.specs.Actors.{Actors, Left, Pause, Go, Down, Over}
-use Rattle.wave_states.specs.States.{State, Hand, Hold, hold_at, holds_as_peek}
+use Rattle.wave_states.specs.States.{State, Hand, Hold, hold_at, holds_as_peek, set}
 use Rattle.wave_states.specs.Steps.{Part, Desk, with_bench, stopped, looked, paused, into_child, over_here, over_there, over_by, put_back, desk_back, with_body, part_of}
 use Rattle.wave_theory.proofs.Basics.{bool_cases, some_same, number_self, number_cases, not_same}
 use Rattle.wave_theory.proofs.Order.{Way, IsWay}
 use Rattle.wave_theory.proofs.Leaves.{Course, IsCourse, Segment}
 use Rattle.wave_theory.proofs.Opened.{Stopping}
 use Rattle.wave_theory.proofs.Alive
+use Rattle.wave_theory.proofs.Tallies
 use Rattle.wave_theory.proofs.Shows
 use Rattle.wave_theory.proofs.Leaves.{Follows}
 use Rattle.wave_theory.proofs.Stopping
@@ -51,11 +52,11 @@ module _ {A F R J : Type 0} (sys : Actors A F R J) (w : Way) (law : IsWay w) (co
     into_it st peek go i None e k = (Stopping.z_new sys w law course low is_real courses s g x hd v h hand_is y q st peek go i e, Stopping.is_new sys w law course low is_real courses s g x hd v h hand_is y q st peek go i e k, Stopping.lives_new sys w law course low is_real courses s g x hd v h hand_is y q st peek go i e k)
     into_it st peek go i (Some a) e k = (Stopping.z_old sys w law course low is_real courses s g x hd v h hand_is y q st peek go i a e, Stopping.is_old sys w law course low is_real courses s g x hd v h hand_is y q st peek go i a e k, Stopping.lives_old sys w law course low is_real courses s g x hd v h hand_is y q st peek go i a e k)
 
-    over_it : w.looks t p ≡ false → (r : R) → Stopping.EndFacts sys w law course low is_real courses s g x hd v h hand_is y q p r → (m : Option (Path × ℕ)) → y ≡ over_by p (part_of sys s t p) h desk (with_body q.entry (Some (record { fields = (left).fields; children = hd.body.children }))) r m → Changed
-    over_it off r i None k = (Stopping.z_end sys w law course low is_real courses s g x hd v h hand_is y q r i off, Stopping.is_end sys w law course low is_real courses s g x hd v h hand_is y q r i off k, Stopping.lives_end sys w law course low is_real courses s g x hd v h hand_is y q r i off k)
-    over_it off r i (Some m) k = elim (number_cases m.1 h) [
+    over_it : w.looks t p ≡ false → (r : R) → Stopping.EndFacts sys w law course low is_real courses s g x hd v h hand_is y q p r → (m : Option (Path × ℕ)) → sys.moved r ≡ m → y ≡ over_by p (part_of sys s t p) h desk (with_body q.entry (Some (record { fields = (left).fields; children = hd.body.children }))) r m → Changed
+    over_it off r i None mv k = (Stopping.z_end sys w law course low is_real courses s g x hd v h hand_is y q r i off, Stopping.is_end sys w law course low is_real courses s g x hd v h hand_is y q r i off k, Stopping.lives_end sys w law course low is_real courses s g x hd v h hand_is y q r i off k)
+    over_it off r i (Some m) mv k = elim (number_cases m.1 h) [
       | inl e ↦ (Stopping.z_end sys w law course low is_real courses s g x hd v h hand_is y q r i off, Stopping.is_end sys w law course low is_real courses s g x hd v h hand_is y q r i off (k ∙ choose_first m.1 e), Stopping.lives_end sys w law course low is_real courses s g x hd v h hand_is y q r i off (k ∙ choose_first m.1 e))
-      | inr e ↦ (Stopping.z_moved sys w law course low is_real courses s g x hd v h hand_is y q r i off m.1 (not_same m.1 h e), Stopping.is_moved sys w law course low is_real courses s g x hd v h hand_is y q r i off m.1 (not_same m.1 h e) (k ∙ choose_second m.1 e), Stopping.lives_moved sys w law course low is_real courses s g x hd v h hand_is y q r i off m.1 (not_same m.1 h e) (k ∙ choose_second m.1 e))
+      | inr e ↦ (Stopping.z_moved sys w law course low is_real courses s g x hd v h hand_is y q r i off m.1 (not_same m.1 h e), Stopping.is_moved sys w law course low is_real courses s g x hd v h hand_is y q r i off m.1 (not_same m.1 h e) (k ∙ choose_second m.1 e), Stopping.lives_moved sys w law course low is_real courses s g x hd v h hand_is y q r i off m.1 (not_same m.1 h e) (i.moves m.0 m.1 mv).1 (k ∙ choose_second m.1 e))
     ]
       where
         here : Part A F R
@@ -87,13 +88,14 @@ module _ {A F R J : Type 0} (sys : Actors A F R J) (w : Way) (law : IsWay w) (co
             (sym k ∙ ap (paused sys p h (part_of sys s t p) desk q.entry (left).fields hd.body.children (sys.peeks (left).actor)) e)
         plain_case off Pause.Back e k = (let i = Stopping.back_facts sys w law course low is_real courses s g x hd v h hand_is y q (follows Pause.Back e) in
             (Stopping.z_back sys w law course low is_real courses s g x hd v h hand_is y q i, Stopping.is_back sys w law course low is_real courses s g x hd v h hand_is y q i (sym k ∙ ap (paused sys p h (part_of sys s t p) desk q.entry (left).fields hd.body.children (sys.peeks (left).actor)) e), Stopping.lives_back sys w law course low is_real courses s g x hd v h hand_is y q i (sym k ∙ ap (paused sys p h (part_of sys s t p) desk q.entry (left).fields hd.body.children (sys.peeks (left).actor)) e)))
-        plain_case off (Over r) e k = over_it off r (Stopping.end_facts sys w law course low is_real courses s g x hd v h hand_is y q r (follows (Over r) e)) (sys.moved r)
+        plain_case off (Over r) e k = over_it off r (Stopping.end_facts sys w law course low is_real courses s g x hd v h hand_is y q r (follows (Over r) e)) (sys.moved r) refl
             (sym k ∙ ap (paused sys p h (part_of sys s t p) desk q.entry (left).fields hd.body.children (sys.peeks (left).actor)) e)
 
     pub record Stopped_state : Type 0 where
       pub ghost : Shows.Ghost F
       pub shows : Shows.Shows sys w course low is_real (with_bench sys s hd.ticket hd.path v (record { part = y; hand = None })) ghost
       pub alive : Alive.Alive sys w course low is_real s g → Alive.Alive sys w course low is_real (with_bench sys s hd.ticket hd.path v (record { part = y; hand = None })) ghost
+      pub tally : Alive.Alive sys w course low is_real s g → (n : ℕ → ℕ) → Tallies.Tally sys w course low is_real g n → Tallies.Tally sys w course low is_real ghost (set nat_eq n t (suc (n t)))
 
     pub stop_keeps : Stopped_state
     stop_keeps = by change
@@ -103,6 +105,7 @@ module _ {A F R J : Type 0} (sys : Actors A F R J) (w : Way) (law : IsWay w) (co
           ghost = Stopping.changed_by sys w law course low is_real courses g t p z.0;
           shows = Stopping.stop_shows sys w law course low is_real courses s g x hd v h hand_is y q z.0 z.1;
           alive = λ a. Stopping.stop_alive sys w law course low is_real courses s g x hd v h hand_is y q z.0 z.1 (z.2 a) a;
+          tally = λ a n u. Stopping.stop_tally sys w law course low is_real courses s g x hd v h hand_is y q z.0 z.1 (z.2 a) n u;
         }
 
     -- it had no result before

@@ -183,21 +183,19 @@ module _ {A F R J : Type 0} (sys : Actors A F R J) (hosts : ℕ) (fits : Path �
     pub first_ok : (i : ℕ) (j : J) → job_after sys b batches i ≡ Some j → Ok (first_of i j)
     first_ok i j e = first_fine sys hosts fits is_job fine owes j (suc b.before + i) (at i).tree (job_ok (at i) j (holds i) e) (holds i).fitting
 
+    -- it has that many segments, and one at least
+    counts_all : (i : ℕ) (j : J) → job_after sys b batches i ≡ Some j → Counts sys (first_of i j) (segments_of sys (suc b.before + i) (at i).tree j)
+    counts_all i j e = (let r = owes.ends j (suc b.before + i) (at i).tree (job_ok (at i) j (holds i) e) (holds i).fitting in counted sys (sys.enough j (suc b.before + i) (at i).tree) (first_of i j) r.0 r.1)
+
+    some_segment : (i : ℕ) (j : J) (n : ℕ) → Counts sys (first_of i j) n → n ≡ suc (less_one n)
+    some_segment i j zero c = absurd (none_not (sym (ap (λ (y : Alone A F R). y.result) (none_yet sys (first_of i j))) ∙ c.ends))
+    some_segment i j (suc n) c = refl
+
+    pub segments_is : (i : ℕ) (j : J) → job_after sys b batches i ≡ Some j → suc (last_of i j) ≡ segments_of sys (suc b.before + i) (at i).tree j
+    segments_is i j e = sym (some_segment i j (segments_of sys (suc b.before + i) (at i).tree j) (counts_all i j e))
+
     pub counts : (i : ℕ) (j : J) → job_after sys b batches i ≡ Some j → Counts sys (first_of i j) (suc (last_of i j))
-    counts i j e = one_less (segments_of sys (suc b.before + i) (at i).tree j) c some
-      where
-        r : (r : R) × ((ended_alone sys (suc b.before + i) (at i).tree j).result ≡ Some r)
-        r = owes.ends j (suc b.before + i) (at i).tree (job_ok (at i) j (holds i) e) (holds i).fitting
-
-        c : Counts sys (first_of i j) (segments_of sys (suc b.before + i) (at i).tree j)
-        c = counted sys (sys.enough j (suc b.before + i) (at i).tree) (first_of i j) r.0 r.1
-
-        some : (n : ℕ) → Counts sys (first_of i j) n → n ≡ 0 → ⊥
-        some n c z = none_not (sym (ap (λ (y : Alone A F R). y.result) (none_yet sys (first_of i j))) ∙ subst (λ m. (after_segments sys m (first_of i j)).result ≡ Some c.result) z c.ends)
-
-        one_less : (n : ℕ) → Counts sys (first_of i j) n → ((n : ℕ) → Counts sys (first_of i j) n → n ≡ 0 → ⊥) → Counts sys (first_of i j) (suc (less_one n))
-        one_less zero c h = absurd (h zero c refl)
-        one_less (suc n) c h = c
+    counts i j e = subst (Counts sys (first_of i j)) (some_segment i j (segments_of sys (suc b.before + i) (at i).tree j) (counts_all i j e)) (counts_all i j e)
 
     pub one_at_ok : (i : ℕ) (o : Option J) → job_after sys b batches i ≡ o → IsOne (one_at i o)
     one_at_ok i None e = in_and_out_is

@@ -1,5 +1,5 @@
 -- A Queue keeps what the state shows.
-use Rattle.std.proofs.Common.{◌≡◌, ℕ, ◌<◌, ◌≤◌, ◌⊎◌, ◌&&◌, not, inl, inr, nat_eq, Bool, true, false, Some, None, is_some, [], ◌∷◌, ◌++◌, refl, sym, ◌∙◌, ap, subst, arith}
+use Rattle.std.proofs.Common.{◌≡◌, ℕ, ◌<◌, ◌≤◌, ◌⊎◌, ◌&&◌, not, inl, inr, nat_eq, Bool, true, false, Some, None, is_some, [], ◌∷◌, ◌++◌, refl, sym, ◌∙◌, ap, subst, arith, suc}
 use Rattle.std.specs.List.{AllByRecursion}
 use Rattle.wave_base.specs.declared.path.Step.{Step}
 use Rattle.wave_base.specs.declared.path.Path.{Path}
@@ -20,6 +20,8 @@ use Rattle.wave_theory.proofs.Frames.{update, entered_spot, was_given, holds_of}
 use Rattle.wave_theory.proofs.Ranks.{rank_same}
 use Rattle.wave_theory.proofs.Frames.{visits_of}
 use Rattle.wave_theory.proofs.Alive
+use Rattle.wave_theory.proofs.Tracks
+use Rattle.wave_theory.proofs.Tallies
 use Rattle.wave_theory.proofs.Shows
 
 entering_coming : Entering ≡ Coming → ⊥
@@ -281,6 +283,14 @@ module _ {A F R J : Type 0} (sys : Actors A F R J) (w : Way) (law : IsWay w) (co
         (subst (λ (z : Part A F R). Shows.CellShows sys w course low is_real g' t z.cell) q.gives cell) entry
         (subst (λ (z : Part A F R). Shows.ColumnShows sys w course low is_real ((g').born p) g' p z.column) q.gives column) (λ hd z. absurd (none_not z)) root
 
+    pub queue_tally : (n : ℕ → ℕ) → Tallies.Tally sys w course low is_real g n → Tallies.Tally sys w course low is_real g' (set nat_eq n t (suc (n t)))
+    queue_tally n y = Tallies.tally_update sys w course low is_real g g' t p v n frame refl lt la y
+        (Tallies.stage_more sys w course low is_real g g' t refl (λ i l. refl) (ap (λ u. Tallies.stage_part (w.fresh t (g.lines.pos t)) u (g.out t)) stage_now ∙ sym (ap (λ u. suc (Tallies.stage_part (w.fresh t (g.lines.pos t)) u (g.out t))) e.stage)))
+        (λ z. absurd (lined_coming (sym stage_now ∙ z)))
+      where
+        lined_coming : Lined ≡ Coming → ⊥
+        lined_coming e = grind arith
+
     pub queue_alive : Alive.Alive sys w course low is_real s g → s.hands v ≡ None → Alive.Alive sys w course low is_real (with_bench sys s t p v (record { part = y; hand = None })) g'
     queue_alive a idle = Alive.alive_update sys w course low is_real s g g' t p v (record { part = y; hand = None }) x frame refl la lt a
         (λ b cl n z vb. ap (λ (u : Entry F). u.waiting (rank w p b)) entry_now ∙ set_there nat_eq (g.entry p).waiting q.ask.number _ (rank w p b) (elim (number_cases q.ask.number (rank w p b)) [
@@ -298,8 +308,12 @@ module _ {A F R J : Type 0} (sys : Actors A F R J) (w : Way) (law : IsWay w) (co
             ticket_is = refl;
           });
         }))
-        (λ z. absurd (clash _ z out_off)) (λ r d hd n. n) (λ b z. absurd (clash _ stored_now z)) (a.few p) (λ z. set_at_path g.born p true) (Alive.kids_same sys w course low is_real g g' p refl (λ st z. set_there path_eq g.born p true (p ++ st ∷ []) (path_swap p (p ++ st ∷ []) ∙ child_differs p st) ∙ z) refl (a.kids p)) law
+        (λ z. absurd (clash _ z out_off)) (λ r d hd n. n) (λ b z. absurd (clash _ stored_now z)) (a.few p) (λ z. set_at_path g.born p true) (Alive.kids_same sys w course low is_real g g' p refl (λ st z. set_there path_eq g.born p true (p ++ st ∷ []) (path_swap p (p ++ st ∷ []) ∙ child_differs p st) ∙ z) refl (a.kids p)) (Tracks.housed_set course.hosts g.trail p (grown (g.born p) (g.trail p)) a.housed (λ i m. housed_grown (g.born p) i m)) (subst (λ (z : Part A F R). z.cell.mails 0 ≡ None) q.gives (Alive.cut_zero (s.cells t).mails k (a.no_zero t))) law
       where
+        housed_grown : (j : Bool) (i : ℕ) → i ≤ (grown j (g.trail p)).last → (grown j (g.trail p)).at i < course.hosts
+        housed_grown true i m = a.housed p i m
+        housed_grown false i m = Tracks.housed_grown course.hosts (g.trail p) (a.housed p) i m
+
         stored_now : ((g').trail p).stored ≡ true
         stored_now = (where_it_is.column.track.store_is h (ap is_some (set_at (s.columns p).store h (Some (in_line q.entry q.ask.number (record { ticket = t; peek = q.ask.peek })))))).0
 

@@ -1,6 +1,6 @@
 -- Every state that a list of labels leads to shows the lines and the fold.
 use Rattle.wave_base.specs.Tree.{there}
-use Rattle.std.proofs.Common.{◌≡◌, ℕ, suc, ◌+◌, ◌<◌, ◌≤◌, ◌⊎◌, ◌==◌, ◌&&◌, inl, inr, nat_eq, nat_lt, Bool, true, false, Option, Some, None, is_some, List, [], ◌∷◌, refl, sym, ◌∙◌, ap, ap₂, subst, arith}
+use Rattle.std.proofs.Common.{◌≡◌, ℕ, suc, ◌+◌, ◌<◌, ◌≤◌, ◌⊎◌, ◌==◌, ◌&&◌, inl, inr, nat_eq, nat_lt, Bool, true, false, Option, Some, None, is_some, List, [], ◌∷◌, refl, sym, ◌∙◌, ap, ap₂, subst, arith, zero}
 use Rattle.std.specs.Prelude.{if◌then◌else◌, cond, slice_get}
 use Rattle.std.specs.List.{list_any, AllByRecursion, filter}
 use Rattle.std.specs.Map.{lookup}
@@ -11,11 +11,14 @@ use Rattle.std.specs.BTreeSet.{insert_key}
 use Rattle.wave_states.specs.Actors.{Actors}
 use Rattle.wave_states.specs.States.{State, Cell, Event, Hand, Mail, set}
 use Rattle.wave_states.specs.Steps.{Bench, Part, with_bench, stop, admit, admitted, committed, commit, part_of}
-use Rattle.wave_theory.proofs.Basics.{clash, some_same, none_not, number_is, number_cases, path_is, set_at, set_there, and_first, and_second}
+use Rattle.wave_theory.proofs.Basics.{clash, some_same, none_not, number_is, number_cases, path_is, set_at, set_there, and_first, and_second, differ, not_same}
 use Rattle.wave_theory.proofs.Order.{Way, IsWay}
 use Rattle.wave_theory.proofs.Leaves.{Course, IsCourse}
 use Rattle.wave_theory.proofs.Opened.{Visits, Grants, Starts, Frees, Lands, Passes, Stopping, LetterIs, coming_is}
 use Rattle.wave_theory.proofs.Alive
+use Rattle.wave_theory.proofs.Tallies
+use Rattle.wave_theory.specs.States.{taken}
+use Rattle.wave_states.specs.Labels.{is_pass}
 use Rattle.wave_theory.proofs.Shows
 use Rattle.std.specs.Prelude.{All, map, option_map, option_and_then}
 use Rattle.wave_base.specs.Fold.{Head, Progress, with_done}
@@ -80,6 +83,16 @@ module _ {A F R J : Type 0} (sys : Actors A F R J) (hosts : ℕ) (fits : Path �
     pub shows : Shown s ghost
     pub heads : Heads s
     pub alive : Alive.Alive sys w course b.before Is_real s ghost
+    pub tally : ℕ → ℕ
+    pub tallied : Tallies.Tally sys w course b.before Is_real ghost tally
+
+  -- how many labels were taken so far, the Passes aside
+  abbrev pub total : State A F R J → (ℕ → ℕ) → ℕ
+  total s c = Tallies.sum_to s.admitted (λ i. c (suc b.before + i)) + s.head.done
+
+  pub record Goes (s : State A F R J) (n : ℕ) : Type 0 where
+    pub good : Good_state s
+    pub counts : total s good.tally ≡ n
 
   -- a ticket of which there is something was admitted
   pub known : (s : State A F R J) (g : Shows.Ghost F) → Shown s g → (t : ℕ) → (s.cells t ≡ record { event = None; mails = λ k. None; result = None } → ⊥) → (b.before < t) × (t ≤ g.lines.admitted)
@@ -238,31 +251,59 @@ module _ {A F R J : Type 0} (sys : Actors A F R J) (hosts : ℕ) (fits : Path �
   idle_of (Some a) p y e = absurd (none_not e)
 
   -- the state after a label that leaves the hand
-  module _ (s s' : State A F R J) (g : Shows.Ghost F) (x : Shown s g) (h : Heads s) (al : Alive.Alive sys w course b.before Is_real s g) (v host : ℕ) where
-    abbrev Next : Type 0
-    Next = Good_state s'
+  module _ (s s' : State A F R J) (g : Shows.Ghost F) (x : Shown s g) (h : Heads s) (al : Alive.Alive sys w course b.before Is_real s g) (c : ℕ → ℕ) (tc : Tallies.Tally sys w course b.before Is_real g c) (v host : ℕ) where
+    abbrev Next : Act → Type 0
+    Next a = Goes s' (if is_pass a then total s c else suc (total s c))
 
-    next_by : (t : ℕ) (p : Path) (y : Bench A F R) (g' : Shows.Ghost F) → s' ≡ with_bench sys s t p v y → Shown (with_bench sys s t p v y) g' → Alive.Alive sys w course b.before Is_real (with_bench sys s t p v y) g' → (is_some (s.cells t).result ≡ true → is_some y.part.cell.result ≡ true) → Next
-    next_by t p y g' e k al' r = subst Good_state (sym e) (record { ghost = g'; shows = k; heads = heads_after s t p v y h r; alive = al' })
+    index_of : (t : ℕ) → b.before < t → t ≤ g.lines.admitted → (i : ℕ) × (i < s.admitted) × (t ≡ suc b.before + i)
+    index_of t l m = by b.before t s.admitted l (subst (λ i. t ≤ i) x.admitted m)
+      where
+        by : (a t n : ℕ) → a < t → t ≤ a + n → (i : ℕ) × (i < n) × (t ≡ suc a + i)
+        by a zero n l m = absurd (omega (arith, l))
+        by zero (suc t) n l m = (t, omega (arith, m), omega arith)
+        by (suc a) (suc t) n l m = (let r = by a t n (omega (arith, l)) (omega (arith, m)) in (r.0, r.1, omega (arith, r.2)))
+
+    total_more : (t : ℕ) → b.before < t → t ≤ g.lines.admitted → Tallies.sum_to s.admitted (λ i. set nat_eq c t (suc (c t)) (suc b.before + i)) + s.head.done ≡ suc (total s c)
+    total_more t l m = (let i = index_of t l m in
+        ap (λ n. n + s.head.done) (Tallies.sum_one s.admitted (λ j. c (suc b.before + j)) (λ j. set nat_eq c t (suc (c t)) (suc b.before + j)) i.0 i.1
+        (subst (λ u. set nat_eq c t (suc (c t)) u ≡ suc (c u)) i.2 (set_at c t (suc (c t))))
+        (λ j n z. set_there nat_eq c t (suc (c t)) (suc b.before + j) (apart t i.0 j i.2 z))) ∙ plus _ _)
+      where
+        plus : (a d : ℕ) → suc a + d ≡ suc (a + d)
+        plus a d = omega arith
+
+        apart : (t i j : ℕ) → t ≡ suc b.before + i → nat_eq i j ≡ false → nat_eq t (suc b.before + j) ≡ false
+        apart t i j e z = differ t (suc b.before + j) (λ y. not_same i j z (same_index b.before i j (sym e ∙ y)))
+          where
+            same_index : (a i j : ℕ) → suc a + i ≡ suc a + j → i ≡ j
+            same_index a i j e = omega (arith, e)
+
+    next_by : (t : ℕ) (p : Path) (y : Bench A F R) (g' : Shows.Ghost F) → s' ≡ with_bench sys s t p v y → Shown (with_bench sys s t p v y) g' → Alive.Alive sys w course b.before Is_real (with_bench sys s t p v y) g' → (is_some (s.cells t).result ≡ true → is_some y.part.cell.result ≡ true) →
+        (b.before < t) × (t ≤ g.lines.admitted) → Tallies.Tally sys w course b.before Is_real g' (set nat_eq c t (suc (c t))) → Goes s' (suc (total s c))
+    next_by t p y g' e k al' r kn tl = subst (λ u. Goes u (suc (total s c))) (sym e) (record { good = record { ghost = g'; shows = k; heads = heads_after s t p v y h r; alive = al'; tally = set nat_eq c t (suc (c t)); tallied = tl }; counts = total_more t kn.0 kn.1 })
+
+    next_same : (t : ℕ) (p : Path) (y : Bench A F R) (g' : Shows.Ghost F) → s' ≡ with_bench sys s t p v y → Shown (with_bench sys s t p v y) g' → Alive.Alive sys w course b.before Is_real (with_bench sys s t p v y) g' → (is_some (s.cells t).result ≡ true → is_some y.part.cell.result ≡ true) →
+        Tallies.Tally sys w course b.before Is_real g' c → Goes s' (total s c)
+    next_same t p y g' e k al' r tl = subst (λ u. Goes u (total s c)) (sym e) (record { good = record { ghost = g'; shows = k; heads = heads_after s t p v y h r; alive = al'; tally = c; tallied = tl }; counts = refl })
 
     calm_is : (o : Option (Part A F R)) (y : Bench A F R) → with_hand sys None o ≡ Some y → (z : Part A F R) × (o ≡ Some z) × (y ≡ record { part = z; hand = None })
     calm_is o y e = map_some (λ (z : Part A F R). record { part = z; hand = None }) o y e
 
-    local : (a : Act) (y : Bench A F R) (hd : Option (Hand A F)) → s.hands v ≡ hd → Labels.is_local a ≡ true → act_bench sys a host (part_of sys s (ticket_of a) (path_of a)) hd ≡ Some y → s' ≡ with_bench sys s (ticket_of a) (path_of a) v y → Next
+    local : (a : Act) (y : Bench A F R) (hd : Option (Hand A F)) → s.hands v ≡ hd → Labels.is_local a ≡ true → act_bench sys a host (part_of sys s (ticket_of a) (path_of a)) hd ≡ Some y → s' ≡ with_bench sys s (ticket_of a) (path_of a) v y → Next a
     local (Admit t) y hd k l e f = absurd (clash false l refl)
     local (Commit t) y hd k l e f = absurd (clash false l refl)
     local (Queue t n p) y (Some a) k l e f = absurd (none_not e)
     local (Queue t n p) y None k l e f = (let z = calm_is _ y e in let q = queues sys t n p host (part_of sys s t p) z.0 z.1 in let kn = known s g x t (event_there (s.cells t) q.event q.event_is) in
-        next_by t p (record { part = z.0; hand = None }) _ (f ∙ ap (with_bench sys s t p v) z.2) (Queueing.queue_shows sys w law course b.before Is_real s g x t n p host v z.0 q kn.0 kn.1) (Queueing.queue_alive sys w law course b.before Is_real s g x t n p host v z.0 q kn.0 kn.1 al k) (λ r. subst (λ (u : Part A F R). is_some u.cell.result ≡ true) q.gives r))
+        next_by t p (record { part = z.0; hand = None }) _ (f ∙ ap (with_bench sys s t p v) z.2) (Queueing.queue_shows sys w law course b.before Is_real s g x t n p host v z.0 q kn.0 kn.1) (Queueing.queue_alive sys w law course b.before Is_real s g x t n p host v z.0 q kn.0 kn.1 al k) (λ r. subst (λ (u : Part A F R). is_some u.cell.result ≡ true) q.gives r) kn (Queueing.queue_tally sys w law course b.before Is_real s g x t n p host v z.0 q kn.0 kn.1 c tc))
     local (Grant t p) y (Some a) k l e f = absurd (none_not e)
-    local (Grant t p) y None k l e f = (let z = calm_is _ y e in let q = grants t p host (part_of sys s t p) z.0 z.1 in
-        next_by t p (record { part = z.0; hand = None }) _ (f ∙ ap (with_bench sys s t p v) z.2) (Granting.grant_shows sys w law course b.before Is_real courses s g x t p host v z.0 q) (Granting.grant_alive sys w law course b.before Is_real courses s g x t p host v z.0 q al k) (λ r. subst (λ (u : Part A F R). is_some u.cell.result ≡ true) q.gives r))
+    local (Grant t p) y None k l e f = (let z = calm_is _ y e in let q = grants t p host (part_of sys s t p) z.0 z.1 in let kn = known s g x t (event_there (s.cells t) q.event q.event_is) in
+        next_by t p (record { part = z.0; hand = None }) _ (f ∙ ap (with_bench sys s t p v) z.2) (Granting.grant_shows sys w law course b.before Is_real courses s g x t p host v z.0 q) (Granting.grant_alive sys w law course b.before Is_real courses s g x t p host v z.0 q al k) (λ r. subst (λ (u : Part A F R). is_some u.cell.result ≡ true) q.gives r) kn (Granting.grant_tally sys w law course b.before Is_real courses s g x t p host v z.0 q c tc))
     local (Labels.Visit t n p) y (Some a) k l e f = absurd (none_not e)
     local (Labels.Visit t n p) y None k l e f = (let z = calm_is _ y e in let q = Opened.visits n p host (part_of sys s t p) z.0 z.1 in let kn = known s g x t (event_there (s.cells t) q.event q.event_is) in
-        next_by t p (record { part = z.0; hand = None }) _ (f ∙ ap (with_bench sys s t p v) z.2) (Granting.visit_shows sys w law course b.before Is_real courses s g x t n p host v z.0 q kn.0 kn.1) (Granting.visit_alive sys w law course b.before Is_real courses s g x t n p host v z.0 q kn.0 kn.1 al k) (λ r. subst (λ (u : Part A F R). is_some u.cell.result ≡ true) q.gives r))
+        next_by t p (record { part = z.0; hand = None }) _ (f ∙ ap (with_bench sys s t p v) z.2) (Granting.visit_shows sys w law course b.before Is_real courses s g x t n p host v z.0 q kn.0 kn.1) (Granting.visit_alive sys w law course b.before Is_real courses s g x t n p host v z.0 q kn.0 kn.1 al k) (λ r. subst (λ (u : Part A F R). is_some u.cell.result ≡ true) q.gives r) kn (Granting.visit_tally sys w law course b.before Is_real courses s g x t n p host v z.0 q kn.0 kn.1 c tc))
     local (Start t p) y (Some a) k l e f = absurd (none_not e)
     local (Start t p) y None k l e f = (let q = starts t p host (part_of sys s t p) y e in let kn = known s g x t (event_there (s.cells t) q.event q.event_is) in
-        next_by t p y _ f (Starting.start_shows sys w law course b.before Is_real courses s g x t p host v y q kn.0 kn.1) (Starting.start_alive sys w law course b.before Is_real courses s g x t p host v y q kn.0 kn.1 al k) (λ r. subst (λ (u : Bench A F R). is_some u.part.cell.result ≡ true) q.gives r))
+        next_by t p y _ f (Starting.start_shows sys w law course b.before Is_real courses s g x t p host v y q kn.0 kn.1) (Starting.start_alive sys w law course b.before Is_real courses s g x t p host v y q kn.0 kn.1 al k) (λ r. subst (λ (u : Bench A F R). is_some u.part.cell.result ≡ true) q.gives r) kn (Starting.start_tally sys w law course b.before Is_real courses s g x t p host v y q kn.0 kn.1 c tc))
     local (Stop t p) y None k l e f = absurd (none_not e)
     local (Stop t p) y (Some hd) k l e f = (let i = if_some ((hd.ticket == t) && path_eq hd.path p) _ y e in
         stop_next hd k y (with_hand_is t p hd i.1) (f ∙ ap₂ (λ a r. with_bench sys s a r v y) (sym (number_is hd.ticket t (and_first _ _ i.0))) (sym (path_is hd.path p (and_second (hd.ticket == t) _ i.0)))) (number_is hd.ticket t (and_first _ _ i.0)) (path_is hd.path p (and_second (hd.ticket == t) _ i.0)))
@@ -270,53 +311,71 @@ module _ {A F R J : Type 0} (sys : Actors A F R J) (hosts : ℕ) (fits : Path �
         with_hand_is : (t : ℕ) (p : Path) (hd : Hand A F) → with_hand sys None (stop sys p host hd (part_of sys s t p)) ≡ Some y → with_hand sys None (stop sys p host hd (part_of sys s t p)) ≡ Some y
         with_hand_is t p hd e = e
 
-        stop_next : (hd : Hand A F) → s.hands v ≡ Some hd → (y : Bench A F R) → with_hand sys None (stop sys p host hd (part_of sys s t p)) ≡ Some y → s' ≡ with_bench sys s hd.ticket hd.path v y → hd.ticket ≡ t → hd.path ≡ p → Next
+        stop_next : (hd : Hand A F) → s.hands v ≡ Some hd → (y : Bench A F R) → with_hand sys None (stop sys p host hd (part_of sys s t p)) ≡ Some y → s' ≡ with_bench sys s hd.ticket hd.path v y → hd.ticket ≡ t → hd.path ≡ p → Goes s' (suc (total s c))
         stop_next hd k y e f et ep = (let e' : with_hand sys None (stop sys hd.path host hd (part_of sys s hd.ticket hd.path)) ≡ Some y = subst (λ r. with_hand sys None (stop sys r host hd (part_of sys s hd.ticket r)) ≡ Some y) (sym ep) (subst (λ a. with_hand sys None (stop sys p host hd (part_of sys s a p)) ≡ Some y) (sym et) e) in
             let z = calm_is _ y e' in let q = stopping sys hd.ticket hd.path host hd (part_of sys s hd.ticket hd.path) z.0 z.1 in
             let n = Paused.stop_keeps sys w law course b.before Is_real courses s g x hd v host k z.0 q in
-            next_by hd.ticket hd.path (record { part = z.0; hand = None }) n.ghost (f ∙ ap (with_bench sys s hd.ticket hd.path v) z.2) n.shows (n.alive al) (λ r. absurd (clash _ r (ap is_some (Paused.no_result sys w law course b.before Is_real courses s g x hd v host k z.0 q)))))
+            next_by hd.ticket hd.path (record { part = z.0; hand = None }) n.ghost (f ∙ ap (with_bench sys s hd.ticket hd.path v) z.2) n.shows (n.alive al) (λ r. absurd (clash _ r (ap is_some (Paused.no_result sys w law course b.before Is_real courses s g x hd v host k z.0 q)))) ((x.hands v hd k).later, (x.hands v hd k).known) (n.tally al c tc))
     local (Free t n p) y (Some a) k l e f = absurd (none_not e)
     local (Free t n p) y None k l e f = (let z = calm_is _ y e in let q = frees t n p host (part_of sys s t p) z.0 z.1 in let kn = known s g x t (mail_there (s.cells t) n q.letter_at.mail q.letter_at.mail_is) in
-        next_by t p (record { part = z.0; hand = None }) _ (f ∙ ap (with_bench sys s t p v) z.2) (Freeing.free_shows sys w law course b.before Is_real courses s g x t n p host v z.0 q kn.0 kn.1) (Freeing.free_alive sys w law course b.before Is_real courses s g x t n p host v z.0 q kn.0 kn.1 al k) (λ r. subst (λ (u : Part A F R). is_some u.cell.result ≡ true) q.gives r))
+        next_by t p (record { part = z.0; hand = None }) _ (f ∙ ap (with_bench sys s t p v) z.2) (Freeing.free_shows sys w law course b.before Is_real courses s g x t n p host v z.0 q kn.0 kn.1) (Freeing.free_alive sys w law course b.before Is_real courses s g x t n p host v z.0 q kn.0 kn.1 al k) (λ r. subst (λ (u : Part A F R). is_some u.cell.result ≡ true) q.gives r) kn (Freeing.free_tally sys w law course b.before Is_real courses s g x t n p host v z.0 q kn.0 kn.1 c tc))
     local (Pass t n p to) y (Some a) k l e f = absurd (none_not e)
     local (Pass t n p to) y None k l e f = (let z = calm_is _ y e in let q = passes n to p host (part_of sys s t p) z.0 z.1 in let kn = known s g x t (mail_there (s.cells t) n q.letter_at.mail q.letter_at.mail_is) in
-        next_by t p (record { part = z.0; hand = None }) _ (f ∙ ap (with_bench sys s t p v) z.2) (Freeing.pass_shows sys w law course b.before Is_real courses s g x t n to p host v z.0 q kn.0 kn.1) (Freeing.pass_alive sys w law course b.before Is_real courses s g x t n to p host v z.0 q kn.0 kn.1 al k) (λ r. subst (λ (u : Part A F R). is_some u.cell.result ≡ true) q.gives r))
+        next_same t p (record { part = z.0; hand = None }) _ (f ∙ ap (with_bench sys s t p v) z.2) (Freeing.pass_shows sys w law course b.before Is_real courses s g x t n to p host v z.0 q kn.0 kn.1) (Freeing.pass_alive sys w law course b.before Is_real courses s g x t n to p host v z.0 q kn.0 kn.1 al k) (λ r. subst (λ (u : Part A F R). is_some u.cell.result ≡ true) q.gives r) tc)
     local (Land t n p) y (Some a) k l e f = absurd (none_not e)
     local (Land t n p) y None k l e f = (let z = calm_is _ y e in let q = lands n p host (part_of sys s t p) z.0 z.1 in let kn = known s g x t (mail_there (s.cells t) n q.letter_at.mail q.letter_at.mail_is) in
-        next_by t p (record { part = z.0; hand = None }) _ (f ∙ ap (with_bench sys s t p v) z.2) (Freeing.land_shows sys w law course b.before Is_real courses s g x t n p host v z.0 q kn.0 kn.1) (Freeing.land_alive sys w law course b.before Is_real courses s g x t n p host v z.0 q kn.0 kn.1 al k) (λ r. subst (λ (u : Part A F R). is_some u.cell.result ≡ true) q.gives r))
+        next_by t p (record { part = z.0; hand = None }) _ (f ∙ ap (with_bench sys s t p v) z.2) (Freeing.land_shows sys w law course b.before Is_real courses s g x t n p host v z.0 q kn.0 kn.1) (Freeing.land_alive sys w law course b.before Is_real courses s g x t n p host v z.0 q kn.0 kn.1 al k) (λ r. subst (λ (u : Part A F R). is_some u.cell.result ≡ true) q.gives r) kn (Freeing.land_tally sys w law course b.before Is_real courses s g x t n p host v z.0 q kn.0 kn.1 c tc))
 
-    admit_next : (t : ℕ) → admit sys s host t ≡ Some s' → Next
+    admit_next : (t : ℕ) → admit sys s host t ≡ Some s' → Goes s' (suc (total s c))
     admit_next t e =
         let j = then_some (λ j. only_if ((host == 0) && (t == next_ticket sys s)) (admitted sys s t j)) (slice_get s.head.known s.admitted) s' e in
         let o = only_some ((host == 0) && (t == next_ticket sys s)) (admitted sys s t j.0) s' j.2 in
         let n : t ≡ suc g.lines.admitted = number_is t (next_ticket sys s) (and_second (host == 0) _ o.0) ∙ ap (λ i. suc (i + s.admitted)) x.before ∙ ap suc (sym x.admitted) in
-        subst Good_state o.1 (record {
-          ghost = Admitting.with_ticket sys w law course b.before Is_real courses g;
-          shows = Admitting.admit_shows sys w law course b.before Is_real courses s g x j.0 (first_is s g x h j.0 j.1) t n;
-          alive = Admitting.admit_alive sys w law course b.before Is_real courses s g x j.0 (first_is s g x h j.0 j.1) t n al;
-          heads = record {
-            head_is = h.head_is;
-            few = omega (arith, h.few);
-            over = λ i l. elim (number_cases t (suc b.before + i)) [
-              | inr m ↦ ap (λ (u : Cell A F R). is_some u.result) (set_there nat_eq s.cells t _ (suc b.before + i) m) ∙ h.over i l
-              | inl m ↦ absurd (let fw = h.few in let ad = x.admitted in omega (arith, n))
-            ];
+        subst (λ u. Goes u (suc (total s c))) o.1 (record {
+          good = record {
+            ghost = Admitting.with_ticket sys w law course b.before Is_real courses g;
+            shows = Admitting.admit_shows sys w law course b.before Is_real courses s g x j.0 (first_is s g x h j.0 j.1) t n;
+            alive = Admitting.admit_alive sys w law course b.before Is_real courses s g x j.0 (first_is s g x h j.0 j.1) t n al;
+            heads = record {
+              head_is = h.head_is;
+              few = omega (arith, h.few);
+              over = λ i l. elim (number_cases t (suc b.before + i)) [
+                | inr m ↦ ap (λ (u : Cell A F R). is_some u.result) (set_there nat_eq s.cells t _ (suc b.before + i) m) ∙ h.over i l
+                | inl m ↦ absurd (let fw = h.few in let ad = x.admitted in omega (arith, n))
+              ];
+            };
+            tally = set nat_eq c (suc g.lines.admitted) 1;
+            tallied = Admitting.admit_tally sys w law course b.before Is_real courses s g x j.0 (first_is s g x h j.0 j.1) c tc;
           };
+          counts = ap (λ n. n + s.head.done) (Tallies.sum_more s.admitted (λ i. set nat_eq c (suc g.lines.admitted) 1 (suc b.before + i)) ∙ ap₂ (λ a d. a + d)
+              (Tallies.sum_same s.admitted (λ i. set nat_eq c (suc g.lines.admitted) 1 (suc b.before + i)) (λ i. c (suc b.before + i)) (λ i l. set_there nat_eq c (suc g.lines.admitted) 1 (suc b.before + i) (differ (suc g.lines.admitted) (suc b.before + i) (λ y. omega (arith, y, l, x.admitted)))))
+              (subst (λ u. set nat_eq c (suc g.lines.admitted) 1 u ≡ 1) (let z : suc g.lines.admitted ≡ suc b.before + s.admitted = omega (arith, x.admitted) in z) (set_at c (suc g.lines.admitted) 1))) ∙ plus _ _;
         })
+      where
+        plus : (a d : ℕ) → (a + 1) + d ≡ suc (a + d)
+        plus a d = omega arith
 
-    commit_next : (t : ℕ) → commit sys s host t ≡ Some s' → Next
+    commit_next : (t : ℕ) → commit sys s host t ≡ Some s' → Goes s' (suc (total s c))
     commit_next t e =
         let r = then_some (λ r. only_if ((host == 0) && (t == suc (s.before + s.head.done))) (committed sys s r)) (s.cells t).result s' e in
         let o = only_some ((host == 0) && (t == suc (s.before + s.head.done))) (committed sys s r.0) s' r.2 in
         let n : t ≡ suc (b.before + s.head.done) = number_is t (suc (s.before + s.head.done)) (and_second (host == 0) _ o.0) ∙ ap (λ i. suc (i + s.head.done)) x.before in
-        subst Good_state o.1 (record {
-          ghost = g;
-          shows = Admitting.commit_shows sys w law course b.before Is_real courses s g r.0 x;
-          alive = record { one = al.one; out = al.out; away = al.away; few = al.few; kids = al.kids };
-          heads = commit_heads s g x h r.0 (ap (λ i. (s.cells i).result) (sym n) ∙ r.1);
+        subst (λ u. Goes u (suc (total s c))) o.1 (record {
+          good = record {
+            ghost = g;
+            shows = Admitting.commit_shows sys w law course b.before Is_real courses s g r.0 x;
+            alive = record { one = al.one; out = al.out; away = al.away; few = al.few; kids = al.kids; housed = al.housed; no_zero = al.no_zero };
+            heads = commit_heads s g x h r.0 (ap (λ i. (s.cells i).result) (sym n) ∙ r.1);
+            tally = c;
+            tallied = tc;
+          };
+          counts = ap (λ n. Tallies.sum_to s.admitted (λ i. c (suc b.before + i)) + n) (Folds.with_done_done s.head (sys.created r.0)) ∙ plus _ _;
         })
+      where
+        plus : (a d : ℕ) → a + suc d ≡ suc (a + d)
+        plus a d = omega arith
 
-    pub step_next : (a : Act) → step_by sys s v host a ≡ Some s' → Next
+    pub step_next : (a : Act) → step_by sys s v host a ≡ Some s' → Next a
     step_next (Admit t) e = admit_next t (idle_of (s.hands v) _ s' e).1
     step_next (Commit t) e = commit_next t (idle_of (s.hands v) _ s' e).1
     step_next (Queue t n p) e = (let y = map_some _ _ s' e in local (Queue t n p) y.0 (s.hands v) refl refl y.1 y.2)
@@ -329,12 +388,18 @@ module _ {A F R J : Type 0} (sys : Actors A F R J) (hosts : ℕ) (fits : Path �
     step_next (Land t n p) e = (let y = map_some _ _ s' e in local (Land t n p) y.0 (s.hands v) refl refl y.1 y.2)
 
   -- every state that a list of labels leads to
-  pub run_good : (workers : ℕ) (s s' : State A F R J) (ls : List Label) → Good_state s → run sys workers s ls ≡ Some s' → Good_state s'
-  run_good workers s s' [] k e = subst Good_state (some_same s s' e) k
+  pub run_good : (workers : ℕ) (s s' : State A F R J) (ls : List Label) (k : Good_state s) → run sys workers s ls ≡ Some s' → Goes s' (taken ls + total s k.tally)
+  run_good workers s s' [] k e = subst (λ u. Goes u (0 + total s k.tally)) (some_same s s' e) (record { good = k; counts = (let z : (n : ℕ) → n ≡ 0 + n = λ n. omega arith in z (total s k.tally)) })
   run_good workers s s' (l ∷ ls) k e =
       let v = then_some (λ v. run sys workers v ls) (step sys workers s l) s' e in
       let i = if_some (nat_lt l.worker workers) (step_by sys s l.worker l.host l.act) v.0 v.1 in
-      run_good workers v.0 s' ls (step_next s v.0 k.ghost k.shows k.heads k.alive l.worker l.host l.act i.1) v.2
+      let n = step_next s v.0 k.ghost k.shows k.heads k.alive k.tally k.tallied l.worker l.host l.act i.1 in
+      let r = run_good workers v.0 s' ls n.good v.2 in
+      record { good = r.good; counts = r.counts ∙ ap (λ m. taken ls + m) n.counts ∙ one_or (is_pass l.act) (taken ls) (total s k.tally) }
+    where
+      one_or : (i : Bool) (a d : ℕ) → a + (if i then d else suc d) ≡ (if i then a else suc a) + d
+      one_or true a d = refl
+      one_or false a d = omega arith
 
   first_heads : Heads (start_state b batches)
   first_heads = record { head_is = ap (λ n. (at n).head) (sym (Folds.zero_done sys b batches)); few = subst (λ n. n ≤ 0) (sym (Folds.zero_done sys b batches)) (omega arith); over = λ i l. absurd (not_below i (subst (λ n. i < n) (Folds.zero_done sys b batches) l)) }
@@ -342,8 +407,8 @@ module _ {A F R J : Type 0} (sys : Actors A F R J) (hosts : ℕ) (fits : Path �
       not_below : (i : ℕ) → i < 0 → ⊥
       not_below i l = omega arith
 
-  first_alive : Alive.Alive sys w course b.before Is_real (start_state b batches) (Beginning.ghost₀ sys hosts fits is_job fine owes b batches begins jobs)
-  first_alive = record { one = λ t l m. absurd (apart b.before t l m); out = λ t e. absurd (clash true refl (sym e)); away = λ p u e. absurd (stored_at p u (there b.tree p) refl e); few = λ p. subst (λ i. Beginning.at_root sys hosts fits is_job fine owes b batches begins jobs p ≤ i) (sym (Beginning.rank_start sys hosts fits is_job fine owes b batches begins jobs p)) (upto (Beginning.at_root sys hosts fits is_job fine owes b batches begins jobs p)); kids = λ q st c e. inl (Beginning.kid_there sys hosts fits is_job fine owes b batches begins jobs q st c e) }
+  first_alive : 0 < hosts → Alive.Alive sys w course b.before Is_real (start_state b batches) (Beginning.ghost₀ sys hosts fits is_job fine owes b batches begins jobs)
+  first_alive some_host = record { one = λ t l m. absurd (apart b.before t l m); out = λ t e. absurd (clash true refl (sym e)); away = λ p u e. absurd (stored_at p u (there b.tree p) refl e); few = λ p. subst (λ i. Beginning.at_root sys hosts fits is_job fine owes b batches begins jobs p ≤ i) (sym (Beginning.rank_start sys hosts fits is_job fine owes b batches begins jobs p)) (upto (Beginning.at_root sys hosts fits is_job fine owes b batches begins jobs p)); kids = λ q st c e. inl (Beginning.kid_there sys hosts fits is_job fine owes b batches begins jobs q st c e); housed = λ p. Beginning.housed₀ sys hosts fits is_job fine owes b batches begins jobs some_host p; no_zero = λ t. refl }
     where
       stored_at : (p : Path) → there b.tree p ≡ true → (i : Bool) → there b.tree p ≡ i → ((if i then Beginning.moved_trail sys hosts fits is_job fine owes b batches begins jobs (has_moved b p) p else Tracks.unborn 0)).stored ≡ false → ⊥
       stored_at p u false d e = clash _ u d
@@ -359,5 +424,18 @@ module _ {A F R J : Type 0} (sys : Actors A F R J) (hosts : ℕ) (fits : Path �
       apart : (a t : ℕ) → a < t → t ≤ a → ⊥
       apart a t l m = omega arith
 
-  pub reached : (workers : ℕ) (s : State A F R J) (ls : List Label) → run sys workers (start_state b batches) ls ≡ Some s → Good_state s
-  reached workers s ls e = run_good workers (start_state b batches) s ls (record { ghost = Beginning.ghost₀ sys hosts fits is_job fine owes b batches begins jobs; shows = Beginning.start_shows sys hosts fits is_job fine owes b batches begins jobs; heads = first_heads; alive = first_alive }) e
+  first_good : 0 < hosts → Goes (start_state b batches) 0
+  first_good some_host = record { good = record { ghost = Beginning.ghost₀ sys hosts fits is_job fine owes b batches begins jobs; shows = Beginning.start_shows sys hosts fits is_job fine owes b batches begins jobs; heads = first_heads; alive = first_alive some_host; tally = λ t. 0; tallied = record { counted = λ t l m. absurd (apart b.before t l m); stale = λ t l m e. absurd (apart b.before t l m) } }; counts = ap₂ (λ a d. a + d) (Tallies.sum_zero (λ i. 0)) (Folds.zero_done sys b batches) }
+    where
+      apart : (a t : ℕ) → a < t → t ≤ a → ⊥
+      apart a t l m = omega arith
+
+  pub reached_by : 0 < hosts → (workers : ℕ) (s : State A F R J) (ls : List Label) → run sys workers (start_state b batches) ls ≡ Some s → Goes s (taken ls)
+  reached_by some_host workers s ls e = (let f = first_good some_host in let r = run_good workers (start_state b batches) s ls f.good e in
+      record { good = r.good; counts = r.counts ∙ ap (λ n. taken ls + n) f.counts ∙ none_more (taken ls) })
+    where
+      none_more : (a : ℕ) → a + 0 ≡ a
+      none_more a = omega arith
+
+  pub reached : 0 < hosts → (workers : ℕ) (s : State A F R J) (ls : List Label) → run sys workers (start_state b batches) ls ≡ Some s → Good_state s
+  reached some_host workers s ls e = (reached_by some_host workers s ls e).good

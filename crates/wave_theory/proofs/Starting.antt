@@ -1,5 +1,5 @@
 -- Starts keep what the state shows.
-use Rattle.std.proofs.Common.{◌≡◌, ℕ, ◌<◌, ◌≤◌, ◌&&◌, not, inl, inr, nat_eq, Bool, true, false, Some, None, is_some, [], refl, sym, ◌∙◌, ap, subst, arith}
+use Rattle.std.proofs.Common.{◌≡◌, ℕ, ◌<◌, ◌≤◌, ◌&&◌, not, inl, inr, nat_eq, Bool, true, false, Some, None, is_some, [], refl, sym, ◌∙◌, ap, subst, arith, suc, ap₂}
 use Rattle.std.specs.List.{AllByRecursion}
 use Rattle.wave_base.specs.declared.path.Path.{Path}
 use Rattle.wave_base.specs.Paths.{path_eq}
@@ -14,6 +14,7 @@ use Rattle.wave_theory.proofs.Own.{mail_own}
 use Rattle.wave_theory.proofs.Found.{Found, found, changed}
 use Rattle.wave_theory.proofs.Frames.{update, at_spot, holds_spot, option_some}
 use Rattle.wave_theory.proofs.Alive
+use Rattle.wave_theory.proofs.Tallies
 use Rattle.wave_theory.proofs.Shows
 
 there_lined : There ≡ Lined → ⊥
@@ -189,6 +190,15 @@ module _ {A F R J : Type 0} (sys : Actors A F R J) (w : Way) (law : IsWay w) (co
         (record { within = x.good.within; going = x.good.going; ended = x.good.ended; is_fresh = x.good.is_fresh; sends = x.good.sends; grants = x.good.grants; first = x.good.first; let_in = x.good.let_in; keeps = x.good.keeps; alone = x.good.alone; latest = x.good.latest })
         (record { held = x.kept.held; calm = x.kept.calm }) refl lt la cell entry column (λ hd z. subst (Shows.HandShows sys w course low is_real gs v) (some_same _ hd z) hand) x.root)
 
+    pub start_tally : (n : ℕ → ℕ) → Tallies.Tally sys w course low is_real g n → Tallies.Tally sys w course low is_real gs (set nat_eq n t (suc (n t)))
+    start_tally n y = Tallies.tally_update sys w course low is_real g gs t p v n frame refl lt la y
+        (Tallies.stage_more sys w course low is_real g gs t refl (λ i l. refl) (ap₂ (λ u o. Tallies.stage_part (w.fresh t (g.lines.pos t)) u o) at_it.0 (set_at g.out t true) ∙ by (w.fresh t (g.lines.pos t)) ∙ sym (ap₂ (λ u o. suc (Tallies.stage_part (w.fresh t (g.lines.pos t)) u o)) at_it.0 at_it.2)))
+        (λ z. absurd (there_coming (sym at_it.0 ∙ z)))
+      where
+        by : (f : Bool) → Tallies.stage_part f There true ≡ suc (Tallies.stage_part f There false)
+        by true = refl
+        by false = refl
+
     pub start_alive : Alive.Alive sys w course low is_real s g → s.hands v ≡ None → Alive.Alive sys w course low is_real (with_bench sys s t p v y) gs
     start_alive a idle = subst (λ z. Alive.Alive sys w course low is_real (with_bench sys s t p v z) gs) q.gives (Alive.alive_update sys w course low is_real s g gs t p v (started t p h (part_of sys s t p) q.event q.entry q.actor q.body) x frame refl la lt a
         (λ b cl n z vb. ap (λ (u : Entry F). u.waiting (rank w p b)) entry_now ∙ z)
@@ -199,4 +209,4 @@ module _ {A F R J : Type 0} (sys : Actors A F R J) (w : Way) (law : IsWay w) (co
           parting = λ r hd n. (a.one t lt la).parting r hd n;
           lined = λ z. absurd (there_lined (sym at_it.0 ∙ z));
         })
-        (λ z. record { hand = record { ticket = t; path = p; actor = q.actor; body = seen_by (holds_as_peek q.event.held p) q.body }; there = ap (set nat_eq s.hands v (Some (record { ticket = t; path = p; actor = q.actor; body = seen_by (holds_as_peek q.event.held p) q.body }))) (set_at g.worker t v) ∙ set_at s.hands v (Some (record { ticket = t; path = p; actor = q.actor; body = seen_by (holds_as_peek q.event.held p) q.body })); ticket_is = refl }) (λ r d hd n. n) (λ b e. let o = a.away p b e in record { ticket = o.ticket; holds = o.holds; not_held = o.not_held }) (a.few p) (λ e. e) (Alive.kids_same sys w course low is_real g gs p refl (λ st e. e) refl (a.kids p)) law)
+        (λ z. record { hand = record { ticket = t; path = p; actor = q.actor; body = seen_by (holds_as_peek q.event.held p) q.body }; there = ap (set nat_eq s.hands v (Some (record { ticket = t; path = p; actor = q.actor; body = seen_by (holds_as_peek q.event.held p) q.body }))) (set_at g.worker t v) ∙ set_at s.hands v (Some (record { ticket = t; path = p; actor = q.actor; body = seen_by (holds_as_peek q.event.held p) q.body })); ticket_is = refl }) (λ r d hd n. n) (λ b e. let o = a.away p b e in record { ticket = o.ticket; holds = o.holds; not_held = o.not_held }) (a.few p) (λ e. e) (Alive.kids_same sys w course low is_real g gs p refl (λ st e. e) refl (a.kids p)) a.housed (a.no_zero t) law)

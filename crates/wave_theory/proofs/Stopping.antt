@@ -1,5 +1,5 @@
 -- A segment's end: what is common to all its kinds.
-use Rattle.std.proofs.Common.{◌≡◌, ◌≢◌, ℕ, suc, ◌<◌, ◌≤◌, ◌⊎◌, ◌&&◌, ◌||◌, not, inl, inr, nat_eq, Bool, true, false, Option, Some, None, is_some, List, [], ◌∷◌, ◌++◌, refl, sym, ◌∙◌, ap, ap₂, subst, arith}
+use Rattle.std.proofs.Common.{◌≡◌, ◌≢◌, ℕ, suc, ◌<◌, ◌≤◌, ◌⊎◌, ◌&&◌, ◌||◌, not, inl, inr, nat_eq, Bool, true, false, Option, Some, None, is_some, List, [], ◌∷◌, ◌++◌, refl, sym, ◌∙◌, ap, ap₂, subst, arith, ◌+◌}
 use Rattle.std.specs.Prelude.{if◌then◌else◌, cond}
 use Rattle.std.specs.List.{AllByRecursion}
 use Rattle.wave_base.specs.declared.path.Step.{Step}
@@ -26,6 +26,8 @@ use Rattle.wave_theory.proofs.Frames.{update, holds_of, holds_spot, option_some,
 use Rattle.wave_theory.proofs.Held.{once_filter, number_in, number_out}
 use Rattle.wave_theory.proofs.Desks.{DeskShows, send_desk, give_up_desk, keep_release, give_up_there, sent_there}
 use Rattle.wave_theory.proofs.Alive
+use Rattle.wave_theory.proofs.Tracks
+use Rattle.wave_theory.proofs.Tallies
 use Rattle.wave_theory.proofs.Shows
 
 entering_coming : Entering ≡ Coming → ⊥
@@ -256,6 +258,10 @@ module _ {A F R J : Type 0} (sys : Actors A F R J) (w : Way) (law : IsWay w) (co
       pub lined : z.stage ≡ Lined → ⊥
       pub away : (z.trail p).stored ≡ false → w.held t (suc k) p ≡ false
       pub kids : Alive.Kids sys w course low is_real (changed_by g t p z) p
+      pub housed : (r : Path) (i : ℕ) → i ≤ (z.trail r).last → (z.trail r).at i < course.hosts
+      pub no_zero : y.cell.mails 0 ≡ None
+      pub waits_next : (f o : Bool) → Tallies.stage_part f z.stage o ≡ 0
+      pub stale : z.stage ≡ Coming → w.fresh t (suc k) ≡ false
 
     pub stop_alive : (z : Change) → IsChange z → Lives z → Alive.Alive sys w course low is_real s g → Alive.Alive sys w course low is_real (with_bench sys s t p v (record { part = y; hand = None })) (changed_by g t p z)
     stop_alive z i l a = Alive.alive_update sys w course low is_real s g (changed_by g t p z) t p v (record { part = y; hand = None }) x (frame z i) refl hs.known hs.later a
@@ -268,7 +274,26 @@ module _ {A F R J : Type 0} (sys : Actors A F R J) (w : Way) (law : IsWay w) (co
           lined = λ e. absurd (l.lined (sym (set_at g.lines.stage t z.stage) ∙ e));
         })
         (λ e. absurd (clash _ e (set_at g.out t false)))
-        (λ r d m n. ap (λ j. w.held t j r) (set_at g.lines.pos t (suc k)) ∙ leaves_later r m n) (λ b e. record { ticket = t; holds = holds_p; not_held = ap (λ j. w.held t j p) (set_at g.lines.pos t (suc k)) ∙ l.away e }) (a.few p) (λ e. e) l.kids law
+        (λ r d m n. ap (λ j. w.held t j r) (set_at g.lines.pos t (suc k)) ∙ leaves_later r m n) (λ b e. record { ticket = t; holds = holds_p; not_held = ap (λ j. w.held t j p) (set_at g.lines.pos t (suc k)) ∙ l.away e }) (a.few p) (λ e. e) l.kids l.housed l.no_zero law
+
+    pub stop_tally : (z : Change) → IsChange z → Lives z → (n : ℕ → ℕ) → Tallies.Tally sys w course low is_real g n → Tallies.Tally sys w course low is_real (changed_by g t p z) (set nat_eq n t (suc (n t)))
+    stop_tally z i l n y = Tallies.tally_update sys w course low is_real g (changed_by g t p z) t p v n (frame z i) refl hs.later hs.known y
+        (ap suc (ap₂ (λ a b. a + b) (ap (λ j. Tallies.sum_to j (Tallies.over_parts sys w course low is_real (changed_by g t p z) t)) (set_at g.lines.pos t (suc k)) ∙ Tallies.sum_more k (Tallies.over_parts sys w course low is_real g t))
+        (ap (λ u. Tallies.stage_part (w.fresh t ((changed_by g t p z).lines.pos t)) u ((changed_by g t p z).out t)) (set_at g.lines.stage t z.stage) ∙ l.waits_next _ _)
+        ∙ by (w.fresh t k) (g.lines.holds (w.place t k) t) (subst (λ r. g.lines.holds r t ≡ true) hs.place holds_p) (Tallies.sum_to k (Tallies.over_parts sys w course low is_real g t))
+        ∙ ap₂ (λ u o. suc (Tallies.sum_to k (Tallies.over_parts sys w course low is_real g t) + Tallies.stage_part (w.fresh t k) u o)) (sym hs.stage) (sym hs.out)))
+        (λ e. ap (w.fresh t) (set_at g.lines.pos t (suc k)) ∙ l.stale (sym (set_at g.lines.stage t z.stage) ∙ e))
+      where
+        by : (f h : Bool) → h ≡ true → (a : ℕ) → (a + Tallies.over_part f h) + 0 ≡ suc (a + Tallies.stage_part f There true)
+        by f false e a = absurd (clash false e refl)
+        by true true e a = omega arith
+        by false true e a = omega arith
+
+    zero_sent : (d : Desk A F) (m : Mail F) → (send d m).mails 0 ≡ d.mails 0
+    zero_sent d m = set_there nat_eq d.mails (suc d.event.sent) (Some m) 0 (differ (suc d.event.sent) 0 (λ e. omega arith))
+
+    zero_ended : (d : Desk A F) → (ended d).mails 0 ≡ d.mails 0
+    zero_ended d = keep_release (left_of nothing_kept d.event.held) (record { event = with_held (with_status d.event Ended) (kept_of nothing_kept d.event.held); mails = d.mails }) 0 (omega arith)
 
     -- what it gave up before
     old_there : Alive.Alive sys w course low is_real s g → (r : Path) → g.lines.holds r t ≡ true → w.held t k r ≡ false → Alive.PartingThere (s.cells t).mails (g.parting t r) r × (g.parting t r ≤ q.event.sent)
@@ -503,6 +528,17 @@ module _ {A F R J : Type 0} (sys : Actors A F R J) (w : Way) (law : IsWay w) (co
               upto : (a b : ℕ) → a ≤ b → a ≤ suc b
               upto a b l = omega arith
 
+      child_zero : (m : Mail F) → (s.cells t).mails 0 ≡ None → (finish go child_path (send (desk_with q.event.held) m)).mails 0 ≡ None
+      child_zero m e = by go
+        where
+          by : (j : Bool) → (finish j child_path (send (desk_with q.event.held) m)).mails 0 ≡ None
+          by false = zero_sent (desk_with q.event.held) m ∙ e
+          by true = keep_release (left_of (is_above child_path) q.event.held) (record { event = with_held (send (desk_with q.event.held) m).event (kept_of (is_above child_path) q.event.held); mails = (send (desk_with q.event.held) m).mails }) 0 (omega arith) ∙ zero_sent (desk_with q.event.held) m ∙ e
+
+      kid_housed : Alive.Alive sys w course low is_real s g → (o : Option Child) (i : ℕ) → i ≤ (child_trail o (g.trail child_path)).last → (child_trail o (g.trail child_path)).at i < course.hosts
+      kid_housed a None i m = subst (λ u. u < course.hosts) (sym f.host_is) (a.housed p (g.trail p).last (omega arith))
+      kid_housed a (Some u) i m = a.housed child_path i m
+
       child_main : (m : Mail F) → (finish go child_path (send (desk_with q.event.held) m)).mails (suc q.event.sent) ≡ Some m
       child_main m = by go
         where
@@ -667,6 +703,10 @@ module _ {A F R J : Type 0} (sys : Actors A F R J) (w : Way) (law : IsWay w) (co
           lined = λ e. absurd (entering_lined e);
           away = λ e. absurd (clash _ f.stored (ap (λ j. j.stored) (sym (trail_off p apart_p)) ∙ e));
           kids = λ u o e. elim (step_or u) [ inl n ↦ inr (record { ticket = t; first = omega (arith, hs.later); known = hs.known; comes = subst (λ i. visits w t (p ++ i ∷ []) ≡ true) n.1 comes_now }) | inr n ↦ elim (a.kids p u o (ap (λ j. child_at j.children u) (sym whole) ∙ ap (λ j. cond j (Some next_kid) (child_at hd.body.children u)) (sym n.0) ∙ sym (child_put hd.body.children st u next_kid) ∙ ap (λ (b : Record F). child_at b.children u) (sym (set_at_path g.body p body_new)) ∙ e)) [ inl m ↦ inl m | inr m ↦ inr (record { ticket = m.ticket; first = m.first; known = m.known; comes = m.comes }) ] ];
+          housed = Tracks.housed_set course.hosts g.trail child_path (child_trail (child_at hd.body.children st) (g.trail child_path)) a.housed (λ i m. kid_housed a (child_at hd.body.children st) i m);
+          no_zero = ap (λ (u : Part A F R). u.cell.mails 0) ye ∙ child_zero mail_new (a.no_zero t);
+          waits_next = λ f o. refl;
+          stale = λ e. absurd (entering_coming e);
         }
           where
             comes_now : visits w t child_path ≡ true
@@ -737,6 +777,10 @@ module _ {A F R J : Type 0} (sys : Actors A F R J) (w : Way) (law : IsWay w) (co
           lined = λ e. absurd (coming_lined e);
           away = λ e. absurd (clash _ f.stored e);
           kids = same_kids z_old (ap (λ (u : Record F). u.children) whole) a;
+          housed = a.housed;
+          no_zero = ap (λ (u : Part A F R). u.cell.mails 0) ye ∙ child_zero mail_old (a.no_zero t);
+          waits_next = λ f o. refl;
+          stale = λ e. stale;
         }
           where
             mail_old : Mail F
@@ -826,6 +870,10 @@ module _ {A F R J : Type 0} (sys : Actors A F R J) (w : Way) (law : IsWay w) (co
         lined = λ e. absurd (coming_lined e);
         away = λ e. absurd (clash _ f.stored e);
         kids = same_kids z_back (ap (λ (u : Record F). u.children) whole_b) a;
+        housed = a.housed;
+        no_zero = ap (λ (u : Part A F R). u.cell.mails 0) ye ∙ zero_sent (desk_with q.event.held) mail_back ∙ a.no_zero t;
+        waits_next = λ f o. refl;
+        stale = λ e. i.stale;
       }
 
     -- the end
@@ -834,7 +882,7 @@ module _ {A F R J : Type 0} (sys : Actors A F R J) (w : Way) (law : IsWay w) (co
       pub fields : (course.leaf t (suc k) P).0 ≡ (left).fields
       pub steps : (course.leaf t (suc k) P).1 ≡ (course.leaf t k P).1
       pub result_is : course.result t (suc k) ≡ Some r
-      pub moves : (a : Path) (to : ℕ) → sys.moved r ≡ Some (a, to) → a ≡ P
+      pub moves : (a : Path) (to : ℕ) → sys.moved r ≡ Some (a, to) → (a ≡ P) × (to < course.hosts)
       pub looking : w.looks t P ≡ true → sys.moved r ≡ None
       pub unchanged : w.looks t P ≡ true → course.leaf t (suc k) P ≡ course.leaf t k P
 
@@ -939,6 +987,10 @@ module _ {A F R J : Type 0} (sys : Actors A F R J) (w : Way) (law : IsWay w) (co
           lined = λ e. absurd (done_lined e);
           away = λ e. absurd (clash _ f.stored e);
           kids = same_kids z_look refl a;
+          housed = a.housed;
+          no_zero = ap (λ (u : Part A F R). u.cell.mails 0) ye ∙ zero_ended (desk_with q.event.held) ∙ a.no_zero t;
+          waits_next = λ f o. refl;
+          stale = λ e. absurd (done_coming e);
         }
 
       module _ (no : w.looks t p ≡ false) where
@@ -990,6 +1042,10 @@ module _ {A F R J : Type 0} (sys : Actors A F R J) (w : Way) (law : IsWay w) (co
           lined = λ e. absurd (done_lined e);
           away = λ e. absurd (clash _ f.stored e);
           kids = same_kids z_end (ap (λ (u : Record F). u.children) whole_e) a;
+          housed = a.housed;
+          no_zero = ap (λ (u : Part A F R). u.cell.mails 0) ye ∙ zero_ended (desk_with q.event.held) ∙ a.no_zero t;
+          waits_next = λ f o. refl;
+          stale = λ e. absurd (done_coming e);
         }
 
         -- a move to another host
@@ -1094,8 +1150,8 @@ module _ {A F R J : Type 0} (sys : Actors A F R J) (w : Way) (law : IsWay w) (co
             }));
           }
 
-          pub lives_moved : y ≡ y_moved → Alive.Alive sys w course low is_real s g → Lives z_moved
-          lives_moved ye a = record {
+          pub lives_moved : to < course.hosts → y ≡ y_moved → Alive.Alive sys w course low is_real s g → Lives z_moved
+          lives_moved within ye a = record {
             waiting = refl;
             entering = λ e. absurd (done_entering e);
             coming = λ e. absurd (done_coming e);
@@ -1114,6 +1170,10 @@ module _ {A F R J : Type 0} (sys : Actors A F R J) (w : Way) (law : IsWay w) (co
             lined = λ e. absurd (done_lined e);
             away = λ e. nothing_held i.last_is p;
             kids = same_kids z_moved (ap (λ (u : Record F). u.children) whole_e) a;
+            housed = Tracks.housed_set course.hosts g.trail p (sent_on (g.trail p) to) a.housed (Tracks.housed_sent course.hosts (g.trail p) to within (a.housed p));
+            no_zero = ap (λ (u : Part A F R). u.cell.mails 0) ye ∙ zero_ended (send (desk_with rest) transfer) ∙ zero_sent (desk_with rest) transfer ∙ a.no_zero t;
+            waits_next = λ f o. refl;
+            stale = λ e. absurd (done_coming e);
           }
             where
               upto : (a b : ℕ) → a ≤ b → a ≤ suc b

@@ -167,7 +167,7 @@ module _ {A F R J : Type 0} (sys : Actors A F R J) (hosts : ℕ) (fits : Path �
         let leaf : course.leaf (suc (b.before + n)) 0 p ≡ Courses.leaf_of (at n).tree p = ap (λ t. course.leaf t 0 p) (let z : suc (b.before + n) ≡ suc b.before + n = omega arith in z) ∙ ap (λ (v : View A F R). v.leaf 0 p) (view_later sys hosts fits is_job fine owes b batches begins jobs n) ∙ leaf_first sys hosts fits is_job fine owes b batches begins jobs n (job_after sys b batches n) p in
         (ap (λ (u : Record F). u.fields) same ∙ l.fields ∙ ap (λ (u : F × List Step). u.0) leaf, ap (λ (u : Record F). steps_of u.children) same ∙ l.steps ∙ ap (λ (u : F × List Step). u.1) leaf)
 
-    owner_is : (p : Path) (h : ℕ) → IsOwner s p h → h ≡ owner ((k.ghost).trail p)
+    pub owner_is : (p : Path) (h : ℕ) → IsOwner s p h → h ≡ owner ((k.ghost).trail p)
     owner_is p h (inl e) = (let o = option_some ((s.columns p).store h) e in (found sys w course b.before Is_real k.ghost p (s.columns p) h o.0 (x.columns p) o.1).host_is)
     owner_is p h (inr e) = (let n = mail_known e.ticket e.number _ e.mail in ((x.cells e.ticket n.0 n.1).mails e.number _ e.mail).0.host_is)
 
@@ -179,6 +179,11 @@ module _ {A F R J : Type 0} (sys : Actors A F R J) (hosts : ℕ) (fits : Path �
       cells = λ t n. x.no_cells t (λ l m. n (subst (λ i. i < t) (sym x.before) l) (subst (λ i. t ≤ i) (x.admitted ∙ ap (λ i. i + s.admitted) (sym x.before)) m));
       mails = λ t i e p l. let n = Reached.known sys hosts fits is_job fine owes b batches begins jobs s k.ghost x t (λ q. none_not (sym (ap (λ (u : Cell A F R). u.event) q) ∙ p)) in
           let c = x.cells t n.0 n.1 in c.unused i (subst (λ (u : Event A). u.sent < i) (some_same e c.event (sym p ∙ c.event_is)) l);
+      from_one = (k.alive).no_zero;
+      columns = λ q st h en r se be ce i. let f = found sys w course b.before Is_real k.ghost q (s.columns q) h en (x.columns q) se in
+          let same : r ≡ (k.ghost).body q = (x.entries q).body r (ap (λ (u : Entry F). u.body) (sym f.entry_is) ∙ be) in
+          let c : Shows.Unborn sys w course b.before Is_real k.ghost (q ++ st ∷ []) (s.columns (q ++ st ∷ [])) = subst (λ o. Shows.ColumnShows sys w course b.before Is_real o k.ghost (q ++ st ∷ []) (s.columns (q ++ st ∷ []))) ((x.entries q).strangers st (ap (λ (u : Record F). child_at u.children st) (sym same) ∙ ce)) (x.columns (q ++ st ∷ [])) in
+          (c.empty.no_entry i, c.empty.no_marks i);
     }
 
     -- the fold's results stay, as it goes on

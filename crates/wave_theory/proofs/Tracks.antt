@@ -1,10 +1,12 @@
 -- The trail of one context: the hosts on which it was, its marks, and where an Enter that has followed so many lies.
+use Rattle.wave_base.specs.Paths.{path_eq}
+use Rattle.wave_base.specs.declared.path.Path.{Path}
 use Rattle.std.proofs.Common.{◌≡◌, ◌≢◌, ℕ, suc, ◌<◌, ◌≤◌, ◌⊎◌, inl, inr, nat_eq, nat_lt, Bool, true, false, Option, Some, None, is_some, refl, sym, ◌∙◌, ap, subst, arith}
 use Rattle.std.specs.Prelude.{if◌then◌else◌}
 use Rattle.std.proofs.lemmas.Bool.Decides.{nat_tests}
 use Rattle.wave_states.specs.States.{set, Mark, Column, Entry}
 use Rattle.wave_states.specs.Steps.{Route, Deliver, Born, Wait, Forward, route, route_by, with_entry, departed, landed}
-use Rattle.wave_theory.proofs.Basics.{bool_cases, clash, some_same, none_not, options, number_cases, not_same, set_at, set_there}
+use Rattle.wave_theory.proofs.Basics.{bool_cases, clash, some_same, none_not, options, number_cases, not_same, set_at, set_there, path_cases, set_at_path}
 use Rattle.wave_theory.proofs.Ranks.{le_cases}
 
 -- host number i of the trail, the number of the last, and whether the entry is in the last one's store or on its way there
@@ -246,3 +248,22 @@ module _ {F : Type 0} where
   -- the store that has an entry is the last one's
   pub store_at : (c : Column F) (t : Trail) (h : ℕ) (e : Entry F) → Track c t → c.store h ≡ Some e → (t.stored ≡ true) × (h ≡ t.at t.last)
   store_at c t h e k s = k.store_is h (ap is_some s)
+
+-- hosts of trails
+pub housed_set : (n : ℕ) (f : Path → Trail) (p : Path) (r : Trail) → ((q : Path) (i : ℕ) → i ≤ (f q).last → (f q).at i < n) → ((i : ℕ) → i ≤ r.last → r.at i < n) → (q : Path) (i : ℕ) → i ≤ (set path_eq f p r q).last → (set path_eq f p r q).at i < n
+housed_set n f p r h k q i l = elim (path_cases p q) [
+  | inl d ↦ subst (λ (u : Trail). u.at i < n) (sym (subst (λ a. set path_eq f p r a ≡ r) d (set_at_path f p r))) (k i (subst (λ (u : Trail). i ≤ u.last) (subst (λ a. set path_eq f p r a ≡ r) d (set_at_path f p r)) l))
+  | inr d ↦ subst (λ (u : Trail). u.at i < n) (sym (set_there path_eq f p r q d)) (h q i (subst (λ (u : Trail). i ≤ u.last) (set_there path_eq f p r q d) l))
+]
+
+pub housed_grown : (n : ℕ) (r : Trail) → ((i : ℕ) → i ≤ r.last → r.at i < n) → (i : ℕ) → i ≤ 0 → r.at i < n
+housed_grown n r h i l = h i (omega (arith, l))
+
+pub housed_sent : (n : ℕ) (r : Trail) (to : ℕ) → to < n → ((i : ℕ) → i ≤ r.last → r.at i < n) → (i : ℕ) → i ≤ (sent_on r to).last → (sent_on r to).at i < n
+housed_sent n r to m h i l = elim (number_cases (suc r.last) i) [
+  | inl e ↦ subst (λ a. a < n) (sym (subst (λ j. set nat_eq r.at (suc r.last) to j ≡ to) e (set_at r.at (suc r.last) to))) m
+  | inr e ↦ subst (λ a. a < n) (sym (set_there nat_eq r.at (suc r.last) to i e)) (h i (less_one i r.last l e))
+]
+  where
+    less_one : (i n : ℕ) → i ≤ suc n → nat_eq (suc n) i ≡ false → i ≤ n
+    less_one i n l e = grind (arith, nat_tests)

@@ -1,15 +1,17 @@
 -- What the laws say of a state that a list of labels leads to.
-use Rattle.std.specs.Prelude.{◌≡◌, ◌↔◌, ◌∷◌, ◌++◌, ◌<◌, ◌≤◌, ◌⊎◌, ◌+◌, ℕ, suc, true, if◌then◌else◌, List, [], Some, None, slice_get, All, ◌≢◌, is_some}
+use Rattle.std.specs.Prelude.{◌≡◌, ◌*◌, false, ◌↔◌, ◌∷◌, ◌++◌, ◌<◌, ◌≤◌, ◌⊎◌, ◌+◌, ℕ, suc, true, if◌then◌else◌, List, [], Some, None, slice_get, All, ◌≢◌, is_some}
 use Rattle.wave_base.specs.declared.path.Path.{Path}
 use Rattle.wave_base.specs.Tree.{there, children_of}
 use Rattle.wave_base.specs.Fold.{Progress}
 use Rattle.wave_base.specs.Places.{load_of}
 use Rattle.wave_states.specs.Actors.{Actors}
 use Rattle.wave_states.specs.States.{State, Hand, Entry, Record, Claim, Mail, Enter, Transfer, Ask, steps_of, Mark}
-use Rattle.wave_states.specs.Labels.{Act, Label, Admit, Stop, Pass, Commit, ticket_of, path_of}
+use Rattle.wave_states.specs.Labels.{Act, Label, Admit, Stop, Pass, Land, Commit, ticket_of, path_of, is_stop, is_pass}
+use Rattle.wave_states.specs.Canonical.{enabled, idle_in, below}
 use Rattle.wave_states.specs.Steps.{step, route, Wait}
 use Rattle.wave_states.specs.Runs.{run, Finished}
-use Rattle.wave_states.specs.Alone.{fold_alone}
+use Rattle.wave_states.specs.Alone.{fold_alone, job_after}
+use Rattle.wave_states.specs.Work.{Work, work_after}
 use Rattle.wave_states.specs.Begins.{Begin, start_state, is_root}
 use Rattle.wave_states.specs.Owes.{IsBegin, IsPlan}
 use Rattle.wave_states.specs.Owners.{IsComing, IsOwner}
@@ -18,10 +20,14 @@ use Rattle.wave_base.specs.declared.children.Child.{Child}
 use Rattle.wave_base.specs.Kids.{child_at}
 
 module _ {A F R J : Type 0} (sys : Actors A F R J) (hosts : ℕ) (fits : Path → F → Type 0) (is_job : J → Type 0) (fine : A → Path → ℕ → Type 0) where
-  -- It holds in every state that a list of labels leads to, for every plan and Begin that fit.
+  -- It holds of every list of labels and the state that it leads to, for every plan and Begin that fit.
+  abbrev pub AlwaysOf : (ℕ → Begin F → List (List J) → List Label → State A F R J → Type 0) → Type 0
+  AlwaysOf Law = (workers : ℕ) (b : Begin F) (batches : List (List J)) → IsBegin sys hosts fits is_job fine b → IsPlan sys hosts fits is_job fine workers batches →
+      (labels : List Label) (s : State A F R J) → run sys workers (start_state b batches) labels ≡ Some s → Law workers b batches labels s
+
+  -- and says nothing of the labels but to which state they lead
   abbrev pub AlwaysBy : (ℕ → Begin F → List (List J) → State A F R J → Type 0) → Type 0
-  AlwaysBy Law = (workers : ℕ) (b : Begin F) (batches : List (List J)) → IsBegin sys hosts fits is_job fine b → IsPlan sys hosts fits is_job fine workers batches →
-      (labels : List Label) (s : State A F R J) → run sys workers (start_state b batches) labels ≡ Some s → Law workers b batches s
+  AlwaysBy Law = AlwaysOf (λ workers b batches labels s. Law workers b batches s)
 
   -- and says nothing of how many workers there are
   abbrev pub Always : (Begin F → List (List J) → State A F R J → Type 0) → Type 0
@@ -89,10 +95,14 @@ module _ {A F R J : Type 0} where
   abbrev pub OneOwner : State A F R J → Type 0
   OneOwner s = (p : Path) (h h' : ℕ) → IsOwner s p h → IsOwner s p h' → h ≡ h'
 
-  -- None but where the lists say so: no cell but of an admitted ticket, no mail past those that were sent.
+  -- None but where the lists say so: no cell but of an admitted ticket, no mail but under the numbers that were sent, no entry and no mark
+  -- for a context but where its parent's record has it as a child.
   pub record Bounds (s : State A F R J) : Type 0 where
     pub cells : (t : ℕ) → (s.before < t → t ≤ s.before + s.admitted → ⊥) → s.cells t ≡ record { event = None; mails = λ k. None; result = None }
     pub mails : (t k : ℕ) (e : _) → (s.cells t).event ≡ Some e → e.sent < k → (s.cells t).mails k ≡ None
+    pub from_one : (t : ℕ) → (s.cells t).mails 0 ≡ None
+    pub columns : (q : Path) (st : Step) (host : ℕ) (en : Entry F) (r : Record F) → (s.columns q).store host ≡ Some en → en.body ≡ Some r → child_at r.children st ≡ None →
+        (h : ℕ) → ((s.columns (q ++ st ∷ [])).store h ≡ None) × ((s.columns (q ++ st ∷ [])).gone h ≡ None)
 
   -- an Enter to the context lies at the place of the trail up to which it followed
   abbrev pub EntersLie : State A F R J → Path → Trail → Type 0
@@ -178,3 +188,35 @@ module _ {A F R J : Type 0} (sys : Actors A F R J) where
   -- By owners. By which host each label is taken.
   abbrev pub ByOwners : ℕ → Begin F → List (List J) → State A F R J → Type 0
   ByOwners workers b batches s = (l : Label) (v : State A F R J) → step sys workers s l ≡ Some v → OwnerTakes s v l.act l.host
+
+-- x is one of the list
+abbrev pub IsIn : {X : Type 0} → List X → X → Type 0
+IsIn [] x = ⊥
+IsIn (y ∷ ys) x = (y ≡ x) ⊎ IsIn ys x
+
+module _ {A F R J : Type 0} (sys : Actors A F R J) (hosts workers : ℕ) where
+  -- Canonical list. A label is in it exactly where it is enabled and is a Stop, or the lowest idle worker's.
+  abbrev pub Listed : Begin F → List (List J) → State A F R J → Type 0
+  Listed b batches s = (l : Label) → IsIn (enabled sys workers hosts s) l ↔ ((is_some (step sys workers s l) ≡ true) × (is_stop l.act ≡ false → idle_in sys workers hosts s (below workers) ≡ Some l.worker))
+
+  -- One host. On one host no Pass and no Land is ever enabled.
+  abbrev pub OneHost : Begin F → List (List J) → State A F R J → Type 0
+  OneHost b batches s = hosts ≡ 1 → (worker host t k : ℕ) (p : Path) →
+      ((to : ℕ) → step sys workers s (record { worker = worker; host = host; act = Pass t k p to }) ≡ None) ×
+      (step sys workers s (record { worker = worker; host = host; act = Land t k p }) ≡ None)
+
+-- how many labels are no Passes
+abbrev pub taken : List Label → ℕ
+taken [] = 0
+taken (l ∷ ls) = if is_pass l.act then taken ls else suc (taken ls)
+
+-- two for each ticket, three for each segment, two for each context that a ticket enters
+abbrev pub size : Work → ℕ
+size x = 2 * x.tickets + 3 * x.segments + 2 * x.entered
+
+module _ {A F R J : Type 0} (sys : Actors A F R J) where
+  -- Counted. However the labels are chosen, all but the Passes are at most as many as the work of the whole fold asks for; and in a
+  -- finished state exactly as many.
+  pub record Counted (workers : ℕ) (b : Begin F) (batches : List (List J)) (labels : List Label) (s : State A F R J) : Type 0 where
+    pub within : (n : ℕ) → job_after sys b batches n ≡ None → taken labels ≤ size (work_after sys b batches n)
+    pub exactly : Finished sys workers s → taken labels ≡ size (work_after sys b batches s.head.done)

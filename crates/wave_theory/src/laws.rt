@@ -1,5 +1,5 @@
 ghost use Rattle.wave_theory.specs.Laws.{HandsStay, Independent};
-ghost use Rattle.wave_theory.specs.States.{Always, AlwaysBy, ByOwners, Complete, NeverStuck, Results, Tickets, Numbers, Records, OneOwner, Trails, Bounds};
+ghost use Rattle.wave_theory.specs.States.{Always, AlwaysBy, AlwaysOf, ByOwners, Complete, Counted, Listed, NeverStuck, OneHost, Results, Tickets, Numbers, Records, OneOwner, Trails, Bounds};
 
 use crate::acting::Acting;
 
@@ -61,4 +61,19 @@ pub fn complete<T: Acting>()
 /// Each label that acts on a context is taken by the host that owns it.
 pub fn by_owners<T: Acting>()
     ensures { (c : T.Code) → AlwaysBy (T.system c) (T.hosts c) (T.fits c) (T.is_job c) (T.fine c) (ByOwners (T.system c)) }
+{}
+
+/// The canonical list has exactly what is enabled, by the lowest idle worker.
+pub fn listed<T: Acting>()
+    ensures { (c : T.Code) → AlwaysBy (T.system c) (T.hosts c) (T.fits c) (T.is_job c) (T.fine c) (λ workers. Listed (T.system c) (T.hosts c) workers) }
+{}
+
+/// On one host nothing is passed on, and nothing lands.
+pub fn one_host<T: Acting>()
+    ensures { (c : T.Code) → AlwaysBy (T.system c) (T.hosts c) (T.fits c) (T.is_job c) (T.fine c) (λ workers. OneHost (T.system c) (T.hosts c) workers) }
+{}
+
+/// How many labels a run takes, its Passes aside.
+pub fn counted<T: Acting>()
+    ensures { (c : T.Code) → AlwaysOf (T.system c) (T.hosts c) (T.fits c) (T.is_job c) (T.fine c) (Counted (T.system c)) }
 {}
