@@ -7,6 +7,7 @@ pub mod Beginning
 pub mod Canon
 pub mod Commute
 pub mod Courses
+pub mod Deeds
 pub mod Desks
 pub mod Folds
 pub mod Found
