@@ -89,7 +89,7 @@ Suits (Stop t p) (Moves to) = Unit {0}
 Suits _ _ = ⊥
 
 module _ {A F R J : Type 0} (sys : Actors A F R J) (w : Way) (course : Course sys) (low : ℕ) (is_real : ℕ → Type 0) where
-  module _ (s : State A F R J) (g g' : Shows.Ghost F) (t : ℕ) (p : Path) where
+  module _ (g : Shows.Ghost F) (t : ℕ) (p : Path) where
     pub record LinesUp : Type 0 where
       pub stage : g.lines.stage t ≡ Entering
       pub place : here w g.lines t ≡ p
@@ -112,16 +112,6 @@ module _ {A F R J : Type 0} (sys : Actors A F R J) (w : Way) (course : Course sy
       pub more : suc (g.lines.pos t) ≤ w.last t
       pub stale : w.fresh t (suc (g.lines.pos t)) ≡ false
 
-    pub record GoesIn (st : Step) (r : Trail) : Type 0 where
-      pub stopped : Stopped
-      pub more : suc (g.lines.pos t) ≤ w.last t
-      pub fresh : w.fresh t (suc (g.lines.pos t)) ≡ true
-      pub next : w.place t (suc (g.lines.pos t)) ≡ p ++ st ∷ []
-      pub latest : rank w p t ≡ g.lines.served p
-      pub number : rank w (p ++ st ∷ []) t ≡ suc (g.lines.given (p ++ st ∷ []))
-      pub trail : ((c : Child) × (child_at (g.body p).children st ≡ Some c) × (r ≡ g.trail (p ++ st ∷ []))) ⊎ ((r ≡ unborn (owner (g.trail p))) × (g.lines.given (p ++ st ∷ []) ≡ 0) × (g.born (p ++ st ∷ []) ≡ false))
-      pub main : (e : Event A) → (s.cells t).event ≡ Some e → g'.main t ≡ suc e.sent
-
     -- of one that ends with a result
     pub record Ended (move : R → Type 0) : Type 0 where
       pub stopped : Stopped
@@ -139,17 +129,29 @@ module _ {A F R J : Type 0} (sys : Actors A F R J) (w : Way) (course : Course sy
     abbrev pub Stays : R → Type 0
     Stays r = (sys.moved r ≡ None) ⊎ (sys.moved r ≡ Some (p, owner (g.trail p)))
 
+  module _ (s : State A F R J) (g g' : Shows.Ghost F) (t : ℕ) (p : Path) where
+    -- of one that goes on in a child that it enters
+    pub record GoesIn (st : Step) (r : Trail) : Type 0 where
+      pub stopped : Stopped g t p
+      pub more : suc (g.lines.pos t) ≤ w.last t
+      pub fresh : w.fresh t (suc (g.lines.pos t)) ≡ true
+      pub next : w.place t (suc (g.lines.pos t)) ≡ p ++ st ∷ []
+      pub latest : rank w p t ≡ g.lines.served p
+      pub number : rank w (p ++ st ∷ []) t ≡ suc (g.lines.given (p ++ st ∷ []))
+      pub trail : ((c : Child) × (child_at (g.body p).children st ≡ Some c) × (r ≡ g.trail (p ++ st ∷ []))) ⊎ ((r ≡ unborn (owner (g.trail p))) × (g.lines.given (p ++ st ∷ []) ≡ 0) × (g.born (p ++ st ∷ []) ≡ false))
+      pub main : (e : Event A) → (s.cells t).event ≡ Some e → g'.main t ≡ suc e.sent
+
     abbrev pub Fits : Deed → Type 0
     Fits Admits = (t ≡ suc g.lines.admitted) × (g.lines.stage t ≡ Done)
-    Fits Lines_up = LinesUp
-    Fits Lets_in = LetsIn
+    Fits Lines_up = LinesUp g t p
+    Fits Lets_in = LetsIn g t p
     Fits Arrives = (g.lines.stage t ≡ Coming)
     Fits Rests = Unit {0}
     Fits Lands = Unit {0}
-    Fits Goes_on = GoesOn
-    Fits Ends = Ended Stays
+    Fits Goes_on = GoesOn g t p
+    Fits Ends = Ended g t p (Stays g t p)
     Fits (Goes_in st r) = GoesIn st r
-    Fits (Moves to) = Ended (Sends to)
+    Fits (Moves to) = Ended g t p (Sends g t p to)
 
     -- the children that a record has, it had, or they have entry numbers now
     abbrev pub Kids : Type 0

@@ -2,6 +2,7 @@ pub mod Admitting
 pub mod Able
 pub mod Alive
 pub mod Alone
+pub mod Along
 pub mod Basics
 pub mod Beginning
 pub mod Canon
@@ -15,6 +16,7 @@ pub mod Frames
 pub mod Freeing
 pub mod Granting
 pub mod Held
+pub mod Homes
 pub mod Hosts
 pub mod Leaves
 pub mod Live
@@ -29,6 +31,7 @@ pub mod Queueing
 pub mod Ranks
 pub mod Reached
 pub mod Shows
+pub mod Sites
 pub mod Sizes
 pub mod Starting
 pub mod Stopping

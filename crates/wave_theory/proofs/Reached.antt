@@ -437,7 +437,7 @@ module _ {A F R J : Type 0} (sys : Actors A F R J) (hosts : ℕ) (fits : Path �
       apart : (a t : ℕ) → a < t → t ≤ a → ⊥
       apart a t l m = omega arith
 
-  first_good : 0 < hosts → Goes (start_state b batches) 0
+  pub first_good : 0 < hosts → Goes (start_state b batches) 0
   first_good some_host = record { good = record { ghost = Beginning.ghost₀ sys hosts fits is_job fine owes b batches begins jobs; shows = Beginning.start_shows sys hosts fits is_job fine owes b batches begins jobs; heads = first_heads; alive = first_alive some_host; tally = λ t. 0; tallied = record { counted = λ t l m. absurd (apart b.before t l m); stale = λ t l m e. absurd (apart b.before t l m) } }; counts = ap₂ (λ a d. a + d) (Tallies.sum_zero (λ i. 0)) (Folds.zero_done sys b batches) }
     where
       apart : (a t : ℕ) → a < t → t ≤ a → ⊥
