@@ -1,5 +1,6 @@
 -- What a label does to the lines, to what is born, and to the trails, in one place: the laws that count labels rest on this alone.
-use Rattle.std.proofs.Common.{◌≡◌, ◌≢◌, ℕ, suc, ◌<◌, ◌≤◌, ◌⊎◌, nat_eq, Bool, true, false, Some, None, [], ◌∷◌, ◌++◌}
+use Rattle.std.proofs.Common.{◌≡◌, ◌≢◌, ℕ, suc, ◌<◌, ◌≤◌, ◌⊎◌, inl, inr, nat_eq, Bool, true, false, Some, None, [], ◌∷◌, ◌++◌, refl, subst}
+use Rattle.wave_theory.proofs.Basics.{set_there}
 use Rattle.wave_base.specs.declared.path.Step.{Step}
 use Rattle.wave_base.specs.declared.path.Path.{Path}
 use Rattle.wave_base.specs.declared.children.Child.{Child}
@@ -156,6 +157,32 @@ module _ {A F R J : Type 0} (sys : Actors A F R J) (w : Way) (course : Course sy
     -- the children that a record has, it had, or they have entry numbers now
     abbrev pub Kids : Type 0
     Kids = (q : Path) (st : Step) (c : Child) → child_at (g'.body q).children st ≡ Some c → (child_at (g.body q).children st ≡ Some c) ⊎ (0 < c.given)
+
+  -- other tickets stay where they are
+  pub stays_off : (s : State A F R J) (g g' : Shows.Ghost F) (t : ℕ) (p : Path) (d : Deed) → Fits s g g' t p d → (u : ℕ) → nat_eq t u ≡ false → ((done_by w (outline g) t p d).stage u ≡ g.lines.stage u) × ((done_by w (outline g) t p d).pos u ≡ g.lines.pos u)
+  stays_off s g g' t p Admits f u n = (let m = subst (λ i. nat_eq i u ≡ false) f.0 n in (set_there nat_eq g.lines.stage (suc g.lines.admitted) Entering u m, set_there nat_eq g.lines.pos (suc g.lines.admitted) 0 u m))
+  stays_off s g g' t p Lines_up f u n = (set_there nat_eq g.lines.stage t Lined u n, refl)
+  stays_off s g g' t p Lets_in f u n = (set_there nat_eq g.lines.stage t There u n, refl)
+  stays_off s g g' t p Arrives f u n = (set_there nat_eq g.lines.stage t There u n, refl)
+  stays_off s g g' t p Rests f u n = (refl, refl)
+  stays_off s g g' t p Lands f u n = (refl, refl)
+  stays_off s g g' t p Goes_on f u n = (set_there nat_eq g.lines.stage t Coming u n, set_there nat_eq g.lines.pos t _ u n)
+  stays_off s g g' t p Ends f u n = (set_there nat_eq g.lines.stage t Done u n, set_there nat_eq g.lines.pos t _ u n)
+  stays_off s g g' t p (Goes_in st r) f u n = (set_there nat_eq g.lines.stage t Entering u n, set_there nat_eq g.lines.pos t _ u n)
+  stays_off s g g' t p (Moves to) f u n = (set_there nat_eq g.lines.stage t Done u n, set_there nat_eq g.lines.pos t _ u n)
+
+  -- one ticket more, or none
+  pub how_many : (s : State A F R J) (g g' : Shows.Ghost F) (t : ℕ) (p : Path) (d : Deed) → Fits s g g' t p d → ((done_by w (outline g) t p d).admitted ≡ g.lines.admitted) ⊎ (((done_by w (outline g) t p d).admitted ≡ suc g.lines.admitted) × (t ≡ suc g.lines.admitted))
+  how_many s g g' t p Admits f = inr (refl, f.0)
+  how_many s g g' t p Lines_up f = inl refl
+  how_many s g g' t p Lets_in f = inl refl
+  how_many s g g' t p Arrives f = inl refl
+  how_many s g g' t p Rests f = inl refl
+  how_many s g g' t p Lands f = inl refl
+  how_many s g g' t p Goes_on f = inl refl
+  how_many s g g' t p Ends f = inl refl
+  how_many s g g' t p (Goes_in st r) f = inl refl
+  how_many s g g' t p (Moves to) f = inl refl
 
   -- what a label does
   pub record Turn (s : State A F R J) (g g' : Shows.Ghost F) (a : Act) : Type 0 where

@@ -28,6 +28,7 @@ use Rattle.wave_theory.proofs.Shows
 use Rattle.wave_theory.proofs.Deeds.{Outline, outline, Deed, done_by, with_stage}
 use Rattle.wave_theory.proofs.Deeds
 use Rattle.wave_theory.proofs.Sites
+use Rattle.wave_theory.proofs.Tallies.{sum_to, sum_zero}
 use Rattle.wave_theory.proofs.Reached
 
 abbrev pub is_done : Stage → Bool
@@ -143,7 +144,7 @@ module _ {A F R J : Type 0} (sys : Actors A F R J) (hosts : ℕ) (fits : Path �
     o = outline g
 
     -- a ticket that is under way
-    known_by : (t : ℕ) → g.lines.stage t ≢ Done → (b.before < t) × (t ≤ g.lines.admitted)
+    pub known_by : (t : ℕ) → g.lines.stage t ≢ Done → (b.before < t) × (t ≤ g.lines.admitted)
     known_by t n = elim (below_or b.before t) [
       | inr l ↦ absurd (n (x.idle t (λ i m. absurd (omega (arith, i, l)))).0)
       | inl l ↦ elim (below_or g.lines.admitted t) [
@@ -644,8 +645,99 @@ module _ {A F R J : Type 0} (sys : Actors A F R J) (hosts : ℕ) (fits : Path �
     by_deed g' t p (Deeds.Goes_in st r) f kids = goes_in_homes t p g' st r f kids
     by_deed g' t p (Deeds.Moves to) f kids = moves_homes t p (record { stage = f.stopped.stage; place = f.stopped.place }) f.last f.result f.result_is to (record { moved = f.move_is.moved; other = f.move_is.other; stored = f.move_is.stored; latest = f.move_is.latest })
 
+    -- how often a context was sent on to which a ticket is on its way, or where one was
+    pub sent_so_often : ((p : Path) → g.lines.served p ≤ rank w p g.lines.admitted) → (t : ℕ) (p : Path) → b.before < t → t ≤ g.lines.admitted → w.entered t (g.lines.pos t) p ≡ true → (m : ℕ) × (i : ℕ) × (j : J) × Job i j × (m ≤ suc i) × ((g.trail p).last ≡ shifts p m)
+    sent_so_often few t p lt la en = by (equal_or (early p) (g.lines.served p) (h.from p))
+      where
+        equal_or : (a c : ℕ) → a ≤ c → (c ≡ a) ⊎ (a < c)
+        equal_or a c l = grind arith
+
+        rt : Courses.Real sys hosts fits is_job fine owes b batches begins jobs t
+        rt = real_of t lt la
+
+        v : visits w t p ≡ true
+        v = visits_of sys w law course b.before Is_real g x.good t p la en
+
+        upto : (a : ℕ) → a ≤ a
+        upto a = omega arith
+
+        later : (a : ℕ) → early p < rank w p a → b.before < a
+        later a m = above b.before a (rank w p a) (rank w p b.before) (early p) (λ l. rank_up_to w p a b.before l) (rank_early p) m
+          where
+            above : (c a ra rc e : ℕ) → (a ≤ c → ra ≤ rc) → rc ≡ e → e < ra → c < a
+            above c a ra rc e f k m = elim (below_or c a) [ inl z ↦ z | inr z ↦ absurd (let y = f z in omega (arith, y, k, m)) ]
+              where
+                below_or : (a c : ℕ) → (a < c) ⊎ (c ≤ a)
+                below_or a c = grind arith
+
+        at_stage : (d : Bool) (i : ℕ) → At d (spot_of (g.trail p)) i p → (m : ℕ) × (m ≤ suc i) × ((g.trail p).last ≡ shifts p m)
+        at_stage true i y = (suc i, upto (suc i), y.1)
+        at_stage false i y = (i, less i, y.1)
+          where
+            less : (a : ℕ) → a ≤ suc a
+            less a = omega arith
+
+        by : (g.lines.served p ≡ early p) ⊎ (early p < g.lines.served p) → (m : ℕ) × (i : ℕ) × (j : J) × Job i j × (m ≤ suc i) × ((g.trail p).last ≡ shifts p m)
+        by (inl z) = elim (bool_cases (there b.places p)) [
+          | inl th ↦ (0, rt.index, rt.job, rt.job_is, (let q : 0 ≤ suc rt.index = omega arith in q), (h.begun p z th).1)
+          | inr th ↦ (let a = rank_every w p t (suc (g.lines.served p)) (omega arith) (at_least _ _ _ z (subst (λ u. early p < rank w p u) (sym rt.ticket_is) (rank_after rt.index p (subst (λ u. visits w u p ≡ true) rt.ticket_is v)))) in
+              let lb : b.before < a.0 = later a.0 (more _ _ _ z a.4) in
+              let ka : a.0 ≤ g.lines.admitted = trans a.0 t g.lines.admitted a.2 la in
+              let r = real_of a.0 lb ka in
+              let k = (x.good.sends a.0 p a.1 a.3).1 (subst (λ n. n ≤ g.lines.given p) (sym a.4) (trans (suc (g.lines.served p)) (rank w p t) (g.lines.given p) (at_least _ _ _ z (subst (λ u. early p < rank w p u) (sym rt.ticket_is) (rank_after rt.index p (subst (λ u. visits w u p ≡ true) rt.ticket_is v)))) ((x.good.sends t p (first t lt) v).0 (record { known = la; entered = en })))) in
+              (r.index, r.index, r.job, r.job_is, (let q : r.index ≤ suc r.index = omega arith in q),
+                (h.new p r.index r.job r.job_is (subst (λ u. visits w u p ≡ true) r.ticket_is a.3) (sym (ap (rank w p) r.ticket_is) ∙ a.4) z th (subst (λ u. SentTo o u p) r.ticket_is (ka, k.entered))).1))
+        ]
+          where
+            first : (t : ℕ) → b.before < t → 1 ≤ t
+            first t l = omega (arith, l)
+
+            at_least : (e s r : ℕ) → s ≡ e → e < r → suc s ≤ r
+            at_least e s r z l = omega (arith, z, l)
+
+            more : (e s r : ℕ) → s ≡ e → r ≡ suc s → e < r
+            more e s r z l = omega (arith, z, l)
+
+            trans : (a c d : ℕ) → a ≤ c → c ≤ d → a ≤ d
+            trans a c d l m = omega (arith, l, m)
+        by (inr l) = (let a = rank_every w p g.lines.admitted (g.lines.served p) (positive _ _ l) (few p) in
+            let r = real_of a.0 (later a.0 (subst (λ n. early p < n) (sym a.4) l)) a.2 in
+            let y = at_stage (is_done (g.lines.stage (suc b.before + r.index))) r.index (h.last p r.index r.job r.job_is (subst (λ u. visits w u p ≡ true) r.ticket_is a.3) (sym (ap (rank w p) r.ticket_is) ∙ a.4)) in
+            (y.0, r.index, r.job, r.job_is, y.1, y.2))
+          where
+            positive : (a c : ℕ) → a < c → 1 ≤ c
+            positive a c l = omega (arith, l)
+
   pub homes_next : (s : State A F R J) (g g' : Shows.Ghost F) (a : Act) → Shows.Shows sys w course b.before Is_real s g → Deeds.Turn sys w course b.before Is_real s g g' a → Homes g → Homes g'
   homes_next s g g' a x t h = record {
     of = subst HomesOf (sym t.is) (by_deed s g x h.of g' (ticket_of a) (path_of a) t.deed t.fits h.kids);
     kids = λ q st c e. elim (t.kids q st c e) [ inl k ↦ h.kids q st c k | inr k ↦ inr k ];
   }
+
+  pub homes_first : Homes (Beginning.ghost₀ sys hosts fits is_job fine owes b batches begins jobs)
+  homes_first = record {
+    of = record {
+      old = λ p e. e;
+      from = λ p. upto (early p);
+      last = λ p i j e v n. absurd (past _ _ (rank_after i p v) n);
+      begun = λ p n e. at_begin p (sym (there_same p) ∙ e) (has_moved b p) refl;
+      new = λ p i j e v n m f k. absurd (not_yet i k.0);
+    };
+    kids = λ q st c e. inl (Beginning.kid_there sys hosts fits is_job fine owes b batches begins jobs q st c e);
+  }
+    where
+      upto : (a : ℕ) → a ≤ a
+      upto a = omega arith
+
+      past : (a c : ℕ) → a < c → c ≡ a → ⊥
+      past a c l e = omega (arith, l, e)
+
+      not_yet : (i : ℕ) → suc b.before + i ≤ b.before → ⊥
+      not_yet i l = omega (arith, l)
+
+      moved_sits : (p : Path) (i : Bool) → has_moved b p ≡ i → Sits (spot_of (Beginning.moved_trail sys hosts fits is_job fine owes b batches begins jobs i p)) 0 p
+      moved_sits p true m = (refl, sym (ap (λ i. (if i then 1 else 0) + sum_to 0 (Sites.shift sys hosts fits is_job fine owes b batches begins jobs p)) m ∙ ap (λ n. 1 + n) (sum_zero _)))
+      moved_sits p false m = (refl, sym (ap (λ i. (if i then 1 else 0) + sum_to 0 (Sites.shift sys hosts fits is_job fine owes b batches begins jobs p)) m ∙ ap (λ n. 0 + n) (sum_zero _)))
+
+      at_begin : (p : Path) → there b.tree p ≡ true → (i : Bool) → has_moved b p ≡ i → Sits (spot_of ((Beginning.ghost₀ sys hosts fits is_job fine owes b batches begins jobs).trail p)) 0 p
+      at_begin p e i m = subst (λ (r : Trail). Sits (spot_of r) 0 p) (sym (ap (λ u. if u then Beginning.moved_trail sys hosts fits is_job fine owes b batches begins jobs (has_moved b p) p else unborn 0) e ∙ ap (λ u. Beginning.moved_trail sys hosts fits is_job fine owes b batches begins jobs u p) m)) (moved_sits p i m)

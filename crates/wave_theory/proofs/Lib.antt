@@ -24,6 +24,7 @@ pub mod Maps
 pub mod Opened
 pub mod Order
 pub mod Own
+pub mod Passed
 pub mod Paths
 pub mod Paused
 pub mod Plans

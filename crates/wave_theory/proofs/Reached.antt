@@ -257,7 +257,7 @@ module _ {A F R J : Type 0} (sys : Actors A F R J) (hosts : ℕ) (fits : Path �
         at_or_below : (a b : ℕ) → a < suc b → (a < b) ⊎ (a ≡ b)
         at_or_below a b l = grind arith
 
-  idle_of : {X : Type 0} (o : Option X) {Y : Type 0} (p : Option Y) (y : Y) → (if Rattle.std.specs.Prelude.is_none o then p else None) ≡ Some y → (o ≡ None) × (p ≡ Some y)
+  pub idle_of : {X : Type 0} (o : Option X) {Y : Type 0} (p : Option Y) (y : Y) → (if Rattle.std.specs.Prelude.is_none o then p else None) ≡ Some y → (o ≡ None) × (p ≡ Some y)
   idle_of None p y e = (refl, e)
   idle_of (Some a) p y e = absurd (none_not e)
 
@@ -442,6 +442,10 @@ module _ {A F R J : Type 0} (sys : Actors A F R J) (hosts : ℕ) (fits : Path �
     where
       apart : (a t : ℕ) → a < t → t ≤ a → ⊥
       apart a t l m = omega arith
+
+  pub first_ghost : (some_host : 0 < hosts) → (first_good some_host).good.ghost ≡ Beginning.ghost₀ sys hosts fits is_job fine owes b batches begins jobs
+  unfolding first_good
+  first_ghost some_host = refl
 
   pub reached_by : 0 < hosts → (workers : ℕ) (s : State A F R J) (ls : List Label) → run sys workers (start_state b batches) ls ≡ Some s → Goes s (taken ls)
   reached_by some_host workers s ls e = (let f = first_good some_host in let r = run_good workers (start_state b batches) s ls f.good e in

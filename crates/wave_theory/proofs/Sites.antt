@@ -15,7 +15,7 @@ use Rattle.wave_states.specs.Actors.{Actors, Left, Pause, Go, Down, Over}
 use Rattle.wave_states.specs.Begins.{Begin, has_moved, is_root}
 use Rattle.wave_states.specs.Owes.{Owes, IsBegin, MovesOnly}
 use Rattle.wave_states.specs.Alone.{Alone, has, into, goes_on, next_alone, segment_if, segment_alone, after_segments, fold_alone, run_alone, job_after, moves_in, places_alone}
-use Rattle.wave_states.specs.Work.{moves_away}
+use Rattle.wave_states.specs.Work.{moves_away, work_after, work_of_job}
 use Rattle.wave_theory.proofs.Basics.{clash, none_not, options, bool_cases, path_cases, path_is, path_self}
 use Rattle.wave_theory.proofs.Order.{Way, IsWay, visits, rank}
 use Rattle.wave_theory.proofs.Ranks.{rank_in, rank_out, rank_up_to}
@@ -25,7 +25,7 @@ use Rattle.wave_theory.proofs.Courses.{view_real, done_at, View, entered_after}
 use Rattle.wave_theory.proofs.Courses
 use Rattle.wave_theory.proofs.Ways.{next_is, stays_over, Counts}
 use Rattle.wave_theory.proofs.Plans.{first_of, last_of, counts}
-use Rattle.wave_theory.proofs.Tallies.{sum_to, sum_zero, sum_more}
+use Rattle.wave_theory.proofs.Tallies.{sum_to, sum_zero, sum_more, sum_less, sum_up}
 use Rattle.wave_theory.proofs.Folds
 use Rattle.wave_theory.proofs.Told
 use Rattle.wave_theory.proofs.Reached
@@ -417,3 +417,33 @@ module _ {A F R J : Type 0} (sys : Actors A F R J) (hosts : ℕ) (fits : Path �
       by (Down s) f = absurd (past (w.last (suc b.before + i)) f.more)
       by Pause.Back f = absurd (past (w.last (suc b.before + i)) f.more)
       by (Over r) f = ap sys.moved (result_is i j e (w.last (suc b.before + i)) r (omega arith) f.result_is) ∙ f.looking on
+
+  -- the moves of the first jobs
+  pub moves_is : (n : ℕ) → (work_after sys b batches n).moves ≡ sum_to n (λ i. moves_away (grown i) (move_by i (job_after sys b batches i)))
+  moves_is zero = sym (sum_zero (λ i. moves_away (grown i) (move_by i (job_after sys b batches i))))
+  moves_is (suc n) = by (moves_is n) (job_after sys b batches n) ∙ sym (sum_more n (λ i. moves_away (grown i) (move_by i (job_after sys b batches i))))
+    where
+      none_more : (m : ℕ) → m ≡ m + 0
+      none_more m = omega arith
+
+      by : (work_after sys b batches n).moves ≡ sum_to n (λ i. moves_away (grown i) (move_by i (job_after sys b batches i))) → (o : Option J) → (work_of_job sys b batches n (work_after sys b batches n) o).moves ≡ sum_to n (λ i. moves_away (grown i) (move_by i (job_after sys b batches i))) + moves_away (with_contexts (places n) (entered_by n o)) (move_by n o)
+      by h None = h ∙ none_more _
+      by h (Some j) = ap (λ m. m + moves_away (with_contexts (places n) (ran n j).entered) (sys.moved (ran n j).result)) h
+
+  -- no context is sent on more often
+  pub shifts_few : (n m : ℕ) (p : Path) → m ≤ n → shifts p m ≤ (work_after sys b batches n).moves + (if has_moved b [] then 1 else 0)
+  shifts_few n m p l = (let a = sum_less m (shift p) (λ i. moves_away (grown i) (move_by i (job_after sys b batches i))) (λ i k. shift_few (grown i) (move_by i (job_after sys b batches i)) p) in
+      let c = sum_up m n (λ i. moves_away (grown i) (move_by i (job_after sys b batches i))) l in add _ _ _ _ _ _ (root p) a c (moves_is n))
+    where
+      add : (r r' s t u w : ℕ) → r ≤ r' → s ≤ t → t ≤ u → w ≡ u → r + s ≤ w + r'
+      add r r' s t u w l m k e = omega (arith, l, m, k, e)
+
+      root : (p : Path) → (if has_moved b p then 1 else 0) ≤ (if has_moved b [] then 1 else 0)
+      root [] = upto (if has_moved b [] then 1 else 0)
+        where
+          upto : (a : ℕ) → a ≤ a
+          upto a = omega arith
+      root (s ∷ q) = none (if has_moved b [] then 1 else 0)
+        where
+          none : (a : ℕ) → 0 ≤ a
+          none a = omega arith
