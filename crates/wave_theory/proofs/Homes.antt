@@ -1,16 +1,16 @@
 -- A context lies where the fold has it after the tickets that came to it.
-use Rattle.std.proofs.Common.{◌≡◌, ◌≢◌, ℕ, zero, suc, ◌+◌, ◌<◌, ◌≤◌, ◌⊎◌, nat_eq, inl, inr, Bool, true, false, Option, Some, None, List, [], ◌∷◌, ◌++◌, refl, sym, ◌∙◌, ap, ap₂, subst, arith}
+use Rattle.std.proofs.Common.{◌≡◌, ◌≢◌, ℕ, zero, suc, ◌+◌, ◌<◌, ◌≤◌, ◌⊎◌, nat_eq, inl, inr, Bool, true, false, Some, List, [], ◌∷◌, ◌++◌, refl, sym, ◌∙◌, ap, subst, arith}
 use Rattle.std.specs.Prelude.{All, if◌then◌else◌}
 use Rattle.wave_base.specs.declared.path.Step.{Step}
 use Rattle.wave_base.specs.declared.path.Path.{Path}
 use Rattle.wave_base.specs.declared.children.Child.{Child}
-use Rattle.wave_base.specs.Paths.{path_eq, parent_of}
+use Rattle.wave_base.specs.Paths.{path_eq}
 use Rattle.wave_base.specs.Kids.{child_at}
 use Rattle.wave_base.specs.Tree.{Tree, there}
 use Rattle.std.specs.List.{list_any}
 use Rattle.wave_states.specs.Actors.{Actors}
 use Rattle.wave_states.specs.States.{State, set}
-use Rattle.wave_states.specs.Labels.{Act, Commit, ticket_of, path_of}
+use Rattle.wave_states.specs.Labels.{Act, ticket_of, path_of}
 use Rattle.wave_states.specs.Begins.{Begin, is_root, has_moved}
 use Rattle.wave_states.specs.Owes.{Owes, IsBegin}
 use Rattle.wave_states.specs.Alone.{job_after}
@@ -18,8 +18,8 @@ use Rattle.wave_states.specs.Steps.{child_or_new}
 use Rattle.wave_theory.proofs.Basics.{clash, none_not, some_same, bool_cases, number_cases, not_same, path_cases, path_self, set_at, set_there, set_at_path, differ}
 use Rattle.wave_theory.proofs.Order.{Way, IsWay, visits, rank, Stage, Entering, Lined, Coming, There, Done, is_pending, here, Good}
 use Rattle.wave_theory.proofs.Ranks.{rank_in, rank_same, rank_less, rank_pos, rank_up_to, rank_every}
-use Rattle.wave_theory.proofs.Leaves.{Course, IsCourse, after_exit}
-use Rattle.wave_theory.proofs.Paths.{parent_child, child_not_root, path_swap}
+use Rattle.wave_theory.proofs.Leaves.{Course, after_exit}
+use Rattle.wave_theory.proofs.Paths.{parent_child, child_not_root}
 use Rattle.wave_theory.proofs.Tracks.{Trail, owner, sent_on, unborn}
 use Rattle.wave_theory.proofs.Frames.{entered_spot, visits_of}
 use Rattle.wave_theory.proofs.Courses
@@ -29,7 +29,6 @@ use Rattle.wave_theory.proofs.Deeds.{Outline, outline, Deed, done_by, with_stage
 use Rattle.wave_theory.proofs.Deeds
 use Rattle.wave_theory.proofs.Sites
 use Rattle.wave_theory.proofs.Tallies.{sum_to, sum_zero}
-use Rattle.wave_theory.proofs.Reached
 
 abbrev pub is_done : Stage → Bool
 is_done Done = true
@@ -132,7 +131,7 @@ module _ {A F R J : Type 0} (sys : Actors A F R J) (hosts : ℕ) (fits : Path �
   rank_after : (i : ℕ) (p : Path) → visits w (suc b.before + i) p ≡ true → early p < rank w p (suc b.before + i)
   rank_after i p v = subst (λ n. n < rank w p (suc b.before + i)) (rank_early p) (rank_less w p b.before (suc b.before + i) (omega arith) v)
 
-  there_same : (p : Path) → there b.places p ≡ there b.tree p
+  pub there_same : (p : Path) → there b.places p ≡ there b.tree p
   there_same p = ap (λ ps. list_any (path_eq p) ps) begins.places
 
   not_child_root : (p : Path) (st : Step) → is_root (p ++ st ∷ []) ≡ false
@@ -174,10 +173,13 @@ module _ {A F R J : Type 0} (sys : Actors A F R J) (hosts : ℕ) (fits : Path �
         (u ≤ g.lines.admitted) × (w.entered u (set nat_eq g.lines.pos t (suc (g.lines.pos t)) u) q ≡ true) → SentTo o u q
     entered_next t v q la l u other e = elim (number_cases t u) [
       | inr d ↦ (e.0, subst (λ k. w.entered u k q ≡ true) (set_there nat_eq g.lines.pos t _ u d) e.1)
-      | inl d ↦ subst (λ i. SentTo o i q) d (la, elim (law.new t (g.lines.pos t) q l (subst (λ k. w.entered t k q ≡ true) (set_at g.lines.pos t (suc (g.lines.pos t))) (subst (λ i. w.entered i (set nat_eq g.lines.pos t (suc (g.lines.pos t)) i) q ≡ true) (sym d) e.1))) [
-        | inl z ↦ z
-        | inr z ↦ absurd (other z.0 z.1 z.2 d)
-      ])
+      | inl d ↦ subst (λ i. SentTo o i q) d (
+        la,
+        elim (law.new t (g.lines.pos t) q l (subst (λ k. w.entered t k q ≡ true) (set_at g.lines.pos t (suc (g.lines.pos t))) (subst (λ i. w.entered i (set nat_eq g.lines.pos t (suc (g.lines.pos t)) i) q ≡ true) (sym d) e.1))) [
+          | inl z ↦ z
+          | inr z ↦ absurd (other z.0 z.1 z.2 d)
+        ],
+      )
     ]
 
     -- the ticket that ends
@@ -344,9 +346,10 @@ module _ {A F R J : Type 0} (sys : Actors A F R J) (hosts : ℕ) (fits : Path �
 
       -- where it is sent on
       ends_there : (to : ℕ) → sys.moved result ≡ Some (p, to) → to ≢ owner (g.trail p) → Stands (spot_of (g.trail p)) (rt).index p → Sits (spot_of (sent_on (g.trail p) to)) (suc (rt).index) p
-      ends_there to m other y = (let z = Sites.moved_there sys hosts fits is_job fine owes b batches begins jobs (rt).index (rt).job (rt).job_is p to (ap sys.moved same_result ∙ m) in
-          (set_at (g.trail p).at (suc (g.trail p).last) to ∙ sym z.0,
-            one_more _ _ _ _ (Sites.shifts_next sys hosts fits is_job fine owes b batches begins jobs (rt).index p) (z.1 ∙ ap (λ u. if u then 0 else 1) (subst (λ n. nat_eq n to ≡ false) y.0 (differ (owner (g.trail p)) to (λ e. other (sym e))))) y.1))
+      ends_there to m other y = (let z = Sites.moved_there sys hosts fits is_job fine owes b batches begins jobs (rt).index (rt).job (rt).job_is p to (ap sys.moved same_result ∙ m) in (
+        set_at (g.trail p).at (suc (g.trail p).last) to ∙ sym z.0,
+        one_more _ _ _ _ (Sites.shifts_next sys hosts fits is_job fine owes b batches begins jobs (rt).index p) (z.1 ∙ ap (λ u. if u then 0 else 1) (subst (λ n. nat_eq n to ≡ false) y.0 (differ (owner (g.trail p)) to (λ e. other (sym e))))) y.1,
+      ))
         where
           one_more : (l n m k : ℕ) → m ≡ n + k → k ≡ 1 → l ≡ n → suc l ≡ m
           one_more l n m k e f d = omega (arith, e, f, d)
@@ -684,9 +687,14 @@ module _ {A F R J : Type 0} (sys : Actors A F R J) (hosts : ℕ) (fits : Path �
               let lb : b.before < a.0 = later a.0 (more _ _ _ z a.4) in
               let ka : a.0 ≤ g.lines.admitted = trans a.0 t g.lines.admitted a.2 la in
               let r = real_of a.0 lb ka in
-              let k = (x.good.sends a.0 p a.1 a.3).1 (subst (λ n. n ≤ g.lines.given p) (sym a.4) (trans (suc (g.lines.served p)) (rank w p t) (g.lines.given p) (at_least _ _ _ z (subst (λ u. early p < rank w p u) (sym rt.ticket_is) (rank_after rt.index p (subst (λ u. visits w u p ≡ true) rt.ticket_is v)))) ((x.good.sends t p (first t lt) v).0 (record { known = la; entered = en })))) in
-              (r.index, r.index, r.job, r.job_is, (let q : r.index ≤ suc r.index = omega arith in q),
-                (h.new p r.index r.job r.job_is (subst (λ u. visits w u p ≡ true) r.ticket_is a.3) (sym (ap (rank w p) r.ticket_is) ∙ a.4) z th (subst (λ u. SentTo o u p) r.ticket_is (ka, k.entered))).1))
+              let k = (x.good.sends a.0 p a.1 a.3).1 (subst (λ n. n ≤ g.lines.given p) (sym a.4) (trans (suc (g.lines.served p)) (rank w p t) (g.lines.given p) (at_least _ _ _ z (subst (λ u. early p < rank w p u) (sym rt.ticket_is) (rank_after rt.index p (subst (λ u. visits w u p ≡ true) rt.ticket_is v)))) ((x.good.sends t p (first t lt) v).0 (record { known = la; entered = en })))) in (
+                r.index,
+                r.index,
+                r.job,
+                r.job_is,
+                (let q : r.index ≤ suc r.index = omega arith in q),
+                (h.new p r.index r.job r.job_is (subst (λ u. visits w u p ≡ true) r.ticket_is a.3) (sym (ap (rank w p) r.ticket_is) ∙ a.4) z th (subst (λ u. SentTo o u p) r.ticket_is (ka, k.entered))).1,
+              ))
         ]
           where
             first : (t : ℕ) → b.before < t → 1 ≤ t

@@ -31,6 +31,7 @@ pub mod Plans
 pub mod Queueing
 pub mod Ranks
 pub mod Reached
+pub mod Settled
 pub mod Shows
 pub mod Sites
 pub mod Sizes

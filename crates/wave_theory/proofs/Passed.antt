@@ -1,5 +1,5 @@
 -- How often Enters are passed on.
-use Rattle.std.proofs.Common.{◌≡◌, ℕ, zero, suc, ◌+◌, ◌<◌, ◌≤◌, ◌⊎◌, ◌==◌, ◌&&◌, nat_eq, nat_lt, inl, inr, Bool, true, false, Option, Some, None, List, [], ◌∷◌, ◌++◌, length, refl, sym, ◌∙◌, ap, ap₂, subst, arith}
+use Rattle.std.proofs.Common.{◌≡◌, ℕ, zero, suc, ◌+◌, ◌<◌, ◌≤◌, ◌⊎◌, ◌==◌, ◌&&◌, nat_eq, nat_lt, inl, inr, Bool, true, false, Option, Some, None, List, [], ◌∷◌, ◌++◌, length, refl, sym, ◌∙◌, ap, subst, arith}
 use Rattle.std.specs.Prelude.{All, ◌*◌, if◌then◌else◌}
 use Rattle.std.proofs.lemmas.Bool.Decides.{nat_tests}
 use Rattle.wave_base.specs.declared.path.Path.{Path}
@@ -8,20 +8,20 @@ use Rattle.wave_states.specs.Actors.{Actors}
 use Rattle.wave_states.specs.States.{State, Cell, Mail, Ask, Enter, set}
 use Rattle.wave_states.specs.Labels.{Act, Label, Admit, Queue, Grant, Start, Stop, Free, Pass, Land, Commit, ticket_of, path_of, is_pass}
 use Rattle.wave_states.specs.Labels
-use Rattle.wave_states.specs.Begins.{Begin, start_state, has_moved}
+use Rattle.wave_states.specs.Begins.{Begin, start_state}
 use Rattle.wave_states.specs.Owes.{Owes, IsBegin}
-use Rattle.wave_states.specs.Alone.{fold_alone, job_after, run_alone, after_segments}
+use Rattle.wave_states.specs.Alone.{job_after}
 use Rattle.wave_states.specs.Steps.{Bench, Part, step, step_by, act_bench, with_hand, with_bench, part_of, admit, admitted, commit, committed, only_if, next_ticket, route, route_by, Forward}
 use Rattle.wave_states.specs.Steps
-use Rattle.wave_states.specs.Runs.{run, Finished}
+use Rattle.wave_states.specs.Runs.{run}
 use Rattle.wave_states.specs.Work.{work_after, work_of_job}
-use Rattle.wave_theory.proofs.Basics.{clash, none_not, some_same, then_some, map_some, only_some, if_some, number_cases, number_is, not_same, set_at, set_there, and_second, differ, options}
-use Rattle.wave_theory.proofs.Order.{Way, IsWay, Stage, Entering, Lined, Coming, There, Done, here, is_pending}
+use Rattle.wave_theory.proofs.Basics.{clash, none_not, some_same, then_some, map_some, only_some, if_some, number_cases, not_same, set_at, set_there, differ}
+use Rattle.wave_theory.proofs.Order.{Way, IsWay, Stage, Entering, Lined, Coming, There, Done, is_pending}
 use Rattle.wave_theory.proofs.Leaves.{Course}
 use Rattle.wave_theory.proofs.Courses
 use Rattle.wave_theory.proofs.Opened.{starts, frees, passes, lands}
 use Rattle.wave_theory.proofs.Frames.{entered_spot}
-use Rattle.wave_theory.proofs.Tallies.{sum_to, sum_zero, sum_more, sum_same, sum_less, sum_one, sum_up}
+use Rattle.wave_theory.proofs.Tallies.{sum_to, sum_zero, sum_more, sum_less, sum_one, sum_up}
 use Rattle.wave_theory.proofs.Shows
 use Rattle.wave_theory.proofs.Deeds.{Outline, outline, Deed, done_by}
 use Rattle.wave_theory.proofs.Deeds
@@ -31,7 +31,7 @@ use Rattle.wave_theory.proofs.Sizes
 use Rattle.wave_theory.proofs.Reached.{Good_state, Next}
 use Rattle.wave_theory.proofs.Reached
 use Rattle.wave_theory.proofs.Along
-use Rattle.wave_theory.specs.States.{passed, taken, size, most_moves, Bounded, Counted}
+use Rattle.wave_theory.specs.States.{passed, taken, most_moves, Bounded}
 
 pub passed_more : (ls : List Label) (l : Label) → passed (ls ++ l ∷ []) ≡ passed ls + (if is_pass l.act then 1 else 0)
 passed_more [] l = by (is_pass l.act)

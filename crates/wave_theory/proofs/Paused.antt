@@ -14,7 +14,6 @@ use Rattle.wave_theory.proofs.Alive
 use Rattle.wave_theory.proofs.Tallies
 use Rattle.wave_theory.proofs.Deeds
 use Rattle.wave_states.specs.Labels
-use Rattle.wave_theory.proofs.Tracks.{owner}
 use Rattle.wave_theory.proofs.Shows
 use Rattle.wave_theory.proofs.Leaves.{Follows}
 use Rattle.wave_theory.proofs.Stopping

@@ -1,9 +1,8 @@
 -- Where the fold has each context, and how often it moved it.
-use Rattle.std.proofs.Common.{◌≡◌, ◌≢◌, ℕ, zero, suc, ◌+◌, ◌<◌, ◌≤◌, ◌⊎◌, ◌||◌, ◌&&◌, not, nat_eq, inl, inr, Bool, true, false, Option, Some, None, List, [], ◌∷◌, ◌++◌, length, refl, sym, ◌∙◌, ap, ap₂, subst, arith}
+use Rattle.std.proofs.Common.{◌≡◌, ◌≢◌, ℕ, zero, suc, ◌+◌, ◌≤◌, ◌⊎◌, ◌||◌, ◌&&◌, not, nat_eq, inl, inr, Bool, true, false, Option, Some, None, List, [], ◌∷◌, ◌++◌, length, refl, sym, ◌∙◌, ap, ap₂, subst, arith}
 use Rattle.std.specs.Prelude.{All, if◌then◌else◌}
 use Rattle.std.specs.List.{list_any}
 use Rattle.std.proofs.lemmas.List.{append-nil, append_assoc}
-use Rattle.std.proofs.lemmas.List.Folds.{list_any-append}
 use Rattle.wave_base.specs.declared.path.Step.{Step}
 use Rattle.wave_base.specs.declared.path.Path.{Path}
 use Rattle.wave_base.specs.Paths.{path_eq, parent_of}
@@ -11,19 +10,19 @@ use Rattle.wave_base.specs.Tree.{Tree, there, enter, put}
 use Rattle.wave_base.specs.Fold.{Progress, Ran, next_job, with_job}
 use Rattle.wave_base.specs.Places.{with_context, with_contexts, with_move, after_job, places_after}
 use Rattle.wave_base.proofs.Trees.{there-enter}
-use Rattle.wave_states.specs.Actors.{Actors, Left, Pause, Go, Down, Over}
-use Rattle.wave_states.specs.Begins.{Begin, has_moved, is_root}
-use Rattle.wave_states.specs.Owes.{Owes, IsBegin, MovesOnly}
+use Rattle.wave_states.specs.Actors.{Actors, Pause, Go, Down, Over}
+use Rattle.wave_states.specs.Begins.{Begin, has_moved}
+use Rattle.wave_states.specs.Owes.{Owes, IsBegin}
 use Rattle.wave_states.specs.Alone.{Alone, has, into, goes_on, next_alone, segment_if, segment_alone, after_segments, fold_alone, run_alone, job_after, moves_in, places_alone}
 use Rattle.wave_states.specs.Work.{moves_away, work_after, work_of_job}
-use Rattle.wave_theory.proofs.Basics.{clash, none_not, options, bool_cases, path_cases, path_is, path_self}
+use Rattle.wave_theory.proofs.Basics.{clash, options, bool_cases, path_cases, path_is, path_self}
 use Rattle.wave_theory.proofs.Order.{Way, IsWay, visits, rank}
 use Rattle.wave_theory.proofs.Ranks.{rank_in, rank_out, rank_up_to}
-use Rattle.wave_theory.proofs.Paths.{path_swap, has_append, or_right}
+use Rattle.wave_theory.proofs.Paths.{or_right}
 use Rattle.wave_theory.proofs.Leaves.{Course, IsCourse, Follows}
 use Rattle.wave_theory.proofs.Courses.{view_real, done_at, View, entered_after}
 use Rattle.wave_theory.proofs.Courses
-use Rattle.wave_theory.proofs.Ways.{next_is, stays_over, Counts}
+use Rattle.wave_theory.proofs.Ways.{next_is}
 use Rattle.wave_theory.proofs.Plans.{first_of, last_of, counts}
 use Rattle.wave_theory.proofs.Tallies.{sum_to, sum_zero, sum_more, sum_less, sum_up}
 use Rattle.wave_theory.proofs.Folds
@@ -291,8 +290,10 @@ module _ {A F R J : Type 0} (sys : Actors A F R J) (hosts : ℕ) (fits : Path �
 
     -- where it moves its context
     pub moved_there : (p : Path) (h : ℕ) → sys.moved (ran i j).result ≡ Some (p, h) → ((places (suc i)).fields p ≡ h) × (shift p i ≡ (if nat_eq ((grown i).fields p) h then 0 else 1))
-    moved_there p h m = (ap (λ (v : Tree ℕ). v.fields p) (places_next i) ∙ ap (λ o. (with_move (grown i) (move_by i o)).fields p) e ∙ ap (λ o. (with_move (grown i) o).fields p) m ∙ rw (path_self p) refl,
-        ap (λ o. shift_by (grown i) (move_by i o) p) e ∙ ap (λ o. shift_by (grown i) o p) m ∙ ap (λ u. if u && not (nat_eq ((grown i).fields p) h) then 1 else 0) (path_self p) ∙ flip (nat_eq ((grown i).fields p) h))
+    moved_there p h m = (
+      ap (λ (v : Tree ℕ). v.fields p) (places_next i) ∙ ap (λ o. (with_move (grown i) (move_by i o)).fields p) e ∙ ap (λ o. (with_move (grown i) o).fields p) m ∙ rw (path_self p) refl,
+      ap (λ o. shift_by (grown i) (move_by i o) p) e ∙ ap (λ o. shift_by (grown i) o p) m ∙ ap (λ u. if u && not (nat_eq ((grown i).fields p) h) then 1 else 0) (path_self p) ∙ flip (nat_eq ((grown i).fields p) h),
+    )
       where
         flip : (u : Bool) → ◌≡◌ {A = ℕ} (if true && not u then 1 else 0) (if u then 0 else 1)
         flip true = refl
@@ -307,8 +308,8 @@ module _ {A F R J : Type 0} (sys : Actors A F R J) (hosts : ℕ) (fits : Path �
         let l' : suc k ≤ last_of sys hosts fits is_job fine owes b batches begins jobs i j = subst (λ n. suc k ≤ n) last_same l in
         let at_is : (after_segments sys (suc k) x).at ≡ q = sym (ap (λ (u : View A F R). u.one.place (suc k)) v) ∙ pl in
         let es : (after_segments sys (suc k) x).entered ≡ (after_segments sys k x).entered ++ q ∷ [] = ap (λ (y : Alone A F R). y.entered) (next_is sys k x)
-            ∙ fresh_step sys (after_segments sys k x) (c.under k (omega (arith, l'))) (sym (ap (λ (y : Alone A F R). y.fresh) (next_is sys k x)) ∙ sym (ap (λ (u : View A F R). u.one.fresh (suc k)) v) ∙ f)
-            ∙ ap (λ r. (after_segments sys k x).entered ++ r ∷ []) (sym (ap (λ (y : Alone A F R). y.at) (next_is sys k x)) ∙ at_is) in
+        ∙ fresh_step sys (after_segments sys k x) (c.under k (omega (arith, l'))) (sym (ap (λ (y : Alone A F R). y.fresh) (next_is sys k x)) ∙ sym (ap (λ (u : View A F R). u.one.fresh (suc k)) v) ∙ f)
+        ∙ ap (λ r. (after_segments sys k x).entered ++ r ∷ []) (sym (ap (λ (y : Alone A F R). y.at) (next_is sys k x)) ∙ at_is) in
         let d = difference (suc k) (suc (last_of sys hosts fits is_job fine owes b batches begins jobs i j)) (omega (arith, l')) in
         let z = entered_later sys d.0 (suc k) x in
         let all : (ran i j).entered ≡ (after_segments sys k x).entered ++ q ∷ z.0 = entered_after sys hosts fits is_job fine owes b batches begins jobs i j e ∙ ap (λ n. (after_segments sys n x).entered) d.1 ∙ z.1 ∙ ap (λ ps. ps ++ z.0) es ∙ append_assoc (after_segments sys k x).entered (q ∷ []) z.0 in
@@ -331,7 +332,7 @@ module _ {A F R J : Type 0} (sys : Actors A F R J) (hosts : ℕ) (fits : Path �
   move_there t None p = refl
   move_there t (Some x) p = refl
 
-  there_next : (i : ℕ) (p : Path) → there (places (suc i)) p ≡ (there (places i) p || list_any (path_eq p) (entered_by i (job_after sys b batches i)))
+  pub there_next : (i : ℕ) (p : Path) → there (places (suc i)) p ≡ (there (places i) p || list_any (path_eq p) (entered_by i (job_after sys b batches i)))
   there_next i p = ap (λ (v : Tree ℕ). there v p) (places_next i) ∙ move_there (grown i) (move_by i (job_after sys b batches i)) p ∙ all_there (entered_by i (job_after sys b batches i)) (places i) p
 
   pub there_later : (d i : ℕ) (p : Path) → there (places i) p ≡ true → there (places (d + i)) p ≡ true
@@ -369,10 +370,11 @@ module _ {A F R J : Type 0} (sys : Actors A F R J) (hosts : ℕ) (fits : Path �
       ] in
       let off' : visits w (suc b.before + (d + a)) p ≡ false = subst (λ n. visits w n p ≡ false) y' off in
       let r = between d a p (sym (rank_out w p (b.before + (d + a)) off) ∙ sym (ap (rank w p) y) ∙ e) in
-      let s = passed_by (d + a) p off' in
-      (ap (λ n. (places n).fields p) z ∙ s.0 ∙ r.0,
+      let s = passed_by (d + a) p off' in (
+        ap (λ n. (places n).fields p) z ∙ s.0 ∙ r.0,
         ap (shifts p) z ∙ shifts_next (d + a) p ∙ ap (λ n. shifts p (d + a) + n) s.1 ∙ none_more (shifts p (d + a)) ∙ r.1,
-        ap (λ n. there (places n) p) z ∙ there_next (d + a) p ∙ ap (λ u. there (places (d + a)) p || u) (none_comes (d + a) p off') ∙ or_none (there (places (d + a)) p) ∙ r.2))
+        ap (λ n. there (places n) p) z ∙ there_next (d + a) p ∙ ap (λ u. there (places (d + a)) p || u) (none_comes (d + a) p off') ∙ or_none (there (places (d + a)) p) ∙ r.2,
+      ))
     where
       above : (c r u : ℕ) → c ≡ u → c ≡ suc r → u ≤ r → ⊥
       above c r u e f l = omega (arith, e, f, l)

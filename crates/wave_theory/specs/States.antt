@@ -10,7 +10,7 @@ use Rattle.wave_states.specs.Labels.{Act, Label, Admit, Stop, Pass, Land, Commit
 use Rattle.wave_states.specs.Canonical.{enabled, idle_in, below}
 use Rattle.wave_states.specs.Steps.{step, route, Wait}
 use Rattle.wave_states.specs.Runs.{run, Finished}
-use Rattle.wave_states.specs.Alone.{fold_alone, job_after}
+use Rattle.wave_states.specs.Alone.{fold_alone, job_after, places_alone}
 use Rattle.wave_states.specs.Work.{Work, work_after}
 use Rattle.wave_states.specs.Begins.{Begin, start_state, is_root, has_moved}
 use Rattle.wave_states.specs.Owes.{IsBegin, IsPlan}
@@ -161,8 +161,8 @@ module _ {A F R J : Type 0} (sys : Actors A F R J) where
   NeverStuck workers b batches s = (worker n : ℕ) → worker < workers → s.hands worker ≡ None → s.head.done < (fold_alone sys b batches n).head.done →
       (ticket : ℕ) × (ticket ≤ suc (b.before + s.head.done)) × (CanTake workers s worker ticket ⊎ IsOut s ticket)
 
-  -- Every job of the fold is committed; no mail is under way, and nobody holds a context or waits for one; and the contexts that have
-  -- an entry are those of the fold's last tree, each with its fields and its children.
+  -- Every job of the fold is committed; no mail is under way, and nobody holds a context or waits for one; the contexts that have
+  -- an entry are those of the fold's last tree, each with its fields and its children; and each is on the host that the fold has for it.
   pub record IsComplete (b : Begin F) (batches : List (List J)) (s : State A F R J) : Type 0 where
     pub committed : (n : ℕ) → (fold_alone sys b batches n).head.done ≤ s.head.done
     pub no_mails : (t k : ℕ) → (s.cells t).mails k ≡ None
@@ -170,6 +170,7 @@ module _ {A F R J : Type 0} (sys : Actors A F R J) where
     pub no_waits : (p : Path) (host : ℕ) (en : Entry F) (j : ℕ) → (s.columns p).store host ≡ Some en → en.waiting j ≡ None
     pub contexts : (p : Path) → there (fold_alone sys b batches s.head.done).tree p ≡ true → (host : ℕ) × (en : Entry F) × (r : Record F) × ((s.columns p).store host ≡ Some en) × (en.body ≡ Some r) ×
         (r.fields ≡ (fold_alone sys b batches s.head.done).tree.fields p) × (steps_of r.children ≡ children_of (fold_alone sys b batches s.head.done).tree p)
+    pub places : (p : Path) (host : ℕ) → IsOwner s p host → host ≡ (places_alone sys b batches s.head.done).fields p
     pub no_others : (p : Path) (host : ℕ) → is_some ((s.columns p).store host) ≡ true → there (fold_alone sys b batches s.head.done).tree p ≡ true
 
   -- Complete. In a finished state all is done.
