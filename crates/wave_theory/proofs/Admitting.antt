@@ -15,6 +15,8 @@ use Rattle.wave_theory.proofs.Leaves.{Course, IsCourse}
 use Rattle.wave_theory.proofs.Frames.{cell_frame, entry_frame, column_frame, hand_frame}
 use Rattle.wave_theory.proofs.Alive
 use Rattle.wave_theory.proofs.Tallies
+use Rattle.wave_theory.proofs.Deeds
+use Rattle.wave_states.specs.Labels
 use Rattle.wave_theory.proofs.Shows
 
 module _ {A F R J : Type 0} (sys : Actors A F R J) (w : Way) (law : IsWay w) (course : Course sys) (low : ℕ) (is_real : ℕ → Type 0) (courses : IsCourse sys w course low is_real) where
@@ -204,6 +206,9 @@ module _ {A F R J : Type 0} (sys : Actors A F R J) (w : Way) (law : IsWay w) (co
             at_or_below : (a b : ℕ) → a ≤ suc b → nat_eq (suc b) a ≡ false → a ≤ b
             at_or_below a b l e = grind (arith, nat_tests)
 
+    pub admit_turn : (n : ℕ) → n ≡ suc g.lines.admitted → Deeds.Turn sys w course low is_real s g ga (Labels.Admit n)
+    admit_turn n e = record { deed = Deeds.Admits; suits = tt; is = refl; fits = (e, ap g.lines.stage e ∙ idle_t.0); kids = λ r i a z. inl z }
+
     pub admit_tally : (c : ℕ → ℕ) → Tallies.Tally sys w course low is_real g c → Tallies.Tally sys w course low is_real ga (set nat_eq c t 1)
     admit_tally c y = record {
       counted = λ b lb l. elim (number_cases t b) [
@@ -284,6 +289,9 @@ module _ {A F R J : Type 0} (sys : Actors A F R J) (w : Way) (law : IsWay w) (co
           parting = λ r h n. o.parting r h (ap (λ i. w.held b i r) (sym (set_there nat_eq g.lines.pos t 0 b z)) ∙ n);
           lined = λ u. subst (λ r. Alive.ClaimThere (g.entry r).waiting (rank w r b) b) (sym (ap (w.place b) (set_there nat_eq g.lines.pos t 0 b z))) (o.lined (sym (set_there nat_eq g.lines.stage t Entering b z) ∙ u));
         }
+
+  pub commit_turn : (s : State A F R J) (g : Shows.Ghost F) (t : ℕ) → Deeds.Turn sys w course low is_real s g g (Labels.Commit t)
+  commit_turn s g t = record { deed = Deeds.Rests; suits = tt; is = refl; fits = tt; kids = λ r i a z. inl z }
 
   pub commit_shows : (s : State A F R J) (g : Shows.Ghost F) (r : R) → Shows.Shows sys w course low is_real s g → Shows.Shows sys w course low is_real (committed sys s r) g
   commit_shows s g r x = record {

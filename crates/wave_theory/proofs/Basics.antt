@@ -101,6 +101,9 @@ set_apart eq f a b x reads apart = elim (bool_cases (eq a b)) [ inr u ↦ rw u r
 pub set_noop : {X : Type 0} (f : ℕ → X) (w : ℕ) (x : X) → f w ≡ x → set nat_eq f w x ≡ f
 set_noop f w x e = fun_ext λ q. elim (bool_cases (nat_eq w q)) [ inr u ↦ rw u refl | inl u ↦ rw u (sym e ∙ ap f (number_is w q u)) ]
 
+pub set_noop_path : {X : Type 0} (f : Path → X) (p : Path) (x : X) → f p ≡ x → set path_eq f p x ≡ f
+set_noop_path f p x e = fun_ext λ q. elim (bool_cases (path_eq p q)) [ inr u ↦ rw u refl | inl u ↦ rw u (sym e ∙ ap f (path_is p q u)) ]
+
 pub set_twice : {X : Type 0} (f : ℕ → X) (w : ℕ) (x y : X) → set nat_eq (set nat_eq f w x) w y ≡ set nat_eq f w y
 set_twice f w x y = fun_ext λ q. elim (bool_cases (nat_eq w q)) [ inr u ↦ rw u refl | inl u ↦ rw u refl ]
 

@@ -21,6 +21,9 @@ use Rattle.wave_theory.proofs.Frames.{update, at_spot, visits_of}
 use Rattle.wave_theory.proofs.Alive
 use Rattle.wave_theory.proofs.Tracks
 use Rattle.wave_theory.proofs.Tallies
+use Rattle.wave_theory.proofs.Deeds
+use Rattle.wave_states.specs.Labels
+use Rattle.wave_theory.proofs.Basics.{set_noop_path}
 use Rattle.wave_theory.proofs.Shows
 
 module _ {A F R J : Type 0} (sys : Actors A F R J) (w : Way) (law : IsWay w) (course : Course sys) (low : ℕ) (is_real : ℕ → Type 0) (courses : IsCourse sys w course low is_real) where
@@ -280,6 +283,9 @@ module _ {A F R J : Type 0} (sys : Actors A F R J) (w : Way) (law : IsWay w) (co
         (leaves_shows s g x t k p h v (others t (g.entry p).holders) (g.trail p) leaves_f (with_entry (s.columns p) h (Some (with_holders q.entry (others t q.entry.holders)))) lt la (λ e. none_not (sym e ∙ q.letter_at.mail_is)) (inl q.letter_at)
         (changed sys w course low is_real g free_ghost p (s.columns p) h q.entry (with_holders q.entry (others t q.entry.holders)) f refl (set_at_path g.trail p (g.trail p)) (set_at_path g.entry p _ ∙ ap (λ (z : Entry F). with_holders z (others t z.holders)) (sym f.entry_is))))
 
+    pub free_turn : Deeds.Turn sys w course low is_real s g free_ghost (Labels.Free t k p)
+    free_turn = record { deed = Deeds.Rests; suits = tt; is = ap (λ (r : Path → Trail). record { admitted = g.lines.admitted; pos = g.lines.pos; stage = g.lines.stage; served = g.lines.served; given = g.lines.given; births = g.born; trail = r }) (set_noop_path g.trail p (g.trail p) refl); fits = tt; kids = λ r i a z. inl z }
+
     pub free_tally : (n : ℕ → ℕ) → Tallies.Tally sys w course low is_real g n → Tallies.Tally sys w course low is_real free_ghost (set nat_eq n t (suc (n t)))
     free_tally n y = leaves_tally s g x t k p h v (others t (g.entry p).holders) (g.trail p) leaves_f (with_entry (s.columns p) h (Some (with_holders q.entry (others t q.entry.holders)))) lt la (λ e. none_not (sym e ∙ q.letter_at.mail_is)) (inl q.letter_at) n y
 
@@ -327,6 +333,9 @@ module _ {A F R J : Type 0} (sys : Actors A F R J) (w : Way) (law : IsWay w) (co
           there = λ z. ap (λ r. set nat_eq (s.columns p).store h (Some (with_holders q.entry [])) (owner r)) (set_at_path g.trail p (arrived (g.trail p))) ∙ ap (λ i. set nat_eq (s.columns p).store h (Some (with_holders q.entry [])) i) (sym ll.0.host_is) ∙ set_at (s.columns p).store h (Some (with_holders q.entry []))
               ∙ ap (λ e. Some (with_holders e [])) ll.2 ∙ ap Some (sym (set_at_path g.entry p (with_holders (g.entry p) [])));
         })))
+
+    pub land_turn : Deeds.Turn sys w course low is_real s g land_ghost (Labels.Land t k p)
+    land_turn = record { deed = Deeds.Lands; suits = tt; is = refl; fits = tt; kids = λ r i a z. inl z }
 
     pub land_tally : (n : ℕ → ℕ) → Tallies.Tally sys w course low is_real g n → Tallies.Tally sys w course low is_real land_ghost (set nat_eq n t (suc (n t)))
     land_tally n y = leaves_tally s g x t k p h v [] (arrived (g.trail p)) leaves_l (landed (s.columns p) h (with_holders q.entry [])) lt la (λ e. none_not (sym e ∙ q.letter_at.mail_is)) (inr (q.entry, q.letter_at)) n y
@@ -431,6 +440,9 @@ module _ {A F R J : Type 0} (sys : Actors A F R J) (w : Way) (law : IsWay w) (co
     pass_shows = update sys w law course low is_real s g g t p v (record { part = y; hand = None }) x frame_p x.good x.kept refl lt la
         (subst (λ (z : Part A F R). Shows.CellShows sys w course low is_real g t z.cell) q.gives cell_p) (x.entries p)
         (subst (λ (z : Part A F R). Shows.ColumnShows sys w course low is_real (g.born p) g p z.column) q.gives (x.columns p)) (λ hd z. absurd (none_not z)) x.root
+
+    pub pass_turn : Deeds.Turn sys w course low is_real s g g (Labels.Pass t k p to)
+    pass_turn = record { deed = Deeds.Rests; suits = tt; is = refl; fits = tt; kids = λ r i a z. inl z }
 
     pub pass_alive : Alive.Alive sys w course low is_real s g → s.hands v ≡ None → Alive.Alive sys w course low is_real (with_bench sys s t p v (record { part = y; hand = None })) g
     pass_alive a idle = Alive.alive_update sys w course low is_real s g g t p v (record { part = y; hand = None }) x frame_p refl la lt a

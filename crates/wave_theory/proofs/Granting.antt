@@ -24,6 +24,8 @@ use Rattle.wave_theory.proofs.Frames.{update, at_spot, entered_spot, visits_of}
 use Rattle.wave_theory.proofs.Ranks.{rank_same}
 use Rattle.wave_theory.proofs.Alive
 use Rattle.wave_theory.proofs.Tallies
+use Rattle.wave_theory.proofs.Deeds
+use Rattle.wave_states.specs.Labels
 use Rattle.wave_theory.proofs.Shows
 
 coming_there : Coming ≡ There → ⊥
@@ -160,6 +162,9 @@ module _ {A F R J : Type 0} (sys : Actors A F R J) (w : Way) (law : IsWay w) (co
     visit_shows = update sys w law course low is_real s g gv t p v (record { part = y; hand = None }) x frame_v (arrive_good law g.lines t x.good ev.stage) (record { held = x.kept.held; calm = x.kept.calm }) refl lt la
         (subst (λ (z : Part A F R). Shows.CellShows sys w course low is_real gv t z.cell) q.gives cell_v) entry_v
         (subst (λ (z : Part A F R). Shows.ColumnShows sys w course low is_real (g.born p) gv p z.column) q.gives (column_same (g.born p) (s.columns p) (x.columns p))) (λ hd z. absurd (none_not z)) x.root
+
+    pub visit_turn : Deeds.Turn sys w course low is_real s g gv (Labels.Visit t k p)
+    visit_turn = record { deed = Deeds.Arrives; suits = tt; is = refl; fits = ev.stage; kids = λ r i a z. inl z }
 
     pub visit_tally : (n : ℕ → ℕ) → Tallies.Tally sys w course low is_real g n → Tallies.Tally sys w course low is_real gv (set nat_eq n t (suc (n t)))
     visit_tally n y = Tallies.tally_update sys w course low is_real g gv t p v n frame_v refl lt la y
@@ -439,6 +444,9 @@ module _ {A F R J : Type 0} (sys : Actors A F R J) (w : Way) (law : IsWay w) (co
 
     served_g : (gg).lines.served p ≡ suc (g.lines.served p)
     served_g = ap (λ i. set path_eq g.lines.served i (suc (g.lines.served i)) p) now.place ∙ set_at_path g.lines.served p _
+
+    pub grant_turn : Deeds.Turn sys w course low is_real s g gg (Labels.Grant t p)
+    grant_turn = record { deed = Deeds.Lets_in; suits = tt; is = refl; fits = record { stage = now.stage; place = now.place; number = rank_is; calm = calm_before }; kids = λ r i a z. inl z }
 
     pub grant_tally : (n : ℕ → ℕ) → Tallies.Tally sys w course low is_real g n → Tallies.Tally sys w course low is_real gg (set nat_eq n t (suc (n t)))
     grant_tally n y = Tallies.tally_update sys w course low is_real g gg t p v n frame_g refl now.later now.known y

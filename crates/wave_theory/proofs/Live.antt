@@ -27,7 +27,8 @@ use Rattle.std.specs.Prelude.{All}
 use Rattle.wave_base.specs.Fold.{Head, Progress, next_job, with_job}
 use Rattle.wave_states.specs.Begins.{Begin}
 use Rattle.wave_states.specs.Owes.{Owes, IsBegin}
-use Rattle.wave_states.specs.Alone.{fold_alone, job_after, run_alone, Alone, into, tree_with, has, next_alone, segment_alone, segment_if, after_segments}
+use Rattle.wave_states.specs.Owners.{IsOwner}
+use Rattle.wave_states.specs.Alone.{places_alone, fold_alone, job_after, run_alone, Alone, into, tree_with, has, next_alone, segment_alone, segment_if, after_segments}
 use Rattle.wave_theory.proofs.Courses.{View, view, view_real, done_at, entered_after, leaf_first, view_later, done_or_over}
 use Rattle.wave_theory.proofs.Courses
 use Rattle.wave_theory.proofs.Folds
@@ -257,7 +258,7 @@ module _ {A F R J : Type 0} (sys : Actors A F R J) (hosts : ℕ) (fits : Path �
           by (Transfer en) y = unheld m.path t y.0.holds
 
       -- as many are served as came
-      all_served : (p : Path) → rank w p (g).lines.admitted ≡ (g).lines.served p
+      pub all_served : (p : Path) → rank w p (g).lines.admitted ≡ (g).lines.served p
       all_served p = same _ _ ((k.alive).few p) (λ l. (let f = rank_found w p (g).lines.admitted l in
           subst (λ i. i ≤ (g).lines.served p) f.same ((x.good.grants f.ticket p f.first f.comes).0 (record {
             known = f.last;
@@ -303,7 +304,7 @@ module _ {A F R J : Type 0} (sys : Actors A F R J) (hosts : ℕ) (fits : Path �
       kid_there q st = kid_of ((g).body q).children st ∙ ap (λ us. list_any (step_eq st) us) (like q).steps ∙ sym (any_child q st (at s.head.done).tree.paths)
 
       -- what has an entry is there
-      born_there : (p : Path) → (g).born p ≡ there (at s.head.done).tree p
+      pub born_there : (p : Path) → (g).born p ≡ there (at s.head.done).tree p
       born_there p = elim (root_or p) [
         | inl e ↦ subst (λ r. (g).born r ≡ there (at s.head.done).tree r) e (x.root ∙ sym (root_there s.head.done))
         | inr e ↦ subst (λ r. (g).born r ≡ there (at s.head.done).tree r) (sym e.2) (child e.0 e.1)
@@ -332,10 +333,14 @@ module _ {A F R J : Type 0} (sys : Actors A F R J) (hosts : ℕ) (fits : Path �
                   none_served : {r n : ℕ} → 0 < r → r ≤ n → n ≡ 0 → ⊥
                   none_served l m e = omega (arith, l, m, e)
 
-      pub complete : IsComplete sys b batches s
-      complete = record {
+      pub no_mails_left : (t i : ℕ) → (s.cells t).mails i ≡ None
+      no_mails_left t i = elim (options ((s.cells t).mails i)) [ inl e ↦ e | inr m ↦ absurd (no_mail t i m.0 m.1) ]
+
+      pub complete : ((p : Path) (host : ℕ) → IsOwner s p host → host ≡ (places_alone sys b batches s.head.done).fields p) → IsComplete sys b batches s
+      complete places = record {
         committed = all_committed;
-        no_mails = λ t i. elim (options ((s.cells t).mails i)) [ inl e ↦ e | inr m ↦ absurd (no_mail t i m.0 m.1) ];
+        places = places;
+        no_mails = no_mails_left;
         no_holders = λ p h en e. empty_of (found sys w course b.before Is_real k.ghost p (s.columns p) h en (x.columns p) e).entry_is en.holders refl;
         no_waits = λ p h en j e. elim (options (en.waiting j)) [
           | inl n ↦ n

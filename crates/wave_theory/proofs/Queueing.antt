@@ -22,6 +22,9 @@ use Rattle.wave_theory.proofs.Frames.{visits_of}
 use Rattle.wave_theory.proofs.Alive
 use Rattle.wave_theory.proofs.Tracks
 use Rattle.wave_theory.proofs.Tallies
+use Rattle.wave_theory.proofs.Deeds.{grown}
+use Rattle.wave_theory.proofs.Deeds
+use Rattle.wave_states.specs.Labels
 use Rattle.wave_theory.proofs.Shows
 
 entering_coming : Entering ≡ Coming → ⊥
@@ -38,10 +41,6 @@ lined_entering e = grind arith
 
 entering_lined : Entering ≡ Lined → ⊥
 entering_lined e = grind arith
-
-abbrev grown : Bool → Trail → Trail
-grown true r = r
-grown false r = born r
 
 module _ {A F R J : Type 0} (sys : Actors A F R J) (w : Way) (law : IsWay w) (course : Course sys) (low : ℕ) (is_real : ℕ → Type 0) where
   abbrev after : Shows.Ghost F → ℕ → Path → ℕ → Bool → Shows.Ghost F
@@ -282,6 +281,9 @@ module _ {A F R J : Type 0} (sys : Actors A F R J) (w : Way) (law : IsWay w) (co
     queue_shows = update sys w law course low is_real s g g' t p v (record { part = y; hand = None }) x frame (line_good law g.lines t x.good e.stage) (record { held = x.kept.held; calm = x.kept.calm }) refl lt la
         (subst (λ (z : Part A F R). Shows.CellShows sys w course low is_real g' t z.cell) q.gives cell) entry
         (subst (λ (z : Part A F R). Shows.ColumnShows sys w course low is_real ((g').born p) g' p z.column) q.gives column) (λ hd z. absurd (none_not z)) root
+
+    pub queue_turn : Deeds.Turn sys w course low is_real s g g' (Labels.Queue t k p)
+    queue_turn = record { deed = Deeds.Lines_up; suits = tt; is = refl; fits = record { stage = e.stage; place = sym e.place; unborn = last_of }; kids = λ r i a z. inl z }
 
     pub queue_tally : (n : ℕ → ℕ) → Tallies.Tally sys w course low is_real g n → Tallies.Tally sys w course low is_real g' (set nat_eq n t (suc (n t)))
     queue_tally n y = Tallies.tally_update sys w course low is_real g g' t p v n frame refl lt la y

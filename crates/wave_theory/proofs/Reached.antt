@@ -19,6 +19,7 @@ use Rattle.wave_theory.proofs.Alive
 use Rattle.wave_theory.proofs.Tallies
 use Rattle.wave_theory.specs.States.{taken}
 use Rattle.wave_states.specs.Labels.{is_pass}
+use Rattle.wave_theory.proofs.Deeds
 use Rattle.wave_theory.proofs.Shows
 use Rattle.std.specs.Prelude.{All, map, option_map, option_and_then}
 use Rattle.wave_base.specs.Fold.{Head, Progress, with_done}
@@ -93,6 +94,16 @@ module _ {A F R J : Type 0} (sys : Actors A F R J) (hosts : ℕ) (fits : Path �
   pub record Goes (s : State A F R J) (n : ℕ) : Type 0 where
     pub good : Good_state s
     pub counts : total s good.tally ≡ n
+
+  -- what a label does
+  abbrev pub Turned : State A F R J → Shows.Ghost F → Shows.Ghost F → Act → Type 0
+  Turned s g g' a = Deeds.Turn sys w course b.before Is_real s g g' a
+
+  -- the state after a label, before which so many were taken
+  pub record Next (s s' : State A F R J) (g : Shows.Ghost F) (n : ℕ) (a : Act) : Type 0 where
+    pub good : Good_state s'
+    pub counts : total s' good.tally ≡ (if is_pass a then n else suc n)
+    pub turn : Turned s g good.ghost a
 
   -- a ticket of which there is something was admitted
   pub known : (s : State A F R J) (g : Shows.Ghost F) → Shown s g → (t : ℕ) → (s.cells t ≡ record { event = None; mails = λ k. None; result = None } → ⊥) → (b.before < t) × (t ≤ g.lines.admitted)
@@ -246,14 +257,14 @@ module _ {A F R J : Type 0} (sys : Actors A F R J) (hosts : ℕ) (fits : Path �
         at_or_below : (a b : ℕ) → a < suc b → (a < b) ⊎ (a ≡ b)
         at_or_below a b l = grind arith
 
-  idle_of : {X : Type 0} (o : Option X) {Y : Type 0} (p : Option Y) (y : Y) → (if Rattle.std.specs.Prelude.is_none o then p else None) ≡ Some y → (o ≡ None) × (p ≡ Some y)
+  pub idle_of : {X : Type 0} (o : Option X) {Y : Type 0} (p : Option Y) (y : Y) → (if Rattle.std.specs.Prelude.is_none o then p else None) ≡ Some y → (o ≡ None) × (p ≡ Some y)
   idle_of None p y e = (refl, e)
   idle_of (Some a) p y e = absurd (none_not e)
 
   -- the state after a label that leaves the hand
   module _ (s s' : State A F R J) (g : Shows.Ghost F) (x : Shown s g) (h : Heads s) (al : Alive.Alive sys w course b.before Is_real s g) (c : ℕ → ℕ) (tc : Tallies.Tally sys w course b.before Is_real g c) (v host : ℕ) where
-    abbrev Next : Act → Type 0
-    Next a = Goes s' (if is_pass a then total s c else suc (total s c))
+    abbrev Then : Act → Type 0
+    Then a = Next s s' g (total s c) a
 
     index_of : (t : ℕ) → b.before < t → t ≤ g.lines.admitted → (i : ℕ) × (i < s.admitted) × (t ≡ suc b.before + i)
     index_of t l m = by b.before t s.admitted l (subst (λ i. t ≤ i) x.admitted m)
@@ -278,32 +289,32 @@ module _ {A F R J : Type 0} (sys : Actors A F R J) (hosts : ℕ) (fits : Path �
             same_index : (a i j : ℕ) → suc a + i ≡ suc a + j → i ≡ j
             same_index a i j e = omega (arith, e)
 
-    next_by : (t : ℕ) (p : Path) (y : Bench A F R) (g' : Shows.Ghost F) → s' ≡ with_bench sys s t p v y → Shown (with_bench sys s t p v y) g' → Alive.Alive sys w course b.before Is_real (with_bench sys s t p v y) g' → (is_some (s.cells t).result ≡ true → is_some y.part.cell.result ≡ true) →
-        (b.before < t) × (t ≤ g.lines.admitted) → Tallies.Tally sys w course b.before Is_real g' (set nat_eq c t (suc (c t))) → Goes s' (suc (total s c))
-    next_by t p y g' e k al' r kn tl = subst (λ u. Goes u (suc (total s c))) (sym e) (record { good = record { ghost = g'; shows = k; heads = heads_after s t p v y h r; alive = al'; tally = set nat_eq c t (suc (c t)); tallied = tl }; counts = total_more t kn.0 kn.1 })
+    next_by : (a : Act) → is_pass a ≡ false → (t : ℕ) (p : Path) (y : Bench A F R) (g' : Shows.Ghost F) → Turned s g g' a → s' ≡ with_bench sys s t p v y → Shown (with_bench sys s t p v y) g' → Alive.Alive sys w course b.before Is_real (with_bench sys s t p v y) g' → (is_some (s.cells t).result ≡ true → is_some y.part.cell.result ≡ true) →
+        (b.before < t) × (t ≤ g.lines.admitted) → Tallies.Tally sys w course b.before Is_real g' (set nat_eq c t (suc (c t))) → Then a
+    next_by a ia t p y g' tn e k al' r kn tl = subst (λ u. Next s u g (total s c) a) (sym e) (record { good = record { ghost = g'; shows = k; heads = heads_after s t p v y h r; alive = al'; tally = set nat_eq c t (suc (c t)); tallied = tl }; counts = total_more t kn.0 kn.1 ∙ sym (ap (λ i. if i then total s c else suc (total s c)) ia); turn = tn })
 
-    next_same : (t : ℕ) (p : Path) (y : Bench A F R) (g' : Shows.Ghost F) → s' ≡ with_bench sys s t p v y → Shown (with_bench sys s t p v y) g' → Alive.Alive sys w course b.before Is_real (with_bench sys s t p v y) g' → (is_some (s.cells t).result ≡ true → is_some y.part.cell.result ≡ true) →
-        Tallies.Tally sys w course b.before Is_real g' c → Goes s' (total s c)
-    next_same t p y g' e k al' r tl = subst (λ u. Goes u (total s c)) (sym e) (record { good = record { ghost = g'; shows = k; heads = heads_after s t p v y h r; alive = al'; tally = c; tallied = tl }; counts = refl })
+    next_same : (a : Act) → is_pass a ≡ true → (t : ℕ) (p : Path) (y : Bench A F R) (g' : Shows.Ghost F) → Turned s g g' a → s' ≡ with_bench sys s t p v y → Shown (with_bench sys s t p v y) g' → Alive.Alive sys w course b.before Is_real (with_bench sys s t p v y) g' → (is_some (s.cells t).result ≡ true → is_some y.part.cell.result ≡ true) →
+        Tallies.Tally sys w course b.before Is_real g' c → Then a
+    next_same a ia t p y g' tn e k al' r tl = subst (λ u. Next s u g (total s c) a) (sym e) (record { good = record { ghost = g'; shows = k; heads = heads_after s t p v y h r; alive = al'; tally = c; tallied = tl }; counts = sym (ap (λ i. if i then total s c else suc (total s c)) ia); turn = tn })
 
     calm_is : (o : Option (Part A F R)) (y : Bench A F R) → with_hand sys None o ≡ Some y → (z : Part A F R) × (o ≡ Some z) × (y ≡ record { part = z; hand = None })
     calm_is o y e = map_some (λ (z : Part A F R). record { part = z; hand = None }) o y e
 
-    local : (a : Act) (y : Bench A F R) (hd : Option (Hand A F)) → s.hands v ≡ hd → Labels.is_local a ≡ true → act_bench sys a host (part_of sys s (ticket_of a) (path_of a)) hd ≡ Some y → s' ≡ with_bench sys s (ticket_of a) (path_of a) v y → Next a
+    local : (a : Act) (y : Bench A F R) (hd : Option (Hand A F)) → s.hands v ≡ hd → Labels.is_local a ≡ true → act_bench sys a host (part_of sys s (ticket_of a) (path_of a)) hd ≡ Some y → s' ≡ with_bench sys s (ticket_of a) (path_of a) v y → Then a
     local (Admit t) y hd k l e f = absurd (clash false l refl)
     local (Commit t) y hd k l e f = absurd (clash false l refl)
     local (Queue t n p) y (Some a) k l e f = absurd (none_not e)
     local (Queue t n p) y None k l e f = (let z = calm_is _ y e in let q = queues sys t n p host (part_of sys s t p) z.0 z.1 in let kn = known s g x t (event_there (s.cells t) q.event q.event_is) in
-        next_by t p (record { part = z.0; hand = None }) _ (f ∙ ap (with_bench sys s t p v) z.2) (Queueing.queue_shows sys w law course b.before Is_real s g x t n p host v z.0 q kn.0 kn.1) (Queueing.queue_alive sys w law course b.before Is_real s g x t n p host v z.0 q kn.0 kn.1 al k) (λ r. subst (λ (u : Part A F R). is_some u.cell.result ≡ true) q.gives r) kn (Queueing.queue_tally sys w law course b.before Is_real s g x t n p host v z.0 q kn.0 kn.1 c tc))
+        next_by (Queue t n p) refl t p (record { part = z.0; hand = None }) _ (Queueing.queue_turn sys w law course b.before Is_real s g x t n p host v z.0 q kn.0 kn.1) (f ∙ ap (with_bench sys s t p v) z.2) (Queueing.queue_shows sys w law course b.before Is_real s g x t n p host v z.0 q kn.0 kn.1) (Queueing.queue_alive sys w law course b.before Is_real s g x t n p host v z.0 q kn.0 kn.1 al k) (λ r. subst (λ (u : Part A F R). is_some u.cell.result ≡ true) q.gives r) kn (Queueing.queue_tally sys w law course b.before Is_real s g x t n p host v z.0 q kn.0 kn.1 c tc))
     local (Grant t p) y (Some a) k l e f = absurd (none_not e)
     local (Grant t p) y None k l e f = (let z = calm_is _ y e in let q = grants t p host (part_of sys s t p) z.0 z.1 in let kn = known s g x t (event_there (s.cells t) q.event q.event_is) in
-        next_by t p (record { part = z.0; hand = None }) _ (f ∙ ap (with_bench sys s t p v) z.2) (Granting.grant_shows sys w law course b.before Is_real courses s g x t p host v z.0 q) (Granting.grant_alive sys w law course b.before Is_real courses s g x t p host v z.0 q al k) (λ r. subst (λ (u : Part A F R). is_some u.cell.result ≡ true) q.gives r) kn (Granting.grant_tally sys w law course b.before Is_real courses s g x t p host v z.0 q c tc))
+        next_by (Grant t p) refl t p (record { part = z.0; hand = None }) _ (Granting.grant_turn sys w law course b.before Is_real courses s g x t p host v z.0 q) (f ∙ ap (with_bench sys s t p v) z.2) (Granting.grant_shows sys w law course b.before Is_real courses s g x t p host v z.0 q) (Granting.grant_alive sys w law course b.before Is_real courses s g x t p host v z.0 q al k) (λ r. subst (λ (u : Part A F R). is_some u.cell.result ≡ true) q.gives r) kn (Granting.grant_tally sys w law course b.before Is_real courses s g x t p host v z.0 q c tc))
     local (Labels.Visit t n p) y (Some a) k l e f = absurd (none_not e)
     local (Labels.Visit t n p) y None k l e f = (let z = calm_is _ y e in let q = Opened.visits n p host (part_of sys s t p) z.0 z.1 in let kn = known s g x t (event_there (s.cells t) q.event q.event_is) in
-        next_by t p (record { part = z.0; hand = None }) _ (f ∙ ap (with_bench sys s t p v) z.2) (Granting.visit_shows sys w law course b.before Is_real courses s g x t n p host v z.0 q kn.0 kn.1) (Granting.visit_alive sys w law course b.before Is_real courses s g x t n p host v z.0 q kn.0 kn.1 al k) (λ r. subst (λ (u : Part A F R). is_some u.cell.result ≡ true) q.gives r) kn (Granting.visit_tally sys w law course b.before Is_real courses s g x t n p host v z.0 q kn.0 kn.1 c tc))
+        next_by (Labels.Visit t n p) refl t p (record { part = z.0; hand = None }) _ (Granting.visit_turn sys w law course b.before Is_real courses s g x t n p host v z.0 q kn.0 kn.1) (f ∙ ap (with_bench sys s t p v) z.2) (Granting.visit_shows sys w law course b.before Is_real courses s g x t n p host v z.0 q kn.0 kn.1) (Granting.visit_alive sys w law course b.before Is_real courses s g x t n p host v z.0 q kn.0 kn.1 al k) (λ r. subst (λ (u : Part A F R). is_some u.cell.result ≡ true) q.gives r) kn (Granting.visit_tally sys w law course b.before Is_real courses s g x t n p host v z.0 q kn.0 kn.1 c tc))
     local (Start t p) y (Some a) k l e f = absurd (none_not e)
     local (Start t p) y None k l e f = (let q = starts t p host (part_of sys s t p) y e in let kn = known s g x t (event_there (s.cells t) q.event q.event_is) in
-        next_by t p y _ f (Starting.start_shows sys w law course b.before Is_real courses s g x t p host v y q kn.0 kn.1) (Starting.start_alive sys w law course b.before Is_real courses s g x t p host v y q kn.0 kn.1 al k) (λ r. subst (λ (u : Bench A F R). is_some u.part.cell.result ≡ true) q.gives r) kn (Starting.start_tally sys w law course b.before Is_real courses s g x t p host v y q kn.0 kn.1 c tc))
+        next_by (Start t p) refl t p y _ (Starting.start_turn sys w law course b.before Is_real courses s g x t p host v y q kn.0 kn.1) f (Starting.start_shows sys w law course b.before Is_real courses s g x t p host v y q kn.0 kn.1) (Starting.start_alive sys w law course b.before Is_real courses s g x t p host v y q kn.0 kn.1 al k) (λ r. subst (λ (u : Bench A F R). is_some u.part.cell.result ≡ true) q.gives r) kn (Starting.start_tally sys w law course b.before Is_real courses s g x t p host v y q kn.0 kn.1 c tc))
     local (Stop t p) y None k l e f = absurd (none_not e)
     local (Stop t p) y (Some hd) k l e f = (let i = if_some ((hd.ticket == t) && path_eq hd.path p) _ y e in
         stop_next hd k y (with_hand_is t p hd i.1) (f ∙ ap₂ (λ a r. with_bench sys s a r v y) (sym (number_is hd.ticket t (and_first _ _ i.0))) (sym (path_is hd.path p (and_second (hd.ticket == t) _ i.0)))) (number_is hd.ticket t (and_first _ _ i.0)) (path_is hd.path p (and_second (hd.ticket == t) _ i.0)))
@@ -311,27 +322,28 @@ module _ {A F R J : Type 0} (sys : Actors A F R J) (hosts : ℕ) (fits : Path �
         with_hand_is : (t : ℕ) (p : Path) (hd : Hand A F) → with_hand sys None (stop sys p host hd (part_of sys s t p)) ≡ Some y → with_hand sys None (stop sys p host hd (part_of sys s t p)) ≡ Some y
         with_hand_is t p hd e = e
 
-        stop_next : (hd : Hand A F) → s.hands v ≡ Some hd → (y : Bench A F R) → with_hand sys None (stop sys p host hd (part_of sys s t p)) ≡ Some y → s' ≡ with_bench sys s hd.ticket hd.path v y → hd.ticket ≡ t → hd.path ≡ p → Goes s' (suc (total s c))
-        stop_next hd k y e f et ep = (let e' : with_hand sys None (stop sys hd.path host hd (part_of sys s hd.ticket hd.path)) ≡ Some y = subst (λ r. with_hand sys None (stop sys r host hd (part_of sys s hd.ticket r)) ≡ Some y) (sym ep) (subst (λ a. with_hand sys None (stop sys p host hd (part_of sys s a p)) ≡ Some y) (sym et) e) in
+        stop_next : (hd : Hand A F) → s.hands v ≡ Some hd → (y : Bench A F R) → with_hand sys None (stop sys p host hd (part_of sys s t p)) ≡ Some y → s' ≡ with_bench sys s hd.ticket hd.path v y → hd.ticket ≡ t → hd.path ≡ p → Then (Stop t p)
+        stop_next hd k y e f et ep = subst (λ a. Then (Stop a p)) et (subst (λ r. Then (Stop hd.ticket r)) ep (let e' : with_hand sys None (stop sys hd.path host hd (part_of sys s hd.ticket hd.path)) ≡ Some y = subst (λ r. with_hand sys None (stop sys r host hd (part_of sys s hd.ticket r)) ≡ Some y) (sym ep) (subst (λ a. with_hand sys None (stop sys p host hd (part_of sys s a p)) ≡ Some y) (sym et) e) in
             let z = calm_is _ y e' in let q = stopping sys hd.ticket hd.path host hd (part_of sys s hd.ticket hd.path) z.0 z.1 in
             let n = Paused.stop_keeps sys w law course b.before Is_real courses s g x hd v host k z.0 q in
-            next_by hd.ticket hd.path (record { part = z.0; hand = None }) n.ghost (f ∙ ap (with_bench sys s hd.ticket hd.path v) z.2) n.shows (n.alive al) (λ r. absurd (clash _ r (ap is_some (Paused.no_result sys w law course b.before Is_real courses s g x hd v host k z.0 q)))) ((x.hands v hd k).later, (x.hands v hd k).known) (n.tally al c tc))
+            next_by (Stop hd.ticket hd.path) refl hd.ticket hd.path (record { part = z.0; hand = None }) n.ghost n.turn (f ∙ ap (with_bench sys s hd.ticket hd.path v) z.2) n.shows (n.alive al) (λ r. absurd (clash _ r (ap is_some (Paused.no_result sys w law course b.before Is_real courses s g x hd v host k z.0 q)))) ((x.hands v hd k).later, (x.hands v hd k).known) (n.tally al c tc)))
     local (Free t n p) y (Some a) k l e f = absurd (none_not e)
     local (Free t n p) y None k l e f = (let z = calm_is _ y e in let q = frees t n p host (part_of sys s t p) z.0 z.1 in let kn = known s g x t (mail_there (s.cells t) n q.letter_at.mail q.letter_at.mail_is) in
-        next_by t p (record { part = z.0; hand = None }) _ (f ∙ ap (with_bench sys s t p v) z.2) (Freeing.free_shows sys w law course b.before Is_real courses s g x t n p host v z.0 q kn.0 kn.1) (Freeing.free_alive sys w law course b.before Is_real courses s g x t n p host v z.0 q kn.0 kn.1 al k) (λ r. subst (λ (u : Part A F R). is_some u.cell.result ≡ true) q.gives r) kn (Freeing.free_tally sys w law course b.before Is_real courses s g x t n p host v z.0 q kn.0 kn.1 c tc))
+        next_by (Free t n p) refl t p (record { part = z.0; hand = None }) _ (Freeing.free_turn sys w law course b.before Is_real courses s g x t n p host v z.0 q kn.0 kn.1) (f ∙ ap (with_bench sys s t p v) z.2) (Freeing.free_shows sys w law course b.before Is_real courses s g x t n p host v z.0 q kn.0 kn.1) (Freeing.free_alive sys w law course b.before Is_real courses s g x t n p host v z.0 q kn.0 kn.1 al k) (λ r. subst (λ (u : Part A F R). is_some u.cell.result ≡ true) q.gives r) kn (Freeing.free_tally sys w law course b.before Is_real courses s g x t n p host v z.0 q kn.0 kn.1 c tc))
     local (Pass t n p to) y (Some a) k l e f = absurd (none_not e)
     local (Pass t n p to) y None k l e f = (let z = calm_is _ y e in let q = passes n to p host (part_of sys s t p) z.0 z.1 in let kn = known s g x t (mail_there (s.cells t) n q.letter_at.mail q.letter_at.mail_is) in
-        next_same t p (record { part = z.0; hand = None }) _ (f ∙ ap (with_bench sys s t p v) z.2) (Freeing.pass_shows sys w law course b.before Is_real courses s g x t n to p host v z.0 q kn.0 kn.1) (Freeing.pass_alive sys w law course b.before Is_real courses s g x t n to p host v z.0 q kn.0 kn.1 al k) (λ r. subst (λ (u : Part A F R). is_some u.cell.result ≡ true) q.gives r) tc)
+        next_same (Pass t n p to) refl t p (record { part = z.0; hand = None }) _ (Freeing.pass_turn sys w law course b.before Is_real courses s g x t n to p host v z.0 q kn.0 kn.1) (f ∙ ap (with_bench sys s t p v) z.2) (Freeing.pass_shows sys w law course b.before Is_real courses s g x t n to p host v z.0 q kn.0 kn.1) (Freeing.pass_alive sys w law course b.before Is_real courses s g x t n to p host v z.0 q kn.0 kn.1 al k) (λ r. subst (λ (u : Part A F R). is_some u.cell.result ≡ true) q.gives r) tc)
     local (Land t n p) y (Some a) k l e f = absurd (none_not e)
     local (Land t n p) y None k l e f = (let z = calm_is _ y e in let q = lands n p host (part_of sys s t p) z.0 z.1 in let kn = known s g x t (mail_there (s.cells t) n q.letter_at.mail q.letter_at.mail_is) in
-        next_by t p (record { part = z.0; hand = None }) _ (f ∙ ap (with_bench sys s t p v) z.2) (Freeing.land_shows sys w law course b.before Is_real courses s g x t n p host v z.0 q kn.0 kn.1) (Freeing.land_alive sys w law course b.before Is_real courses s g x t n p host v z.0 q kn.0 kn.1 al k) (λ r. subst (λ (u : Part A F R). is_some u.cell.result ≡ true) q.gives r) kn (Freeing.land_tally sys w law course b.before Is_real courses s g x t n p host v z.0 q kn.0 kn.1 c tc))
+        next_by (Land t n p) refl t p (record { part = z.0; hand = None }) _ (Freeing.land_turn sys w law course b.before Is_real courses s g x t n p host v z.0 q kn.0 kn.1) (f ∙ ap (with_bench sys s t p v) z.2) (Freeing.land_shows sys w law course b.before Is_real courses s g x t n p host v z.0 q kn.0 kn.1) (Freeing.land_alive sys w law course b.before Is_real courses s g x t n p host v z.0 q kn.0 kn.1 al k) (λ r. subst (λ (u : Part A F R). is_some u.cell.result ≡ true) q.gives r) kn (Freeing.land_tally sys w law course b.before Is_real courses s g x t n p host v z.0 q kn.0 kn.1 c tc))
 
-    admit_next : (t : ℕ) → admit sys s host t ≡ Some s' → Goes s' (suc (total s c))
+    admit_next : (t : ℕ) → admit sys s host t ≡ Some s' → Then (Admit t)
     admit_next t e =
         let j = then_some (λ j. only_if ((host == 0) && (t == next_ticket sys s)) (admitted sys s t j)) (slice_get s.head.known s.admitted) s' e in
         let o = only_some ((host == 0) && (t == next_ticket sys s)) (admitted sys s t j.0) s' j.2 in
         let n : t ≡ suc g.lines.admitted = number_is t (next_ticket sys s) (and_second (host == 0) _ o.0) ∙ ap (λ i. suc (i + s.admitted)) x.before ∙ ap suc (sym x.admitted) in
-        subst (λ u. Goes u (suc (total s c))) o.1 (record {
+        subst (λ u. Next s u g (total s c) (Admit t)) o.1 (record {
+          turn = Admitting.admit_turn sys w law course b.before Is_real courses s g x j.0 (first_is s g x h j.0 j.1) t n;
           good = record {
             ghost = Admitting.with_ticket sys w law course b.before Is_real courses g;
             shows = Admitting.admit_shows sys w law course b.before Is_real courses s g x j.0 (first_is s g x h j.0 j.1) t n;
@@ -355,12 +367,13 @@ module _ {A F R J : Type 0} (sys : Actors A F R J) (hosts : ℕ) (fits : Path �
         plus : (a d : ℕ) → (a + 1) + d ≡ suc (a + d)
         plus a d = omega arith
 
-    commit_next : (t : ℕ) → commit sys s host t ≡ Some s' → Goes s' (suc (total s c))
+    commit_next : (t : ℕ) → commit sys s host t ≡ Some s' → Then (Commit t)
     commit_next t e =
         let r = then_some (λ r. only_if ((host == 0) && (t == suc (s.before + s.head.done))) (committed sys s r)) (s.cells t).result s' e in
         let o = only_some ((host == 0) && (t == suc (s.before + s.head.done))) (committed sys s r.0) s' r.2 in
         let n : t ≡ suc (b.before + s.head.done) = number_is t (suc (s.before + s.head.done)) (and_second (host == 0) _ o.0) ∙ ap (λ i. suc (i + s.head.done)) x.before in
-        subst (λ u. Goes u (suc (total s c))) o.1 (record {
+        subst (λ u. Next s u g (total s c) (Commit t)) o.1 (record {
+          turn = Admitting.commit_turn sys w law course b.before Is_real courses s g t;
           good = record {
             ghost = g;
             shows = Admitting.commit_shows sys w law course b.before Is_real courses s g r.0 x;
@@ -375,7 +388,7 @@ module _ {A F R J : Type 0} (sys : Actors A F R J) (hosts : ℕ) (fits : Path �
         plus : (a d : ℕ) → a + suc d ≡ suc (a + d)
         plus a d = omega arith
 
-    pub step_next : (a : Act) → step_by sys s v host a ≡ Some s' → Next a
+    pub step_next : (a : Act) → step_by sys s v host a ≡ Some s' → Then a
     step_next (Admit t) e = admit_next t (idle_of (s.hands v) _ s' e).1
     step_next (Commit t) e = commit_next t (idle_of (s.hands v) _ s' e).1
     step_next (Queue t n p) e = (let y = map_some _ _ s' e in local (Queue t n p) y.0 (s.hands v) refl refl y.1 y.2)
@@ -424,11 +437,15 @@ module _ {A F R J : Type 0} (sys : Actors A F R J) (hosts : ℕ) (fits : Path �
       apart : (a t : ℕ) → a < t → t ≤ a → ⊥
       apart a t l m = omega arith
 
-  first_good : 0 < hosts → Goes (start_state b batches) 0
+  pub first_good : 0 < hosts → Goes (start_state b batches) 0
   first_good some_host = record { good = record { ghost = Beginning.ghost₀ sys hosts fits is_job fine owes b batches begins jobs; shows = Beginning.start_shows sys hosts fits is_job fine owes b batches begins jobs; heads = first_heads; alive = first_alive some_host; tally = λ t. 0; tallied = record { counted = λ t l m. absurd (apart b.before t l m); stale = λ t l m e. absurd (apart b.before t l m) } }; counts = ap₂ (λ a d. a + d) (Tallies.sum_zero (λ i. 0)) (Folds.zero_done sys b batches) }
     where
       apart : (a t : ℕ) → a < t → t ≤ a → ⊥
       apart a t l m = omega arith
+
+  pub first_ghost : (some_host : 0 < hosts) → (first_good some_host).good.ghost ≡ Beginning.ghost₀ sys hosts fits is_job fine owes b batches begins jobs
+  unfolding first_good
+  first_ghost some_host = refl
 
   pub reached_by : 0 < hosts → (workers : ℕ) (s : State A F R J) (ls : List Label) → run sys workers (start_state b batches) ls ≡ Some s → Goes s (taken ls)
   reached_by some_host workers s ls e = (let f = first_good some_host in let r = run_good workers (start_state b batches) s ls f.good e in

@@ -24,7 +24,7 @@ use Rattle.wave_theory.specs.States.{Counted, taken, size}
 use Rattle.wave_theory.proofs.Ways.{Counts, none_yet, next_is}
 use Rattle.wave_theory.proofs.Plans.{first_of, last_of, counts}
 use Rattle.wave_theory.proofs.Courses.{view_real, view_at, View}
-use Rattle.wave_theory.proofs.Tallies.{sum_to, sum_zero, sum_more, sum_same, sum_less, over_part, full_part, stage_part, progress, over_parts}
+use Rattle.wave_theory.proofs.Tallies.{sum_up, sum_to, sum_zero, sum_more, sum_same, sum_less, over_part, full_part, stage_part, progress, over_parts}
 use Rattle.wave_theory.proofs.Live
 use Rattle.wave_theory.proofs.Plans
 use Rattle.wave_theory.proofs.Folds
@@ -32,16 +32,6 @@ use Rattle.wave_theory.proofs.Courses
 use Rattle.wave_theory.proofs.Reached
 use Rattle.wave_theory.proofs.Shows
 use Rattle.wave_theory.proofs.Told
-
-sum_up : (n m : ℕ) (f : ℕ → ℕ) → n ≤ m → sum_to n f ≤ sum_to m f
-sum_up n zero f l = (let z : n ≡ 0 = omega (arith, l) in subst (λ i. sum_to i f ≤ sum_to 0 f) (sym z) (omega arith))
-sum_up n (suc m) f l = elim (at_or_below n m l) [
-  | inr e ↦ subst (λ i. sum_to i f ≤ sum_to (suc m) f) (sym e) (omega arith)
-  | inl k ↦ (let a = sum_up n m f k in let c = sum_more m f in omega (arith, a, c))
-]
-  where
-    at_or_below : (a b : ℕ) → a ≤ suc b → (a ≤ b) ⊎ (a ≡ suc b)
-    at_or_below a b l = grind arith
 
 sum_suc : (n : ℕ) (f : ℕ → ℕ) → sum_to n (λ i. suc (f i)) + n ≡ sum_to n (λ i. 2 + f i)
 sum_suc zero f = ap₂ (λ a c. a + c) (sum_zero (λ i. suc (f i))) (sym (sum_zero (λ i. 2 + f i)) ∙ sum_zero (λ i. 2 + f i)) ∙ sym (sum_zero (λ i. 2 + f i))
@@ -73,7 +63,7 @@ over_full false h e = refl
 
 -- a path is entered in a segment just where it is fresh
 module _ {A F R J : Type 0} (sys : Actors A F R J) where
-  abbrev one_if : Bool → ℕ
+  abbrev pub one_if : Bool → ℕ
   one_if true = 1
   one_if false = 0
 
@@ -125,14 +115,26 @@ module _ {A F R J : Type 0} (sys : Actors A F R J) where
         by true z s s' a a' e d u = (let d' : s' ≡ s + 5 = d ∙ ap (λ i. s + full_part i) z in let u' : a' ≡ a + 1 = u ∙ ap (λ i. a + one_if i) z in omega (arith, e, d', u'))
         by false z s s' a a' e d u = (let d' : s' ≡ s + 3 = d ∙ ap (λ i. s + full_part i) z in let u' : a' ≡ a + 0 = u ∙ ap (λ i. a + one_if i) z in omega (arith, e, d', u'))
 
-    pub parts : sum_to (suc n) (λ i. full_part (after_segments sys i y).fresh) ≡ 3 * suc n + 2 * length (after_segments sys (suc n) y).entered
-    parts = parts_at n (omega arith) ∙ ap (λ m. 3 * suc n + 2 * m) (sym (entered_at n (omega arith) ∙ ap (λ f. length (after_segments sys n y).entered + one_if f) last_stale ∙ none_more _))
-      where
-        none_more : (n : ℕ) → n + 0 ≡ n
-        none_more n = omega arith
+    last_stale : (after_segments sys (suc n) y).fresh ≡ false
+    last_stale = ap (λ (z : Alone A F R). z.fresh) (next_is sys n y) ∙ over_stale (after_segments sys n y) c.result (c.under n (omega arith)) (sym (ap (λ (z : Alone A F R). z.result) (next_is sys n y)) ∙ c.ends)
 
-        last_stale : (after_segments sys (suc n) y).fresh ≡ false
-        last_stale = ap (λ (z : Alone A F R). z.fresh) (next_is sys n y) ∙ over_stale (after_segments sys n y) c.result (c.under n (omega arith)) (sym (ap (λ (z : Alone A F R). z.result) (next_is sys n y)) ∙ c.ends)
+    none_more : (n : ℕ) → n + 0 ≡ n
+    none_more n = omega arith
+
+    all_entered : length (after_segments sys n y).entered ≡ length (after_segments sys (suc n) y).entered
+    all_entered = sym (entered_at n (omega arith) ∙ ap (λ f. length (after_segments sys n y).entered + one_if f) last_stale ∙ none_more _)
+
+    pub parts : sum_to (suc n) (λ i. full_part (after_segments sys i y).fresh) ≡ 3 * suc n + 2 * length (after_segments sys (suc n) y).entered
+    parts = parts_at n (omega arith) ∙ ap (λ m. 3 * suc n + 2 * m) all_entered
+
+    entries_at : (k : ℕ) → k ≤ n → sum_to (suc k) (λ i. one_if (after_segments sys i y).fresh) ≡ length (after_segments sys k y).entered
+    entries_at zero l = sum_more 0 (λ i. one_if (after_segments sys i y).fresh) ∙ ap₂ (λ a d. a + d) (sum_zero (λ i. one_if (after_segments sys i y).fresh)) (ap (λ (z : Alone A F R). one_if z.fresh) (none_yet sys y) ∙ ap one_if fresh)
+        ∙ sym (ap (λ (z : Alone A F R). length z.entered) (none_yet sys y) ∙ one)
+    entries_at (suc k) l = sum_more (suc k) (λ i. one_if (after_segments sys i y).fresh) ∙ ap (λ m. m + one_if (after_segments sys (suc k) y).fresh) (entries_at k (omega (arith, l))) ∙ sym (entered_at k (omega (arith, l)))
+
+    -- so many contexts it enters
+    pub entries : sum_to (suc n) (λ i. one_if (after_segments sys i y).fresh) ≡ length (after_segments sys (suc n) y).entered
+    entries = entries_at n (omega arith) ∙ all_entered
 
 module _ {A F R J : Type 0} (sys : Actors A F R J) (hosts : ℕ) (fits : Path → F → Type 0) (is_job : J → Type 0) (fine : A → Path → ℕ → Type 0) (owes : Owes sys hosts fits is_job fine) (b : Begin F) (batches : List (List J)) (begins : IsBegin sys hosts fits is_job fine b) (jobs : All (All is_job) batches) where
   abbrev w : Way

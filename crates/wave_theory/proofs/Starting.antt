@@ -15,6 +15,8 @@ use Rattle.wave_theory.proofs.Found.{Found, found, changed}
 use Rattle.wave_theory.proofs.Frames.{update, at_spot, holds_spot, option_some}
 use Rattle.wave_theory.proofs.Alive
 use Rattle.wave_theory.proofs.Tallies
+use Rattle.wave_theory.proofs.Deeds
+use Rattle.wave_states.specs.Labels
 use Rattle.wave_theory.proofs.Shows
 
 there_lined : There ≡ Lined → ⊥
@@ -189,6 +191,9 @@ module _ {A F R J : Type 0} (sys : Actors A F R J) (w : Way) (law : IsWay w) (co
     start_shows = subst (λ z. Shows.Shows sys w course low is_real (with_bench sys s t p v z) gs) q.gives (update sys w law course low is_real s g gs t p v (started t p h (part_of sys s t p) q.event q.entry q.actor q.body) x frame
         (record { within = x.good.within; going = x.good.going; ended = x.good.ended; is_fresh = x.good.is_fresh; sends = x.good.sends; grants = x.good.grants; first = x.good.first; let_in = x.good.let_in; keeps = x.good.keeps; alone = x.good.alone; latest = x.good.latest })
         (record { held = x.kept.held; calm = x.kept.calm }) refl lt la cell entry column (λ hd z. subst (Shows.HandShows sys w course low is_real gs v) (some_same _ hd z) hand) x.root)
+
+    pub start_turn : Deeds.Turn sys w course low is_real s g gs (Labels.Start t p)
+    start_turn = record { deed = Deeds.Rests; suits = tt; is = refl; fits = tt; kids = λ r i a z. inl z }
 
     pub start_tally : (n : ℕ → ℕ) → Tallies.Tally sys w course low is_real g n → Tallies.Tally sys w course low is_real gs (set nat_eq n t (suc (n t)))
     start_tally n y = Tallies.tally_update sys w course low is_real g gs t p v n frame refl lt la y

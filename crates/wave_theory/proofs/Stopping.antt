@@ -28,6 +28,8 @@ use Rattle.wave_theory.proofs.Desks.{DeskShows, send_desk, give_up_desk, keep_re
 use Rattle.wave_theory.proofs.Alive
 use Rattle.wave_theory.proofs.Tracks
 use Rattle.wave_theory.proofs.Tallies
+use Rattle.wave_theory.proofs.Deeds
+use Rattle.wave_states.specs.Labels
 use Rattle.wave_theory.proofs.Shows
 
 entering_coming : Entering ≡ Coming → ⊥
@@ -247,6 +249,13 @@ module _ {A F R J : Type 0} (sys : Actors A F R J) (w : Way) (law : IsWay w) (co
     same_kids z e a st c u = elim (a.kids p st c (ap (λ cs. child_at cs st) (sym e) ∙ ap (λ (b : Record F). child_at b.children st) (sym (set_at_path g.body p z.body)) ∙ u)) [
       | inl n ↦ inl n
       | inr n ↦ inr (record { ticket = n.ticket; first = n.first; known = n.known; comes = n.comes })
+    ]
+
+    -- the children that a record has after a change
+    kids_by : (z : Change) → ((u : Step) (a : Child) → child_at z.body.children u ≡ Some a → (child_at (g.body p).children u ≡ Some a) ⊎ (0 < a.given)) → Deeds.Kids sys w course low is_real s g (changed_by g t p z) t p
+    kids_by z o r u a e = elim (path_cases p r) [
+      | inr d ↦ inl (ap (λ (b : Record F). child_at b.children u) (sym (set_there path_eq g.body p z.body r d)) ∙ e)
+      | inl d ↦ subst (λ i. (child_at (g.body i).children u ≡ Some a) ⊎ (0 < a.given)) d (o u a (ap (λ (b : Record F). child_at b.children u) (sym (set_at_path g.body p z.body)) ∙ subst (λ i. child_at ((changed_by g t p z).body i).children u ≡ Some a) (sym d) e))
     ]
 
     -- what is under way after a change
@@ -694,6 +703,30 @@ module _ {A F R J : Type 0} (sys : Actors A F R J) (w : Way) (law : IsWay w) (co
               (changed sys w course low is_real g (changed_by g t p z_new) p (s.columns p) h q.entry (with_body q.entry (Some body_new)) f refl (trail_off p apart_p) (set_at_path g.entry p _));
         }
 
+        pub turn_new : Deeds.Turn sys w course low is_real s g (changed_by g t p z_new) (Labels.Stop t p)
+        turn_new = record {
+          deed = Deeds.Goes_in st (child_trail (child_at hd.body.children st) (g.trail child_path));
+          suits = tt;
+          is = refl;
+          fits = record {
+            stopped = record { stage = hs.stage; place = sym hs.place };
+            more = i.more;
+            fresh = fresh_now;
+            next = i.place_is;
+            latest = x.good.latest t p holds_p off;
+            number = subst (λ r. rank w r t ≡ suc (g.lines.given r)) i.place_is (next_number law g.lines t x.good (omega (arith, hs.later)) hs.known hs.stage i.more fresh_now);
+            trail = elim (options (child_at hd.body.children st)) [
+              | inl e ↦ inr (child_trail_none _ (g.trail child_path) e ∙ ap unborn f.host_is, sym (en.given st) ∙ ap (λ o. (child_or_new o 0).given) (stranger e), en.strangers st (stranger e))
+              | inr a ↦ inl (a.0, ap (λ u. child_at u.children st) (sym whole) ∙ a.1, child_trail_some _ a.0 (g.trail child_path) a.1)
+            ];
+            main = λ e u. set_at g.main t (suc q.event.sent) ∙ ap (λ (a : Event A). suc a.sent) (some_same q.event e (sym q.event_is ∙ u));
+          };
+          kids = kids_by z_new (λ u a e. elim (step_or u) [
+            | inl n ↦ (let y : next_kid ≡ a = some_same _ a (ap (λ j. cond j (Some next_kid) (child_at hd.body.children u)) (sym n.0) ∙ sym (child_put hd.body.children st u next_kid) ∙ e) in inr (subst (λ (j : Child). 0 < j.given) y (omega arith)))
+            | inr n ↦ inl (ap (λ j. child_at j.children u) (sym whole) ∙ ap (λ j. cond j (Some next_kid) (child_at hd.body.children u)) (sym n.0) ∙ sym (child_put hd.body.children st u next_kid) ∙ e)
+          ]);
+        }
+
         pub lives_new : y ≡ y_new → Alive.Alive sys w course low is_real s g → Lives z_new
         lives_new ye a = record {
           waiting = refl;
@@ -767,6 +800,15 @@ module _ {A F R J : Type 0} (sys : Actors A F R J) (w : Way) (law : IsWay w) (co
           where
             plain : (a : Bool) → ((a || false) && true) ≡ a
             plain a = grind arith
+
+        pub turn_old : Deeds.Turn sys w course low is_real s g (changed_by g t p z_old) (Labels.Stop t p)
+        turn_old = record {
+          deed = Deeds.Goes_on;
+          suits = tt;
+          is = refl;
+          fits = record { stopped = record { stage = hs.stage; place = sym hs.place }; more = i.more; stale = stale };
+          kids = kids_by z_old (λ u a e. inl (ap (λ (b : Record F). child_at b.children u) (sym whole) ∙ e));
+        }
 
         pub lives_old : y ≡ y_old → Alive.Alive sys w course low is_real s g → Lives z_old
         lives_old ye a = record {
@@ -860,6 +902,15 @@ module _ {A F R J : Type 0} (sys : Actors A F R J) (w : Way) (law : IsWay w) (co
         where
           plain : (a : Bool) → (a && true) ≡ a
           plain a = grind arith
+
+      pub turn_back : Deeds.Turn sys w course low is_real s g (changed_by g t p z_back) (Labels.Stop t p)
+      turn_back = record {
+        deed = Deeds.Goes_on;
+        suits = tt;
+        is = refl;
+        fits = record { stopped = record { stage = hs.stage; place = sym hs.place }; more = i.more; stale = i.stale };
+        kids = kids_by z_back (λ u a e. inl (ap (λ (b : Record F). child_at b.children u) (sym whole_b) ∙ e));
+      }
 
       pub lives_back : y ≡ y_back → Alive.Alive sys w course low is_real s g → Lives z_back
       lives_back ye a = record {
@@ -978,6 +1029,15 @@ module _ {A F R J : Type 0} (sys : Actors A F R J) (w : Way) (law : IsWay w) (co
             entry_now : set path_eq g.entry p q.entry p ≡ g.entry p
             entry_now = set_at_path g.entry p q.entry ∙ f.entry_is
 
+        pub turn_look : Deeds.Turn sys w course low is_real s g (changed_by g t p z_look) (Labels.Stop t p)
+        turn_look = record {
+          deed = Deeds.Ends;
+          suits = tt;
+          is = refl;
+          fits = record { stopped = record { stage = hs.stage; place = sym hs.place }; last = i.last_is; result = r; result_is = i.result_is; move_is = inl (i.looking on) };
+          kids = kids_by z_look (λ u a e. inl e);
+        }
+
         pub lives_look : y ≡ y_look → Alive.Alive sys w course low is_real s g → Lives z_look
         lives_look ye a = record {
           waiting = refl;
@@ -1031,6 +1091,15 @@ module _ {A F R J : Type 0} (sys : Actors A F R J) (w : Way) (law : IsWay w) (co
           });
           column = subst (λ (u : Part A F R). Shows.ColumnShows sys w course low is_real (g.born p) (changed_by g t p z_end) p u.column) (sym ye)
               (changed sys w course low is_real g (changed_by g t p z_end) p (s.columns p) h q.entry (with_body q.entry (Some body_end)) f refl refl (set_at_path g.entry p _));
+        }
+
+        pub turn_end : (sys.moved r ≡ None) ⊎ (sys.moved r ≡ Some (p, owner (g.trail p))) → Deeds.Turn sys w course low is_real s g (changed_by g t p z_end) (Labels.Stop t p)
+        turn_end stays = record {
+          deed = Deeds.Ends;
+          suits = tt;
+          is = refl;
+          fits = record { stopped = record { stage = hs.stage; place = sym hs.place }; last = i.last_is; result = r; result_is = i.result_is; move_is = stays };
+          kids = kids_by z_end (λ u a e. inl (ap (λ (b : Record F). child_at b.children u) (sym whole_e) ∙ e));
         }
 
         pub lives_end : y ≡ y_end → Alive.Alive sys w course low is_real s g → Lives z_end
@@ -1148,6 +1217,15 @@ module _ {A F R J : Type 0} (sys : Actors A F R J) (w : Way) (law : IsWay w) (co
                   (depart_track (s.columns p) (g.trail p) to f.stays.track f.stored (λ e. other (e ∙ sym f.host_is)))));
               there = λ e. absurd (clash _ e (ap (λ j. j.stored) trail_at_m));
             }));
+          }
+
+          pub turn_moved : sys.moved r ≡ Some (p, to) → Deeds.Turn sys w course low is_real s g (changed_by g t p z_moved) (Labels.Stop t p)
+          turn_moved moved_to = record {
+            deed = Deeds.Moves to;
+            suits = tt;
+            is = refl;
+            fits = record { stopped = record { stage = hs.stage; place = sym hs.place }; last = i.last_is; result = r; result_is = i.result_is; move_is = record { moved = moved_to; other = λ e. other (e ∙ sym f.host_is); stored = f.stored; latest = x.good.latest t p holds_p no } };
+            kids = kids_by z_moved (λ u a e. inl (ap (λ (b : Record F). child_at b.children u) (sym whole_e) ∙ e));
           }
 
           pub lives_moved : to < course.hosts → y ≡ y_moved → Alive.Alive sys w course low is_real s g → Lives z_moved

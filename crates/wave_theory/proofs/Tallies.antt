@@ -35,6 +35,17 @@ unfolding sum_to
 sum_less zero f h e = omega arith
 sum_less (suc n) f h e = (let a = sum_less n f h (λ k l. e k (omega (arith, l))) in let c = e n (omega arith) in omega (arith, a, c))
 
+-- a longer sum
+pub sum_up : (n m : ℕ) (f : ℕ → ℕ) → n ≤ m → sum_to n f ≤ sum_to m f
+sum_up n zero f l = (let z : n ≡ 0 = omega (arith, l) in subst (λ i. sum_to i f ≤ sum_to 0 f) (sym z) (omega arith))
+sum_up n (suc m) f l = elim (at_or_below n m l) [
+  | inr e ↦ subst (λ i. sum_to i f ≤ sum_to (suc m) f) (sym e) (omega arith)
+  | inl k ↦ (let a = sum_up n m f k in let c = sum_more m f in omega (arith, a, c))
+]
+  where
+    at_or_below : (a b : ℕ) → a ≤ suc b → (a ≤ b) ⊎ (a ≡ suc b)
+    at_or_below a b l = grind arith
+
 pub sum_one : (n : ℕ) (f h : ℕ → ℕ) (i : ℕ) → i < n → h i ≡ suc (f i) → ((k : ℕ) → k < n → nat_eq i k ≡ false → h k ≡ f k) → sum_to n h ≡ suc (sum_to n f)
 unfolding sum_to
 sum_one zero f h i l e o = absurd (omega (arith, l))

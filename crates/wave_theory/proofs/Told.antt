@@ -68,7 +68,7 @@ module _ {A F R J : Type 0} (sys : Actors A F R J) (hosts : ℕ) (fits : Path �
   goes_on i j e = Folds.goes_on sys b batches i j e (done_at sys hosts fits is_job fine owes b batches begins jobs i j e)
 
   -- a ticket comes to a context where its run enters it
-  visits_is : (i : ℕ) (j : J) (p : Path) → job_after sys b batches i ≡ Some j → visits w (suc b.before + i) p ≡ list_any (path_eq p) (ran i j).entered
+  pub visits_is : (i : ℕ) (j : J) (p : Path) → job_after sys b batches i ≡ Some j → visits w (suc b.before + i) p ≡ list_any (path_eq p) (ran i j).entered
   visits_is i j p e = ap (λ (v : View A F R). v.one.entered (suc v.one.last) p) (view_real sys hosts fits is_job fine owes b batches begins jobs i j e) ∙ ap (λ ps. list_any (path_eq p) ps) (sym (entered_after sys hosts fits is_job fine owes b batches begins jobs i j e))
 
   load_next : (i : ℕ) (j : J) (p : Path) → job_after sys b batches i ≡ Some j → load_of (at (suc i)).entered p ≡ load_of (at i).entered p + (if visits w (suc b.before + i) p then 1 else 0)

@@ -1,5 +1,5 @@
 -- What the laws say of a state that a list of labels leads to.
-use Rattle.std.specs.Prelude.{◌≡◌, ◌*◌, false, ◌↔◌, ◌∷◌, ◌++◌, ◌<◌, ◌≤◌, ◌⊎◌, ◌+◌, ℕ, suc, true, if◌then◌else◌, List, [], Some, None, slice_get, All, ◌≢◌, is_some}
+use Rattle.std.specs.Prelude.{length, ◌≡◌, ◌*◌, false, ◌↔◌, ◌∷◌, ◌++◌, ◌<◌, ◌≤◌, ◌⊎◌, ◌+◌, ℕ, suc, true, if◌then◌else◌, List, [], Some, None, slice_get, All, ◌≢◌, is_some}
 use Rattle.wave_base.specs.declared.path.Path.{Path}
 use Rattle.wave_base.specs.Tree.{there, children_of}
 use Rattle.wave_base.specs.Fold.{Progress}
@@ -10,9 +10,9 @@ use Rattle.wave_states.specs.Labels.{Act, Label, Admit, Stop, Pass, Land, Commit
 use Rattle.wave_states.specs.Canonical.{enabled, idle_in, below}
 use Rattle.wave_states.specs.Steps.{step, route, Wait}
 use Rattle.wave_states.specs.Runs.{run, Finished}
-use Rattle.wave_states.specs.Alone.{fold_alone, job_after}
+use Rattle.wave_states.specs.Alone.{fold_alone, job_after, places_alone}
 use Rattle.wave_states.specs.Work.{Work, work_after}
-use Rattle.wave_states.specs.Begins.{Begin, start_state, is_root}
+use Rattle.wave_states.specs.Begins.{Begin, start_state, is_root, has_moved}
 use Rattle.wave_states.specs.Owes.{IsBegin, IsPlan}
 use Rattle.wave_states.specs.Owners.{IsComing, IsOwner}
 use Rattle.wave_base.specs.declared.path.Step.{Step}
@@ -161,8 +161,8 @@ module _ {A F R J : Type 0} (sys : Actors A F R J) where
   NeverStuck workers b batches s = (worker n : ℕ) → worker < workers → s.hands worker ≡ None → s.head.done < (fold_alone sys b batches n).head.done →
       (ticket : ℕ) × (ticket ≤ suc (b.before + s.head.done)) × (CanTake workers s worker ticket ⊎ IsOut s ticket)
 
-  -- Every job of the fold is committed; no mail is under way, and nobody holds a context or waits for one; and the contexts that have
-  -- an entry are those of the fold's last tree, each with its fields and its children.
+  -- Every job of the fold is committed; no mail is under way, and nobody holds a context or waits for one; the contexts that have
+  -- an entry are those of the fold's last tree, each with its fields and its children; and each is on the host that the fold has for it.
   pub record IsComplete (b : Begin F) (batches : List (List J)) (s : State A F R J) : Type 0 where
     pub committed : (n : ℕ) → (fold_alone sys b batches n).head.done ≤ s.head.done
     pub no_mails : (t k : ℕ) → (s.cells t).mails k ≡ None
@@ -170,6 +170,7 @@ module _ {A F R J : Type 0} (sys : Actors A F R J) where
     pub no_waits : (p : Path) (host : ℕ) (en : Entry F) (j : ℕ) → (s.columns p).store host ≡ Some en → en.waiting j ≡ None
     pub contexts : (p : Path) → there (fold_alone sys b batches s.head.done).tree p ≡ true → (host : ℕ) × (en : Entry F) × (r : Record F) × ((s.columns p).store host ≡ Some en) × (en.body ≡ Some r) ×
         (r.fields ≡ (fold_alone sys b batches s.head.done).tree.fields p) × (steps_of r.children ≡ children_of (fold_alone sys b batches s.head.done).tree p)
+    pub places : (p : Path) (host : ℕ) → IsOwner s p host → host ≡ (places_alone sys b batches s.head.done).fields p
     pub no_others : (p : Path) (host : ℕ) → is_some ((s.columns p).store host) ≡ true → there (fold_alone sys b batches s.head.done).tree p ≡ true
 
   -- Complete. In a finished state all is done.
@@ -210,6 +211,11 @@ abbrev pub taken : List Label → ℕ
 taken [] = 0
 taken (l ∷ ls) = if is_pass l.act then taken ls else suc (taken ls)
 
+-- and how many are
+abbrev pub passed : List Label → ℕ
+passed [] = 0
+passed (l ∷ ls) = if is_pass l.act then suc (passed ls) else passed ls
+
 -- two for each ticket, three for each segment, two for each context that a ticket enters
 abbrev pub size : Work → ℕ
 size x = 2 * x.tickets + 3 * x.segments + 2 * x.entered
@@ -220,3 +226,15 @@ module _ {A F R J : Type 0} (sys : Actors A F R J) where
   pub record Counted (workers : ℕ) (b : Begin F) (batches : List (List J)) (labels : List Label) (s : State A F R J) : Type 0 where
     pub within : (n : ℕ) → job_after sys b batches n ≡ None → taken labels ≤ size (work_after sys b batches n)
     pub exactly : Finished sys workers s → taken labels ≡ size (work_after sys b batches s.head.done)
+
+-- how often a context is sent on at most: as often as the jobs move one, and once more where the root does not begin on host 0
+abbrev pub most_moves : {F : Type 0} → Begin F → Work → ℕ
+most_moves b x = x.moves + (if has_moved b [] then 1 else 0)
+
+module _ {A F R J : Type 0} (sys : Actors A F R J) where
+  -- Bounded. However the labels are chosen, each Enter is passed on at most as often as a context is sent on, so there are at most so many
+  -- labels; and in a finished state as many as the work asks for, besides the Passes.
+  pub record Bounded (workers : ℕ) (b : Begin F) (batches : List (List J)) (labels : List Label) (s : State A F R J) : Type 0 where
+    pub few_passed : (n : ℕ) → job_after sys b batches n ≡ None → passed labels ≤ (work_after sys b batches n).entered * most_moves b (work_after sys b batches n)
+    pub within : (n : ℕ) → job_after sys b batches n ≡ None → length labels ≤ size (work_after sys b batches n) + (work_after sys b batches n).entered * most_moves b (work_after sys b batches n)
+    pub exactly : Finished sys workers s → length labels ≡ size (work_after sys b batches s.head.done) + passed labels

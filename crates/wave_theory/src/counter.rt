@@ -3,8 +3,8 @@ ghost use Rattle.wave_theory.specs.Counter.{counter, Fits, IsJob, Fine, owes};
 
 use crate::acting::Acting;
 use crate::laws::{
-    bounds, by_owners, complete, counted, hands_stay, independent, listed, never_stuck, numbers,
-    one_host, one_owner, records, results, tickets, trails,
+    bounded, bounds, by_owners, complete, counted, hands_stay, independent, listed, never_stuck,
+    numbers, one_host, one_owner, records, results, tickets, trails,
 };
 
 /// One counter at the root: each event adds one and replies.
@@ -49,6 +49,7 @@ pub fn at_the_counter() {
     complete::<Counter>();
     by_owners::<Counter>();
     counted::<Counter>();
+    bounded::<Counter>();
     listed::<Counter>();
     one_host::<Counter>();
 }

@@ -1,5 +1,5 @@
 ghost use Rattle.wave_theory.specs.Laws.{HandsStay, Independent};
-ghost use Rattle.wave_theory.specs.States.{Always, AlwaysBy, AlwaysOf, ByOwners, Complete, Counted, Listed, NeverStuck, OneHost, Results, Tickets, Numbers, Records, OneOwner, Trails, Bounds};
+ghost use Rattle.wave_theory.specs.States.{Always, AlwaysBy, AlwaysOf, Bounded, ByOwners, Complete, Counted, Listed, NeverStuck, OneHost, Results, Tickets, Numbers, Records, OneOwner, Trails, Bounds};
 
 use crate::acting::Acting;
 
@@ -53,7 +53,7 @@ pub fn never_stuck<T: Acting>()
     ensures { (c : T.Code) → AlwaysBy (T.system c) (T.hosts c) (T.fits c) (T.is_job c) (T.fine c) (NeverStuck (T.system c)) }
 {}
 
-/// A finished state has committed every job, has nothing under way, and has the contexts of the fold's last tree.
+/// A finished state has committed every job, has nothing under way, and has the contexts of the fold's last tree on the fold's hosts.
 pub fn complete<T: Acting>()
     ensures { (c : T.Code) → AlwaysBy (T.system c) (T.hosts c) (T.fits c) (T.is_job c) (T.fine c) (Complete (T.system c)) }
 {}
@@ -76,4 +76,9 @@ pub fn one_host<T: Acting>()
 /// How many labels a run takes, its Passes aside.
 pub fn counted<T: Acting>()
     ensures { (c : T.Code) → AlwaysOf (T.system c) (T.hosts c) (T.fits c) (T.is_job c) (T.fine c) (Counted (T.system c)) }
+{}
+
+/// How many labels a run takes at most.
+pub fn bounded<T: Acting>()
+    ensures { (c : T.Code) → AlwaysOf (T.system c) (T.hosts c) (T.fits c) (T.is_job c) (T.fine c) (Bounded (T.system c)) }
 {}
