@@ -33,6 +33,7 @@ pub mod Plans
 pub mod Queueing
 pub mod Ranks
 pub mod Reached
+pub mod Rising
 pub mod Settled
 pub mod Shows
 pub mod Sites

@@ -1,13 +1,14 @@
 -- Who came to a context, and where it was, by the labels that were taken.
-use Rattle.std.specs.Prelude.{◌≡◌, ◌⊎◌, ◌+◌, ℕ, suc, if◌then◌else◌, List, [], ◌∷◌, ◌++◌, length, map, Option, Some, None, is_some, slice_get, ◌&&◌, Bool, false}
+use Rattle.std.specs.Prelude.{◌≡◌, ◌⊎◌, ◌<◌, ◌+◌, ℕ, suc, if◌then◌else◌, List, [], ◌∷◌, ◌++◌, length, map, Option, Some, None, is_some, slice_get, ◌&&◌, Bool, false}
 use Rattle.wave_base.specs.declared.path.Step.{Step}
 use Rattle.wave_base.specs.declared.path.Path.{Path}
 use Rattle.wave_base.specs.Paths.{path_eq}
 use Rattle.wave_base.specs.Kids.{child_at}
 use Rattle.wave_states.specs.Actors.{Actors}
 use Rattle.wave_states.specs.States.{State, Entry, Event, Mail, Record, ask_in}
-use Rattle.wave_states.specs.Labels.{Act, Label, Grant, ticket_of}
-use Rattle.wave_states.specs.Canonical.{below}
+use Rattle.std.specs.List.{AllByRecursion}
+use Rattle.wave_states.specs.Labels.{Act, Label, Admit, Queue, Grant, Visit, Start, Stop, Free, Pass, Land, Commit, ticket_of}
+use Rattle.wave_states.specs.Canonical.{below, enabled}
 use Rattle.wave_states.specs.Steps.{step, child_or_new}
 use Rattle.wave_states.specs.Begins.{Begin, start_state}
 use Rattle.wave_states.specs.Owners.{first_trail, trail_from}
@@ -71,3 +72,43 @@ module _ {A F R J : Type 0} (sys : Actors A F R J) where
   Traced workers b batches labels s = (p : Path) →
       ((trail_from sys workers p (first_trail b p) (Some (start_state b batches)) labels ≡ []) × IsUnborn s p) ⊎
       ((trail : Trail) × IsTrail s p trail × (trail_from sys workers p (first_trail b p) (Some (start_state b batches)) labels ≡ hosts_of trail))
+
+-- the kinds of labels in their order
+abbrev pub kind_of : Act → ℕ
+kind_of (Admit t) = 0
+kind_of (Queue t k p) = 1
+kind_of (Grant t p) = 2
+kind_of (Visit t k p) = 3
+kind_of (Start t p) = 4
+kind_of (Stop t p) = 5
+kind_of (Free t k p) = 6
+kind_of (Pass t k p to) = 7
+kind_of (Land t k p) = 8
+kind_of (Commit t) = 9
+
+-- the number of its mail, if it takes one
+abbrev pub mail_of : Act → ℕ
+mail_of (Admit t) = 0
+mail_of (Queue t k p) = k
+mail_of (Grant t p) = 0
+mail_of (Visit t k p) = k
+mail_of (Start t p) = 0
+mail_of (Stop t p) = 0
+mail_of (Free t k p) = k
+mail_of (Pass t k p to) = k
+mail_of (Land t k p) = k
+mail_of (Commit t) = 0
+
+-- by kind, then by ticket, then by the number of the mail
+abbrev pub Before : Act → Act → Type 0
+Before a b = (kind_of a < kind_of b) ⊎ ((kind_of a ≡ kind_of b) × ((ticket_of a < ticket_of b) ⊎ ((ticket_of a ≡ ticket_of b) × (mail_of a < mail_of b))))
+
+-- each one before all that come later, so none twice
+abbrev pub Rising : {X : Type 0} → (X → X → Type 0) → List X → Type 0
+Rising R [] = Unit {0}
+Rising R (x ∷ xs) = AllByRecursion (R x) xs × Rising R xs
+
+module _ {A F R J : Type 0} (sys : Actors A F R J) (hosts : ℕ) where
+  -- Sorted. The canonical list is in its order, and has no label twice.
+  abbrev pub Sorted : ℕ → Begin F → List (List J) → State A F R J → Type 0
+  Sorted workers b batches s = Rising (λ (l m : Label). Before l.act m.act) (enabled sys workers hosts s)

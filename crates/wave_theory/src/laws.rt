@@ -1,5 +1,5 @@
 ghost use Rattle.wave_theory.specs.Laws.{HandsStay, Independent};
-ghost use Rattle.wave_theory.specs.Orders.{Came, Traced};
+ghost use Rattle.wave_theory.specs.Orders.{Came, Sorted, Traced};
 ghost use Rattle.wave_theory.specs.States.{Always, AlwaysBy, AlwaysOf, Bounded, ByOwners, Complete, Counted, Listed, NeverStuck, OneHost, Results, Tickets, Numbers, Records, OneOwner, Trails, Bounds};
 
 use crate::acting::Acting;
@@ -92,4 +92,9 @@ pub fn came<T: Acting>()
 /// The labels tell the trail of each context.
 pub fn traced<T: Acting>()
     ensures { (c : T.Code) → AlwaysOf (T.system c) (T.hosts c) (T.fits c) (T.is_job c) (T.fine c) (Traced (T.system c)) }
+{}
+
+/// The canonical list is in its order, and has no label twice.
+pub fn sorted<T: Acting>()
+    ensures { (c : T.Code) → AlwaysBy (T.system c) (T.hosts c) (T.fits c) (T.is_job c) (T.fine c) (Sorted (T.system c) (T.hosts c)) }
 {}
