@@ -106,6 +106,8 @@ module _ {A F R J : Type 0} (sys : Actors A F R J) (w : Way) (course : Course sy
     pub record Stopped : Type 0 where
       pub stage : g.lines.stage t ≡ There
       pub place : here w g.lines t ≡ p
+      pub born : g.born p ≡ true
+      pub stored : (g.trail p).stored ≡ true
 
     -- of one that goes on
     pub record GoesOn : Type 0 where

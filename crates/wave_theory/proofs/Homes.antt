@@ -138,22 +138,25 @@ module _ {A F R J : Type 0} (sys : Actors A F R J) (hosts : ℕ) (fits : Path �
   not_child_root [] st = refl
   not_child_root (u ∷ p) st = refl
 
+  -- a ticket that is under way
+  pub known_by_shows : (s : State A F R J) (g : Shows.Ghost F) → Shows.Shows sys w course b.before Is_real s g → (t : ℕ) → g.lines.stage t ≢ Done → (b.before < t) × (t ≤ g.lines.admitted)
+  known_by_shows s g x t n = elim (below_or b.before t) [
+    | inr l ↦ absurd (n (x.idle t (λ i m. absurd (omega (arith, i, l)))).0)
+    | inl l ↦ elim (below_or g.lines.admitted t) [
+      | inr m ↦ (l, m)
+      | inl m ↦ absurd (n (x.idle t (λ i k. absurd (omega (arith, k, m)))).0)
+    ]
+  ]
+    where
+      below_or : (a c : ℕ) → (a < c) ⊎ (c ≤ a)
+      below_or a c = grind arith
+
   module _ (s : State A F R J) (g : Shows.Ghost F) (x : Shows.Shows sys w course b.before Is_real s g) (h : HomesOf (outline g)) where
     abbrev o : Outline
     o = outline g
 
-    -- a ticket that is under way
     pub known_by : (t : ℕ) → g.lines.stage t ≢ Done → (b.before < t) × (t ≤ g.lines.admitted)
-    known_by t n = elim (below_or b.before t) [
-      | inr l ↦ absurd (n (x.idle t (λ i m. absurd (omega (arith, i, l)))).0)
-      | inl l ↦ elim (below_or g.lines.admitted t) [
-        | inr m ↦ (l, m)
-        | inl m ↦ absurd (n (x.idle t (λ i k. absurd (omega (arith, k, m)))).0)
-      ]
-    ]
-      where
-        below_or : (a c : ℕ) → (a < c) ⊎ (c ≤ a)
-        below_or a c = grind arith
+    known_by t n = known_by_shows s g x t n
 
     real_of : (t : ℕ) → b.before < t → t ≤ g.lines.admitted → Courses.Real sys hosts fits is_job fine owes b batches begins jobs t
     real_of t l m = (x.cells t l m).real
@@ -635,7 +638,7 @@ module _ {A F R J : Type 0} (sys : Actors A F R J) (hosts : ℕ) (fits : Path �
         same : (i : Bool) → g.born p ≡ i → spot_of (Deeds.grown i (g.trail p)) ≡ spot_of (g.trail p)
         same true e = refl
         same false e = ap (λ n. ((g.trail p).at n, n)) (sym (f.unborn e))
-    by_deed g' t p Deeds.Lets_in f kids = lets_in_homes t p (record { stage = f.stage; place = f.place; number = f.number; calm = f.calm })
+    by_deed g' t p Deeds.Lets_in f kids = lets_in_homes t p f
     by_deed g' t p Deeds.Arrives f kids = homes_by o (done_by w o t p Deeds.Arrives) h (λ q e. e) (λ q. refl) (λ q. refl) (same_stage o (done_by w o t p Deeds.Arrives) (done_set g.lines.stage t There (sym (ap is_done f)))) (λ u q th k. k)
     by_deed g' t p Deeds.Rests f kids = h
     by_deed g' t p Deeds.Lands f kids = homes_by o (done_by w o t p Deeds.Lands) h (λ q e. e) (λ q. refl) (spot_set g.trail p _ refl) (same_stage o (done_by w o t p Deeds.Lands) (λ u. refl)) (λ u q th k. k)
@@ -644,9 +647,9 @@ module _ {A F R J : Type 0} (sys : Actors A F R J) (hosts : ℕ) (fits : Path �
       where
         less : (a c : ℕ) → suc a ≤ c → a ≤ c
         less a c l = omega (arith, l)
-    by_deed g' t p Deeds.Ends f kids = ends_homes t p (record { stage = f.stopped.stage; place = f.stopped.place }) f.last f.result f.result_is f.move_is
+    by_deed g' t p Deeds.Ends f kids = ends_homes t p f.stopped f.last f.result f.result_is f.move_is
     by_deed g' t p (Deeds.Goes_in st r) f kids = goes_in_homes t p g' st r f kids
-    by_deed g' t p (Deeds.Moves to) f kids = moves_homes t p (record { stage = f.stopped.stage; place = f.stopped.place }) f.last f.result f.result_is to (record { moved = f.move_is.moved; other = f.move_is.other; stored = f.move_is.stored; latest = f.move_is.latest })
+    by_deed g' t p (Deeds.Moves to) f kids = moves_homes t p f.stopped f.last f.result f.result_is to f.move_is
 
     -- how often a context was sent on to which a ticket is on its way, or where one was
     pub sent_so_often : ((p : Path) → g.lines.served p ≤ rank w p g.lines.admitted) → (t : ℕ) (p : Path) → b.before < t → t ≤ g.lines.admitted → w.entered t (g.lines.pos t) p ≡ true → (m : ℕ) × (i : ℕ) × (j : J) × Job i j × (m ≤ suc i) × ((g.trail p).last ≡ shifts p m)

@@ -11,6 +11,7 @@ pub mod Courses
 pub mod Deeds
 pub mod Desks
 pub mod Folds
+pub mod Forms
 pub mod Found
 pub mod Frames
 pub mod Freeing
@@ -21,6 +22,7 @@ pub mod Hosts
 pub mod Leaves
 pub mod Live
 pub mod Maps
+pub mod Noted
 pub mod Opened
 pub mod Order
 pub mod Own
@@ -31,6 +33,7 @@ pub mod Plans
 pub mod Queueing
 pub mod Ranks
 pub mod Reached
+pub mod Rising
 pub mod Settled
 pub mod Shows
 pub mod Sites

@@ -137,7 +137,7 @@ module _ {A F R J : Type 0} (sys : Actors A F R J) (hosts : ℕ) (fits : Path �
     calm_is o y e = map_some (λ (z : Part A F R). record { part = z; hand = None }) o y e
 
     -- what a label that leaves a ticket's Enter does to its mails
-    mails_kept : (s s' : State A F R J) (v host : ℕ) (a : Act) → step_by sys s v host a ≡ Some s' → is_pass a ≡ false → (Deeds.Suits a Deeds.Rests) ⊎ (Deeds.Suits a Deeds.Lands) → (i : ℕ) (m : Mail F) → (s'.cells (ticket_of a)).mails i ≡ Some m → (s.cells (ticket_of a)).mails i ≡ Some m
+    pub mails_kept : (s s' : State A F R J) (v host : ℕ) (a : Act) → step_by sys s v host a ≡ Some s' → is_pass a ≡ false → (Deeds.Suits a Deeds.Rests) ⊎ (Deeds.Suits a Deeds.Lands) → (i : ℕ) (m : Mail F) → (s'.cells (ticket_of a)).mails i ≡ Some m → (s.cells (ticket_of a)).mails i ≡ Some m
     mails_kept s s' v host (Commit t) e np r i m f =
         let q = then_some (λ q. only_if ((host == 0) && (t == suc (s.before + s.head.done))) (committed sys s q)) (s.cells t).result s' (Reached.idle_of sys hosts fits is_job fine owes b batches begins jobs (s.hands v) _ s' e).1 in
         let o = only_some ((host == 0) && (t == suc (s.before + s.head.done))) (committed sys s q.0) s' q.2 in
@@ -166,7 +166,7 @@ module _ {A F R J : Type 0} (sys : Actors A F R J) (hosts : ℕ) (fits : Path �
     mails_kept s s' v host (Labels.Visit t k p) e np r i m f = elim r [ inl x ↦ absurd x | inr x ↦ absurd x ]
     mails_kept s s' v host (Stop t p) e np r i m f = elim r [ inl x ↦ absurd x | inr x ↦ absurd x ]
 
-    pass_form : (a : Act) → is_pass a ≡ true → (t i : ℕ) × (p : Path) × (to : ℕ) × (a ≡ Pass t i p to)
+    pub pass_form : (a : Act) → is_pass a ≡ true → (t i : ℕ) × (p : Path) × (to : ℕ) × (a ≡ Pass t i p to)
     pass_form (Pass t i p to) e = (t, i, p, to, refl)
     pass_form (Admit t) e = absurd (clash false e refl)
     pass_form (Commit t) e = absurd (clash false e refl)

@@ -709,7 +709,7 @@ module _ {A F R J : Type 0} (sys : Actors A F R J) (w : Way) (law : IsWay w) (co
           suits = tt;
           is = refl;
           fits = record {
-            stopped = record { stage = hs.stage; place = sym hs.place };
+            stopped = record { stage = hs.stage; place = sym hs.place; born = f.born; stored = f.stored };
             more = i.more;
             fresh = fresh_now;
             next = i.place_is;
@@ -806,7 +806,7 @@ module _ {A F R J : Type 0} (sys : Actors A F R J) (w : Way) (law : IsWay w) (co
           deed = Deeds.Goes_on;
           suits = tt;
           is = refl;
-          fits = record { stopped = record { stage = hs.stage; place = sym hs.place }; more = i.more; stale = stale };
+          fits = record { stopped = record { stage = hs.stage; place = sym hs.place; born = f.born; stored = f.stored }; more = i.more; stale = stale };
           kids = kids_by z_old (λ u a e. inl (ap (λ (b : Record F). child_at b.children u) (sym whole) ∙ e));
         }
 
@@ -908,7 +908,7 @@ module _ {A F R J : Type 0} (sys : Actors A F R J) (w : Way) (law : IsWay w) (co
         deed = Deeds.Goes_on;
         suits = tt;
         is = refl;
-        fits = record { stopped = record { stage = hs.stage; place = sym hs.place }; more = i.more; stale = i.stale };
+        fits = record { stopped = record { stage = hs.stage; place = sym hs.place; born = f.born; stored = f.stored }; more = i.more; stale = i.stale };
         kids = kids_by z_back (λ u a e. inl (ap (λ (b : Record F). child_at b.children u) (sym whole_b) ∙ e));
       }
 
@@ -1034,7 +1034,7 @@ module _ {A F R J : Type 0} (sys : Actors A F R J) (w : Way) (law : IsWay w) (co
           deed = Deeds.Ends;
           suits = tt;
           is = refl;
-          fits = record { stopped = record { stage = hs.stage; place = sym hs.place }; last = i.last_is; result = r; result_is = i.result_is; move_is = inl (i.looking on) };
+          fits = record { stopped = record { stage = hs.stage; place = sym hs.place; born = f.born; stored = f.stored }; last = i.last_is; result = r; result_is = i.result_is; move_is = inl (i.looking on) };
           kids = kids_by z_look (λ u a e. inl e);
         }
 
@@ -1098,7 +1098,7 @@ module _ {A F R J : Type 0} (sys : Actors A F R J) (w : Way) (law : IsWay w) (co
           deed = Deeds.Ends;
           suits = tt;
           is = refl;
-          fits = record { stopped = record { stage = hs.stage; place = sym hs.place }; last = i.last_is; result = r; result_is = i.result_is; move_is = stays };
+          fits = record { stopped = record { stage = hs.stage; place = sym hs.place; born = f.born; stored = f.stored }; last = i.last_is; result = r; result_is = i.result_is; move_is = stays };
           kids = kids_by z_end (λ u a e. inl (ap (λ (b : Record F). child_at b.children u) (sym whole_e) ∙ e));
         }
 
@@ -1224,7 +1224,7 @@ module _ {A F R J : Type 0} (sys : Actors A F R J) (w : Way) (law : IsWay w) (co
             deed = Deeds.Moves to;
             suits = tt;
             is = refl;
-            fits = record { stopped = record { stage = hs.stage; place = sym hs.place }; last = i.last_is; result = r; result_is = i.result_is; move_is = record { moved = moved_to; other = λ e. other (e ∙ sym f.host_is); stored = f.stored; latest = x.good.latest t p holds_p no } };
+            fits = record { stopped = record { stage = hs.stage; place = sym hs.place; born = f.born; stored = f.stored }; last = i.last_is; result = r; result_is = i.result_is; move_is = record { moved = moved_to; other = λ e. other (e ∙ sym f.host_is); stored = f.stored; latest = x.good.latest t p holds_p no } };
             kids = kids_by z_moved (λ u a e. inl (ap (λ (b : Record F). child_at b.children u) (sym whole_e) ∙ e));
           }
 

@@ -34,7 +34,7 @@ use Rattle.wave_theory.proofs.Folds
 use Rattle.wave_theory.proofs.Beginning.{rank_start}
 use Rattle.wave_theory.proofs.Reached.{Heads, Good_state, ResultIs, result_of}
 use Rattle.wave_theory.proofs.Reached
-use Rattle.wave_theory.specs.States.{Results, Tickets, IsNumber, Numbers, HasEntry, Records, OneOwner, Bounds, served_before}
+use Rattle.wave_theory.specs.States.{Results, Tickets, IsNumber, Numbers, HasEntry, Records, NothingAt, served_before}
 
 same_mail : {F : Type 0} (m : Mail F) (h : ℕ) (p : Path) (l : Rattle.wave_states.specs.States.Letter F) → m.host ≡ h → m.path ≡ p → m.letter ≡ l → m ≡ record { host = h; path = p; letter = l }
 same_mail m h p l e f k = λ i. record { host = e i; path = f i; letter = k i }
@@ -112,8 +112,8 @@ module _ {A F R J : Type 0} (sys : Actors A F R J) (hosts : ℕ) (fits : Path �
     x = k.shows
 
     -- the number of a ticket that comes
-    number_of : (t : ℕ) (p : Path) (n : ℕ) → b.before < t → t ≤ (k.ghost).lines.admitted → Is_real t → visits w t p ≡ true → n ≡ rank w p t → IsNumber sys b batches p t n
-    number_of t p n lt la r v e = record {
+    pub number_of : (t : ℕ) (p : Path) (n : ℕ) → b.before < t → Is_real t → visits w t p ≡ true → n ≡ rank w p t → IsNumber sys b batches p t n
+    number_of t p n lt r v e = record {
       index = r.index;
       ticket_is = r.ticket_is;
       there = there;
@@ -137,7 +137,7 @@ module _ {A F R J : Type 0} (sys : Actors A F R J) (hosts : ℕ) (fits : Path �
     mail_known : (t i : ℕ) (m : Mail F) → (s.cells t).mails i ≡ Some m → (b.before < t) × (t ≤ (k.ghost).lines.admitted)
     mail_known t i m e = Reached.known sys hosts fits is_job fine owes b batches begins jobs s k.ghost x t (λ q. none_not (sym (ap (λ (u : Cell A F R). u.mails i) q) ∙ e))
 
-    entry_same : (p : Path) (en : Entry F) → HasEntry sys b batches s p en → en ≡ (k.ghost).entry p
+    pub entry_same : (p : Path) (en : Entry F) → HasEntry sys b batches s p en → en ≡ (k.ghost).entry p
     entry_same p en (inl e) = (found sys w course b.before Is_real k.ghost p (s.columns p) e.0 en (x.columns p) e.1).entry_is
     entry_same p en (inr e) = (let n = mail_known e.0 e.1 _ e.3 in ((x.cells e.0 n.0 n.1).mails e.1 _ e.3).2)
 
@@ -145,9 +145,9 @@ module _ {A F R J : Type 0} (sys : Actors A F R J) (hosts : ℕ) (fits : Path �
     numbers = record {
       enters = λ t i m a e l. let n = mail_known t i m e in
           let y : Shows.EnterShows sys w course b.before Is_real k.ghost t i m.host m.path a = subst (Shows.MailShows sys w course b.before Is_real k.ghost t i m.host m.path) l ((x.cells t n.0 n.1).mails i m e) in
-          number_of t m.path a.number n.0 n.1 (x.cells t n.0 n.1).real (comes_spot t m.path n.1 (λ d. entering_done (sym y.stage ∙ d)) (sym y.place)) y.number;
+          number_of t m.path a.number n.0 (x.cells t n.0 n.1).real (comes_spot t m.path n.1 (λ d. entering_done (sym y.stage ∙ d)) (sym y.place)) y.number;
       waits = λ p en j c h e. let y = (x.entries p).waits j c (ap (λ (u : Entry F). u.waiting j) (sym (entry_same p en h)) ∙ e) in
-          number_of c.ticket p j y.later y.known (x.cells c.ticket y.later y.known).real (comes_spot c.ticket p y.known (λ d. lined_done (sym y.stage ∙ d)) y.place) y.number;
+          number_of c.ticket p j y.later (x.cells c.ticket y.later y.known).real (comes_spot c.ticket p y.known (λ d. lined_done (sym y.stage ∙ d)) y.place) y.number;
     }
 
     calm_of : (hs : List Claim) (p : Path) → AllByRecursion (λ (c : Claim). c.peek ≡ true) hs → AllByRecursion (λ c. c.peek ≡ w.looks c.ticket p) hs → (t : ℕ) → Shows.holds_claim hs t ≡ true → w.looks t p ≡ true
@@ -171,16 +171,20 @@ module _ {A F R J : Type 0} (sys : Actors A F R J) (hosts : ℕ) (fits : Path �
     owner_is p h (inl e) = (let o = option_some ((s.columns p).store h) e in (found sys w course b.before Is_real k.ghost p (s.columns p) h o.0 (x.columns p) o.1).host_is)
     owner_is p h (inr e) = (let n = mail_known e.ticket e.number _ e.mail in ((x.cells e.ticket n.0 n.1).mails e.number _ e.mail).0.host_is)
 
-    pub one_owner : OneOwner s
+    pub one_owner : (p : Path) (h h' : ℕ) → IsOwner s p h → IsOwner s p h' → h ≡ h'
     one_owner p h h' e e' = owner_is p h e ∙ sym (owner_is p h' e')
 
-    pub bounds : Bounds s
+    pub record Bounded_by : Type 0 where
+      pub cells : (t : ℕ) → (s.before < t → t ≤ s.before + s.admitted → ⊥) → s.cells t ≡ record { event = None; mails = λ k. None; result = None }
+      pub mails : (t i : ℕ) (e : Event A) → (s.cells t).event ≡ Some e → e.sent < i → (s.cells t).mails i ≡ None
+      pub children : (q : Path) (st : Step) (host : ℕ) (en : Entry F) (r : Record F) → (s.columns q).store host ≡ Some en → en.body ≡ Some r → child_at r.children st ≡ None → (h : ℕ) → NothingAt s (q ++ st ∷ []) h
+
+    pub bounds : Bounded_by
     bounds = record {
       cells = λ t n. x.no_cells t (λ l m. n (subst (λ i. i < t) (sym x.before) l) (subst (λ i. t ≤ i) (x.admitted ∙ ap (λ i. i + s.admitted) (sym x.before)) m));
       mails = λ t i e p l. let n = Reached.known sys hosts fits is_job fine owes b batches begins jobs s k.ghost x t (λ q. none_not (sym (ap (λ (u : Cell A F R). u.event) q) ∙ p)) in
           let c = x.cells t n.0 n.1 in c.unused i (subst (λ (u : Event A). u.sent < i) (some_same e c.event (sym p ∙ c.event_is)) l);
-      from_one = (k.alive).no_zero;
-      columns = λ q st h en r se be ce i. let f = found sys w course b.before Is_real k.ghost q (s.columns q) h en (x.columns q) se in
+      children = λ q st h en r se be ce i. let f = found sys w course b.before Is_real k.ghost q (s.columns q) h en (x.columns q) se in
           let same : r ≡ (k.ghost).body q = (x.entries q).body r (ap (λ (u : Entry F). u.body) (sym f.entry_is) ∙ be) in
           let c : Shows.Unborn sys w course b.before Is_real k.ghost (q ++ st ∷ []) (s.columns (q ++ st ∷ [])) = subst (λ o. Shows.ColumnShows sys w course b.before Is_real o k.ghost (q ++ st ∷ []) (s.columns (q ++ st ∷ []))) ((x.entries q).strangers st (ap (λ (u : Record F). child_at u.children st) (sym same) ∙ ce)) (x.columns (q ++ st ∷ [])) in
           (c.empty.no_entry i, c.empty.no_marks i);
@@ -335,17 +339,18 @@ module _ {A F R J : Type 0} (sys : Actors A F R J) (hosts : ℕ) (fits : Path �
     wait_to : (p : Path) → (k.ghost).born p ≡ true → (c : Shows.Stays sys w course b.before Is_real k.ghost p (s.columns p)) (t i : ℕ) (m : Mail F) (a : Ask) → (s.cells t).mails i ≡ Some m → m.path ≡ p → m.letter ≡ Rattle.wave_states.specs.States.Letter.Enter a → route (s.columns p) m.host a.followed ≡ Wait → IsComing s p m.host × (a.followed ≡ ((k.ghost).trail p).last)
     wait_to p u c t i m a e q l = wait_to_by p c t i m a e q l u
 
-    pub trails : Rattle.wave_theory.specs.States.Trails s
-    trails p = by ((k.ghost).born p) refl (x.columns p)
+    pub unborn_is : (p : Path) → (k.ghost).born p ≡ false → Rattle.wave_theory.specs.States.IsUnborn s p
+    unborn_is p u = of_column (subst (λ i. Shows.ColumnShows sys w course b.before Is_real i k.ghost p (s.columns p)) u (x.columns p))
       where
-        by : (i : Bool) → (k.ghost).born p ≡ i → Shows.ColumnShows sys w course b.before Is_real i k.ghost p (s.columns p) → Rattle.wave_theory.specs.States.IsUnborn s p ⊎ ((trail : Rattle.wave_theory.specs.States.Trail) × Rattle.wave_theory.specs.States.IsTrail s p trail)
-        by false u c = inl (record {
+        of_column : Shows.Unborn sys w course b.before Is_real k.ghost p (s.columns p) → Rattle.wave_theory.specs.States.IsUnborn s p
+        of_column c = record {
           no_entry = c.empty.no_entry;
           no_mark = c.empty.no_marks;
           not_coming = λ h o. not_coming h o;
           birth = ((k.ghost).trail p).at 0;
+          birth_is = λ q st h en r kid e se be ce. birth_is p q st h en r kid e se be ce;
           enters = λ t i m a e q l. let r = enters_lie p t i m a e q l in (subst (λ n. a.followed ≤ n) c.last r.0, r.1 ∙ ap ((k.ghost).trail p).at (let z : a.followed ≡ 0 = at_zero a.followed _ r.0 c.last in z));
-        })
+        }
           where
             at_zero : (f n : ℕ) → f ≤ n → n ≡ 0 → f ≡ 0
             at_zero f n l e = omega arith
@@ -354,22 +359,30 @@ module _ {A F R J : Type 0} (sys : Actors A F R J) (hosts : ℕ) (fits : Path �
             not_coming h (inl e) = clash false (sym (ap is_some (c.empty.no_entry h)) ∙ e) refl
             not_coming h (inr e) = (let n = mail_known e.ticket e.number _ e.mail in let y = (x.cells e.ticket n.0 n.1).mails e.number _ e.mail in
                 clash _ y.0.holds (sym ((x.entries p).holders e.ticket) ∙ ap (λ (u : Entry F). Shows.holds_claim u.holders e.ticket) ((x.entries p).unborn u)))
-        by true u c = inr (
-          record { at = ((k.ghost).trail p).at; last = ((k.ghost).trail p).last },
-          record {
-            neighbours = c.track.neighbours;
-            owned = elim (bool_cases ((k.ghost).trail p).stored) [ inl st ↦ inl (c.track.stored_is st) | inr st ↦ on_its_way p u st ];
-            owner = owner_is p;
-            moves = λ h en e. (let f = found sys w course b.before Is_real k.ghost p (s.columns p) h en (x.columns p) e in ap (λ (u : Entry F). u.moves) f.entry_is ∙ (x.entries p).moves);
-            marks = c.track.mark_is;
-            unmarked = λ h e. elim (c.track.no_mark h e) [
-              | inl z ↦ inl (ap (λ i. is_some ((s.columns p).store i)) z.1 ∙ c.track.stored_is z.0)
-              | inr z ↦ inr z
-            ];
-            here = λ h e. let z = c.track.store_is h e in ap (s.columns p).gone z.1 ∙ c.track.here_no_mark z.0;
-            enters = enters_lie p;
-            waits = λ t i m a e q l. (wait_to p u c t i m a e q l, wait_from p c t i m a e q l);
-            birth = λ q st h en r kid e se be ce. birth_is p q st h en r kid e se be ce;
-            from_zero = λ e. ap (λ r. ((k.ghost).trail r).at 0) e ∙ x.root_birth;
-          },
-        )
+
+    pub trail_is : (p : Path) → (k.ghost).born p ≡ true → Rattle.wave_theory.specs.States.IsTrail s p (record { at = ((k.ghost).trail p).at; last = ((k.ghost).trail p).last })
+    trail_is p u = of_column (subst (λ i. Shows.ColumnShows sys w course b.before Is_real i k.ghost p (s.columns p)) u (x.columns p))
+      where
+        of_column : Shows.Stays sys w course b.before Is_real k.ghost p (s.columns p) → Rattle.wave_theory.specs.States.IsTrail s p (record { at = ((k.ghost).trail p).at; last = ((k.ghost).trail p).last })
+        of_column c = record {
+          neighbours = c.track.neighbours;
+          owned = elim (bool_cases ((k.ghost).trail p).stored) [ inl st ↦ inl (c.track.stored_is st) | inr st ↦ on_its_way p u st ];
+          owner = owner_is p;
+          moves = λ h en e. (let f = found sys w course b.before Is_real k.ghost p (s.columns p) h en (x.columns p) e in ap (λ (u : Entry F). u.moves) f.entry_is ∙ (x.entries p).moves);
+          marks = c.track.mark_is;
+          unmarked = λ h e. elim (c.track.no_mark h e) [
+            | inl z ↦ inl (ap (λ i. is_some ((s.columns p).store i)) z.1 ∙ c.track.stored_is z.0)
+            | inr z ↦ inr z
+          ];
+          here = λ h e. let z = c.track.store_is h e in ap (s.columns p).gone z.1 ∙ c.track.here_no_mark z.0;
+          enters = enters_lie p;
+          waits = λ t i m a e q l. (wait_to p u c t i m a e q l, wait_from p c t i m a e q l);
+          birth = λ q st h en r kid e se be ce. birth_is p q st h en r kid e se be ce;
+          from_zero = λ e. ap (λ r. ((k.ghost).trail r).at 0) e ∙ x.root_birth;
+        }
+
+    pub trails : Rattle.wave_theory.specs.States.Trails s
+    trails p = elim (bool_cases ((k.ghost).born p)) [
+      | inr u ↦ inl (unborn_is p u)
+      | inl u ↦ inr (record { at = ((k.ghost).trail p).at; last = ((k.ghost).trail p).last }, trail_is p u)
+    ]

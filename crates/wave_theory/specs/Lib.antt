@@ -1,3 +1,4 @@
 pub mod Counter
 pub mod Laws
+pub mod Orders
 pub mod States

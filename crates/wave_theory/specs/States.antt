@@ -91,18 +91,9 @@ pub record Trail : Type 0 where
   pub last : ℕ
 
 module _ {A F R J : Type 0} where
-  -- One owner. No context has two.
-  abbrev pub OneOwner : State A F R J → Type 0
-  OneOwner s = (p : Path) (h h' : ℕ) → IsOwner s p h → IsOwner s p h' → h ≡ h'
-
-  -- None but where the lists say so: no cell but of an admitted ticket, no mail but under the numbers that were sent, no entry and no mark
-  -- for a context but where its parent's record has it as a child.
-  pub record Bounds (s : State A F R J) : Type 0 where
-    pub cells : (t : ℕ) → (s.before < t → t ≤ s.before + s.admitted → ⊥) → s.cells t ≡ record { event = None; mails = λ k. None; result = None }
-    pub mails : (t k : ℕ) (e : _) → (s.cells t).event ≡ Some e → e.sent < k → (s.cells t).mails k ≡ None
-    pub from_one : (t : ℕ) → (s.cells t).mails 0 ≡ None
-    pub columns : (q : Path) (st : Step) (host : ℕ) (en : Entry F) (r : Record F) → (s.columns q).store host ≡ Some en → en.body ≡ Some r → child_at r.children st ≡ None →
-        (h : ℕ) → ((s.columns (q ++ st ∷ [])).store h ≡ None) × ((s.columns (q ++ st ∷ [])).gone h ≡ None)
+  -- the host has neither an entry nor a mark for the context
+  abbrev pub NothingAt : State A F R J → Path → ℕ → Type 0
+  NothingAt s p h = ((s.columns p).store h ≡ None) × ((s.columns p).gone h ≡ None)
 
   -- an Enter to the context lies at the place of the trail up to which it followed
   abbrev pub EntersLie : State A F R J → Path → Trail → Type 0
@@ -128,19 +119,39 @@ module _ {A F R J : Type 0} where
     pub birth : (q : Path) (st : Step) (h : ℕ) (en : Entry F) (r : Record F) (c : Child) → q ++ st ∷ [] ≡ p → (s.columns q).store h ≡ Some en → en.body ≡ Some r → child_at r.children st ≡ Some c → c.birth.0 ≡ trail.at 0
     pub from_zero : p ≡ [] → trail.at 0 ≡ 0
 
-  -- of one that has none: no store, no mark, and each Enter has followed none and lies where it will be born
+  -- of one that has none: no store, no mark, and each Enter has followed none and lies where it will be born, as its parent's record has it
   pub record IsUnborn (s : State A F R J) (p : Path) : Type 0 where
     pub no_entry : (h : ℕ) → (s.columns p).store h ≡ None
     pub no_mark : (h : ℕ) → (s.columns p).gone h ≡ None
     pub not_coming : (h : ℕ) → IsOwner s p h → ⊥
     pub birth : ℕ
     pub enters : EntersLie s p (record { at = λ i. birth; last = 0 })
+    pub birth_is : (q : Path) (st : Step) (h : ℕ) (en : Entry F) (r : Record F) (c : Child) → q ++ st ∷ [] ≡ p → (s.columns q).store h ≡ Some en → en.body ≡ Some r → child_at r.children st ≡ Some c → c.birth.0 ≡ birth
 
   -- Trails.
   abbrev pub Trails : State A F R J → Type 0
   Trails s = (p : Path) → IsUnborn s p ⊎ ((trail : Trail) × IsTrail s p trail)
 
 module _ {A F R J : Type 0} (sys : Actors A F R J) where
+  -- One owner. No context has two; each that the run begins with has one; and a context that has one has one after each label.
+  pub record OneOwner (workers : ℕ) (b : Begin F) (batches : List (List J)) (s : State A F R J) : Type 0 where
+    pub one : (p : Path) (h h' : ℕ) → IsOwner s p h → IsOwner s p h' → h ≡ h'
+    pub begun : (p : Path) → there b.tree p ≡ true → (h : ℕ) × IsOwner s p h
+    pub stays : (l : Label) (v : State A F R J) (p : Path) (h : ℕ) → step sys workers s l ≡ Some v → IsOwner s p h → (h' : ℕ) × IsOwner v p h'
+
+  -- Bounds. None but where the lists say so: no cell but of an admitted ticket; no mail but under the numbers that were sent; no entry and
+  -- no mark but for a context that is there in the fold after the admitted jobs, and that its parent's record has as a child; none at
+  -- other hosts; no claim in line under a number that was served; nothing in other hands.
+  pub record Bounds (hosts workers : ℕ) (b : Begin F) (batches : List (List J)) (s : State A F R J) : Type 0 where
+    pub cells : (t : ℕ) → (s.before < t → t ≤ s.before + s.admitted → ⊥) → s.cells t ≡ record { event = None; mails = λ k. None; result = None }
+    pub mails : (t k : ℕ) (e : _) → (s.cells t).event ≡ Some e → e.sent < k → (s.cells t).mails k ≡ None
+    pub from_one : (t : ℕ) → (s.cells t).mails 0 ≡ None
+    pub entered : (p : Path) → there (fold_alone sys b batches s.admitted).tree p ≡ false → (h : ℕ) → NothingAt s p h
+    pub children : (q : Path) (st : Step) (host : ℕ) (en : Entry F) (r : Record F) → (s.columns q).store host ≡ Some en → en.body ≡ Some r → child_at r.children st ≡ None → (h : ℕ) → NothingAt s (q ++ st ∷ []) h
+    pub elsewhere : (p : Path) (h : ℕ) → hosts ≤ h → NothingAt s p h
+    pub waiting : (p : Path) (en : Entry F) (j : ℕ) → HasEntry sys b batches s p en → j ≤ en.served → en.waiting j ≡ None
+    pub hands : (v : ℕ) → workers ≤ v → s.hands v ≡ None
+
   -- the worker can take a label of the ticket; a label that takes a mail is of the mail's ticket
   pub record CanTake (workers : ℕ) (s : State A F R J) (worker ticket : ℕ) : Type 0 where
     pub host : ℕ

@@ -3,8 +3,8 @@ ghost use Rattle.wave_theory.specs.Counter.{counter, Fits, IsJob, Fine, owes};
 
 use crate::acting::Acting;
 use crate::laws::{
-    bounded, bounds, by_owners, complete, counted, hands_stay, independent, listed, never_stuck,
-    numbers, one_host, one_owner, records, results, tickets, trails,
+    bounded, bounds, by_owners, came, complete, counted, hands_stay, independent, listed,
+    never_stuck, numbers, one_host, one_owner, records, results, sorted, tickets, traced, trails,
 };
 
 /// One counter at the root: each event adds one and replies.
@@ -44,6 +44,8 @@ pub fn at_the_counter() {
     records::<Counter>();
     one_owner::<Counter>();
     trails::<Counter>();
+    traced::<Counter>();
+    came::<Counter>();
     bounds::<Counter>();
     never_stuck::<Counter>();
     complete::<Counter>();
@@ -51,5 +53,6 @@ pub fn at_the_counter() {
     counted::<Counter>();
     bounded::<Counter>();
     listed::<Counter>();
+    sorted::<Counter>();
     one_host::<Counter>();
 }

@@ -1,4 +1,5 @@
 ghost use Rattle.wave_theory.specs.Laws.{HandsStay, Independent};
+ghost use Rattle.wave_theory.specs.Orders.{Came, Sorted, Traced};
 ghost use Rattle.wave_theory.specs.States.{Always, AlwaysBy, AlwaysOf, Bounded, ByOwners, Complete, Counted, Listed, NeverStuck, OneHost, Results, Tickets, Numbers, Records, OneOwner, Trails, Bounds};
 
 use crate::acting::Acting;
@@ -33,9 +34,9 @@ pub fn records<T: Acting>()
     ensures { (c : T.Code) → Always (T.system c) (T.hosts c) (T.fits c) (T.is_job c) (T.fine c) (Records (T.system c)) }
 {}
 
-/// No context has two owners.
+/// No context has two owners, and none loses its owner.
 pub fn one_owner<T: Acting>()
-    ensures { (c : T.Code) → Always (T.system c) (T.hosts c) (T.fits c) (T.is_job c) (T.fine c) (λ b batches s. OneOwner s) }
+    ensures { (c : T.Code) → AlwaysBy (T.system c) (T.hosts c) (T.fits c) (T.is_job c) (T.fine c) (OneOwner (T.system c)) }
 {}
 
 /// Each context that has an entry has a trail of hosts, which its marks and the Enters under way keep to.
@@ -45,7 +46,7 @@ pub fn trails<T: Acting>()
 
 /// The maps of a state are None but where its lists say so.
 pub fn bounds<T: Acting>()
-    ensures { (c : T.Code) → Always (T.system c) (T.hosts c) (T.fits c) (T.is_job c) (T.fine c) (λ b batches s. Bounds s) }
+    ensures { (c : T.Code) → AlwaysBy (T.system c) (T.hosts c) (T.fits c) (T.is_job c) (T.fine c) (Bounds (T.system c) (T.hosts c)) }
 {}
 
 /// A younger ticket never keeps an older one from going on.
@@ -81,4 +82,19 @@ pub fn counted<T: Acting>()
 /// How many labels a run takes at most.
 pub fn bounded<T: Acting>()
     ensures { (c : T.Code) → AlwaysOf (T.system c) (T.hosts c) (T.fits c) (T.is_job c) (T.fine c) (Bounded (T.system c)) }
+{}
+
+/// Who was let in to a context, and whose Enter to it was sent, in the order of the labels.
+pub fn came<T: Acting>()
+    ensures { (c : T.Code) → AlwaysOf (T.system c) (T.hosts c) (T.fits c) (T.is_job c) (T.fine c) (Came (T.system c)) }
+{}
+
+/// The labels tell the trail of each context.
+pub fn traced<T: Acting>()
+    ensures { (c : T.Code) → AlwaysOf (T.system c) (T.hosts c) (T.fits c) (T.is_job c) (T.fine c) (Traced (T.system c)) }
+{}
+
+/// The canonical list is in its order, and has no label twice.
+pub fn sorted<T: Acting>()
+    ensures { (c : T.Code) → AlwaysBy (T.system c) (T.hosts c) (T.fits c) (T.is_job c) (T.fine c) (Sorted (T.system c) (T.hosts c)) }
 {}

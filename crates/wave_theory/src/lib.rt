@@ -8,6 +8,6 @@ mod laws;
 pub use acting::Acting;
 pub use counter::{Counter, at_the_counter};
 pub use laws::{
-    bounded, bounds, by_owners, complete, counted, hands_stay, independent, listed, never_stuck,
-    numbers, one_host, one_owner, records, results, tickets, trails,
+    bounded, bounds, by_owners, came, complete, counted, hands_stay, independent, listed,
+    never_stuck, numbers, one_host, one_owner, records, results, sorted, tickets, traced, trails,
 };

@@ -1,7 +1,6 @@
 use Rattle.wave_theory.proofs.laws.bounds.Goals as goal
-use Rattle.wave_theory.proofs.Reached
-use Rattle.wave_theory.proofs.Told
+use Rattle.wave_theory.proofs.Noted
 
 pub returns : goal.returns
 returns g c = λ code workers b batches begins plan labels s e. let a = g.T.Acting in
-    Told.bounds (a.system code) (a.hosts code) (a.fits code) (a.is_job code) (a.fine code) (a.owed code) b batches begins plan.jobs s (Reached.reached (a.system code) (a.hosts code) (a.fits code) (a.is_job code) (a.fine code) (a.owed code) b batches begins plan.jobs plan.some_host workers s labels e)
+    Noted.bounds (a.system code) (a.hosts code) (a.fits code) (a.is_job code) (a.fine code) (a.owed code) b batches begins plan.jobs plan.some_host workers labels s e
