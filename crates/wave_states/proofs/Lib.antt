@@ -1,3 +1,7 @@
 pub mod Counter
+pub mod Moving
+pub mod Segments
 pub mod Trips
+pub mod Walking
+pub mod Walks
 pub mod Wrong

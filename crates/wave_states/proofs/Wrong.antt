@@ -1,13 +1,14 @@
 -- What each rule of the machine is for: short runs of machines that drop one rule, in which a law is false.
-use Rattle.std.proofs.Common.{◌≡◌, refl, ℕ, suc, List, [], ◌∷◌, ◌++◌, Option, Some, None, Bool, true, false, is_some, map, nat_eq}
-use Rattle.std.specs.Prelude.{option_map, option_and_then}
+use Rattle.std.proofs.Common.{◌≡◌, refl, ℕ, zero, suc, List, [], ◌∷◌, ◌++◌, Option, Some, None, Bool, true, false, is_some, map, nat_eq}
+use Rattle.std.specs.Prelude.{option_map, option_and_then, count_by}
 use Rattle.wave_base.specs.declared.path.Path.{Path}
 use Rattle.wave_base.specs.Fold.{with_done}
 use Rattle.wave_base.specs.Kids.{child_at}
-use Rattle.wave_states.specs.States.{State, Entry, Record, Column, Mark, set}
-use Rattle.wave_states.specs.Labels.{Label, Act, Admit, Queue, Grant, Start, Stop, Free, Land}
+use Rattle.wave_states.specs.States.{State, Entry, Record, Enter, set, ask_in}
+use Rattle.wave_states.specs.Labels.{Label, Act, Admit, Queue, Grant, Start, Stop, Free, Pass, Land, is_pass}
+use Rattle.wave_states.specs.Work.{work_after}
 use Rattle.wave_states.specs.Begins.{start_state}
-use Rattle.wave_states.specs.Steps.{◌>>=◌, Wait, granted, part_of, with_bench, with_entry, with_body, route, child_or_new}
+use Rattle.wave_states.specs.Steps.{◌>>=◌, granted, part_of, with_bench, with_entry, with_body, child_or_new}
 use Rattle.wave_states.specs.Runs.{run}
 use Rattle.wave_states.specs.Alone.{fold_alone, after_segments}
 use Rattle.wave_states.proofs.Trips.{Trip, Told, Sum, Adds, Moves_to, trips, trip, hall, begin}
@@ -109,24 +110,74 @@ two_owners = refl
 one_owner : owners (run trips 1 (start_state begin one_move) (at_zero (Admit 1 ∷ Queue 1 1 [] ∷ Grant 1 [] ∷ Start 1 [] ∷ Stop 1 [] ∷ []) ++ on 1 (Land 1 2 []) ∷ [])) ≡ Some (false, true)
 one_owner = refl
 
--- A mark that is followed twice: the context went from host 0 to 1 and is on its way back, and an Enter that has followed both
--- marks lies at host 0. It waits there; by a machine that doesn't ask what it has followed it goes round for ever.
-abbrev to_and_fro : Column ℕ
-to_and_fro = record { store = λ h. None; gone = set nat_eq (set nat_eq (λ h. None) 0 (Some (record { to = 1; number = 1 }))) 1 (Some (record { to = 0; number = 2 })) }
+-- A mark that is followed twice. Hall went from host 0 to 1 and is on its way back, and the Enter of ticket 4 has followed both marks and
+-- lies at host 0, where the first mark still is.
+abbrev to_and_fro : List (List Trip)
+to_and_fro = (trip (hall ∷ []) Adds ∷ trip (hall ∷ []) (Moves_to 1) ∷ trip (hall ∷ []) (Moves_to 0) ∷ trip (hall ∷ []) Adds ∷ []) ∷ []
 
-it_waits : route to_and_fro 0 2 ≡ Wait
+abbrev through : ℕ → List Label
+through t = at_zero (Admit t ∷ Queue t 1 [] ∷ Grant t [] ∷ Start t [] ∷ Stop t [] ∷ Free t 3 [] ∷ [])
+
+abbrev at_hall : ℕ → ℕ → List Label
+at_hall t h = map (on h) (Queue t 2 (hall ∷ []) ∷ Grant t (hall ∷ []) ∷ Start t (hall ∷ []) ∷ Stop t (hall ∷ []) ∷ [])
+
+abbrev pass : ℕ → ℕ → ℕ → Label
+pass t from to = on from (Pass t 2 (hall ∷ []) to)
+
+abbrev on_its_way_back : List Label
+on_its_way_back = through 1 ++ through 2 ++ through 3 ++ through 4 ++ at_hall 1 0 ++ on 0 (Free 1 4 (hall ∷ [])) ∷ at_hall 2 0 ++ on 1 (Land 2 4 (hall ∷ [])) ∷ pass 3 0 1 ∷ at_hall 3 1 ++ pass 4 0 1 ∷ pass 4 1 0 ∷ []
+
+abbrev both_followed : Option S
+both_followed = run trips 1 (start_state begin to_and_fro) on_its_way_back
+
+three_passes : count_by (λ l. is_pass l.act) on_its_way_back ≡ 3
+three_passes = refl
+
+-- where the Enter lies, and what it has followed
+abbrev enter_at : Option S → Option (ℕ × ℕ)
+enter_at o = do
+  s ← o
+  m ← (s.cells 4).mails 2
+  a ← ask_in m.letter
+  Some (m.host, a.followed)
+
+lies_at_zero : enter_at both_followed ≡ Some (0, 2)
+lies_at_zero = refl
+
+-- it waits there until hall lands
+it_waits : then_run both_followed (pass 4 0 1 ∷ []) ≡ None
 it_waits = refl
 
--- to a mark's host, whatever was followed
-abbrev follow : Option Mark → ℕ × ℕ → ℕ × ℕ
-follow None x = x
-follow (Some m) x = (m.to, m.number)
+-- by a machine that doesn't ask what it has followed it goes to the mark's host
+abbrev pass_on : S → Option S
+pass_on s = do
+  m ← (s.cells 4).mails 2
+  a ← ask_in m.letter
+  g ← (s.columns m.path).gone m.host
+  Some (record {
+    before = s.before;
+    head = s.head;
+    admitted = s.admitted;
+    cells = set nat_eq s.cells 4 (record { event = (s.cells 4).event; mails = set nat_eq (s.cells 4).mails 2 (Some (record { host = g.to; path = m.path; letter = Enter (record { number = a.number; followed = g.number; peek = a.peek }) })); result = None });
+    columns = s.columns;
+    hands = s.hands;
+  })
 
-abbrev passed_twice : ℕ × ℕ
-passed_twice = let x : ℕ × ℕ = follow (to_and_fro.gone 0) (0, 2) in follow (to_and_fro.gone x.0) x
+abbrev again : ℕ → Option S → Option S
+again zero o = o
+again (suc n) o = again n (option_and_then pass_on o)
 
-goes_round : passed_twice ≡ (0, 2)
+-- and comes back: it goes round for ever
+goes_round : enter_at (again 2 both_followed) ≡ enter_at both_followed
 goes_round = refl
+
+-- four tickets enter eight contexts, and hall is moved twice, so there are at most 16 Passes; these would be 17
+passes_at_most : work_after trips begin to_and_fro 4 ≡ record { tickets = 4; segments = 8; entered = 8; moves = 2 }
+unfolding after_segments
+passes_at_most = refl
+
+too_often : enter_at (again 14 both_followed) ≡ Some (0, 2)
+too_often = refl
 
 -- A commit out of order: the later event ends first, and is committed as it ends.
 abbrev one_stays : List (List Trip)

@@ -3,9 +3,11 @@ pub mod Alone
 pub mod Begins
 pub mod Canonical
 pub mod Labels
+pub mod Movers
 pub mod Owes
 pub mod Owners
 pub mod Runs
 pub mod States
 pub mod Steps
+pub mod Walkers
 pub mod Work

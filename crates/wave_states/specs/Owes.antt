@@ -40,8 +40,8 @@ module _ {A F R J : Type 0} (sys : Actors A F R J) (hosts : ℕ) (fits : Path �
     pub kept : (a : A) (p : Path) (n : ℕ) (f : F) (cs : List Step) → fine a p n → fits p f → fits p (sys.segment a f cs).fields
     pub keeps : (a : A) (p : Path) (n : ℕ) (f : F) (cs : List Step) → fine a p n → fits p f → Keeps (sys.segment a f cs).actor p n (sys.segment a f cs).pause
     pub looks : (a : A) (p : Path) (n : ℕ) (f : F) (cs : List Step) → fine a p n → fits p f → sys.peeks a ≡ true → Looks a f cs
-    -- its run ends
-    pub ends : (j : J) (t : ℕ) (tree : Tree F) → is_job j → ((p : Path) → fits p (tree.fields p)) → (r : R) × ((ended_alone sys t tree j).result ≡ Some r)
+    -- its run ends, whatever tree it finds
+    pub ends : (j : J) (t : ℕ) (tree : Tree F) → is_job j → ((p : Path) → fits p (tree.fields p)) → IsStrictlySortedBy path_cmp tree.paths → (r : R) × ((ended_alone sys t tree j).result ≡ Some r)
 
   -- a Begin fits
   pub record IsBegin (b : Begin F) : Type 0 where

@@ -319,7 +319,7 @@ module _ {A F R J : Type 0} (sys : Actors A F R J) (hosts : ℕ) (fits : Path �
     done_at n j e = elim (done_or_over n) [ inl d ↦ d | inr o ↦ absurd (none_not (sym o ∙ e)) ]
 
     not_more : (i : ℕ) (j : J) → job_after sys b batches i ≡ Some j → Counts sys (first_of sys hosts fits is_job fine owes b batches begins jobs i j) (suc (last_of sys hosts fits is_job fine owes b batches begins jobs i j)) → suc (last_of sys hosts fits is_job fine owes b batches begins jobs i j) ≤ sys.enough j (suc b.before + i) (at sys hosts fits is_job fine owes b batches begins jobs i).tree
-    not_more i j e c = (let r = owes.ends j (suc b.before + i) (at sys hosts fits is_job fine owes b batches begins jobs i).tree (Plans.job_ok sys hosts fits is_job fine owes b batches begins jobs (at sys hosts fits is_job fine owes b batches begins jobs i) j (holds sys hosts fits is_job fine owes b batches begins jobs i) e) (holds sys hosts fits is_job fine owes b batches begins jobs i).fitting in
+    not_more i j e c = (let r = owes.ends j (suc b.before + i) (at sys hosts fits is_job fine owes b batches begins jobs i).tree (Plans.job_ok sys hosts fits is_job fine owes b batches begins jobs (at sys hosts fits is_job fine owes b batches begins jobs i) j (holds sys hosts fits is_job fine owes b batches begins jobs i) e) (holds sys hosts fits is_job fine owes b batches begins jobs i).fitting (holds sys hosts fits is_job fine owes b batches begins jobs i).ordered in
         at_most _ _ (λ m. none_not (sym (c.under _ m) ∙ r.1)))
       where
         at_most : (a b : ℕ) → (b < a → ⊥) → a ≤ b

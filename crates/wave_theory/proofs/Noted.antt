@@ -14,21 +14,21 @@ use Rattle.wave_states.specs.Labels
 use Rattle.wave_states.specs.Begins.{Begin, start_state, is_root, has_moved}
 use Rattle.wave_states.specs.Owes.{Owes, IsBegin}
 use Rattle.wave_states.specs.Owners.{IsOwner, trail_by, trail_step, trail_from, first_trail, born_at, to_of}
-use Rattle.wave_states.specs.Steps.{Bench, Part, step, step_by, act_bench, with_bench, part_of, admit, admitted, commit, committed, only_if, next_ticket, new_cell}
+use Rattle.wave_states.specs.Steps.{Bench, Part, step, step_by, act_bench, with_bench, part_of, admitted, committed, only_if, next_ticket, new_cell}
 use Rattle.wave_states.specs.Runs.{run}
-use Rattle.wave_theory.proofs.Basics.{clash, none_not, some_not, some_same, then_some, map_some, only_some, if_some, bool_cases, options, number_cases, number_is, not_same, path_cases, path_self, set_at, set_there, set_at_path, and_second, differ}
+use Rattle.wave_theory.proofs.Basics.{clash, none_not, some_same, then_some, map_some, only_some, if_some, bool_cases, options, number_cases, path_cases, path_self, set_at, set_there, set_at_path, differ}
 use Rattle.wave_theory.proofs.Order.{Way, IsWay, visits, rank, Stage, Entering, Lined, Coming, There, Done, here}
 use Rattle.wave_theory.proofs.Stops.{root_number, root_visited}
 use Rattle.wave_theory.proofs.Leaves.{Course}
-use Rattle.wave_theory.proofs.Paths.{child_differs, path_swap}
+use Rattle.wave_theory.proofs.Paths.{child_differs}
 use Rattle.wave_theory.proofs.Tracks.{Trail, owner, sent_on, arrived, born, unborn}
 use Rattle.wave_theory.proofs.Opened.{ask_is, passes}
-use Rattle.wave_theory.proofs.Frames.{entered_spot, visits_of, option_some}
+use Rattle.wave_theory.proofs.Frames.{entered_spot, visits_of}
 use Rattle.wave_theory.proofs.Courses
 use Rattle.wave_theory.proofs.Shows
 use Rattle.wave_theory.proofs.Deeds.{Outline, outline, Deed, done_by, Suits}
 use Rattle.wave_theory.proofs.Deeds
-use Rattle.wave_theory.proofs.Forms.{queue_form, grant_form, admit_form, stop_form, ends_segment, leaves_trails, trail_stays, lets_in, grants_none}
+use Rattle.wave_theory.proofs.Forms.{queue_form, grant_form, admit_form, stop_form, ends_segment, leaves_trails, trail_stays, grants_none}
 use Rattle.wave_theory.proofs.Homes
 use Rattle.wave_theory.proofs.Passed
 use Rattle.wave_theory.proofs.Hosts

@@ -120,7 +120,7 @@ module _ {A F R J : Type 0} (sys : Actors A F R J) (hosts : ℕ) (fits : Path �
       ok = first_fine sys hosts fits is_job fine owes j t tree k f
 
       e : (r : R) × ((ended_alone sys t tree j).result ≡ Some r)
-      e = owes.ends j t tree k f
+      e = owes.ends j t tree k f o
 
   module _ (b : Begin F) (batches : List (List J)) (begins : IsBegin sys hosts fits is_job fine b) (jobs : All (All is_job) batches) where
     abbrev pub at : ℕ → Progress F R J
@@ -185,7 +185,7 @@ module _ {A F R J : Type 0} (sys : Actors A F R J) (hosts : ℕ) (fits : Path �
 
     -- it has that many segments, and one at least
     counts_all : (i : ℕ) (j : J) → job_after sys b batches i ≡ Some j → Counts sys (first_of i j) (segments_of sys (suc b.before + i) (at i).tree j)
-    counts_all i j e = (let r = owes.ends j (suc b.before + i) (at i).tree (job_ok (at i) j (holds i) e) (holds i).fitting in counted sys (sys.enough j (suc b.before + i) (at i).tree) (first_of i j) r.0 r.1)
+    counts_all i j e = (let r = owes.ends j (suc b.before + i) (at i).tree (job_ok (at i) j (holds i) e) (holds i).fitting (holds i).ordered in counted sys (sys.enough j (suc b.before + i) (at i).tree) (first_of i j) r.0 r.1)
 
     some_segment : (i : ℕ) (j : J) (n : ℕ) → Counts sys (first_of i j) n → n ≡ suc (less_one n)
     some_segment i j zero c = absurd (none_not (sym (ap (λ (y : Alone A F R). y.result) (none_yet sys (first_of i j))) ∙ c.ends))

@@ -1,9 +1,8 @@
 -- The canonical list is in its order.
-use Rattle.std.proofs.Common.{◌≡◌, ℕ, zero, suc, ◌+◌, ◌<◌, ◌≤◌, ◌⊎◌, ◌==◌, ◌&&◌, inl, inr, nat_eq, Bool, true, false, Option, Some, None, is_some, List, [], ◌∷◌, ◌++◌, refl, sym, ◌∙◌, ap, subst, arith}
+use Rattle.std.proofs.Common.{◌≡◌, ℕ, zero, suc, ◌+◌, ◌<◌, ◌≤◌, ◌⊎◌, inl, inr, Bool, true, false, Option, Some, None, is_some, List, [], ◌∷◌, ◌++◌, refl, sym, ◌∙◌, ap, subst, arith}
 use Rattle.std.specs.Prelude.{All, filter, flat_map, map, cond}
 use Rattle.std.specs.List.{AllByRecursion}
 use Rattle.wave_base.specs.declared.path.Path.{Path}
-use Rattle.wave_base.specs.Paths.{path_eq}
 use Rattle.wave_base.specs.Fold.{tickets_from}
 use Rattle.wave_states.specs.Actors.{Actors}
 use Rattle.wave_states.specs.States.{State, Event, Mail, Mark, Hand, Status, Travelling, Ended, Waiting, Ready, Running}
@@ -12,10 +11,8 @@ use Rattle.wave_states.specs.Labels
 use Rattle.wave_states.specs.Begins.{Begin}
 use Rattle.wave_states.specs.Owes.{Owes, IsBegin}
 use Rattle.wave_states.specs.Steps.{step, next_ticket}
-use Rattle.wave_states.specs.Canonical.{below, at_host, by_event, by_mail, to_mark, runs_it, tickets, place, by_status, grants_of, starts_of, stops_of, by_mails, mail_act, passes_of, may_take, able, front, rear, idle_in, taken_by, stop_by, enabled}
-use Rattle.wave_theory.proofs.Basics.{bool_cases, clash, none_not, number_is, and_first}
-use Rattle.wave_theory.proofs.Courses
-use Rattle.wave_theory.proofs.Shows
+use Rattle.wave_states.specs.Canonical.{below, at_host, by_event, by_mail, to_mark, runs_it, place, by_status, grants_of, starts_of, stops_of, by_mails, mail_act, passes_of, may_take, able, front, rear, idle_in, taken_by, stop_by, enabled}
+use Rattle.wave_theory.proofs.Basics.{bool_cases, clash, number_is, and_first}
 use Rattle.wave_theory.proofs.Reached.{Good_state}
 use Rattle.wave_theory.specs.Orders.{kind_of, mail_of, Before, Rising, Sorted}
 

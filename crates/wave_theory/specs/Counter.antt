@@ -37,5 +37,5 @@ owes = record {
   kept = λ a p n f cs h k. tt;
   keeps = λ a p n f cs h k. (All-nil IsJob, tt);
   looks = λ a p n f cs h k e. absurd (true≢false (sym e));
-  ends = λ j t tree h k. (suc (tree.fields []), refl);
+  ends = λ j t tree h k o. (suc (tree.fields []), refl);
 }

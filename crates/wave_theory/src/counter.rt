@@ -6,6 +6,7 @@ use crate::laws::{
     bounded, bounds, by_owners, came, complete, counted, hands_stay, independent, listed,
     never_stuck, numbers, one_host, one_owner, records, results, sorted, tickets, traced, trails,
 };
+use crate::movers::{Movers, Walkers};
 
 /// One counter at the root: each event adds one and replies.
 pub struct Counter;
@@ -55,4 +56,10 @@ pub fn at_the_counter() {
     listed::<Counter>();
     sorted::<Counter>();
     one_host::<Counter>();
+}
+
+/// What a finished state has, at movers and at walkers.
+pub fn at_movers_and_walkers() {
+    complete::<Movers>();
+    complete::<Walkers>();
 }
