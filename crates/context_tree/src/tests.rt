@@ -104,3 +104,48 @@ fn a_field_is_set(rt: HostRuntime) -> Result<(), Fail> {
     assert!(rt; tree.shots(alloc)?.as_slice() == wanted.as_slice());
     Ok(())
 }
+
+fn step(class: u16, key: i64) -> Step {
+    let class = Class(class);
+    Step { class, key }
+}
+
+// A context below the root.
+fn one(class: u16, key: i64) -> Path
+    ensures { length result ≡ 1 }
+{
+    Path::root().child(step(class, key))
+}
+
+// A context two below the root.
+fn inner(class: u16, key: i64, second: u16, other: i64) -> Path
+    ensures { length result ≡ 2 }
+{
+    one(class, key).child(step(second, other))
+}
+
+#[test]
+fn paths_come_step_by_step(rt: HostRuntime) -> Result<(), Fail> {
+    let least = i64::MIN;
+    let greatest = i64::MAX;
+    let pairs = [
+        (Path::root(), one(1, least)),
+        (Path::root(), inner(1, 0, 2, 0)),
+        (one(1, -5), one(1, -4)),
+        (one(1, -1), one(1, 0)),
+        (one(1, least), one(1, greatest)),
+        (one(1, greatest), one(2, least)),
+        (one(1, 7), inner(1, 7, 2, least)),
+        (inner(1, 7, 2, 9), one(1, 8)),
+        (inner(1, 7, 2, 9), inner(1, 7, 2, 10)),
+        (inner(1, 7, 2, greatest), inner(1, 7, 3, least)),
+        (inner(1, 7, 3, 9), inner(1, 8, 2, 0)),
+        (inner(1, greatest, 5, 0), inner(3, least, 4, 0)),
+    ];
+    for (low, high) in pairs {
+        assert!(rt; low < high);
+        assert!(rt; high > low);
+        assert!(rt; low != high);
+    }
+    Ok(())
+}

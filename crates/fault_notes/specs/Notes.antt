@@ -1,0 +1,47 @@
+-- What is told of a fault. Want of memory is told elsewhere.
+use Rattle.std.specs.Prelude.{ℕ, List, [], ◌∷◌, ◌++◌, codes}
+use Rattle.std.specs.Fmt.{decimal}
+use Rattle.wave_base.specs.declared.span.Span.{Span}
+use Rattle.mace_lexer.specs.declared.fault.LexError.{LexError}
+use Rattle.mace_lexer.specs.declared.fault.LexError.TheVariants as lex
+use Rattle.mace_parser.specs.declared.fault.ParseError.{ParseError}
+use Rattle.mace_parser.specs.declared.fault.ParseError.TheVariants as parse
+use Rattle.service_reader.specs.declared.fault.TextFault.{TextFault}
+use Rattle.service_reader.specs.declared.fault.TextFault.TheVariants as fault
+use Rattle.type_rules.specs.declared.error.TypeError.{TypeError}
+use Rattle.type_rules.specs.declared.error.TypeError.TheVariants as wrong
+
+-- what it is, and line:column
+abbrev pub placed : List ℕ → Span → List ℕ
+placed name at = name ++ (32 ∷ (decimal at.line ++ (58 ∷ decimal at.col)))
+
+abbrev pub lex_note : LexError → List ℕ
+lex_note (lex.BadByte at) = placed (codes "L1 BadByte") at
+lex_note (lex.NumberRange at) = placed (codes "L2 NumberRange") at
+lex_note (lex.OpenText at) = placed (codes "L3 OpenText") at
+lex_note (lex.NameLong at) = placed (codes "L4 NameLong") at
+lex_note (lex.TextLong at) = placed (codes "L5 TextLong") at
+lex_note lex.OutOfMemory = []
+
+abbrev pub parse_note : ParseError → List ℕ
+parse_note (parse.Expected token at) = placed (codes "P1 Expected") at
+parse_note (parse.TooDeep token at) = placed (codes "P2 TooDeep") at
+parse_note parse.OutOfMemory = []
+
+-- of a text that is no service
+abbrev pub text_note : TextFault → List ℕ
+text_note fault.TooLarge = codes "TooLarge service"
+text_note (fault.Lex e) = lex_note e
+text_note (fault.Parse e) = parse_note e
+text_note fault.OutOfMemory = []
+
+abbrev pub type_note : TypeError → List ℕ
+type_note (wrong.UnknownName at) = placed (codes "Y1 UnknownName") at
+type_note (wrong.Duplicate at) = placed (codes "Y2 Duplicate") at
+type_note (wrong.Mismatch at) = placed (codes "Y3 Mismatch") at
+type_note (wrong.ArgCount at) = placed (codes "Y4 ArgCount") at
+type_note (wrong.NotDownward at) = placed (codes "Y5 NotDownward") at
+type_note (wrong.CalleeLater at) = placed (codes "Y6 CalleeLater") at
+type_note (wrong.MissingReply at) = placed (codes "Y7 MissingReply") at
+type_note (wrong.Limit which at) = placed (codes "Y8 Limit") at
+type_note wrong.OutOfMemory = []

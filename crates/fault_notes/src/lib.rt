@@ -1,0 +1,8 @@
+//! What is told of a fault: its number, its name and its place, in one line.
+#![tactic(auto)]
+
+mod notes;
+#[cfg(test)]
+mod tests;
+
+pub use notes::{lex_note, parse_note, text_note, type_note};

@@ -1,0 +1,77 @@
+ghost use Rattle.std.specs.Prelude.{◌≡◌, IfOk};
+ghost use Rattle.fault_notes.specs.Notes.{placed, lex_note, parse_note, text_note, type_note};
+
+use mace_lexer::LexError;
+use mace_parser::ParseError;
+use service_reader::TextFault;
+use std::alloc::Global;
+use type_rules::TypeError;
+use wave_base::{OutOfMemory, Span};
+use wave_text::{put_bytes, put_number};
+
+/// What it is, and its line and column.
+pub fn placed(alloc: Global, name: &[u8], at: Span) -> Result<Vec<u8>, OutOfMemory>
+    ensures { IfOk result (λ note. note.items ≡ placed name.now at) }
+{
+    let mut note = Vec::new(alloc);
+    put_bytes(&mut note, name)?;
+    put_bytes(&mut note, b" ")?;
+    put_number(alloc, &mut note, u64::from(at.line))?;
+    put_bytes(&mut note, b":")?;
+    put_number(alloc, &mut note, u64::from(at.col))?;
+    Ok(note)
+}
+
+/// What is told of a text that can't be cut into tokens.
+pub fn lex_note(alloc: Global, error: &LexError) -> Result<Vec<u8>, OutOfMemory>
+    ensures { IfOk result (λ note. note.items ≡ lex_note error.now) }
+{
+    match error {
+        LexError::BadByte(at) => placed(alloc, b"L1 BadByte", *at),
+        LexError::NumberRange(at) => placed(alloc, b"L2 NumberRange", *at),
+        LexError::OpenText(at) => placed(alloc, b"L3 OpenText", *at),
+        LexError::NameLong(at) => placed(alloc, b"L4 NameLong", *at),
+        LexError::TextLong(at) => placed(alloc, b"L5 TextLong", *at),
+        LexError::OutOfMemory => Err(OutOfMemory),
+    }
+}
+
+/// What is told of tokens that are no service.
+pub fn parse_note(alloc: Global, error: &ParseError) -> Result<Vec<u8>, OutOfMemory>
+    ensures { IfOk result (λ note. note.items ≡ parse_note error.now) }
+{
+    match error {
+        ParseError::Expected { at, .. } => placed(alloc, b"P1 Expected", *at),
+        ParseError::TooDeep { at, .. } => placed(alloc, b"P2 TooDeep", *at),
+        ParseError::OutOfMemory => Err(OutOfMemory),
+    }
+}
+
+/// What is told of a text that is no service.
+pub fn text_note(alloc: Global, fault: &TextFault) -> Result<Vec<u8>, OutOfMemory>
+    ensures { IfOk result (λ note. note.items ≡ text_note fault.now) }
+{
+    match fault {
+        TextFault::TooLarge => Ok(Vec::from_slice(alloc, b"TooLarge service")?),
+        TextFault::Lex(error) => lex_note(alloc, error),
+        TextFault::Parse(error) => parse_note(alloc, error),
+        TextFault::OutOfMemory => Err(OutOfMemory),
+    }
+}
+
+/// What is told of a service that isn't typed.
+pub fn type_note(alloc: Global, error: &TypeError) -> Result<Vec<u8>, OutOfMemory>
+    ensures { IfOk result (λ note. note.items ≡ type_note error.now) }
+{
+    match error {
+        TypeError::UnknownName(at) => placed(alloc, b"Y1 UnknownName", *at),
+        TypeError::Duplicate(at) => placed(alloc, b"Y2 Duplicate", *at),
+        TypeError::Mismatch(at) => placed(alloc, b"Y3 Mismatch", *at),
+        TypeError::ArgCount(at) => placed(alloc, b"Y4 ArgCount", *at),
+        TypeError::NotDownward(at) => placed(alloc, b"Y5 NotDownward", *at),
+        TypeError::CalleeLater(at) => placed(alloc, b"Y6 CalleeLater", *at),
+        TypeError::MissingReply(at) => placed(alloc, b"Y7 MissingReply", *at),
+        TypeError::Limit(_, at) => placed(alloc, b"Y8 Limit", *at),
+        TypeError::OutOfMemory => Err(OutOfMemory),
+    }
+}
