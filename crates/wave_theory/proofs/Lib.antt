@@ -23,6 +23,7 @@ pub mod Leaves
 pub mod Live
 pub mod Maps
 pub mod Noted
+pub mod Often
 pub mod Opened
 pub mod Order
 pub mod Own

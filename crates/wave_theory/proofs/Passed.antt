@@ -31,7 +31,7 @@ use Rattle.wave_theory.proofs.Sizes
 use Rattle.wave_theory.proofs.Reached.{Good_state, Next}
 use Rattle.wave_theory.proofs.Reached
 use Rattle.wave_theory.proofs.Along
-use Rattle.wave_theory.specs.States.{passed, taken, most_moves, Bounded}
+use Rattle.wave_theory.specs.States.{passed, passed_to, taken, size, most_moves, HasEntry, Bounded}
 
 pub passed_more : (ls : List Label) (l : Label) → passed (ls ++ l ∷ []) ≡ passed ls + (if is_pass l.act then 1 else 0)
 passed_more [] l = by (is_pass l.act)
@@ -109,7 +109,7 @@ module _ {A F R J : Type 0} (sys : Actors A F R J) (hosts : ℕ) (fits : Path �
       pub bound : (t : ℕ) → b.before < t → t ≤ (k.ghost).lines.admitted → Bound ((k.ghost).lines.stage t) t ((k.ghost).lines.pos t) (s.cells t).mails (tally t)
 
     -- the cells of other tickets stay
-    cells_off : (s s' : State A F R J) (v host : ℕ) (a : Act) → step_by sys s v host a ≡ Some s' → (u : ℕ) → nat_eq (ticket_of a) u ≡ false → s'.cells u ≡ s.cells u
+    pub cells_off : (s s' : State A F R J) (v host : ℕ) (a : Act) → step_by sys s v host a ≡ Some s' → (u : ℕ) → nat_eq (ticket_of a) u ≡ false → s'.cells u ≡ s.cells u
     cells_off s s' v host (Admit t) e u n =
         let j = then_some (λ j. only_if ((host == 0) && (t == next_ticket sys s)) (admitted sys s t j)) (Rattle.std.specs.Prelude.slice_get s.head.known s.admitted) s' (Reached.idle_of sys hosts fits is_job fine owes b batches begins jobs (s.hands v) _ s' e).1 in
         let o = only_some ((host == 0) && (t == next_ticket sys s)) (admitted sys s t j.0) s' j.2 in
@@ -178,11 +178,11 @@ module _ {A F R J : Type 0} (sys : Actors A F R J) (hosts : ℕ) (fits : Path �
     pass_form (Free t k p) e = absurd (clash false e refl)
     pass_form (Land t k p) e = absurd (clash false e refl)
 
-    enter_same : (a c : Ask) → ◌≡◌ {A = Rattle.wave_states.specs.States.Letter F} (Enter a) (Enter c) → a ≡ c
+    pub enter_same : (a c : Ask) → ◌≡◌ {A = Rattle.wave_states.specs.States.Letter F} (Enter a) (Enter c) → a ≡ c
     enter_same a c e = some_same a c (ap Rattle.wave_states.specs.States.ask_in e)
 
     -- a mark that is followed has a higher number than was followed
-    forward_more : (i : Bool) (mark : Rattle.wave_states.specs.States.Mark) (f to : ℕ) → (if i then Steps.Deliver else route_by (Some mark) f) ≡ Forward to → f < mark.number
+    pub forward_more : (i : Bool) (mark : Rattle.wave_states.specs.States.Mark) (f to : ℕ) → (if i then Steps.Deliver else route_by (Some mark) f) ≡ Forward to → f < mark.number
     forward_more true mark f to e = absurd (deliver_not e)
       where
         deliver_not : Steps.Deliver ≡ Forward to → ⊥
@@ -554,8 +554,9 @@ module _ {A F R J : Type 0} (sys : Actors A F R J) (hosts : ℕ) (fits : Path �
                       stages There e = later_too _ (suc ((a.good.ghost).lines.pos t)) (suc (w.last t)) (going There e (λ z. grind arith)) (bound_is There e)
                       stages Done e = subst (λ k. (a.holds).tally t ≤ most * fresh_to t k) (a.good.shows.good.ended t la e) (bound_is Done e)
 
-    pub bounded : Bounded sys workers b batches ls s
-    bounded = (let c = Sizes.counted sys hosts fits is_job fine owes b batches begins jobs s ls (Reached.reached_by sys hosts fits is_job fine owes b batches begins jobs some_host workers s ls r) workers some_worker in record {
+    pub bounded : ((t : ℕ) (p : Path) (en : Rattle.wave_states.specs.States.Entry F) → HasEntry sys b batches s p en → passed_to t p ls ≤ en.moves) → Bounded sys workers b batches ls s
+    bounded each = (let c = Sizes.counted sys hosts fits is_job fine owes b batches begins jobs s ls (Reached.reached_by sys hosts fits is_job fine owes b batches begins jobs some_host workers s ls r) workers some_worker in record {
+      each = each;
       few_passed = few;
       within = λ n e. both _ _ _ _ _ (all_labels ls) (c.within n e) (few n e);
       exactly = λ f. all_labels ls ∙ ap (λ m. m + passed ls) (c.exactly f);

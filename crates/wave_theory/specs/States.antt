@@ -1,6 +1,7 @@
 -- What the laws say of a state that a list of labels leads to.
-use Rattle.std.specs.Prelude.{length, ◌≡◌, ◌*◌, false, ◌↔◌, ◌∷◌, ◌++◌, ◌<◌, ◌≤◌, ◌⊎◌, ◌+◌, ℕ, suc, true, if◌then◌else◌, List, [], Some, None, slice_get, All, ◌≢◌, is_some}
+use Rattle.std.specs.Prelude.{length, nat_eq, ◌&&◌, Bool, ◌≡◌, ◌*◌, false, ◌↔◌, ◌∷◌, ◌++◌, ◌<◌, ◌≤◌, ◌⊎◌, ◌+◌, ℕ, suc, true, if◌then◌else◌, List, [], Some, None, slice_get, All, ◌≢◌, is_some}
 use Rattle.wave_base.specs.declared.path.Path.{Path}
+use Rattle.wave_base.specs.Paths.{path_eq}
 use Rattle.wave_base.specs.Tree.{there, children_of}
 use Rattle.wave_base.specs.Fold.{Progress}
 use Rattle.wave_base.specs.Places.{load_of}
@@ -238,14 +239,24 @@ module _ {A F R J : Type 0} (sys : Actors A F R J) where
     pub within : (n : ℕ) → job_after sys b batches n ≡ None → taken labels ≤ size (work_after sys b batches n)
     pub exactly : Finished sys workers s → taken labels ≡ size (work_after sys b batches s.head.done)
 
+-- how many labels pass on the Enter of the ticket to the context
+abbrev pub is_pass_of : ℕ → Path → Act → Bool
+is_pass_of t p (Pass u k q to) = nat_eq u t && path_eq q p
+is_pass_of t p _ = false
+
+abbrev pub passed_to : ℕ → Path → List Label → ℕ
+passed_to t p [] = 0
+passed_to t p (l ∷ ls) = if is_pass_of t p l.act then suc (passed_to t p ls) else passed_to t p ls
+
 -- how often a context is sent on at most: as often as the jobs move one, and once more where the root does not begin on host 0
 abbrev pub most_moves : {F : Type 0} → Begin F → Work → ℕ
 most_moves b x = x.moves + (if has_moved b [] then 1 else 0)
 
 module _ {A F R J : Type 0} (sys : Actors A F R J) where
-  -- Bounded. However the labels are chosen, each Enter is passed on at most as often as a context is sent on, so there are at most so many
+  -- Bounded. However the labels are chosen, an Enter is passed on at most as often as its context was sent on, so there are at most so many
   -- labels; and in a finished state as many as the work asks for, besides the Passes.
   pub record Bounded (workers : ℕ) (b : Begin F) (batches : List (List J)) (labels : List Label) (s : State A F R J) : Type 0 where
+    pub each : (t : ℕ) (p : Path) (en : Entry F) → HasEntry sys b batches s p en → passed_to t p labels ≤ en.moves
     pub few_passed : (n : ℕ) → job_after sys b batches n ≡ None → passed labels ≤ (work_after sys b batches n).entered * most_moves b (work_after sys b batches n)
     pub within : (n : ℕ) → job_after sys b batches n ≡ None → length labels ≤ size (work_after sys b batches n) + (work_after sys b batches n).entered * most_moves b (work_after sys b batches n)
     pub exactly : Finished sys workers s → length labels ≡ size (work_after sys b batches s.head.done) + passed labels
