@@ -1,10 +1,14 @@
 -- The state that a run begins with.
-use Rattle.std.specs.Prelude.{ℕ, Bool, true, false, not, ◌&&◌, nat_eq, if◌then◌else◌, List, [], ◌∷◌, ◌++◌, map, Some, None}
+use Rattle.std.specs.Prelude.{ℕ, ◌-◌, Bool, true, false, not, ◌&&◌, nat_eq, if◌then◌else◌, List, [], ◌∷◌, ◌++◌, map, Some, None}
 use Rattle.wave_base.specs.declared.path.Step.{Step}
 use Rattle.wave_base.specs.declared.path.Path.{Path}
 use Rattle.wave_base.specs.declared.children.Child.{Child}
 use Rattle.wave_base.specs.Tree.{Tree, there, bare, children_of}
 use Rattle.wave_base.specs.Fold.{first_head}
+use Rattle.wave_base.specs.Starts.{start_tree, start_places}
+use Rattle.wave_base.specs.declared.shape.Shape.{Shape}
+use Rattle.wave_base.specs.declared.start.Start.{Start}
+use Rattle.wave_base.specs.declared.value.Value.{Value}
 use Rattle.wave_states.specs.States.{Entry, Column, State, set}
 
 -- what a run begins with: a tree, a host for each of its contexts, and how many tickets there were before
@@ -16,6 +20,10 @@ pub record Begin (F : Type 0) : Type 0 where
 -- the root alone with its initial fields, on host 0, and no tickets before
 abbrev pub first_begin : {F : Type 0} → (Path → F) → Begin F
 first_begin initial = record { tree = bare initial; places = bare (λ p. 0); before = 0 }
+
+-- what a Start of the service says
+abbrev pub begin_of : Shape → Start → Begin (List Value)
+begin_of shape start = record { tree = start_tree shape start; places = start_places start; before = start.next.0 - 1 }
 
 abbrev pub is_root : Path → Bool
 is_root [] = true

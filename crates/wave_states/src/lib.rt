@@ -1,4 +1,5 @@
-//! The machine as definitions, over any actors: its state, its labels, runs and drives, and one event alone.
+//! The machine as definitions, over any actors: its state, its labels, runs and drives, one event alone, and two kinds of actors,
+//! movers and walkers.
 #![tactic(auto)]
 
 ghost use Rattle.std.specs.Prelude.{◌≡◌};

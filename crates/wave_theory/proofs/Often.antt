@@ -1,5 +1,5 @@
 -- How often one Enter is passed on.
-use Rattle.std.proofs.Common.{◌≡◌, ℕ, zero, suc, ◌+◌, ◌<◌, ◌≤◌, ◌⊎◌, ◌&&◌, nat_eq, nat_lt, inl, inr, Bool, true, false, Option, Some, None, is_some, List, [], ◌∷◌, ◌++◌, refl, sym, ◌∙◌, ap, ap₂, subst, arith}
+use Rattle.std.proofs.Common.{◌≡◌, ℕ, suc, ◌+◌, ◌<◌, ◌≤◌, ◌⊎◌, ◌&&◌, nat_eq, nat_lt, inl, inr, Bool, true, false, Option, Some, None, is_some, List, [], ◌∷◌, ◌++◌, refl, sym, ◌∙◌, ap, subst, arith}
 use Rattle.std.specs.Prelude.{All, if◌then◌else◌}
 use Rattle.wave_base.specs.declared.path.Path.{Path}
 use Rattle.wave_base.specs.Paths.{path_eq}
@@ -12,10 +12,10 @@ use Rattle.wave_states.specs.Owes.{Owes, IsBegin}
 use Rattle.wave_states.specs.Steps.{Bench, Part, step, step_by, act_bench, with_bench, part_of, route_by, Forward}
 use Rattle.wave_states.specs.Steps
 use Rattle.wave_states.specs.Runs.{run}
-use Rattle.wave_theory.proofs.Basics.{clash, none_not, some_same, map_some, if_some, bool_cases, number_cases, number_is, path_is, not_same, path_cases, set_at, set_there, set_at_path, and_first, and_second, differ}
-use Rattle.wave_theory.proofs.Order.{Way, IsWay, Stage, Entering, Lined, Coming, There, Done, here}
+use Rattle.wave_theory.proofs.Basics.{clash, none_not, some_same, map_some, if_some, bool_cases, number_cases, number_is, path_is, path_cases, set_at, set_there, set_at_path, and_first, and_second, differ}
+use Rattle.wave_theory.proofs.Order.{Way, IsWay, Entering, Lined, Coming, There, Done}
 use Rattle.wave_theory.proofs.Leaves.{Course}
-use Rattle.wave_theory.proofs.Tracks.{Trail, sent_on, arrived, unborn}
+use Rattle.wave_theory.proofs.Tracks.{Trail, sent_on, arrived}
 use Rattle.wave_theory.proofs.Opened.{passes}
 use Rattle.wave_theory.proofs.Frames.{entered_spot}
 use Rattle.wave_theory.proofs.Own.{shows_letter}

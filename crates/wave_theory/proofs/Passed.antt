@@ -31,7 +31,7 @@ use Rattle.wave_theory.proofs.Sizes
 use Rattle.wave_theory.proofs.Reached.{Good_state, Next}
 use Rattle.wave_theory.proofs.Reached
 use Rattle.wave_theory.proofs.Along
-use Rattle.wave_theory.specs.States.{passed, passed_to, taken, size, most_moves, HasEntry, Bounded}
+use Rattle.wave_theory.specs.States.{passed, passed_to, taken, most_moves, HasEntry, Bounded}
 
 pub passed_more : (ls : List Label) (l : Label) → passed (ls ++ l ∷ []) ≡ passed ls + (if is_pass l.act then 1 else 0)
 passed_more [] l = by (is_pass l.act)
