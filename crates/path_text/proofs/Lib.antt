@@ -1,0 +1,7 @@
+mod Examples
+pub mod FrontLemmas
+pub mod StepLemmas
+pub mod PathLemmas
+pub mod PutLemmas
+pub mod Again
+pub mod SampleShape

@@ -1,0 +1,14 @@
+//! Paths and contexts as texts: `/` or `/Class[key]..`, and `at path field=value ..`.
+#![tactic(auto)]
+
+mod parse;
+mod put;
+mod resolve;
+#[cfg(test)]
+mod tests;
+mod written;
+
+pub use parse::{PathError, parse_path};
+pub use put::{put_path, put_shot, write_path};
+pub use resolve::resolve_steps;
+pub use written::{Written, written_steps};

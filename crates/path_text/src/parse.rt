@@ -1,0 +1,36 @@
+ghost use Rattle.wave_base.specs.Shapes.{IsShape};
+ghost use Rattle.path_text.specs.Verdicts.{IsOnlyVerdict};
+
+use crate::resolve::resolve_steps;
+use crate::written::written_steps;
+use std::alloc::Global;
+use thiserror::Error;
+use wave_base::{Path, Shape};
+
+/// Why a text is no path of a shape.
+#[derive(Clone, Copy, Debug, PartialEq, Eq, Error)]
+pub enum PathError {
+    #[error("no path's form")]
+    Syntax,
+    /// A class that is not a child class of the one before it, a key that does not fit, or too many steps.
+    #[error("no such path")]
+    UnknownClass,
+    #[error("out of memory")]
+    OutOfMemory,
+}
+
+/// The path that a text stands for.
+pub fn parse_path(alloc: Global, shape: &Shape, text: &[u8]) -> Result<Path, PathError>
+    requires { IsShape shape.now }
+    ensures { IsOnlyVerdict shape.now text.now result }
+{
+    let steps = match written_steps(alloc, text) {
+        Ok(Some(steps)) => steps,
+        Ok(None) => return Err(PathError::Syntax),
+        Err(_) => return Err(PathError::OutOfMemory),
+    };
+    match resolve_steps(shape, steps.as_slice()) {
+        Some(path) => Ok(path),
+        None => Err(PathError::UnknownClass),
+    }
+}
