@@ -3,10 +3,10 @@
 
 mod line_texts;
 mod lines;
-mod listing;
 #[cfg(test)]
 mod tests;
+mod whole;
 mod write;
 
-pub use listing::listing;
+pub use whole::listing;
 pub use write::{ListError, write_listing, write_listing_at};

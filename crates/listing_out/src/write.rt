@@ -6,7 +6,7 @@ ghost use Rattle.wave_io.specs.Streams.{AppendsFront};
 ghost use Rattle.listing_out.specs.Listing.{listing};
 
 use crate::lines::{end_lines, result_lines};
-use crate::listing::{made_at, name_at, ticket_at};
+use crate::whole::{made_at, name_at, ticket_at};
 use std::alloc::Global;
 use thiserror::Error;
 use wave_base::{Finished, OutOfMemory, Seq, Shape, Ticket};
