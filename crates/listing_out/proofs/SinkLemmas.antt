@@ -1,5 +1,5 @@
 -- How far bytes were written onto a sink.
-use Rattle.std.proofs.Common.{◌≡◌, ◌+◌, Result, Ok, Err, OnErr, ℕ, zero, suc, List, [], ◌∷◌, ◌++◌, length, take, Option, None, Some, refl, sym, ap, subst, ◌∙◌, append_assoc, append-nil}
+use Rattle.std.proofs.Common.{◌≡◌, Result, Ok, Err, OnErr, ℕ, zero, suc, List, [], ◌∷◌, ◌++◌, take, Option, None, Some, refl, sym, ap, subst, ◌∙◌, append_assoc, append-nil}
 use Rattle.std.specs.Io.KnownBytes.{Appends}
 use Rattle.wave_io.specs.Streams.{AppendsFront}
 

@@ -1,0 +1,6 @@
+pub mod FrontLemmas
+pub mod PieceLemmas
+pub mod LiteralLemmas
+pub mod FormLemmas
+pub mod ValueLemmas
+pub mod ReadLemmas

@@ -54,6 +54,13 @@ pub record IsNamed (rest : List Piece) (name : List ℕ) (args : List Piece) : T
 abbrev pub IsNotNamed : List Piece → Type 0
 IsNotNamed rest = (name : List ℕ) (args : List Piece) → IsNamed rest name args → ⊥
 
+pub record IsTo (rest : List Piece) (digits : List ℕ) : Type 0 where
+  pub rest_is : Run (codes "to") ∷ Run digits ∷ [] ≡ rest
+  pub form_is : is_digits digits ≡ true
+
+abbrev pub IsNotTo : List Piece → Type 0
+IsNotTo rest = (digits : List ℕ) → IsTo rest digits → ⊥
+
 pub record IsMove (rest : List Piece) (path digits : List ℕ) : Type 0 where
   pub rest_is : Run path ∷ Run (codes "to") ∷ Run digits ∷ [] ≡ rest
   pub form_is : is_digits digits ≡ true

@@ -63,16 +63,16 @@ fn values_of(
     ensures { IfOk result (λ o. o ≡ values_of params.now args.now) }
 {
     let mut values = Vec::new(alloc);
-    let mut params = params;
+    let mut kinds = params;
     for literal in args {
-        let [kind, others @ ..] = params else {
-            break;
+        let [kind, others @ ..] = kinds else {
+            return Ok(Some(Seq::from_vec(values)));
         };
         let Some(value) = value_of(alloc, *kind, literal)? else {
             return Ok(None);
         };
         values.push(value)?;
-        params = others;
+        kinds = others;
     }
     Ok(Some(Seq::from_vec(values)))
 }

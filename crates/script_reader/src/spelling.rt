@@ -1,7 +1,7 @@
 ghost use Rattle.std.specs.Prelude.{◌≡◌, ◌∷◌, ◌↔◌, [], List, ℕ, IsTrue, codes, IfOk, IfSome, IfNone};
 ghost use Rattle.script_reader.specs.Behind.{behind_of};
 ghost use Rattle.script_reader.specs.Forms.{IsOnlyFormOf, HasNoFormOf};
-ghost use Rattle.script_reader.specs.Parts.{IsLiteralPiece, IsNoLiteralPiece, AreOnlyLiterals, AreNoLiterals, IsNumber, IsNoNumber, IsNamed, IsNotNamed, IsMove, IsNoMove, SpellsOnly, SpellsNone, behind_in};
+ghost use Rattle.script_reader.specs.Parts.{IsLiteralPiece, IsNoLiteralPiece, AreOnlyLiterals, AreNoLiterals, IsNumber, IsNoNumber, IsNamed, IsNotNamed, IsTo, IsNotTo, IsMove, IsNoMove, SpellsOnly, SpellsNone, behind_in};
 ghost use Rattle.script_reader.specs.declared.piece.Piece.TheVariants.{Run, Close};
 
 use crate::form::{Form, Literal};
@@ -162,22 +162,34 @@ fn request_form(alloc: Global, rest: &[Piece]) -> Result<Option<Form>, OutOfMemo
     Ok(Some(Form::Request(copied(alloc, name)?, args)))
 }
 
+// The digits behind the word `to`.
+fn host_behind(rest: &[Piece]) -> Option<&[u8]>
+    ensures some { IfSome result (λ digits. IsTo rest.now digits.now) }
+    ensures none { IfNone result (IsNotTo rest.now) }
+{
+    let [to, behind @ ..] = rest else {
+        return None;
+    };
+    let to = run_in(to)?;
+    let digits = number_alone(behind)?;
+    if to == b"to".as_slice() {
+        Some(digits)
+    } else {
+        None
+    }
+}
+
 // A run, the word `to`, and digits.
 fn path_and_host(rest: &[Piece]) -> Option<(&[u8], &[u8])>
     ensures some { IfSome result (λ x. IsMove rest.now x.0.now x.1.now) }
     ensures none { IfNone result (IsNoMove rest.now) }
 {
-    let [path, to, behind @ ..] = rest else {
+    let [path, behind @ ..] = rest else {
         return None;
     };
     let path = run_in(path)?;
-    let to = run_in(to)?;
-    let digits = number_alone(behind)?;
-    if to == b"to".as_slice() {
-        Some((path, digits))
-    } else {
-        None
-    }
+    let digits = host_behind(behind)?;
+    Some((path, digits))
 }
 
 fn move_form(alloc: Global, rest: &[Piece]) -> Result<Option<Form>, OutOfMemory>

@@ -1,4 +1,4 @@
-use Rattle.std.proofs.Common.{◌≡◌, ◌+◌, ◌<◌, ◌++◌, length, get_or, drop, sym, ap, ◌∙◌, arith}
+use Rattle.std.proofs.Common.{◌≡◌, ◌+◌, ◌<◌, ◌++◌, length, get_or, drop, ap, ◌∙◌, arith}
 use Rattle.std.specs.List.{concat}
 use Rattle.listing_out.specs.Listing.{name_at, made_at, result_lines, lines_from}
 use Rattle.listing_out.proofs.ListingLemmas.{next_result, no_result, whole_listing, result_put, end_put}

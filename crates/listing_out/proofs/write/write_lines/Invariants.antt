@@ -1,6 +1,5 @@
-use Rattle.std.proofs.Common.{◌≡◌, ◌≤◌, ◌++◌, List, ℕ, drop}
+use Rattle.std.proofs.Common.{◌≤◌, drop}
 use Rattle.std.specs.List.{concat}
-use Rattle.std.specs.Io.KnownBytes.{Appends}
 use Rattle.listing_out.proofs.SinkLemmas.{IsWritten}
 use Rattle.listing_out.proofs.write.write_lines.Given as goal
 

@@ -2,8 +2,6 @@ use Rattle.std.proofs.Common.{◌≡◌, ◌+◌, ◌<◌, ◌≤◌, ◌++◌, 
 use Rattle.wave_base.specs.declared.finished.Finished.{Finished}
 use Rattle.wave_base.specs.declared.shape.Shape.{Shape}
 use Rattle.std.specs.List.{concat}
-use Rattle.std.specs.Io.KnownBytes.{Appends}
-use Rattle.wave_io.specs.Streams.{AppendsFront}
 use Rattle.listing_out.specs.Listing.{name_at, made_at, result_lines, lines_from, end_lines, listing}
 use Rattle.listing_out.proofs.ListingLemmas.{next_result, no_result, whole_listing}
 use Rattle.listing_out.proofs.SinkLemmas.{IsWritten, more_written, front_written, written_front, all_written, wider_written, on_err}

@@ -1,4 +1,4 @@
-use Rattle.std.proofs.Common.{◌≡◌, ◌≤◌, drop}
+use Rattle.std.proofs.Common.{◌≤◌, drop}
 use Rattle.std.specs.List.{concat}
 use Rattle.listing_out.specs.Listing.{lines_from}
 use Rattle.listing_out.proofs.SinkLemmas.{IsWritten}
