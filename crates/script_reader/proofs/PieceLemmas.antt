@@ -1,5 +1,7 @@
 -- How far the pieces of a line were read.
-use Rattle.std.proofs.Common.{◌≡◌, ◌<◌, ℕ, List, [], ◌∷◌, ◌++◌, length, refl, sym, ap, subst, ◌∙◌, append_assoc, append-nil, arith}
+use Rattle.std.proofs.Common.{◌≡◌, ◌<◌, ℕ, true, List, [], ◌∷◌, ◌++◌, length, refl, sym, ap, subst, ◌∙◌, append_assoc, append-nil, arith}
+use Rattle.std.specs.Prelude.{◌==◌}
+use Rattle.std.proofs.lemmas.Bool.Decides.{nat_tests}
 use Rattle.script_reader.specs.declared.piece.Piece.{Piece}
 use Rattle.script_reader.specs.Pieces.{piece_text, IsFront, IsOnlyFront, HasNoFront, without_blanks, ArePiecesOf, ArePieces, AreOnlyPieces, HasNoPieces}
 use Rattle.script_reader.proofs.FrontLemmas.{some_bytes}
@@ -38,3 +40,7 @@ none_there line rest front h some none ps a = (let w = h.whole ps a in by_pieces
     by_pieces : (us : List Piece) → ArePiecesOf rest us → ⊥
     by_pieces [] e = absurd (omega (arith, ap length e))
     by_pieces (u ∷ us) e = none u e.0 e.1
+
+pub is_nil : {A : Type 0} (xs : List A) → true ≡ (length xs == 0) → xs ≡ []
+is_nil [] h = refl
+is_nil (x ∷ xs) h = absurd (grind (arith, nat_tests))

@@ -1,6 +1,6 @@
 ghost use Rattle.std.specs.Prelude.{◌≡◌, IfOk};
 ghost use Rattle.script_reader.specs.Forms.{is_skipped};
-ghost use Rattle.script_reader.specs.Scripts.{IsSaid};
+ghost use Rattle.script_reader.specs.Scripts.{IsOnlySaid};
 
 use crate::form::Form;
 use crate::pieces::{pieces_of, without_blanks};
@@ -29,7 +29,7 @@ fn is_skipped(line: &[u8]) -> bool
 
 /// What a line says.
 pub(crate) fn said_by(alloc: Global, line: &[u8]) -> Result<Said, OutOfMemory>
-    ensures { IfOk result (IsSaid line.now) }
+    ensures { IfOk result (IsOnlySaid line.now) }
 {
     if is_skipped(line) {
         return Ok(Said::Nothing);
