@@ -1,7 +1,8 @@
-pub mod FrontLemmas
-pub mod PieceLemmas
-pub mod LiteralLemmas
+mod Examples
 pub mod FitLemmas
 pub mod FormLemmas
-pub mod ValueLemmas
+pub mod FrontLemmas
+pub mod LiteralLemmas
+pub mod PieceLemmas
 pub mod ReadLemmas
+pub mod SampleLemmas
