@@ -1,14 +1,13 @@
 -- Lines of a script, computed.
-use Rattle.std.proofs.Common.{◌≡◌, ℕ, true, false, Some, None, Ok, Err, pos, negsuc, List, [], ◌∷◌, ◌++◌, refl}
+use Rattle.std.proofs.Common.{◌≡◌, ℕ, true, false, Ok, Err, negsuc, List, [], ◌∷◌, ◌++◌, refl}
 use Rattle.std.specs.Prelude.{codes}
-use Rattle.std.proofs.lemmas.List.Elements.{All-nil, All-cons}
 use Rattle.wave_base.specs.declared.script.Line.TheVariants as line
 use Rattle.wave_base.specs.declared.value.Kind.TheVariants as kind
 use Rattle.wave_base.specs.declared.value.Value.TheVariants as value
 use Rattle.script_reader.specs.declared.error.Fault.TheVariants.{ArgCount, ArgType, HostRange, HostsLate, TooMany}
 use Rattle.script_reader.specs.declared.form.Form.TheVariants.{Hosts, Request}
-use Rattle.script_reader.specs.declared.form.Literal.TheVariants.{Number, Truth, Text as Quoted}
-use Rattle.script_reader.specs.declared.piece.Piece.TheVariants.{Run, Text, Open, Close, Comma}
+use Rattle.script_reader.specs.declared.form.Literal.TheVariants.{Number, Truth}
+use Rattle.script_reader.specs.declared.piece.Piece.TheVariants.{Run}
 use Rattle.script_reader.specs.declared.taken.Taken.TheVariants as taken
 use Rattle.script_reader.specs.Pieces.{is_run, begins_solid, IsFront}
 use Rattle.script_reader.specs.Forms.{is_skipped, HasForm}

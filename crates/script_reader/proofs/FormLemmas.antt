@@ -4,7 +4,7 @@ use Rattle.std.specs.Prelude.{codes}
 use Rattle.std.specs.List.{list_all}
 use Rattle.std.proofs.lemmas.Bool.{and_parts}
 use Rattle.std.proofs.lemmas.List.{take_all}
-use Rattle.wave_text.specs.Words.{is_word, is_digits}
+use Rattle.wave_text.specs.Words.{is_digits}
 use Rattle.path_text.specs.Steps.{is_step, written_text}
 use Rattle.script_reader.specs.declared.form.Form.{Form}
 use Rattle.script_reader.specs.declared.form.Form.TheVariants.{Hosts, Request, Move, Snapshot, Settle}
@@ -12,8 +12,8 @@ use Rattle.script_reader.specs.declared.piece.Piece.{Piece}
 use Rattle.script_reader.specs.declared.piece.Piece.TheVariants.{Run}
 use Rattle.script_reader.specs.declared.said.Said.{Said}
 use Rattle.script_reader.specs.declared.said.Said.TheVariants.{Nothing, Unknown, Says}
-use Rattle.script_reader.specs.Forms.{form_word, form_rest, IsFormOf, HasNoFormOf, HasForm, HasNoForm, is_skipped}
-use Rattle.script_reader.specs.Parts.{IsNumber, IsTo, IsMove, IsNoMove, Spells, SpellsOnly, SpellsNone}
+use Rattle.script_reader.specs.Forms.{form_word, form_rest, HasNoFormOf, HasForm, HasNoForm, is_skipped}
+use Rattle.script_reader.specs.Parts.{IsNumber, IsTo, IsNoMove, Spells, SpellsOnly, SpellsNone}
 use Rattle.script_reader.specs.Pieces.{ArePieces, AreOnlyPieces, HasNoPieces}
 use Rattle.script_reader.specs.Scripts.{IsSaid, IsOnlySaid}
 

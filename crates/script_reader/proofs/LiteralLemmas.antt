@@ -1,6 +1,6 @@
 -- How far the literals of a request were read.
 use Rattle.std.proofs.Common.{◌≡◌, ℕ, Bool, true, false, List, [], ◌∷◌, ◌++◌, refl, sym, ap, subst, ◌∙◌, append_assoc}
-use Rattle.std.specs.Prelude.{◌&&◌, codes}
+use Rattle.std.specs.Prelude.{◌&&◌}
 use Rattle.std.specs.List.{list_all}
 use Rattle.std.proofs.lemmas.Bool.{and_parts}
 use Rattle.wave_text.specs.Words.{is_whole}
@@ -9,7 +9,7 @@ use Rattle.script_reader.specs.declared.form.Literal.TheVariants.{Number, Truth,
 use Rattle.script_reader.specs.declared.piece.Piece.{Piece}
 use Rattle.script_reader.specs.declared.piece.Piece.TheVariants.{Run, Text, Open, Close, Comma}
 use Rattle.script_reader.specs.Forms.{literal_piece, is_literal, more_pieces, literal_pieces, truth_word}
-use Rattle.script_reader.specs.Parts.{IsLiteralPiece, IsNoLiteralPiece, AreLiterals, AreOnlyLiterals, AreNoLiterals, Next, More, End, Wrong, behind_in}
+use Rattle.script_reader.specs.Parts.{IsLiteralPiece, IsNoLiteralPiece, AreLiterals, AreOnlyLiterals, AreNoLiterals, More, End, Wrong, behind_in}
 
 -- ---- one piece spells one literal
 

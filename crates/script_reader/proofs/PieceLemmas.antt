@@ -3,7 +3,7 @@ use Rattle.std.proofs.Common.{◌≡◌, ◌<◌, ℕ, true, List, [], ◌∷◌
 use Rattle.std.specs.Prelude.{◌==◌}
 use Rattle.std.proofs.lemmas.Bool.Decides.{nat_tests}
 use Rattle.script_reader.specs.declared.piece.Piece.{Piece}
-use Rattle.script_reader.specs.Pieces.{piece_text, IsFront, IsOnlyFront, HasNoFront, without_blanks, ArePiecesOf, ArePieces, AreOnlyPieces, HasNoPieces}
+use Rattle.script_reader.specs.Pieces.{IsOnlyFront, HasNoFront, without_blanks, ArePiecesOf, ArePieces, AreOnlyPieces, HasNoPieces}
 use Rattle.script_reader.proofs.FrontLemmas.{some_bytes}
 
 -- these pieces were read, and this is what stands behind them

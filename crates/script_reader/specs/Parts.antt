@@ -1,5 +1,5 @@
 -- The parts of a script line, as its reader finds them.
-use Rattle.std.specs.Prelude.{◌≡◌, ℕ, Bool, true, List, [], ◌∷◌, codes}
+use Rattle.std.specs.Prelude.{◌≡◌, ℕ, true, List, [], ◌∷◌, codes}
 use Rattle.std.specs.List.{list_all}
 use Rattle.wave_text.specs.Words.{is_word, is_digits}
 use Rattle.script_reader.specs.declared.form.Form.{Form}

@@ -1,5 +1,5 @@
 -- How far the reader of a script has come.
-use Rattle.std.specs.Prelude.{ℕ, ◌+◌, ◌∷◌, [], ◌++◌, List, true}
+use Rattle.std.specs.Prelude.{◌+◌, ◌∷◌, [], ◌++◌, List, true}
 use Rattle.script_reader.specs.declared.progress.Progress.{Progress}
 use Rattle.script_reader.specs.declared.taken.Taken.{Taken}
 use Rattle.script_reader.specs.declared.taken.Taken.TheVariants.{Skipped, Hosts, Event, Settle}

@@ -1,4 +1,4 @@
-use Rattle.std.proofs.Common.{◌≡◌, List, ℕ, rules, arith}
+use Rattle.std.proofs.Common.{◌≡◌, rules, arith}
 use Rattle.std.specs.Prelude.{codes}
 use Rattle.script_reader.proofs.FormLemmas.{to_there}
 use Rattle.script_reader.proofs.spelling.host_behind.Goals as goal
