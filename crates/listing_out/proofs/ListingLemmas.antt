@@ -15,16 +15,15 @@ next_line lines i d h =
     ap concat (drop-cons lines i d h) ∙ ap (λ k. get_or lines i d ++ concat (drop k lines)) (sym next)
 
 -- the lines of the next result
-pub next_result : (shape : Shape) (first : ℕ) (done : Finished) (i : ℕ) (r : EventResult) → i < length done.results → r ≡ get_or done.results i r
-    → concat (lines_from shape first done i (drop i done.results))
-    ≡ concat (result_lines shape (first + i) (name_at done i) r (made_at done i)) ++ concat (lines_from shape first done (i + 1) (drop (i + 1) done.results))
-next_result shape first done i r h e =
+pub next_result : (shape : Shape) (first : ℕ) (done : Finished) (i : ℕ) (r : EventResult) (lines : List (List ℕ)) → i < length done.results → r ≡ get_or done.results i r → result_lines shape (first + i) (name_at done i) r (made_at done i) ≡ lines
+    → concat (lines_from shape first done i (drop i done.results)) ≡ concat lines ++ concat (lines_from shape first done (i + 1) (drop (i + 1) done.results))
+next_result shape first done i r lines h e same =
     let next : i + 1 ≡ suc i = omega arith in
     let rs : List EventResult = done.results in
     ap (λ z. concat (lines_from shape first done i z)) (drop-cons rs i r h)
     ∙ ap (λ x. concat (result_lines shape (first + i) (name_at done i) x (made_at done i) ++ lines_from shape first done (i + 1) (drop (suc i) rs))) (sym e)
-    ∙ ap (λ k. concat (result_lines shape (first + i) (name_at done i) r (made_at done i) ++ lines_from shape first done (i + 1) (drop k rs))) (sym next)
-    ∙ concat-append (result_lines shape (first + i) (name_at done i) r (made_at done i)) (lines_from shape first done (i + 1) (drop (i + 1) rs))
+    ∙ (λ j. concat (same j ++ lines_from shape first done (i + 1) (drop (sym next j) rs)))
+    ∙ concat-append lines (lines_from shape first done (i + 1) (drop (i + 1) rs))
 
 -- no result is left
 pub no_result : (shape : Shape) (first : ℕ) (done : Finished) (i n : ℕ) → length done.results ≤ n → concat (lines_from shape first done i (drop n done.results)) ≡ []

@@ -17,9 +17,8 @@ returns-in_err-write_lines-clause-err g c =
     let within : c.loop-i.i < length c.args.done.now.results = omega (arith, c.loop-i-test.true, ap length c.as_slice-result_-items.ensures) in
     let lines : result_lines c.args.shape.now (c.args.first.0 + c.loop-i.i) (name_at c.args.done.now c.loop-i.i) c.result_-item.result (made_at c.args.done.now c.loop-i.i) ≡ c.as_slice.result.now =
     cc (c.as_slice.ensures.value, c.in_ok-lines.ensures, c.ticket_at-n.ensures, c.name_at.ensures, c.made_at.ensures) in
-    let next =
-    next_result c.args.shape.now c.args.first.0 c.args.done.now c.loop-i.i c.result_-item.result within (c.result_-item.is ∙ ap (λ xs. get_or xs c.loop-i.i c.result_-item.result) c.as_slice-result_-items.ensures)
-    ∙ ap (λ z. concat z ++ concat (lines_from c.args.shape.now c.args.first.0 c.args.done.now (c.loop-i.i + 1) (drop (c.loop-i.i + 1) c.args.done.now.results))) lines in
+    let there = c.result_-item.is ∙ ap (λ xs. get_or xs c.loop-i.i c.result_-item.result) c.as_slice-result_-items.ensures in
+    let next = next_result c.args.shape.now c.args.first.0 c.args.done.now c.loop-i.i c.result_-item.result c.as_slice.result.now within there lines in
     let wide = wider_written _ _ _ _ (concat (end_lines c.args.shape.now c.args.first.0 c.args.done.now c.args.map)) _ c.loop-i.invariant.written (whole_listing c.args.shape.now c.args.first.0 c.args.done.now c.args.map) in
     on_err c.from_residual-in_err-write_lines.result
     (front_written _ _ _ (concat c.as_slice.result.now) _ _ _ wide c.in_err-write_lines.ensures.err
@@ -30,9 +29,8 @@ loop-i-preserved g c =
     let within : c.loop-i.i < length c.args.done.now.results = omega (arith, c.loop-i-test.true, ap length c.as_slice-result_-items.ensures) in
     let lines : result_lines c.args.shape.now (c.args.first.0 + c.loop-i.i) (name_at c.args.done.now c.loop-i.i) c.result_-item.result (made_at c.args.done.now c.loop-i.i) ≡ c.as_slice.result.now =
     cc (c.as_slice.ensures.value, c.in_ok-lines.ensures, c.ticket_at-n.ensures, c.name_at.ensures, c.made_at.ensures) in
-    let next =
-    next_result c.args.shape.now c.args.first.0 c.args.done.now c.loop-i.i c.result_-item.result within (c.result_-item.is ∙ ap (λ xs. get_or xs c.loop-i.i c.result_-item.result) c.as_slice-result_-items.ensures)
-    ∙ ap (λ z. concat z ++ concat (lines_from c.args.shape.now c.args.first.0 c.args.done.now (c.loop-i.i + 1) (drop (c.loop-i.i + 1) c.args.done.now.results))) lines in
+    let there = c.result_-item.is ∙ ap (λ xs. get_or xs c.loop-i.i c.result_-item.result) c.as_slice-result_-items.ensures in
+    let next = next_result c.args.shape.now c.args.first.0 c.args.done.now c.loop-i.i c.result_-item.result c.as_slice.result.now within there lines in
     record {
       written = more_written _ _ _ (concat c.as_slice.result.now) _ _ _ c.loop-i.invariant.written c.in_ok-write_lines.ensures.ok next;
       later = omega (arith, c.in_ok-write_lines.ensures.cause, c.loop-i.invariant.later);
