@@ -11,7 +11,7 @@ use Rattle.script_reader.specs.declared.piece.Piece.TheVariants.{Run}
 use Rattle.script_reader.specs.declared.taken.Taken.TheVariants as taken
 use Rattle.script_reader.specs.Pieces.{is_run, begins_solid, IsFront}
 use Rattle.script_reader.specs.Forms.{is_skipped, HasForm}
-use Rattle.script_reader.specs.Judged.{call_of, judged_hosts, judged_event}
+use Rattle.script_reader.specs.Judged.{nothing_earlier, call_of, judged_hosts, judged_event}
 use Rattle.script_reader.specs.Scripts.{script_of}
 
 remark : is_skipped (9 ∷ codes " # move") ≡ true
@@ -51,6 +51,6 @@ one_too_many : judged_event 4000 (Err ArgCount) ≡ Err TooMany
 one_too_many = refl
 
 -- an empty batch is left out
-batches : script_of (taken.Event line.Snapshot ∷ taken.Settle ∷ taken.Settle ∷ taken.Event line.Snapshot ∷ taken.Hosts 2 ∷ [])
+batches : script_of nothing_earlier (taken.Event line.Snapshot ∷ taken.Settle ∷ taken.Settle ∷ taken.Event line.Snapshot ∷ taken.Hosts 2 ∷ [])
     ≡ record { hosts = 2; batches = (line.Snapshot ∷ []) ∷ (line.Snapshot ∷ []) ∷ [] }
 batches = refl

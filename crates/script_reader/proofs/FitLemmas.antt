@@ -24,6 +24,7 @@ use Rattle.wave_text.specs.Numbers.{whole_of, number_of}
 use Rattle.path_text.proofs.PathLemmas.{chained, mapped, steps_are}
 use Rattle.path_text.specs.declared.written.Written.{Written}
 use Rattle.path_text.specs.Paths.{path_of, steps_below}
+use Rattle.script_reader.specs.declared.earlier.Earlier.{Earlier}
 use Rattle.script_reader.specs.declared.error.Fault.{Fault}
 use Rattle.script_reader.specs.declared.error.Fault.TheVariants.{ArgCount, HostRange, HostsLate, TooMany}
 use Rattle.script_reader.specs.declared.form.Form.{Form}
@@ -46,18 +47,18 @@ pub record Fits (shape : Shape) (p : Progress) : Type 0 where
   pub closed_fit : All (All (FitsLine shape p.hosts)) p.closed
   pub open_fit : All (FitsLine shape p.hosts) p.open_lines
   pub full : All (λ b. 0 < length b) p.closed
-  pub count : sum_by length p.closed + length p.open_lines ≡ p.events
+  pub count : sum_by length p.closed + length p.open_lines ≤ p.events
   pub few : p.events ≤ EVENT_LINES
   pub fresh : p.begun ≡ false → (p.closed ≡ []) × (p.open_lines ≡ [])
 
-pub first_fits : (shape : Shape) → Fits shape (progress_of [])
-first_fits shape = record {
-  some_host = omega arith;
-  few_hosts = omega arith;
-  closed_fit = All-nil (All (FitsLine shape 1));
-  open_fit = All-nil (FitsLine shape 1);
+pub first_fits : (shape : Shape) (earlier : Earlier) → 1 ≤ earlier.hosts → earlier.hosts ≤ HOSTS → earlier.events ≤ EVENT_LINES → Fits shape (progress_of earlier [])
+first_fits shape earlier some few lines = record {
+  some_host = some;
+  few_hosts = few;
+  closed_fit = All-nil (All (FitsLine shape earlier.hosts));
+  open_fit = All-nil (FitsLine shape earlier.hosts);
   full = All-nil (λ (b : List Line). 0 < length b);
-  count = refl;
+  count = omega arith;
   few = omega arith;
   fresh = λ e. (refl, refl);
 }

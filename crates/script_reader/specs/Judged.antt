@@ -1,5 +1,5 @@
 -- What a line of some form is, after the lines before it: taken, or refused with a fault.
-use Rattle.std.specs.Prelude.{ℕ, Bool, true, false, ◌&&◌, ◌==◌, nat_lt, nat_le, if◌then◌else◌, List, [], ◌∷◌, length, Option, Some, None, slice_get, position, Result, Ok, Err, option_map, count_by}
+use Rattle.std.specs.Prelude.{ℕ, Bool, true, false, ◌+◌, ◌&&◌, ◌||◌, ◌==◌, nat_lt, nat_le, if◌then◌else◌, List, [], ◌∷◌, length, Option, Some, None, slice_get, position, Result, Ok, Err, option_map, count_by}
 use Rattle.std.specs.List.{list_any}
 use Rattle.std.specs.Option.{option_and_then}
 use Rattle.wave_base.specs.declared.limits.TheConstants.{EVENT_LINES, HOSTS, LITERAL_BYTES}
@@ -15,6 +15,7 @@ use Rattle.wave_base.specs.declared.value.Value.TheVariants as value
 use Rattle.wave_base.specs.Names.{same_bytes}
 use Rattle.wave_text.specs.Numbers.{whole_of, number_of}
 use Rattle.path_text.specs.Paths.{path_of}
+use Rattle.script_reader.specs.declared.earlier.Earlier.{Earlier}
 use Rattle.script_reader.specs.declared.error.Fault.{Fault}
 use Rattle.script_reader.specs.declared.error.Fault.TheVariants.{UnknownEvent, ArgCount, ArgType, BadPath, HostRange, HostsLate, TooMany}
 use Rattle.script_reader.specs.declared.form.Form.{Form}
@@ -24,7 +25,17 @@ use Rattle.script_reader.specs.declared.form.Literal.TheVariants as literal
 use Rattle.script_reader.specs.declared.taken.Taken.{Taken}
 use Rattle.script_reader.specs.declared.taken.Taken.TheVariants.{Skipped, Hosts, Event, Settle}
 
--- ---- the lines before, the last one first
+-- ---- what was said before a text
+
+-- nothing, and there is one host
+abbrev pub nothing_earlier : Earlier
+nothing_earlier = record { hosts = 1; begun = false; events = 0 }
+
+-- a script with so many hosts and event lines
+abbrev pub script_earlier : ℕ → ℕ → Earlier
+script_earlier hosts events = record { hosts = hosts; begun = true; events = events }
+
+-- ---- and the lines of the text, the last one first; what was said before them counts too
 
 abbrev pub is_event : Taken → Bool
 is_event (Event l) = true
@@ -34,18 +45,18 @@ abbrev pub is_said : Taken → Bool
 is_said Skipped = false
 is_said _ = true
 
-abbrev pub event_lines : List Taken → ℕ
-event_lines before = count_by is_event before
+abbrev pub event_lines : Earlier → List Taken → ℕ
+event_lines earlier before = count_by is_event before + earlier.events
 
 -- a line other than a skipped one
-abbrev pub has_begun : List Taken → Bool
-has_begun before = list_any is_said before
+abbrev pub has_begun : Earlier → List Taken → Bool
+has_begun earlier before = list_any is_said before || earlier.begun
 
--- the number of hosts: one where no line says it
-abbrev pub hosts_of : List Taken → ℕ
-hosts_of [] = 1
-hosts_of (Hosts n ∷ before) = n
-hosts_of (t ∷ before) = hosts_of before
+-- the number of hosts, which a line may say
+abbrev pub hosts_of : Earlier → List Taken → ℕ
+hosts_of earlier [] = earlier.hosts
+hosts_of earlier (Hosts n ∷ before) = n
+hosts_of earlier (t ∷ before) = hosts_of earlier before
 
 -- ---- arguments
 

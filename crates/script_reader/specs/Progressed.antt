@@ -1,5 +1,6 @@
 -- How far the reader of a script has come.
 use Rattle.std.specs.Prelude.{◌+◌, ◌∷◌, [], ◌++◌, List, true}
+use Rattle.script_reader.specs.declared.earlier.Earlier.{Earlier}
 use Rattle.script_reader.specs.declared.progress.Progress.{Progress}
 use Rattle.script_reader.specs.declared.taken.Taken.{Taken}
 use Rattle.script_reader.specs.declared.taken.Taken.TheVariants.{Skipped, Hosts, Event, Settle}
@@ -7,11 +8,11 @@ use Rattle.script_reader.specs.Judged.{hosts_of, has_begun, event_lines}
 use Rattle.script_reader.specs.Scripts.{open_batch, closed_batches, with_batch}
 
 -- after these lines, the last one first
-abbrev pub progress_of : List Taken → Progress
-progress_of before = record {
-  hosts = hosts_of before;
-  begun = has_begun before;
-  events = event_lines before;
+abbrev pub progress_of : Earlier → List Taken → Progress
+progress_of earlier before = record {
+  hosts = hosts_of earlier before;
+  begun = has_begun earlier before;
+  events = event_lines earlier before;
   closed = closed_batches before;
   open_lines = open_batch before;
 }

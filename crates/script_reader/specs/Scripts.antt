@@ -4,6 +4,7 @@ use Rattle.wave_base.specs.declared.script.Line.{Line}
 use Rattle.wave_base.specs.declared.script.Script.{Script}
 use Rattle.wave_base.specs.declared.shape.Shape.{Shape}
 use Rattle.wave_text.specs.Lines.{lines_of}
+use Rattle.script_reader.specs.declared.earlier.Earlier.{Earlier}
 use Rattle.script_reader.specs.declared.error.Fault.{Fault}
 use Rattle.script_reader.specs.declared.error.Fault.TheVariants as fault
 use Rattle.script_reader.specs.declared.error.ScriptError.{ScriptError}
@@ -35,8 +36,8 @@ judged shape hosts begun events Nothing = Ok Skipped
 judged shape hosts begun events Unknown = Err fault.UnknownCommand
 judged shape hosts begun events (Says form) = judged_form shape hosts begun events form
 
-abbrev pub judged_after : Shape → List Taken → Said → Result Taken Fault
-judged_after shape before said = judged shape (hosts_of before) (has_begun before) (event_lines before) said
+abbrev pub judged_after : Shape → Earlier → List Taken → Said → Result Taken Fault
+judged_after shape earlier before said = judged shape (hosts_of earlier before) (has_begun earlier before) (event_lines earlier before) said
 
 -- ---- batches, the last line first
 
@@ -62,8 +63,8 @@ closed_batches (t ∷ before) = closed_batches before
 abbrev pub script_with : ℕ → List (List Line) → List Line → Script
 script_with hosts closed open_lines = record { hosts = hosts; batches = with_batch closed open_lines }
 
-abbrev pub script_of : List Taken → Script
-script_of lines = script_with (hosts_of lines) (closed_batches lines) (open_batch lines)
+abbrev pub script_of : Earlier → List Taken → Script
+script_of earlier lines = script_with (hosts_of earlier lines) (closed_batches lines) (open_batch lines)
 
 -- ---- the whole
 
@@ -83,16 +84,17 @@ Goes (Ok t) P Q = P t
 Goes (Err f) P Q = Q f
 
 -- after these lines, the last one first, these ones give this: line by line, up to the first that is refused
-abbrev pub IsRead : Shape → List Taken → List (List ℕ) → Result Script ScriptError → Type 0
-IsRead shape before [] r = r ≡ Ok (script_of before)
-IsRead shape before (l ∷ ls) r = (s : Said) × IsSaid l s × Goes (judged_after shape before s) (λ t. IsRead shape (t ∷ before) ls r) (λ f. r ≡ Err (refused f (length before + 1)))
+abbrev pub IsRead : Shape → Earlier → List Taken → List (List ℕ) → Result Script ScriptError → Type 0
+IsRead shape earlier before [] r = r ≡ Ok (script_of earlier before)
+IsRead shape earlier before (l ∷ ls) r =
+    (s : Said) × IsSaid l s × Goes (judged_after shape earlier before s) (λ t. IsRead shape earlier (t ∷ before) ls r) (λ f. r ≡ Err (refused f (length before + 1)))
 
 -- what a text gives, and that it gives nothing else
-pub record IsScriptOf (shape : Shape) (text : List ℕ) (r : Result Script ScriptError) : Type 0 where
-  pub read : IsRead shape [] (lines_of text) r
-  pub only : (other : Result Script ScriptError) → IsRead shape [] (lines_of text) other → other ≡ r
+pub record IsScriptOf (shape : Shape) (earlier : Earlier) (text : List ℕ) (r : Result Script ScriptError) : Type 0 where
+  pub read : IsRead shape earlier [] (lines_of text) r
+  pub only : (other : Result Script ScriptError) → IsRead shape earlier [] (lines_of text) other → other ≡ r
 
 -- want of memory says nothing
-abbrev pub IsAnswer : Shape → List ℕ → Result Script ScriptError → Type 0
-IsAnswer shape text (Err error.OutOfMemory) = Unit {0}
-IsAnswer shape text r = IsScriptOf shape text r
+abbrev pub IsAnswer : Shape → Earlier → List ℕ → Result Script ScriptError → Type 0
+IsAnswer shape earlier text (Err error.OutOfMemory) = Unit {0}
+IsAnswer shape earlier text r = IsScriptOf shape earlier text r

@@ -3,6 +3,7 @@ ghost use Rattle.script_reader.specs.Progressed.{progress_of, with_taken};
 ghost use Rattle.script_reader.specs.Scripts.{with_batch, script_with};
 ghost use Rattle.script_reader.specs.declared.taken.Taken.TheVariants.{Event, Settle};
 
+use crate::earlier::Earlier;
 use crate::taken::Taken;
 use std::alloc::Global;
 use wave_base::{Line, OutOfMemory, Script, Seq};
@@ -34,13 +35,14 @@ fn close(batches: &mut Seq<Seq<Line>>, batch: Seq<Line>) -> Result<(), OutOfMemo
 }
 
 impl Progress {
-    pub(crate) fn new(alloc: Global) -> Progress
-        ensures { result ≡ progress_of [] }
+    /// Before the first line of a text.
+    pub(crate) fn new(alloc: Global, earlier: Earlier) -> Progress
+        ensures { result ≡ progress_of earlier [] }
     {
         Progress {
-            hosts: 1,
-            begun: false,
-            events: 0,
+            hosts: earlier.hosts,
+            begun: earlier.begun,
+            events: earlier.events,
             closed: Seq::new(alloc),
             open_lines: Seq::new(alloc),
         }

@@ -3,7 +3,7 @@ ghost use Rattle.wave_base.specs.Shapes.{IsShape};
 ghost use Rattle.wave_base.specs.Text.{IsText};
 ghost use Rattle.path_text.specs.Sample.{market_class, hall_class};
 
-use crate::{ScriptError, read_script};
+use crate::{ScriptError, read_script, read_script_at};
 use std::alloc::Global;
 use std::test::Fail;
 use wave_base::{
@@ -207,5 +207,20 @@ fn refuses_a_text_past_200_bytes(rt: HostRuntime) -> Result<(), Fail> {
     let shape = shape(alloc)?;
     assert!(rt; with_text(alloc, &shape, 200)?.is_none());
     assert!(rt; with_text(alloc, &shape, 201)? == Some(ScriptError::ArgType { line: 1 }));
+    Ok(())
+}
+
+#[test]
+fn goes_on_after_a_script(rt: HostRuntime) -> Result<(), Fail> {
+    let alloc = rt.alloc();
+    let shape = shape(alloc)?;
+    let text = b"move / to 2\nsnapshot";
+    let script = read_script_at(alloc, &shape, text, 3, 3998)?;
+    assert_eq!(rt; script.hosts, 3);
+    assert_eq!(rt; script.batches.len(), 1);
+    let many = Err(ScriptError::TooMany { line: 2 });
+    assert!(rt; read_script_at(alloc, &shape, text, 3, 3999) == many);
+    let late = Err(ScriptError::HostsLate { line: 1 });
+    assert!(rt; read_script_at(alloc, &shape, b"hosts 3", 3, 0) == late);
     Ok(())
 }

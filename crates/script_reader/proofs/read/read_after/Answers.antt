@@ -3,7 +3,7 @@ use Rattle.wave_base.specs.Scripts.{IsScript}
 use Rattle.wave_text.specs.Lines.{lines_of}
 use Rattle.script_reader.proofs.FitLemmas.{step_fits, script_fits}
 use Rattle.script_reader.proofs.ReadLemmas.{AreReadTo, step_read}
-use Rattle.script_reader.proofs.read.read_script.Goals as goal
+use Rattle.script_reader.proofs.read.read_after.Goals as goal
 
 pub loop-progress-preserved : goal.loop-progress-preserved
 loop-progress-preserved c =
@@ -12,8 +12,8 @@ loop-progress-preserved c =
     subst (λ o. IfSome o (λ rest. lines_of c.loop-progress.rest.now ≡ c.first_line.result.0.now ∷ lines_of rest.now)) c.in-Some.is c.first_line.ensures.more in
     let shorter : length c.in-Some.after.now < length c.loop-progress.rest.now = subst (λ o. IfSome o (λ rest. length rest.now < length c.loop-progress.rest.now)) c.in-Some.is c.first_line.ensures.shorter in
     let step =
-    step_read c.args.shape.now (lines_of c.args.text.now) (lines_of c.in-Some.after.now) now.before c.first_line.result.0.now c.loop-progress.progress c.take_line.new.progress
-    (subst (AreReadTo c.args.shape.now (lines_of c.args.text.now) now.before) lines now.read) now.progress c.in_ok-take_line.ensures.ok in
+    step_read c.args.shape.now c.args.earlier (lines_of c.args.text.now) (lines_of c.in-Some.after.now) now.before c.first_line.result.0.now c.loop-progress.progress c.take_line.new.progress
+    (subst (AreReadTo c.args.shape.now c.args.earlier (lines_of c.args.text.now) now.before) lines now.read) now.progress c.in_ok-take_line.ensures.ok in
     record {
       before = step.0 ∷ now.before;
       progress = step.1;
