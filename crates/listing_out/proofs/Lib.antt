@@ -1,0 +1,3 @@
+mod Examples
+pub mod ListingLemmas
+pub mod SinkLemmas

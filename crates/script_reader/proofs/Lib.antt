@@ -1,0 +1,8 @@
+mod Examples
+pub mod FitLemmas
+pub mod FormLemmas
+pub mod FrontLemmas
+pub mod LiteralLemmas
+pub mod PieceLemmas
+pub mod ReadLemmas
+pub mod SampleLemmas

@@ -1,0 +1,241 @@
+ghost use Rattle.std.specs.Prelude.{◌≡◌, ◌<◌, ◌≤◌, true, position, slice_get, IfOk, IfSome, IfNone};
+ghost use Rattle.std.specs.List.{list_all};
+ghost use Rattle.wave_base.specs.Shapes.{IsShape};
+ghost use Rattle.wave_text.specs.Numbers.{number_of};
+ghost use Rattle.wave_text.specs.Words.{is_digits};
+ghost use Rattle.path_text.specs.Paths.{path_of};
+ghost use Rattle.path_text.specs.Steps.{is_step};
+ghost use Rattle.script_reader.specs.Forms.{is_literal, is_form};
+ghost use Rattle.script_reader.specs.Judged.{has_name, value_of, values_of, call_of, params_in, requested, move_to, as_event, judged_hosts, judged_form};
+ghost use Rattle.script_reader.specs.Scripts.{IsWellFormed, judged};
+ghost use Rattle.script_reader.specs.declared.form.Literal.TheVariants as literal;
+ghost use Rattle.wave_base.specs.declared.value.Kind.TheVariants as kind;
+
+use crate::error::Fault;
+use crate::form::{Form, Literal};
+use crate::progress::Progress;
+use crate::quote::Quote;
+use crate::said::Said;
+use crate::taken::Taken;
+use path_text::{Written, resolve_steps};
+use std::alloc::Global;
+use wave_base::{
+    Call, EVENT_LINES, EventInfo, HOSTS, Host, Kind, LITERAL_BYTES, Line, OutOfMemory, Seq, Shape,
+    Txt, Value,
+};
+use wave_text::whole_of;
+
+// ---- arguments
+
+fn text_value(alloc: Global, text: &Quote) -> Result<Option<Value>, OutOfMemory>
+    ensures { IfOk result (λ o. o ≡ value_of kind.Text (literal.Text text.now)) }
+{
+    let bytes = text.bytes();
+    if bytes.len() > LITERAL_BYTES {
+        return Ok(None);
+    }
+    Ok(Some(Value::Str(Txt::from_bytes(alloc, bytes)?)))
+}
+
+// The value of an argument for a parameter of this kind.
+fn value_of(alloc: Global, kind: Kind, literal: &Literal) -> Result<Option<Value>, OutOfMemory>
+    requires { is_literal literal.now ≡ true }
+    ensures { IfOk result (λ o. o ≡ value_of kind literal.now) }
+{
+    match (kind, literal) {
+        (Kind::Int, Literal::Number(digits)) => match whole_of(digits.as_slice()) {
+            Some(n) => Ok(Some(Value::Int(n))),
+            None => Ok(None),
+        },
+        (Kind::Bool, Literal::Truth(b)) => Ok(Some(Value::Bool(*b))),
+        (Kind::Text, Literal::Text(text)) => text_value(alloc, text),
+        _ => Ok(None),
+    }
+}
+
+// The values of arguments for as many parameters.
+fn values_of(
+    alloc: Global,
+    params: &[Kind],
+    args: &[Literal],
+) -> Result<Option<Seq<Value>>, OutOfMemory>
+    requires { list_all is_literal args.now ≡ true }
+    ensures { IfOk result (λ o. o ≡ values_of params.now args.now) }
+{
+    let mut values = Vec::new(alloc);
+    let mut kinds = params;
+    for literal in args {
+        let [kind, others @ ..] = kinds else {
+            return Ok(Some(Seq::from_vec(values)));
+        };
+        let Some(value) = value_of(alloc, *kind, literal)? else {
+            return Ok(None);
+        };
+        values.push(value)?;
+        kinds = others;
+    }
+    Ok(Some(Seq::from_vec(values)))
+}
+
+// The call of an event with these parameters.
+fn call_of(
+    alloc: Global,
+    event: u16,
+    params: &[Kind],
+    args: &[Literal],
+) -> Result<Result<Line, Fault>, OutOfMemory>
+    requires { list_all is_literal args.now ≡ true }
+    ensures { IfOk result (λ r. r ≡ call_of event params.now args.now) }
+{
+    if args.len() != params.len() {
+        return Ok(Err(Fault::ArgCount));
+    }
+    match values_of(alloc, params, args)? {
+        Some(args) => Ok(Ok(Line::Request(Call {
+            event,
+            args,
+            generation: 0,
+        }))),
+        None => Ok(Err(Fault::ArgType)),
+    }
+}
+
+fn has_name(name: &[u8], info: &EventInfo) -> bool
+    ensures { result ≡ has_name name.now info.now }
+{
+    info.name.bytes() == name
+}
+
+// The event of that name.
+fn event_named(shape: &Shape, name: &[u8]) -> Option<usize>
+    ensures { result ≡ position (has_name name.now) shape.now.events }
+{
+    let events = shape.events.as_slice();
+    events.iter().position(|info| has_name(name, info))
+}
+
+fn params_of(shape: &Shape, event: usize) -> &[Kind]
+    ensures { result.now ≡ params_in (slice_get shape.now.events event) }
+{
+    match shape.events.get(event) {
+        Some(info) => info.params.as_slice(),
+        None => &[],
+    }
+}
+
+// The call of the event of that name.
+fn requested(
+    alloc: Global,
+    shape: &Shape,
+    name: &[u8],
+    args: &[Literal],
+) -> Result<Result<Line, Fault>, OutOfMemory>
+    requires shape { IsShape shape.now }
+    requires form { list_all is_literal args.now ≡ true }
+    ensures { IfOk result (λ r. r ≡ requested shape.now name.now args.now) }
+{
+    match event_named(shape, name) {
+        Some(event) => call_of(alloc, event as u16, params_of(shape, event), args),
+        None => Ok(Err(Fault::UnknownEvent)),
+    }
+}
+
+// ---- hosts and moves
+
+// The number that digits stand for, where it is at most this one.
+fn number_within(digits: &[u8], most: u8) -> Option<u8>
+    requires { is_digits digits.now ≡ true }
+    ensures some { IfSome result (λ n. n ≡ number_of digits.now) }
+    ensures within { IfSome result (λ n. n ≤ most) }
+    ensures none { IfNone result (most < number_of digits.now) }
+{
+    match whole_of(digits) {
+        Some(n) if 0 <= n && n <= i64::from(most) => Some(n as u8),
+        _ => None,
+    }
+}
+
+// A move to a host below their count.
+fn move_to(shape: &Shape, hosts: u8, steps: &[Written], digits: &[u8]) -> Result<Line, Fault>
+    requires shape { IsShape shape.now }
+    requires steps { list_all is_step steps.now ≡ true }
+    requires digits { is_digits digits.now ≡ true }
+    ensures { result ≡ move_to hosts (path_of shape.now steps.now) (number_of digits.now) }
+{
+    let Some(path) = resolve_steps(shape, steps) else {
+        return Err(Fault::BadPath);
+    };
+    match number_within(digits, hosts) {
+        Some(to) if to < hosts => Ok(Line::Move(path, Host(to))),
+        _ => Err(Fault::HostRange),
+    }
+}
+
+fn judged_hosts(begun: bool, digits: &[u8]) -> Result<Taken, Fault>
+    requires { is_digits digits.now ≡ true }
+    ensures { result ≡ judged_hosts begun (number_of digits.now) }
+{
+    if begun {
+        return Err(Fault::HostsLate);
+    }
+    match number_within(digits, HOSTS) {
+        Some(n) if 1 <= n => Ok(Taken::Hosts(n)),
+        _ => Err(Fault::HostRange),
+    }
+}
+
+// ---- lines
+
+fn as_event(line: Result<Line, Fault>) -> Result<Taken, Fault>
+    ensures { result ≡ as_event line }
+{
+    match line {
+        Ok(line) => Ok(Taken::Event(line)),
+        Err(fault) => Err(fault),
+    }
+}
+
+// What a line of this form is, where so many hosts and event lines stand before.
+fn judged_form(
+    alloc: Global,
+    shape: &Shape,
+    before: &Progress,
+    form: &Form,
+) -> Result<Result<Taken, Fault>, OutOfMemory>
+    requires shape { IsShape shape.now }
+    requires form { is_form form.now ≡ true }
+    ensures { IfOk result (λ r. r ≡ judged_form shape.now before.now.hosts before.now.begun before.now.events form.now) }
+{
+    match form {
+        Form::Hosts(digits) => Ok(judged_hosts(before.begun, digits.as_slice())),
+        Form::Settle => Ok(Ok(Taken::Settle)),
+        _ if before.events >= EVENT_LINES => Ok(Err(Fault::TooMany)),
+        Form::Request(name, args) => {
+            let line = requested(alloc, shape, name.as_slice(), args.as_slice())?;
+            Ok(as_event(line))
+        }
+        Form::Move(steps, to) => {
+            let line = move_to(shape, before.hosts, steps.as_slice(), to.as_slice());
+            Ok(as_event(line))
+        }
+        Form::Snapshot => Ok(Ok(Taken::Event(Line::Snapshot))),
+    }
+}
+
+/// What a line is, after the lines before: taken, or refused.
+pub(crate) fn judged(
+    alloc: Global,
+    shape: &Shape,
+    before: &Progress,
+    said: &Said,
+) -> Result<Result<Taken, Fault>, OutOfMemory>
+    requires shape { IsShape shape.now }
+    requires form { IsWellFormed said.now }
+    ensures { IfOk result (λ r. r ≡ judged shape.now before.now.hosts before.now.begun before.now.events said.now) }
+{
+    match said {
+        Said::Nothing => Ok(Ok(Taken::Skipped)),
+        Said::Unknown => Ok(Err(Fault::UnknownCommand)),
+        Said::Says(form) => judged_form(alloc, shape, before, form),
+    }
+}

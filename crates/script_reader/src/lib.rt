@@ -1,0 +1,26 @@
+//! The text of a script: its lines, their forms, and the first line that is refused.
+#![tactic(auto)]
+
+mod earlier;
+mod error;
+mod form;
+mod judge;
+mod piece;
+mod pieces;
+mod progress;
+mod quote;
+mod read;
+mod said;
+mod spelling;
+mod taken;
+#[cfg(test)]
+mod tests;
+
+pub use earlier::Earlier;
+pub use error::{Fault, ScriptError};
+pub use form::{Form, Literal};
+pub use piece::Piece;
+pub use quote::Quote;
+pub use read::{read_script, read_script_at};
+pub use said::Said;
+pub use taken::Taken;

@@ -1,0 +1,44 @@
+ghost use Rattle.std.specs.Prelude.{◌≡◌, IfOk};
+ghost use Rattle.script_reader.specs.Forms.{is_skipped};
+ghost use Rattle.script_reader.specs.Scripts.{IsOnlySaid};
+
+use crate::form::Form;
+use crate::pieces::{pieces_of, without_blanks};
+use crate::spelling::form_of;
+use std::alloc::Global;
+use wave_base::OutOfMemory;
+
+/// What a script line says.
+#[derive(Debug, Drop)]
+pub enum Said {
+    /// It is blank or a comment.
+    Nothing,
+    /// It has none of the forms.
+    Unknown,
+    Says(Form),
+}
+
+fn is_skipped(line: &[u8]) -> bool
+    ensures { result ≡ is_skipped line.now }
+{
+    match without_blanks(line) {
+        [] => true,
+        [b, ..] => *b == b'#',
+    }
+}
+
+/// What a line says.
+pub(crate) fn said_by(alloc: Global, line: &[u8]) -> Result<Said, OutOfMemory>
+    ensures { IfOk result (IsOnlySaid line.now) }
+{
+    if is_skipped(line) {
+        return Ok(Said::Nothing);
+    }
+    let Some(pieces) = pieces_of(alloc, line)? else {
+        return Ok(Said::Unknown);
+    };
+    match form_of(alloc, pieces.as_slice())? {
+        Some(form) => Ok(Said::Says(form)),
+        None => Ok(Said::Unknown),
+    }
+}

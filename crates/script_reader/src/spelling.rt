@@ -1,0 +1,265 @@
+ghost use Rattle.std.specs.Prelude.{◌≡◌, ◌∷◌, ◌↔◌, [], List, ℕ, IsTrue, codes, IfOk, IfSome, IfNone};
+ghost use Rattle.script_reader.specs.Behind.{behind_of};
+ghost use Rattle.script_reader.specs.Forms.{IsOnlyFormOf, HasNoFormOf};
+ghost use Rattle.script_reader.specs.Parts.{IsLiteralPiece, IsNoLiteralPiece, AreOnlyLiterals, AreNoLiterals, IsNumber, IsNoNumber, IsNamed, IsNotNamed, IsTo, IsNotTo, IsMove, IsNoMove, SpellsOnly, SpellsNone, behind_in};
+ghost use Rattle.script_reader.specs.declared.piece.Piece.TheVariants.{Run, Close};
+
+use crate::form::{Form, Literal};
+use crate::piece::Piece;
+use path_text::written_steps;
+use std::alloc::Global;
+use wave_base::{OutOfMemory, Seq};
+use wave_text::{is_digits, is_whole, is_word};
+
+fn copied(alloc: Global, bytes: &[u8]) -> Result<Seq<u8>, OutOfMemory>
+    ensures { IfOk result (λ s. s ≡ bytes.now) }
+{
+    Ok(Seq::from_vec(Vec::from_slice(alloc, bytes)?))
+}
+
+// The bytes of a run.
+fn run_in(piece: &Piece) -> Option<&[u8]>
+    ensures some { IfSome result (λ bytes. piece.now ≡ Run bytes.now) }
+    ensures none { IfNone result ((bytes : List ℕ) → piece.now ≡ Run bytes → ⊥) }
+{
+    match piece {
+        Piece::Run(bytes) => Some(bytes.as_slice()),
+        _ => None,
+    }
+}
+
+// ---- literals
+
+// The literal that a run spells.
+fn run_literal(alloc: Global, bytes: &Seq<u8>) -> Result<Option<Literal>, OutOfMemory>
+    ensures some { IfOk result (λ o. IfSome o (IsLiteralPiece (Run bytes.now))) }
+    ensures none { IfOk result (λ o. IfNone o (IsNoLiteralPiece (Run bytes.now))) }
+{
+    let bytes = bytes.as_slice();
+    if is_whole(bytes) {
+        return Ok(Some(Literal::Number(copied(alloc, bytes)?)));
+    }
+    if bytes == b"true".as_slice() {
+        return Ok(Some(Literal::Truth(true)));
+    }
+    if bytes == b"false".as_slice() {
+        return Ok(Some(Literal::Truth(false)));
+    }
+    Ok(None)
+}
+
+// The literal that a piece spells.
+fn literal_of(alloc: Global, piece: &Piece) -> Result<Option<Literal>, OutOfMemory>
+    ensures some { IfOk result (λ o. IfSome o (IsLiteralPiece piece.now)) }
+    ensures none { IfOk result (λ o. IfNone o (IsNoLiteralPiece piece.now)) }
+{
+    match piece {
+        Piece::Run(bytes) => run_literal(alloc, bytes),
+        Piece::Text(text) => Ok(Some(Literal::Text(text.copy(alloc)?))),
+        Piece::Open | Piece::Close | Piece::Comma => Ok(None),
+    }
+}
+
+// What stands behind a literal.
+enum Behind<'a> {
+    More(&'a [Piece]),
+    End,
+    Wrong,
+}
+
+fn behind_literal(pieces: &[Piece]) -> Behind<'_>
+    ensures { behind_of result ≡ behind_in pieces.now }
+{
+    match pieces {
+        [Piece::Comma, rest @ ..] => Behind::More(rest),
+        [Piece::Close] => Behind::End,
+        _ => Behind::Wrong,
+    }
+}
+
+fn is_close(pieces: &[Piece]) -> bool
+    ensures { IsTrue result ↔ (pieces.now ≡ Close ∷ []) }
+{
+    matches!(pieces, [Piece::Close])
+}
+
+// The literals that these pieces spell behind an opening parenthesis.
+fn literals_of(alloc: Global, pieces: &[Piece]) -> Result<Option<Seq<Literal>>, OutOfMemory>
+    ensures some { IfOk result (λ o. IfSome o (AreOnlyLiterals pieces.now)) }
+    ensures none { IfOk result (λ o. IfNone o (AreNoLiterals pieces.now)) }
+{
+    let mut literals = Vec::new(alloc);
+    if is_close(pieces) {
+        return Ok(Some(Seq::from_vec(literals)));
+    }
+    let mut rest = pieces;
+    loop {
+        let [piece, after @ ..] = rest else {
+            return Ok(None);
+        };
+        let Some(literal) = literal_of(alloc, piece)? else {
+            return Ok(None);
+        };
+        literals.push(literal)?;
+        match behind_literal(after) {
+            Behind::More(more) => rest = more,
+            Behind::End => return Ok(Some(Seq::from_vec(literals))),
+            Behind::Wrong => return Ok(None),
+        }
+    }
+}
+
+// ---- lines
+
+// The digits of a number that stands alone.
+fn number_alone(rest: &[Piece]) -> Option<&[u8]>
+    ensures some { IfSome result (λ n. IsNumber rest.now n.now) }
+    ensures none { IfNone result (IsNoNumber rest.now) }
+{
+    let [piece] = rest else {
+        return None;
+    };
+    let bytes = run_in(piece)?;
+    if is_digits(bytes) { Some(bytes) } else { None }
+}
+
+fn hosts_form(alloc: Global, rest: &[Piece]) -> Result<Option<Form>, OutOfMemory>
+    ensures some { IfOk result (λ o. IfSome o (IsOnlyFormOf (codes "hosts") rest.now)) }
+    ensures none { IfOk result (λ o. IfNone o (HasNoFormOf (codes "hosts") rest.now)) }
+{
+    match number_alone(rest) {
+        Some(digits) => Ok(Some(Form::Hosts(copied(alloc, digits)?))),
+        None => Ok(None),
+    }
+}
+
+// A name and an opening parenthesis, and what stands behind them.
+fn name_before(rest: &[Piece]) -> Option<(&[u8], &[Piece])>
+    ensures some { IfSome result (λ x. IsNamed rest.now x.0.now x.1.now) }
+    ensures none { IfNone result (IsNotNamed rest.now) }
+{
+    let [piece, Piece::Open, args @ ..] = rest else {
+        return None;
+    };
+    let name = run_in(piece)?;
+    if is_word(name) {
+        Some((name, args))
+    } else {
+        None
+    }
+}
+
+fn request_form(alloc: Global, rest: &[Piece]) -> Result<Option<Form>, OutOfMemory>
+    ensures some { IfOk result (λ o. IfSome o (IsOnlyFormOf (codes "request") rest.now)) }
+    ensures none { IfOk result (λ o. IfNone o (HasNoFormOf (codes "request") rest.now)) }
+{
+    let Some((name, args)) = name_before(rest) else {
+        return Ok(None);
+    };
+    let Some(args) = literals_of(alloc, args)? else {
+        return Ok(None);
+    };
+    Ok(Some(Form::Request(copied(alloc, name)?, args)))
+}
+
+// The digits behind the word `to`.
+fn host_behind(rest: &[Piece]) -> Option<&[u8]>
+    ensures some { IfSome result (λ digits. IsTo rest.now digits.now) }
+    ensures none { IfNone result (IsNotTo rest.now) }
+{
+    let [to, behind @ ..] = rest else {
+        return None;
+    };
+    let to = run_in(to)?;
+    let digits = number_alone(behind)?;
+    if to == b"to".as_slice() {
+        Some(digits)
+    } else {
+        None
+    }
+}
+
+// A run, the word `to`, and digits.
+fn path_and_host(rest: &[Piece]) -> Option<(&[u8], &[u8])>
+    ensures some { IfSome result (λ x. IsMove rest.now x.0.now x.1.now) }
+    ensures none { IfNone result (IsNoMove rest.now) }
+{
+    let [path, behind @ ..] = rest else {
+        return None;
+    };
+    let path = run_in(path)?;
+    let digits = host_behind(behind)?;
+    Some((path, digits))
+}
+
+fn move_form(alloc: Global, rest: &[Piece]) -> Result<Option<Form>, OutOfMemory>
+    ensures some { IfOk result (λ o. IfSome o (IsOnlyFormOf (codes "move") rest.now)) }
+    ensures none { IfOk result (λ o. IfNone o (HasNoFormOf (codes "move") rest.now)) }
+{
+    let Some((path, digits)) = path_and_host(rest) else {
+        return Ok(None);
+    };
+    let Some(steps) = written_steps(alloc, path)? else {
+        return Ok(None);
+    };
+    Ok(Some(Form::Move(steps, copied(alloc, digits)?)))
+}
+
+fn snapshot_form(rest: &[Piece]) -> Option<Form>
+    ensures some { IfSome result (IsOnlyFormOf (codes "snapshot") rest.now) }
+    ensures none { IfNone result (HasNoFormOf (codes "snapshot") rest.now) }
+{
+    if rest.is_empty() {
+        Some(Form::Snapshot)
+    } else {
+        None
+    }
+}
+
+fn settle_form(rest: &[Piece]) -> Option<Form>
+    ensures some { IfSome result (IsOnlyFormOf (codes "settle") rest.now) }
+    ensures none { IfNone result (HasNoFormOf (codes "settle") rest.now) }
+{
+    if rest.is_empty() {
+        Some(Form::Settle)
+    } else {
+        None
+    }
+}
+
+// The form of a line with this first word.
+fn form_of_word(alloc: Global, word: &[u8], rest: &[Piece]) -> Result<Option<Form>, OutOfMemory>
+    ensures some { IfOk result (λ o. IfSome o (IsOnlyFormOf word.now rest.now)) }
+    ensures none { IfOk result (λ o. IfNone o (HasNoFormOf word.now rest.now)) }
+{
+    if word == b"hosts".as_slice() {
+        return hosts_form(alloc, rest);
+    }
+    if word == b"request".as_slice() {
+        return request_form(alloc, rest);
+    }
+    if word == b"move".as_slice() {
+        return move_form(alloc, rest);
+    }
+    if word == b"snapshot".as_slice() {
+        return Ok(snapshot_form(rest));
+    }
+    if word == b"settle".as_slice() {
+        return Ok(settle_form(rest));
+    }
+    Ok(None)
+}
+
+/// The form of a line with these pieces.
+pub(crate) fn form_of(alloc: Global, pieces: &[Piece]) -> Result<Option<Form>, OutOfMemory>
+    ensures some { IfOk result (λ o. IfSome o (SpellsOnly pieces.now)) }
+    ensures none { IfOk result (λ o. IfNone o (SpellsNone pieces.now)) }
+{
+    let [first, rest @ ..] = pieces else {
+        return Ok(None);
+    };
+    let Some(word) = run_in(first) else {
+        return Ok(None);
+    };
+    form_of_word(alloc, word, rest)
+}

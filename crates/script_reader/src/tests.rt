@@ -1,0 +1,226 @@
+ghost use Rattle.std.specs.Prelude.{◌≡◌, ◌≤◌, ◌∷◌, [], length, IfOk};
+ghost use Rattle.wave_base.specs.Shapes.{IsShape};
+ghost use Rattle.wave_base.specs.Text.{IsText};
+ghost use Rattle.path_text.specs.Sample.{market_class, hall_class};
+
+use crate::{ScriptError, read_script, read_script_at};
+use std::alloc::Global;
+use std::test::Fail;
+use wave_base::{
+    Call, Class, ClassInfo, EventInfo, Host, Kind, Line, OutOfMemory, Path, SCRIPT_BYTES, Script,
+    Seq, Shape, Step, Txt, Value,
+};
+
+fn class(alloc: Global, name: &[u8], parent: Option<Class>) -> Result<ClassInfo, OutOfMemory>
+    requires { IsText name.now }
+    ensures { IfOk result (λ c. c ≡ record { name = name.now; parent = parent; fields = [] }) }
+{
+    Ok(ClassInfo {
+        name: Txt::from_bytes(alloc, name)?,
+        parent,
+        fields: Seq::new(alloc),
+    })
+}
+
+fn event(alloc: Global, name: &[u8], params: Vec<Kind>) -> Result<EventInfo, OutOfMemory>
+    requires { IsText name.now }
+{
+    Ok(EventInfo {
+        name: Txt::from_bytes(alloc, name)?,
+        params: Seq::from_vec(params),
+        reply: None,
+    })
+}
+
+// A root, and a Hall in it.
+fn classes(alloc: Global) -> Result<Seq<ClassInfo>, OutOfMemory>
+    ensures { IfOk result (λ cs. cs ≡ market_class ∷ hall_class ∷ []) }
+{
+    let root = class(alloc, b"Market", None)?;
+    let hall = class(alloc, b"Hall", Some(Class(0)))?;
+    let mut classes = Vec::new(alloc);
+    classes.push(root)?;
+    classes.push(hall)?;
+    Ok(Seq::from_vec(classes))
+}
+
+// put(int, text, bool), and pair(int)
+fn events(alloc: Global) -> Result<Seq<EventInfo>, OutOfMemory>
+    ensures { IfOk result (λ es. length es ≤ 2) }
+{
+    let three = vec![in alloc; Kind::Int, Kind::Text, Kind::Bool]?;
+    let put = event(alloc, b"put", three)?;
+    let pair = event(alloc, b"pair", vec![in alloc; Kind::Int]?)?;
+    let mut events = Vec::new(alloc);
+    events.push(put)?;
+    events.push(pair)?;
+    Ok(Seq::from_vec(events))
+}
+
+fn shape(alloc: Global) -> Result<Shape, OutOfMemory>
+    ensures { IfOk result IsShape }
+{
+    Ok(Shape {
+        classes: classes(alloc)?,
+        events: events(alloc)?,
+    })
+}
+
+fn hall(key: i64) -> Path {
+    Path::root().child(Step {
+        class: Class(1),
+        key,
+    })
+}
+
+const TEXT: &[u8] = b" # a remark \"\r
+\thosts 2
+settle
+request put ( -9223372036854775808 ,\"a\\\"\\\\\",true )\r
+
+settle
+settle
+move /Hall[9223372036854775807] to 1
+snapshot
+ move / to 0";
+
+fn wanted(alloc: Global) -> Result<Script, OutOfMemory> {
+    let text = Txt::from_bytes(alloc, b"a\"\\")?;
+    let args = vec![in alloc; Value::Int(i64::MIN), Value::Str(text), Value::Bool(true)]?;
+    let call = Line::Request(Call {
+        event: 0,
+        args: Seq::from_vec(args),
+        generation: 0,
+    });
+    let first = vec![in alloc; call]?;
+    let away = Line::Move(hall(i64::MAX), Host(1));
+    let home = Line::Move(Path::root(), Host(0));
+    let second = vec![in alloc; away, Line::Snapshot, home]?;
+    let batches = vec![in alloc; Seq::from_vec(first), Seq::from_vec(second)]?;
+    Ok(Script {
+        hosts: 2,
+        batches: Seq::from_vec(batches),
+    })
+}
+
+#[test]
+fn reads_every_form(rt: HostRuntime) -> Result<(), Fail> {
+    let alloc = rt.alloc();
+    let shape = shape(alloc)?;
+    assert!(rt; read_script(alloc, &shape, TEXT) == Ok(wanted(alloc)?));
+    let empty = read_script(alloc, &shape, b"")?;
+    assert_eq!(rt; empty.hosts, 1);
+    assert!(rt; empty.batches.is_empty());
+    Ok(())
+}
+
+fn refusal(alloc: Global, shape: &Shape, text: &[u8]) -> Option<ScriptError>
+    requires shape { IsShape shape.now }
+    requires short { length text.now ≤ 1000 }
+{
+    read_script(alloc, shape, text).err()
+}
+
+#[test]
+fn refuses_each_fault_with_its_line(rt: HostRuntime) -> Result<(), Fail> {
+    let alloc = rt.alloc();
+    let shape = shape(alloc)?;
+    let unknown = Some(ScriptError::UnknownCommand { line: 2 });
+    assert!(rt; refusal(alloc, &shape, b"\nrequest pair(- 5)") == unknown);
+    assert!(rt; refusal(alloc, &shape, b"\nrequest pair(1,)") == unknown);
+    assert!(rt; refusal(alloc, &shape, b"\nmove /Hall[ 1] to 0") == unknown);
+    assert!(rt; refusal(alloc, &shape, b"\nrequest pair(1) #") == unknown);
+    let event = Some(ScriptError::UnknownEvent { line: 1 });
+    assert!(rt; refusal(alloc, &shape, b"request service(1)") == event);
+    let count = Some(ScriptError::ArgCount { line: 1 });
+    assert!(rt; refusal(alloc, &shape, b"request pair(true,1)") == count);
+    let kind = Some(ScriptError::ArgType { line: 1 });
+    assert!(rt; refusal(alloc, &shape, b"request pair(true)") == kind);
+    assert!(rt; refusal(alloc, &shape, b"request pair(9223372036854775808)") == kind);
+    let path = Some(ScriptError::BadPath { line: 1 });
+    assert!(rt; refusal(alloc, &shape, b"move /Market[1] to 9") == path);
+    assert!(rt; refusal(alloc, &shape, b"move /Hall[9223372036854775808] to 0") == path);
+    Ok(())
+}
+
+#[test]
+fn refuses_hosts_with_its_line(rt: HostRuntime) -> Result<(), Fail> {
+    let alloc = rt.alloc();
+    let shape = shape(alloc)?;
+    let range = Some(ScriptError::HostRange { line: 1 });
+    assert!(rt; refusal(alloc, &shape, b"hosts 0") == range);
+    assert!(rt; refusal(alloc, &shape, b"hosts 99999999999999999999") == range);
+    let to = Some(ScriptError::HostRange { line: 2 });
+    assert!(rt; refusal(alloc, &shape, b"hosts 2\nmove /Hall[1] to 2") == to);
+    let late = Some(ScriptError::HostsLate { line: 2 });
+    assert!(rt; refusal(alloc, &shape, b"settle\nhosts 9") == late);
+    assert!(rt; refusal(alloc, &shape, b"hosts 2\nhosts 2") == late);
+    Ok(())
+}
+
+// What the reader says of a text that begins with 4,000 event lines and ends with this line.
+fn after_4000(alloc: Global, shape: &Shape, line: &[u8]) -> Result<Option<ScriptError>, OutOfMemory>
+    requires { IsShape shape.now }
+{
+    let mut text = Vec::new(alloc);
+    for _ in 0..4000 {
+        text.extend_from_slice(b"snapshot\n")?;
+    }
+    text.extend_from_slice(line)?;
+    if text.len() > SCRIPT_BYTES {
+        return Ok(None);
+    }
+    Ok(read_script(alloc, shape, text.as_slice()).err())
+}
+
+#[test]
+fn refuses_the_line_past_4000(rt: HostRuntime) -> Result<(), Fail> {
+    let alloc = rt.alloc();
+    let shape = shape(alloc)?;
+    let many = Some(ScriptError::TooMany { line: 4001 });
+    assert!(rt; after_4000(alloc, &shape, b"settle")?.is_none());
+    assert!(rt; after_4000(alloc, &shape, b"snapshot")? == many);
+    assert!(rt; after_4000(alloc, &shape, b"request nobody(1)")? == many);
+    let unknown = Some(ScriptError::UnknownCommand { line: 4001 });
+    assert!(rt; after_4000(alloc, &shape, b"snapshots")? == unknown);
+    Ok(())
+}
+
+// A request with a text of so many bytes.
+fn with_text(alloc: Global, shape: &Shape, len: usize) -> Result<Option<ScriptError>, OutOfMemory>
+    requires { IsShape shape.now }
+{
+    let mut text = Vec::from_slice(alloc, b"request put(1,\"")?;
+    for _ in 0..len {
+        text.push(b'a')?;
+    }
+    text.extend_from_slice(b"\",false)")?;
+    if text.len() > SCRIPT_BYTES {
+        return Ok(None);
+    }
+    Ok(read_script(alloc, shape, text.as_slice()).err())
+}
+
+#[test]
+fn refuses_a_text_past_200_bytes(rt: HostRuntime) -> Result<(), Fail> {
+    let alloc = rt.alloc();
+    let shape = shape(alloc)?;
+    assert!(rt; with_text(alloc, &shape, 200)?.is_none());
+    assert!(rt; with_text(alloc, &shape, 201)? == Some(ScriptError::ArgType { line: 1 }));
+    Ok(())
+}
+
+#[test]
+fn goes_on_after_a_script(rt: HostRuntime) -> Result<(), Fail> {
+    let alloc = rt.alloc();
+    let shape = shape(alloc)?;
+    let text = b"move / to 2\nsnapshot";
+    let script = read_script_at(alloc, &shape, text, 3, 3998)?;
+    assert_eq!(rt; script.hosts, 3);
+    assert_eq!(rt; script.batches.len(), 1);
+    let many = Err(ScriptError::TooMany { line: 2 });
+    assert!(rt; read_script_at(alloc, &shape, text, 3, 3999) == many);
+    let late = Err(ScriptError::HostsLate { line: 1 });
+    assert!(rt; read_script_at(alloc, &shape, b"hosts 3", 3, 0) == late);
+    Ok(())
+}
