@@ -2,3 +2,6 @@
 #![tactic(auto)]
 
 mod frames;
+mod held;
+mod run;
+mod values;

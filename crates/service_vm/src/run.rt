@@ -1,0 +1,80 @@
+ghost use Rattle.std.specs.Prelude.{◌≡◌, ◌<◌, ◌^◌, ◌∷◌, [], true, false, suc, length, nat_lt, if◌then◌else◌, IfOk, OnOk};
+ghost use Rattle.std.specs.BTreeSet.{insert_key};
+ghost use Rattle.wave_base.specs.declared.limits.TheConstants.{CONTEXTS};
+ghost use Rattle.wave_base.specs.declared.outcome.Outcome.TheVariants.{Trapped};
+ghost use Rattle.wave_base.specs.declared.pause.Pause.TheVariants as pause;
+ghost use Rattle.wave_base.specs.Paths.{path_cmp};
+ghost use Rattle.service_verify.specs.Steps.{over, is_held};
+ghost use Rattle.service_vm.specs.Acts.{box_of};
+ghost use Rattle.service_vm.specs.Frames.{moved_on};
+
+use crate::frames::Frames;
+use crate::held::Held;
+use deferred_out::Outputs;
+use downgrade_views::Views;
+use std::alloc::Global;
+use wave_base::{
+    CONTEXTS, EventResult, OutOfMemory, Outcome, Path, Pause, Seq, Span, Trap, TrapKind, Value,
+};
+
+/// An event that isn't over: its frames, its copies of what stands above it, what it sent and created, the ticks that it
+/// has left, where it is, what it holds, how many contexts it has entered, and its generation.
+#[derive(Debug, Drop)]
+pub struct Run {
+    pub frames: Frames,
+    pub views: Views,
+    pub outputs: Outputs,
+    pub ticks: u32,
+    pub path: Path,
+    pub held: Held,
+    pub entered: usize,
+    pub generation: u8,
+    pub alloc: Global,
+}
+
+impl Run {
+    /// Puts a value on the stack, and goes on.
+    pub fn give(&mut self, x: Value) -> Result<(), OutOfMemory>
+        requires { self.old.frames.top.place < 2 ^ 63 }
+        ensures { OnOk result (self.new ≡ record self.old { frames = moved_on self.old.frames (x ∷ self.old.frames.top.stack) }) }
+    {
+        self.frames.push(x)?;
+        self.frames.advance();
+        Ok(())
+    }
+
+    /// The end by a trap at a place of the service text, which throws away what the event sent and created.
+    pub fn trap(&mut self, kind: TrapKind, at: Span) -> Pause
+        ensures pause { result ≡ pause.Over (record { outcome = Trapped (record { kind = kind; at = at }); messages = []; created = [] }) }
+        ensures over { over (box_of self.new) ≡ over (box_of self.old) }
+        ensures views { self.new.views ≡ self.old.views }
+        ensures outputs { length self.new.outputs.messages ≡ 0 }
+        ensures outputs_created { length self.new.outputs.created ≡ 0 }
+    {
+        self.outputs.discard();
+        Pause::Over(EventResult {
+            outcome: Outcome::Trapped(Trap { kind, at }),
+            messages: Seq::new(self.alloc),
+            created: Seq::new(self.alloc),
+        })
+    }
+
+    /// Enters a context that isn't held yet. It says no where the event has entered as many as it may.
+    pub fn enter(&mut self, path: Path) -> Result<bool, OutOfMemory>
+        ensures entered { IfOk result (λ entered. is_held self.old.held path ≡ false → entered ≡ nat_lt self.old.entered CONTEXTS) }
+        ensures is_held { IfOk result (λ entered. is_held self.old.held path ≡ true → entered ≡ true) }
+        ensures held { OnOk result (is_held self.old.held path ≡ true → self.new ≡ self.old) }
+        ensures full { OnOk result (is_held self.old.held path ≡ false → nat_lt self.old.entered CONTEXTS ≡ false → self.new ≡ self.old) }
+        ensures new { OnOk result (is_held self.old.held path ≡ false → nat_lt self.old.entered CONTEXTS ≡ true → self.new ≡ record self.old { held = insert_key path_cmp self.old.held path; entered = suc self.old.entered }) }
+    {
+        if self.held.contains(&path) {
+            return Ok(true);
+        }
+        if self.entered >= CONTEXTS {
+            return Ok(false);
+        }
+        self.held.insert(path)?;
+        self.entered += 1;
+        Ok(true)
+    }
+}
