@@ -1,11 +1,10 @@
-ghost use Rattle.std.specs.Prelude.{◌≡◌, ◌<◌, ◌^◌, ◌∷◌, [], true, false, suc, length, nat_lt, if◌then◌else◌, IfOk, OnOk};
+ghost use Rattle.std.specs.Prelude.{◌≡◌, ◌<◌, ◌^◌, ◌∷◌, List, Some, true, false, suc, nat_lt, IfOk, OnOk};
 ghost use Rattle.std.specs.BTreeSet.{insert_key};
 ghost use Rattle.wave_base.specs.declared.limits.TheConstants.{CONTEXTS};
-ghost use Rattle.wave_base.specs.declared.outcome.Outcome.TheVariants.{Trapped};
-ghost use Rattle.wave_base.specs.declared.pause.Pause.TheVariants as pause;
+ghost use Rattle.wave_base.specs.declared.value.Value.{Value};
 ghost use Rattle.wave_base.specs.Paths.{path_cmp};
-ghost use Rattle.service_verify.specs.Steps.{over, is_held};
-ghost use Rattle.service_vm.specs.Acts.{box_of};
+ghost use Rattle.service_verify.specs.Steps.{is_held, trapped, finished};
+ghost use Rattle.service_vm.specs.Acts.{box_of, moved, Settled, Stays};
 ghost use Rattle.service_vm.specs.Frames.{moved_on};
 
 use crate::frames::Frames;
@@ -13,6 +12,7 @@ use crate::held::Held;
 use deferred_out::Outputs;
 use downgrade_views::Views;
 use std::alloc::Global;
+use value_ops::OpError;
 use wave_base::{
     CONTEXTS, EventResult, OutOfMemory, Outcome, Path, Pause, Seq, Span, Trap, TrapKind, Value,
 };
@@ -45,17 +45,42 @@ impl Run {
 
     /// The end by a trap at a place of the service text, which throws away what the event sent and created.
     pub fn trap(&mut self, kind: TrapKind, at: Span) -> Pause
-        ensures pause { result ≡ pause.Over (record { outcome = Trapped (record { kind = kind; at = at }); messages = []; created = [] }) }
-        ensures over { over (box_of self.new) ≡ over (box_of self.old) }
-        ensures views { self.new.views ≡ self.old.views }
-        ensures outputs { length self.new.outputs.messages ≡ 0 }
-        ensures outputs_created { length self.new.outputs.created ≡ 0 }
+        ensures trapped { (fields : List Value) → trapped kind at (box_of self.old) fields ≡ moved (Some result) self.new fields }
+        ensures stays { Stays self.old self.new }
     {
         self.outputs.discard();
         Pause::Over(EventResult {
             outcome: Outcome::Trapped(Trap { kind, at }),
             messages: Seq::new(self.alloc),
             created: Seq::new(self.alloc),
+        })
+    }
+
+    /// Goes on, or traps, after a change of a map.
+    pub fn settle(&mut self, changed: Result<(), OpError>, at: Span) -> Result<Option<Pause>, OutOfMemory>
+        requires { self.old.frames.top.place < 2 ^ 63 }
+        ensures { IfOk result (λ p. Settled changed at self.old p self.new) }
+    {
+        match changed {
+            Ok(()) => {
+                self.frames.advance();
+                Ok(None)
+            }
+            Err(OpError::Trap(kind)) => Ok(Some(self.trap(kind, at))),
+            Err(OpError::OutOfMemory) => Err(OutOfMemory),
+        }
+    }
+
+    /// The end by itself, with what the event sent and created.
+    pub fn finish(&mut self, outcome: Outcome) -> Pause
+        ensures finished { (fields : List Value) → finished outcome (box_of self.old) fields ≡ moved (Some result) self.new fields }
+        ensures stays { Stays self.old self.new }
+    {
+        let (messages, created) = self.outputs.take();
+        Pause::Over(EventResult {
+            outcome,
+            messages,
+            created,
         })
     }
 
