@@ -1,6 +1,10 @@
 //! The machine that runs verified code: an event between its segments, and a segment to its next pause.
 #![tactic(auto)]
 
+mod control;
 mod frames;
 mod held;
+mod outputs;
+mod places;
 mod run;
+mod values;
