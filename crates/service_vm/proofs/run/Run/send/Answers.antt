@@ -8,7 +8,7 @@ use Rattle.service_vm.proofs.Doing.{send_runs, send_traps}
 use Rattle.service_vm.proofs.run.Run.send.Goals as goal
 
 room : (n m : ℕ) → n ≤ m → (n ≡ m → ⊥) → nat_lt n m ≡ true
-room n m le no = let lt : n < m = omega (arith, le, no) in grind (arith, nat_tests)
+room n m le apart = let lt : n < m = omega (arith, le, apart) in grind (arith, nat_tests)
 
 full : (n m : ℕ) → n ≡ m → nat_lt n m ≡ false
 full n m e = grind (arith, nat_tests)
