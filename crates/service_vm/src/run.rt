@@ -1,4 +1,4 @@
-ghost use Rattle.std.specs.Prelude.{◌≡◌, ◌<◌, ◌^◌, ◌∷◌, List, Some, true, false, suc, nat_lt, IfOk, OnOk};
+ghost use Rattle.std.specs.Prelude.{◌≡◌, ◌<◌, ◌^◌, ◌∷◌, List, Some, None, true, false, suc, nat_lt, IfOk, OnOk};
 ghost use Rattle.std.specs.BTreeSet.{insert_key};
 ghost use Rattle.wave_base.specs.declared.limits.TheConstants.{CONTEXTS};
 ghost use Rattle.wave_base.specs.declared.value.Value.{Value};
@@ -41,6 +41,16 @@ impl Run {
         self.frames.push(x)?;
         self.frames.advance();
         Ok(())
+    }
+
+    /// Puts a value on the stack, and goes on without a pause.
+    pub fn put(&mut self, x: Value) -> Result<Option<Pause>, OutOfMemory>
+        requires { self.old.frames.top.place < 2 ^ 63 }
+        ensures put { OnOk result (self.new ≡ record self.old { frames = moved_on self.old.frames (x ∷ self.old.frames.top.stack) }) }
+        ensures runs { IfOk result (λ p. p ≡ None) }
+    {
+        self.give(x)?;
+        Ok(None)
     }
 
     /// The end by a trap at a place of the service text, which throws away what the event sent and created.
