@@ -1,2 +1,5 @@
+pub mod Counting
 pub mod Doing
+pub mod Finding
+pub mod Leading
 pub mod Seen

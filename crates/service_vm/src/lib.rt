@@ -3,9 +3,13 @@
 
 mod act;
 mod control;
+mod event;
 mod frames;
 mod held;
 mod outputs;
 mod places;
 mod run;
+mod step;
 mod values;
+
+pub use event::{EventBox, segment};
