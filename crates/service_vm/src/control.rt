@@ -94,7 +94,7 @@ impl Run {
         requires args { IsSome (taken (length function.now.args) [] self.old.frames.top.stack) }
         requires locals { length function.now.args ≤ length function.now.locals }
         ensures did { IfOk result (λ p. (program : Program) (at : Span) (fields : List Value) → slice_get program.functions number ≡ Some function.now → Did program self.old (instr.Call number) at fields p self.new fields) }
-        ensures stays { OnOk result (Stays self.old self.new) }
+        ensures stays { Stays self.old self.new }
     {
         self.frames.begin(self.alloc, number, function, false)?;
         Ok(None)

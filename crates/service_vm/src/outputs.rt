@@ -22,7 +22,7 @@ impl Run {
         requires value { 0 < length self.old.frames.top.stack }
         requires few { IsKept self.old.outputs }
         ensures did { IfOk result (λ p. (program : Program) (i : ℕ) (fields : List Value) → slice_get program.texts i ≡ Some label → Did program self.old (instr.Send i) at fields p self.new fields) }
-        ensures stays { OnOk result (Stays self.old self.new) }
+        ensures stays { Stays self.old self.new }
     {
         let value = self.frames.pop();
         match self.outputs.send(Message { label, value }) {
@@ -47,7 +47,7 @@ impl Run {
         requires few { IsKept self.old.outputs }
         requires generation { self.old.generation ≤ GENERATION }
         ensures did { IfOk result (λ p. (program : Program) (e : EventInfo) (fields : List Value) → slice_get program.shape.events event ≡ Some e → length e.params ≡ count → Did program self.old (instr.Spawn event) at fields p self.new fields) }
-        ensures stays { OnOk result (Stays self.old self.new) }
+        ensures stays { Stays self.old self.new }
     {
         let args = self.frames.take(self.alloc, count)?;
         let call = Call {

@@ -21,7 +21,7 @@ impl Run {
         requires path { length self.old.path < CLASS_DEPTH }
         requires key { IsSome (int_on_top self.old.frames.top.stack) }
         ensures did { IfOk result (λ p. (program : Program) (fields : List Value) → Did program self.old (instr.Go class) at fields p self.new fields) }
-        ensures stays { OnOk result (Stays self.old self.new) }
+        ensures stays { Stays self.old self.new }
     {
         let key = self.frames.pop_int();
         let step = Step { class, key };
@@ -48,7 +48,7 @@ impl Run {
         requires args { IsSome (key_below (length function.now.args) self.old.frames.top.stack) }
         requires locals { length function.now.args ≤ length function.now.locals }
         ensures did { IfOk result (λ p. (program : Program) (fields : List Value) → slice_get program.functions number ≡ Some function.now → Did program self.old (instr.CallDown class number) at fields p self.new fields) }
-        ensures stays { OnOk result (Stays self.old self.new) }
+        ensures stays { Stays self.old self.new }
     {
         let key = self.frames.take_key(function.args.len());
         let step = Step { class, key };
@@ -66,7 +66,7 @@ impl Run {
         requires caller { 0 < length self.old.frames.below }
         requires value { IsSome function.now.result → 0 < length self.old.frames.top.stack }
         ensures did { IfOk result (λ p. (program : Program) (at : Span) (fields : List Value) → slice_get program.functions self.old.frames.top.function ≡ Some function.now → Did program self.old instr.Return at fields p self.new fields) }
-        ensures stays { OnOk result (Stays self.old self.new) }
+        ensures stays { Stays self.old self.new }
     {
         let down = self.frames.is_down();
         self.frames.close(function.result.is_some())?;

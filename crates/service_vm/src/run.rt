@@ -36,7 +36,8 @@ impl Run {
     /// Puts a value on the stack, and goes on.
     pub fn give(&mut self, x: Value) -> Result<(), OutOfMemory>
         requires { self.old.frames.top.place < 2 ^ 63 }
-        ensures { OnOk result (self.new ≡ record self.old { frames = moved_on self.old.frames (x ∷ self.old.frames.top.stack) }) }
+        ensures given { OnOk result (self.new ≡ record self.old { frames = moved_on self.old.frames (x ∷ self.old.frames.top.stack) }) }
+        ensures stays { Stays self.old self.new }
     {
         self.frames.push(x)?;
         self.frames.advance();
@@ -48,6 +49,7 @@ impl Run {
         requires { self.old.frames.top.place < 2 ^ 63 }
         ensures put { OnOk result (self.new ≡ record self.old { frames = moved_on self.old.frames (x ∷ self.old.frames.top.stack) }) }
         ensures runs { IfOk result (λ p. p ≡ None) }
+        ensures stays { Stays self.old self.new }
     {
         self.give(x)?;
         Ok(None)
@@ -69,7 +71,8 @@ impl Run {
     /// Goes on, or traps, after a change of a map.
     pub fn settle(&mut self, changed: Result<(), OpError>, at: Span) -> Result<Option<Pause>, OutOfMemory>
         requires { self.old.frames.top.place < 2 ^ 63 }
-        ensures { IfOk result (λ p. Settled changed at self.old p self.new) }
+        ensures settled { IfOk result (λ p. Settled changed at self.old p self.new) }
+        ensures stays { Stays self.old self.new }
     {
         match changed {
             Ok(()) => {
@@ -101,6 +104,7 @@ impl Run {
         ensures held { OnOk result (is_held self.old.held path ≡ true → self.new ≡ self.old) }
         ensures full { OnOk result (is_held self.old.held path ≡ false → nat_lt self.old.entered CONTEXTS ≡ false → self.new ≡ self.old) }
         ensures new { OnOk result (is_held self.old.held path ≡ false → nat_lt self.old.entered CONTEXTS ≡ true → self.new ≡ record self.old { held = insert_key path_cmp self.old.held path; entered = suc self.old.entered }) }
+        ensures stays { Stays self.old self.new }
     {
         if self.held.contains(&path) {
             return Ok(true);
