@@ -85,11 +85,7 @@ impl Run {
 
     /// A method of the same context begins.
     #[tactic(auto, unfolding(service_verify::specs::Steps::acted))]
-    pub fn call(
-        &mut self,
-        number: u16,
-        function: &Function,
-    ) -> Result<Option<Pause>, OutOfMemory>
+    pub fn call(&mut self, number: u16, function: &Function) -> Result<Option<Pause>, OutOfMemory>
         requires place { self.old.frames.top.place < 2 ^ 63 }
         requires args { IsSome (taken (length function.now.args) [] self.old.frames.top.stack) }
         requires locals { length function.now.args ≤ length function.now.locals }

@@ -69,7 +69,11 @@ impl Run {
     }
 
     /// Goes on, or traps, after a change of a map.
-    pub fn settle(&mut self, changed: Result<(), OpError>, at: Span) -> Result<Option<Pause>, OutOfMemory>
+    pub fn settle(
+        &mut self,
+        changed: Result<(), OpError>,
+        at: Span,
+    ) -> Result<Option<Pause>, OutOfMemory>
         requires { self.old.frames.top.place < 2 ^ 63 }
         ensures settled { IfOk result (λ p. Settled changed at self.old p self.new) }
         ensures stays { Stays self.old self.new }

@@ -1,4 +1,4 @@
-use Rattle.std.proofs.Common.{◌≡◌, ap, sym, ◌∙◌}
+use Rattle.std.proofs.Common.{ap, sym, ◌∙◌}
 use Rattle.wave_base.specs.Paths.{parent_of}
 use Rattle.service_verify.proofs.Classes.{parent_of-child}
 use Rattle.service_vm.proofs.places.parent_of.Goals as goal

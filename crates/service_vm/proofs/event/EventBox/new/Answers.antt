@@ -1,8 +1,7 @@
-use Rattle.std.proofs.Common.{◌≡◌, ◌≤◌, ◌++◌, [], ◌∷◌, ap, sym, ◌∙◌, subst, length, drop, map, if◌then◌else◌, arith, false}
-use Rattle.std.specs.Prelude.{IsSome, Some, is_some, slice_get}
+use Rattle.std.proofs.Common.{◌≡◌, ◌++◌, [], ap, sym, ◌∙◌, subst, drop, map, if◌then◌else◌, arith, false}
+use Rattle.std.specs.Prelude.{is_some, slice_get}
 use Rattle.service_code.specs.declared.program.Program.{Program}
 use Rattle.service_verify.specs.Boxes.{blank_of, first_locals, first_frame, first_box}
-use Rattle.service_verify.specs.Fit.{IsFit}
 use Rattle.service_verify.specs.Standing.{Stands}
 use Rattle.service_verify.proofs.Locals.{begins}
 use Rattle.service_vm.specs.declared.run.Run.{Run}
@@ -33,12 +32,12 @@ event_is c =
     let known = ap (λ (q : Program). slice_get q.events c.args.call.event) (sym e) ∙ c.event_function-number.ensures in
     let there = ap (λ (q : Program). slice_get q.functions c.event_function-number.result) (sym e) ∙ c.function-function.ensures in
     let locals : c.append.new.self.items ≡ first_locals function c.args.call.args =
-      c.append.ensures.items
-      ∙ ap (λ b. if b then c.into_vec-locals.result.items ++ c.in-Ok.blanks.items else c.into_vec-locals.result.items) c.if-is_err.ensures.negation
-      ∙ (λ i. c.into_vec-locals.ensures i ++ c.in-Ok.ensures i)
-      ∙ ap (λ n. c.args.call.args ++ map blank_of (drop n function.locals)) c.len.ensures in
+    c.append.ensures.items
+    ∙ ap (λ b. if b then c.into_vec-locals.result.items ++ c.in-Ok.blanks.items else c.into_vec-locals.result.items) c.if-is_err.ensures.negation
+    ∙ (λ i. c.into_vec-locals.ensures i ++ c.in-Ok.ensures i)
+    ∙ ap (λ n. c.args.call.args ++ map blank_of (drop n function.locals)) c.len.ensures in
     let top : c.first.result.top ≡ first_frame c.event_function-number.result function c.args.call.args false =
-      c.first.ensures.top ∙ ap (λ ls. record { function = c.event_function-number.result; place = 0; stack = []; locals = ls; down = false }) locals in
+    c.first.ensures.top ∙ ap (λ ls. record { function = c.event_function-number.result; place = 0; stack = []; locals = ls; down = false }) locals in
     first_is c.args.program.now c.requires.fit c.args.call c.requires.call c.event_function-number.result known function c.first.result c.root-2.result c.in-Ok-root.held c.new-2.result c.new.result there top c.first.ensures.below c.root-2.ensures c.in-Ok-root.ensures c.new-2.ensures c.new.ensures
 
 pub returns-clause-event : goal.returns-clause-event

@@ -1,5 +1,5 @@
-use Rattle.std.proofs.Common.{◌≡◌, [], ◌∷◌, ◌++◌, List, length, Bool, Some, ap, sym, ◌∙◌, subst, rules, w64, to_z, of_z}
-use Rattle.std.specs.Prelude.{IsSome, is_some, nat_lt, slice_get}
+use Rattle.std.proofs.Common.{◌≡◌, [], ◌∷◌, ◌++◌, length, Some, ap, sym, ◌∙◌, subst, rules, w64, to_z, of_z}
+use Rattle.std.specs.Prelude.{is_some, nat_lt}
 use Rattle.wave_base.specs.declared.limits.TheConstants.{CONTEXTS}
 use Rattle.wave_base.specs.declared.pause.Pause.TheVariants as pause
 use Rattle.wave_base.specs.declared.value.Value.TheVariants as v
@@ -8,7 +8,7 @@ use Rattle.service_verify.specs.Steps.{taken, is_held}
 use Rattle.service_vm.specs.Acts.{Did, Entering}
 use Rattle.service_vm.specs.Frames.{Frames}
 use Rattle.service_vm.proofs.Doing.{entering_is, entered_frames, down_did, down_traps}
-use Rattle.service_vm.proofs.Seen.{KeyThere, key_there}
+use Rattle.service_vm.proofs.Seen.{key_there}
 use Rattle.service_vm.proofs.run.Run.call_down.Goals as goal
 
 pub begin-requires-clause-args : goal.begin-requires-clause-args

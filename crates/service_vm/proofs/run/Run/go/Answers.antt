@@ -1,4 +1,4 @@
-use Rattle.std.proofs.Common.{◌≡◌, [], ◌∷◌, ◌++◌, Bool, Some, ap, sym, ◌∙◌, subst, rules, w64, to_z, of_z}
+use Rattle.std.proofs.Common.{◌≡◌, [], ◌∷◌, ◌++◌, Some, ap, sym, ◌∙◌, subst, rules, w64, to_z, of_z}
 use Rattle.std.specs.Prelude.{nat_lt}
 use Rattle.wave_base.specs.declared.limits.TheConstants.{CONTEXTS}
 use Rattle.wave_base.specs.declared.pause.Pause.TheVariants as pause

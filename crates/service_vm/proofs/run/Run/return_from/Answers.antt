@@ -1,4 +1,4 @@
-use Rattle.std.proofs.Common.{◌≡◌, ap, sym, ◌∙◌}
+use Rattle.std.proofs.Common.{sym, ◌∙◌}
 use Rattle.service_vm.proofs.Doing.{closed, return_runs, return_pauses}
 use Rattle.service_vm.proofs.run.Run.return_from.Goals as goal
 
