@@ -4,7 +4,8 @@ ghost use Rattle.wave_base.specs.declared.limits.TheConstants.{GENERATION};
 ghost use Rattle.wave_base.specs.Scripts.{IsCall};
 ghost use Rattle.service_verify.specs.Boxes.{first_box, blank_of};
 ghost use Rattle.service_verify.specs.Fit.{IsFit};
-ghost use Rattle.service_verify.specs.Standing.{HasFields, Stands};
+ghost use Rattle.service_verify.specs.Points.{IsVerified};
+ghost use Rattle.service_verify.specs.Standing.{HasFields, Stands, Leaves};
 ghost use Rattle.service_vm.specs.Boxes.{Segment};
 
 use crate::act::function;
@@ -114,7 +115,22 @@ pub fn segment(
     requires fit { IsFit program.now }
     requires stands { (path : Path) × (calls : ℕ) × Stands program.now path calls event.old × HasFields program.now.shape path body.old.fields }
     ensures segment { IfOk result (λ why. Segment program.now event.old body.old.fields event.new body.new.fields why) }
+    ensures leaves { IfOk result (λ why. (path : Path) (calls : ℕ) → Stands program.now path calls event.old → HasFields program.now.shape path body.old.fields → HasFields program.now.shape path body.new.fields × Leaves program.now path calls event.new why) }
     ensures children { body.new.children ≡ body.old.children }
+{
+    run_to_pause(program, event, body)
+}
+
+fn run_to_pause(
+    program: &Verified,
+    event: &mut EventBox,
+    body: &mut Record,
+) -> Result<Pause, OutOfMemory>
+    requires fit { IsFit program.now }
+    requires stands { (path : Path) × (calls : ℕ) × Stands program.now path calls event.old × HasFields program.now.shape path body.old.fields }
+    ensures segment { IfOk result (λ why. Segment program.now event.old body.old.fields event.new body.new.fields why) }
+    ensures children { body.new.children ≡ body.old.children }
+    ensures verified { IsVerified program.now }
 {
     let why = event.run.pause(program.program(), &mut body.fields)?;
     match &why {
