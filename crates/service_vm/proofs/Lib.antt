@@ -1,0 +1,6 @@
+pub mod Counting
+pub mod Doing
+pub mod Events
+pub mod Finding
+pub mod Leading
+pub mod Seen

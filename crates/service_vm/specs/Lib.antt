@@ -1,0 +1,4 @@
+pub mod Acts
+pub mod Boxes
+pub mod Frames
+pub mod Windows

@@ -1,0 +1,160 @@
+ghost use Rattle.std.specs.Prelude.{◌≡◌, ◌≤◌, ℕ, [], length, map, drop, Some, IsSome, IfOk, IfErr, slice_get};
+ghost use Rattle.wave_base.specs.declared.path.Path.{Path};
+ghost use Rattle.wave_base.specs.declared.limits.TheConstants.{GENERATION};
+ghost use Rattle.wave_base.specs.Scripts.{IsCall};
+ghost use Rattle.service_verify.specs.Boxes.{first_box, blank_of};
+ghost use Rattle.service_verify.specs.Fit.{IsFit};
+ghost use Rattle.service_verify.specs.Points.{IsVerified};
+ghost use Rattle.service_verify.specs.Standing.{HasFields, Stands, Leaves};
+ghost use Rattle.service_vm.specs.Boxes.{Segment};
+
+use crate::act::function;
+use crate::frames::{Frames, add_blanks};
+use crate::held::Held;
+use crate::run::Run;
+use deferred_out::Outputs;
+use downgrade_views::Views;
+use service_code::{Function, Program};
+use service_verify::Verified;
+use std::alloc::Global;
+use std::marker::Model;
+use wave_base::{Call, OutOfMemory, Path, Pause, Record, Seq, TICKS, Ticket, Value};
+
+/// An event between its segments. It is of one program, which each of its calls is given.
+#[derive(Debug, Drop)]
+pub struct EventBox {
+    run: Run,
+    ended: bool,
+}
+
+impl Model for EventBox {
+    ghost use Rattle.deferred_out.specs.Kept.{IsKept};
+    ghost use Rattle.service_verify.specs.Segments.{Event};
+    ghost use Rattle.service_vm.specs.Boxes.{event_in};
+
+    ghost Value = { Event };
+
+    ghost view = { λ e. event_in e.ended e.run };
+
+    ghost invariant = { λ e. IsKept e.run.outputs };
+}
+
+impl EventBox {
+    /// The event that a call begins, at the root. Its ticket is the machine's business alone. Where memory is wanting the
+    /// call comes back.
+    pub fn new(
+        alloc: Global,
+        program: &Verified,
+        _ticket: Ticket,
+        call: Call,
+    ) -> Result<EventBox, (Call, OutOfMemory)>
+        requires fit { IsFit program.now }
+        requires call { IsCall program.now.shape call }
+        requires generation { call.generation ≤ GENERATION }
+        ensures event { IfOk result (λ e. e ≡ record { box = first_box program.now call; levels = [] }) }
+        ensures stands { IfOk result (λ e. Stands program.now [] 0 e) }
+        ensures back { IfErr result (λ e. e.0 ≡ call) }
+    {
+        let program = program.program();
+        let number = event_function(program, call.event);
+        let function = function(program, number);
+        let mut blanks = match blanks(alloc, function, call.args.len()) {
+            Ok(blanks) => blanks,
+            Err(e) => return Err((call, e)),
+        };
+        let held = match Held::root(alloc) {
+            Ok(held) => held,
+            Err(e) => return Err((call, e)),
+        };
+        let Call {
+            event,
+            args,
+            generation,
+        } = call;
+        let mut locals = args.into_vec();
+        if locals.append(&mut blanks).is_err() {
+            let args = Seq::from_vec(locals);
+            return Err((
+                Call {
+                    event,
+                    args,
+                    generation,
+                },
+                OutOfMemory,
+            ));
+        }
+        let run = Run {
+            frames: Frames::first(alloc, number, locals),
+            views: Views::new(alloc),
+            outputs: Outputs::new(alloc),
+            ticks: TICKS,
+            path: Path::root(),
+            held,
+            entered: 1,
+            generation,
+            alloc,
+        };
+        Ok(EventBox { run, ended: false })
+    }
+
+    /// The context where it runs next, or where it ended.
+    pub fn path(&self) -> Path
+        ensures { result ≡ self.now.box.path }
+    {
+        self.run.path
+    }
+}
+
+/// Runs an event to its next pause, on the record of the context where it is. After want of memory event and record are
+/// only to be dropped.
+pub fn segment(
+    program: &Verified,
+    event: &mut EventBox,
+    body: &mut Record,
+) -> Result<Pause, OutOfMemory>
+    requires fit { IsFit program.now }
+    requires stands { (path : Path) × (calls : ℕ) × Stands program.now path calls event.old × HasFields program.now.shape path body.old.fields }
+    ensures segment { IfOk result (λ why. Segment program.now event.old body.old.fields event.new body.new.fields why) }
+    ensures leaves { IfOk result (λ why. (path : Path) (calls : ℕ) → Stands program.now path calls event.old → HasFields program.now.shape path body.old.fields → HasFields program.now.shape path body.new.fields × Leaves program.now path calls event.new why) }
+    ensures children { body.new.children ≡ body.old.children }
+{
+    run_to_pause(program, event, body)
+}
+
+fn run_to_pause(
+    program: &Verified,
+    event: &mut EventBox,
+    body: &mut Record,
+) -> Result<Pause, OutOfMemory>
+    requires fit { IsFit program.now }
+    requires stands { (path : Path) × (calls : ℕ) × Stands program.now path calls event.old × HasFields program.now.shape path body.old.fields }
+    ensures segment { IfOk result (λ why. Segment program.now event.old body.old.fields event.new body.new.fields why) }
+    ensures children { body.new.children ≡ body.old.children }
+    ensures verified { IsVerified program.now }
+{
+    let why = event.run.pause(program.program(), &mut body.fields)?;
+    match &why {
+        Pause::Go(_) | Pause::Down(_) => event.run.views.leave(body)?,
+        Pause::Back => event.run.views.back(),
+        Pause::Over(_) => event.ended = true,
+    }
+    Ok(why)
+}
+
+// The function of an event.
+fn event_function(program: &Program, event: u16) -> u16
+    requires { IsSome (slice_get program.now.events event) }
+    ensures { slice_get program.now.events event ≡ Some result }
+{
+    program.events.as_slice()[event as usize]
+}
+
+// The locals of a function that come after so many arguments, as they begin.
+fn blanks(alloc: Global, function: &Function, count: usize) -> Result<Vec<Value>, OutOfMemory>
+    requires { count ≤ length function.now.locals }
+    ensures { IfOk result (λ locals. locals.items ≡ map blank_of (drop count function.now.locals)) }
+{
+    let mut locals = Vec::new(alloc);
+    add_blanks(alloc, &mut locals, &function.locals.as_slice()[count..])?;
+    Ok(locals)
+}

@@ -1,0 +1,15 @@
+//! The machine that runs verified code: an event between its segments, and a segment to its next pause.
+#![tactic(auto)]
+
+mod act;
+mod control;
+mod event;
+mod frames;
+mod held;
+mod outputs;
+mod places;
+mod run;
+mod step;
+mod values;
+
+pub use event::{EventBox, segment};

@@ -1,0 +1,123 @@
+ghost use Rattle.std.specs.Prelude.{◌≡◌, ◌<◌, ◌^◌, ◌∷◌, List, Some, None, true, false, suc, nat_lt, IfOk, OnOk};
+ghost use Rattle.std.specs.BTreeSet.{insert_key};
+ghost use Rattle.wave_base.specs.declared.limits.TheConstants.{CONTEXTS};
+ghost use Rattle.wave_base.specs.declared.value.Value.{Value};
+ghost use Rattle.wave_base.specs.Paths.{path_cmp};
+ghost use Rattle.service_verify.specs.Steps.{is_held, trapped, finished};
+ghost use Rattle.service_vm.specs.Acts.{box_of, moved, Settled, Stays};
+ghost use Rattle.service_vm.specs.Frames.{moved_on};
+
+use crate::frames::Frames;
+use crate::held::Held;
+use deferred_out::Outputs;
+use downgrade_views::Views;
+use std::alloc::Global;
+use value_ops::OpError;
+use wave_base::{
+    CONTEXTS, EventResult, OutOfMemory, Outcome, Path, Pause, Seq, Span, Trap, TrapKind, Value,
+};
+
+/// An event that isn't over: its frames, its copies of what stands above it, what it sent and created, the ticks that it
+/// has left, where it is, what it holds, how many contexts it has entered, and its generation.
+#[derive(Debug, Drop)]
+pub struct Run {
+    pub frames: Frames,
+    pub views: Views,
+    pub outputs: Outputs,
+    pub ticks: u32,
+    pub path: Path,
+    pub held: Held,
+    pub entered: usize,
+    pub generation: u8,
+    pub alloc: Global,
+}
+
+impl Run {
+    /// Puts a value on the stack, and goes on.
+    pub fn give(&mut self, x: Value) -> Result<(), OutOfMemory>
+        requires { self.old.frames.top.place < 2 ^ 63 }
+        ensures given { OnOk result (self.new ≡ record self.old { frames = moved_on self.old.frames (x ∷ self.old.frames.top.stack) }) }
+        ensures stays { Stays self.old self.new }
+    {
+        self.frames.push(x)?;
+        self.frames.advance();
+        Ok(())
+    }
+
+    /// Puts a value on the stack, and goes on without a pause.
+    pub fn put(&mut self, x: Value) -> Result<Option<Pause>, OutOfMemory>
+        requires { self.old.frames.top.place < 2 ^ 63 }
+        ensures put { OnOk result (self.new ≡ record self.old { frames = moved_on self.old.frames (x ∷ self.old.frames.top.stack) }) }
+        ensures runs { IfOk result (λ p. p ≡ None) }
+        ensures stays { Stays self.old self.new }
+    {
+        self.give(x)?;
+        Ok(None)
+    }
+
+    /// The end by a trap at a place of the service text, which throws away what the event sent and created.
+    pub fn trap(&mut self, kind: TrapKind, at: Span) -> Pause
+        ensures trapped { (fields : List Value) → trapped kind at (box_of self.old) fields ≡ moved (Some result) self.new fields }
+        ensures stays { Stays self.old self.new }
+    {
+        self.outputs.discard();
+        Pause::Over(EventResult {
+            outcome: Outcome::Trapped(Trap { kind, at }),
+            messages: Seq::new(self.alloc),
+            created: Seq::new(self.alloc),
+        })
+    }
+
+    /// Goes on, or traps, after a change of a map.
+    pub fn settle(
+        &mut self,
+        changed: Result<(), OpError>,
+        at: Span,
+    ) -> Result<Option<Pause>, OutOfMemory>
+        requires { self.old.frames.top.place < 2 ^ 63 }
+        ensures settled { IfOk result (λ p. Settled changed at self.old p self.new) }
+        ensures stays { Stays self.old self.new }
+    {
+        match changed {
+            Ok(()) => {
+                self.frames.advance();
+                Ok(None)
+            }
+            Err(OpError::Trap(kind)) => Ok(Some(self.trap(kind, at))),
+            Err(OpError::OutOfMemory) => Err(OutOfMemory),
+        }
+    }
+
+    /// The end by itself, with what the event sent and created.
+    pub fn finish(&mut self, outcome: Outcome) -> Pause
+        ensures finished { (fields : List Value) → finished outcome (box_of self.old) fields ≡ moved (Some result) self.new fields }
+        ensures stays { Stays self.old self.new }
+    {
+        let (messages, created) = self.outputs.take();
+        Pause::Over(EventResult {
+            outcome,
+            messages,
+            created,
+        })
+    }
+
+    /// Enters a context that isn't held yet. It says no where the event has entered as many as it may.
+    pub fn enter(&mut self, path: Path) -> Result<bool, OutOfMemory>
+        ensures entered { IfOk result (λ entered. is_held self.old.held path ≡ false → entered ≡ nat_lt self.old.entered CONTEXTS) }
+        ensures is_held { IfOk result (λ entered. is_held self.old.held path ≡ true → entered ≡ true) }
+        ensures held { OnOk result (is_held self.old.held path ≡ true → self.new ≡ self.old) }
+        ensures full { OnOk result (is_held self.old.held path ≡ false → nat_lt self.old.entered CONTEXTS ≡ false → self.new ≡ self.old) }
+        ensures new { OnOk result (is_held self.old.held path ≡ false → nat_lt self.old.entered CONTEXTS ≡ true → self.new ≡ record self.old { held = insert_key path_cmp self.old.held path; entered = suc self.old.entered }) }
+        ensures stays { Stays self.old self.new }
+    {
+        if self.held.contains(&path) {
+            return Ok(true);
+        }
+        if self.entered >= CONTEXTS {
+            return Ok(false);
+        }
+        self.held.insert(path)?;
+        self.entered += 1;
+        Ok(true)
+    }
+}
