@@ -2,3 +2,4 @@ pub mod Lines
 pub mod Runs
 pub mod Owed
 pub mod Visiting
+pub mod Standing

@@ -4,13 +4,13 @@ ghost use Rattle.std.specs.Prelude.{◌≡◌, ◌≤◌, ◌++◌, ◌∷◌, �
 ghost use Rattle.std.specs.List.Sorted.{IsStrictlySortedBy};
 ghost use Rattle.wave_base.specs.declared.path.Path.{Path};
 ghost use Rattle.wave_base.specs.Paths.{path_cmp, parent_of};
-ghost use Rattle.wave_base.specs.Places.{with_context, with_contexts};
+ghost use Rattle.wave_base.specs.Places.{with_context, with_contexts, after_job, move_in};
 ghost use Rattle.wave_base.specs.Tree.{Tree, put, there};
-ghost use Rattle.script_fold.specs.Visiting.{IsVisited, visit_at, visit_by, counted, hosts_of, place_in};
+ghost use Rattle.script_fold.specs.Visiting.{IsVisited, IsMoveWithin, visit_at, visit_by, counted, hosts_of, place_in};
 
 use std::alloc::Global;
 use std::collections::BTreeMap;
-use wave_base::{Host, OutOfMemory, Path, Place, Seq};
+use wave_base::{Host, OutOfMemory, Outcome, Path, Place, Seq};
 
 /// A context's host, how many jobs entered it, and the last of them, where the first job of the run is 1.
 #[derive(Clone, Copy)]
@@ -96,8 +96,8 @@ impl Visits {
         Ok(())
     }
 
-    /// The contexts that a job enters.
-    pub fn enter_all(&mut self, job: u64, paths: &[Path]) -> Result<(), OutOfMemory>
+    // The contexts that a job enters.
+    fn enter_all(&mut self, job: u64, paths: &[Path]) -> Result<(), OutOfMemory>
         requires { (hosts : Tree ℕ) × (earlier : List (List Path)) × (job ≡ suc (length earlier)) × IsVisited hosts earlier [] self.old.contexts.entries }
         ensures { (hosts : Tree ℕ) (earlier : List (List Path)) → job ≡ suc (length earlier) → IsVisited hosts earlier [] self.old.contexts.entries → OnOk result (IsVisited (with_contexts hosts paths.now) (earlier ++ paths.now ∷ []) [] self.new.contexts.entries) }
     {
@@ -107,12 +107,30 @@ impl Visits {
         Ok(())
     }
 
-    /// A context that is there moves to a host.
-    pub fn set_host(&mut self, path: &Path, host: Host)
+    /// What a job entered, and then the move that it tells.
+    pub fn after_job(
+        &mut self,
+        job: u64,
+        paths: &[Path],
+        outcome: &Outcome,
+    ) -> Result<(), OutOfMemory>
+        requires { (hosts : Tree ℕ) × (earlier : List (List Path)) × (job ≡ suc (length earlier)) × IsVisited hosts earlier [] self.old.contexts.entries }
+        ensures { (hosts : Tree ℕ) (earlier : List (List Path)) → job ≡ suc (length earlier) → IsVisited hosts earlier [] self.old.contexts.entries → IsMoveWithin hosts paths.now outcome.now → OnOk result (IsVisited (after_job hosts paths.now (move_in outcome.now)) (earlier ++ paths.now ∷ []) [] self.new.contexts.entries) }
+    {
+        self.enter_all(job, paths)?;
+        if let Outcome::Moved(path, host) = outcome {
+            self.set_host(path, *host);
+        }
+        Ok(())
+    }
+
+    // A context that is there moves to a host.
+    fn set_host(&mut self, path: &Path, host: Host)
         ensures { (hosts : Tree ℕ) (earlier : List (List Path)) → there hosts path.now ≡ true → IsVisited hosts earlier [] self.old.contexts.entries → IsVisited (put hosts path.now host.0) earlier [] self.new.contexts.entries }
     {
-        if let Some(visit) = self.contexts.get_mut(path) {
-            visit.host = host;
+        match self.contexts.get_mut(path) {
+            Some(visit) => visit.host = host,
+            None => {}
         }
     }
 
