@@ -1,5 +1,6 @@
 -- A context that a job enters, and the end of the job.
-use Rattle.std.proofs.Common.{◌≡◌, ◌≢◌, ◌≤◌, ◌+◌, ◌==◌, ℕ, suc, Bool, true, false, if◌then◌else◌, refl, sym, ap, ◌∙◌, arith, eq-eqb, ne_eqb, eqb-false, add-zero}
+use Rattle.std.proofs.Common.{◌≡◌, ◌≢◌, ◌≤◌, ◌+◌, ◌==◌, ℕ, suc, Bool, true, false, if◌then◌else◌, refl, sym, ap, ◌∙◌, arith, eq-eqb, ne_eqb, add-zero}
+use Rattle.std.proofs.lemmas.Bool.{eqb-false}
 use Rattle.wave_base.specs.declared.numbers.Host.{Host}
 use Rattle.script_fold.specs.declared.visits.Visit.{Visit}
 use Rattle.script_fold.specs.Visiting.{IsSeen, counted, unseen}

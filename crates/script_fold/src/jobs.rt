@@ -1,6 +1,6 @@
 //! A job, run whole on the tree.
 
-ghost use Rattle.std.specs.Prelude.{◌≡◌, ◌++◌, ◌∷◌, [], filter, IsTrue, IfOk, OnOk};
+ghost use Rattle.std.specs.Prelude.{◌≡◌, ◌++◌, ◌∷◌, [], filter, map, IfOk, OnOk};
 ghost use Rattle.context_tree.specs.Contexts.{tree_of, is_there};
 ghost use Rattle.head_tickets.specs.Heads.{line_of};
 ghost use Rattle.resolved_service.specs.Jobs.{fronts, move_ran, snapshot_ran, only};
@@ -11,7 +11,7 @@ use crate::runner::Runner;
 use context_tree::Tree;
 use head_tickets::Job;
 use std::alloc::Global;
-use wave_base::{EventResult, Host, OutOfMemory, Outcome, Path, Seq};
+use wave_base::{EventResult, Host, OutOfMemory, Outcome, Path, Seq, Shot};
 
 /// Runs a job. Gives its result, and the paths that it entered, in order.
 pub fn run_job<R: Runner>(
@@ -68,8 +68,18 @@ fn run_snapshot(alloc: Global, contexts: &Tree) -> Result<(EventResult, Vec<Path
     ensures entered { (shape : Shape) → IfOk result (λ r. r.1.items ≡ (snapshot_ran (tree_of shape contexts.now)).entered) }
 {
     let shots = contexts.shots(alloc)?;
-    let entered = shots.as_slice().iter().map(|s| s.path).collect(alloc)?;
+    let entered = paths_of(alloc, shots.as_slice())?;
     Ok((only(alloc, Outcome::Shots(shots)), entered))
+}
+
+fn paths_of(alloc: Global, shots: &[Shot]) -> Result<Vec<Path>, OutOfMemory>
+    ensures { IfOk result (λ v. v.items ≡ map (λ s. s.path) shots.now) }
+{
+    let mut paths = Vec::new(alloc);
+    for shot in shots {
+        paths.push(shot.path)?;
+    }
+    Ok(paths)
 }
 
 // A result with nothing sent and nothing created.

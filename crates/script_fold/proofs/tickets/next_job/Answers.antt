@@ -8,7 +8,7 @@ returns-then-not-is_left-clause-none c = λ _ first done w s. c.is_left.ensures.
 
 pub admit-job-requires : goal.admit-job-requires
 admit-job-requires c =
-    let ready = c.is_left.ensures.left c.requires.0 c.requires.1.0 c.requires.1.1.0 c.requires.1.1.1 c.if-not-is_left.false in
+    let ready = c.is_left.ensures.left c.requires.0 c.requires.1 c.requires.2 c.requires.3 c.if-not-is_left.false in
     some_waits (λ _. record { 0 = c.is_left.new.head.first + c.is_left.new.head.admitted }) c.is_left.new.head.waiting ready.waiting
 
 pub returns-clause-some : goal.returns-clause-some

@@ -8,7 +8,7 @@ returns-in-Some c =
     λ hosts earlier t h.
     let w : Visit = record { host = c.args.host; load = c.in-Some.visit.now.load; last = c.in-Some.visit.now.last } in
     moved_visited hosts earlier c.args.self.now.contexts.entries (c.get_mut.follows.lender w).entries c.args.path.now c.in-Some.visit.now c.args.host h (sym c.in-Some.ensures.value)
-    (c.get_mut.follows.holds w).1.0 ((c.get_mut.follows.holds w).1.1.1.0 (ap is_some (sym c.in-Some.ensures.value))).0
+    (c.get_mut.follows.holds w).1 ((c.get_mut.follows.holds w).3 (ap is_some (sym c.in-Some.ensures.value))).0
 
 pub returns-in-None : goal.returns-in-None
 returns-in-None c = λ hosts earlier t h. absurd (not_found hosts earlier c.args.self.now.contexts.entries c.args.path.now h t (sym c.in-None.ensures.value))
