@@ -75,7 +75,7 @@ batches_most (b ∷ bs) = omega (arith, lines_most b, batches_most bs, sum_by-co
 
 -- ---- heads
 
-left_in : Head Line → ℕ
+pub left_in : Head Line → ℕ
 left_in h = sum_by most_of (drop h.done h.known) + most_jobs h.later
 
 record Next (F : Line → Type 0) (h n : Head Line) : Type 0 where
@@ -218,8 +218,8 @@ module _ (shape : Shape) (meaning : Meaning) (FitsTree : Tree (List Value) → T
     line_few Snapshot h = omega arith
 
     calls_most : (g : ℕ) (created : List Call) → All FitsCall created → All (λ (d : Call). d.generation ≡ suc g) created → length created ≤ SPAWNS → sum_by most_of (map (λ c. Request c) created) + 1 ≤ most_events (GENERATION - g)
-    calls_most g [] fit later few = most_some (GENERATION - g)
     unfolding most_events
+    calls_most g [] fit later few = most_some (GENERATION - g)
     calls_most g (d ∷ ds) fit later few =
         let last : d.generation ≤ GENERATION = owed.last d (All-head FitsCall d ds fit) in
         let first_is : d.generation ≡ suc g = All-head (λ (d : Call). d.generation ≡ suc g) d ds later in
@@ -357,7 +357,7 @@ module _ (meaning : Meaning) (shape : Shape) (start : Start) (script : Script) w
       by_job (Some j) e = cc
 
   stays_long : (n m : ℕ) → is_over (after_jobs meaning shape start script n) ≡ true → after_jobs meaning shape start script (m + n) ≡ after_jobs meaning shape start script n
-  stays_long n zero e = ap (after_jobs meaning shape start script) (omega arith)
+  stays_long n zero e = let none : zero + n ≡ n = omega arith in ap (after_jobs meaning shape start script) none
   stays_long n (suc m) e =
       let more : suc m + n ≡ suc (m + n) = omega arith in
       let before = stays_long n m e in
