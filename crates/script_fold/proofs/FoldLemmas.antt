@@ -91,6 +91,7 @@ next_keeps F h l = by_test (nat_lt h.done (length h.known)) refl
   where
     same : Next F h h
     same = record { done = refl; within = l; left = refl; known = λ k b. k; later = λ b. b }
+
     by_later : (bs : List (List Line)) → h.later ≡ bs → h.done ≡ length h.known → Next F h (begun h bs)
     by_later [] e d = same
     by_later (b ∷ bs) e d =
@@ -106,6 +107,7 @@ next_keeps F h l = by_test (nat_lt h.done (length h.known)) refl
           known = λ k a. All-append F h.known b k (All-head (All F) b bs (subst (All (All F)) e a));
           later = λ a. All-tail (All F) b bs (subst (All (All F)) e a);
         }
+
     by_test : (t : Bool) → nat_lt h.done (length h.known) ≡ t → Next F h (if t then h else begun h h.later)
     by_test true e = same
     by_test false e = by_later h.later refl (omega (arith, l, ltb-false h.done (length h.known) e))
@@ -121,16 +123,16 @@ All-drop_head F (x ∷ xs) zero j e h = let same : x ≡ j = cc in subst F same 
 All-drop_head F (x ∷ xs) (suc i) j e h = All-drop_head F xs i j e (All-tail F x xs h)
 
 -- one job is done
-module _ (F : Line → Type 0) (h : Head Line) (j : Line) (created : List Line) (is : slice_get h.known h.done ≡ Some j) where
-  abbrev grown : Head Line
-  grown = record { known = h.known ++ created; later = h.later; done = suc h.done }
+abbrev grown : Head Line → List Line → Head Line
+grown h created = record { known = h.known ++ created; later = h.later; done = suc h.done }
 
-  done_next : Next F grown (with_done h created)
+module _ (F : Line → Type 0) (h : Head Line) (j : Line) (created : List Line) (is : slice_get h.known h.done ≡ Some j) where
+  done_next : Next F (grown h created) (with_done h created)
   done_next =
       let l : h.done < length h.known = slice_get_within h.known h.done j is in
-      next_keeps F grown (omega (arith, l, length-append h.known created))
+      next_keeps F (grown h created) (omega (arith, l, length-append h.known created))
 
-  grown_left : left_in grown + most_of j ≡ left_in h + sum_by most_of created
+  grown_left : left_in (grown h created) + most_of j ≡ left_in h + sum_by most_of created
   unfolding left_in
   grown_left =
       let l : h.done < length h.known = slice_get_within h.known h.done j is in
@@ -155,10 +157,12 @@ there_context t q p h = by_there (there t q) refl
     by_old : (a b : Bool) → (a || b) ≡ true → (b || a) ≡ true
     by_old true b e = or_true b
     by_old false b e = ap (λ c. c || false) e
+
     known : there t q ≡ true → (a b : Bool) → there t p ≡ a → path_eq p q ≡ b → (a || b) ≡ true → there t p ≡ true
     known s true b e f o = e
     known s false true e f o = ap (there t) ((path_eq_decides p q).0 f) ∙ s
     known s false false e f o = absurd (true≢false (sym o))
+
     by_there : (b : Bool) → there t q ≡ b → there (if b then t else put (enter t q) q (t.fields (parent_of q))) p ≡ true
     by_there true s = known s (there t p) (path_eq p q) refl refl h
     by_there false s = there-enter t q p ∙ by_old (there t p) (path_eq p q) h
@@ -175,6 +179,7 @@ there_contexts t (q ∷ ps) p h = there_contexts (with_context t q) ps p (by_res
     split true b e = refl
     split false true e = refl
     split false false e = e
+
     by_rest : (r : Bool) → list_any (path_eq p) ps ≡ r → (there (with_context t q) p || r) ≡ true
     by_rest true e = or_true (there (with_context t q) p)
     by_rest false e = ap (λ b. b || false) (there_context t q p (split (there t p) (path_eq p q) (ap (λ r. there t p || (path_eq p q || r)) (sym e) ∙ h)))
@@ -288,8 +293,8 @@ module _ (shape : Shape) (meaning : Meaning) (FitsTree : Tree (List Value) → T
           results = omega (arith, next.done, good.results, length-append w.results (x.result ∷ []));
           entered = omega (arith, next.done, good.entered, length-append w.entered (x.entered ∷ []));
           covered = λ p e.
-          let known : (there (hosts_after start w) p || list_any (path_eq p) x.entered) ≡ true = by_old w good p x.entered (line_joined ticket w.tree good.tree j fits p e) in
-          ap (λ (t : Tree ℕ). there t p) (hosts_push w x (good.entered ∙ sym good.results)) ∙ there_move (with_contexts (hosts_after start w) x.entered) (move_of x.result) p ∙ there_contexts (hosts_after start w) x.entered p known;
+              let known : (there (hosts_after start w) p || list_any (path_eq p) x.entered) ≡ true = by_old w good p x.entered (line_joined ticket w.tree good.tree j fits p e) in
+              ap (λ (t : Tree ℕ). there t p) (hosts_push w x (good.entered ∙ sym good.results)) ∙ there_move (with_contexts (hosts_after start w) x.entered) (move_of x.result) p ∙ there_contexts (hosts_after start w) x.entered p known;
           heads = ap (head_after (first_head script.batches)) (map-append created_lines w.results (x.result ∷ [])) ∙ head_push (first_head script.batches) (map created_lines w.results) created ∙ ap (λ h. with_done h created) good.heads;
         }
       where
@@ -297,6 +302,7 @@ module _ (shape : Shape) (meaning : Meaning) (FitsTree : Tree (List Value) → T
         by_test true b c h e = ap (λ c. c || b) (h refl)
         by_test false true c h e = or_true c
         by_test false false c h e = absurd (true≢false (sym e))
+
         by_old : (w : Progress (List Value) EventResult Line) → IsGood w → (p : Path) (ps : List Path) → (there w.tree p || list_any (path_eq p) ps) ≡ true → (there (hosts_after start w) p || list_any (path_eq p) ps) ≡ true
         by_old w good p ps e = by_test (there w.tree p) (list_any (path_eq p) ps) (there (hosts_after start w) p) (good.covered p) e
 

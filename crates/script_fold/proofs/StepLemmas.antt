@@ -60,7 +60,7 @@ shots_again [] = refl
 shots_again (x ∷ xs) = ap (λ xs. x ∷ xs) (shots_again xs)
 
 module _ (shape : Shape) (meaning : Meaning) (FitsTree : Tree (List Value) → Type 0) (FitsCall : Call → Type 0) (owed : Owed shape meaning FitsTree FitsCall) (start : Start) (script : Script) (f : Folding)
-         (s : Stands meaning shape start script f) where
+    (s : Stands meaning shape start script f) where
   abbrev pub here : Progress (List Value) EventResult Line
   here = after_jobs meaning shape start script (length s.done)
 
@@ -152,8 +152,8 @@ module _ (shape : Shape) (meaning : Meaning) (FitsTree : Tree (List Value) → T
                   ∙ sym (made_push start.next.0 (first_head script.batches) (map created_lines here.results) (created_lines ran.result)) ∙ ap (made start.next.0 (first_head script.batches)) (sym known);
               names = names ∙ (λ i. s.kept.names i ++ name_is i ∷ []) ∙ sym (map-append name_of s.done (line ∷ []));
               visits = subst (λ (t : Tree ℕ). IsVisited t (here.entered ++ ran.entered ∷ []) [] g.visits.contexts.entries) (sym hosts_further)
-              (subst (λ (r : EventResult). IsVisited (after_job (hosts_after start here) ran.entered (move_of r)) (here.entered ++ ran.entered ∷ []) [] g.visits.contexts.entries) result_ran
-              (subst (λ (ps : List Path). IsVisited (after_job (hosts_after start here) ps (move_of result)) (here.entered ++ ps ∷ []) [] g.visits.contexts.entries) paths_ran visits));
+                  (subst (λ (r : EventResult). IsVisited (after_job (hosts_after start here) ran.entered (move_of r)) (here.entered ++ ran.entered ∷ []) [] g.visits.contexts.entries) result_ran
+                  (subst (λ (ps : List Path). IsVisited (after_job (hosts_after start here) ps (move_of result)) (here.entered ++ ps ∷ []) [] g.visits.contexts.entries) paths_ran visits));
             } in
             let more : length further.results ≡ further.head.done = good_further.results in
             let one : length further.results ≡ suc (length here.results) = omega (arith, length-append here.results (ran.result ∷ [])) in
@@ -164,6 +164,6 @@ module _ (shape : Shape) (meaning : Meaning) (FitsTree : Tree (List Value) → T
               start_fits = s.start_fits;
               few = omega (arith, count, more, one, so_far, good.results, good_further.left);
               head = subst (λ (w : Progress (List Value) EventResult Line). IsWaiting start.next.0 (s.done ++ line ∷ []) w.head g.head) (sym there_is)
-              (subst (λ (ls : List Line). IsWaiting start.next.0 (s.done ++ line ∷ []) (with_done here.head ls) g.head) created waiting);
+                  (subst (λ (ls : List Line). IsWaiting start.next.0 (s.done ++ line ∷ []) (with_done here.head ls) g.head) created waiting);
               kept = subst (λ (w : Progress (List Value) EventResult Line). IsKept meaning shape start script (s.done ++ line ∷ []) w g) (sym there_is) kept;
             }

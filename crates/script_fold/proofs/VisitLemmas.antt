@@ -73,7 +73,7 @@ abbrev pub Sets : Entries → Entries → Path → Visit → Type 0
 Sets es after p v = (q : Path) → found after q ≡ cond (is_at (path_cmp p) q) (Some v) (found es q)
 
 module _ (hosts : Tree ℕ) (earlier : List (List Path)) (now : List Path) (es after : Entries) (job : ℕ) (p : Path) (at : job ≡ suc (length earlier)) (h : IsVisited hosts earlier now es)
-         (keys : keys_of after ≡ insert_key path_cmp (keys_of es) p) where
+    (keys : keys_of after ≡ insert_key path_cmp (keys_of es) p) where
   -- a job enters a context that is there
   entered_there : (u : Visit) → found es p ≡ Some u → Sets es after p (counted job u) → IsVisited (with_context hosts p) earlier (now ++ p ∷ []) after
   entered_there u f set =
@@ -89,7 +89,7 @@ module _ (hosts : Tree ℕ) (earlier : List (List Path)) (now : List Path) (es a
         sorted = h.sorted;
         host = changed_by es after p (counted job u) set (λ q v. v.host.0 ≡ hosts.fields q) (ap (λ (v : Visit). v.host.0) (sym u_is) ∙ h.host p) (λ q e. h.host q);
         seen = changed_by es after p (counted job u) set (λ q v. IsSeen (length earlier) (load_of earlier q) (list_any (path_eq q) (now ++ p ∷ [])) v) here
-        (λ q e. subst (λ m. IsSeen (length earlier) (load_of earlier q) m (visit_at es q)) (sym (any_push_no (path_eq q) now p e)) (h.seen q));
+            (λ q e. subst (λ m. IsSeen (length earlier) (load_of earlier q) m (visit_at es q)) (sym (any_push_no (path_eq q) now p e)) (h.seen q));
       } in
       subst (λ (t : Tree ℕ). IsVisited t earlier (now ++ p ∷ []) after) (sym same) visited
 
@@ -109,10 +109,10 @@ module _ (hosts : Tree ℕ) (earlier : List (List Path)) (now : List Path) (es a
         paths = keys ∙ ap (λ ks. insert_key path_cmp ks p) h.paths;
         sorted = enter_sorted hosts p h.sorted;
         host = changed_by es after p v set (λ q v. v.host.0 ≡ (put (enter hosts p) p above).fields q)
-        (ap (λ (v : Visit). v.host.0) v_is ∙ h.host (parent_of p) ∙ sym (ap (λ b. if b then above else hosts.fields p) (path_eq_equiv.refl p)))
-        (λ q e. h.host q ∙ sym (ap (λ b. if b then above else hosts.fields q) (path_eq_equiv.symm p q ∙ e)));
+            (ap (λ (v : Visit). v.host.0) v_is ∙ h.host (parent_of p) ∙ sym (ap (λ b. if b then above else hosts.fields p) (path_eq_equiv.refl p)))
+            (λ q e. h.host q ∙ sym (ap (λ b. if b then above else hosts.fields q) (path_eq_equiv.symm p q ∙ e)));
         seen = changed_by es after p v set (λ q v. IsSeen (length earlier) (load_of earlier q) (list_any (path_eq q) (now ++ p ∷ [])) v) here
-        (λ q e. subst (λ m. IsSeen (length earlier) (load_of earlier q) m (visit_at es q)) (sym (any_push_no (path_eq q) now p e)) (h.seen q));
+            (λ q e. subst (λ m. IsSeen (length earlier) (load_of earlier q) m (visit_at es q)) (sym (any_push_no (path_eq q) now p e)) (h.seen q));
       } in
       subst (λ (t : Tree ℕ). IsVisited t earlier (now ++ p ∷ []) after) (sym same) visited
 
@@ -122,6 +122,7 @@ entered_visited hosts earlier now es after job p at h ins set = by_found (found 
   where
     keys : keys_of after ≡ insert_key path_cmp (keys_of es) p
     keys = ap keys_of ins ∙ keys_joined p (visit_by es job p) es
+
     by_found : (o : Option Visit) → found es p ≡ o → IsVisited (with_context hosts p) earlier (now ++ p ∷ []) after
     by_found (Some u) f = entered_there hosts earlier now es after job p at h keys u f (subst (λ o. Sets es after p (visit_of es job p o)) f set)
     by_found None f = entered_new hosts earlier now es after job p at h keys (visit_of es job p None) refl f (subst (λ o. Sets es after p (visit_of es job p o)) f set)
@@ -135,9 +136,9 @@ moved_visited hosts earlier es after p u host h f keys set =
       paths = keys ∙ h.paths;
       sorted = h.sorted;
       host = changed_by es after p (record { host = host; load = u.load; last = u.last }) set (λ q v. v.host.0 ≡ (put hosts p host.0).fields q) (sym (ap (λ b. if b then host.0 else hosts.fields p) (path_eq_equiv.refl p)))
-      (λ q e. h.host q ∙ sym (ap (λ b. if b then host.0 else hosts.fields q) (path_eq_equiv.symm p q ∙ e)));
+          (λ q e. h.host q ∙ sym (ap (λ b. if b then host.0 else hosts.fields q) (path_eq_equiv.symm p q ∙ e)));
       seen = changed_by es after p (record { host = host; load = u.load; last = u.last }) set (λ q v. IsSeen (length earlier) (load_of earlier q) false v)
-      (seen_elsewhere (length earlier) (load_of earlier p) false u host (subst (IsSeen (length earlier) (load_of earlier p) false) u_is (h.seen p))) (λ q e. h.seen q);
+          (seen_elsewhere (length earlier) (load_of earlier p) false u host (subst (IsSeen (length earlier) (load_of earlier p) false) u_is (h.seen p))) (λ q e. h.seen q);
     }
 
 pub not_found : (hosts : Tree ℕ) (earlier : List (List Path)) (es : Entries) (p : Path) → IsVisited hosts earlier [] es → there hosts p ≡ true → found es p ≡ None → ⊥
@@ -150,9 +151,9 @@ done_visited hosts earlier now es h = record {
   sorted = h.sorted;
   host = h.host;
   seen = λ p.
-  let more : length (earlier ++ now ∷ []) ≡ suc (length earlier) = omega (arith, length-append earlier (now ∷ [])) in
-  let loads : load_of (earlier ++ now ∷ []) p ≡ load_of earlier p + (if list_any (path_eq p) now then 1 else 0) = sum_by_push (λ ps. cond (list_any (path_eq p) ps) 1 0) earlier now in
-  subst₂ (λ n base. IsSeen n base false (visit_at es p)) (sym more) (sym loads) (seen_later (length earlier) (load_of earlier p) (list_any (path_eq p) now) (visit_at es p) (h.seen p));
+      let more : length (earlier ++ now ∷ []) ≡ suc (length earlier) = omega (arith, length-append earlier (now ∷ [])) in
+      let loads : load_of (earlier ++ now ∷ []) p ≡ load_of earlier p + (if list_any (path_eq p) now then 1 else 0) = sum_by_push (λ ps. cond (list_any (path_eq p) ps) 1 0) earlier now in
+      subst₂ (λ n base. IsSeen n base false (visit_at es p)) (sym more) (sym loads) (seen_later (length earlier) (load_of earlier p) (list_any (path_eq p) now) (visit_at es p) (h.seen p));
 }
 
 pub contexts_push : (t : Tree ℕ) (ps : List Path) (p : Path) → with_contexts t (ps ++ p ∷ []) ≡ with_context (with_contexts t ps) p

@@ -61,7 +61,8 @@ impl Folding {
         };
         let (result_, entered) = run_job(alloc, runner, &mut self.contexts, &job)?;
         let number = self.results.len() as u64 + 1;
-        self.visits.after_job(number, entered.as_slice(), &result_.outcome)?;
+        self.visits
+            .after_job(number, entered.as_slice(), &result_.outcome)?;
         let made = give_tickets(alloc, &mut self.head, &result_.created)?;
         self.made.push(made)?;
         self.names.push(name_of(&job))?;

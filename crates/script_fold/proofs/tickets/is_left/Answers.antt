@@ -4,7 +4,6 @@ use Rattle.head_tickets.proofs.TicketLists.{none_waits}
 use Rattle.script_fold.proofs.HeadLemmas.{ready_begun, over_when, none_later}
 use Rattle.script_fold.proofs.tickets.is_left.Goals as goal
 
-
 pub returns-clause-left : goal.returns-clause-left
 returns-clause-left c =
     λ first done w s more.

@@ -28,19 +28,26 @@ after_job-requires g c =
     let r = c.args.runner.now in
     let s = c.requires.2 in
     let w = after_jobs (g.R.Runner.meaning r) (g.R.Runner.shape r) c.requires.0 c.requires.1 (length s.done) in
-    let a = c.in-Some.ensures.some c.requires.0.next.0 s.done w.head s.head in
-    (hosts_after c.requires.0 w, w.entered,
-     more.number_is (g.R.Runner.shape r) (g.R.Runner.meaning r) (g.R.Runner.fits_tree r) (g.R.Runner.fits_call r) (g.met.R.Runner.owed r) c.requires.0 c.requires.1 c.args.self.now s (line_of c.in-Some.job) c.next_job.new.head a c.len.result c.len.ensures,
-     s.kept.visits)
+    let a = c.in-Some.ensures.some c.requires.0.next.0 s.done w.head s.head in (
+      hosts_after c.requires.0 w,
+      w.entered,
+      more.number_is (g.R.Runner.shape r) (g.R.Runner.meaning r) (g.R.Runner.fits_tree r) (g.R.Runner.fits_call r) (g.met.R.Runner.owed r) c.requires.0 c.requires.1 c.args.self.now s (line_of c.in-Some.job) c.next_job.new.head a c.len.result (c.len.ensures ∙ c.args.self.now.results.ok.0),
+      s.kept.visits,
+    )
 
 pub give_tickets-requires : goal.give_tickets-requires
 give_tickets-requires g c =
     let r = c.args.runner.now in
     let s = c.requires.2 in
     let w = after_jobs (g.R.Runner.meaning r) (g.R.Runner.shape r) c.requires.0 c.requires.1 (length s.done) in
-    let a = c.in-Some.ensures.some c.requires.0.next.0 s.done w.head s.head in
-    (c.requires.0.next.0, s.done, line_of c.in-Some.job, w.head, a,
-     more.room (g.R.Runner.shape r) (g.R.Runner.meaning r) (g.R.Runner.fits_tree r) (g.R.Runner.fits_call r) (g.met.R.Runner.owed r) c.requires.0 c.requires.1 c.args.self.now s (line_of c.in-Some.job) c.next_job.new.head a c.in_ok-result_.result_ c.in_ok-result_.ensures.outcome)
+    let a = c.in-Some.ensures.some c.requires.0.next.0 s.done w.head s.head in (
+      c.requires.0.next.0,
+      s.done,
+      line_of c.in-Some.job,
+      w.head,
+      a,
+      more.room (g.R.Runner.shape r) (g.R.Runner.meaning r) (g.R.Runner.fits_tree r) (g.R.Runner.fits_call r) (g.met.R.Runner.owed r) c.requires.0 c.requires.1 c.args.self.now s (line_of c.in-Some.job) c.next_job.new.head a c.in_ok-result_.result_ c.in_ok-result_.ensures.outcome,
+    )
 
 pub returns-clause-stands : goal.returns-clause-stands
 returns-clause-stands g c =
@@ -50,12 +57,12 @@ returns-clause-stands g c =
     let a = c.in-Some.ensures.some start.next.0 s.done w.head s.head in
     let result = c.in_ok-result_.result_ in
     let visits = c.in_ok-after_job.ensures (hosts_after start w) w.entered
-    (more.number_is (g.R.Runner.shape r) (g.R.Runner.meaning r) (g.R.Runner.fits_tree r) (g.R.Runner.fits_call r) (g.met.R.Runner.owed r) start script c.args.self.now s (line_of c.in-Some.job) c.next_job.new.head a c.len.result c.len.ensures)
+    (more.number_is (g.R.Runner.shape r) (g.R.Runner.meaning r) (g.R.Runner.fits_tree r) (g.R.Runner.fits_call r) (g.met.R.Runner.owed r) start script c.args.self.now s (line_of c.in-Some.job) c.next_job.new.head a c.len.result (c.len.ensures ∙ c.args.self.now.results.ok.0))
     s.kept.visits
     (more.move_within (g.R.Runner.shape r) (g.R.Runner.meaning r) (g.R.Runner.fits_tree r) (g.R.Runner.fits_call r) (g.met.R.Runner.owed r) start script c.args.self.now s (line_of c.in-Some.job) c.next_job.new.head a result c.in_ok-result_.ensures.outcome
-     c.in_ok-result_.entered.items c.in_ok-result_.ensures.entered) in
+    c.as_slice.result.now (c.as_slice.ensures.value ∙ c.in_ok-result_.ensures.entered)) in
     more.stands_further (g.R.Runner.shape r) (g.R.Runner.meaning r) (g.R.Runner.fits_tree r) (g.R.Runner.fits_call r) (g.met.R.Runner.owed r) start script c.args.self.now s (line_of c.in-Some.job) c.next_job.new.head a result c.in_ok-result_.ensures.outcome
-    c.in_ok-result_.entered.items c.in_ok-result_.ensures.entered _ c.in_ok-made.made c.name_of.result c.in_ok-result_.ensures.tree (c.in_ok-made.ensures.made start.next.0 s.done (line_of c.in-Some.job) w.head a)
+    c.as_slice.result.now (c.as_slice.ensures.value ∙ c.in_ok-result_.ensures.entered) _ c.in_ok-made.made c.name_of.result c.in_ok-result_.ensures.tree (c.in_ok-made.ensures.made start.next.0 s.done (line_of c.in-Some.job) w.head a)
     (c.in_ok-made.ensures.done start.next.0 s.done (line_of c.in-Some.job) w.head a) c.in_ok-push-3.ensures.items c.in_ok-push.ensures.items c.in_ok-push-2.ensures.items c.name_of.ensures visits
 
 pub returns-clause-done : goal.returns-clause-done
