@@ -112,7 +112,7 @@ next_keeps F h l = by_test (nat_lt h.done (length h.known)) refl
     by_test true e = same
     by_test false e = by_later h.later refl (omega (arith, l, ltb-false h.done (length h.known) e))
 
-next_is : (xs : List Line) (i : ℕ) (j : Line) → slice_get xs i ≡ Some j → drop i xs ≡ j ∷ drop (suc i) xs
+pub next_is : (xs : List Line) (i : ℕ) (j : Line) → slice_get xs i ≡ Some j → drop i xs ≡ j ∷ drop (suc i) xs
 next_is [] i j e = cc
 next_is (x ∷ xs) zero j e = let same : x ≡ j = cc in ap (λ y. y ∷ xs) same
 next_is (x ∷ xs) (suc i) j e = next_is xs i j e

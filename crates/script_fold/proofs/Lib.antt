@@ -6,3 +6,4 @@ pub mod FrontLemmas
 pub mod FoldLemmas
 pub mod StepLemmas
 pub mod StartLemmas
+pub mod MoveLemmas

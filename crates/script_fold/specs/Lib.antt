@@ -3,3 +3,4 @@ pub mod Runs
 pub mod Owed
 pub mod Visiting
 pub mod Standing
+pub mod Moves

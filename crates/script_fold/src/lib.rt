@@ -3,10 +3,12 @@
 
 mod folding;
 mod jobs;
+mod laws;
 mod run;
 mod runner;
 mod tickets;
 mod visits;
 
-pub use run::run_script_at;
+pub use laws::moves_change_no_other_result;
+pub use run::{run_script, run_script_at};
 pub use runner::Runner;

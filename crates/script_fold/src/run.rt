@@ -12,8 +12,9 @@ ghost use Rattle.script_fold.specs.Standing.{Stands, Ended};
 
 use crate::folding::Folding;
 use crate::runner::Runner;
+use context_tree::trees_that_fit;
 use std::alloc::Global;
-use wave_base::{Finished, OutOfMemory, Script, Start};
+use wave_base::{Finished, OutOfMemory, Script, Shape, Start};
 
 /// Runs a script from a start: its jobs in the order of their tickets, each whole.
 pub fn run_script_at<R: Runner>(
@@ -30,4 +31,22 @@ pub fn run_script_at<R: Runner>(
     let mut folding = Folding::begin(alloc, script, start)?;
     while folding.step(alloc, runner)? {}
     folding.end(alloc)
+}
+
+/// Runs a script from the root alone, with its initial values.
+pub fn run_script<R: Runner>(
+    alloc: Global,
+    runner: &R,
+    shape: &Shape,
+    script: &Script,
+) -> Result<Finished, OutOfMemory>
+    requires shape { IsShape shape.now }
+    requires runner { R.shape runner.now ≡ shape.now }
+    requires script { IsScript shape.now script.now }
+    ensures finished { IfOk result (λ f. f ≡ finished_of (R.meaning runner.now) shape.now (first_start shape.now) script.now) }
+    ensures over { IfOk result (λ _. IsTrue (is_over (whole_run (R.meaning runner.now) shape.now (first_start shape.now) script.now))) }
+{
+    trees_that_fit();
+    let start = Start::first(alloc, shape)?;
+    run_script_at(alloc, runner, script, &start)
 }
