@@ -1,0 +1,376 @@
+-- What holds of the fold, however far it has come.
+use Rattle.std.proofs.Common.{◌≡◌, ◌≤◌, ◌<◌, ◌+◌, ◌-◌, ◌*◌, ℕ, zero, suc, Bool, true, false, if◌then◌else◌, ◌||◌, List, [], ◌∷◌, ◌++◌, length, map, drop, sum_by, Option, Some, None, is_none, slice_get, All, zip, nat_lt, refl, sym, ap, subst, ◌∙◌, arith, length-append, length-drop, ◌^◌, ltb-true, ltb-false, true≢false, add-suc, mul-le-mul_right, le_trans}
+use Rattle.std.proofs.lemmas.List.{map-append, drop-append-le}
+use Rattle.std.proofs.lemmas.List.Elements.{All-nil, All-cons, All-head, All-tail, All-append, All-map, All-weaker}
+use Rattle.std.proofs.lemmas.List.Sums.{sum_by-append, sum_by-cons, sum_by-le}
+use Rattle.std.proofs.lemmas.Option.{slice_get_within}
+use Rattle.std.proofs.Math.Seq.{drop-append_seam, drop-length}
+use Rattle.std.specs.List.{list_any}
+use Rattle.wave_base.proofs.Trees.{there-enter}
+use Rattle.wave_base.specs.declared.limits.TheConstants.{GENERATION, SPAWNS}
+use Rattle.wave_base.specs.declared.call.Call.{Call}
+use Rattle.wave_base.specs.declared.finished.Place.{Place}
+use Rattle.wave_base.specs.declared.numbers.Host.{Host}
+use Rattle.wave_base.specs.declared.outcome.EventResult.{EventResult}
+use Rattle.wave_base.specs.declared.outcome.Outcome.TheVariants as out
+use Rattle.wave_base.specs.declared.path.Path.{Path}
+use Rattle.wave_base.specs.declared.script.Line.{Line}
+use Rattle.wave_base.specs.declared.script.Line.TheVariants.{Request, Move, Snapshot}
+use Rattle.wave_base.specs.declared.script.Script.{Script}
+use Rattle.wave_base.specs.declared.shape.Shape.{Shape}
+use Rattle.wave_base.specs.declared.start.Start.{Start}
+use Rattle.wave_base.specs.declared.value.Value.{Value}
+use Rattle.wave_base.specs.Fold.{Head, Ran, Progress, begun, next_batch, next_job, first_head, with_done, head_after, first_progress, with_result, with_job, one_more, is_over, created_lines}
+use Rattle.wave_base.specs.Paths.{path_eq, parent_of}
+use Rattle.wave_base.specs.PathLaws.{path_eq_decides}
+use Rattle.wave_base.specs.Places.{with_context, with_contexts, with_move, after_job, places_after, move_of}
+use Rattle.wave_base.specs.Scripts.{IsScript, FitsLine, IsCall}
+use Rattle.wave_base.specs.Starts.{IsStart, start_tree, start_places}
+use Rattle.wave_base.specs.Tree.{Tree, there, enter, put}
+use Rattle.resolved_service.specs.Jobs.{only, move_ran}
+use Rattle.script_fold.specs.Lines.{Meaning, line_by, most_events, most_of, most_jobs, FitsJob}
+use Rattle.script_fold.specs.Owed.{Owed}
+use Rattle.script_fold.specs.Runs.{after_jobs, whole_run, hosts_after}
+
+-- ---- how many jobs a line may make
+
+most_some : (n : ℕ) → 1 ≤ most_events n
+unfolding most_events
+most_some zero = omega arith
+most_some (suc n) = omega arith
+
+most_of_some : (l : Line) → 1 ≤ most_of l
+most_of_some (Request call) = most_some (GENERATION - call.generation)
+most_of_some (Move p h) = omega arith
+most_of_some Snapshot = omega arith
+
+most_small : (n : ℕ) → n ≤ 4 → most_events n ≤ 341
+unfolding most_events
+most_small zero h = omega arith
+most_small (suc zero) h = omega arith
+most_small (suc (suc zero)) h = omega arith
+most_small (suc (suc (suc zero))) h = omega arith
+most_small (suc (suc (suc (suc zero)))) h = omega arith
+most_small (suc (suc (suc (suc (suc n))))) h = absurd (omega arith)
+
+most_of_small : (l : Line) → most_of l ≤ 341
+most_of_small (Request call) = most_small (GENERATION - call.generation) (omega arith)
+most_of_small (Move p h) = omega arith
+most_of_small Snapshot = omega arith
+
+batch_small : (b : List Line) → sum_by most_of b ≤ length b * 341
+batch_small b = sum_by-le most_of 341 b (λ k d l. most_of_small _)
+
+pub most_lines : (batches : List (List Line)) → most_jobs batches ≤ sum_by length batches * 341
+most_lines [] = omega arith
+most_lines (b ∷ bs) = omega (arith, batch_small b, most_lines bs, sum_by-cons (sum_by most_of) b bs, sum_by-cons (length {A = Line}) b bs)
+
+lines_most : (b : List Line) → length b ≤ sum_by most_of b
+lines_most [] = omega arith
+lines_most (l ∷ b) = omega (arith, lines_most b, most_of_some l, sum_by-cons most_of l b)
+
+pub batches_most : (batches : List (List Line)) → sum_by length batches ≤ most_jobs batches
+batches_most [] = omega arith
+batches_most (b ∷ bs) = omega (arith, lines_most b, batches_most bs, sum_by-cons (sum_by most_of) b bs, sum_by-cons (length {A = Line}) b bs)
+
+-- ---- heads
+
+pub left_in : Head Line → ℕ
+left_in h = sum_by most_of (drop h.done h.known) + most_jobs h.later
+
+record Next (F : Line → Type 0) (h n : Head Line) : Type 0 where
+  done : n.done ≡ h.done
+  within : n.done ≤ length n.known
+  left : left_in n ≡ left_in h
+  known : All F h.known → All (All F) h.later → All F n.known
+  later : All (All F) h.later → All (All F) n.later
+
+next_keeps : (F : Line → Type 0) (h : Head Line) → h.done ≤ length h.known → Next F h (next_batch h)
+unfolding left_in
+next_keeps F h l = by_test (nat_lt h.done (length h.known)) refl
+  where
+    same : Next F h h
+    same = record { done = refl; within = l; left = refl; known = λ k b. k; later = λ b. b }
+
+    by_later : (bs : List (List Line)) → h.later ≡ bs → h.done ≡ length h.known → Next F h (begun h bs)
+    by_later [] e d = same
+    by_later (b ∷ bs) e d =
+        let new : drop h.done (h.known ++ b) ≡ b = ap (λ n. drop n (h.known ++ b)) d ∙ drop-append_seam h.known b in
+        let old : drop h.done h.known ≡ [] = ap (λ n. drop n h.known) d ∙ drop-length h.known in
+        let old_sum : sum_by most_of (drop h.done h.known) ≡ 0 = ap (sum_by most_of) old in
+        let new_sum : sum_by most_of (drop h.done (h.known ++ b)) ≡ sum_by most_of b = ap (sum_by most_of) new in
+        let all : most_jobs h.later ≡ sum_by most_of b + most_jobs bs = ap most_jobs e ∙ sum_by-cons (sum_by most_of) b bs in
+        record {
+          done = refl;
+          within = omega (arith, d, length-append h.known b);
+          left = omega (arith, old_sum, new_sum, all);
+          known = λ k a. All-append F h.known b k (All-head (All F) b bs (subst (All (All F)) e a));
+          later = λ a. All-tail (All F) b bs (subst (All (All F)) e a);
+        }
+
+    by_test : (t : Bool) → nat_lt h.done (length h.known) ≡ t → Next F h (if t then h else begun h h.later)
+    by_test true e = same
+    by_test false e = by_later h.later refl (omega (arith, l, ltb-false h.done (length h.known) e))
+
+pub next_is : (xs : List Line) (i : ℕ) (j : Line) → slice_get xs i ≡ Some j → drop i xs ≡ j ∷ drop (suc i) xs
+next_is [] i j e = cc
+next_is (x ∷ xs) zero j e = let same : x ≡ j = cc in ap (λ y. y ∷ xs) same
+next_is (x ∷ xs) (suc i) j e = next_is xs i j e
+
+pub All-drop_head : (F : Line → Type 0) (xs : List Line) (i : ℕ) (j : Line) → slice_get xs i ≡ Some j → All F xs → F j
+All-drop_head F [] i j e h = cc
+All-drop_head F (x ∷ xs) zero j e h = let same : x ≡ j = cc in subst F same (All-head F x xs h)
+All-drop_head F (x ∷ xs) (suc i) j e h = All-drop_head F xs i j e (All-tail F x xs h)
+
+-- one job is done
+abbrev grown : Head Line → List Line → Head Line
+grown h created = record { known = h.known ++ created; later = h.later; done = suc h.done }
+
+module _ (F : Line → Type 0) (h : Head Line) (j : Line) (created : List Line) (is : slice_get h.known h.done ≡ Some j) where
+  done_next : Next F (grown h created) (with_done h created)
+  done_next =
+      let l : h.done < length h.known = slice_get_within h.known h.done j is in
+      next_keeps F (grown h created) (omega (arith, l, length-append h.known created))
+
+  grown_left : left_in (grown h created) + most_of j ≡ left_in h + sum_by most_of created
+  unfolding left_in
+  grown_left =
+      let l : h.done < length h.known = slice_get_within h.known h.done j is in
+      let rest : drop (suc h.done) (h.known ++ created) ≡ drop (suc h.done) h.known ++ created = drop-append-le (suc h.done) h.known created (omega (arith, l)) in
+      let rest_sum : sum_by most_of (drop (suc h.done) (h.known ++ created)) ≡ sum_by most_of (drop (suc h.done) h.known) + sum_by most_of created = ap (sum_by most_of) rest ∙ sum_by-append most_of (drop (suc h.done) h.known) created in
+      let old_sum : sum_by most_of (drop h.done h.known) ≡ most_of j + sum_by most_of (drop (suc h.done) h.known) = ap (sum_by most_of) (next_is h.known h.done j is) ∙ sum_by-cons most_of j (drop (suc h.done) h.known) in
+      omega (arith, rest_sum, old_sum)
+
+pub head_push : (h : Head Line) (cs : List (List Line)) (c : List Line) → head_after h (cs ++ c ∷ []) ≡ with_done (head_after h cs) c
+head_push h [] c = refl
+head_push h (d ∷ cs) c = head_push (with_done h d) cs c
+
+-- ---- hosts
+
+or_true : (a : Bool) → (a || true) ≡ true
+or_true true = refl
+or_true false = refl
+
+there_context : (t : Tree ℕ) (q p : Path) → (there t p || path_eq p q) ≡ true → there (with_context t q) p ≡ true
+there_context t q p h = by_there (there t q) refl
+  where
+    by_old : (a b : Bool) → (a || b) ≡ true → (b || a) ≡ true
+    by_old true b e = or_true b
+    by_old false b e = ap (λ c. c || false) e
+
+    known : there t q ≡ true → (a b : Bool) → there t p ≡ a → path_eq p q ≡ b → (a || b) ≡ true → there t p ≡ true
+    known s true b e f o = e
+    known s false true e f o = ap (there t) ((path_eq_decides p q).0 f) ∙ s
+    known s false false e f o = absurd (true≢false (sym o))
+
+    by_there : (b : Bool) → there t q ≡ b → there (if b then t else put (enter t q) q (t.fields (parent_of q))) p ≡ true
+    by_there true s = known s (there t p) (path_eq p q) refl refl h
+    by_there false s = there-enter t q p ∙ by_old (there t p) (path_eq p q) h
+
+there_contexts : (t : Tree ℕ) (ps : List Path) (p : Path) → (there t p || list_any (path_eq p) ps) ≡ true → there (with_contexts t ps) p ≡ true
+there_contexts t [] p h = no_more (there t p) h
+  where
+    no_more : (a : Bool) → (a || false) ≡ true → a ≡ true
+    no_more true e = refl
+    no_more false e = e
+there_contexts t (q ∷ ps) p h = there_contexts (with_context t q) ps p (by_rest (list_any (path_eq p) ps) refl)
+  where
+    split : (a b : Bool) → (a || (b || false)) ≡ true → (a || b) ≡ true
+    split true b e = refl
+    split false true e = refl
+    split false false e = e
+
+    by_rest : (r : Bool) → list_any (path_eq p) ps ≡ r → (there (with_context t q) p || r) ≡ true
+    by_rest true e = or_true (there (with_context t q) p)
+    by_rest false e = ap (λ b. b || false) (there_context t q p (split (there t p) (path_eq p q) (ap (λ r. there t p || (path_eq p q || r)) (sym e) ∙ h)))
+
+pub there_move : (t : Tree ℕ) (m : Option (Path × ℕ)) (p : Path) → there (with_move t m) p ≡ there t p
+there_move t None p = refl
+there_move t (Some m) p = refl
+
+places_push : (t : Tree ℕ) (xs : List (List Path × Option (Path × ℕ))) (x : List Path × Option (Path × ℕ)) → places_after t (xs ++ x ∷ []) ≡ after_job (places_after t xs) x.0 x.1
+places_push t [] x = refl
+places_push t (y ∷ xs) x = places_push (after_job t y.0 y.1) xs x
+
+zip_push : {A B : Type 0} (xs : List A) (ys : List B) (x : A) (y : B) → length xs ≡ length ys → zip (xs ++ x ∷ []) (ys ++ y ∷ []) ≡ zip xs ys ++ (x, y) ∷ []
+zip_push [] [] x y e = refl
+zip_push [] (b ∷ ys) x y e = absurd (omega (arith, e))
+zip_push (a ∷ xs) [] x y e = absurd (omega (arith, e))
+zip_push (a ∷ xs) (b ∷ ys) x y e = ap (λ zs. (a, b) ∷ zs) (zip_push xs ys x y (omega (arith, e)))
+
+length_map : {A B : Type 0} (f : A → B) (xs : List A) → length (map f xs) ≡ length xs
+length_map f [] = refl
+length_map f (x ∷ xs) = ap suc (length_map f xs)
+
+-- ---- the fold
+
+module _ (shape : Shape) (meaning : Meaning) (FitsTree : Tree (List Value) → Type 0) (FitsCall : Call → Type 0) (owed : Owed shape meaning FitsTree FitsCall) where
+  -- a job that fits, on a tree that fits
+  module _ (ticket : ℕ) (t : Tree (List Value)) (f : FitsTree t) where
+    line_tree : (l : Line) → FitsJob FitsCall l → FitsTree (line_by meaning ticket t l).tree
+    line_tree (Request call) h = owed.kept t call f h
+    line_tree (Move p k) h = f
+    line_tree Snapshot h = f
+
+    line_created : (l : Line) → FitsJob FitsCall l → All (FitsJob FitsCall) (created_lines (line_by meaning ticket t l).result)
+    line_created (Request call) h = All-map (FitsJob FitsCall) (λ (c : Call). Request c) (meaning t call).result.created (owed.created t call f h)
+    line_created (Move p k) h = All-nil (FitsJob FitsCall)
+    line_created Snapshot h = All-nil (FitsJob FitsCall)
+
+    pub line_few : (l : Line) → FitsJob FitsCall l → length (line_by meaning ticket t l).result.created ≤ 4
+    line_few (Request call) h = owed.few t call f h
+    line_few (Move p k) h = omega arith
+    line_few Snapshot h = omega arith
+
+    calls_most : (g : ℕ) (created : List Call) → All FitsCall created → All (λ (d : Call). d.generation ≡ suc g) created → length created ≤ SPAWNS → sum_by most_of (map (λ c. Request c) created) + 1 ≤ most_events (GENERATION - g)
+    unfolding most_events
+    calls_most g [] fit later few = most_some (GENERATION - g)
+    calls_most g (d ∷ ds) fit later few =
+        let last : d.generation ≤ GENERATION = owed.last d (All-head FitsCall d ds fit) in
+        let first_is : d.generation ≡ suc g = All-head (λ (d : Call). d.generation ≡ suc g) d ds later in
+        let step : GENERATION - g ≡ suc (GENERATION - suc g) = omega (arith, last, first_is) in
+        let each : All (λ (d : Call). most_of (Request d) ≤ most_events (GENERATION - suc g)) (d ∷ ds) = All-weaker (λ (d : Call). d.generation ≡ suc g) (λ (d : Call). most_of (Request d) ≤ most_events (GENERATION - suc g))
+        (λ (c : Call) e. let same : most_events (GENERATION - c.generation) ≡ most_events (GENERATION - suc g) = ap (λ n. most_events (GENERATION - n)) e in omega (arith, same)) (d ∷ ds) later in
+        let sum : sum_by most_of (map (λ c. Request c) (d ∷ ds)) ≤ length (map (λ (c : Call). Request c) (d ∷ ds)) * most_events (GENERATION - suc g) =
+        sum_by-le most_of (most_events (GENERATION - suc g)) (map (λ (c : Call). Request c) (d ∷ ds)) (All-map (λ l. most_of l ≤ most_events (GENERATION - suc g)) (λ (c : Call). Request c) (d ∷ ds) each) in
+        let count : length (map (λ (c : Call). Request c) (d ∷ ds)) ≤ SPAWNS = subst (λ n. n ≤ SPAWNS) (sym (length_map (λ (c : Call). Request c) (d ∷ ds))) few in
+        let bound : length (map (λ (c : Call). Request c) (d ∷ ds)) * most_events (GENERATION - suc g) ≤ SPAWNS * most_events (GENERATION - suc g) = mul-le-mul_right (most_events (GENERATION - suc g)) count in
+        subst (λ n. sum_by most_of (map (λ c. Request c) (d ∷ ds)) + 1 ≤ most_events n) (sym step) (omega (arith, sum, bound))
+
+    line_most : (l : Line) → FitsJob FitsCall l → sum_by most_of (created_lines (line_by meaning ticket t l).result) + 1 ≤ most_of l
+    line_most (Request call) h = calls_most call.generation (meaning t call).result.created (owed.created t call f h) (owed.later t call f h) (owed.few t call f h)
+    line_most (Move p k) h = omega arith
+    line_most Snapshot h = omega arith
+
+    line_joined : (l : Line) → FitsJob FitsCall l → (p : Path) → there (line_by meaning ticket t l).tree p ≡ true → (there t p || list_any (path_eq p) (line_by meaning ticket t l).entered) ≡ true
+    line_joined (Request call) h p e = owed.joined t call p f h e
+    line_joined (Move q k) h p e = ap (λ b. b || list_any (path_eq p) (move_ran t q k).entered) e
+    line_joined Snapshot h p e = ap (λ b. b || list_any (path_eq p) t.paths) e
+
+    move_there : (b : Bool) (p : Path) (k : Host) (m : Path × ℕ) → there t p ≡ b → move_of (only (if b then out.Moved p k else out.Absent p)) ≡ Some m → there t m.0 ≡ true
+    move_there true p k m s e = let same : (p, k.0) ≡ m = cc in ap (there t) (sym (ap (λ (m : Path × ℕ). m.0) same)) ∙ s
+    move_there false p k m s e = cc
+
+    pub line_moved : (l : Line) → FitsJob FitsCall l → (m : Path × ℕ) → move_of (line_by meaning ticket t l).result ≡ Some m → there (line_by meaning ticket t l).tree m.0 ≡ true
+    line_moved (Request call) h m e = let none : None ≡ Some m = sym (owed.unmoved t call f h) ∙ e in cc
+    line_moved (Move p k) h m e = move_there (there t p) p k m refl e
+    line_moved Snapshot h m e = cc
+
+  module _ (start : Start) (script : Script) where
+    pub record IsGood (w : Progress (List Value) EventResult Line) : Type 0 where
+      pub tree : FitsTree w.tree
+      pub known : All (FitsJob FitsCall) w.head.known
+      pub later : All (All (FitsJob FitsCall)) w.head.later
+      pub left : w.head.done + left_in w.head ≤ most_jobs script.batches
+      pub within : w.head.done ≤ length w.head.known
+      pub results : length w.results ≡ w.head.done
+      pub entered : length w.entered ≡ w.head.done
+      pub covered : (p : Path) → there w.tree p ≡ true → there (hosts_after start w) p ≡ true
+      pub heads : head_after (first_head script.batches) (map created_lines w.results) ≡ w.head
+
+    pub hosts_push : (w : Progress (List Value) EventResult Line) (x : Ran (List Value) EventResult) → length w.entered ≡ length w.results → hosts_after start (with_result start.next.0 (line_by meaning) created_lines w x) ≡ after_job (hosts_after start w) x.entered (move_of x.result)
+    hosts_push w x e =
+        ap (λ ms. places_after (start_places start) (zip (w.entered ++ x.entered ∷ []) ms)) (map-append move_of w.results (x.result ∷ []))
+        ∙ ap (places_after (start_places start)) (zip_push w.entered (map move_of w.results) x.entered (move_of x.result) (e ∙ sym (length_map move_of w.results)))
+        ∙ places_push (start_places start) (zip w.entered (map move_of w.results)) (x.entered, move_of x.result)
+
+    pub good_ran : (w : Progress (List Value) EventResult Line) → IsGood w → (j : Line) → next_job w.head ≡ Some j → IsGood (with_result start.next.0 (line_by meaning) created_lines w (line_by meaning (start.next.0 + w.head.done) w.tree j))
+    unfolding left_in
+    good_ran w good j is =
+        let ticket = start.next.0 + w.head.done in
+        let x = line_by meaning ticket w.tree j in
+        let fits : FitsJob FitsCall j = All-drop_head (FitsJob FitsCall) w.head.known w.head.done j is good.known in
+        let created : List Line = created_lines x.result in
+        let next : Next (FitsJob FitsCall) (grown w.head created) (with_done w.head created) = done_next (FitsJob FitsCall) w.head j created is in
+        let left : left_in (grown w.head created) + most_of j ≡ left_in w.head + sum_by most_of created = grown_left (FitsJob FitsCall) w.head j created is in
+        let most : sum_by most_of created + 1 ≤ most_of j = line_most ticket w.tree good.tree j fits in
+        record {
+          tree = line_tree ticket w.tree good.tree j fits;
+          known = next.known (All-append (FitsJob FitsCall) w.head.known created good.known (line_created ticket w.tree good.tree j fits)) good.later;
+          later = next.later good.later;
+          left = omega (arith, next.done, next.left, left, most, good.left);
+          within = next.within;
+          results = omega (arith, next.done, good.results, length-append w.results (x.result ∷ []));
+          entered = omega (arith, next.done, good.entered, length-append w.entered (x.entered ∷ []));
+          covered = λ p e.
+              let known : (there (hosts_after start w) p || list_any (path_eq p) x.entered) ≡ true = by_old w good p x.entered (line_joined ticket w.tree good.tree j fits p e) in
+              ap (λ (t : Tree ℕ). there t p) (hosts_push w x (good.entered ∙ sym good.results)) ∙ there_move (with_contexts (hosts_after start w) x.entered) (move_of x.result) p ∙ there_contexts (hosts_after start w) x.entered p known;
+          heads = ap (head_after (first_head script.batches)) (map-append created_lines w.results (x.result ∷ [])) ∙ head_push (first_head script.batches) (map created_lines w.results) created ∙ ap (λ h. with_done h created) good.heads;
+        }
+      where
+        by_test : (a b c : Bool) → (a ≡ true → c ≡ true) → (a || b) ≡ true → (c || b) ≡ true
+        by_test true b c h e = ap (λ c. c || b) (h refl)
+        by_test false true c h e = or_true c
+        by_test false false c h e = absurd (true≢false (sym e))
+
+        by_old : (w : Progress (List Value) EventResult Line) → IsGood w → (p : Path) (ps : List Path) → (there w.tree p || list_any (path_eq p) ps) ≡ true → (there (hosts_after start w) p || list_any (path_eq p) ps) ≡ true
+        by_old w good p ps e = by_test (there w.tree p) (list_any (path_eq p) ps) (there (hosts_after start w) p) (good.covered p) e
+
+    good_more : (w : Progress (List Value) EventResult Line) → IsGood w → IsGood (one_more start.next.0 (line_by meaning) created_lines w)
+    good_more w good = by_job (next_job w.head) refl
+      where
+        by_job : (o : Option Line) → next_job w.head ≡ o → IsGood (with_job start.next.0 (line_by meaning) created_lines w o)
+        by_job None e = good
+        by_job (Some j) e = good_ran w good j e
+
+    line_fits : (l : Line) → FitsLine shape script.hosts l → FitsJob FitsCall l
+    line_fits (Request call) h = owed.asked call h.0 h.1
+    line_fits (Move p k) h = tt
+    line_fits Snapshot h = tt
+
+    good_first : IsScript shape script → IsStart shape script.hosts start → IsGood (first_progress (start_tree shape start) script.batches)
+    unfolding left_in
+    good_first s b =
+        let fit : All (All (FitsJob FitsCall)) script.batches = All-weaker (All (FitsLine shape script.hosts)) (All (FitsJob FitsCall)) (All-weaker (FitsLine shape script.hosts) (FitsJob FitsCall) line_fits) script.batches s.lines in
+        let next : Next (FitsJob FitsCall) (record { known = []; later = script.batches; done = 0 }) (first_head script.batches) = next_keeps (FitsJob FitsCall) (record { known = []; later = script.batches; done = 0 }) (omega arith) in
+        record {
+          tree = owed.begins (start_tree shape start) b.tree b.root;
+          known = next.known (All-nil (FitsJob FitsCall)) fit;
+          later = next.later fit;
+          left = omega (arith, next.done, next.left);
+          within = next.within;
+          results = sym next.done;
+          entered = sym next.done;
+          covered = λ p e. ap (list_any (path_eq p)) b.places ∙ e;
+          heads = refl;
+        }
+
+    pub good_after : IsScript shape script → IsStart shape script.hosts start → (n : ℕ) → IsGood (after_jobs meaning shape start script n)
+    good_after s b zero = good_first s b
+    good_after s b (suc n) = good_more (after_jobs meaning shape start script n) (good_after s b n)
+
+    -- there is a ticket for each job
+    pub room_after : IsScript shape script → IsStart shape script.hosts start → (w : Progress (List Value) EventResult Line) → IsGood w → (created : List Call) → length created ≤ 4
+        → start.next.0 + length w.head.known + length created + sum_by length w.head.later ≤ 2 ^ 32
+    unfolding left_in
+    room_after s b w good created few =
+        let lines : sum_by length script.batches ≤ 4000 = s.few_lines in
+        let next : start.next.0 ≤ 2000000000 = b.last_next in
+        let rest : length (drop w.head.done w.head.known) ≡ length w.head.known - w.head.done = length-drop w.head.done w.head.known in
+        let waiting : length (drop w.head.done w.head.known) ≤ sum_by most_of (drop w.head.done w.head.known) = lines_most (drop w.head.done w.head.known) in
+        let later : sum_by length w.head.later ≤ most_jobs w.head.later = batches_most w.head.later in
+        let all : most_jobs script.batches ≤ sum_by length script.batches * 341 = most_lines script.batches in
+        omega (arith, good.left, good.within)
+
+-- ---- the end
+
+module _ (meaning : Meaning) (shape : Shape) (start : Start) (script : Script) where
+  stays : (w : Progress (List Value) EventResult Line) → is_over w ≡ true → one_more start.next.0 (line_by meaning) created_lines w ≡ w
+  stays w e = by_job (next_job w.head) e
+    where
+      by_job : (o : Option Line) → is_none o ≡ true → with_job start.next.0 (line_by meaning) created_lines w o ≡ w
+      by_job None e = refl
+      by_job (Some j) e = cc
+
+  stays_long : (n m : ℕ) → is_over (after_jobs meaning shape start script n) ≡ true → after_jobs meaning shape start script (m + n) ≡ after_jobs meaning shape start script n
+  stays_long n zero e = let none : zero + n ≡ n = omega arith in ap (after_jobs meaning shape start script) none
+  stays_long n (suc m) e =
+      let more : suc m + n ≡ suc (m + n) = omega arith in
+      let before = stays_long n m e in
+      ap (after_jobs meaning shape start script) more ∙ ap (one_more start.next.0 (line_by meaning) created_lines) before ∙ stays (after_jobs meaning shape start script n) e
+
+  pub whole_is : (n : ℕ) → n ≤ most_jobs script.batches → is_over (after_jobs meaning shape start script n) ≡ true → whole_run meaning shape start script ≡ after_jobs meaning shape start script n
+  unfolding whole_run
+  whole_is n l e =
+      let all : most_jobs script.batches ≡ (most_jobs script.batches - n) + n = omega (arith, l) in
+      ap (after_jobs meaning shape start script) all ∙ stays_long n (most_jobs script.batches - n) e

@@ -1,0 +1,6 @@
+pub mod Lines
+pub mod Runs
+pub mod Owed
+pub mod Visiting
+pub mod Standing
+pub mod Moves

@@ -1,0 +1,89 @@
+//! A run of a script, job by job.
+
+ghost use Rattle.std.specs.Prelude.{◌≡◌, suc, false, IsTrue, IfOk};
+ghost use Rattle.wave_base.specs.declared.shape.Shape.{Shape};
+ghost use Rattle.wave_base.specs.declared.script.Script.{Script};
+ghost use Rattle.wave_base.specs.declared.start.Start.{Start};
+ghost use Rattle.wave_base.specs.Scripts.{IsScript};
+ghost use Rattle.wave_base.specs.Starts.{IsStart};
+ghost use Rattle.script_fold.specs.Lines.{Meaning};
+ghost use Rattle.script_fold.specs.Runs.{finished_of};
+ghost use Rattle.script_fold.specs.Standing.{Stands, Ended};
+
+use crate::jobs::{name_of, run_job};
+use crate::runner::Runner;
+use crate::tickets::{give_tickets, next_job};
+use crate::visits::Visits;
+use context_tree::Tree;
+use head_tickets::Head;
+use std::alloc::Global;
+use wave_base::{EventResult, Finished, OutOfMemory, Script, Seq, Start, Ticket};
+
+/// The jobs that are left, the contexts with their hosts, and what the jobs gave that are done.
+#[derive(Drop)]
+pub struct Folding {
+    head: Head,
+    contexts: Tree,
+    visits: Visits,
+    results: Vec<EventResult>,
+    made: Vec<Seq<Ticket>>,
+    names: Vec<Option<u16>>,
+}
+
+impl Folding {
+    /// No job is done.
+    pub fn begin(alloc: Global, script: &Script, start: &Start) -> Result<Folding, OutOfMemory>
+        requires { (shape : Shape) × IsScript shape script.now × IsStart shape script.now.hosts start.now }
+        ensures { IfOk result (λ f. (meaning : Meaning) (shape : Shape) → IsScript shape script.now → IsStart shape script.now.hosts start.now → Stands meaning shape start.now script.now f) }
+    {
+        let visits = Visits::start(alloc, start.places.as_slice())?;
+        let contexts = Tree::from_shots(alloc, start.shots.as_slice())?;
+        let head = Head::new_at(alloc, script.copy(alloc)?, start.next);
+        Ok(Folding {
+            head,
+            contexts,
+            visits,
+            results: Vec::new(alloc),
+            made: Vec::new(alloc),
+            names: Vec::new(alloc),
+        })
+    }
+
+    /// Runs the next job. False where none is left.
+    pub fn step<R: Runner>(&mut self, alloc: Global, runner: &R) -> Result<bool, OutOfMemory>
+        requires { (start : Start) × (script : Script) × Stands (R.meaning runner.now) (R.shape runner.now) start script self.old }
+        ensures stands { IfOk result (λ more. (start : Start) (script : Script) → Stands (R.meaning runner.now) (R.shape runner.now) start script self.old → IsTrue more → Stands (R.meaning runner.now) (R.shape runner.now) start script self.new) }
+        ensures done { IfOk result (λ more. IsTrue more → self.new.head.done ≡ suc self.old.head.done) }
+        ensures ended { IfOk result (λ more. (start : Start) (script : Script) → Stands (R.meaning runner.now) (R.shape runner.now) start script self.old → more ≡ false → Ended (R.meaning runner.now) (R.shape runner.now) start script self.new) }
+    {
+        let Some(job) = next_job(&mut self.head) else {
+            return Ok(false);
+        };
+        let (result_, entered) = run_job(alloc, runner, &mut self.contexts, &job)?;
+        let number = self.results.len() as u64 + 1;
+        self.visits
+            .after_job(number, entered.as_slice(), &result_.outcome)?;
+        let made = give_tickets(alloc, &mut self.head, &result_.created)?;
+        self.made.push(made)?;
+        self.names.push(name_of(&job))?;
+        self.results.push(result_)?;
+        Ok(true)
+    }
+
+    /// What the run gives.
+    pub fn end(self, alloc: Global) -> Result<Finished, OutOfMemory>
+        ensures { IfOk result (λ f. (meaning : Meaning) (shape : Shape) (start : Start) (script : Script) → Ended meaning shape start script self → f ≡ finished_of meaning shape start script) }
+    {
+        let places = self.visits.places(alloc)?;
+        let loads = self.visits.loads(alloc)?;
+        let shots = self.contexts.shots(alloc)?;
+        Ok(Finished {
+            results: Seq::from_vec(self.results),
+            made: Seq::from_vec(self.made),
+            names: Seq::from_vec(self.names),
+            places,
+            shots,
+            loads,
+        })
+    }
+}
