@@ -14,11 +14,11 @@ use Rattle.mace_lexer.specs.declared.sign.Sign.{Sign}
 use Rattle.mace_lexer.specs.declared.sign.Sign.TheVariants as s
 use Rattle.mace_lexer.specs.Codes.{key_code, sign_code}
 use Rattle.mace_parser.specs.declared.small.TheConstants.{SUM_ATOMS}
-use Rattle.mace_parser.specs.Part.{Part}
-use Rattle.mace_parser.specs.Run.{Outcome, Reader, and_then}
+use Rattle.mace_parser.specs.SmallPart.{Part}
+use Rattle.mace_parser.specs.SmallRun.{Outcome, Reader, and_then}
 use Rattle.mace_parser.specs.SmallGrammar as g
 use Rattle.mace_parser.specs.SmallReaders as r
-use Rattle.mace_parser.proofs.Reading.{Reads, left, reads_word, reads_pure, next_part, either, repeated}
+use Rattle.mace_parser.proofs.SmallReading.{Reads, left, reads_word, reads_pure, next_part, either, repeated}
 
 -- ---- words
 

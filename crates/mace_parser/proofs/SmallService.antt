@@ -7,10 +7,10 @@ use Rattle.mace_lexer.specs.declared.token.Token.{Token}
 use Rattle.mace_lexer.specs.declared.keyword.Keyword.TheVariants as k
 use Rattle.mace_parser.specs.declared.small.service.Service.{Service}
 use Rattle.mace_parser.specs.declared.small.SmallEvent.{SmallEvent}
-use Rattle.mace_parser.specs.Part.{SpellsAll}
+use Rattle.mace_parser.specs.SmallPart.{SpellsAll}
 use Rattle.mace_parser.specs.SmallGrammar as g
 use Rattle.mace_parser.specs.SmallReaders as r
-use Rattle.mace_parser.proofs.Reading.{Reads, whole_found, whole_only}
+use Rattle.mace_parser.proofs.SmallReading.{Reads, whole_found, whole_only}
 use Rattle.mace_parser.proofs.SmallProductions as p
 
 reads : (ts : List Token) → Reads r.class (suc (length ts)) g.service g.service r.service_at (r.key_class k.Service ∷ []) false []

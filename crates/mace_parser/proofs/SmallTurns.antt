@@ -4,7 +4,7 @@ use Rattle.std.specs.Prelude.{if◌then◌else◌}
 use Rattle.mace_lexer.specs.declared.token.Token.{Token}
 use Rattle.mace_parser.specs.declared.small.fault.Fault.{Fault}
 use Rattle.mace_parser.specs.declared.small.fault.Fault.TheVariants.{Memory, Stuck}
-use Rattle.mace_parser.specs.Run.{Outcome, Reader, and_then, give, sees, each, each_of, with_front}
+use Rattle.mace_parser.specs.SmallRun.{Outcome, Reader, and_then, give, sees, each, each_of, with_front}
 use Rattle.mace_parser.specs.SmallReaders.{class, more}
 use Rattle.mace_parser.specs.SmallGives.{Fails}
 

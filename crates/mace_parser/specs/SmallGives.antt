@@ -3,7 +3,7 @@ use Rattle.std.specs.Prelude.{◌≡◌, List, Result, Ok, Err}
 use Rattle.mace_lexer.specs.declared.token.Token.{Token}
 use Rattle.mace_parser.specs.declared.small.fault.Fault.{Fault}
 use Rattle.mace_parser.specs.declared.small.fault.Fault.TheVariants.{Memory, Stuck}
-use Rattle.mace_parser.specs.Run.{Outcome}
+use Rattle.mace_parser.specs.SmallRun.{Outcome}
 
 abbrev pub Fails : {A : Type 0} → Fault → Outcome A → Type 0
 Fails Memory read = Unit {0}

@@ -20,7 +20,7 @@ use Rattle.mace_parser.specs.declared.small.SmallSet.{SmallSet}
 use Rattle.mace_parser.specs.declared.small.SmallAtom.{SmallAtom}
 use Rattle.mace_parser.specs.declared.small.SmallWhat.TheVariants.{Number, Field}
 use Rattle.mace_parser.specs.declared.small.TheConstants.{SUM_ATOMS}
-use Rattle.mace_parser.specs.Part.{Part, pure, one, ◌>>=◌, ◌>>◌, ◌or◌, many}
+use Rattle.mace_parser.specs.SmallPart.{Part, pure, one, ◌>>=◌, ◌>>◌, ◌or◌, many}
 
 -- a part whose value passes a test
 abbrev pub such_that : {A : Type 0} → (A → Bool) → Part A → Part A

@@ -16,7 +16,7 @@ use Rattle.mace_parser.specs.declared.small.SmallEvent.{SmallEvent}
 use Rattle.mace_parser.specs.declared.small.SmallSet.{SmallSet}
 use Rattle.mace_parser.specs.declared.small.SmallAtom.{SmallAtom}
 use Rattle.mace_parser.specs.declared.small.TheConstants.{SUM_ATOMS}
-use Rattle.mace_parser.specs.Run.{Reader, ◌>>=◌, ◌>>◌, give, word, choice, each, each_of}
+use Rattle.mace_parser.specs.SmallRun.{Reader, ◌>>=◌, ◌>>◌, give, word, choice, each, each_of}
 use Rattle.mace_parser.specs.SmallGrammar as grammar
 
 -- ---- classes of words

@@ -1,5 +1,5 @@
 ghost use Rattle.std.specs.Prelude.{◌≡◌, ◌≤◌, [], ◌∷◌, length};
-ghost use Rattle.mace_parser.specs.Run.{sees};
+ghost use Rattle.mace_parser.specs.SmallRun.{sees};
 ghost use Rattle.mace_parser.specs.SmallGrammar as grammar;
 ghost use Rattle.mace_parser.specs.SmallReaders as reader;
 ghost use Rattle.mace_parser.specs.SmallGives.{Gives};

@@ -1,6 +1,6 @@
 use Rattle.std.proofs.Common.{◌≡◌, ◌+◌, ◌-◌, [], ◌∷◌, length, true, sym, ◌∙◌, ap, arith}
 use Rattle.std.proofs.lemmas.Result.{err_from_is_err_and}
-use Rattle.mace_parser.specs.Run.{sees}
+use Rattle.mace_parser.specs.SmallRun.{sees}
 use Rattle.mace_parser.specs.SmallReaders as reader
 use Rattle.mace_parser.proofs.SmallTurns.{more_goes_on, more_fails, more_done, more_spent}
 use Rattle.mace_parser.proofs.small.events.sets.Goals as goal

@@ -1,7 +1,7 @@
 use Rattle.std.proofs.Common.{◌≡◌, ◌+◌, ◌-◌, [], ◌∷◌, length, true, sym, ◌∙◌, ap, arith}
 use Rattle.std.proofs.lemmas.Result.{err_from_is_err_and}
 use Rattle.mace_lexer.specs.declared.sign.Sign.TheVariants as s
-use Rattle.mace_parser.specs.Run.{sees}
+use Rattle.mace_parser.specs.SmallRun.{sees}
 use Rattle.mace_parser.specs.SmallReaders as reader
 use Rattle.mace_parser.proofs.SmallTurns.{more_goes_on, more_fails, more_done, more_spent}
 use Rattle.mace_parser.proofs.small.sums.atoms.Goals as goal

@@ -1,11 +1,12 @@
--- A reader of one word of sight, and what it has to do with a part of the grammar.
-use Rattle.std.proofs.Common.{◌≡◌, ℕ, zero, suc, ◌<◌, ◌≤◌, ◌⊎◌, inl, inr, List, [], ◌∷◌, ◌++◌, length, Option, Some, None, IsSome, Ok, Err, Bool, true, false, ◌||◌, ◌&&◌, not, refl, sym, ◌∙◌, ap, subst, arith, le_refl, eqb-true, eq-eqb, ⊎_elim, append_assoc, append-nil, length-append}
+-- A reader with one token of sight, and what it has to do with a part of the grammar.
+use Rattle.std.proofs.Common.{◌≡◌, ℕ, zero, suc, ◌+◌, ◌<◌, ◌≤◌, ◌⊎◌, inl, inr, List, [], ◌∷◌, ◌++◌, length, Option, Some, None, IsSome, Result, Ok, Err, Bool, true, false, ◌||◌, ◌&&◌, not, cond, refl, sym, ◌∙◌, ap, subst, arith, le_refl, eqb-true, eq-eqb, ⊎_elim, append_assoc, append-nil, length-append}
 use Rattle.std.specs.Prelude.{◌==◌, if◌then◌else◌}
 use Rattle.mace_lexer.specs.declared.token.Token.{Token}
-use Rattle.mace_parser.specs.Run.{Outcome, Reader, and_then, give, after, taken, word, has, sees, choice, with_front, each, each_of, some, deeper}
-use Rattle.mace_parser.specs.Part.{Part, never, pure, one, ◌>>=◌, ◌or◌, many, maybe, nested, deep, SpellsAll, SpellsMaybe}
+use Rattle.mace_grammar.specs.Run.{Outcome, Reader, and_then, give, after, taken, word, has, sees, choice, with_front, each, each_of, some, deeper}
+use Rattle.mace_grammar.proofs.Same.{Same}
+use Rattle.mace_grammar.specs.Part.{Part, never, pure, one, ◌>>=◌, ◌or◌, many, maybe, nested, deep, SpellsAll, SpellsMaybe}
 
--- ---- sets of words, by their classes
+-- ---- sets of tokens, by their classes
 
 abbrev pub disjoint : List ℕ → List ℕ → Bool
 disjoint [] other = true
@@ -86,7 +87,7 @@ module _ (class : Token → ℕ) where
   Heads first empty (t ∷ ts) = has first (class t) ≡ true
 
   -- What the reader reads is spelled by small, and where it is stuck the words before are begun by small. Of fewer than m words it reads
-  -- what is spelled by large, if no word follows that goes on with it, and passes all that large begins.
+  -- what is spelled by large, if no token follows that goes on with it, and passes all that large begins. A front of what begins large begins it.
   pub record Reads {A : Type 0} (m : ℕ) (small large : Part A) (run : Reader A) (first : List ℕ) (empty : Bool) (goes_on : List ℕ) : Type 0 where
     pub sound : (ts rest : List Token) (a : A) → run ts ≡ Ok (a, rest) → (front : List Token) × (ts ≡ front ++ rest) × small.Spells a front
     pub stuck : (ts rest : List Token) → run ts ≡ Err rest → (front : List Token) × (ts ≡ front ++ rest) × small.Begins front
@@ -96,8 +97,25 @@ module _ (class : Token → ℕ) where
     pub starts : (front : List Token) → large.Begins front → Heads first true front
     pub complete : (a : A) (front rest : List Token) → length (front ++ rest) < m → large.Spells a front → sees class goes_on rest ≡ false → run (front ++ rest) ≡ Ok (a, rest)
     pub reach : (front rest : List Token) → length (front ++ rest) < m → large.Begins front → left (run (front ++ rest)) ≤ length rest
+    pub closed : (front back : List Token) → large.Begins (front ++ back) → large.Begins front
 
   -- ---- helpers
+
+  nil_front : (u v : List Token) → u ++ v ≡ [] → u ≡ []
+  nil_front [] v e = refl
+  nil_front (t ∷ u) v e = cc
+
+  -- two ways to cut one list: the first cut lies before the second, or behind it
+  cut_point : (u v x y : List Token) → u ++ v ≡ x ++ y → ((w : List Token) × (x ≡ u ++ w)) ⊎ ((w : List Token) × (u ≡ x ++ w) × (y ≡ w ++ v))
+  cut_point [] v x y e = inl (x, refl)
+  cut_point (t ∷ u) v [] y e = inr (t ∷ u, refl, sym e)
+  cut_point (t ∷ u) v (s ∷ x) y e =
+      let first : t ≡ s = cc in
+      let others : u ++ v ≡ x ++ y = cc in
+      ⊎_elim
+      (λ h. inl (h.0, rw first (ap (λ w. s ∷ w) h.1)))
+      (λ h. inr (h.0, rw first (ap (λ w. s ∷ w) h.1), h.2))
+      (cut_point u v x y others)
 
   split_ok : {A B : Type 0} (o : Outcome A) (q : A → Reader B) (b : B) (rest : List Token) → and_then o q ≡ Ok (b, rest) → (a : A) × (mid : List Token) × (o ≡ Ok (a, mid)) × (q a mid ≡ Ok (b, rest))
   split_ok (Ok p) q b rest e = (p.0, p.1, refl, e)
@@ -178,6 +196,7 @@ module _ (class : Token → ℕ) where
     starts = λ front s. subst (λ u. Heads [] true u) (sym s) refl;
     complete = λ a front rest l s k. rw (s.0, s.1) refl;
     reach = λ front rest l s. rw s (omega arith);
+    closed = λ front back e. nil_front front back e;
   }
 
   module _ {A B : Type 0} (m n : ℕ) (p p' : Part A) (q q' : A → Part B) (run : Reader A) (next : A → Reader B) (f g goes goes' : List ℕ) (e d : Bool) (near : m ≤ suc n) (near' : e ≡ true → m ≤ n) (x : disjoint g goes ≡ true) (P : Reads m p p' run f e goes) (Q : (a : A) → Reads n (q a) (q' a) (next a) g d goes') where
@@ -247,6 +266,17 @@ module _ (class : Token → ℕ) where
         (λ h. let (a, u, v, e1, su, bv) = h in subst (λ w. Heads (f ++ if_empty e g) true w) (sym e1) (turn_heads_behind a u v su bv))
         b
 
+    turn_closed : (front back : List Token) → (p' >>= q').Begins (front ++ back) → (p' >>= q').Begins front
+    turn_closed front back b =
+        ⊎_elim
+        (λ h. inl (P.closed front back h))
+        (λ h. let (a, u, v, e1, su, bv) = h in
+        ⊎_elim
+        (λ k. inl (P.closed front k.0 (subst (λ w. p'.Begins w) k.1 (P.begun a u su))))
+        (λ k. inr (a, u, k.0, k.1, su, (Q a).closed k.0 back (subst (λ w. (q' a).Begins w) k.2 bv)))
+        (cut_point front back u v e1))
+        b
+
     pub in_turn : Reads m (p >>= q) (p' >>= q') (after run next) (f ++ if_empty e g) (e && d) (goes' ++ if_empty d goes)
     in_turn = record {
       sound = turn_sound;
@@ -257,6 +287,7 @@ module _ (class : Token → ℕ) where
       starts = turn_starts;
       complete = turn_complete;
       reach = turn_reach;
+      closed = turn_closed;
     }
 
   -- ---- one word
@@ -277,10 +308,7 @@ module _ (class : Token → ℕ) where
   is_some_of (Some b) a e = refl
   is_some_of None a e = cc
 
-  module _ {A : Type 0} (m : ℕ) (f : Token → Option A) (c : ℕ) (only : (t : Token) → IsSome (f t) → class t ≡ c) where
-    word_class : (t : Token) → IsSome (f t) → has (c ∷ []) (class t) ≡ true
-    word_class t s = or_left (c == class t) false (eq-eqb c (class t) (sym (only t s)))
-
+  module _ {A : Type 0} (m : ℕ) (f : Token → Option A) (cs : List ℕ) (word_class : (t : Token) → IsSome (f t) → has cs (class t) ≡ true) where
     word_sound : (ts rest : List Token) (a : A) → word f ts ≡ Ok (a, rest) → (front : List Token) × (ts ≡ front ++ rest) × (one f).Spells a front
     word_sound [] rest a e = cc
     word_sound (t ∷ ts) rest a e = let h = taken_ok (t ∷ ts) ts (f t) a rest e in (t ∷ [], ap (λ w. t ∷ w) h.1, (t, refl, h.0))
@@ -289,9 +317,19 @@ module _ (class : Token → ℕ) where
     word_stuck [] rest e = ([], cc, inl refl)
     word_stuck (t ∷ ts) rest e = ([], taken_err (t ∷ ts) ts (f t) rest e, inl refl)
 
-    word_starts : (front : List Token) → (one f).Begins front → Heads (c ∷ []) true front
+    word_starts : (front : List Token) → (one f).Begins front → Heads cs true front
     word_starts [] b = refl
-    word_starts (t ∷ ts) b = ⊎_elim (λ h. cc) (λ h. let same : t ≡ h.0 = cc in subst (λ s. has (c ∷ []) (class s) ≡ true) (sym same) (word_class h.0 h.2)) b
+    word_starts (t ∷ ts) b = ⊎_elim (λ h. cc) (λ h. let same : t ≡ h.0 = cc in subst (λ s. has cs (class s) ≡ true) (sym same) (word_class h.0 h.2)) b
+
+    word_closed : (front back : List Token) → (one f).Begins (front ++ back) → (one f).Begins front
+    word_closed [] back b = inl refl
+    word_closed (t ∷ u) back b = ⊎_elim (λ h. let no : ⊥ = cc h in absurd no) (λ h. inr (h.0, one_left t u back h.0 h.1, h.2)) b
+      where
+        one_left : (t : Token) (u v : List Token) (s : Token) → t ∷ (u ++ v) ≡ s ∷ [] → t ∷ u ≡ s ∷ []
+        one_left t u v s e =
+            let first : t ≡ s = cc in
+            let others : u ++ v ≡ [] = cc in
+            rw (first, nil_front u v others) refl
 
     word_reach : (front rest : List Token) → (one f).Begins front → left (word f (front ++ rest)) ≤ length rest
     word_reach front rest b =
@@ -308,16 +346,17 @@ module _ (class : Token → ℕ) where
             any (Some b) = omega arith
             any None = omega arith
 
-    pub reads_word : Reads m (one f) (one f) (word f) (c ∷ []) false []
+    pub reads_word : Reads m (one f) (one f) (word f) cs false []
     reads_word = record {
       sound = word_sound;
       stuck = word_stuck;
       none = inl refl;
       begun = λ a front s. inr (s.0, s.1, is_some_of (f s.0) a s.2);
-      heads = λ a front s. subst (λ w. Heads (c ∷ []) false w) (sym s.1) (word_class s.0 (is_some_of (f s.0) a s.2));
+      heads = λ a front s. subst (λ w. Heads cs false w) (sym s.1) (word_class s.0 (is_some_of (f s.0) a s.2));
       starts = word_starts;
       complete = λ a front rest l s k. ap (λ w. word f (w ++ rest)) s.1 ∙ ap (λ o. taken (s.0 ∷ rest) rest o) s.2;
       reach = λ front rest l b. word_reach front rest b;
+      closed = word_closed;
     }
 
   -- ---- one of two
@@ -386,6 +425,7 @@ module _ (class : Token → ℕ) where
           (λ h. chosen_false (sees class f (front ++ rest)) (run (front ++ rest)) (run' (front ++ rest)) (other_first front rest (Q.heads a front h) k) ∙ Q.complete a front rest l h k2.1)
           s;
       reach = choice_reach;
+      closed = λ front back b. ⊎_elim (λ h. inl (P.closed front back h)) (λ h. inr (Q.closed front back h)) b;
     }
 
   -- ---- any number
@@ -504,6 +544,27 @@ module _ (class : Token → ℕ) where
             let n = left_after (with_front a) (λ z r. le_refl (length r)) (each class f run j (t' ∷ (w ++ rest))) in
             subst (λ o. left o ≤ length rest) (sym (each_turn j (t ∷ (u ++ (t' ∷ (w ++ rest)))) hu ∙ ap (λ o. and_then o (λ b r. and_then (each class f run j r) (with_front b))) c)) (omega (arith, i, n))
 
+    all_closed : (items : List A) (u w : List Token) → SpellsAll p' items (u ++ w) → (many p').Begins u
+    all_closed [] u w s = subst (λ z. (many p').Begins z) (sym (nil_front u w s)) ([], [], [], refl, refl, P.none)
+    all_closed (a ∷ items) u w s =
+        let (x, y, e, sx, sy) = s in
+        all_step u w x y a sx e (λ z h. all_closed items z w (subst (λ k. SpellsAll p' items k) h sy))
+      where
+        all_step : (u w x y : List Token) (a : A) → p'.Spells a x → u ++ w ≡ x ++ y → ((z : List Token) → y ≡ z ++ w → (many p').Begins z) → (many p').Begins u
+        all_step u w x y a sx e more =
+            ⊎_elim
+            (λ k. ([], [], u, refl, refl, P.closed u k.0 (subst (λ z. p'.Begins z) k.1 (P.begun a x sx))))
+            (λ k. let (others, f, g, e2, sf, bg) = more k.0 k.2 in (a ∷ others, x ++ f, g, k.1 ∙ ap (λ z. x ++ z) e2 ∙ sym (append_assoc x f g), (x, f, refl, sx, sf), bg))
+            (cut_point u w x y e)
+
+    many_closed : (front back : List Token) → (many p').Begins (front ++ back) → (many p').Begins front
+    many_closed front back b =
+        let (items, x, y, e, s, by) = b in
+        ⊎_elim
+        (λ k. all_closed items front k.0 (subst (λ z. SpellsAll p' items z) k.1 s))
+        (λ k. (items, x, k.0, k.1, s, P.closed k.0 back (subst (λ z. p'.Begins z) k.2 by)))
+        (cut_point front back x y e)
+
     pub reads_many : Reads m (many p) (many p') (each_of class f run) f true (f ++ goes)
     reads_many = record {
       sound = λ ts rest a e. each_sound (length ts) ts rest a e;
@@ -516,6 +577,7 @@ module _ (class : Token → ℕ) where
       reach = λ front rest l b. let (items, u, v, e, su, bv) = b in
           subst (λ w. left (each class f run (length (w ++ rest)) (w ++ rest)) ≤ length rest) (sym e)
           (each_reach items (length ((u ++ v) ++ rest)) u v rest (subst (λ w. length (w ++ rest) < m) e l) (le_refl (length ((u ++ v) ++ rest))) su bv);
+      closed = many_closed;
     }
       where
         many_starts : (u v : List Token) → Heads f true u → Heads f true v → Heads f true (u ++ v)
@@ -523,12 +585,6 @@ module _ (class : Token → ℕ) where
         many_starts (t ∷ u) v h k = h
 
   -- ---- another form of a part
-
-  pub record Same {A : Type 0} (p q : Part A) : Type 0 where
-    pub spells : (a : A) (ts : List Token) → p.Spells a ts → q.Spells a ts
-    pub begins : (ts : List Token) → p.Begins ts → q.Begins ts
-    pub spells_back : (a : A) (ts : List Token) → q.Spells a ts → p.Spells a ts
-    pub begins_back : (ts : List Token) → q.Begins ts → p.Begins ts
 
   pub reads_same : {A : Type 0} (m : ℕ) (p p' q q' : Part A) (run : Reader A) (f g : List ℕ) (e : Bool) → Same p q → Same p' q' → Reads m p p' run f e g → Reads m q q' run f e g
   reads_same m p p' q q' run f g e S S' P = record {
@@ -540,15 +596,7 @@ module _ (class : Token → ℕ) where
     starts = λ front b. P.starts front (S'.begins_back front b);
     complete = λ a front rest l s k. P.complete a front rest l (S'.spells_back a front s) k;
     reach = λ front rest l b. P.reach front rest l (S'.begins_back front b);
-  }
-
-  -- two branches that begin alike
-  pub same_front : {A B : Type 0} (p : Part A) (q r : A → Part B) → Same (p >>= (λ a. q a or r a)) ((p >>= q) or (p >>= r))
-  same_front p q r = record {
-    spells = λ b ts s. let (a, u, v, e, su, sv) = s in ⊎_elim (λ h. inl (a, u, v, e, su, h)) (λ h. inr (a, u, v, e, su, h)) sv;
-    begins = λ ts b. ⊎_elim (λ h. inl (inl h)) (λ h. let (a, u, v, e, su, bv) = h in ⊎_elim (λ k. inl (inr (a, u, v, e, su, k))) (λ k. inr (inr (a, u, v, e, su, k))) bv) b;
-    spells_back = λ b ts s. ⊎_elim (λ h. let (a, u, v, e, su, sv) = h in (a, u, v, e, su, inl sv)) (λ h. let (a, u, v, e, su, sv) = h in (a, u, v, e, su, inr sv)) s;
-    begins_back = λ ts b. ⊎_elim (λ h. ⊎_elim (λ k. inl k) (λ k. let (a, u, v, e, su, bv) = k in inr (a, u, v, e, su, inl bv)) h) (λ h. ⊎_elim (λ k. inl k) (λ k. let (a, u, v, e, su, bv) = k in inr (a, u, v, e, su, inr bv)) h) b;
+    closed = λ front back b. S'.begins front (P.closed front back (S'.begins_back (front ++ back) b));
   }
 
   -- ---- a part that may be left out
@@ -588,6 +636,7 @@ module _ (class : Token → ℕ) where
       starts = λ front b. P.starts front b;
       complete = λ a front rest l s k. c.complete a front rest l (there_back p' a front s) k;
       reach = λ front rest l b. c.reach front rest l (inl (inl b));
+      closed = λ front back b. P.closed front back b;
     }
       where
         maybe_begun : (o : Option A) (front : List Token) → SpellsMaybe p' o front → p'.Begins front
@@ -608,6 +657,7 @@ module _ (class : Token → ℕ) where
       starts = λ front b. subst (λ w. Heads f true w) (sym b) refl;
       complete = λ a front rest l s k. absurd s;
       reach = λ front rest l b. absurd (omega arith);
+      closed = λ front back b. nil_front front back b;
     }
     nested_none (suc n) = let r = step 0 never (nested body n) (deeper body_run 0) (nested_none n) in record {
       sound = λ ts rest a e. cc;
@@ -618,6 +668,7 @@ module _ (class : Token → ℕ) where
       starts = r.starts;
       complete = λ a front rest l s k. absurd (omega arith);
       reach = λ front rest l b. absurd (omega arith);
+      closed = r.closed;
     }
 
     reads_nested : (m n : ℕ) → Reads m (nested body m) (nested body n) (deeper body_run m) f false goes
@@ -631,6 +682,7 @@ module _ (class : Token → ℕ) where
       starts = λ front b. subst (λ w. Heads f true w) (sym b) refl;
       complete = λ a front rest l s k. absurd s;
       reach = λ front rest l b. subst (λ w. left (deeper body_run (suc m) (w ++ rest)) ≤ length rest) (sym b) (shorter (suc m) (body (nested body m)) (body never) (body_run m (deeper body_run m)) f false goes r rest);
+      closed = λ front back b. nil_front front back b;
     }
     reads_nested (suc m) (suc n) = step m (nested body m) (nested body n) (deeper body_run m) (reads_nested m n)
 
@@ -644,15 +696,14 @@ module _ (class : Token → ℕ) where
       starts = λ front b. (reads_nested m b.0).starts front b.1;
       complete = λ a front rest l s k. (reads_nested m s.0).complete a front rest l s.1 k;
       reach = λ front rest l b. (reads_nested m b.0).reach front rest l b.1;
+      closed = λ front back b. (b.0, (reads_nested m b.0).closed front back b.1);
     }
 
-  -- ---- the verdict on a whole list of words
+  -- ---- the verdict on a whole list of tokens
 
   abbrev pub ok_or_rest : {A : Type 0} → Outcome A → List Token
   ok_or_rest (Ok p) = p.1
   ok_or_rest (Err r) = r
-
-  -- ---- the verdict on a whole list of words
 
   module _ {A : Type 0} (p : Part A) (run : Reader A) (f goes : List ℕ) (e : Bool) (ts : List Token) (R : Reads (suc (length ts)) p p run f e goes) where
     -- what is spelled is read
@@ -662,12 +713,12 @@ module _ (class : Token → ℕ) where
     pub whole_found : (a : A) → run ts ≡ Ok (a, []) → p.Spells a ts
     whole_found a e = let s = R.sound ts [] a e in subst (λ w. p.Spells a w) (sym (s.1 ∙ append-nil s.0)) s.2
 
-    -- the words before the place begin the part
+    -- the tokens before the place begin the part
     pub front_begins : (o : Outcome A) → run ts ≡ o → (rest : List Token) → rest ≡ ok_or_rest o → (front : List Token) × (ts ≡ front ++ rest) × p.Begins front
     front_begins (Ok x) e rest k = let s = R.sound ts x.1 x.0 e in (s.0, rw k s.1, R.begun x.0 s.0 s.2)
     front_begins (Err r) e rest k = let s = R.stuck ts r e in (s.0, rw k s.1, s.2)
 
-    -- and with the word at the place they don't
+    -- and with the token at the place they don't
     pub front_ends : (front : List Token) (t : Token) (rest : List Token) → ts ≡ front ++ (t ∷ rest) → left (run ts) ≡ suc (length rest) → p.Begins (front ++ (t ∷ [])) → ⊥
     front_ends front t rest e l b =
         let w : ts ≡ (front ++ (t ∷ [])) ++ rest = e ∙ sym (append_assoc front (t ∷ []) rest) in
@@ -712,4 +763,19 @@ module _ (class : Token → ℕ) where
     starts = λ front b. wide_heads f f' true front x (P.starts front b);
     complete = λ a front rest l s k. P.complete a front rest l s (wide_sees goes goes' rest y k);
     reach = P.reach;
+    closed = P.closed;
+  }
+
+  -- another reader that does the same
+  pub another : {A : Type 0} {m : ℕ} {p p' : Part A} {run run' : Reader A} {f goes : List ℕ} {e : Bool} → Reads m p p' run f e goes → ((ts : List Token) → run ts ≡ run' ts) → Reads m p p' run' f e goes
+  another {p = p} {p' = p'} {run = run} {run' = run'} P same = record {
+    sound = λ ts rest a h. P.sound ts rest a (same ts ∙ h);
+    stuck = λ ts rest h. P.stuck ts rest (same ts ∙ h);
+    none = P.none;
+    begun = P.begun;
+    heads = P.heads;
+    starts = P.starts;
+    complete = λ a front rest l s k. sym (same (front ++ rest)) ∙ P.complete a front rest l s k;
+    reach = λ front rest l b. subst (λ o. left o ≤ length rest) (same (front ++ rest)) (P.reach front rest l b);
+    closed = P.closed;
   }

@@ -1,0 +1,11 @@
+pub mod Same
+pub mod Reading
+pub mod Factors
+pub mod Productions
+pub mod ExprReads
+pub mod StmtReads
+pub mod DeclReads
+pub mod Plain
+pub mod PlainReads
+pub mod Verdict
+pub mod Judge

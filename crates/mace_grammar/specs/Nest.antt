@@ -1,0 +1,79 @@
+-- The nest: how many brackets are open, and how many operators stand in the pieces on the stack.
+use Rattle.std.specs.Prelude.{ℕ, ◌+◌, ◌<◌, ◌≤◌, List, [], ◌∷◌, length, take, fold, sum, Option, Some, None}
+use Rattle.mace_lexer.specs.declared.token.Word.{Word}
+use Rattle.mace_lexer.specs.declared.token.Word.TheVariants as word
+use Rattle.mace_lexer.specs.declared.sign.Sign.{Sign}
+use Rattle.mace_lexer.specs.declared.sign.Sign.TheVariants as s
+
+-- the operators of the current piece, and those of the pieces under it
+pub record Pieces : Type 0 where
+  pub current : ℕ
+  pub under : List ℕ
+
+abbrev pub no_pieces : Pieces
+no_pieces = record { current = 0; under = [] }
+
+-- a bracket opens: a piece with no operators
+abbrev pub opened : Pieces → Pieces
+opened p = record { current = 0; under = p.current ∷ p.under }
+
+-- a bracket closes: the piece under it is the current one
+abbrev pub closed : List ℕ → Pieces
+closed [] = no_pieces
+closed (n ∷ under) = record { current = n; under = under }
+
+-- the current piece begins anew
+abbrev pub cleared : Pieces → Pieces
+cleared p = record { current = 0; under = p.under }
+
+-- one operator more
+abbrev pub counted : Pieces → Pieces
+counted p = record { current = p.current + 1; under = p.under }
+
+abbrev pub past_sign : Sign → Pieces → Pieces
+past_sign s.LeftParen p = opened p
+past_sign s.LeftBracket p = opened p
+past_sign s.LeftBrace p = opened (cleared p)
+past_sign s.RightParen p = closed p.under
+past_sign s.RightBracket p = closed p.under
+past_sign s.RightBrace p = cleared (closed p.under)
+past_sign s.Comma p = cleared p
+past_sign s.Semicolon p = cleared p
+past_sign s.Colon p = p
+past_sign s.Dot p = p
+past_sign s.Equals p = p
+past_sign s.EqualsEquals p = counted p
+past_sign s.BangEquals p = counted p
+past_sign s.Less p = counted p
+past_sign s.LessEquals p = counted p
+past_sign s.Greater p = counted p
+past_sign s.GreaterEquals p = counted p
+past_sign s.Plus p = counted p
+past_sign s.Minus p = counted p
+past_sign s.Star p = counted p
+past_sign s.Slash p = counted p
+past_sign s.Percent p = counted p
+past_sign s.AndAnd p = counted p
+past_sign s.OrOr p = counted p
+past_sign s.Bang p = counted p
+
+abbrev pub past_word : Pieces → Word → Pieces
+past_word p (word.Sign j) = past_sign j p
+past_word p _ = p
+
+-- the open brackets, and the operators of all pieces
+abbrev pub nest : Pieces → ℕ
+nest p = length p.under + (p.current + sum p.under)
+
+-- the nest behind these words
+abbrev pub nest_after : List Word → ℕ
+nest_after ws = nest (fold past_word no_pieces ws)
+
+-- the nest passes 64 behind no front of the words
+abbrev pub IsShallow : List Word → Type 0
+IsShallow ws = (k : ℕ) → k ≤ length ws → nest_after (take k ws) ≤ 64
+
+-- the first word behind which the nest passes 64
+abbrev pub IsFirstDeep : List Word → Option ℕ → Type 0
+IsFirstDeep ws None = IsShallow ws
+IsFirstDeep ws (Some j) = (j < length ws) × (64 < nest_after (take (j + 1) ws)) × IsShallow (take j ws)

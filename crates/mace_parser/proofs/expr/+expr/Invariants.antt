@@ -1,0 +1,57 @@
+use Rattle.std.proofs.Common.{◌≡◌, ◌+◌, ◌*◌, ◌-◌, map}
+use Rattle.mace_lexer.specs.declared.sign.Sign.TheVariants as s
+use Rattle.mace_ast.specs.Exprs.{expr_tree}
+use Rattle.mace_grammar.specs.Readers as reader
+use Rattle.mace_parser.proofs.Turns.{list_from}
+use Rattle.mace_parser.proofs.expr.+expr.Given as goal
+
+abbrev pub decreases-unary : goal.decreases-unary
+decreases-unary l = 40 * l.depth + 8
+
+abbrev pub decreases-expr : goal.decreases-expr
+decreases-expr l = 40 * l.depth + 20
+
+abbrev pub decreases-parenthesized : goal.decreases-parenthesized
+decreases-parenthesized l = 40 * l.depth + 21
+
+abbrev pub decreases-bracketed : goal.decreases-bracketed
+decreases-bracketed l = 40 * l.depth + 21
+
+abbrev pub decreases-next_expr : goal.decreases-next_expr
+decreases-next_expr l = 40 * l.depth + 21
+
+abbrev pub decreases-list : goal.decreases-list
+decreases-list l = 40 * l.depth + 22
+
+abbrev pub decreases-arguments : goal.decreases-arguments
+decreases-arguments l = 40 * l.depth + 23
+
+abbrev pub decreases-call : goal.decreases-call
+decreases-call l = 40 * l.depth + 24
+
+abbrev pub decreases-above : goal.decreases-above
+decreases-above l = 40 * l.depth + 24
+
+abbrev pub decreases-index : goal.decreases-index
+decreases-index l = 40 * l.depth + 24
+
+abbrev pub decreases-named : goal.decreases-named
+decreases-named l = 40 * l.depth + 25
+
+abbrev pub decreases-primary : goal.decreases-primary
+decreases-primary l = 40 * l.depth + 26
+
+abbrev pub decreases-signed : goal.decreases-signed
+decreases-signed l = 40 * l.depth + 26
+
+abbrev pub decreases-chain : goal.decreases-chain
+decreases-chain l = 40 * l.depth + 9 + 2 * l.level
+
+abbrev pub decreases-operand : goal.decreases-operand
+decreases-operand l = 40 * l.depth + 10 + 2 * l.level
+
+abbrev pub invariant-list-turns : goal.invariant-list-turns
+invariant-list-turns l = list_from (reader.if_sign s.Comma) (reader.next_at (reader.expr_at (reader.unary_at l.depth))) (l.end - l.counter) (map expr_tree l.found.items) l.rest ≡ reader.list_at (reader.expr_at (reader.unary_at l.depth)) l.tokens
+
+abbrev pub invariant-chain-turns : goal.invariant-chain-turns
+invariant-chain-turns l = reader.operands_at (l.level - 1) (reader.level_at (reader.unary_at l.depth) (l.level - 1)) (l.end - l.counter) (expr_tree l.left) l.rest ≡ reader.level_at (reader.unary_at l.depth) l.level l.tokens

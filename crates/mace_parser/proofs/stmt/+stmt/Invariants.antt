@@ -1,0 +1,29 @@
+use Rattle.std.proofs.Common.{◌≡◌, ◌+◌, ◌*◌, ◌-◌, map}
+use Rattle.mace_ast.specs.Stmts.{stmt_tree}
+use Rattle.mace_grammar.specs.Readers as reader
+use Rattle.mace_parser.proofs.Turns.{list_from}
+use Rattle.mace_parser.proofs.stmt.+stmt.Given as goal
+
+abbrev pub decreases-stmt : goal.decreases-stmt
+decreases-stmt l = 6 * l.depth + 0
+
+abbrev pub decreases-stmts : goal.decreases-stmts
+decreases-stmts l = 6 * l.depth + 1
+
+abbrev pub decreases-block : goal.decreases-block
+decreases-block l = 6 * l.depth + 2
+
+abbrev pub decreases-maybe_else : goal.decreases-maybe_else
+decreases-maybe_else l = 6 * l.depth + 3
+
+abbrev pub decreases-if_stmt : goal.decreases-if_stmt
+decreases-if_stmt l = 6 * l.depth + 4
+
+abbrev pub decreases-while_stmt : goal.decreases-while_stmt
+decreases-while_stmt l = 6 * l.depth + 4
+
+abbrev pub decreases-for_stmt : goal.decreases-for_stmt
+decreases-for_stmt l = 6 * l.depth + 4
+
+abbrev pub invariant-stmts-turns : goal.invariant-stmts-turns
+invariant-stmts-turns l = list_from reader.stmt_starts (reader.stmt_at l.depth) (l.end - l.counter) (map stmt_tree l.found.items) l.rest ≡ reader.stmts_in (reader.stmt_at l.depth) l.tokens

@@ -1,0 +1,82 @@
+// Contexts and the service.
+
+ghost use Rattle.std.specs.Prelude.{◌≡◌, map};
+ghost use Rattle.mace_ast.specs.Decls.{context_tree, service_tree};
+ghost use Rattle.mace_grammar.specs.Readers as reader;
+ghost use Rattle.mace_parser.specs.Gives.{Gives};
+
+use crate::class::sees_key;
+use crate::event::events;
+use crate::fault::{Fault, Read};
+use crate::field::vars;
+use crate::method::methods;
+use crate::token::{key, name, sign};
+use mace_ast::{ContextDecl, Service};
+use mace_lexer::{Keyword, Sign, Token};
+use std::alloc::Global;
+use wave_base::Seq;
+
+#[cycle(context)]
+#[tactic(auto, unfolding(mace_grammar::specs::Readers::one_context_at))]
+fn context<'a>(alloc: Global, depth: usize, tokens: &'a [Token]) -> Read<'a, ContextDecl>
+    ensures { Gives (λ x. (context_tree x.0, x.1.now)) result (reader.context_at depth tokens.now) }
+{
+    if depth == 0 {
+        return Err(Fault::Stuck(tokens));
+    }
+    let depth = depth - 1;
+    let (at, rest) = key(Keyword::Context, tokens)?;
+    let (name, rest) = name(alloc, rest)?;
+    let (_, rest) = sign(Sign::LeftBracket, rest)?;
+    let (_, rest) = key(Keyword::Int, rest)?;
+    let (_, rest) = sign(Sign::RightBracket, rest)?;
+    let (_, rest) = sign(Sign::LeftBrace, rest)?;
+    let (vars, rest) = vars(alloc, rest)?;
+    let (inner, rest) = contexts(alloc, depth, rest)?;
+    let (methods, rest) = methods(alloc, depth, rest)?;
+    let (_, rest) = sign(Sign::RightBrace, rest)?;
+    Ok((ContextDecl::new(at, name, vars, inner, methods), rest))
+}
+
+// Contexts, one behind the other.
+#[cycle(context)]
+#[tactic(auto, unfolding(mace_grammar::specs::Readers::contexts_in))]
+fn contexts<'a>(alloc: Global, depth: usize, tokens: &'a [Token]) -> Read<'a, Vec<ContextDecl>>
+    ensures { Gives (λ x. (map context_tree x.0.items, x.1.now)) result (reader.contexts_in (reader.context_at depth) tokens.now) }
+{
+    let mut rest = tokens;
+    let mut found = Vec::new(alloc);
+    'turns: for _ in 0..tokens.len() {
+        if !sees_key(Keyword::Context, rest) {
+            break;
+        }
+        let (next, after) = context(alloc, depth, rest)?;
+        found.push(next)?;
+        rest = after;
+    }
+    Ok((found, rest))
+}
+
+/// A service. `depth` is more than the tokens.
+#[tactic(auto, unfolding(mace_grammar::specs::Readers::service_at))]
+pub fn service<'a>(alloc: Global, depth: usize, tokens: &'a [Token]) -> Read<'a, Service>
+    ensures { Gives (λ x. (service_tree x.0, x.1.now)) result (reader.service_at depth tokens.now) }
+{
+    let (at, rest) = key(Keyword::Service, tokens)?;
+    let (name, rest) = name(alloc, rest)?;
+    let (_, rest) = sign(Sign::LeftBrace, rest)?;
+    let (vars, rest) = vars(alloc, rest)?;
+    let (inner, rest) = contexts(alloc, depth, rest)?;
+    let (methods, rest) = methods(alloc, depth, rest)?;
+    let (events, rest) = events(alloc, depth, rest)?;
+    let (_, rest) = sign(Sign::RightBrace, rest)?;
+    let service = Service {
+        at,
+        name,
+        vars,
+        contexts: Seq::from_vec(inner),
+        methods,
+        events,
+    };
+    Ok((service, rest))
+}

@@ -1,0 +1,375 @@
+// Expressions.
+
+ghost use Rattle.std.specs.Prelude.{◌≡◌, ◌<◌, ◌≤◌, map};
+ghost use Rattle.std.specs.Option.{option_map};
+ghost use Rattle.mace_ast.specs.Exprs.{expr_tree};
+ghost use Rattle.mace_grammar.specs.Words as words;
+ghost use Rattle.mace_grammar.specs.Readers as reader;
+ghost use Rattle.mace_parser.specs.Gives.{Gives};
+
+use crate::class::{begins_expr, sees_literal, sees_operator, sees_sign, sees_unary};
+use crate::fault::{Fault, Read};
+use crate::token::{field, name, sign};
+use mace_ast::{BinaryOp, Expr, Name, UnaryOp};
+use mace_lexer::{Keyword, Sign, Token, Word};
+use std::alloc::Global;
+use wave_base::Span;
+
+// ---- one token
+
+fn literal_of_key(at: Span, key: Keyword) -> Option<Expr>
+    ensures { option_map expr_tree result ≡ words.literal_of_key at key }
+{
+    match key {
+        Keyword::True => Some(Expr::boolean(at, true)),
+        Keyword::False => Some(Expr::boolean(at, false)),
+        Keyword::Empty => Some(Expr::empty(at)),
+        _ => None,
+    }
+}
+
+fn literal<'a>(alloc: Global, tokens: &'a [Token]) -> Read<'a, Expr>
+    ensures { Gives (λ x. (expr_tree x.0, x.1.now)) result (reader.literal_at tokens.now) }
+{
+    let Some((t, rest)) = tokens.split_first() else {
+        return Err(Fault::Stuck(tokens));
+    };
+    match &t.word {
+        Word::Number(n) => Ok((Expr::number(t.span, *n), rest)),
+        Word::Text(text) => Ok((Expr::text(t.span, text.copy(alloc)?), rest)),
+        Word::Key(key) => match literal_of_key(t.span, *key) {
+            Some(e) => Ok((e, rest)),
+            None => Err(Fault::Stuck(tokens)),
+        },
+        _ => Err(Fault::Stuck(tokens)),
+    }
+}
+
+fn unary_of(sign: Sign) -> Option<UnaryOp>
+    ensures { result ≡ words.unary_of sign }
+{
+    match sign {
+        Sign::Minus => Some(UnaryOp::Neg),
+        Sign::Bang => Some(UnaryOp::Not),
+        _ => None,
+    }
+}
+
+fn unary_op(tokens: &[Token]) -> Read<'_, (Span, UnaryOp)>
+    ensures { Gives (λ x. (x.0, x.1.now)) result (reader.unary_op_at tokens.now) }
+{
+    let Some((t, rest)) = tokens.split_first() else {
+        return Err(Fault::Stuck(tokens));
+    };
+    let Word::Sign(sign) = t.word else {
+        return Err(Fault::Stuck(tokens));
+    };
+    match unary_of(sign) {
+        Some(op) => Ok(((t.span, op), rest)),
+        None => Err(Fault::Stuck(tokens)),
+    }
+}
+
+// ---- operators by their level, from the tightest: products, sums, comparisons, "&&" and "||"
+
+fn product_op(sign: Sign) -> Option<BinaryOp>
+    ensures { result ≡ words.product_op sign }
+{
+    match sign {
+        Sign::Star => Some(BinaryOp::Mul),
+        Sign::Slash => Some(BinaryOp::Div),
+        Sign::Percent => Some(BinaryOp::Rem),
+        _ => None,
+    }
+}
+
+fn sum_op(sign: Sign) -> Option<BinaryOp>
+    ensures { result ≡ words.sum_op sign }
+{
+    match sign {
+        Sign::Plus => Some(BinaryOp::Add),
+        Sign::Minus => Some(BinaryOp::Sub),
+        _ => None,
+    }
+}
+
+fn comparison_op(sign: Sign) -> Option<BinaryOp>
+    ensures { result ≡ words.comparison_op sign }
+{
+    match sign {
+        Sign::EqualsEquals => Some(BinaryOp::Eq),
+        Sign::BangEquals => Some(BinaryOp::Ne),
+        Sign::Less => Some(BinaryOp::Lt),
+        Sign::LessEquals => Some(BinaryOp::Le),
+        Sign::Greater => Some(BinaryOp::Gt),
+        Sign::GreaterEquals => Some(BinaryOp::Ge),
+        _ => None,
+    }
+}
+
+fn and_op(sign: Sign) -> Option<BinaryOp>
+    ensures { result ≡ words.and_op sign }
+{
+    match sign {
+        Sign::AndAnd => Some(BinaryOp::And),
+        _ => None,
+    }
+}
+
+fn or_op(sign: Sign) -> Option<BinaryOp>
+    ensures { result ≡ words.or_op sign }
+{
+    match sign {
+        Sign::OrOr => Some(BinaryOp::Or),
+        _ => None,
+    }
+}
+
+fn op_of(level: u8, sign: Sign) -> Option<BinaryOp>
+    requires { level < 5 }
+    ensures { result ≡ reader.op_of level sign }
+{
+    match level {
+        0 => product_op(sign),
+        1 => sum_op(sign),
+        2 => comparison_op(sign),
+        3 => and_op(sign),
+        _ => or_op(sign),
+    }
+}
+
+fn operator(level: u8, tokens: &[Token]) -> Read<'_, BinaryOp>
+    requires { level < 5 }
+    ensures { Gives (λ x. (x.0, x.1.now)) result (reader.operator_at level tokens.now) }
+{
+    let Some((t, rest)) = tokens.split_first() else {
+        return Err(Fault::Stuck(tokens));
+    };
+    let Word::Sign(sign) = t.word else {
+        return Err(Fault::Stuck(tokens));
+    };
+    match op_of(level, sign) {
+        Some(op) => Ok((op, rest)),
+        None => Err(Fault::Stuck(tokens)),
+    }
+}
+
+// How many operands a chain of this level may go on with: comparisons don't chain.
+fn most_operands(level: u8, tokens: &[Token]) -> usize
+    requires { level < 5 }
+    ensures { result ≡ reader.turns_of level tokens.now }
+{
+    if level == 2 { 1 } else { tokens.len() }
+}
+
+// ---- the cycle
+
+#[cycle(expr)]
+#[tactic(auto, unfolding(mace_grammar::specs::Readers::signed_or_primary_at))]
+fn unary<'a>(alloc: Global, depth: usize, tokens: &'a [Token]) -> Read<'a, Expr>
+    ensures { Gives (λ x. (expr_tree x.0, x.1.now)) result (reader.unary_at depth tokens.now) }
+{
+    if depth == 0 {
+        return Err(Fault::Stuck(tokens));
+    }
+    if sees_unary(tokens) {
+        return signed(alloc, depth - 1, tokens);
+    }
+    primary(alloc, depth - 1, tokens)
+}
+
+#[cycle(expr)]
+#[tactic(auto, unfolding(mace_grammar::specs::Readers::signed_at))]
+fn signed<'a>(alloc: Global, depth: usize, tokens: &'a [Token]) -> Read<'a, Expr>
+    ensures { Gives (λ x. (expr_tree x.0, x.1.now)) result (reader.signed_at (reader.unary_at depth) tokens.now) }
+{
+    let ((at, op), rest) = unary_op(tokens)?;
+    let (operand, rest) = unary(alloc, depth, rest)?;
+    Ok((Expr::unary(alloc, at, op, operand)?, rest))
+}
+
+#[cycle(expr)]
+#[tactic(auto, unfolding(mace_grammar::specs::Readers::primary_at))]
+fn primary<'a>(alloc: Global, depth: usize, tokens: &'a [Token]) -> Read<'a, Expr>
+    ensures { Gives (λ x. (expr_tree x.0, x.1.now)) result (reader.primary_at (reader.unary_at depth) tokens.now) }
+{
+    if sees_literal(tokens) {
+        return literal(alloc, tokens);
+    }
+    if sees_sign(Sign::LeftParen, tokens) {
+        return parenthesized(alloc, depth, tokens);
+    }
+    named(alloc, depth, tokens)
+}
+
+#[cycle(expr)]
+#[tactic(auto, unfolding(mace_grammar::specs::Readers::parenthesized_at))]
+fn parenthesized<'a>(alloc: Global, depth: usize, tokens: &'a [Token]) -> Read<'a, Expr>
+    ensures { Gives (λ x. (expr_tree x.0, x.1.now)) result (reader.parenthesized_at (reader.unary_at depth) tokens.now) }
+{
+    let (_, rest) = sign(Sign::LeftParen, tokens)?;
+    let (inner, rest) = expr(alloc, depth, rest)?;
+    let (_, rest) = sign(Sign::RightParen, rest)?;
+    Ok((inner, rest))
+}
+
+/// `[k]`
+#[cycle(expr)]
+#[tactic(auto, unfolding(mace_grammar::specs::Readers::bracketed_at))]
+pub fn bracketed<'a>(alloc: Global, depth: usize, tokens: &'a [Token]) -> Read<'a, Expr>
+    ensures { Gives (λ x. (expr_tree x.0, x.1.now)) result (reader.bracketed_at (reader.unary_at depth) tokens.now) }
+{
+    let (_, rest) = sign(Sign::LeftBracket, tokens)?;
+    let (key, rest) = expr(alloc, depth, rest)?;
+    let (_, rest) = sign(Sign::RightBracket, rest)?;
+    Ok((key, rest))
+}
+
+#[cycle(expr)]
+#[tactic(auto, unfolding(mace_grammar::specs::Readers::named_at))]
+fn named<'a>(alloc: Global, depth: usize, tokens: &'a [Token]) -> Read<'a, Expr>
+    ensures { Gives (λ x. (expr_tree x.0, x.1.now)) result (reader.named_at (reader.unary_at depth) tokens.now) }
+{
+    let (first, rest) = name(alloc, tokens)?;
+    if sees_sign(Sign::LeftParen, rest) {
+        return call(alloc, depth, first, rest);
+    }
+    if sees_sign(Sign::Dot, rest) {
+        return above(alloc, depth, first, rest);
+    }
+    if sees_sign(Sign::LeftBracket, rest) {
+        return index(alloc, depth, first, rest);
+    }
+    Ok((Expr::read(first), rest))
+}
+
+// `f(..)`, behind the name.
+#[cycle(expr)]
+#[tactic(auto, unfolding(mace_grammar::specs::Readers::call_at))]
+fn call<'a>(alloc: Global, depth: usize, method: Name, tokens: &'a [Token]) -> Read<'a, Expr>
+    ensures { Gives (λ x. (expr_tree x.0, x.1.now)) result (reader.call_at (reader.unary_at depth) method tokens.now) }
+{
+    let (args, rest) = arguments(alloc, depth, tokens)?;
+    Ok((Expr::call(method, args), rest))
+}
+
+// `C.f` or `C.f[k]`, behind the class.
+#[cycle(expr)]
+#[tactic(auto, unfolding(mace_grammar::specs::Readers::above_at))]
+fn above<'a>(alloc: Global, depth: usize, class: Name, tokens: &'a [Token]) -> Read<'a, Expr>
+    ensures { Gives (λ x. (expr_tree x.0, x.1.now)) result (reader.above_at (reader.unary_at depth) class tokens.now) }
+{
+    let (field, rest) = field(alloc, tokens)?;
+    if !sees_sign(Sign::LeftBracket, rest) {
+        return Ok((Expr::above(class, field), rest));
+    }
+    let (key, rest) = bracketed(alloc, depth, rest)?;
+    Ok((Expr::above_index(alloc, class, field, key)?, rest))
+}
+
+// `m[k]` or `C[k].f(..)`, behind the name.
+#[cycle(expr)]
+#[tactic(auto, unfolding(mace_grammar::specs::Readers::index_at, mace_grammar::specs::Readers::child_call_at))]
+fn index<'a>(alloc: Global, depth: usize, first: Name, tokens: &'a [Token]) -> Read<'a, Expr>
+    ensures { Gives (λ x. (expr_tree x.0, x.1.now)) result (reader.index_at (reader.unary_at depth) first tokens.now) }
+{
+    let (key, rest) = bracketed(alloc, depth, tokens)?;
+    if !sees_sign(Sign::Dot, rest) {
+        return Ok((Expr::index(alloc, first, key)?, rest));
+    }
+    let (method, rest) = field(alloc, rest)?;
+    let (args, rest) = arguments(alloc, depth, rest)?;
+    Ok((Expr::child_call(alloc, first, key, method, args)?, rest))
+}
+
+/// `(..)`
+#[cycle(expr)]
+#[tactic(auto, unfolding(mace_grammar::specs::Readers::arguments_at, mace_grammar::specs::Readers::separated_at))]
+pub fn arguments<'a>(alloc: Global, depth: usize, tokens: &'a [Token]) -> Read<'a, Vec<Expr>>
+    ensures { Gives (λ x. (map expr_tree x.0.items, x.1.now)) result (reader.arguments_at (reader.unary_at depth) tokens.now) }
+{
+    let (_, rest) = sign(Sign::LeftParen, tokens)?;
+    if !begins_expr(rest) {
+        let (_, rest) = sign(Sign::RightParen, rest)?;
+        return Ok((Vec::new(alloc), rest));
+    }
+    let (args, rest) = list(alloc, depth, rest)?;
+    let (_, rest) = sign(Sign::RightParen, rest)?;
+    Ok((args, rest))
+}
+
+#[cycle(expr)]
+#[tactic(auto, unfolding(mace_grammar::specs::Readers::list_at))]
+fn list<'a>(alloc: Global, depth: usize, tokens: &'a [Token]) -> Read<'a, Vec<Expr>>
+    ensures { Gives (λ x. (map expr_tree x.0.items, x.1.now)) result (reader.list_at (reader.expr_at (reader.unary_at depth)) tokens.now) }
+{
+    let (first, mut rest) = expr(alloc, depth, tokens)?;
+    let mut found = Vec::new(alloc);
+    found.push(first)?;
+    'turns: for _ in 0..rest.len() {
+        if !sees_sign(Sign::Comma, rest) {
+            break;
+        }
+        let (next, after) = next_expr(alloc, depth, rest)?;
+        found.push(next)?;
+        rest = after;
+    }
+    Ok((found, rest))
+}
+
+#[cycle(expr)]
+#[tactic(auto, unfolding(mace_grammar::specs::Readers::next_at))]
+fn next_expr<'a>(alloc: Global, depth: usize, tokens: &'a [Token]) -> Read<'a, Expr>
+    ensures { Gives (λ x. (expr_tree x.0, x.1.now)) result (reader.next_at (reader.expr_at (reader.unary_at depth)) tokens.now) }
+{
+    let (_, rest) = sign(Sign::Comma, tokens)?;
+    expr(alloc, depth, rest)
+}
+
+#[cycle(expr)]
+#[tactic(auto, unfolding(mace_grammar::specs::Readers::operand_at))]
+fn operand<'a>(
+    alloc: Global,
+    depth: usize,
+    level: u8,
+    tokens: &'a [Token],
+) -> Read<'a, (BinaryOp, Expr)>
+    requires { level < 5 }
+    ensures { Gives (λ x. ((x.0.0, expr_tree x.0.1), x.1.now)) result
+        (reader.operand_at (reader.operator_at level) (reader.level_at (reader.unary_at depth) level) tokens.now) }
+{
+    let (op, rest) = operator(level, tokens)?;
+    let (right, rest) = chain(alloc, depth, level, rest)?;
+    Ok(((op, right), rest))
+}
+
+// A chain of operators of a level, and all that is tighter.
+#[cycle(expr)]
+#[tactic(auto, unfolding(mace_grammar::specs::Readers::operands_at))]
+fn chain<'a>(alloc: Global, depth: usize, level: u8, tokens: &'a [Token]) -> Read<'a, Expr>
+    requires { level ≤ 5 }
+    ensures { Gives (λ x. (expr_tree x.0, x.1.now)) result (reader.level_at (reader.unary_at depth) level tokens.now) }
+{
+    if level == 0 {
+        return unary(alloc, depth, tokens);
+    }
+    let (mut left, mut rest) = chain(alloc, depth, level - 1, tokens)?;
+    'turns: for _ in 0..most_operands(level - 1, rest) {
+        if !sees_operator(level - 1, rest) {
+            break;
+        }
+        let ((op, right), after) = operand(alloc, depth, level - 1, rest)?;
+        left = Expr::binary(alloc, left, op, right)?;
+        rest = after;
+    }
+    Ok((left, rest))
+}
+
+/// An expression. `depth` is more than the tokens that are left.
+#[cycle(expr)]
+#[tactic(auto, unfolding(mace_grammar::specs::Readers::expr_at))]
+pub fn expr<'a>(alloc: Global, depth: usize, tokens: &'a [Token]) -> Read<'a, Expr>
+    ensures { Gives (λ x. (expr_tree x.0, x.1.now)) result (reader.expr_at (reader.unary_at depth) tokens.now) }
+{
+    chain(alloc, depth, 5, tokens)
+}

@@ -1,0 +1,47 @@
+use mace_lexer::Token;
+use std::alloc::{AllocError, AllocFailed};
+use thiserror::Error;
+use wave_base::{OutOfMemory, Span};
+
+/// Why a text is no service. `token` counts from 0, and the end of the text counts as a token behind the last one.
+#[derive(Debug, Drop, Error, PartialEq, Eq)]
+pub enum ParseError {
+    #[error("the tokens up to here begin a service, and with this one they do not")]
+    Expected { token: usize, at: Span },
+    #[error("brackets and operators are nested deeper than 64")]
+    TooDeep { token: usize, at: Span },
+    #[error("out of memory")]
+    OutOfMemory,
+}
+
+/// Why nothing was read: memory, or the tokens at which the reader is stuck.
+#[derive(Drop)]
+pub enum Fault<'a> {
+    Memory,
+    Stuck(&'a [Token]),
+}
+
+/// A value and the tokens behind it.
+pub type Read<'a, T> = Result<(T, &'a [Token]), Fault<'a>>;
+
+impl From<OutOfMemory> for Fault<'_> {
+    ghost use Rattle.std.specs.Prelude.{◌≡◌};
+    ghost use Rattle.mace_parser.specs.declared.fault.Fault.TheVariants.{Memory};
+
+    ghost from_gives = { λ _ e. e ≡ Memory };
+
+    fn from(_: OutOfMemory) -> Self {
+        Fault::Memory
+    }
+}
+
+impl<T: Drop> From<AllocFailed<T>> for Fault<'_> {
+    ghost use Rattle.std.specs.Prelude.{◌≡◌};
+    ghost use Rattle.mace_parser.specs.declared.fault.Fault.TheVariants.{Memory};
+
+    ghost from_gives = { λ _ e. e ≡ Memory };
+
+    fn from(_: AllocFailed<T>) -> Self {
+        Fault::Memory
+    }
+}

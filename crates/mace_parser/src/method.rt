@@ -1,0 +1,157 @@
+// Methods, and what they share with events.
+
+ghost use Rattle.std.specs.Prelude.{◌≡◌, map};
+ghost use Rattle.std.specs.Option.{option_map};
+ghost use Rattle.mace_ast.specs.Decls.{last_tree, method_tree};
+ghost use Rattle.mace_ast.specs.Stmts.{stmt_tree};
+ghost use Rattle.mace_grammar.specs.Readers as reader;
+ghost use Rattle.mace_parser.specs.Gives.{Gives};
+
+use crate::class::{sees_key, sees_name, sees_sign};
+use crate::fault::Read;
+use crate::stmt::{any_expr, stmts};
+use crate::token::{key, kind, name, sign};
+use mace_ast::{Last, MethodDecl, Param, Stmt};
+use mace_lexer::{Keyword, Sign, Token};
+use std::alloc::Global;
+use wave_base::{Kind, Seq};
+
+#[tactic(auto, unfolding(mace_grammar::specs::Readers::param_at))]
+fn param<'a>(alloc: Global, tokens: &'a [Token]) -> Read<'a, Param>
+    ensures { Gives (λ x. (x.0, x.1.now)) result (reader.param_at tokens.now) }
+{
+    let (name, rest) = name(alloc, tokens)?;
+    let (_, rest) = sign(Sign::Colon, rest)?;
+    let (kind, rest) = kind(rest)?;
+    Ok((Param { name, kind }, rest))
+}
+
+#[tactic(auto, unfolding(mace_grammar::specs::Readers::next_at))]
+fn next_param<'a>(alloc: Global, tokens: &'a [Token]) -> Read<'a, Param>
+    ensures { Gives (λ x. (x.0, x.1.now)) result (reader.next_at reader.param_at tokens.now) }
+{
+    let (_, rest) = sign(Sign::Comma, tokens)?;
+    param(alloc, rest)
+}
+
+#[tactic(auto, unfolding(mace_grammar::specs::Readers::list_at))]
+fn list<'a>(alloc: Global, tokens: &'a [Token]) -> Read<'a, Vec<Param>>
+    ensures { Gives (λ x. (x.0.items, x.1.now)) result (reader.list_at reader.param_at tokens.now) }
+{
+    let (first, mut rest) = param(alloc, tokens)?;
+    let mut found = Vec::new(alloc);
+    found.push(first)?;
+    'turns: for _ in 0..rest.len() {
+        if !sees_sign(Sign::Comma, rest) {
+            break;
+        }
+        let (next, after) = next_param(alloc, rest)?;
+        found.push(next)?;
+        rest = after;
+    }
+    Ok((found, rest))
+}
+
+/// Parameters in their parentheses.
+#[tactic(auto, unfolding(mace_grammar::specs::Readers::params_at, mace_grammar::specs::Readers::separated_at))]
+pub fn params<'a>(alloc: Global, tokens: &'a [Token]) -> Read<'a, Seq<Param>>
+    ensures { Gives (λ x. (x.0, x.1.now)) result (reader.params_at tokens.now) }
+{
+    let (_, rest) = sign(Sign::LeftParen, tokens)?;
+    if !sees_name(rest) {
+        let (_, rest) = sign(Sign::RightParen, rest)?;
+        return Ok((Seq::new(alloc), rest));
+    }
+    let (found, rest) = list(alloc, rest)?;
+    let (_, rest) = sign(Sign::RightParen, rest)?;
+    Ok((Seq::from_vec(found), rest))
+}
+
+/// `: T`, where it is there.
+#[tactic(auto, unfolding(mace_grammar::specs::Readers::result_at))]
+pub fn result_kind(tokens: &[Token]) -> Read<'_, Option<Kind>>
+    ensures { Gives (λ x. (x.0, x.1.now)) result (reader.result_at tokens.now) }
+{
+    if !sees_sign(Sign::Colon, tokens) {
+        return Ok((None, tokens));
+    }
+    let (_, rest) = sign(Sign::Colon, tokens)?;
+    let (kind, rest) = kind(rest)?;
+    Ok((Some(kind), rest))
+}
+
+#[tactic(auto, unfolding(mace_grammar::specs::Readers::last_at))]
+fn last<'a>(alloc: Global, want: Keyword, depth: usize, tokens: &'a [Token]) -> Read<'a, Last>
+    ensures { Gives (λ x. (last_tree x.0, x.1.now)) result (reader.last_at want depth tokens.now) }
+{
+    let (at, rest) = key(want, tokens)?;
+    let (value, rest) = any_expr(alloc, depth, rest)?;
+    let (_, rest) = sign(Sign::Semicolon, rest)?;
+    Ok((Last { at, value }, rest))
+}
+
+/// The value at the end, where there is one.
+#[tactic(auto, unfolding(mace_grammar::specs::Readers::maybe_last_at))]
+pub fn maybe_last<'a>(
+    alloc: Global,
+    want: Keyword,
+    depth: usize,
+    tokens: &'a [Token],
+) -> Read<'a, Option<Last>>
+    ensures { Gives (λ x. (option_map last_tree x.0, x.1.now)) result (reader.maybe_last_at want depth tokens.now) }
+{
+    if !sees_key(want, tokens) {
+        return Ok((None, tokens));
+    }
+    let (last, rest) = last(alloc, want, depth, tokens)?;
+    Ok((Some(last), rest))
+}
+
+#[tactic(auto, unfolding(mace_grammar::specs::Readers::stmts_at))]
+fn body<'a>(alloc: Global, depth: usize, tokens: &'a [Token]) -> Read<'a, Seq<Stmt>>
+    ensures { Gives (λ x. (map stmt_tree x.0, x.1.now)) result (reader.stmts_at depth tokens.now) }
+{
+    let (found, rest) = stmts(alloc, depth, tokens)?;
+    Ok((Seq::from_vec(found), rest))
+}
+
+#[tactic(auto, unfolding(mace_grammar::specs::Readers::method_at))]
+fn method<'a>(alloc: Global, depth: usize, tokens: &'a [Token]) -> Read<'a, MethodDecl>
+    ensures { Gives (λ x. (method_tree x.0, x.1.now)) result (reader.method_at depth tokens.now) }
+{
+    let (at, rest) = key(Keyword::Method, tokens)?;
+    let (name, rest) = name(alloc, rest)?;
+    let (params, rest) = params(alloc, rest)?;
+    let (kind, rest) = result_kind(rest)?;
+    let (_, rest) = sign(Sign::LeftBrace, rest)?;
+    let (body, rest) = body(alloc, depth, rest)?;
+    let (last, rest) = maybe_last(alloc, Keyword::Return, depth, rest)?;
+    let (_, rest) = sign(Sign::RightBrace, rest)?;
+    let method = MethodDecl {
+        at,
+        name,
+        params,
+        result: kind,
+        body,
+        last,
+    };
+    Ok((method, rest))
+}
+
+/// Methods, one behind the other.
+#[tactic(auto, unfolding(mace_grammar::specs::Readers::methods_at))]
+pub fn methods<'a>(alloc: Global, depth: usize, tokens: &'a [Token]) -> Read<'a, Seq<MethodDecl>>
+    ensures { Gives (λ x. (map method_tree x.0, x.1.now)) result (reader.methods_at depth tokens.now) }
+{
+    let mut rest = tokens;
+    let mut found = Vec::new(alloc);
+    'turns: for _ in 0..tokens.len() {
+        if !sees_key(Keyword::Method, rest) {
+            break;
+        }
+        let (next, after) = method(alloc, depth, rest)?;
+        found.push(next)?;
+        rest = after;
+    }
+    Ok((Seq::from_vec(found), rest))
+}
