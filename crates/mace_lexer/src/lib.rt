@@ -12,6 +12,7 @@ mod token;
 
 pub use fault::{LexError, LexFault};
 pub use keyword::{KEYWORDS, Keyword};
+pub use place::text_end;
 pub use reading::lex;
 pub use sign::{SIGNS, Sign};
 pub use token::{Token, Word};

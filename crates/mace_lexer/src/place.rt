@@ -1,5 +1,6 @@
 ghost use Rattle.std.specs.Prelude.{◌≡◌, ◌+◌, ◌<◌, ◌≤◌, ◌^◌, length};
 ghost use Rattle.mace_lexer.specs.Cuts.{past};
+ghost use Rattle.mace_lexer.specs.Lexed.{start};
 
 use wave_base::Span;
 
@@ -23,4 +24,12 @@ pub fn past(at: Span, bytes: &[u8]) -> Span
         }
     }
     place
+}
+
+/// The place behind the text's last byte.
+pub fn text_end(text: &[u8]) -> Span
+    requires { length text.now ≤ 67108864 }
+    ensures { result ≡ past start text.now }
+{
+    past(Span { line: 1, col: 1 }, text)
 }

@@ -87,6 +87,22 @@ module _ (ts rest : List Token) (j : ℕ) (front : List Token) (same : front ≡
     shallow = shallow;
   }
 
+-- where the tokens up to the first one that is too deep stop
+pub stopped_tells : (text : List ℕ) (ts rest front : List Token) (j : ℕ) (result : ParseError) → front ≡ take (j + 1) ts → IsFirstDeep (words ts) (Some j) → rest ≡ rest_of (judge front front) → (length rest ≡ 0 → result ≡ TooDeep j (place_in text ts j)) → (0 < length rest → result ≡ Expected (j + 1 - length rest) (place_in text ts (j + 1 - length rest))) → TellsFault text ts result
+stopped_tells text ts rest front j result same deep h all some =
+    ⊎_elim
+    (λ l. subst (λ e. TellsFault text ts e) (sym (some l)) (front_expected ts rest j front same deep.0 deep.2 h l, refl))
+    (λ l. subst (λ e. TellsFault text ts e) (sym (all (omega arith))) (front_deep ts rest j front same deep.0 deep.2 (sym h ∙ nothing rest (omega arith)) deep.1, refl))
+    (cases_lt 0 (length rest))
+  where
+    nothing : (l : List Token) → length l ≡ 0 → l ≡ []
+    nothing [] e = refl
+    nothing (t ∷ l) e = absurd (omega arith)
+
+-- all tokens up to the first one that is too deep are read
+pub read_tells : (text : List ℕ) (ts front : List Token) (j : ℕ) (s : ServiceTree) (result : ParseError) → front ≡ take (j + 1) ts → IsFirstDeep (words ts) (Some j) → judge front front ≡ Ok (s, []) → result ≡ TooDeep j (place_in text ts j) → TellsFault text ts result
+read_tells text ts front j s result same deep h all = subst (λ e. TellsFault text ts e) (sym all) (front_deep ts [] j front same deep.0 deep.2 (ap rest_of h) deep.1, refl)
+
 -- ---- the answer is the one
 
 nowhere_else : (ws : List Word) (m n : ℕ) → IsExpected ws m → IsExpected ws n → m ≡ n

@@ -124,5 +124,5 @@ positive : (level : ℕ) → (level ≡ 0 → ⊥) → suc (level - 1) ≡ level
 positive zero h = absurd (h refl)
 positive (suc m) h = omega arith
 
-pub chain_start : (unary : Reader ExprTree) (level n : ℕ) (first : ExprTree) (ts rest : List Token) → (level ≡ 0 → ⊥) → n ≡ turns_of (level - 1) rest → level_at unary (level - 1) ts ≡ Ok (first, rest) → operands_at (level - 1) (level_at unary (level - 1)) n first rest ≡ level_at unary level ts
-chain_start unary level n first ts rest h e g = chain_next unary (level - 1) n first ts rest e g ∙ ap (λ l. level_at unary l ts) (positive level h)
+pub chain_start : (unary : Reader ExprTree) (level n : ℕ) (first : ExprTree) (ts rest : List Token) → (level ≡ 0 → ⊥) → n ≡ turns_of (level - 1) rest → level_at unary (level - 1) ts ≡ Ok (first, rest) → operands_at (level - 1) (level_at unary (level - 1)) (n - 0) first rest ≡ level_at unary level ts
+chain_start unary level n first ts rest h e g = let whole : n - 0 ≡ n = omega arith in ap (λ i. operands_at (level - 1) (level_at unary (level - 1)) i first rest) whole ∙ chain_next unary (level - 1) n first ts rest e g ∙ ap (λ l. level_at unary l ts) (positive level h)

@@ -8,9 +8,13 @@ ghost use Rattle.mace_grammar.specs.Readers as reader;
 use mace_lexer::{Keyword, Sign, Token, Word};
 
 const NAME: u8 = 0;
+
 const NUMBER: u8 = 1;
+
 const TEXT: u8 = 2;
+
 const KEYS: u8 = 10;
+
 const SIGNS: u8 = 50;
 
 // What an initial value begins with but for a minus, and so a literal.

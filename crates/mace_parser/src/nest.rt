@@ -7,10 +7,7 @@ ghost use Rattle.mace_grammar.specs.Spelled.{words};
 use mace_lexer::{Sign, Token, Word};
 use std::alloc::Global;
 use std::marker::Model;
-use wave_base::OutOfMemory;
-
-// How many brackets and operators may be open at a token.
-const LIMIT: usize = 64;
+use wave_base::{NEST, OutOfMemory};
 
 // The operators of the current piece and of those under it, and the nest that they make.
 #[derive(Drop)]
@@ -128,7 +125,7 @@ pub fn first_deep(alloc: Global, tokens: &[Token]) -> Result<Option<usize>, OutO
     let mut pieces = Pieces::new(alloc);
     for (j, t) in tokens.iter().enumerate() {
         pieces.pass(&t.word)?;
-        if pieces.nest() > LIMIT {
+        if pieces.nest() > NEST {
             return Ok(Some(j));
         }
     }

@@ -1,6 +1,6 @@
 // A whole text.
 
-ghost use Rattle.std.specs.Prelude.{◌≡◌, ◌+◌, ◌≤◌, ℕ, length, Some, IfOk, IfErr, OnOk};
+ghost use Rattle.std.specs.Prelude.{◌≡◌, ◌+◌, ◌-◌, ◌<◌, ◌≤◌, ℕ, length, Some, IfOk, IfErr, OnOk};
 ghost use Rattle.mace_lexer.specs.Lexed.{AreTokens};
 ghost use Rattle.mace_ast.specs.Decls.{ServiceTree, service_tree};
 ghost use Rattle.mace_parser.specs.Gives.{TakesAll};
@@ -63,6 +63,28 @@ fn shallow(alloc: Global, text: &[u8], tokens: &[Token]) -> Result<Service, Pars
     }
 }
 
+fn too_deep(text: &[u8], tokens: &[Token], token: usize) -> ParseError
+    requires { length text.now ≤ 67108864 }
+    ensures { result ≡ ParseError.TooDeep token (place_in text.now tokens.now token) }
+{
+    let at = place(text, tokens, token);
+    ParseError::TooDeep { token, at }
+}
+
+// Where token `deep` is nested too deep, and so many of the tokens up to it were not read.
+fn stopped(text: &[u8], tokens: &[Token], deep: usize, left: usize) -> ParseError
+    requires text { length text.now ≤ 67108864 }
+    requires left { left ≤ deep + 1 }
+    requires deep { deep < length tokens.now }
+    ensures all { left ≡ 0 → result ≡ ParseError.TooDeep deep (place_in text.now tokens.now deep) }
+    ensures some { 0 < left → result ≡ ParseError.Expected (deep + 1 - left) (place_in text.now tokens.now (deep + 1 - left)) }
+{
+    if left == 0 {
+        return too_deep(text, tokens, deep);
+    }
+    expected(text, tokens, deep + 1 - left)
+}
+
 // Where token `deep` is the first that is nested too deep: only what stands before it is read, and so no deeper.
 fn cut_off(alloc: Global, text: &[u8], tokens: &[Token], deep: usize) -> ParseError
     requires text { length text.now ≤ 67108864 }
@@ -70,14 +92,9 @@ fn cut_off(alloc: Global, text: &[u8], tokens: &[Token], deep: usize) -> ParseEr
     ensures { TellsFault text.now tokens.now result }
 {
     match all(alloc, &tokens[..deep + 1]) {
+        Ok(_) => too_deep(text, tokens, deep),
+        Err(Fault::Stuck(rest)) => stopped(text, tokens, deep, rest.len()),
         Err(Fault::Memory) => ParseError::OutOfMemory,
-        Err(Fault::Stuck(rest)) if !rest.is_empty() => {
-            expected(text, tokens, deep + 1 - rest.len())
-        }
-        _ => {
-            let at = place(text, tokens, deep);
-            ParseError::TooDeep { token: deep, at }
-        }
     }
 }
 
@@ -122,6 +139,7 @@ pub fn parse(alloc: Global, text: &[u8], tokens: &[Token]) -> Result<Service, Pa
 #[cfg(test)]
 mod tests {
     use super::*;
+    use mace_ast::{BinaryOp, Node};
     use mace_lexer::lex;
     use std::process::Abort;
     use std::test::Fail;
@@ -137,19 +155,122 @@ mod tests {
         Ok(())
     }
 
+    fn reads(rt: &impl Abort, alloc: Global, text: &[u8]) -> Result<(), Fail>
+        requires { length text.now ≤ 67108864 }
+    {
+        let tokens = lex(alloc, text)?;
+        assert!(rt; parse(alloc, text, tokens.as_slice()).is_ok());
+        Ok(())
+    }
+
     fn expected(token: usize, line: u32, col: u32) -> ParseError {
         let at = Span { line, col };
         ParseError::Expected { token, at }
+    }
+
+    // An event that replies, with so many of a byte in front of the rest.
+    fn reply(alloc: Global, count: usize, byte: u8, rest: &[u8]) -> Result<Vec<u8>, Fail>
+        requires count { count ≤ 100 }
+        requires rest { length rest.now ≤ 100 }
+        ensures { IfOk result (λ text. length text.items ≤ 300) }
+    {
+        let mut text = Vec::new(alloc);
+        text.extend_from_slice(b"service A { event e() { reply ")?;
+        text.extend_from_slice(vec![in alloc; byte; count]?.as_slice())?;
+        text.extend_from_slice(rest)?;
+        Ok(text)
     }
 
     #[test]
     fn each_fault_has_its_place(rt: HostRuntime) -> Result<(), Fail> {
         let alloc = rt.alloc();
         refuses(&rt, alloc, b"", expected(0, 1, 1))?;
-        refuses(&rt, alloc, b"service A { event e() { down", expected(9, 1, 29))?;
+        refuses(&rt, alloc, b"service let { }", expected(1, 1, 9))?;
+        refuses(
+            &rt,
+            alloc,
+            b"service A { event e() { down",
+            expected(9, 1, 29),
+        )?;
         refuses(&rt, alloc, b"service A { }\n}", expected(4, 2, 1))?;
-        refuses(&rt, alloc, b"service A { event e() { reply f(1,); } }", expected(13, 1, 35))?;
-        refuses(&rt, alloc, b"service A { event e() { reply a < b < c; } }\n", expected(12, 1, 37))?;
+        refuses(
+            &rt,
+            alloc,
+            b"service A { event e() { reply f(1,); } }",
+            expected(13, 1, 35),
+        )?;
+        refuses(
+            &rt,
+            alloc,
+            b"service A { event e() { reply a < b < c; } }\n",
+            expected(12, 1, 37),
+        )?;
         Ok(())
+    }
+
+    #[test]
+    fn the_nest_has_a_limit(rt: HostRuntime) -> Result<(), Fail> {
+        let alloc = rt.alloc();
+        let at = Span { line: 1, col: 93 };
+        let deep = reply(alloc, 63, b'(', b"1")?;
+        refuses(
+            &rt,
+            alloc,
+            deep.as_slice(),
+            ParseError::TooDeep { token: 71, at },
+        )?;
+        let wrong = reply(alloc, 62, b'(', b"*")?;
+        refuses(
+            &rt,
+            alloc,
+            wrong.as_slice(),
+            ParseError::Expected { token: 71, at },
+        )?;
+        let most = reply(alloc, 62, b'-', b"1; } }")?;
+        reads(&rt, alloc, most.as_slice())?;
+        Ok(())
+    }
+
+    #[test]
+    fn a_semicolon_clears_the_nest(rt: HostRuntime) -> Result<(), Fail> {
+        let alloc = rt.alloc();
+        let text =
+            b"service A { method f() { let a = 1+1+1+1+1+1+1+1+1+1+1+1+1+1+1+1+1+1+1+1+1+1+1+1+1+1+1+1+1+1+1+1+1; \
+            let b = 1+1+1+1+1+1+1+1+1+1+1+1+1+1+1+1+1+1+1+1+1+1+1+1+1+1+1+1+1+1+1+1+1; } }";
+        reads(&rt, alloc, text)
+    }
+
+    #[test]
+    fn chains_are_grouped_to_the_left(rt: HostRuntime) -> Result<(), Fail> {
+        let alloc = rt.alloc();
+        let text = b"service A { event e(): int { reply 1 - 2 - 3; } }";
+        let tokens = lex(alloc, text)?;
+        let Ok(service) = parse(alloc, text, tokens.as_slice()) else {
+            return Err(Fail::from("a service"));
+        };
+        let event = service.events.get(0).ok_or("an event")?;
+        let Some(last) = &event.last else {
+            return Err(Fail::from("a reply"));
+        };
+        let Node::Binary(op, left, right) = &last.value.node else {
+            return Err(Fail::from("a difference"));
+        };
+        assert_eq!(rt; *op, BinaryOp::Sub);
+        assert!(rt; matches!(&left.node, Node::Binary(BinaryOp::Sub, _, _)));
+        assert!(rt; matches!(&right.node, Node::Number(3)));
+        Ok(())
+    }
+
+    #[test]
+    fn reads_every_production(rt: HostRuntime) -> Result<(), Fail> {
+        let alloc = rt.alloc();
+        let text =
+            b"service S { var a: int = -1; var t: text = \"x\"; var b: bool = true; var m: map = empty; \
+            context C[int] { var n: int = 0; context D[int] { } method g(x: int): int { n = n + x; return n; } } \
+            method f(x: int, y: text) { if x < 1 && !b { a = 0; } else { while x > 0 { x = x - 1; } } \
+            for i in 0 to 3 { m[i] = -i; } require x >= 0 || b; send \"l\", y; spawn e(1); drop m[1]; drop C.m[2]; f(1, \"\"); } \
+            event e(k: int): int { here { let z = (1 + 2) * 3; C[z].g(k); S.a = S.m[1] % 2; } \
+            down C[k] { n = S.a; } reply C.n + C[1].g(2) / f() - m[0]; } }";
+        reads(&rt, alloc, text)
     }
 }

@@ -49,4 +49,6 @@ above-returns-in_err-key t c =
     rw (p.1, p.2) (keyed_fails (reader.unary_at c.args.depth) c.args.class c.in_ok-field.field c.in_err-key.field-0.0 c.args.tokens.now c.in_ok-field.rest.now c.in_ok-field.ensures (sym c.sees_sign.ensures ∙ c.if-not-sees_sign.false) c.in_err-key.ensures)
 
 pub above-returns : goal.above-returns
-above-returns t c = ?
+above-returns t c =
+    keyed_gives (reader.unary_at c.args.depth) c.args.class c.in_ok-field.field c.args.tokens.now c.in_ok-field.rest.now c.in_ok-key.rest.now (expr_tree c.in_ok-key.key) c.in_ok-field.ensures (sym c.sees_sign.ensures ∙ c.if-not-sees_sign.false) c.in_ok-key.ensures
+    ∙ ap (λ e. Ok (e, c.in_ok-key.rest.now)) (sym c.in_ok-above_index.ensures)

@@ -6,6 +6,7 @@ use Rattle.mace_grammar.specs.Classes.{kind}
 use Rattle.mace_grammar.specs.Run.{sees}
 use Rattle.mace_grammar.specs.Readers as reader
 use Rattle.mace_parser.proofs.Turns.{list_goes_on, list_ends, list_done, list_done_at}
+use Rattle.mace_parser.proofs.Steps.{if_fails, else_fails, if_gives, while_fails, while_gives, for_fails, for_gives}
 use Rattle.mace_parser.proofs.stmt.+stmt.Goals as goal
 use Rattle.mace_parser.proofs.stmt.+stmt.Goals.{stmts-else-turns-test, stmts-then-turns-test+then-not-begins_stmt}
 
@@ -26,3 +27,32 @@ stmts-returns t c =
       | stmts-else-turns-test w ↦ list_done_at reader.stmt_starts (reader.stmt_at c.args.depth) ((length c.args.tokens.now) - c.turns.counter) (map stmt_tree c.turns.found.items) c.turns.rest.now (reader.stmts_in (reader.stmt_at c.args.depth) c.args.tokens.now) (omega arith) c.turns.invariant
       | stmts-then-turns-test+then-not-begins_stmt w ↦ list_done reader.stmt_starts (reader.stmt_at c.args.depth) ((length c.args.tokens.now) - c.turns.counter) (map stmt_tree c.turns.found.items) c.turns.rest.now (reader.stmts_in (reader.stmt_at c.args.depth) c.args.tokens.now) (sym w.begins_stmt.ensures ∙ w.if-not-begins_stmt.true) c.turns.invariant
     ]
+
+pub if_stmt-returns-in_err-body : goal.if_stmt-returns-in_err-body
+if_stmt-returns-in_err-body t c =
+    let p = err_from_is_err_and c.from_residual-in_err-body.result c.from_residual-in_err-body.ensures.1 in
+    rw (p.1, p.2) (if_fails c.args.depth (reader.stmt_at c.args.depth) c.args.tokens.now c.in_ok-at.ensures c.in_ok-test.ensures c.in_err-body.field-0.0 c.in_err-body.ensures)
+
+pub if_stmt-returns-in_err-other : goal.if_stmt-returns-in_err-other
+if_stmt-returns-in_err-other t c =
+    let p = err_from_is_err_and c.from_residual-in_err-other.result c.from_residual-in_err-other.ensures.1 in
+    rw (p.1, p.2) (else_fails c.args.depth (reader.stmt_at c.args.depth) c.args.tokens.now c.in_ok-at.ensures c.in_ok-test.ensures c.in_ok-body.ensures c.in_err-other.field-0.0 c.in_err-other.ensures)
+
+pub if_stmt-returns : goal.if_stmt-returns
+if_stmt-returns t c = if_gives c.args.depth (reader.stmt_at c.args.depth) c.args.tokens.now c.in_ok-at.ensures c.in_ok-test.ensures c.in_ok-body.ensures c.in_ok-other.ensures ∙ ap (λ s. Ok (s, c.in_ok-other.rest.now)) (sym c.if_else.ensures)
+
+pub while_stmt-returns-in_err-body : goal.while_stmt-returns-in_err-body
+while_stmt-returns-in_err-body t c =
+    let p = err_from_is_err_and c.from_residual-in_err-body.result c.from_residual-in_err-body.ensures.1 in
+    rw (p.1, p.2) (while_fails c.args.depth (reader.stmt_at c.args.depth) c.args.tokens.now c.in_ok-at.ensures c.in_ok-test.ensures c.in_err-body.field-0.0 c.in_err-body.ensures)
+
+pub while_stmt-returns : goal.while_stmt-returns
+while_stmt-returns t c = while_gives c.args.depth (reader.stmt_at c.args.depth) c.args.tokens.now c.in_ok-at.ensures c.in_ok-test.ensures c.in_ok-body.ensures ∙ ap (λ s. Ok (s, c.in_ok-body.rest.now)) (sym c.while_do.ensures)
+
+pub for_stmt-returns-in_err-body : goal.for_stmt-returns-in_err-body
+for_stmt-returns-in_err-body t c =
+    let p = err_from_is_err_and c.from_residual-in_err-body.result c.from_residual-in_err-body.ensures.1 in
+    rw (p.1, p.2) (for_fails c.args.depth (reader.stmt_at c.args.depth) c.args.tokens.now c.in_ok-at.ensures c.in_ok-x.ensures c.in_ok-rest.ensures c.in_ok-low.ensures c.in_ok-rest-2.ensures c.in_ok-high.ensures c.in_err-body.field-0.0 c.in_err-body.ensures)
+
+pub for_stmt-returns : goal.for_stmt-returns
+for_stmt-returns t c = for_gives c.args.depth (reader.stmt_at c.args.depth) c.args.tokens.now c.in_ok-at.ensures c.in_ok-x.ensures c.in_ok-rest.ensures c.in_ok-low.ensures c.in_ok-rest-2.ensures c.in_ok-high.ensures c.in_ok-body.ensures ∙ ap (λ s. Ok (s, c.in_ok-body.rest.now)) (sym c.for_in.ensures)

@@ -1,0 +1,5 @@
+//! A service in canonical layout.
+#![tactic(auto)]
+
+mod laws;
+pub use laws::fine;
