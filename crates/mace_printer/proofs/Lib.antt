@@ -1,2 +1,4 @@
 pub mod Says
 pub mod ExprSays
+pub mod StmtSays
+pub mod DeclSays
