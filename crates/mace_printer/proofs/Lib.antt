@@ -2,3 +2,5 @@ pub mod Says
 pub mod ExprSays
 pub mod StmtSays
 pub mod DeclSays
+pub mod Standing
+pub mod Holds

@@ -2,4 +2,4 @@
 #![tactic(auto)]
 
 mod laws;
-pub use laws::fine;
+pub use laws::canonical_words_spell;
