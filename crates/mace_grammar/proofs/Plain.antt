@@ -1,5 +1,5 @@
 -- Where tokens stand makes no difference to what is read of them, but for the places in it.
-use Rattle.std.proofs.Common.{◌≡◌, ℕ, zero, suc, List, [], ◌∷◌, map, length, Option, Some, None, Ok, Err, Bool, true, false, refl, sym, ◌∙◌, ap}
+use Rattle.std.proofs.Common.{◌≡◌, ℕ, zero, suc, List, [], ◌∷◌, map, length, Option, Some, None, Ok, Err, Bool, true, false, refl, ◌∙◌, ap}
 use Rattle.std.specs.Prelude.{if◌then◌else◌}
 use Rattle.std.specs.Option.{option_map}
 use Rattle.mace_lexer.specs.declared.token.Token.{Token}
@@ -49,20 +49,24 @@ chosen h true o o' = refl
 chosen h false o o' = refl
 
 pub natural_choice : {A B : Type 0} {h : A → B} {p q : Reader A} {p' q' : Reader B} (set : List ℕ) → Natural h p p' → Natural h q q' → Natural h (choice kind set p q) (choice kind set p' q')
-natural_choice {h = h} {p = p} {q = q} {p' = p'} {q' = q'} set P Q = record { same = λ ts.
-    ap (λ b. if b then p' (erased ts) else q' (erased ts)) (same_sight set ts)
-    ∙ ap (λ o. if sees kind set ts then o else q' (erased ts)) (P.same ts)
-    ∙ ap (λ o. if sees kind set ts then map_outcome h (p ts) else o) (Q.same ts)
-    ∙ chosen h (sees kind set ts) (p ts) (q ts) }
+natural_choice {h = h} {p = p} {q = q} {p' = p'} {q' = q'} set P Q = record {
+  same = λ ts.
+      ap (λ b. if b then p' (erased ts) else q' (erased ts)) (same_sight set ts)
+      ∙ ap (λ o. if sees kind set ts then o else q' (erased ts)) (P.same ts)
+      ∙ ap (λ o. if sees kind set ts then map_outcome h (p ts) else o) (Q.same ts)
+      ∙ chosen h (sees kind set ts) (p ts) (q ts);
+}
 
 pub natural_each : {A B : Type 0} {h : A → B} {run : Reader A} {run' : Reader B} (set : List ℕ) → Natural h run run' → (k : ℕ) → Natural (map h) (each kind set run k) (each kind set run' k)
 natural_each set P zero = record { same = λ ts. refl }
 natural_each {A = A} {B = B} {h = h} {run = run} {run' = run'} set P (suc k) =
     let E = natural_each set P k in
-    record { same = λ ts.
-        ap (λ b. if b then and_then (run' (erased ts)) (λ a r. and_then (each kind set run' k r) (with_front a)) else Ok ([], erased ts)) (same_sight set ts)
-        ∙ ap (λ o. if sees kind set ts then o else Ok ([], erased ts)) ((turn E).same ts)
-        ∙ chosen (map h) (sees kind set ts) (and_then (run ts) (λ a r. and_then (each kind set run k r) (with_front a))) (Ok ([], ts)) }
+    record {
+      same = λ ts.
+          ap (λ b. if b then and_then (run' (erased ts)) (λ a r. and_then (each kind set run' k r) (with_front a)) else Ok ([], erased ts)) (same_sight set ts)
+          ∙ ap (λ o. if sees kind set ts then o else Ok ([], erased ts)) ((turn E).same ts)
+          ∙ chosen (map h) (sees kind set ts) (and_then (run ts) (λ a r. and_then (each kind set run k r) (with_front a))) (Ok ([], ts));
+    }
   where
     front : (a : A) → (o : Outcome (List A)) → and_then (map_outcome (map h) o) (with_front (h a)) ≡ map_outcome (map h) (and_then o (with_front a))
     front a (Ok p) = refl

@@ -62,4 +62,3 @@ same_maybe {A = A} {B = B} p q = record {
     begun : (o : Option A) (ts u v : List Token) → ts ≡ u ++ v → (maybe p).Spells o u → (q o).Begins v → ((p >>= (λ a. q (Some a))) or q None).Begins ts
     begun (Some a) ts u v e su bv = inl (inr (a, u, v, e, su, bv))
     begun None ts u v e su bv = let w : ts ≡ v = rw (e, su) refl in inr (rw w bv)
-

@@ -4,3 +4,4 @@ pub mod StmtSays
 pub mod DeclSays
 pub mod Standing
 pub mod Holds
+pub mod Fine
