@@ -1,5 +1,5 @@
 -- The canonical words of a tree: its tokens in order, with parentheses only where the grammar needs them.
-use Rattle.std.specs.Prelude.{ℕ, ℤ, ◌+◌, Bool, true, false, nat_lt, List, [], ◌∷◌, ◌++◌, Option, Some, None}
+use Rattle.std.specs.Prelude.{ℕ, ℤ, ◌+◌, Bool, true, false, nat_lt, ◌==◌, if◌then◌else◌, List, [], ◌∷◌, ◌++◌, Option, Some, None}
 use Rattle.wave_base.specs.declared.value.Kind.{Kind}
 use Rattle.wave_base.specs.declared.value.Kind.TheVariants as kind
 use Rattle.mace_lexer.specs.declared.token.Word.{Word}
@@ -67,6 +67,10 @@ all_of words (x ∷ xs) = words x ⧺ all_of words xs
 abbrev pub further : {X : Type 0} → (X → List Word) → List X → List Word
 further words [] = []
 further words (x ∷ xs) = sign s.Comma ⧺ words x ⧺ further words xs
+
+-- before all items but the first
+abbrev pub comma_before : ℕ → List Word
+comma_before i = if i == 0 then [] else sign s.Comma
 
 -- with commas between them
 abbrev pub listed : {X : Type 0} → (X → List Word) → List X → List Word
@@ -142,6 +146,9 @@ abbrev pub in_parens : Bool → List Word → List Word
 in_parens true ws = sign s.LeftParen ⧺ ws ⧺ sign s.RightParen
 in_parens false ws = ws
 
+abbrev pub above_words : List ℕ → List ℕ → List Word
+above_words c x = name c ⧺ sign s.Dot ⧺ name x
+
 -- where an expression of this level is wanted
 abbrev mutual
   pub expr_words : ExprTree → ℕ → List Word
@@ -175,8 +182,18 @@ index_words place = sign s.LeftBracket ⧺ whole_words place ⧺ sign s.RightBra
 
 -- ---- statements
 
+abbrev pub ended_words : ExprTree → List Word
+ended_words value = whole_words value ⧺ sign s.Semicolon
+
 abbrev pub call_words : List ℕ → List ExprTree → List Word
 call_words f args = name f ⧺ sign s.LeftParen ⧺ listed whole_words args ⧺ sign s.RightParen
+
+abbrev pub child_words : List ℕ → ExprTree → List ℕ → List ExprTree → List Word
+child_words c place f args = name c ⧺ index_words place ⧺ sign s.Dot ⧺ call_words f args
+
+-- a binary node without parentheses around it
+abbrev pub binary_words : BinaryOp → ExprTree → ExprTree → List Word
+binary_words o left right = expr_words left (left_level_of o) ⧺ sign (sign_of o) ⧺ expr_words right (level_of o + 1)
 
 abbrev pub maybe_above : Option (List ℕ) → List Word
 maybe_above None = []
