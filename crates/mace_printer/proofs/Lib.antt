@@ -5,3 +5,6 @@ pub mod DeclSays
 pub mod Standing
 pub mod Holds
 pub mod Fine
+pub mod Wrote
+pub mod Arms
+pub mod Printed

@@ -79,9 +79,12 @@ listed words (x ∷ xs) = words x ⧺ further words xs
 
 -- ---- fields
 
+abbrev pub minus_words : ℤ → List Word
+minus_words n = sign s.Minus ⧺ number n
+
 abbrev pub literal_words : Literal → List Word
 literal_words (lit.Number n) = number n
-literal_words (lit.Minus n) = sign s.Minus ⧺ number n
+literal_words (lit.Minus n) = minus_words n
 literal_words (lit.Text bytes) = text bytes
 literal_words (lit.Bool b) = key (boolean_key b)
 literal_words lit.Empty = key k.Empty
@@ -188,12 +191,20 @@ ended_words value = whole_words value ⧺ sign s.Semicolon
 abbrev pub call_words : List ℕ → List ExprTree → List Word
 call_words f args = name f ⧺ sign s.LeftParen ⧺ listed whole_words args ⧺ sign s.RightParen
 
-abbrev pub child_words : List ℕ → ExprTree → List ℕ → List ExprTree → List Word
-child_words c place f args = name c ⧺ index_words place ⧺ sign s.Dot ⧺ call_words f args
+-- `C[k].`
+abbrev pub child_key_words : List ℕ → ExprTree → List Word
+child_key_words c place = name c ⧺ index_words place ⧺ sign s.Dot
 
--- a binary node without parentheses around it
-abbrev pub binary_words : BinaryOp → ExprTree → ExprTree → List Word
-binary_words o left right = expr_words left (left_level_of o) ⧺ sign (sign_of o) ⧺ expr_words right (level_of o + 1)
+abbrev pub sign_if : Bool → Sign → List Word
+sign_if true j = sign j
+sign_if false j = []
+
+-- a binary node in its two halves
+abbrev pub left_words : Bool → BinaryOp → ExprTree → List Word
+left_words open o left = sign_if open s.LeftParen ⧺ expr_words left (left_level_of o) ⧺ sign (sign_of o)
+
+abbrev pub right_words : Bool → BinaryOp → ExprTree → List Word
+right_words open o right = expr_words right (level_of o + 1) ⧺ sign_if open s.RightParen
 
 abbrev pub maybe_above : Option (List ℕ) → List Word
 maybe_above None = []
@@ -205,6 +216,10 @@ target_words x = maybe_above x.above ⧺ name x.name
 abbrev pub maybe_index : Option ExprTree → List Word
 maybe_index None = []
 maybe_index (Some place) = index_words place
+
+-- what stands before the block of a loop over numbers
+abbrev pub range_words : List ℕ → ExprTree → ExprTree → List Word
+range_words x low high = key k.For ⧺ name x ⧺ key k.In ⧺ whole_words low ⧺ key k.To ⧺ whole_words high
 
 abbrev mutual
   pub stmt_words : StmtTree → List Word
@@ -233,6 +248,10 @@ body_words = all_of stmt_words
 
 abbrev pub braced_words : List StmtTree → List Word
 braced_words body = sign s.LeftBrace ⧺ body_words body ⧺ sign s.RightBrace
+
+abbrev pub maybe_else : Option (List StmtTree) → List Word
+maybe_else None = []
+maybe_else (Some body) = key k.Else ⧺ braced_words body
 
 -- ---- methods and events
 
@@ -264,6 +283,10 @@ abbrev pub event_words : EventTree → List Word
 event_words e = key k.Event ⧺ name e.name.text ⧺ params_words e.params ⧺ result_words e.result ⧺ sign s.LeftBrace ⧺ here_words e.here ⧺ all_of phase_words e.phases ⧺ last_words k.Reply e.last ⧺ sign s.RightBrace
 
 -- ---- contexts and the service
+
+-- what stands before the fields of a context
+abbrev pub head_words : List ℕ → List Word
+head_words x = key k.Context ⧺ name x ⧺ sign s.LeftBracket ⧺ key k.Int ⧺ sign s.RightBracket ⧺ sign s.LeftBrace
 
 abbrev mutual
   pub context_words : ContextTree → List Word

@@ -1,12 +1,12 @@
 // Expressions.
 
-ghost use Rattle.std.specs.Prelude.{◌≡◌, ◌++◌, ◌+◌, ◌<◌, ◌≤◌, nat_lt, map, OnOk};
+ghost use Rattle.std.specs.Prelude.{◌≡◌, ◌++◌, ◌+◌, ◌≤◌, map, OnOk};
 ghost use Rattle.mace_ast.specs.Exprs.{expr_tree};
 ghost use Rattle.mace_printer.specs.Canon as words;
 ghost use Rattle.mace_printer.specs.Canon.{◌⧺◌};
 ghost use Rattle.mace_printer.specs.Layout.{layout};
 
-use crate::word::{boolean_key, put_comma, put_key, put_name, put_number, put_sign, put_text};
+use crate::word::{boolean_key, put_comma, put_if, put_key, put_name, put_number, put_sign, put_text};
 use mace_ast::{BinaryOp, Expr, Node, UnaryOp};
 use mace_lexer::{Keyword, Sign};
 use std::alloc::Global;
@@ -100,17 +100,14 @@ pub fn put_expr(
         Node::AboveIndex(class, name, key) => put_above_indexed(alloc, out, class, name, key),
         Node::Call(name, args) => put_call(alloc, out, name, args),
         Node::ChildCall(class, key, name, args) => {
-            put_child_call(alloc, out, class, key, name, args)
+            put_child_key(alloc, out, class, key)?;
+            put_call(alloc, out, name, args)
         }
         Node::Unary(op, operand) => put_unary(alloc, out, *op, operand),
         Node::Binary(op, left, right) => {
-            if level_of(*op) < level {
-                put_sign(out, Sign::LeftParen)?;
-                put_binary(alloc, out, *op, left, right)?;
-                put_sign(out, Sign::RightParen)
-            } else {
-                put_binary(alloc, out, *op, left, right)
-            }
+            let paren = level_of(*op) < level;
+            put_left(alloc, out, paren, *op, left)?;
+            put_right(alloc, out, paren, *op, right)
         }
     }
 }
@@ -168,22 +165,19 @@ pub fn put_call(
     put_sign(out, Sign::RightParen)
 }
 
-/// `C[k].f(..)`
+/// `C[k].`
 #[cycle(expr)]
-pub fn put_child_call(
+pub fn put_child_key(
     alloc: Global,
     out: &mut Vec<u8>,
     class: &Txt,
     key: &Expr,
-    name: &Txt,
-    args: &[Expr],
 ) -> Result<(), OutOfMemory>
-    ensures { OnOk result (out.new.items ≡ out.old.items ++ layout (words.child_words class.now (expr_tree key.now) name.now (map expr_tree args.now))) }
+    ensures { OnOk result (out.new.items ≡ out.old.items ++ layout (words.child_key_words class.now (expr_tree key.now))) }
 {
     put_name(out, class)?;
     put_index(alloc, out, key)?;
-    put_sign(out, Sign::Dot)?;
-    put_call(alloc, out, name, args)
+    put_sign(out, Sign::Dot)
 }
 
 #[cycle(expr)]
@@ -199,19 +193,35 @@ fn put_unary(
     put_expr(alloc, out, operand, 5)
 }
 
+// The left operand and the operator, with a parenthesis before them if the node needs one.
 #[cycle(expr)]
-fn put_binary(
+fn put_left(
     alloc: Global,
     out: &mut Vec<u8>,
+    paren: bool,
     op: BinaryOp,
     left: &Expr,
+) -> Result<(), OutOfMemory>
+    ensures { OnOk result (out.new.items ≡ out.old.items ++ layout (words.left_words paren op (expr_tree left.now))) }
+{
+    put_if(out, paren, Sign::LeftParen)?;
+    put_expr(alloc, out, left, left_level_of(op))?;
+    put_sign(out, sign_of(op))
+}
+
+// The right operand, with a parenthesis behind it if the node needs one.
+#[cycle(expr)]
+fn put_right(
+    alloc: Global,
+    out: &mut Vec<u8>,
+    paren: bool,
+    op: BinaryOp,
     right: &Expr,
 ) -> Result<(), OutOfMemory>
-    ensures { OnOk result (out.new.items ≡ out.old.items ++ layout (words.binary_words op (expr_tree left.now) (expr_tree right.now))) }
+    ensures { OnOk result (out.new.items ≡ out.old.items ++ layout (words.right_words paren op (expr_tree right.now))) }
 {
-    put_expr(alloc, out, left, left_level_of(op))?;
-    put_sign(out, sign_of(op))?;
-    put_expr(alloc, out, right, level_of(op) + 1)
+    put_expr(alloc, out, right, level_of(op) + 1)?;
+    put_if(out, paren, Sign::RightParen)
 }
 
 // Arguments, with commas between them.

@@ -2,8 +2,12 @@
 #![tactic(auto)]
 
 mod expr;
+mod field;
 mod laws;
+mod member;
 mod stmt;
+mod whole;
 mod word;
 
 pub use laws::canonical_words_spell;
+pub use whole::print;

@@ -77,3 +77,14 @@ pub fn put_comma(out: &mut Vec<u8>, i: usize) -> Result<(), OutOfMemory>
     }
     put_sign(out, Sign::Comma)
 }
+
+/// A sign, if it is needed.
+#[tactic(auto, unfolding(crate::specs::Layout::layout))]
+pub fn put_if(out: &mut Vec<u8>, needed: bool, sign: Sign) -> Result<(), OutOfMemory>
+    ensures { OnOk result (out.new.items ≡ out.old.items ++ layout (words.sign_if needed sign)) }
+{
+    if needed {
+        return put_sign(out, sign);
+    }
+    Ok(())
+}

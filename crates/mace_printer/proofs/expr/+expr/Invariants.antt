@@ -19,14 +19,17 @@ decreases-put_above_indexed l = 4 * goal.size-put_above_indexed l + 2
 abbrev pub decreases-put_call : goal.decreases-put_call
 decreases-put_call l = 4 * goal.size-put_call l + 2
 
-abbrev pub decreases-put_child_call : goal.decreases-put_child_call
-decreases-put_child_call l = 4 * (goal.size-put_child_call l + goal.size-put_child_call-args l) + 3
+abbrev pub decreases-put_child_key : goal.decreases-put_child_key
+decreases-put_child_key l = 4 * goal.size-put_child_key l + 2
 
 abbrev pub decreases-put_unary : goal.decreases-put_unary
 decreases-put_unary l = 4 * goal.size-put_unary l + 1
 
-abbrev pub decreases-put_binary : goal.decreases-put_binary
-decreases-put_binary l = 4 * (goal.size-put_binary l + goal.size-put_binary-right l) + 1
+abbrev pub decreases-put_left : goal.decreases-put_left
+decreases-put_left l = 4 * goal.size-put_left l + 1
+
+abbrev pub decreases-put_right : goal.decreases-put_right
+decreases-put_right l = 4 * goal.size-put_right l + 1
 
 abbrev pub decreases-put_args : goal.decreases-put_args
 decreases-put_args l = 4 * goal.size-put_args l + 1
