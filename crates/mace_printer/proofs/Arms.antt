@@ -14,7 +14,7 @@ use Rattle.mace_ast.specs.declared.expr.Node.TheVariants as node
 use Rattle.mace_ast.specs.declared.stmt.Stmt.{Stmt}
 use Rattle.mace_ast.specs.declared.stmt.Action as source
 use Rattle.mace_ast.specs.declared.stmt.Action.TheVariants as action
-use Rattle.mace_ast.specs.declared.context.ContextDecl.{ContextDecl}
+use Rattle.mace_ast.specs.declared.context.ContextDecl.{ContextDecl, ContextDecl', out-ContextDecl}
 use Rattle.mace_ast.specs.declared.context.ContextDecl as contexts
 use Rattle.mace_ast.specs.Exprs as e
 use Rattle.mace_ast.specs.Exprs.{ExprTree, node_tree, expr_tree, exprs_of}
@@ -84,7 +84,7 @@ for_arm at x low high body =
     ap (λ l. word.Key k.For ∷ word.Name x.text ∷ word.Key k.In ∷ l) (append_assoc (whole_words low) (word.Key k.To ∷ whole_words high) (braced_words body))
     ∙ ap (λ l. word.Key k.For ∷ word.Name x.text ∷ word.Key k.In ∷ (whole_words low ++ (word.Key k.To ∷ (whole_words high ++ l)))) (block_last body)
 
-halves : (open : Bool) (o : BinaryOp) (a b : ExprTree) → left_words open o a ++ right_words open o b ≡ in_parens open (binary_words o a b)
+halves : (paren : Bool) (o : BinaryOp) (a b : ExprTree) → left_words paren o a ++ right_words paren o b ≡ in_parens paren (binary_words o a b)
 halves true o a b =
     let A = expr_words a (left_level_of o) in
     let B = expr_words b (level_of o + 1) in
@@ -96,11 +96,12 @@ halves false o a b =
     let B = expr_words b (level_of o + 1) in
     append_assoc A (word.Sign (sign_of o) ∷ []) (B ++ []) ∙ ap (λ l. A ++ (word.Sign (sign_of o) ∷ l)) (append-nil B)
 
-pub binary_arm : (at : Span) (o : BinaryOp) (a b : ExprTree) (l : ℕ) (open : Bool) → nat_lt (level_of o) l ≡ open → left_words open o a ++ right_words open o b ≡ expr_words (e.Binary at o a b) l
-binary_arm at o a b l open h = halves open o a b ∙ ap (λ t. in_parens t (binary_words o a b)) (sym h)
+pub binary_arm : (at : Span) (o : BinaryOp) (a b : ExprTree) (l : ℕ) (paren : Bool) → nat_lt (level_of o) l ≡ paren → left_words paren o a ++ right_words paren o b ≡ expr_words (e.Binary at o a b) l
+binary_arm at o a b l paren h = halves paren o a b ∙ ap (λ t. in_parens t (binary_words o a b)) (sym h)
 
 pub context_arm : (at : Span) (x : Name) (vars : List VarDecl) (inner : List ContextTree) (methods : List MethodTree) → head_words x.text ++ (all_of var_words vars ++ (all_of context_words inner ++ (all_of method_words methods ++ (word.Sign s.RightBrace ∷ [])))) ≡ context_words (Context at x vars (contexts_of inner) methods)
 context_arm at x vars inner methods = ap (λ l. head_words x.text ++ (all_of var_words vars ++ (l ++ (all_of method_words methods ++ (word.Sign s.RightBrace ∷ []))))) (contexts_listed inner)
 
-pub context_node : (c : ContextDecl) → context_tree c ≡ Context c.at c.name c.vars (contexts_of (map context_tree c.contexts.items)) (map method_tree c.methods)
-context_node c = search (rules, contexts.the_lemmas, row_contexts-items)
+-- a context by its parts
+pub context_node : (c : ContextDecl) → context_tree c ≡ Context (out-ContextDecl c).at (out-ContextDecl c).name (out-ContextDecl c).vars (contexts_of (map context_tree (out-ContextDecl c).contexts.items)) (map method_tree (out-ContextDecl c).methods)
+context_node (ContextDecl' at name vars s inner methods) = search (rules, contexts.the_lemmas, row_contexts-items)

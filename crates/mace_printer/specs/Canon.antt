@@ -201,10 +201,10 @@ sign_if false j = []
 
 -- a binary node in its two halves
 abbrev pub left_words : Bool → BinaryOp → ExprTree → List Word
-left_words open o left = sign_if open s.LeftParen ⧺ expr_words left (left_level_of o) ⧺ sign (sign_of o)
+left_words paren o left = sign_if paren s.LeftParen ⧺ expr_words left (left_level_of o) ⧺ sign (sign_of o)
 
 abbrev pub right_words : Bool → BinaryOp → ExprTree → List Word
-right_words open o right = expr_words right (level_of o + 1) ⧺ sign_if open s.RightParen
+right_words paren o right = expr_words right (level_of o + 1) ⧺ sign_if paren s.RightParen
 
 abbrev pub maybe_above : Option (List ℕ) → List Word
 maybe_above None = []

@@ -6,4 +6,4 @@ use Rattle.mace_printer.proofs.Wrote.{next, same_next, same_words}
 use Rattle.mace_printer.proofs.field.put_minus.Goals as goal
 
 pub returns : goal.returns
-returns c = next _ _ _ _ _ c.in_ok-put_sign.ensures (same_next _ _ _ (ap number (to_z-of_z w64 c.args.n c.ranges.n.fits)) c.put_number.ensures)
+returns c = next _ _ _ _ _ c.in_ok-put_sign.ensures (same_next _ _ _ (ap number (to_z-of_z w64 c.args.n c.ranges.n)) c.put_number.ensures)
