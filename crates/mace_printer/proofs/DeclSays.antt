@@ -47,14 +47,49 @@ initial_says (lit.Bool b) = inl (plain (word.Key (boolean_key b)), refl, boolean
 initial_says lit.Empty = inl (plain (word.Key k.Empty), refl, refl)
 
 var_says : (v : VarDecl) → Says g.var (bare_var v) (var_words v)
-var_says v =
-    (nowhere, plain (word.Key k.Var) ∷ [], _, refl, key_says k.Var,
-    (named v.name.text, plain (word.Name v.name.text) ∷ [], _, refl, name_says v.name.text,
-    (nowhere, plain (word.Sign s.Colon) ∷ [], _, refl, sign_says s.Colon,
-    (v.kind, plain (word.Key (kind_key v.kind)) ∷ [], _, refl, type_says v.kind,
-    (nowhere, plain (word.Sign s.Equals) ∷ [], _, refl, sign_says s.Equals,
-    (record { at = nowhere; value = v.initial.value }, map plain (literal_words v.initial.value), _, map-append plain (literal_words v.initial.value) semicolon, initial_says v.initial.value,
-    (nowhere, map plain semicolon, [], refl, sign_says s.Semicolon, (refl, refl))))))))
+var_says v = (
+  nowhere,
+  plain (word.Key k.Var) ∷ [],
+  _,
+  refl,
+  key_says k.Var,
+  (
+    named v.name.text,
+    plain (word.Name v.name.text) ∷ [],
+    _,
+    refl,
+    name_says v.name.text,
+    (
+      nowhere,
+      plain (word.Sign s.Colon) ∷ [],
+      _,
+      refl,
+      sign_says s.Colon,
+      (
+        v.kind,
+        plain (word.Key (kind_key v.kind)) ∷ [],
+        _,
+        refl,
+        type_says v.kind,
+        (
+          nowhere,
+          plain (word.Sign s.Equals) ∷ [],
+          _,
+          refl,
+          sign_says s.Equals,
+          (
+            record { at = nowhere; value = v.initial.value },
+            map plain (literal_words v.initial.value),
+            _,
+            map-append plain (literal_words v.initial.value) semicolon,
+            initial_says v.initial.value,
+            (nowhere, map plain semicolon, [], refl, sign_says s.Semicolon, (refl, refl)),
+          ),
+        ),
+      ),
+    ),
+  ),
+)
 
 vars_say : (vs : List VarDecl) → Says (many g.var) (map bare_var vs) (all_of var_words vs)
 vars_say vs = all_say g.var bare_var var_words var_says vs
@@ -62,10 +97,21 @@ vars_say vs = all_say g.var bare_var var_words var_says vs
 -- ---- methods and events
 
 param_says : (p : Param) → Says g.param (bare_param p) (param_words p)
-param_says p =
-    (named p.name.text, plain (word.Name p.name.text) ∷ [], _, refl, name_says p.name.text,
-    (nowhere, plain (word.Sign s.Colon) ∷ [], _, refl, sign_says s.Colon,
-    (p.kind, plain (word.Key (kind_key p.kind)) ∷ [], [], refl, type_says p.kind, (refl, refl))))
+param_says p = (
+  named p.name.text,
+  plain (word.Name p.name.text) ∷ [],
+  _,
+  refl,
+  name_says p.name.text,
+  (
+    nowhere,
+    plain (word.Sign s.Colon) ∷ [],
+    _,
+    refl,
+    sign_says s.Colon,
+    (p.kind, plain (word.Key (kind_key p.kind)) ∷ [], [], refl, type_says p.kind, (refl, refl)),
+  ),
+)
 
 params_say : (ps : List Param) → Says g.params (map bare_param ps) (params_words ps)
 params_say ps = parens_say g.param bare_param param_words param_says ps
@@ -76,33 +122,102 @@ result_says (Some j) = (nowhere, plain (word.Sign s.Colon) ∷ [], _, refl, sign
 
 last_says : (want : Keyword) (o : Option LastTree) → Says (maybe (g.last (w.key want))) (option_map bare_last o) (last_words want o)
 last_says want None = refl
-last_says want (Some l) =
-    (nowhere, plain (word.Key want) ∷ [], _, refl, key_says want,
-    (bare_expr l.value, map plain (whole_words l.value), _, map-append plain (whole_words l.value) semicolon, expr_says l.value,
-    (nowhere, map plain semicolon, [], refl, sign_says s.Semicolon, (refl, refl))))
+last_says want (Some l) = (
+  nowhere,
+  plain (word.Key want) ∷ [],
+  _,
+  refl,
+  key_says want,
+  (
+    bare_expr l.value,
+    map plain (whole_words l.value),
+    _,
+    map-append plain (whole_words l.value) semicolon,
+    expr_says l.value,
+    (nowhere, map plain semicolon, [], refl, sign_says s.Semicolon, (refl, refl)),
+  ),
+)
 
 method_says : (m : MethodTree) → Says g.method (bare_method m) (method_words m)
 method_says m =
     let ends : List Word = last_words k.Return m.last ++ brace in
-    let body : List Word = word.Sign s.LeftBrace ∷ (body_words m.body ++ ends) in
-    (nowhere, plain (word.Key k.Method) ∷ [], _, refl, key_says k.Method,
-    (named m.name.text, plain (word.Name m.name.text) ∷ [], _, refl, name_says m.name.text,
-    (map bare_param m.params, map plain (params_words m.params), map plain (result_words m.result ++ body), map-append plain (params_words m.params) (result_words m.result ++ body), params_say m.params,
-    (m.result, map plain (result_words m.result), map plain body, map-append plain (result_words m.result) body, result_says m.result,
-    (nowhere, plain (word.Sign s.LeftBrace) ∷ [], _, refl, sign_says s.LeftBrace,
-    (map bare_stmt m.body, map plain (body_words m.body), map plain ends, map-append plain (body_words m.body) ends, stmts_say m.body,
-    (option_map bare_last m.last, map plain (last_words k.Return m.last), map plain brace, map-append plain (last_words k.Return m.last) brace, last_says k.Return m.last,
-    (nowhere, map plain brace, [], refl, sign_says s.RightBrace, (refl, refl)))))))))
+    let body : List Word = word.Sign s.LeftBrace ∷ (body_words m.body ++ ends) in (
+      nowhere,
+      plain (word.Key k.Method) ∷ [],
+      _,
+      refl,
+      key_says k.Method,
+      (
+        named m.name.text,
+        plain (word.Name m.name.text) ∷ [],
+        _,
+        refl,
+        name_says m.name.text,
+        (
+          map bare_param m.params,
+          map plain (params_words m.params),
+          map plain (result_words m.result ++ body),
+          map-append plain (params_words m.params) (result_words m.result ++ body),
+          params_say m.params,
+          (
+            m.result,
+            map plain (result_words m.result),
+            map plain body,
+            map-append plain (result_words m.result) body,
+            result_says m.result,
+            (
+              nowhere,
+              plain (word.Sign s.LeftBrace) ∷ [],
+              _,
+              refl,
+              sign_says s.LeftBrace,
+              (
+                map bare_stmt m.body,
+                map plain (body_words m.body),
+                map plain ends,
+                map-append plain (body_words m.body) ends,
+                stmts_say m.body,
+                (
+                  option_map bare_last m.last,
+                  map plain (last_words k.Return m.last),
+                  map plain brace,
+                  map-append plain (last_words k.Return m.last) brace,
+                  last_says k.Return m.last,
+                  (nowhere, map plain brace, [], refl, sign_says s.RightBrace, (refl, refl)),
+                ),
+              ),
+            ),
+          ),
+        ),
+      ),
+    )
 
 methods_say : (ms : List MethodTree) → Says (many g.method) (map bare_method ms) (all_of method_words ms)
 methods_say ms = all_say g.method bare_method method_words method_says ms
 
 phase_says : (p : PhaseTree) → Says g.down (bare_phase p) (phase_words p)
-phase_says p =
-    (nowhere, plain (word.Key k.Down) ∷ [], _, refl, key_says k.Down,
-    (named p.class, plain (word.Name p.class) ∷ [], _, refl, name_says p.class,
-    (bare_expr p.key, map plain (index_words p.key), map plain (braced_words p.body), map-append plain (index_words p.key) (braced_words p.body), any_key_says p.key,
-    (map bare_stmt p.body, map plain (braced_words p.body), [], sym (append-nil (map plain (braced_words p.body))), any_block_says p.body, (refl, refl)))))
+phase_says p = (
+  nowhere,
+  plain (word.Key k.Down) ∷ [],
+  _,
+  refl,
+  key_says k.Down,
+  (
+    named p.class,
+    plain (word.Name p.class) ∷ [],
+    _,
+    refl,
+    name_says p.class,
+    (
+      bare_expr p.key,
+      map plain (index_words p.key),
+      map plain (braced_words p.body),
+      map-append plain (index_words p.key) (braced_words p.body),
+      any_key_says p.key,
+      (map bare_stmt p.body, map plain (braced_words p.body), [], sym (append-nil (map plain (braced_words p.body))), any_block_says p.body, (refl, refl)),
+    ),
+  ),
+)
 
 here_says : (o : Option (List StmtTree)) → Says (maybe (w.key k.Here >> g.any_block)) (option_map (map bare_stmt) o) (here_words o)
 here_says None = refl
@@ -112,16 +227,63 @@ event_says : (v : EventTree) → Says g.event (bare_event v) (event_words v)
 event_says v =
     let ends : List Word = last_words k.Reply v.last ++ brace in
     let phases : List Word = all_of phase_words v.phases ++ ends in
-    let body : List Word = word.Sign s.LeftBrace ∷ (here_words v.here ++ phases) in
-    (nowhere, plain (word.Key k.Event) ∷ [], _, refl, key_says k.Event,
-    (named v.name.text, plain (word.Name v.name.text) ∷ [], _, refl, name_says v.name.text,
-    (map bare_param v.params, map plain (params_words v.params), map plain (result_words v.result ++ body), map-append plain (params_words v.params) (result_words v.result ++ body), params_say v.params,
-    (v.result, map plain (result_words v.result), map plain body, map-append plain (result_words v.result) body, result_says v.result,
-    (nowhere, plain (word.Sign s.LeftBrace) ∷ [], _, refl, sign_says s.LeftBrace,
-    (option_map (map bare_stmt) v.here, map plain (here_words v.here), map plain phases, map-append plain (here_words v.here) phases, here_says v.here,
-    (map bare_phase v.phases, map plain (all_of phase_words v.phases), map plain ends, map-append plain (all_of phase_words v.phases) ends, all_say g.down bare_phase phase_words phase_says v.phases,
-    (option_map bare_last v.last, map plain (last_words k.Reply v.last), map plain brace, map-append plain (last_words k.Reply v.last) brace, last_says k.Reply v.last,
-    (nowhere, map plain brace, [], refl, sign_says s.RightBrace, (refl, refl))))))))))
+    let body : List Word = word.Sign s.LeftBrace ∷ (here_words v.here ++ phases) in (
+      nowhere,
+      plain (word.Key k.Event) ∷ [],
+      _,
+      refl,
+      key_says k.Event,
+      (
+        named v.name.text,
+        plain (word.Name v.name.text) ∷ [],
+        _,
+        refl,
+        name_says v.name.text,
+        (
+          map bare_param v.params,
+          map plain (params_words v.params),
+          map plain (result_words v.result ++ body),
+          map-append plain (params_words v.params) (result_words v.result ++ body),
+          params_say v.params,
+          (
+            v.result,
+            map plain (result_words v.result),
+            map plain body,
+            map-append plain (result_words v.result) body,
+            result_says v.result,
+            (
+              nowhere,
+              plain (word.Sign s.LeftBrace) ∷ [],
+              _,
+              refl,
+              sign_says s.LeftBrace,
+              (
+                option_map (map bare_stmt) v.here,
+                map plain (here_words v.here),
+                map plain phases,
+                map-append plain (here_words v.here) phases,
+                here_says v.here,
+                (
+                  map bare_phase v.phases,
+                  map plain (all_of phase_words v.phases),
+                  map plain ends,
+                  map-append plain (all_of phase_words v.phases) ends,
+                  all_say g.down bare_phase phase_words phase_says v.phases,
+                  (
+                    option_map bare_last v.last,
+                    map plain (last_words k.Reply v.last),
+                    map plain brace,
+                    map-append plain (last_words k.Reply v.last) brace,
+                    last_says k.Reply v.last,
+                    (nowhere, map plain brace, [], refl, sign_says s.RightBrace, (refl, refl)),
+                  ),
+                ),
+              ),
+            ),
+          ),
+        ),
+      ),
+    )
 
 -- ---- contexts and the service
 
@@ -136,17 +298,70 @@ list_back (context_and x xs) = ap (λ l. context_and x l) (list_back xs)
 one_says : (context : Part ContextTree) (at : Span) (x : Name) (vars : List VarDecl) (inner : ContextTrees) (methods : List MethodTree) → Says (many context) (list_of (bare_contexts inner)) (contexts_words inner) → Says (g.one_context context) (bare_context (Context at x vars inner methods)) (context_words (Context at x vars inner methods))
 one_says context at x vars inner methods h =
     let ends : List Word = all_of method_words methods ++ brace in
-    let behind : List Word = contexts_words inner ++ ends in
-    (nowhere, plain (word.Key k.Context) ∷ [], _, refl, key_says k.Context,
-    (named x.text, plain (word.Name x.text) ∷ [], _, refl, name_says x.text,
-    (nowhere, plain (word.Sign s.LeftBracket) ∷ [], _, refl, sign_says s.LeftBracket,
-    (nowhere, plain (word.Key k.Int) ∷ [], _, refl, key_says k.Int,
-    (nowhere, plain (word.Sign s.RightBracket) ∷ [], _, refl, sign_says s.RightBracket,
-    (nowhere, plain (word.Sign s.LeftBrace) ∷ [], _, refl, sign_says s.LeftBrace,
-    (map bare_var vars, map plain (all_of var_words vars), map plain behind, map-append plain (all_of var_words vars) behind, vars_say vars,
-    (list_of (bare_contexts inner), map plain (contexts_words inner), map plain ends, map-append plain (contexts_words inner) ends, h,
-    (map bare_method methods, map plain (all_of method_words methods), map plain brace, map-append plain (all_of method_words methods) brace, methods_say methods,
-    (nowhere, map plain brace, [], refl, sign_says s.RightBrace, (ap (λ l. Context nowhere (named x.text) (map bare_var vars) l (map bare_method methods)) (sym (list_back (bare_contexts inner))), refl)))))))))))
+    let behind : List Word = contexts_words inner ++ ends in (
+      nowhere,
+      plain (word.Key k.Context) ∷ [],
+      _,
+      refl,
+      key_says k.Context,
+      (
+        named x.text,
+        plain (word.Name x.text) ∷ [],
+        _,
+        refl,
+        name_says x.text,
+        (
+          nowhere,
+          plain (word.Sign s.LeftBracket) ∷ [],
+          _,
+          refl,
+          sign_says s.LeftBracket,
+          (
+            nowhere,
+            plain (word.Key k.Int) ∷ [],
+            _,
+            refl,
+            key_says k.Int,
+            (
+              nowhere,
+              plain (word.Sign s.RightBracket) ∷ [],
+              _,
+              refl,
+              sign_says s.RightBracket,
+              (
+                nowhere,
+                plain (word.Sign s.LeftBrace) ∷ [],
+                _,
+                refl,
+                sign_says s.LeftBrace,
+                (
+                  map bare_var vars,
+                  map plain (all_of var_words vars),
+                  map plain behind,
+                  map-append plain (all_of var_words vars) behind,
+                  vars_say vars,
+                  (
+                    list_of (bare_contexts inner),
+                    map plain (contexts_words inner),
+                    map plain ends,
+                    map-append plain (contexts_words inner) ends,
+                    h,
+                    (
+                      map bare_method methods,
+                      map plain (all_of method_words methods),
+                      map plain brace,
+                      map-append plain (all_of method_words methods) brace,
+                      methods_say methods,
+                      (nowhere, map plain brace, [], refl, sign_says s.RightBrace, (ap (λ l. Context nowhere (named x.text) (map bare_var vars) l (map bare_method methods)) (sym (list_back (bare_contexts inner))), refl)),
+                    ),
+                  ),
+                ),
+              ),
+            ),
+          ),
+        ),
+      ),
+    )
 
 abbrev mutual
   inside : ContextTree → ℕ
@@ -174,12 +389,53 @@ unfolding g.service service_words
 service_says t =
     let events : List Word = all_of event_words t.events ++ brace in
     let methods : List Word = all_of method_words t.methods ++ events in
-    let contexts : List Word = all_of context_words t.contexts ++ methods in
-    (nowhere, plain (word.Key k.Service) ∷ [], _, refl, key_says k.Service,
-    (named t.name.text, plain (word.Name t.name.text) ∷ [], _, refl, name_says t.name.text,
-    (nowhere, plain (word.Sign s.LeftBrace) ∷ [], _, refl, sign_says s.LeftBrace,
-    (map bare_var t.vars, map plain (all_of var_words t.vars), map plain contexts, map-append plain (all_of var_words t.vars) contexts, vars_say t.vars,
-    (map bare_context t.contexts, map plain (all_of context_words t.contexts), map plain methods, map-append plain (all_of context_words t.contexts) methods, all_say g.context bare_context context_words context_says t.contexts,
-    (map bare_method t.methods, map plain (all_of method_words t.methods), map plain events, map-append plain (all_of method_words t.methods) events, methods_say t.methods,
-    (map bare_event t.events, map plain (all_of event_words t.events), map plain brace, map-append plain (all_of event_words t.events) brace, all_say g.event bare_event event_words event_says t.events,
-    (nowhere, map plain brace, [], refl, sign_says s.RightBrace, (refl, refl)))))))))
+    let contexts : List Word = all_of context_words t.contexts ++ methods in (
+      nowhere,
+      plain (word.Key k.Service) ∷ [],
+      _,
+      refl,
+      key_says k.Service,
+      (
+        named t.name.text,
+        plain (word.Name t.name.text) ∷ [],
+        _,
+        refl,
+        name_says t.name.text,
+        (
+          nowhere,
+          plain (word.Sign s.LeftBrace) ∷ [],
+          _,
+          refl,
+          sign_says s.LeftBrace,
+          (
+            map bare_var t.vars,
+            map plain (all_of var_words t.vars),
+            map plain contexts,
+            map-append plain (all_of var_words t.vars) contexts,
+            vars_say t.vars,
+            (
+              map bare_context t.contexts,
+              map plain (all_of context_words t.contexts),
+              map plain methods,
+              map-append plain (all_of context_words t.contexts) methods,
+              all_say g.context bare_context context_words context_says t.contexts,
+              (
+                map bare_method t.methods,
+                map plain (all_of method_words t.methods),
+                map plain events,
+                map-append plain (all_of method_words t.methods) events,
+                methods_say t.methods,
+                (
+                  map bare_event t.events,
+                  map plain (all_of event_words t.events),
+                  map plain brace,
+                  map-append plain (all_of event_words t.events) brace,
+                  all_say g.event bare_event event_words event_says t.events,
+                  (nowhere, map plain brace, [], refl, sign_says s.RightBrace, (refl, refl)),
+                ),
+              ),
+            ),
+          ),
+        ),
+      ),
+    )

@@ -51,9 +51,21 @@ chain_more : (item : Part ExprTree) (o : Part BinaryOp) (l : ExprTree) (k : Bina
 chain_more item o l k r x y z h ho hr =
     let (first, u, v, q, su, hv) = h in
     let (others, v1, v2, q1, sv, hp) = hv in
-    let same : v ≡ v1 = q1 ∙ ap (λ w. v1 ++ w) hp.1 ∙ append-nil v1 in
-    (first, u, v1 ++ (y ++ z), ap (λ w. w ++ (y ++ z)) (q ∙ ap (λ w. u ++ w) same) ∙ append_assoc u v1 (y ++ z), su, (others ++ (k, r) ∷ [], v1 ++ (y ++ z), [], sym (append-nil (v1 ++ (y ++ z))), all_more (g.operand o item) others (k, r) v1 (y ++ z) sv (k, y, z, refl, ho, (r, z, [], sym (append-nil z), hr, (refl, refl))),
-      (ap (λ w. e.Binary (place_of w) k w r) hp.0 ∙ sym (fold-append g.joined first others ((k, r) ∷ [])), refl)))
+    let same : v ≡ v1 = q1 ∙ ap (λ w. v1 ++ w) hp.1 ∙ append-nil v1 in (
+      first,
+      u,
+      v1 ++ (y ++ z),
+      ap (λ w. w ++ (y ++ z)) (q ∙ ap (λ w. u ++ w) same) ∙ append_assoc u v1 (y ++ z),
+      su,
+      (
+        others ++ (k, r) ∷ [],
+        v1 ++ (y ++ z),
+        [],
+        sym (append-nil (v1 ++ (y ++ z))),
+        all_more (g.operand o item) others (k, r) v1 (y ++ z) sv (k, y, z, refl, ho, (r, z, [], sym (append-nil z), hr, (refl, refl))),
+        (ap (λ w. e.Binary (place_of w) k w r) hp.0 ∙ sym (fold-append g.joined first others ((k, r) ∷ [])), refl),
+      ),
+    )
 
 operator_says : (f : Sign → Option BinaryOp) (o : BinaryOp) → f (sign_of o) ≡ Some o → Says (w.operator f) o (word.Sign (sign_of o) ∷ [])
 operator_says f o fits = (plain (word.Sign (sign_of o)), refl, fits)
@@ -75,11 +87,21 @@ more item f o a b fits ha hb =
 
 compare : (u : Part ExprTree) (o : BinaryOp) (a b : ExprTree) → w.comparison_op (sign_of o) ≡ Some o → Says (g.sum u) (bare_expr a) (expr_words a (left_level_of o)) → Says (g.sum u) (bare_expr b) (expr_words b (level_of o + 1)) → Says (g.comparison u) (joined o a b) (own_words o a b)
 compare u o a b fits ha hb =
-    let z = map plain (expr_words b (level_of o + 1)) in
-    (bare_expr a, map plain (expr_words a (left_level_of o)), _, map-append plain (expr_words a (left_level_of o)) (word.Sign (sign_of o) ∷ expr_words b (level_of o + 1)), ha,
-      (Some (o, bare_expr b), plain (word.Sign (sign_of o)) ∷ z, [], sym (append-nil (plain (word.Sign (sign_of o)) ∷ z)),
+    let z = map plain (expr_words b (level_of o + 1)) in (
+      bare_expr a,
+      map plain (expr_words a (left_level_of o)),
+      _,
+      map-append plain (expr_words a (left_level_of o)) (word.Sign (sign_of o) ∷ expr_words b (level_of o + 1)),
+      ha,
+      (
+        Some (o, bare_expr b),
+        plain (word.Sign (sign_of o)) ∷ z,
+        [],
+        sym (append-nil (plain (word.Sign (sign_of o)) ∷ z)),
         (o, plain (word.Sign (sign_of o)) ∷ [], z, refl, operator_says w.comparison_op o fits, (bare_expr b, z, [], sym (append-nil z), hb, (refl, refl))),
-        (ap (λ at. e.Binary at o (bare_expr a) (bare_expr b)) (sym (place_bare a)), refl)))
+        (ap (λ at. e.Binary at o (bare_expr a) (bare_expr b)) (sym (place_bare a)), refl),
+      ),
+    )
 
 one_sum : (u : Part ExprTree) (t : ExprTree) (ws : List Word) → Says (g.sum u) t ws → Says (g.comparison u) t ws
 one_sum u t ws h = (t, map plain ws, [], sym (append-nil (map plain ws)), h, (None, [], [], refl, refl, (refl, refl)))
@@ -285,17 +307,31 @@ module _ (u : Part ExprTree) where
 
   further_say : (ts : ExprTrees) → all_say ts → more_say ts
   further_say no_exprs h = refl
-  further_say (expr_and t ts) h =
-      (plain (word.Sign s.Comma) ∷ map plain (expr_words t 0), _, ap (λ l. plain (word.Sign s.Comma) ∷ l) (map-append plain (expr_words t 0) (more_words ts)),
-        (nowhere, plain (word.Sign s.Comma) ∷ [], _, refl, sign_says s.Comma, h.0), further_say ts h.1)
+  further_say (expr_and t ts) h = (
+    plain (word.Sign s.Comma) ∷ map plain (expr_words t 0),
+    _,
+    ap (λ l. plain (word.Sign s.Comma) ∷ l) (map-append plain (expr_words t 0) (more_words ts)),
+    (nowhere, plain (word.Sign s.Comma) ∷ [], _, refl, sign_says s.Comma, h.0),
+    further_say ts h.1,
+  )
 
   arguments_say : (ts : ExprTrees) → all_say ts → Says (g.arguments u) (list_of (bare_exprs ts)) (word.Sign s.LeftParen ∷ (args_words ts ++ word.Sign s.RightParen ∷ []))
   arguments_say no_exprs h = (nowhere, plain (word.Sign s.LeftParen) ∷ [], _, refl, sign_says s.LeftParen, (None, [], _, refl, refl, (nowhere, plain (word.Sign s.RightParen) ∷ [], [], refl, sign_says s.RightParen, (refl, refl))))
-  arguments_say (expr_and t ts) h =
-      (nowhere, plain (word.Sign s.LeftParen) ∷ [], _, refl, sign_says s.LeftParen,
-        (Some (bare_expr t ∷ list_of (bare_exprs ts)), map plain (args_words (expr_and t ts)), _, map-append plain (args_words (expr_and t ts)) (word.Sign s.RightParen ∷ []),
-          (bare_expr t, map plain (expr_words t 0), _, map-append plain (expr_words t 0) (more_words ts), h.0, (list_of (bare_exprs ts), map plain (more_words ts), [], sym (append-nil (map plain (more_words ts))), further_say ts h.1, (refl, refl))),
-          (nowhere, plain (word.Sign s.RightParen) ∷ [], [], refl, sign_says s.RightParen, (refl, refl))))
+  arguments_say (expr_and t ts) h = (
+    nowhere,
+    plain (word.Sign s.LeftParen) ∷ [],
+    _,
+    refl,
+    sign_says s.LeftParen,
+    (
+      Some (bare_expr t ∷ list_of (bare_exprs ts)),
+      map plain (args_words (expr_and t ts)),
+      _,
+      map-append plain (args_words (expr_and t ts)) (word.Sign s.RightParen ∷ []),
+      (bare_expr t, map plain (expr_words t 0), _, map-append plain (expr_words t 0) (more_words ts), h.0, (list_of (bare_exprs ts), map plain (more_words ts), [], sym (append-nil (map plain (more_words ts))), further_say ts h.1, (refl, refl))),
+      (nowhere, plain (word.Sign s.RightParen) ∷ [], [], refl, sign_says s.RightParen, (refl, refl)),
+    ),
+  )
 
 -- ---- each node, where its parts are read one step less deep
 
@@ -368,10 +404,28 @@ module _ (v : Part ExprTree) where
   child_node : (at : Span) (c : List ℕ) (p : ExprTree) (f : List ℕ) (ts : ExprTrees) → Says (g.expr v) (bare_expr p) (expr_words p 0) → all_say v ts → Says (g.signed_or_primary v) (bare_expr (e.ChildCall at c p f ts)) (expr_words (e.ChildCall at c p f ts) 5)
   child_node at c p f ts h k =
       let behind : List Word = word.Sign s.Dot ∷ word.Name f ∷ paren_args ts in
-      inr (inr (inr (inr (inr (inr (inr (inr (named c, plain (word.Name c) ∷ [], _, refl, name_says c,
-        (bare_expr p, map plain (index_words p), map plain behind, index_split p behind, index_says v p h,
-          (named f, map plain (word.Sign s.Dot ∷ word.Name f ∷ []), _, refl, field_says f,
-            (list_of (bare_exprs ts), map plain (paren_args ts), [], sym (append-nil (map plain (paren_args ts))), arguments_say v ts k, (ap (λ l. e.ChildCall nowhere c (bare_expr p) f l) (sym (list_back (bare_exprs ts))), refl))))))))))))
+      inr (inr (inr (inr (inr (inr (inr (inr (
+        named c,
+        plain (word.Name c) ∷ [],
+        _,
+        refl,
+        name_says c,
+        (
+          bare_expr p,
+          map plain (index_words p),
+          map plain behind,
+          index_split p behind,
+          index_says v p h,
+          (
+            named f,
+            map plain (word.Sign s.Dot ∷ word.Name f ∷ []),
+            _,
+            refl,
+            field_says f,
+            (list_of (bare_exprs ts), map plain (paren_args ts), [], sym (append-nil (map plain (paren_args ts))), arguments_say v ts k, (ap (λ l. e.ChildCall nowhere c (bare_expr p) f l) (sym (list_back (bare_exprs ts))), refl)),
+          ),
+        ),
+      ))))))))
 
   unary_node : (at : Span) (o : UnaryOp) (x : ExprTree) → Says v (bare_expr x) (expr_words x 5) → Says (g.signed_or_primary v) (bare_expr (e.Unary at o x)) (expr_words (e.Unary at o x) 5)
   unary_node at o x h = inl ((nowhere, o), plain (word.Sign (unary_sign_of o)) ∷ [], _, refl, (plain (word.Sign (unary_sign_of o)), refl, unary_fits o), (bare_expr x, map plain (expr_words x 5), [], sym (append-nil (map plain (expr_words x 5))), h, (refl, refl)))

@@ -119,9 +119,14 @@ module _ (u : Part ExprTree) (H : Holds Fine u) where
 
   child_call_fine : Holds Fine (g.child_call u)
   child_call_fine = then_holds name_holds (λ c hc. then_holds bracketed_fine (λ t ht. then_holds field_holds (λ f hf. then_holds arguments_fine (λ found ha. pure_holds Fine (e.ChildCall c.at c.text t f.text (exprs_of found))
-      (λ l. let args : List Word = args_words (exprs_of found) ++ (word.Sign s.RightParen ∷ []) in
-        (hc, (tt, stand_both (expr_words t 0) (word.Sign s.RightBracket ∷ word.Sign s.Dot ∷ word.Name f.text ∷ word.Sign s.LeftParen ∷ args) (ht 0)
-          (tt, (tt, (hf, (tt, stand_both (args_words (exprs_of found)) (word.Sign s.RightParen ∷ []) (args_fine found ha) (tt, tt))))))))))))
+      (λ l. let args : List Word = args_words (exprs_of found) ++ (word.Sign s.RightParen ∷ []) in (
+        hc,
+        (
+          tt,
+          stand_both (expr_words t 0) (word.Sign s.RightBracket ∷ word.Sign s.Dot ∷ word.Name f.text ∷ word.Sign s.LeftParen ∷ args) (ht 0)
+              (tt, (tt, (hf, (tt, stand_both (args_words (exprs_of found)) (word.Sign s.RightParen ∷ []) (args_fine found ha) (tt, tt))))),
+        ),
+      ))))))
 
   literal_holds : Holds Fine w.literal
   literal_holds = word_holds Fine (λ t. w.literal_word t.span t.word) (λ t x h e. literal_fine t.span t.word x h e)
@@ -246,7 +251,7 @@ module _ (stmt : Part StmtTree) (H : Holds Stands stmt) where
   for_stands : Holds Stands (g.for_stmt stmt)
   for_stands = then_holds (any (w.key k.For)) (λ at _. then_holds name_holds (λ n hn. then_holds (any (w.key k.In)) (λ _ _. then_holds any_expr_fine (λ low hl. then_holds (any (w.key k.To)) (λ _ _. then_holds any_expr_fine (λ high hh. then_holds block_stands (λ body hb. pure_holds Stands (st.For at n low high (stmts_of body))
       (let block : List Word = word.Sign s.LeftBrace ∷ (stmts_words (stmts_of body) ++ (word.Sign s.RightBrace ∷ [])) in
-        (tt, (hn, (tt, stand_both (whole_words low) (word.Key k.To ∷ (whole_words high ++ block)) (hl 0) (tt, stand_both (whole_words high) block (hh 0) (block_fine body [] hb tt)))))))))))))
+      (tt, (hn, (tt, stand_both (whole_words low) (word.Key k.To ∷ (whole_words high ++ block)) (hl 0) (tt, stand_both (whole_words high) block (hh 0) (block_fine body [] hb tt)))))))))))))
 
   any_stmt_stands : Holds Stands (g.any_stmt stmt)
   any_stmt_stands = or_holds let_stands (or_holds if_stands (or_holds while_stands (or_holds for_stands (or_holds require_stands (or_holds send_stands (or_holds spawn_stands (or_holds drop_stands (or_holds set_stands (or_holds call_stands child_stands)))))))))
@@ -344,8 +349,8 @@ FineMethod m = Stand (method_words m)
 method_holds : Holds FineMethod g.method
 method_holds = then_holds (any (w.key k.Method)) (λ at _. then_holds name_holds (λ n hn. then_holds params_hold (λ ps hp. then_holds (any g.result) (λ r _. then_holds (any (w.sign s.LeftBrace)) (λ _ _. then_holds stmts_hold (λ body hb. then_holds (maybe_holds (last_holds k.Return)) (λ end he. then_holds (any (w.sign s.RightBrace)) (λ _ _. pure_holds FineMethod (record { at = at; name = n; params = ps; result = r; body = body; last = end })
     (let ends : List Word = last_words k.Return end ++ brace in
-      let rest : List Word = word.Sign s.LeftBrace ∷ (body_words body ++ ends) in
-      (tt, (hn, stand_both (params_words ps) (result_words r ++ rest) (params_fine ps hp) (stand_both (result_words r) rest (result_fine r) (tt, stand_both (body_words body) ends (body_stands body hb) (stand_both (last_words k.Return end) brace (last_fine k.Return end he) (tt, tt)))))))))))))))
+    let rest : List Word = word.Sign s.LeftBrace ∷ (body_words body ++ ends) in
+    (tt, (hn, stand_both (params_words ps) (result_words r ++ rest) (params_fine ps hp) (stand_both (result_words r) rest (result_fine r) (tt, stand_both (body_words body) ends (body_stands body hb) (stand_both (last_words k.Return end) brace (last_fine k.Return end he) (tt, tt)))))))))))))))
 
 abbrev FinePhase : PhaseTree → Type 0
 FinePhase p = Stand (phase_words p)
@@ -364,9 +369,9 @@ FineEvent v = Stand (event_words v)
 event_holds : Holds FineEvent g.event
 event_holds = then_holds (any (w.key k.Event)) (λ at _. then_holds name_holds (λ n hn. then_holds params_hold (λ ps hp. then_holds (any g.result) (λ r _. then_holds (any (w.sign s.LeftBrace)) (λ _ _. then_holds (maybe_holds (then_holds (any (w.key k.Here)) (λ _ _. any_block_holds))) (λ here hh. then_holds (many_holds phase_holds) (λ phases hq. then_holds (maybe_holds (last_holds k.Reply)) (λ end he. then_holds (any (w.sign s.RightBrace)) (λ _ _. pure_holds FineEvent (record { at = at; name = n; params = ps; result = r; here = here; phases = phases; last = end })
     (let ends : List Word = last_words k.Reply end ++ brace in
-      let downs : List Word = all_of phase_words phases ++ ends in
-      let rest : List Word = word.Sign s.LeftBrace ∷ (here_words here ++ downs) in
-      (tt, (hn, stand_both (params_words ps) (result_words r ++ rest) (params_fine ps hp) (stand_both (result_words r) rest (result_fine r) (tt, stand_both (here_words here) downs (here_fine here hh) (stand_both (all_of phase_words phases) ends (all_stand FinePhase phase_words (λ p hp. hp) phases hq) (stand_both (last_words k.Reply end) brace (last_fine k.Reply end he) (tt, tt)))))))))))))))))
+    let downs : List Word = all_of phase_words phases ++ ends in
+    let rest : List Word = word.Sign s.LeftBrace ∷ (here_words here ++ downs) in
+    (tt, (hn, stand_both (params_words ps) (result_words r ++ rest) (params_fine ps hp) (stand_both (result_words r) rest (result_fine r) (tt, stand_both (here_words here) downs (here_fine here hh) (stand_both (all_of phase_words phases) ends (all_stand FinePhase phase_words (λ p hp. hp) phases hq) (stand_both (last_words k.Reply end) brace (last_fine k.Reply end he) (tt, tt)))))))))))))))))
 
 -- ---- contexts and the service
 
@@ -386,8 +391,8 @@ methods_fine ms h = all_stand FineMethod method_words (λ m hm. hm) ms h
 one_holds : (context : Part ContextTree) → Holds FineContext context → Holds FineContext (g.one_context context)
 one_holds context H = then_holds (any (w.key k.Context)) (λ at _. then_holds name_holds (λ n hn. then_holds (any (w.sign s.LeftBracket)) (λ _ _. then_holds (any (w.key k.Int)) (λ _ _. then_holds (any (w.sign s.RightBracket)) (λ _ _. then_holds (any (w.sign s.LeftBrace)) (λ _ _. then_holds (many_holds var_holds) (λ vs hv. then_holds (many_holds H) (λ cs hc. then_holds (many_holds method_holds) (λ ms hm. then_holds (any (w.sign s.RightBrace)) (λ _ _. pure_holds FineContext (Context at n vs (contexts_of cs) ms)
     (let ends : List Word = all_of method_words ms ++ brace in
-      let rest : List Word = contexts_words (contexts_of cs) ++ ends in
-      (tt, (hn, (tt, (tt, (tt, (tt, stand_both (all_of var_words vs) rest (vars_fine vs hv) (stand_both (contexts_words (contexts_of cs)) ends (contexts_fine cs hc) (stand_both (all_of method_words ms) brace (methods_fine ms hm) (tt, tt))))))))))))))))))))
+    let rest : List Word = contexts_words (contexts_of cs) ++ ends in
+    (tt, (hn, (tt, (tt, (tt, (tt, stand_both (all_of var_words vs) rest (vars_fine vs hv) (stand_both (contexts_words (contexts_of cs)) ends (contexts_fine cs hc) (stand_both (all_of method_words ms) brace (methods_fine ms hm) (tt, tt))))))))))))))))))))
 
 context_holds : Holds FineContext g.context
 context_holds = deep_holds FineContext g.one_context one_holds
@@ -399,9 +404,9 @@ service_holds : Holds FineService g.service
 unfolding g.service service_words
 service_holds = then_holds (any (w.key k.Service)) (λ at _. then_holds name_holds (λ n hn. then_holds (any (w.sign s.LeftBrace)) (λ _ _. then_holds (many_holds var_holds) (λ vs hv. then_holds (many_holds context_holds) (λ cs hc. then_holds (many_holds method_holds) (λ ms hm. then_holds (many_holds event_holds) (λ es he. then_holds (any (w.sign s.RightBrace)) (λ _ _. pure_holds FineService (record { at = at; name = n; vars = vs; contexts = cs; methods = ms; events = es })
     (let events : List Word = all_of event_words es ++ brace in
-      let methods : List Word = all_of method_words ms ++ events in
-      let contexts : List Word = all_of context_words cs ++ methods in
-      (tt, (hn, (tt, stand_both (all_of var_words vs) contexts (vars_fine vs hv) (stand_both (all_of context_words cs) methods (all_stand FineContext context_words (λ c hc. hc) cs hc) (stand_both (all_of method_words ms) events (methods_fine ms hm) (stand_both (all_of event_words es) brace (all_stand FineEvent event_words (λ v hv. hv) es he) (tt, tt))))))))))))))))
+    let methods : List Word = all_of method_words ms ++ events in
+    let contexts : List Word = all_of context_words cs ++ methods in
+    (tt, (hn, (tt, stand_both (all_of var_words vs) contexts (vars_fine vs hv) (stand_both (all_of context_words cs) methods (all_stand FineContext context_words (λ c hc. hc) cs hc) (stand_both (all_of method_words ms) events (methods_fine ms hm) (stand_both (all_of event_words es) brace (all_stand FineEvent event_words (λ v hv. hv) es he) (tt, tt))))))))))))))))
 
 -- the canonical words of a service that was read can stand
 pub parsed_stand : (t : ServiceTree) → IsParsed t → Stand (service_words t)

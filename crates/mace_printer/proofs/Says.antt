@@ -68,19 +68,34 @@ module _ {X A : Type 0} (item : Part A) (value : X → A) (words : X → List Wo
 
   further_say : (xs : List X) → Says (many (w.sign s.Comma >> item)) (map value xs) (further words xs)
   further_say [] = refl
-  further_say (x ∷ xs) =
-      (plain (word.Sign s.Comma) ∷ map plain (words x), _, ap (λ l. plain (word.Sign s.Comma) ∷ l) (map-append plain (words x) (further words xs)),
-        (nowhere, plain (word.Sign s.Comma) ∷ [], _, refl, sign_says s.Comma, says x), further_say xs)
+  further_say (x ∷ xs) = (
+    plain (word.Sign s.Comma) ∷ map plain (words x),
+    _,
+    ap (λ l. plain (word.Sign s.Comma) ∷ l) (map-append plain (words x) (further words xs)),
+    (nowhere, plain (word.Sign s.Comma) ∷ [], _, refl, sign_says s.Comma, says x),
+    further_say xs,
+  )
 
   pub listed_says : (x : X) (xs : List X) → Says (g.listed item) (value x ∷ map value xs) (listed words (x ∷ xs))
   listed_says x xs = (value x, map plain (words x), _, map-append plain (words x) (further words xs), says x, (map value xs, map plain (further words xs), [], sym (append-nil (map plain (further words xs))), further_say xs, (refl, refl)))
 
   pub parens_say : (xs : List X) → Says (g.in_parens item) (map value xs) (word.Sign s.LeftParen ∷ (listed words xs ++ word.Sign s.RightParen ∷ []))
   parens_say [] = (nowhere, plain (word.Sign s.LeftParen) ∷ [], _, refl, sign_says s.LeftParen, (None, [], _, refl, refl, (nowhere, plain (word.Sign s.RightParen) ∷ [], [], refl, sign_says s.RightParen, (refl, refl))))
-  parens_say (x ∷ xs) =
-      (nowhere, plain (word.Sign s.LeftParen) ∷ [], _, refl, sign_says s.LeftParen,
-        (Some (value x ∷ map value xs), map plain (listed words (x ∷ xs)), _, map-append plain (listed words (x ∷ xs)) (word.Sign s.RightParen ∷ []), listed_says x xs,
-          (nowhere, plain (word.Sign s.RightParen) ∷ [], [], refl, sign_says s.RightParen, (refl, refl))))
+  parens_say (x ∷ xs) = (
+    nowhere,
+    plain (word.Sign s.LeftParen) ∷ [],
+    _,
+    refl,
+    sign_says s.LeftParen,
+    (
+      Some (value x ∷ map value xs),
+      map plain (listed words (x ∷ xs)),
+      _,
+      map-append plain (listed words (x ∷ xs)) (word.Sign s.RightParen ∷ []),
+      listed_says x xs,
+      (nowhere, plain (word.Sign s.RightParen) ∷ [], [], refl, sign_says s.RightParen, (refl, refl)),
+    ),
+  )
 
   pub maybe_says : (o : Option X) (none : List Word) (ws : List Word) → ((x : X) → o ≡ Some x → ws ≡ words x) → (o ≡ None → ws ≡ []) → Says (maybe item) (option_map value o) ws
   maybe_says None none ws some empty = ap (map plain) (empty refl)

@@ -6,7 +6,9 @@ ghost use Rattle.mace_printer.specs.Canon as words;
 ghost use Rattle.mace_printer.specs.Canon.{◌⧺◌};
 ghost use Rattle.mace_printer.specs.Layout.{layout};
 
-use crate::word::{boolean_key, put_comma, put_if, put_key, put_name, put_number, put_sign, put_text};
+use crate::word::{
+    boolean_key, put_comma, put_if, put_key, put_name, put_number, put_sign, put_text,
+};
 use mace_ast::{BinaryOp, Expr, Node, UnaryOp};
 use mace_lexer::{Keyword, Sign};
 use std::alloc::Global;
@@ -81,12 +83,7 @@ pub fn put_above(out: &mut Vec<u8>, class: &Txt, name: &Txt) -> Result<(), OutOf
 
 /// An expression where one of this level is wanted, with parentheses if it is looser.
 #[cycle(expr)]
-pub fn put_expr(
-    alloc: Global,
-    out: &mut Vec<u8>,
-    expr: &Expr,
-    level: u8,
-) -> Result<(), OutOfMemory>
+pub fn put_expr(alloc: Global, out: &mut Vec<u8>, expr: &Expr, level: u8) -> Result<(), OutOfMemory>
     ensures { OnOk result (out.new.items ≡ out.old.items ++ layout (words.expr_words (expr_tree expr.now) level)) }
 {
     match &expr.node {
@@ -123,12 +120,7 @@ pub fn put_index(alloc: Global, out: &mut Vec<u8>, key: &Expr) -> Result<(), Out
 }
 
 #[cycle(expr)]
-fn put_indexed(
-    alloc: Global,
-    out: &mut Vec<u8>,
-    name: &Txt,
-    key: &Expr,
-) -> Result<(), OutOfMemory>
+fn put_indexed(alloc: Global, out: &mut Vec<u8>, name: &Txt, key: &Expr) -> Result<(), OutOfMemory>
     ensures { OnOk result (out.new.items ≡ out.old.items ++ layout (words.name name.now ⧺ words.index_words (expr_tree key.now))) }
 {
     put_name(out, name)?;

@@ -80,11 +80,7 @@ fn put_phases(alloc: Global, out: &mut Vec<u8>, phases: &[Phase]) -> Result<(), 
 }
 
 // The statements at the root, where `here` is there.
-fn put_here(
-    alloc: Global,
-    out: &mut Vec<u8>,
-    here: &Option<Seq<Stmt>>,
-) -> Result<(), OutOfMemory>
+fn put_here(alloc: Global, out: &mut Vec<u8>, here: &Option<Seq<Stmt>>) -> Result<(), OutOfMemory>
     ensures { OnOk result (out.new.items ≡ out.old.items ++ layout (words.here_words (option_map (map stmt_tree) here.now))) }
 {
     match here {

@@ -50,12 +50,7 @@ fn put_target(out: &mut Vec<u8>, target: &Target) -> Result<(), OutOfMemory>
     }
 }
 
-fn put_cut(
-    alloc: Global,
-    out: &mut Vec<u8>,
-    target: &Target,
-    key: &Expr,
-) -> Result<(), OutOfMemory>
+fn put_cut(alloc: Global, out: &mut Vec<u8>, target: &Target, key: &Expr) -> Result<(), OutOfMemory>
     ensures { OnOk result (out.new.items ≡ out.old.items ++ layout (words.key Keyword.Drop ⧺ words.target_words target.now ⧺ words.index_words (expr_tree key.now) ⧺ words.sign Sign.Semicolon)) }
 {
     put_key(out, Keyword::Drop)?;
@@ -64,11 +59,7 @@ fn put_cut(
     put_sign(out, Sign::Semicolon)
 }
 
-fn put_maybe_index(
-    alloc: Global,
-    out: &mut Vec<u8>,
-    key: &Option<Expr>,
-) -> Result<(), OutOfMemory>
+fn put_maybe_index(alloc: Global, out: &mut Vec<u8>, key: &Option<Expr>) -> Result<(), OutOfMemory>
     ensures { OnOk result (out.new.items ≡ out.old.items ++ layout (words.maybe_index (option_map expr_tree key.now))) }
 {
     match key {
@@ -157,12 +148,7 @@ fn put_range(
 }
 
 // A keyword and a condition.
-fn put_test(
-    alloc: Global,
-    out: &mut Vec<u8>,
-    key: Keyword,
-    test: &Expr,
-) -> Result<(), OutOfMemory>
+fn put_test(alloc: Global, out: &mut Vec<u8>, key: Keyword, test: &Expr) -> Result<(), OutOfMemory>
     ensures { OnOk result (out.new.items ≡ out.old.items ++ layout (words.key key ⧺ words.whole_words (expr_tree test.now))) }
 {
     put_key(out, key)?;
@@ -203,11 +189,7 @@ fn put_stmt(alloc: Global, out: &mut Vec<u8>, stmt: &Stmt) -> Result<(), OutOfMe
 }
 
 #[cycle(stmt)]
-fn put_else(
-    alloc: Global,
-    out: &mut Vec<u8>,
-    other: &Option<Vec<Stmt>>,
-) -> Result<(), OutOfMemory>
+fn put_else(alloc: Global, out: &mut Vec<u8>, other: &Option<Vec<Stmt>>) -> Result<(), OutOfMemory>
     ensures { OnOk result (out.new.items ≡ out.old.items ++ layout (words.maybe_else (option_map (λ b. map stmt_tree b.items) other.now))) }
 {
     match other {

@@ -110,7 +110,8 @@ mod tests {
     #[test]
     fn keeps_the_parentheses_that_are_needed(rt: HostRuntime) -> Result<(), Fail> {
         let text = b"service A { event e() { reply (1 + (2)) * 3 - (x - (y < -z)); } }";
-        let wanted = b"service A {\nevent e ( ) {\nreply ( 1 + 2 ) * 3 - ( x - ( y < - z ) ) ;\n}\n}\n";
+        let wanted =
+            b"service A {\nevent e ( ) {\nreply ( 1 + 2 ) * 3 - ( x - ( y < - z ) ) ;\n}\n}\n";
         prints(&rt, rt.alloc(), text, wanted)
     }
 }

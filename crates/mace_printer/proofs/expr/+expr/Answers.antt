@@ -52,8 +52,8 @@ put_expr-returns-in_ok-put_child_key-in-ChildCall t c =
     let p = expr_tree c.deref-in-ChildCall.result.now in
     let ts = map expr_tree c.deref-in-ChildCall-2.result.now in
     let node = ap (λ n. node_tree n at) c.in-ChildCall.is ∙ child_call_node d c.in-ChildCall.key f c.in-ChildCall.args at
-      ∙ ap (λ x. e.ChildCall at d (expr_tree x) f (exprs_of (map expr_tree c.in-ChildCall.args.items))) (sym c.deref-in-ChildCall.ensures)
-      ∙ ap (λ l. e.ChildCall at d p f (exprs_of (map expr_tree l))) (sym c.deref-in-ChildCall-2.ensures.value) in
+    ∙ ap (λ x. e.ChildCall at d (expr_tree x) f (exprs_of (map expr_tree c.in-ChildCall.args.items))) (sym c.deref-in-ChildCall.ensures)
+    ∙ ap (λ l. e.ChildCall at d p f (exprs_of (map expr_tree l))) (sym c.deref-in-ChildCall-2.ensures.value) in
     same_next _ _ _ (child_arm at d p f ts c.args.level ∙ ap (λ x. expr_words x c.args.level) (sym node)) (next _ _ _ _ _ c.in_ok-put_child_key-in-ChildCall.ensures c.put_call-in-ChildCall.ensures)
 
 pub put_expr-returns-in_ok-put_left-in-Binary : goal.put_expr-returns-in_ok-put_left-in-Binary
@@ -63,6 +63,6 @@ put_expr-returns-in_ok-put_left-in-Binary t c =
     let a = expr_tree c.deref-in-Binary.result.now in
     let b = expr_tree c.deref-in-Binary-2.result.now in
     let node = ap (λ n. node_tree n at) c.in-Binary.is ∙ binary_node o c.in-Binary.left c.in-Binary.right at
-      ∙ ap (λ x. e.Binary at o (expr_tree x) (expr_tree c.in-Binary.right.value)) (sym c.deref-in-Binary.ensures)
-      ∙ ap (λ x. e.Binary at o a (expr_tree x)) (sym c.deref-in-Binary-2.ensures) in
+    ∙ ap (λ x. e.Binary at o (expr_tree x) (expr_tree c.in-Binary.right.value)) (sym c.deref-in-Binary.ensures)
+    ∙ ap (λ x. e.Binary at o a (expr_tree x)) (sym c.deref-in-Binary-2.ensures) in
     same_next _ _ _ (binary_arm at o a b c.args.level _ (ap (λ x. nat_lt x c.args.level) (sym c.level_of.ensures.level)) ∙ ap (λ x. expr_words x c.args.level) (sym node)) (next _ _ _ _ _ c.in_ok-put_left-in-Binary.ensures c.put_right.ensures)

@@ -7,4 +7,3 @@ use Rattle.mace_printer.proofs.stmt.put_maybe_index.Goals as goal
 
 pub returns-in-None : goal.returns-in-None
 returns-in-None c = same_words _ (ap (λ l. maybe_index (option_map expr_tree l)) (sym c.in-None.is)) (nothing _)
-
