@@ -1,5 +1,5 @@
 -- The canonical words of declarations spell them.
-use Rattle.std.proofs.Common.{◌≡◌, ℕ, zero, suc, ◌+◌, ◌<◌, ◌≤◌, inl, inr, List, [], ◌∷◌, ◌++◌, map, Option, Some, None, Bool, true, false, refl, sym, ap, arith, ◌∙◌, append-nil}
+use Rattle.std.proofs.Common.{◌≡◌, ℕ, zero, suc, ◌+◌, ◌≤◌, inl, inr, List, [], ◌∷◌, ◌++◌, map, Option, Some, None, Bool, true, false, refl, sym, ap, arith, append-nil}
 use Rattle.std.specs.Option.{option_map}
 use Rattle.std.proofs.lemmas.List.{map-append}
 use Rattle.wave_base.specs.declared.span.Span.{Span}
@@ -14,14 +14,13 @@ use Rattle.mace_ast.specs.declared.field.VarDecl.{VarDecl}
 use Rattle.mace_ast.specs.declared.field.Literal.{Literal}
 use Rattle.mace_ast.specs.declared.field.Literal.TheVariants as lit
 use Rattle.mace_ast.specs.declared.method.Param.{Param}
-use Rattle.mace_ast.specs.Exprs.{ExprTree, bare_expr, nowhere}
+use Rattle.mace_ast.specs.Exprs.{bare_expr, nowhere}
 use Rattle.mace_ast.specs.Stmts.{StmtTree, bare_stmt}
-use Rattle.mace_ast.specs.Decls.{LastTree, MethodTree, PhaseTree, EventTree, ContextTree, ContextTrees, Context, no_contexts, context_and, contexts_of, ServiceTree, bare_var, bare_param, bare_last, bare_method, bare_phase, bare_event, bare_context, bare_contexts, bare_service}
-use Rattle.mace_grammar.specs.Part.{Part, pure, one, ◌>>=◌, ◌>>◌, ◌or◌, many, maybe, SpellsAll, nested, deep}
+use Rattle.mace_ast.specs.Decls.{LastTree, MethodTree, PhaseTree, EventTree, ContextTree, ContextTrees, Context, no_contexts, context_and, contexts_of, ServiceTree, bare_var, bare_param, bare_last, bare_method, bare_phase, bare_event, bare_context, bare_contexts}
+use Rattle.mace_grammar.specs.Part.{Part, ◌>>◌, many, maybe, nested}
 use Rattle.mace_grammar.specs.Words as w
 use Rattle.mace_grammar.specs.Grammar as g
 use Rattle.mace_grammar.specs.Spelled.{plain, Spelled}
-use Rattle.mace_printer.specs.Canon as c
 use Rattle.mace_printer.specs.Canon.{whole_words, index_words, all_of, literal_words, var_words, boolean_key, kind_key, param_words, params_words, result_words, last_words, body_words, braced_words, method_words, phase_words, here_words, event_words, context_words, contexts_words, service_words}
 use Rattle.mace_printer.proofs.Says.{Says, key_says, sign_says, named, name_says, number_says, type_says, all_say, parens_say}
 use Rattle.mace_printer.proofs.ExprSays.{expr_says, any_key_says}

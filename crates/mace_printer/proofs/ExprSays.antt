@@ -1,5 +1,5 @@
 -- The canonical words of an expression spell it.
-use Rattle.std.proofs.Common.{◌≡◌, ℕ, zero, suc, ◌+◌, ◌<◌, ◌≤◌, inl, inr, List, [], ◌∷◌, ◌++◌, map, fold, Bool, true, false, nat_lt, Option, Some, None, refl, sym, ap, subst, arith, ◌∙◌, append_assoc, append-nil}
+use Rattle.std.proofs.Common.{◌≡◌, ℕ, zero, suc, ◌+◌, ◌≤◌, inl, inr, List, [], ◌∷◌, ◌++◌, map, Bool, true, false, nat_lt, Option, Some, None, refl, sym, ap, subst, arith, ◌∙◌, append_assoc, append-nil}
 use Rattle.std.proofs.lemmas.List.{map-append}
 use Rattle.std.proofs.lemmas.List.Sums.{fold-append}
 use Rattle.wave_base.specs.declared.span.Span.{Span}
@@ -14,12 +14,12 @@ use Rattle.mace_ast.specs.declared.expr.BinaryOp.{BinaryOp}
 use Rattle.mace_ast.specs.declared.expr.BinaryOp.TheVariants as op
 use Rattle.mace_ast.specs.Exprs as e
 use Rattle.mace_ast.specs.Exprs.{ExprTree, ExprTrees, no_exprs, expr_and, exprs_of, bare_expr, bare_exprs, place_of, nowhere}
-use Rattle.mace_grammar.specs.Part.{Part, pure, one, ◌>>=◌, ◌>>◌, ◌or◌, many, maybe, SpellsAll, nested, deep}
+use Rattle.mace_grammar.specs.Part.{Part, ◌>>◌, many, SpellsAll, nested}
 use Rattle.mace_grammar.specs.Words as w
 use Rattle.mace_grammar.specs.Grammar as g
 use Rattle.mace_grammar.specs.Spelled.{plain}
 use Rattle.mace_printer.specs.Canon.{expr_words, args_words, more_words, in_parens, level_of, left_level_of, sign_of, unary_sign_of, boolean_key, whole_words, index_words, listed}
-use Rattle.mace_printer.proofs.Says.{Says, key_says, sign_says, named, name_says, number_says, text_says, field_says, parens_say}
+use Rattle.mace_printer.proofs.Says.{Says, sign_says, named, name_says, field_says, parens_say}
 
 place_bare : (t : ExprTree) → place_of (bare_expr t) ≡ nowhere
 place_bare (e.Number at n) = refl

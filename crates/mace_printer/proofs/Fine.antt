@@ -1,9 +1,8 @@
 -- The canonical words of what tokens spell can stand in a text.
-use Rattle.std.proofs.Common.{◌≡◌, ℕ, zero, suc, ◌+◌, List, [], ◌∷◌, ◌++◌, fold, map, Option, Some, None, Bool, true, false, nat_lt, refl, sym, ap, subst}
+use Rattle.std.proofs.Common.{◌≡◌, ℕ, ◌+◌, List, [], ◌∷◌, ◌++◌, fold, Option, Some, None, Bool, true, false, nat_lt, subst}
 use Rattle.std.specs.Prelude.{ℤ}
 use Rattle.wave_base.specs.declared.span.Span.{Span}
 use Rattle.wave_base.specs.declared.value.Kind.{Kind}
-use Rattle.mace_lexer.specs.declared.token.Token.{Token}
 use Rattle.mace_lexer.specs.declared.token.Word.{Word}
 use Rattle.mace_lexer.specs.declared.token.Word.TheVariants as word
 use Rattle.mace_lexer.specs.declared.keyword.Keyword.{Keyword}
@@ -14,17 +13,16 @@ use Rattle.mace_ast.specs.declared.field.Initial.{Initial}
 use Rattle.mace_ast.specs.declared.field.VarDecl.{VarDecl}
 use Rattle.mace_ast.specs.declared.field.Literal.TheVariants as lit
 use Rattle.mace_ast.specs.declared.method.Param.{Param}
-use Rattle.mace_ast.specs.declared.stmt.Target.{Target}
 use Rattle.mace_ast.specs.declared.expr.BinaryOp.{BinaryOp}
 use Rattle.mace_ast.specs.Exprs as e
 use Rattle.mace_ast.specs.Exprs.{ExprTree, ExprTrees, exprs_of, place_of}
 use Rattle.mace_ast.specs.Stmts as st
 use Rattle.mace_ast.specs.Stmts.{StmtTree, stmts_of, else_of}
 use Rattle.mace_ast.specs.Decls.{LastTree, MethodTree, PhaseTree, EventTree, ContextTree, Context, contexts_of, ServiceTree}
-use Rattle.mace_grammar.specs.Part.{Part, pure, one, ◌>>=◌, ◌>>◌, ◌or◌, many, maybe, deep}
+use Rattle.mace_grammar.specs.Part.{Part}
 use Rattle.mace_grammar.specs.Words as w
 use Rattle.mace_grammar.specs.Grammar as g
-use Rattle.mace_printer.specs.Canon.{in_parens, level_of, left_level_of, sign_of, expr_words, args_words, more_words, whole_words, index_words, listed, call_words, target_words, maybe_above, maybe_index, stmt_words, stmts_words, else_words, body_words, braced_words, literal_words, var_words, param_words, params_words, result_words, last_words, method_words, phase_words, here_words, event_words, context_words, contexts_words, service_words, all_of}
+use Rattle.mace_printer.specs.Canon.{in_parens, level_of, left_level_of, sign_of, expr_words, args_words, more_words, whole_words, index_words, listed, call_words, target_words, maybe_index, stmt_words, stmts_words, else_words, body_words, braced_words, literal_words, var_words, param_words, params_words, result_words, last_words, method_words, phase_words, here_words, event_words, context_words, contexts_words, service_words, all_of}
 use Rattle.mace_printer.specs.Written.{IsParsed}
 use Rattle.mace_printer.proofs.Standing.{CanStand, Stand}
 use Rattle.mace_printer.proofs.Holds.{Holds, any, pure_holds, word_holds, then_holds, or_holds, many_holds, maybe_holds, deep_holds, Each, IfThere, Named, name_holds, field_holds, in_parens_hold, all_stand, listed_stand, stand_both, cuts_good}

@@ -1,16 +1,14 @@
 -- What holds of every value that tokens spell, where each token's word can stand.
-use Rattle.std.proofs.Common.{◌≡◌, ℕ, zero, suc, ◌+◌, List, [], ◌∷◌, ◌++◌, Option, Some, None, Bool, true, false, inl, inr, ⊎_elim, refl, sym, ap, subst}
+use Rattle.std.proofs.Common.{◌≡◌, ℕ, zero, suc, List, [], ◌∷◌, ◌++◌, Option, Some, None, ⊎_elim, sym, subst}
 use Rattle.std.specs.Prelude.{unwrap_or}
 use Rattle.wave_base.specs.declared.span.Span.{Span}
 use Rattle.mace_lexer.specs.declared.token.Token.{Token}
 use Rattle.mace_lexer.specs.declared.token.Word.{Word}
 use Rattle.mace_lexer.specs.declared.token.Word.TheVariants as word
-use Rattle.mace_lexer.specs.declared.keyword.Keyword.{Keyword}
-use Rattle.mace_lexer.specs.declared.sign.Sign.{Sign}
 use Rattle.mace_lexer.specs.declared.sign.Sign.TheVariants as s
 use Rattle.mace_lexer.specs.Cuts.{Cuts, at_end, gap, spelled}
 use Rattle.mace_ast.specs.declared.name.Name.{Name}
-use Rattle.mace_grammar.specs.Part.{Part, pure, one, ◌>>=◌, ◌>>◌, ◌or◌, many, maybe, SpellsAll, SpellsMaybe, nested, deep}
+use Rattle.mace_grammar.specs.Part.{Part, pure, one, ◌>>=◌, ◌or◌, many, maybe, SpellsAll, SpellsMaybe, nested, deep}
 use Rattle.mace_grammar.specs.Words as w
 use Rattle.mace_grammar.specs.Grammar as g
 use Rattle.mace_printer.specs.Canon.{all_of, further, listed}

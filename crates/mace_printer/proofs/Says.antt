@@ -1,13 +1,12 @@
 -- Words that spell parts of the grammar.
-use Rattle.std.proofs.Common.{◌≡◌, ℕ, ℤ, zero, suc, List, [], ◌∷◌, ◌++◌, map, Option, Some, None, Bool, true, false, refl, sym, ap, ◌∙◌, append-nil}
-use Rattle.std.specs.Prelude.{◌==◌, if◌then◌else◌, unwrap_or}
+use Rattle.std.proofs.Common.{◌≡◌, ℕ, ℤ, List, [], ◌∷◌, ◌++◌, map, Option, Some, None, refl, sym, ap, append-nil}
+use Rattle.std.specs.Prelude.{◌==◌, if◌then◌else◌}
 use Rattle.std.specs.Option.{option_map}
 use Rattle.std.proofs.lemmas.Bool.{eq-eqb}
 use Rattle.std.proofs.lemmas.List.{map-append}
 use Rattle.wave_base.specs.declared.span.Span.{Span}
 use Rattle.wave_base.specs.declared.value.Kind.{Kind}
 use Rattle.wave_base.specs.declared.value.Kind.TheVariants as kind
-use Rattle.mace_lexer.specs.declared.token.Token.{Token}
 use Rattle.mace_lexer.specs.declared.token.Word.{Word}
 use Rattle.mace_lexer.specs.declared.token.Word.TheVariants as word
 use Rattle.mace_lexer.specs.declared.keyword.Keyword.{Keyword}
@@ -16,7 +15,7 @@ use Rattle.mace_lexer.specs.declared.sign.Sign.TheVariants as s
 use Rattle.mace_lexer.specs.Codes.{key_code, sign_code}
 use Rattle.mace_ast.specs.declared.name.Name.{Name}
 use Rattle.mace_ast.specs.Exprs.{nowhere}
-use Rattle.mace_grammar.specs.Part.{Part, pure, one, ◌>>=◌, ◌>>◌, ◌or◌, many, maybe, SpellsAll}
+use Rattle.mace_grammar.specs.Part.{Part, ◌>>◌, many, maybe}
 use Rattle.mace_grammar.specs.Words as w
 use Rattle.mace_grammar.specs.Grammar as g
 use Rattle.mace_grammar.specs.Spelled.{plain}

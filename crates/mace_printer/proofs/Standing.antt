@@ -1,5 +1,5 @@
 -- Which words can stand in a text, and how a text of them is cut.
-use Rattle.std.proofs.Common.{◌≡◌, ℕ, zero, suc, ℤ, pos, ◌+◌, ◌*◌, ◌-◌, ◌<◌, ◌≤◌, ◌/◌, ◌%◌, Bool, true, false, ◌&&◌, List, [], ◌∷◌, ◌++◌, length, take, drop, map, fold, get_or, Some, None, All, inl, refl, sym, ◌∙◌, ap, subst, arith, eqb-true, length-append, append_assoc}
+use Rattle.std.proofs.Common.{◌≡◌, ℕ, zero, suc, pos, ◌+◌, ◌<◌, ◌≤◌, ◌/◌, ◌%◌, Bool, true, false, ◌&&◌, List, [], ◌∷◌, ◌++◌, length, take, drop, get_or, Some, None, All, refl, sym, ◌∙◌, ap, subst, arith, eqb-true, length-append, append_assoc}
 use Rattle.std.specs.Prelude.{◌==◌, ◌||◌, not, nat_lt, if◌then◌else◌}
 use Rattle.std.proofs.Math.Seq.{drop-append_seam}
 use Rattle.std.specs.Char.{is_ascii_digit}
@@ -12,7 +12,6 @@ use Rattle.std.proofs.lemmas.List.Folds.{list_all-append}
 use Rattle.std.proofs.lemmas.List.Sums.{fold-append}
 use Rattle.wave_base.specs.declared.span.Span.{Span}
 use Rattle.wave_base.specs.Text.{IsPrintable}
-use Rattle.mace_lexer.specs.declared.cut.Form.{Form}
 use Rattle.mace_lexer.specs.declared.cut.Form.TheVariants as form
 use Rattle.mace_lexer.specs.declared.keyword.Keyword.{Keyword}
 use Rattle.mace_lexer.specs.declared.sign.Sign.{Sign}
@@ -22,16 +21,16 @@ use Rattle.mace_lexer.specs.declared.token.Word.{Word}
 use Rattle.mace_lexer.specs.declared.token.Word.TheVariants as word
 use Rattle.mace_lexer.specs.Words.{is_letter, is_name_byte, is_name, is_number, with_digit, value_of, greatest, keyword, keyword_bytes, sign, sign_bytes, form_by, form_of}
 use Rattle.mace_lexer.specs.Texts.{escaped, quoted, inside_of, is_byte}
-use Rattle.mace_lexer.specs.Pieces.{Gap, Spell, IsPiece, IsLongest}
-use Rattle.mace_lexer.specs.Cuts.{Cuts, at_end, gap, spelled, past, IsBody}
-use Rattle.mace_lexer.specs.Lexed.{start, AreTokens}
+use Rattle.mace_lexer.specs.Pieces.{Spell, IsPiece, IsLongest}
+use Rattle.mace_lexer.specs.Cuts.{Cuts, at_end, past, IsBody}
+use Rattle.mace_lexer.specs.Lexed.{start}
 use Rattle.mace_lexer.proofs.Tables.{keyword_again, sign_again}
-use Rattle.mace_lexer.proofs.Forms.{and_cases, FormAt, keyword_passes, sign_passes}
+use Rattle.mace_lexer.proofs.Forms.{and_cases, keyword_passes, sign_passes}
 use Rattle.mace_lexer.proofs.Longest.{longest_by, name_all, number_all, blank_cut, text_cut}
 use Rattle.mace_lexer.proofs.CutLemmas.{gap_more, word_more}
 use Rattle.mace_grammar.specs.Spelled.{words}
 use Rattle.mace_printer.specs.Written.{IsCutInto}
-use Rattle.mace_printer.specs.Layout.{spelling, gap_of, gap_behind, line_of, layout}
+use Rattle.mace_printer.specs.Layout.{spelling, gap_of, gap_behind, layout}
 
 -- the word has a spelling that is read as it
 abbrev pub CanStand : Word → Type 0

@@ -1,7 +1,7 @@
-use Rattle.std.proofs.Common.{◌≡◌, ◌+◌, ap, map, sym, ◌∙◌, nat_lt}
+use Rattle.std.proofs.Common.{◌+◌, ap, map, sym, ◌∙◌, nat_lt}
 use Rattle.mace_ast.specs.Exprs as e
 use Rattle.mace_ast.specs.Exprs.{expr_tree, node_tree, exprs_of}
-use Rattle.mace_printer.specs.Canon.{sign, call_words, expr_words, whole_words}
+use Rattle.mace_printer.specs.Canon.{sign, expr_words, whole_words}
 use Rattle.mace_printer.proofs.Wrote.{next, same_next, same_words, nothing, listed_turn}
 use Rattle.mace_printer.proofs.Arms.{call_node, child_call_node, binary_node, call_arm, child_arm, binary_arm}
 use Rattle.mace_printer.proofs.expr.+expr.Goals as goal

@@ -1,4 +1,3 @@
-use Rattle.std.proofs.Common.{◌≡◌, arith}
 use Rattle.mace_printer.specs.Canon.{param_words}
 use Rattle.mace_printer.proofs.Wrote.{nothing, list_turn}
 use Rattle.mace_printer.proofs.field.put_list.Goals as goal

@@ -1,8 +1,8 @@
-use Rattle.std.proofs.Common.{◌≡◌, ap, map, sym, ◌∙◌}
+use Rattle.std.proofs.Common.{ap}
 use Rattle.std.specs.Int.{w64}
 use Rattle.std.proofs.lemmas.Int.{to_z-of_z}
 use Rattle.mace_printer.specs.Canon.{number}
-use Rattle.mace_printer.proofs.Wrote.{next, same_next, same_words}
+use Rattle.mace_printer.proofs.Wrote.{next, same_next}
 use Rattle.mace_printer.proofs.field.put_minus.Goals as goal
 
 pub returns : goal.returns

@@ -1,5 +1,4 @@
-use Rattle.std.proofs.Common.{◌≡◌, ap, map, sym, ◌∙◌}
-use Rattle.std.specs.Option.{option_map}
+use Rattle.std.proofs.Common.{ap, sym}
 use Rattle.mace_printer.specs.Canon.{key, result_words}
 use Rattle.mace_printer.proofs.Wrote.{next, same_next, same_words, nothing}
 use Rattle.mace_printer.proofs.field.put_result.Goals as goal

@@ -1,6 +1,6 @@
-use Rattle.std.proofs.Common.{◌≡◌, ap, map, sym, ◌∙◌}
+use Rattle.std.proofs.Common.{ap}
 use Rattle.mace_printer.specs.Canon.{key}
-use Rattle.mace_printer.proofs.Wrote.{next, same_next, same_words}
+use Rattle.mace_printer.proofs.Wrote.{next, same_words}
 use Rattle.mace_printer.proofs.field.put_var.Goals as goal
 
 pub returns : goal.returns

@@ -1,4 +1,4 @@
-use Rattle.std.proofs.Common.{◌≡◌, arith}
+use Rattle.std.proofs.Common.{arith}
 use Rattle.mace_printer.specs.Canon.{var_words}
 use Rattle.mace_printer.proofs.Wrote.{nothing, all_turn, all_end}
 use Rattle.mace_printer.proofs.field.put_vars.Goals as goal

@@ -1,4 +1,4 @@
-use Rattle.std.proofs.Common.{◌≡◌, ◌++◌, map, take}
+use Rattle.std.proofs.Common.{◌≡◌, ◌++◌, take}
 use Rattle.mace_printer.specs.Canon.{all_of, var_words}
 use Rattle.mace_printer.specs.Layout.{layout}
 use Rattle.mace_printer.proofs.field.put_vars.Given as goal

@@ -1,4 +1,4 @@
-use Rattle.std.proofs.Common.{◌≡◌, ap, map, sym, ◌∙◌}
+use Rattle.std.proofs.Common.{ap, map, sym}
 use Rattle.std.specs.Option.{option_map}
 use Rattle.mace_ast.specs.Stmts.{stmt_tree}
 use Rattle.mace_printer.specs.Canon.{here_words, braced_words}

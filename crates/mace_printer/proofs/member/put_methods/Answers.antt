@@ -1,4 +1,4 @@
-use Rattle.std.proofs.Common.{◌≡◌, arith}
+use Rattle.std.proofs.Common.{arith}
 use Rattle.mace_ast.specs.Decls.{method_tree}
 use Rattle.mace_printer.specs.Canon.{method_words}
 use Rattle.mace_printer.proofs.Wrote.{nothing, all_of_turn, all_of_end}

@@ -1,4 +1,4 @@
-use Rattle.std.proofs.Common.{◌≡◌, ap, map, sym, arith, ◌∙◌}
+use Rattle.std.proofs.Common.{ap, map, sym, arith, ◌∙◌}
 use Rattle.std.specs.Option.{option_map}
 use Rattle.mace_ast.specs.Exprs.{expr_tree}
 use Rattle.mace_ast.specs.Stmts as st

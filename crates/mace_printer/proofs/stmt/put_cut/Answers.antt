@@ -1,5 +1,4 @@
-use Rattle.std.proofs.Common.{◌≡◌, ap, map, sym, ◌∙◌}
-use Rattle.mace_printer.proofs.Wrote.{next, same_next, same_words}
+use Rattle.mace_printer.proofs.Wrote.{next}
 use Rattle.mace_printer.proofs.stmt.put_cut.Goals as goal
 
 pub returns : goal.returns

@@ -1,4 +1,4 @@
-use Rattle.std.proofs.Common.{◌≡◌, ap, map, sym, arith, ◌∙◌}
+use Rattle.std.proofs.Common.{ap, map, sym, arith, ◌∙◌}
 use Rattle.mace_ast.specs.declared.context.ContextDecl.{out-ContextDecl}
 use Rattle.mace_ast.specs.Decls.{context_tree, method_tree}
 use Rattle.mace_printer.specs.Canon.{all_of, var_words, context_words, method_words}

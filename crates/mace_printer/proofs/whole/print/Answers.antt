@@ -1,11 +1,8 @@
-use Rattle.std.proofs.Common.{◌≡◌, sym, subst}
 use Rattle.mace_ast.specs.Decls.{service_tree}
 use Rattle.mace_grammar.proofs.Judge.{one_tree}
 use Rattle.mace_printer.specs.Canon.{service_words}
-use Rattle.mace_printer.specs.Layout.{layout}
-use Rattle.mace_printer.specs.Written.{IsCutInto}
 use Rattle.mace_printer.proofs.DeclSays.{service_says}
-use Rattle.mace_printer.proofs.Printed.{printed_cut, written_cut}
+use Rattle.mace_printer.proofs.Printed.{written_cut}
 use Rattle.mace_printer.proofs.whole.print.Goals as goal
 
 pub returns-clause-cut : goal.returns-clause-cut

@@ -1,8 +1,7 @@
-use Rattle.std.proofs.Common.{◌≡◌, ap, map, sym, ◌∙◌}
-use Rattle.mace_ast.specs.Stmts.{stmt_tree}
-use Rattle.mace_ast.specs.Decls.{context_tree, method_tree, phase_tree, event_tree}
-use Rattle.mace_printer.specs.Canon.{all_of, params_words, body_words, braced_words, var_words, context_words, method_words, phase_words, event_words, service_words}
-use Rattle.mace_printer.proofs.Wrote.{next, same_next, same_words}
+use Rattle.std.proofs.Common.{ap, map}
+use Rattle.mace_ast.specs.Decls.{context_tree, method_tree, event_tree}
+use Rattle.mace_printer.specs.Canon.{all_of, var_words, context_words, method_words, event_words, service_words}
+use Rattle.mace_printer.proofs.Wrote.{next, same_words}
 use Rattle.mace_printer.proofs.whole.put_service.Goals as goal
 
 pub returns : goal.returns
