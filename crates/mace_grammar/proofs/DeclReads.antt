@@ -1,16 +1,16 @@
 -- The readers of declarations read their productions.
-use Rattle.std.proofs.Common.{◌≡◌, ℕ, zero, suc, List, [], ◌∷◌, ◌++◌, Option, Some, None, true, false, refl, unwrap_or}
+use Rattle.std.proofs.Common.{ℕ, suc, [], ◌∷◌, true, false, refl, unwrap_or}
 use Rattle.mace_lexer.specs.declared.keyword.Keyword.{Keyword}
 use Rattle.mace_lexer.specs.declared.keyword.Keyword.TheVariants as k
 use Rattle.mace_lexer.specs.declared.sign.Sign.TheVariants as s
 use Rattle.mace_ast.specs.Decls.{ContextTree, Context, contexts_of}
-use Rattle.mace_grammar.specs.Part.{Part, pure, ◌>>=◌, ◌>>◌, many, maybe}
+use Rattle.mace_grammar.specs.Part.{Part, ◌>>◌, many, maybe}
 use Rattle.mace_grammar.specs.Run.{Reader}
-use Rattle.mace_grammar.specs.Classes.{name_class, key_class, kind}
+use Rattle.mace_grammar.specs.Classes.{name_class, kind}
 use Rattle.mace_grammar.specs.Words as w
 use Rattle.mace_grammar.specs.Grammar as g
 use Rattle.mace_grammar.specs.Readers as r
-use Rattle.mace_grammar.proofs.Reading.{Reads, reads_pure, next_part, inside, repeated, optional, wider, reads_deep}
+use Rattle.mace_grammar.proofs.Reading.{Reads, reads_pure, next_part, inside, repeated, optional, reads_deep}
 use Rattle.mace_grammar.proofs.Productions.{key, sign, name, type, vars}
 use Rattle.mace_grammar.proofs.ExprReads.{any_expr, any_key}
 use Rattle.mace_grammar.proofs.StmtReads.{stmts, any_block}

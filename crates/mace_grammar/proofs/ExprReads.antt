@@ -1,18 +1,14 @@
 -- The readers of expressions read their productions.
-use Rattle.std.proofs.Common.{◌≡◌, ℕ, zero, suc, ◌+◌, List, [], ◌∷◌, ◌++◌, Option, Some, None, Bool, true, false, Ok, Err, refl, sym, ap, ◌∙◌, length}
+use Rattle.std.proofs.Common.{◌≡◌, ℕ, suc, List, [], ◌∷◌, ◌++◌, Some, None, Bool, true, false, Ok, Err, refl}
 use Rattle.std.specs.Prelude.{if◌then◌else◌, unwrap_or, fold}
-use Rattle.wave_base.specs.declared.span.Span.{Span}
 use Rattle.mace_lexer.specs.declared.token.Token.{Token}
-use Rattle.mace_lexer.specs.declared.keyword.Keyword.{Keyword}
-use Rattle.mace_lexer.specs.declared.keyword.Keyword.TheVariants as k
-use Rattle.mace_lexer.specs.declared.sign.Sign.{Sign}
 use Rattle.mace_lexer.specs.declared.sign.Sign.TheVariants as s
 use Rattle.mace_ast.specs.declared.name.Name.{Name}
 use Rattle.mace_ast.specs.declared.expr.BinaryOp.{BinaryOp}
 use Rattle.mace_ast.specs.Exprs as e
 use Rattle.mace_ast.specs.Exprs.{ExprTree, exprs_of}
-use Rattle.mace_grammar.specs.Part.{Part, pure, ◌>>=◌, ◌>>◌, ◌or◌}
-use Rattle.mace_grammar.specs.Run.{Reader, Outcome, and_then, give, after, each, sees, some, choice}
+use Rattle.mace_grammar.specs.Part.{Part, pure, ◌>>=◌, ◌or◌}
+use Rattle.mace_grammar.specs.Run.{Reader, Outcome, and_then, give, sees}
 use Rattle.mace_grammar.specs.Classes.{name_class, sign_class, kind}
 use Rattle.mace_grammar.specs.Words as w
 use Rattle.mace_grammar.specs.Grammar as g

@@ -1,23 +1,22 @@
 -- What the reader of services says of words.
-use Rattle.std.proofs.Common.{◌≡◌, ℕ, zero, suc, ◌+◌, ◌-◌, ◌<◌, ◌≤◌, ◌⊎◌, inl, inr, List, [], ◌∷◌, ◌++◌, length, take, drop, map, min, Option, Some, None, Ok, Err, Result, false, refl, sym, ◌∙◌, subst, ap, arith, ⊎_elim}
+use Rattle.std.proofs.Common.{◌≡◌, ℕ, suc, ◌+◌, ◌-◌, ◌≤◌, List, [], ◌∷◌, ◌++◌, length, take, drop, map, Ok, Err, false, refl, sym, ◌∙◌, subst, ap, arith, ⊎_elim}
 use Rattle.std.proofs.lemmas.Bool.{cases_lt}
-use Rattle.std.proofs.lemmas.List.{take-map, take-take, length-map, length-take, map-append, take_all}
+use Rattle.std.proofs.lemmas.List.{take-take, length-take, map-append, take_all}
 use Rattle.std.proofs.Math.Seq.{take-add}
-use Rattle.wave_base.specs.declared.span.Span.{Span}
 use Rattle.mace_lexer.specs.declared.token.Token.{Token}
 use Rattle.mace_lexer.specs.declared.token.Word.{Word}
 use Rattle.mace_lexer.specs.declared.keyword.Keyword.TheVariants as key
-use Rattle.mace_ast.specs.Decls.{ServiceTree, service_tree, bare_service, SameUpToSpans}
+use Rattle.mace_ast.specs.Decls.{ServiceTree, bare_service, SameUpToSpans}
 use Rattle.mace_grammar.specs.Run.{Outcome, Reader}
 use Rattle.mace_grammar.specs.Classes.{kind}
 use Rattle.mace_grammar.specs.Grammar as g
 use Rattle.mace_grammar.specs.Readers as r
 use Rattle.mace_grammar.specs.Run.{rest_of}
-use Rattle.mace_grammar.specs.Nest.{nest_after, IsShallow, IsFirstDeep}
-use Rattle.mace_grammar.specs.Spelled.{words, plain, Spelled, Begun, IsExpected, IsTooDeep, place_in}
+use Rattle.mace_grammar.specs.Nest.{nest_after, IsShallow}
+use Rattle.mace_grammar.specs.Spelled.{words, plain, Spelled, Begun}
 use Rattle.mace_grammar.proofs.Reading.{Reads, whole_found, whole_only, left, ok_or_rest, shorter}
 use Rattle.mace_grammar.proofs.DeclReads.{service}
-use Rattle.mace_grammar.proofs.Plain.{Natural, erased, map_outcome, same_length}
+use Rattle.mace_grammar.proofs.Plain.{erased, map_outcome, same_length}
 use Rattle.mace_grammar.proofs.PlainReads as plain_reads
 use Rattle.mace_grammar.proofs.Verdict.{IsPlace, place, all_begin}
 

@@ -13,9 +13,7 @@ use Rattle.mace_lexer.specs.declared.sign.Sign.TheVariants as s
 use Rattle.mace_lexer.specs.Codes.{key_code, sign_code}
 use Rattle.mace_ast.specs.declared.name.Name.{Name}
 use Rattle.mace_ast.specs.declared.field.Initial.{Initial}
-use Rattle.mace_ast.specs.declared.field.VarDecl.{VarDecl}
 use Rattle.mace_ast.specs.declared.field.Literal.TheVariants as literal
-use Rattle.mace_ast.specs.declared.method.Param.{Param}
 use Rattle.mace_ast.specs.declared.stmt.Target.{Target}
 use Rattle.mace_ast.specs.declared.expr.UnaryOp.{UnaryOp}
 use Rattle.mace_ast.specs.declared.expr.BinaryOp.{BinaryOp}
@@ -23,8 +21,8 @@ use Rattle.mace_ast.specs.Exprs as e
 use Rattle.mace_ast.specs.Exprs.{ExprTree, exprs_of, expr_and, bare_expr, bare_exprs, nowhere, place_of}
 use Rattle.mace_ast.specs.Stmts as st
 use Rattle.mace_ast.specs.Stmts.{StmtTree, stmts_of, stmt_and, else_of, bare_stmt, bare_stmts, bare_else, bare_name}
-use Rattle.mace_ast.specs.Decls.{LastTree, MethodTree, PhaseTree, EventTree, ContextTree, Context, contexts_of, context_and, ServiceTree, bare_var, bare_param, bare_last, bare_method, bare_phase, bare_event, bare_context, bare_contexts, bare_service}
-use Rattle.mace_grammar.specs.Run.{Reader, Outcome, and_then, give, after}
+use Rattle.mace_ast.specs.Decls.{ContextTree, Context, contexts_of, context_and, bare_var, bare_param, bare_last, bare_method, bare_phase, bare_event, bare_context, bare_contexts, bare_service}
+use Rattle.mace_grammar.specs.Run.{Reader}
 use Rattle.mace_grammar.specs.Classes.{name_class}
 use Rattle.mace_grammar.specs.Words as w
 use Rattle.mace_grammar.specs.Grammar as g

@@ -1,9 +1,7 @@
 -- Each production's reader reads the production.
-use Rattle.std.proofs.Common.{◌≡◌, ℕ, zero, suc, ◌+◌, List, [], ◌∷◌, ◌++◌, Option, Some, None, IsSome, Bool, true, false, refl, sym, ap, ◌∙◌, eqb-true, eq-eqb, length}
-use Rattle.std.specs.Prelude.{ℤ, ◌==◌, ◌||◌, if◌then◌else◌, unwrap_or, fold}
+use Rattle.std.proofs.Common.{◌≡◌, ℕ, ◌+◌, List, [], ◌∷◌, ◌++◌, Option, Some, None, IsSome, Bool, true, false, refl, ap, eqb-true, eq-eqb}
+use Rattle.std.specs.Prelude.{◌==◌, ◌||◌, if◌then◌else◌}
 use Rattle.wave_base.specs.declared.span.Span.{Span}
-use Rattle.wave_base.specs.declared.value.Kind.{Kind}
-use Rattle.mace_lexer.specs.declared.token.Token.{Token}
 use Rattle.mace_lexer.specs.declared.token.Word.{Word}
 use Rattle.mace_lexer.specs.declared.token.Word.TheVariants as word
 use Rattle.mace_lexer.specs.declared.keyword.Keyword.{Keyword}
@@ -11,21 +9,15 @@ use Rattle.mace_lexer.specs.declared.keyword.Keyword.TheVariants as k
 use Rattle.mace_lexer.specs.declared.sign.Sign.{Sign}
 use Rattle.mace_lexer.specs.declared.sign.Sign.TheVariants as s
 use Rattle.mace_lexer.specs.Codes.{key_code, sign_code}
-use Rattle.mace_ast.specs.declared.name.Name.{Name}
 use Rattle.mace_ast.specs.declared.expr.BinaryOp.{BinaryOp}
 use Rattle.mace_ast.specs.declared.field.Literal.TheVariants as literal
-use Rattle.mace_ast.specs.Exprs as e
-use Rattle.mace_ast.specs.Exprs.{ExprTree, exprs_of}
-use Rattle.mace_ast.specs.Stmts as st
-use Rattle.mace_ast.specs.Stmts.{StmtTree, stmts_of, else_of}
-use Rattle.mace_ast.specs.Decls.{ContextTree, Context, contexts_of}
-use Rattle.mace_grammar.specs.Part.{Part, pure, one, ◌>>=◌, ◌>>◌, ◌or◌, many, maybe, deep}
-use Rattle.mace_grammar.specs.Run.{Reader, Outcome, and_then, give, after, word as token, has, each, each_of, sees, some, choice, with_front}
+use Rattle.mace_grammar.specs.Part.{one, many}
+use Rattle.mace_grammar.specs.Run.{word as token, has, each}
 use Rattle.mace_grammar.specs.Classes.{name_class, number_class, text_class, key_class, sign_class, class_of, kind}
 use Rattle.mace_grammar.specs.Words as w
 use Rattle.mace_grammar.specs.Grammar as g
 use Rattle.mace_grammar.specs.Readers as r
-use Rattle.mace_grammar.proofs.Reading.{Reads, reads_word, reads_pure, next_part, inside, either, repeated, optional, wider, another, reads_same, reads_deep}
+use Rattle.mace_grammar.proofs.Reading.{Reads, reads_word, reads_pure, next_part, either, repeated, wider}
 
 -- ---- one token
 

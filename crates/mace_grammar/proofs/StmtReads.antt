@@ -1,16 +1,14 @@
 -- The readers of statements read their productions.
-use Rattle.std.proofs.Common.{◌≡◌, ℕ, zero, suc, List, [], ◌∷◌, ◌++◌, Option, Some, None, true, false, refl}
-use Rattle.wave_base.specs.declared.span.Span.{Span}
+use Rattle.std.proofs.Common.{ℕ, suc, [], ◌∷◌, ◌++◌, Option, Some, None, true, false, refl}
 use Rattle.mace_lexer.specs.declared.keyword.Keyword.TheVariants as k
 use Rattle.mace_lexer.specs.declared.sign.Sign.TheVariants as s
 use Rattle.mace_ast.specs.declared.name.Name.{Name}
-use Rattle.mace_ast.specs.declared.stmt.Target.{Target}
 use Rattle.mace_ast.specs.Exprs.{ExprTree}
 use Rattle.mace_ast.specs.Stmts as st
 use Rattle.mace_ast.specs.Stmts.{StmtTree, stmts_of, else_of}
 use Rattle.mace_grammar.specs.Part.{Part, pure, ◌>>=◌, ◌>>◌, ◌or◌, many, maybe}
 use Rattle.mace_grammar.specs.Run.{Reader}
-use Rattle.mace_grammar.specs.Classes.{name_class, key_class, sign_class, kind}
+use Rattle.mace_grammar.specs.Classes.{name_class, kind}
 use Rattle.mace_grammar.specs.Words as w
 use Rattle.mace_grammar.specs.Grammar as g
 use Rattle.mace_grammar.specs.Readers as r
@@ -18,7 +16,7 @@ use Rattle.mace_grammar.proofs.Reading.{Reads, reads_pure, next_part, inside, ei
 use Rattle.mace_grammar.proofs.Same.{Same, same_refl, same_trans, same_or, same_behind, same_maybe}
 use Rattle.mace_grammar.proofs.Factors.{two_fronts, three_fronts, same_five}
 use Rattle.mace_grammar.proofs.Productions.{key, sign, name, text, field}
-use Rattle.mace_grammar.proofs.ExprReads.{operators, any_expr, any_arguments, any_key}
+use Rattle.mace_grammar.proofs.ExprReads.{any_expr, any_arguments, any_key}
 
 -- ---- statements without a block
 

@@ -1,5 +1,5 @@
 -- The grammar, a production each, in the order in which it is written.
-use Rattle.std.specs.Prelude.{ℕ, ℤ, List, [], ◌∷◌, fold, map, Option, Some, None, unwrap_or}
+use Rattle.std.specs.Prelude.{List, [], ◌∷◌, fold, Option, Some, None, unwrap_or}
 use Rattle.wave_base.specs.declared.span.Span.{Span}
 use Rattle.wave_base.specs.declared.value.Kind.{Kind}
 use Rattle.mace_lexer.specs.declared.keyword.Keyword.TheVariants as k

@@ -1,5 +1,5 @@
 -- What a production says: which tokens spell which of its values, and which tokens begin it.
-use Rattle.std.specs.Prelude.{◌≡◌, ℕ, zero, suc, ◌⊎◌, List, [], ◌∷◌, ◌++◌, Option, Some, None, IsSome, unwrap_or}
+use Rattle.std.specs.Prelude.{◌≡◌, ℕ, zero, suc, ◌⊎◌, List, [], ◌∷◌, ◌++◌, Option, Some, None, IsSome}
 use Rattle.mace_lexer.specs.declared.token.Token.{Token}
 
 pub record Part (A : Type 0) : Type 1 where

@@ -1,5 +1,5 @@
 -- A reader for each production.
-use Rattle.std.specs.Prelude.{ℕ, ℤ, zero, suc, List, [], ◌∷◌, ◌++◌, length, fold, unwrap_or, Option, Some, None}
+use Rattle.std.specs.Prelude.{ℕ, ℤ, zero, suc, List, [], ◌∷◌, length, fold, unwrap_or, Option, Some, None}
 use Rattle.wave_base.specs.declared.span.Span.{Span}
 use Rattle.wave_base.specs.declared.value.Kind.{Kind}
 use Rattle.mace_lexer.specs.declared.token.Token.{Token}

@@ -1,31 +1,21 @@
 -- What the parser says of the tokens of a text.
-use Rattle.std.proofs.Common.{◌≡◌, ℕ, zero, suc, ◌+◌, ◌-◌, ◌<◌, ◌≤◌, ◌⊎◌, inl, inr, List, [], ◌∷◌, ◌++◌, length, take, drop, map, min, Option, Some, None, Ok, Err, Result, false, refl, sym, ◌∙◌, subst, ap, arith, ⊎_elim}
+use Rattle.std.proofs.Common.{◌≡◌, ℕ, ◌+◌, ◌-◌, ◌<◌, inl, inr, List, [], ◌∷◌, length, take, map, min, Some, Ok, Err, Result, refl, sym, ◌∙◌, subst, ap, arith, ⊎_elim}
 use Rattle.std.specs.Prelude.{IfOk, IfErr, OnOk}
 use Rattle.std.proofs.lemmas.Bool.{cases_lt}
-use Rattle.std.proofs.lemmas.List.{take-map, take-take, length-map, length-take, map-append, take_all}
-use Rattle.std.proofs.Math.Seq.{take-add}
-use Rattle.wave_base.specs.declared.span.Span.{Span}
+use Rattle.std.proofs.lemmas.List.{take-map, take-take, length-map, length-take}
 use Rattle.mace_lexer.specs.declared.token.Token.{Token}
 use Rattle.mace_lexer.specs.declared.token.Word.{Word}
-use Rattle.mace_lexer.specs.declared.keyword.Keyword.TheVariants as key
 use Rattle.mace_ast.specs.declared.service.Service.{Service}
-use Rattle.mace_ast.specs.Decls.{ServiceTree, service_tree, bare_service, SameUpToSpans}
+use Rattle.mace_ast.specs.Decls.{ServiceTree, service_tree, bare_service}
 use Rattle.mace_parser.specs.declared.fault.ParseError.{ParseError}
 use Rattle.mace_parser.specs.declared.fault.ParseError.TheVariants.{Expected, TooDeep, OutOfMemory}
-use Rattle.mace_grammar.specs.Run.{Outcome, Reader}
-use Rattle.mace_grammar.specs.Classes.{kind}
 use Rattle.mace_grammar.specs.Grammar as g
-use Rattle.mace_grammar.specs.Readers as r
 use Rattle.mace_grammar.specs.Run.{rest_of}
 use Rattle.mace_grammar.specs.Nest.{nest_after, IsShallow, IsFirstDeep}
 use Rattle.mace_grammar.specs.Spelled.{words, plain, Spelled, Begun, IsExpected, IsTooDeep, place_in}
 use Rattle.mace_parser.specs.Parsed.{TellsFault, AnswersTree, AnswersFault}
-use Rattle.mace_grammar.proofs.Reading.{Reads, whole_found, whole_only, left, ok_or_rest, shorter}
-use Rattle.mace_grammar.proofs.DeclReads.{service}
-use Rattle.mace_grammar.proofs.Plain.{Natural, erased, map_outcome, same_length}
-use Rattle.mace_grammar.proofs.PlainReads as plain_reads
-use Rattle.mace_grammar.proofs.Verdict.{IsPlace, place, all_begin}
-use Rattle.mace_grammar.proofs.Judge.{judge, one_tree, spelled_begun, begun_front, begun_all, shallow_front, shallow_all, judge_tree, judge_spelled, judge_shorter, judge_place, judge_begun}
+use Rattle.mace_grammar.proofs.Verdict.{IsPlace}
+use Rattle.mace_grammar.proofs.Judge.{judge, one_tree, spelled_begun, begun_front, begun_all, shallow_front, shallow_all, judge_place, judge_begun}
 
 -- ---- the first fault
 

@@ -1,7 +1,6 @@
 -- The definitions of the small form at examples.
-use Rattle.std.proofs.Common.{◌≡◌, ℕ, pos, List, [], ◌∷◌, Ok, Some, None, true, false, refl}
+use Rattle.std.proofs.Common.{◌≡◌, ℕ, pos, List, [], ◌∷◌, Some, None, true, false, refl}
 use Rattle.std.specs.Prelude.{codes}
-use Rattle.wave_base.specs.declared.shape.FieldInfo.{FieldInfo}
 use Rattle.wave_base.specs.declared.value.Kind.TheVariants as kind
 use Rattle.wave_base.specs.declared.value.Value.TheVariants as value
 use Rattle.mace_lexer.specs.declared.token.Token.{Token}

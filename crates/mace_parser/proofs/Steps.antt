@@ -1,5 +1,5 @@
 -- Readers of several parts, step by step.
-use Rattle.std.proofs.Common.{◌≡◌, ℕ, zero, suc, ◌+◌, ◌-◌, ◌<◌, ◌≤◌, List, [], ◌∷◌, length, take, map, fold, get_or, ◌++◌, Option, Some, Ok, Err, true, refl, sym, subst, arith, ◌∙◌, ap}
+use Rattle.std.proofs.Common.{◌≡◌, ℕ, zero, suc, ◌+◌, ◌-◌, ◌<◌, ◌≤◌, List, [], ◌∷◌, length, take, fold, get_or, ◌++◌, Option, Some, Ok, Err, true, refl, sym, subst, arith, ◌∙◌, ap}
 use Rattle.mace_lexer.specs.declared.token.Token.{Token}
 use Rattle.mace_lexer.specs.declared.keyword.Keyword.TheVariants as k
 use Rattle.mace_lexer.specs.declared.sign.Sign.TheVariants as sign
@@ -16,7 +16,7 @@ use Rattle.wave_base.specs.declared.span.Span.{Span}
 use Rattle.mace_parser.specs.declared.fault.Fault.{Fault}
 use Rattle.mace_parser.specs.declared.fault.Fault.TheVariants.{Memory, Stuck}
 use Rattle.mace_parser.specs.Gives.{Fails}
-use Rattle.mace_grammar.specs.Run.{Reader, Outcome, and_then, give, after, choice, sees, deeper, ◌>>=◌}
+use Rattle.mace_grammar.specs.Run.{Reader, Outcome, and_then, give, choice, sees, deeper, ◌>>=◌}
 use Rattle.mace_grammar.specs.Classes.{kind}
 use Rattle.mace_grammar.specs.Readers.{if_sign, field_at, bracketed_at, above_at, key_at, sign_at, name_at, any_expr_at, block_at, else_at, if_at, while_at, for_at, vars_at, contexts_in, methods_at, one_context_at}
 use Rattle.mace_grammar.specs.Nest.{Pieces, no_pieces, past_word, nest, nest_after, IsShallow, IsFirstDeep}

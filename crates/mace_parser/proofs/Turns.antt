@@ -1,5 +1,5 @@
 -- A turn of a loop that reads items, one behind the other.
-use Rattle.std.proofs.Common.{◌≡◌, ℕ, zero, suc, ◌+◌, ◌-◌, ◌<◌, ◌≤◌, List, [], ◌∷◌, ◌++◌, length, Ok, Err, Bool, true, false, refl, sym, ◌∙◌, ap, subst, arith, fold, append_assoc, append-nil}
+use Rattle.std.proofs.Common.{◌≡◌, ℕ, zero, suc, ◌+◌, ◌-◌, ◌<◌, List, [], ◌∷◌, ◌++◌, length, Ok, Err, Bool, true, false, refl, sym, ◌∙◌, ap, arith, fold, append_assoc, append-nil}
 use Rattle.std.specs.Prelude.{if◌then◌else◌}
 use Rattle.mace_lexer.specs.declared.token.Token.{Token}
 use Rattle.mace_ast.specs.declared.expr.BinaryOp.{BinaryOp}

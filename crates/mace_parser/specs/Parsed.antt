@@ -1,6 +1,5 @@
 -- What the parser says of the tokens of a text.
 use Rattle.std.specs.Prelude.{◌≡◌, ℕ, ◌⊎◌, List, Result, Ok, Err}
-use Rattle.wave_base.specs.declared.span.Span.{Span}
 use Rattle.mace_lexer.specs.declared.token.Token.{Token}
 use Rattle.mace_ast.specs.declared.service.Service.{Service}
 use Rattle.mace_ast.specs.Decls.{ServiceTree, service_tree, SameUpToSpans}

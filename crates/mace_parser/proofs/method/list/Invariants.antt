@@ -1,4 +1,4 @@
-use Rattle.std.proofs.Common.{◌≡◌, ◌-◌, map}
+use Rattle.std.proofs.Common.{◌≡◌, ◌-◌}
 use Rattle.mace_lexer.specs.declared.sign.Sign.TheVariants as sign
 use Rattle.mace_grammar.specs.Readers as reader
 use Rattle.mace_parser.proofs.Turns.{list_from}

@@ -1,4 +1,4 @@
-use Rattle.std.proofs.Common.{◌≡◌, arith, sym, ap, subst}
+use Rattle.std.proofs.Common.{arith}
 use Rattle.mace_parser.proofs.Steps.{first_deep_here}
 use Rattle.mace_parser.proofs.nest.first_deep.Goals as goal
 

@@ -1,5 +1,5 @@
-use Rattle.std.proofs.Common.{◌≡◌, ◌≤◌, take, fold}
-use Rattle.mace_grammar.specs.Nest.{no_pieces, past_word, nest, IsShallow}
+use Rattle.std.proofs.Common.{◌≡◌, take, fold}
+use Rattle.mace_grammar.specs.Nest.{no_pieces, past_word, IsShallow}
 use Rattle.mace_grammar.specs.Spelled.{words}
 use Rattle.mace_parser.proofs.nest.first_deep.Given as goal
 

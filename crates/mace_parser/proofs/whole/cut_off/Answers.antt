@@ -1,4 +1,4 @@
-use Rattle.std.proofs.Common.{◌≡◌, ◌+◌, ◌∙◌, Err, refl, sym, subst, take, length, arith}
+use Rattle.std.proofs.Common.{◌+◌, ◌∙◌, Err, refl, sym, subst, take, arith}
 use Rattle.std.proofs.lemmas.List.{length-take}
 use Rattle.mace_ast.specs.Decls.{service_tree}
 use Rattle.mace_parser.specs.Gives.{TakesAll}

@@ -1,4 +1,4 @@
-use Rattle.std.proofs.Common.{◌≡◌, ◌∙◌}
+use Rattle.std.proofs.Common.{◌∙◌}
 use Rattle.mace_parser.proofs.Steps.{there, beyond}
 use Rattle.mace_parser.proofs.whole.place.Goals as goal
 

@@ -1,0 +1,127 @@
+-- What holds of every value that tokens spell, where each token's word can stand.
+use Rattle.std.proofs.Common.{◌≡◌, ℕ, zero, suc, List, [], ◌∷◌, ◌++◌, Option, Some, None, ⊎_elim, sym, subst}
+use Rattle.std.specs.Prelude.{unwrap_or}
+use Rattle.wave_base.specs.declared.span.Span.{Span}
+use Rattle.mace_lexer.specs.declared.token.Token.{Token}
+use Rattle.mace_lexer.specs.declared.token.Word.{Word}
+use Rattle.mace_lexer.specs.declared.token.Word.TheVariants as word
+use Rattle.mace_lexer.specs.declared.sign.Sign.TheVariants as s
+use Rattle.mace_lexer.specs.Cuts.{Cuts, at_end, gap, spelled}
+use Rattle.mace_ast.specs.declared.name.Name.{Name}
+use Rattle.mace_grammar.specs.Part.{Part, pure, one, ◌>>=◌, ◌or◌, many, maybe, SpellsAll, SpellsMaybe, nested, deep}
+use Rattle.mace_grammar.specs.Words as w
+use Rattle.mace_grammar.specs.Grammar as g
+use Rattle.mace_printer.specs.Canon.{all_of, further, listed}
+use Rattle.mace_printer.proofs.Standing.{CanStand, Stand, read_stands}
+
+abbrev pub Good : List Token → Type 0
+Good [] = Unit {0}
+Good (t ∷ ts) = CanStand t.word × Good ts
+
+pub cuts_good : {at : Span} {from : ℕ} {text : List ℕ} {ts : List Token} → Cuts at from text ts → Good ts
+cuts_good at_end = tt
+cuts_good (gap e c) = cuts_good c
+cuts_good (spelled {n = n} {w = w} {text = text} e c) = (read_stands w _ e.piece, cuts_good c)
+
+good_front : (u v : List Token) → Good (u ++ v) → Good u
+good_front [] v h = tt
+good_front (t ∷ u) v h = (h.0, good_front u v h.1)
+
+good_back : (u v : List Token) → Good (u ++ v) → Good v
+good_back [] v h = h
+good_back (t ∷ u) v h = good_back u v h.1
+
+pub stand_both : (us vs : List Word) → Stand us → Stand vs → Stand (us ++ vs)
+stand_both [] vs h k = k
+stand_both (u ∷ us) vs h k = (h.0, stand_both us vs h.1 k)
+
+pub record Holds {A : Type 0} (P : A → Type 0) (p : Part A) : Type 0 where
+  pub of : (a : A) (ts : List Token) → Good ts → p.Spells a ts → P a
+
+pub any : {A : Type 0} (p : Part A) → Holds (λ _. Unit {0}) p
+any p = record { of = λ a ts h s. tt }
+
+pub pure_holds : {A : Type 0} (P : A → Type 0) (x : A) → P x → Holds P (pure x)
+pure_holds P x h = record { of = λ a ts k s. subst P (sym s.0) h }
+
+pub word_holds : {A : Type 0} (P : A → Type 0) (f : Token → Option A) → ((t : Token) (a : A) → CanStand t.word → f t ≡ Some a → P a) → Holds P (one f)
+word_holds P f each = record { of = λ a ts h s. let (t, e, k) = s in each t a (subst Good e h).0 k }
+
+pub then_holds : {A B : Type 0} {P : A → Type 0} {Q : B → Type 0} {p : Part A} {q : A → Part B} → Holds P p → ((a : A) → P a → Holds Q (q a)) → Holds Q (p >>= q)
+then_holds H K = record { of = λ b ts h s. let (a, u, v, e, su, sv) = s in let both = subst Good e h in (K a (H.of a u (good_front u v both) su)).of b v (good_back u v both) sv }
+
+pub or_holds : {A : Type 0} {P : A → Type 0} {p q : Part A} → Holds P p → Holds P q → Holds P (p or q)
+or_holds H K = record { of = λ a ts h s. ⊎_elim (λ k. H.of a ts h k) (λ k. K.of a ts h k) s }
+
+abbrev pub Each : {A : Type 0} → (A → Type 0) → List A → Type 0
+Each P [] = Unit {0}
+Each P (a ∷ others) = P a × Each P others
+
+pub many_holds : {A : Type 0} {P : A → Type 0} {p : Part A} → Holds P p → Holds (Each P) (many p)
+many_holds {A = A} {P = P} {p = p} H = record { of = go }
+  where
+    go : (items : List A) (ts : List Token) → Good ts → SpellsAll p items ts → Each P items
+    go [] ts h s = tt
+    go (a ∷ others) ts h s = let (u, v, e, su, sv) = s in let both = subst Good e h in (H.of a u (good_front u v both) su, go others v (good_back u v both) sv)
+
+abbrev pub IfThere : {A : Type 0} → (A → Type 0) → Option A → Type 0
+IfThere P None = Unit {0}
+IfThere P (Some a) = P a
+
+pub maybe_holds : {A : Type 0} {P : A → Type 0} {p : Part A} → Holds P p → Holds (IfThere P) (maybe p)
+maybe_holds {A = A} {P = P} {p = p} H = record { of = go }
+  where
+    go : (o : Option A) (ts : List Token) → Good ts → SpellsMaybe p o ts → IfThere P o
+    go None ts h s = tt
+    go (Some a) ts h s = H.of a ts h s
+
+nested_holds : {A : Type 0} (P : A → Type 0) (body : Part A → Part A) → ((p : Part A) → Holds P p → Holds P (body p)) → (n : ℕ) → Holds P (nested body n)
+nested_holds P body step zero = record { of = λ a ts h s. absurd s }
+nested_holds P body step (suc n) = step (nested body n) (nested_holds P body step n)
+
+pub deep_holds : {A : Type 0} (P : A → Type 0) (body : Part A → Part A) → ((p : Part A) → Holds P p → Holds P (body p)) → Holds P (deep body)
+deep_holds P body step = record { of = λ a ts h s. (nested_holds P body step s.0).of a ts h s.1 }
+
+-- ---- names
+
+abbrev pub Named : Name → Type 0
+Named n = CanStand (word.Name n.text)
+
+name_stands : (at : Span) (v : Word) (n : Name) → CanStand v → w.name_word at v ≡ Some n → Named n
+name_stands at (word.Name t) n h e = let same : record { at = at; text = t } ≡ n = cc in subst Named same h
+name_stands at (word.Key j) n h e = cc
+name_stands at (word.Number z) n h e = cc
+name_stands at (word.Text t) n h e = cc
+name_stands at (word.Sign j) n h e = cc
+
+pub name_holds : Holds Named w.name
+name_holds = word_holds Named (λ t. w.name_word t.span t.word) (λ t n h e. name_stands t.span t.word n h e)
+
+pub field_holds : Holds Named g.field
+field_holds = then_holds (any (w.sign s.Dot)) (λ _ _. name_holds)
+
+-- ---- lists
+
+module _ {A : Type 0} {P : A → Type 0} {item : Part A} (H : Holds P item) where
+  listed_holds : Holds (Each P) (g.listed item)
+  listed_holds = then_holds H (λ first hf. then_holds (many_holds (then_holds (any (w.sign s.Comma)) (λ _ _. H))) (λ others ho. pure_holds (Each P) (first ∷ others) (hf, ho)))
+
+  unwrapped : (o : Option (List A)) → IfThere (Each P) o → Each P (unwrap_or o [])
+  unwrapped None h = tt
+  unwrapped (Some l) h = h
+
+  pub in_parens_hold : Holds (Each P) (g.in_parens item)
+  in_parens_hold = then_holds (any (w.sign s.LeftParen)) (λ _ _. then_holds (maybe_holds listed_holds) (λ found hf. then_holds (any (w.sign s.RightParen)) (λ _ _. pure_holds (Each P) (unwrap_or found []) (unwrapped found hf))))
+
+module _ {X : Type 0} (P : X → Type 0) (ws : X → List Word) (stands : (x : X) → P x → Stand (ws x)) where
+  pub all_stand : (xs : List X) → Each P xs → Stand (all_of ws xs)
+  all_stand [] h = tt
+  all_stand (x ∷ xs) h = stand_both (ws x) (all_of ws xs) (stands x h.0) (all_stand xs h.1)
+
+  pub further_stand : (xs : List X) → Each P xs → Stand (further ws xs)
+  further_stand [] h = tt
+  further_stand (x ∷ xs) h = (tt, stand_both (ws x) (further ws xs) (stands x h.0) (further_stand xs h.1))
+
+  pub listed_stand : (xs : List X) → Each P xs → Stand (listed ws xs)
+  listed_stand [] h = tt
+  listed_stand (x ∷ xs) h = stand_both (ws x) (further ws xs) (stands x h.0) (further_stand xs h.1)

@@ -1,0 +1,10 @@
+pub mod Says
+pub mod ExprSays
+pub mod StmtSays
+pub mod DeclSays
+pub mod Standing
+pub mod Holds
+pub mod Fine
+pub mod Wrote
+pub mod Arms
+pub mod Printed

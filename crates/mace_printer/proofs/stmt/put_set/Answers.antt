@@ -1,0 +1,5 @@
+use Rattle.mace_printer.proofs.Wrote.{next}
+use Rattle.mace_printer.proofs.stmt.put_set.Goals as goal
+
+pub returns : goal.returns
+returns c = next _ _ _ _ _ c.in_ok-put_target.ensures (next _ _ _ _ _ c.in_ok-put_maybe_index.ensures (next _ _ _ _ _ c.in_ok-put_sign.ensures c.put_ended.ensures))

@@ -1,0 +1,13 @@
+//! A service in canonical layout.
+#![tactic(auto)]
+
+mod expr;
+mod field;
+mod laws;
+mod member;
+mod stmt;
+mod whole;
+mod word;
+
+pub use laws::canonical_words_spell;
+pub use whole::print;
