@@ -1,4 +1,5 @@
 ghost use Rattle.std.specs.Prelude.{◌≡◌, [], ◌∷◌, IfOk};
+ghost use Rattle.wave_base.specs.declared.value.Value.TheVariants as v;
 ghost use Rattle.service_vm.specs.Spin.{spin};
 
 use super::*;
@@ -67,15 +68,21 @@ fn program(alloc: Global) -> Result<Program, OutOfMemory>
     })
 }
 
+fn call_of(alloc: Global, n: i64) -> Result<Call, OutOfMemory>
+    ensures { IfOk result (λ c. c ≡ record { event = 0; args = v.Int n ∷ []; generation = 0 }) }
+{
+    Ok(Call {
+        event: 0,
+        args: Seq::from_vec(vec![in alloc; Value::Int(n)]?),
+        generation: 0,
+    })
+}
+
 // The pause of a call that counts to a number.
 fn count(alloc: Global, program: &Verified, n: i64) -> Result<Pause, OutOfMemory>
     requires { program.now ≡ spin }
 {
-    let call = Call {
-        event: 0,
-        args: Seq::from_vec(vec![in alloc; Value::Int(n)]?),
-        generation: 0,
-    };
+    let call = call_of(alloc, n)?;
     let mut event = match EventBox::new(alloc, program, Ticket(1), call) {
         Ok(event) => event,
         Err((_, e)) => return Err(e),
