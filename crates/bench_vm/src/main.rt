@@ -25,11 +25,13 @@ fn number(word: Option<String>) -> Option<u32> {
 // What the event replied.
 fn print_reply<R: Print>(rt: &R, pause: Pause) -> io::Result<()> {
     match pause {
-        Pause::Over(EventResult {
-            outcome: Outcome::Reply(Value::Int(n)),
-            messages: _,
-            created: _,
-        }) => println!(rt; "reply {n}"),
+        Pause::Over(
+            EventResult {
+                outcome: Outcome::Reply(Value::Int(n)),
+                messages: _,
+                created: _,
+            },
+        ) => println!(rt; "reply {n}"),
         _ => println!(rt; "no reply"),
     }
 }
