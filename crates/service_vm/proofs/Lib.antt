@@ -4,3 +4,4 @@ pub mod Events
 pub mod Finding
 pub mod Leading
 pub mod Seen
+pub mod Spinning

@@ -1,4 +1,5 @@
 pub mod Acts
 pub mod Boxes
 pub mod Frames
+pub mod Spin
 pub mod Windows

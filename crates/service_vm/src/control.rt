@@ -1,6 +1,6 @@
 //! Instructions that say what comes next in the same context.
 
-ghost use Rattle.std.specs.Prelude.{◌≡◌, ◌<◌, ◌≤◌, ◌^◌, List, [], length, Some, None, IsSome, IfOk, OnOk, slice_get};
+ghost use Rattle.std.specs.Prelude.{◌≡◌, ◌<◌, ◌≤◌, ◌^◌, List, [], true, false, length, Some, None, IsSome, IfOk, OnOk, slice_get};
 ghost use Rattle.wave_base.specs.declared.span.Span.{Span};
 ghost use Rattle.wave_base.specs.declared.value.Value.{Value};
 ghost use Rattle.service_code.specs.declared.instr.Instr.TheVariants as instr;
@@ -16,33 +16,31 @@ use wave_base::{OutOfMemory, Pause, Span, TrapKind};
 impl Run {
     /// Goes on at an instruction.
     #[tactic(auto, unfolding(service_verify::specs::Steps::acted))]
-    pub fn jump(&mut self, to: u16) -> Option<Pause>
-        ensures did { (program : Program) (at : Span) (fields : List Value) → Did program self.old (instr.Jump to) at fields result self.new fields }
+    pub fn jump(&mut self, to: u16)
+        ensures did { (program : Program) (at : Span) (fields : List Value) → Did program self.old (instr.Jump to) at fields None self.new fields }
         ensures stays { Stays self.old self.new }
     {
         self.frames.jump(to);
-        None
     }
 
     /// Throws the value on top away.
     #[tactic(auto, unfolding(service_verify::specs::Steps::acted))]
-    pub fn forget(&mut self) -> Option<Pause>
+    pub fn forget(&mut self)
         requires place { self.old.frames.top.place < 2 ^ 63 }
         requires value { 0 < length self.old.frames.top.stack }
-        ensures did { (program : Program) (at : Span) (fields : List Value) → Did program self.old instr.Pop at fields result self.new fields }
+        ensures did { (program : Program) (at : Span) (fields : List Value) → Did program self.old instr.Pop at fields None self.new fields }
         ensures stays { Stays self.old self.new }
     {
         let _ = self.frames.pop();
         self.frames.advance();
-        None
     }
 
     /// Goes on at an instruction where the value on top is false.
     #[tactic(auto, unfolding(service_verify::specs::Steps::acted))]
-    pub fn branch(&mut self, to: u16) -> Option<Pause>
+    pub fn branch(&mut self, to: u16)
         requires place { self.old.frames.top.place < 2 ^ 63 }
         requires truth { IsSome (truth_on_top self.old.frames.top.stack) }
-        ensures did { (program : Program) (at : Span) (fields : List Value) → Did program self.old (instr.JumpFalse to) at fields result self.new fields }
+        ensures did { (program : Program) (at : Span) (fields : List Value) → Did program self.old (instr.JumpFalse to) at fields None self.new fields }
         ensures stays { Stays self.old self.new }
     {
         if self.frames.pop_truth() {
@@ -50,7 +48,6 @@ impl Run {
         } else {
             self.frames.jump(to);
         }
-        None
     }
 
     /// Takes a tick, or traps where none is left.
@@ -85,14 +82,29 @@ impl Run {
 
     /// A method of the same context begins.
     #[tactic(auto, unfolding(service_verify::specs::Steps::acted))]
-    pub fn call(&mut self, number: u16, function: &Function) -> Result<Option<Pause>, OutOfMemory>
+    pub fn call(&mut self, number: u16, function: &Function) -> Result<(), OutOfMemory>
         requires place { self.old.frames.top.place < 2 ^ 63 }
         requires args { IsSome (taken (length function.now.args) [] self.old.frames.top.stack) }
         requires locals { length function.now.args ≤ length function.now.locals }
-        ensures did { IfOk result (λ p. (program : Program) (at : Span) (fields : List Value) → slice_get program.functions number ≡ Some function.now → Did program self.old (instr.Call number) at fields p self.new fields) }
+        ensures did { OnOk result ((program : Program) (at : Span) (fields : List Value) → slice_get program.functions number ≡ Some function.now → Did program self.old (instr.Call number) at fields None self.new fields) }
         ensures stays { Stays self.old self.new }
     {
-        self.frames.begin(self.alloc, number, function, false)?;
-        Ok(None)
+        self.frames.begin(self.alloc, number, function, false)
+    }
+
+    /// Takes a tick, where there is one; and whether it was so.
+    #[tactic(auto, unfolding(service_verify::specs::Steps::acted))]
+    pub fn spend(&mut self) -> bool
+        requires place { self.old.frames.top.place < 2 ^ 63 }
+        ensures did { result ≡ true → (program : Program) (at : Span) (fields : List Value) → Did program self.old instr.Tick at fields None self.new fields }
+        ensures left { result ≡ false → self.new ≡ self.old }
+        ensures stays { Stays self.old self.new }
+    {
+        if self.ticks == 0 {
+            return false;
+        }
+        self.ticks -= 1;
+        self.frames.advance();
+        true
     }
 }

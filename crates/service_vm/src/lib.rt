@@ -13,3 +13,6 @@ mod step;
 mod values;
 
 pub use event::{EventBox, segment};
+
+#[cfg(test)]
+mod tests;
