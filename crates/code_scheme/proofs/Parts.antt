@@ -296,7 +296,7 @@ module _ (ls : List Line) where
       (part_then a (a + length ca) (a + length ca + 1 + 1) x (down_part (a + length ca) l m hb.0 hb.1.0 tick no_l not_l no_m))
 
   module _ (methods : List Method) (texts : List Text) where
-    literal_plain : (x : Value) → (jump_of (literal_instr methods texts x) ≡ None) × (is_call_down (literal_instr methods texts x) ≡ false)
+    literal_plain : (x : Value) → (jump_of (literal_instr texts x) ≡ None) × (is_call_down (literal_instr texts x) ≡ false)
     literal_plain (v.Int n) = (refl, refl)
     literal_plain (v.Bool b) = (refl, refl)
     literal_plain (v.Str t) = (refl, refl)

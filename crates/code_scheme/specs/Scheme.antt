@@ -18,6 +18,13 @@ use Rattle.code_scheme.specs.Texts.{Text, place_of_text}
 abbrev pub line : Instr → Span → Line
 line i at = record { instr = i; place = at }
 
+-- what puts a literal on the stack
+abbrev pub literal_instr : List Text → Value → Instr
+literal_instr texts (v.Int n) = i.PushInt n
+literal_instr texts (v.Bool b) = i.PushBool b
+literal_instr texts (v.Str t) = i.PushText (place_of_text texts t)
+literal_instr texts (v.Map m) = i.PushEmpty
+
 -- whether a call of a method gives a value
 abbrev pub gives_in : Option Method → Bool
 gives_in None = false
@@ -78,15 +85,9 @@ body_then body rest = body ++ rest (length body)
 
 -- the code of a service with these methods and texts
 module _ (methods : List Method) (texts : List Text) where
-  abbrev pub literal_instr : Value → Instr
-  literal_instr (v.Int n) = i.PushInt n
-  literal_instr (v.Bool b) = i.PushBool b
-  literal_instr (v.Str t) = i.PushText (place_of_text texts t)
-  literal_instr (v.Map m) = i.PushEmpty
-
   abbrev mutual
     pub tree_code : ℕ → Tree → List Line
-    tree_code n (Const at literal) = line (literal_instr literal) at ∷ []
+    tree_code n (Const at literal) = line (literal_instr texts literal) at ∷ []
     tree_code n (Local at slot) = line (i.Load slot) at ∷ []
     tree_code n (Field at f) = line (i.Field f) at ∷ []
     tree_code n (Above at level f) = line (i.Above level f) at ∷ []
