@@ -1,0 +1,20 @@
+//! The type checker: a walk through a service that stops at the first fault, and resolves its names on the way.
+#![tactic(auto)]
+
+mod calls;
+mod exprs;
+mod functions;
+mod gather;
+mod here;
+mod kinds;
+mod locals;
+mod names;
+mod operators;
+mod params;
+mod service;
+mod simple;
+mod stmts;
+mod tables;
+
+pub use service::{Typed, check};
+pub use type_rules::{TypeError, Which};
