@@ -1,4 +1,1 @@
-pub mod Numbers
-pub mod Rows
-pub mod Indexed
 pub mod Places

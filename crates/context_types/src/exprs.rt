@@ -13,11 +13,11 @@ ghost use Rattle.type_rules.specs.Exprs.{row_tree};
 ghost use Rattle.context_types.specs.Places.{here_of, IsJudged};
 
 use crate::here::Here;
-use crate::kinds::{rows_before, rows_of_index, rows_of_sign, same_kind};
 use mace_ast::{BinaryOp, Expr, Node, UnaryOp};
 use resolved_service::{Expr as Tree, Node as Resolved};
 use std::alloc::Global;
 use type_rules::{TypeError, Variable};
+use type_tables::{rows_before, rows_of_index, rows_of_sign, same_kind};
 use wave_base::{Kind, OutOfMemory, Span, Table, Txt, Value};
 
 /// An expression with its names resolved, and its kind.

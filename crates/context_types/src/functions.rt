@@ -9,12 +9,11 @@ ghost use Rattle.type_rules.specs.Views.{last_view, method_view, phase_view, eve
 ghost use Rattle.context_types.specs.Places.{here_of};
 
 use crate::here::Here;
-use crate::params::kinds_of;
-use crate::tables::Tables;
 use mace_ast::{EventDecl, Last as LastDecl, MethodDecl, Name, Phase as PhaseDecl};
 use resolved_service::{Event, Last, Method, Phase};
 use std::alloc::Global;
 use type_rules::TypeError;
+use type_tables::{Tables, kinds_of};
 use wave_base::{Class, Kind, Seq};
 
 /// Whether nothing before the n-th has a name, by the first that has it.

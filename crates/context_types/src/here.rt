@@ -3,10 +3,10 @@ ghost use Rattle.std.specs.Option.{option_copied};
 ghost use Rattle.type_rules.specs.Here as rules;
 ghost use Rattle.type_rules.specs.Known as known;
 ghost use Rattle.context_types.specs.Places.{here_of};
-ghost use Rattle.context_types.specs.Rows.{IsCallable};
+ghost use Rattle.type_tables.specs.Rows.{IsCallable};
 
-use crate::tables::Tables;
 use type_rules::{Callee, Local, Variable};
+use type_tables::Tables;
 use wave_base::{Kind, Txt};
 
 /// Where the walk stands: in a class, in a method or an event with a number, behind the locals that may be named. `slots`

@@ -4,17 +4,12 @@
 mod calls;
 mod exprs;
 mod functions;
-mod gather;
 mod here;
-mod kinds;
 mod locals;
-mod names;
-mod operators;
 mod params;
 mod service;
 mod simple;
 mod stmts;
-mod tables;
 
 pub use service::{Typed, check};
 pub use type_rules::{TypeError, Which};

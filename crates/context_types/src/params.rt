@@ -1,27 +1,15 @@
-ghost use Rattle.std.specs.Prelude.{◌≡◌, ◌++◌, IfOk};
+ghost use Rattle.std.specs.Prelude.{◌≡◌};
 ghost use Rattle.type_rules.specs.Demands.{Judges};
 ghost use Rattle.type_rules.specs.Here.{declared};
-ghost use Rattle.type_rules.specs.Known as known;
 ghost use Rattle.type_rules.specs.Functions as rules;
 ghost use Rattle.context_types.specs.Places.{here_of};
 
 use crate::here::Here;
-use crate::kinds::same_kind;
 use mace_ast::Param;
 use std::alloc::Global;
 use type_rules::{TypeError, Which};
-use wave_base::{Kind, OutOfMemory, PARAMS, Seq};
-
-/// The kinds of parameters.
-pub fn kinds_of(alloc: Global, params: &Seq<Param>) -> Result<Seq<Kind>, OutOfMemory>
-    ensures { IfOk result (λ kinds. kinds ≡ known.kinds_of params.now) }
-{
-    let mut kinds = Vec::new(alloc);
-    for param in params.as_slice() {
-        kinds.push(param.kind)?;
-    }
-    Ok(Seq::from_vec(kinds))
-}
+use type_tables::same_kind;
+use wave_base::{Kind, PARAMS};
 
 impl Here<'_> {
     /// The parameters of a method.

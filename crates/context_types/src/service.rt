@@ -8,13 +8,11 @@ ghost use Rattle.type_rules.specs.Services as rules;
 ghost use Rattle.type_rules.specs.Views.{method_view, event_view, resolved_view};
 
 use crate::functions::{event, method, none_before};
-use crate::gather::Gathered;
-use crate::kinds::same_kind;
-use crate::tables::Tables;
 use mace_ast::{ContextDecl, EventDecl, Literal, MethodDecl, Name, Service, VarDecl};
 use resolved_service::{Event, Method, Resolved};
 use std::alloc::Global;
 use type_rules::{TypeError, Which};
+use type_tables::{Tables, same_kind};
 use wave_base::{CLASS_DEPTH, FIELDS, Kind, Seq, Shape};
 
 /// A service that is typed, with what it declares, and with its names resolved.
@@ -34,8 +32,7 @@ pub fn check(alloc: Global, service: Service) -> Result<Typed, TypeError>
     ensures well_formed { IfOk result (λ t. IsShape t.shape) }
     ensures err { IfErr result (λ e. Fails (rules.service_demands (service_tree service)) e) }
 {
-    let gathered = Gathered::of(alloc, &service)?;
-    let tables = Tables::new(gathered);
+    let tables = Tables::of(alloc, &service)?;
     let resolved = all(alloc, &tables, &service)?;
     let shape = tables.into_shape();
     Ok(Typed {

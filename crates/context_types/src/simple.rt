@@ -10,11 +10,11 @@ ghost use Rattle.type_rules.specs.Stmts as rules;
 ghost use Rattle.context_types.specs.Places.{here_of};
 
 use crate::here::Here;
-use crate::kinds::same_kind;
 use mace_ast::{Expr, Target};
 use resolved_service::{Action, Expr as Tree, Stmt as Step};
 use std::alloc::Global;
 use type_rules::{TypeError, Variable};
+use type_tables::same_kind;
 use wave_base::{Kind, Seq, Span, Txt};
 
 // Statements that change nothing of what may be named behind them.

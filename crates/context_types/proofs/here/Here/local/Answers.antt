@@ -1,6 +1,6 @@
 use Rattle.std.proofs.Common.{sym, ◌∙◌, arith}
 use Rattle.wave_base.specs.Names.{same_bytes}
-use Rattle.context_types.proofs.Walks.{found, on, not_found}
+use Rattle.type_tables.proofs.Walks.{found, on, not_found}
 use Rattle.context_types.proofs.here.Here.local.Goals as goal
 
 pub returns-then-eq : goal.returns-then-eq

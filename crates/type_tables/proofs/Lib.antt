@@ -1,0 +1,4 @@
+pub mod Flags
+pub mod NameLemmas
+pub mod OperatorLemmas
+pub mod Walks
