@@ -1,0 +1,104 @@
+-- What is gathered, one declaration after the other.
+use Rattle.std.proofs.Common.{◌≡◌, ◌≢◌, ◌+◌, ◌<◌, ◌^◌, ◌==◌, ◌&&◌, ℕ, Bool, true, false, List, [], ◌∷◌, ◌++◌, length, map, position, get_or, set, take, All, refl, sym, ap, subst, ◌∙◌, append_assoc, arith}
+use Rattle.std.proofs.lemmas.List.{append-nil, map-append, length-append, length-map, take_more, get_or-set_same, get_or-set_other}
+use Rattle.wave_base.specs.declared.path.Class.{Class}
+use Rattle.wave_base.specs.declared.shape.ClassInfo.{ClassInfo}
+use Rattle.wave_base.specs.declared.shape.EventInfo.{EventInfo}
+use Rattle.wave_base.specs.Names.{same_bytes}
+use Rattle.mace_ast.specs.Decls.{ContextTree, ContextTrees, Context, no_contexts, context_and, contexts_of}
+use Rattle.type_rules.specs.declared.known.Known.{Known}
+use Rattle.type_rules.specs.declared.known.Signature.{Signature}
+use Rattle.type_rules.specs.Known.{Entry, class_count, classes_count, classes_of, classes_in, methods_of, methods_in, class_named, event_named, method_named}
+use Rattle.type_tables.specs.declared.gather.Gathered.{Gathered}
+use Rattle.type_tables.specs.Gathering.{known_in, IsGathered, grown, Gains}
+use Rattle.type_tables.specs.Indexed.{IsIndexed}
+use Rattle.type_tables.specs.Numbers.{first_number, noted}
+
+-- ---- growing
+
+pub grown_none : (k : Known) → grown k [] [] [] ≡ k
+grown_none k = (λ i. record { shape = record { classes = append-nil k.shape.classes i; events = append-nil k.shape.events i }; above = append-nil k.above i; methods = append-nil k.methods i })
+
+pub grown_twice : (k : Known) (a b : List Entry) (c d : List Signature) (e f : List EventInfo) → grown (grown k a c e) b d f ≡ grown k (a ++ b) (c ++ d) (e ++ f)
+grown_twice k a b c d e f =
+    (λ i. record {
+      shape = record { classes = joined (λ (c : Entry). c.info) k.shape.classes a b i; events = append_assoc k.shape.events e f i };
+      above = joined (λ (c : Entry). c.above) k.above a b i;
+      methods = append_assoc k.methods c d i;
+    })
+  where
+    joined : {X Y : Type 0} (g : X → Y) (ys : List Y) (a b : List X) → (ys ++ map g a) ++ map g b ≡ ys ++ map g (a ++ b)
+    joined g ys a b = append_assoc ys (map g a) (map g b) ∙ ap (λ l. ys ++ l) (sym (map-append g a b))
+
+-- nothing more
+pub gains_none : (g : Gathered) → IsGathered g → Gains g g [] [] []
+gains_none g h = record { gathered = h; known = sym (grown_none (known_in g)) }
+
+-- first some, and then more
+pub gains_twice : (g h j : Gathered) (a b : List Entry) (c d : List Signature) (e f : List EventInfo) → Gains g h a c e → Gains h j b d f → Gains g j (a ++ b) (c ++ d) (e ++ f)
+gains_twice g h j a b c d e f first second = record {
+  gathered = second.gathered;
+  known = second.known ∙ ap (λ k. grown k b d f) first.known ∙ grown_twice (known_in g) a b c d e f;
+}
+
+-- the same under other names
+pub gains_as : (g h : Gathered) (a b : List Entry) (c d : List Signature) (e f : List EventInfo) → a ≡ b → c ≡ d → e ≡ f → Gains g h a c e → Gains g h b d f
+gains_as g h a b c d e f p q r t = subst (λ x. Gains g h x d f) p (subst (λ x. Gains g h a x f) q (subst (λ x. Gains g h a c x) r t))
+
+-- how many classes there are then
+pub gains_classes : (g h : Gathered) (a : List Entry) (c : List Signature) (e : List EventInfo) → Gains g h a c e → length h.classes.items ≡ length g.classes.items + length a
+gains_classes g h a c e t =
+    ap (λ (k : Known). length k.shape.classes) t.known ∙ length-append g.classes.items (map (λ (c : Entry). c.info) a) ∙ ap (λ n. length g.classes.items + n) (length-map a (λ (c : Entry). c.info))
+
+-- ---- classes of contexts, and their number
+
+mutual
+  pub count_of : (above : List ℕ) (parent n : ℕ) (c : ContextTree) → length (classes_of above parent n c) ≡ class_count c
+  count_of above parent n (Context at name vars contexts methods) = ap (λ m. 1 + m) (count_in (above ++ n ∷ []) n (n + 1) contexts)
+
+  pub count_in : (above : List ℕ) (parent n : ℕ) (cs : ContextTrees) → length (classes_in above parent n cs) ≡ classes_count cs
+  count_in above parent n no_contexts = refl
+  count_in above parent n (context_and c cs) =
+      length-append (classes_of above parent n c) (classes_in above parent (n + class_count c) cs) ∙ (λ i. count_of above parent n c i + count_in above parent (n + class_count c) cs i)
+
+add3 : (n a b : ℕ) → n + a + b ≡ n + (a + b)
+add3 n a b = omega arith
+
+pub classes_push : (above : List ℕ) (parent n : ℕ) (cs : List ContextTree) (c : ContextTree)
+    → classes_in above parent n (contexts_of (cs ++ c ∷ [])) ≡ classes_in above parent n (contexts_of cs) ++ classes_of above parent (n + classes_count (contexts_of cs)) c
+classes_push above parent n [] c = append-nil (classes_of above parent n c) ∙ ap (λ m. classes_of above parent m c) (plus n)
+  where
+    plus : (n : ℕ) → n ≡ n + 0
+    plus n = omega arith
+classes_push above parent n (d ∷ cs) c =
+    ap (λ l. classes_of above parent n d ++ l) (classes_push above parent (n + class_count d) cs c)
+    ∙ sym (append_assoc (classes_of above parent n d) (classes_in above parent (n + class_count d) (contexts_of cs)) (classes_of above parent (n + class_count d + classes_count (contexts_of cs)) c))
+    ∙ ap (λ m. classes_in above parent n (contexts_of (d ∷ cs)) ++ classes_of above parent m c) (add3 n (class_count d) (classes_count (contexts_of cs)))
+
+pub methods_push : (n : ℕ) (cs : List ContextTree) (c : ContextTree) → methods_in n (contexts_of (cs ++ c ∷ [])) ≡ methods_in n (contexts_of cs) ++ methods_of (n + classes_count (contexts_of cs)) c
+methods_push n [] c = append-nil (methods_of n c) ∙ ap (λ m. methods_of m c) (plus n)
+  where
+    plus : (n : ℕ) → n ≡ n + 0
+    plus n = omega arith
+methods_push n (d ∷ cs) c =
+    ap (λ l. methods_of n d ++ l) (methods_push (n + class_count d) cs c)
+    ∙ sym (append_assoc (methods_of n d) (methods_in (n + class_count d) (contexts_of cs)) (methods_of (n + class_count d + classes_count (contexts_of cs)) c))
+    ∙ ap (λ m. methods_in n (contexts_of (d ∷ cs)) ++ methods_of m c) (add3 n (class_count d) (classes_count (contexts_of cs)))
+
+-- a list up to an item and that item
+pub map_more : {X Y : Type 0} (f : X → Y) (xs : List X) (i : ℕ) (x : X) → i < length xs → x ≡ get_or xs i x → map f (take (i + 1) xs) ≡ map f (take i xs) ++ f x ∷ []
+map_more f xs i x l at = ap (map f) (take_more xs i x l) ∙ map-append f (take i xs) (get_or xs i x ∷ []) ∙ ap (λ y. map f (take i xs) ++ f y ∷ []) (sym at)
+
+-- contexts up to one, and that one
+pub gains_context : (g h j : Gathered) (above : List ℕ) (parent n : ℕ) (cs ds : List ContextTree) (c : ContextTree) → n ≡ length g.classes.items → ds ≡ cs ++ c ∷ []
+    → Gains g h (classes_in above parent n (contexts_of cs)) (methods_in n (contexts_of cs)) []
+    → Gains h j (classes_of above parent (length h.classes.items) c) (methods_of (length h.classes.items) c) []
+    → Gains g j (classes_in above parent n (contexts_of ds)) (methods_in n (contexts_of ds)) []
+gains_context g h j above parent n cs ds c start more first second =
+    let number : length h.classes.items ≡ n + classes_count (contexts_of cs) =
+          gains_classes g h _ _ _ first ∙ (λ i. sym start i + count_in above parent n (contexts_of cs) i) in
+    let both = gains_twice g h j _ _ _ _ _ _ first second in
+    gains_as g j _ _ _ _ _ _
+    (ap (λ m. classes_in above parent n (contexts_of cs) ++ classes_of above parent m c) number ∙ sym (classes_push above parent n cs c) ∙ ap (λ l. classes_in above parent n (contexts_of l)) (sym more))
+    (ap (λ m. methods_in n (contexts_of cs) ++ methods_of m c) number ∙ sym (methods_push n cs c) ∙ ap (λ l. methods_in n (contexts_of l)) (sym more))
+    refl both
