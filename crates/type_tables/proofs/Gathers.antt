@@ -1,14 +1,18 @@
 -- What is gathered, one declaration after the other.
-use Rattle.std.proofs.Common.{◌≡◌, ◌≢◌, ◌+◌, ◌<◌, ◌^◌, ◌==◌, ◌&&◌, ℕ, Bool, true, false, List, [], ◌∷◌, ◌++◌, length, map, position, get_or, set, take, All, refl, sym, ap, subst, ◌∙◌, append_assoc, arith}
-use Rattle.std.proofs.lemmas.List.{append-nil, map-append, length-append, length-map, take_more, get_or-set_same, get_or-set_other}
+use Rattle.std.proofs.Common.{◌≡◌, ◌≢◌, ◌+◌, ◌<◌, ◌≤◌, ◌^◌, ◌==◌, ◌&&◌, ℕ, Bool, true, false, List, [], ◌∷◌, ◌++◌, length, map, position, get_or, Option, Some, None, set, take, All, refl, sym, ap, subst, ◌∙◌, append_assoc, arith}
+use Rattle.std.proofs.lemmas.List.{append-nil, map-append, length-append, length-map, take_more, take_all, get_or-set_same, get_or-set_other}
 use Rattle.wave_base.specs.declared.path.Class.{Class}
 use Rattle.wave_base.specs.declared.shape.ClassInfo.{ClassInfo}
 use Rattle.wave_base.specs.declared.shape.EventInfo.{EventInfo}
 use Rattle.wave_base.specs.Names.{same_bytes}
-use Rattle.mace_ast.specs.Decls.{ContextTree, ContextTrees, Context, no_contexts, context_and, contexts_of}
+use Rattle.mace_ast.specs.declared.context.ContextDecl.{ContextDecl, ContextDecl', out-ContextDecl}
+use Rattle.mace_ast.specs.declared.method.MethodDecl.{MethodDecl}
+use Rattle.mace_ast.specs.declared.event.EventDecl.{EventDecl}
+use Rattle.mace_ast.proofs.Rows.{row_contexts-items}
+use Rattle.mace_ast.specs.Decls.{method_tree, event_tree, context_tree, MethodTree, EventTree, ContextTree, ContextTrees, Context, no_contexts, context_and, contexts_of}
 use Rattle.type_rules.specs.declared.known.Known.{Known}
 use Rattle.type_rules.specs.declared.known.Signature.{Signature}
-use Rattle.type_rules.specs.Known.{Entry, class_count, classes_count, classes_of, classes_in, methods_of, methods_in, class_named, event_named, method_named}
+use Rattle.type_rules.specs.Known.{Entry, class_count, classes_count, classes_of, classes_in, entry, methods_of, methods_in, signature, event_info, class_named, event_named, method_named}
 use Rattle.type_tables.specs.declared.gather.Gathered.{Gathered}
 use Rattle.type_tables.specs.Gathering.{known_in, IsGathered, grown, Gains}
 use Rattle.type_tables.specs.Indexed.{IsIndexed}
@@ -54,7 +58,7 @@ gains_classes g h a c e t =
 
 mutual
   pub count_of : (above : List ℕ) (parent n : ℕ) (c : ContextTree) → length (classes_of above parent n c) ≡ class_count c
-  count_of above parent n (Context at name vars contexts methods) = ap (λ m. 1 + m) (count_in (above ++ n ∷ []) n (n + 1) contexts)
+  count_of above parent n (Context at name vars contexts methods) = let e = count_in (above ++ n ∷ []) n (n + 1) contexts in omega arith
 
   pub count_in : (above : List ℕ) (parent n : ℕ) (cs : ContextTrees) → length (classes_in above parent n cs) ≡ classes_count cs
   count_in above parent n no_contexts = refl
@@ -102,3 +106,52 @@ gains_context g h j above parent n cs ds c start more first second =
     (ap (λ m. classes_in above parent n (contexts_of cs) ++ classes_of above parent m c) number ∙ sym (classes_push above parent n cs c) ∙ ap (λ l. classes_in above parent n (contexts_of l)) (sym more))
     (ap (λ m. methods_in n (contexts_of cs) ++ methods_of m c) number ∙ sym (methods_push n cs c) ∙ ap (λ l. methods_in n (contexts_of l)) (sym more))
     refl both
+
+-- a context by its parts
+pub tree_parts : (c : ContextDecl) → context_tree c ≡ Context (out-ContextDecl c).at (out-ContextDecl c).name (out-ContextDecl c).vars (contexts_of (map context_tree (out-ContextDecl c).contexts.items)) (map method_tree (out-ContextDecl c).methods)
+tree_parts (ContextDecl' at name vars s inner methods) = ap (λ cs. Context at name vars cs (map method_tree methods)) (row_contexts-items _ inner)
+
+-- ---- loops
+
+map_twice : {X Y Z : Type 0} (f : Y → Z) (g : X → Y) (xs : List X) (i : ℕ) (x : X) → i < length xs → x ≡ get_or xs i x → map f (map g (take i xs)) ++ f (g x) ∷ [] ≡ map f (map g (take (i + 1) xs))
+map_twice f g xs i x l at = sym (map-append f (map g (take i xs)) (g x ∷ [])) ∙ ap (map f) (sym (map_more g xs i x l at))
+
+pub gains_method : (g h j : Gathered) (class : ℕ) (ms : List MethodDecl) (i : ℕ) (m : MethodDecl) → i < length ms → m ≡ get_or ms i m
+    → Gains g h [] (map (signature class) (map method_tree (take i ms))) [] → Gains h j [] (signature class (method_tree m) ∷ []) [] → Gains g j [] (map (signature class) (map method_tree (take (i + 1) ms))) []
+gains_method g h j class ms i m l at first second =
+    gains_as g j _ _ _ _ _ _ refl (map_twice (signature class) method_tree ms i m l at) refl (gains_twice g h j _ _ _ _ _ _ first second)
+
+pub gains_event : (g h j : Gathered) (es : List EventDecl) (i : ℕ) (e : EventDecl) → i < length es → e ≡ get_or es i e
+    → Gains g h [] [] (map event_info (map event_tree (take i es))) → Gains h j [] [] (event_info (event_tree e) ∷ []) → Gains g j [] [] (map event_info (map event_tree (take (i + 1) es)))
+gains_event g h j es i e l at first second =
+    gains_as g j _ _ _ _ _ _ refl refl (map_twice event_info event_tree es i e l at) (gains_twice g h j _ _ _ _ _ _ first second)
+
+-- all of the methods and all of the events, where the loop is at its end
+pub methods_whole : (g h : Gathered) (class n : ℕ) (ms : List MethodDecl) → length ms ≤ n → Gains g h [] (map (signature class) (map method_tree (take n ms))) [] → Gains g h [] (map (signature class) (map method_tree ms)) []
+methods_whole g h class n ms l t = gains_as g h _ _ _ _ _ _ refl (ap (λ xs. map (signature class) (map method_tree xs)) (take_all n ms l)) refl t
+
+pub events_whole : (g h : Gathered) (n : ℕ) (es : List EventDecl) → length es ≤ n → Gains g h [] [] (map event_info (map event_tree (take n es))) → Gains g h [] [] (map event_info (map event_tree es))
+events_whole g h n es l t = gains_as g h _ _ _ _ _ _ refl refl (ap (λ xs. map event_info (map event_tree xs)) (take_all n es l)) t
+
+pub contexts_whole : (g h : Gathered) (above : List ℕ) (parent m n : ℕ) (cs : List ContextDecl) → length cs ≤ n
+    → Gains g h (classes_in above parent m (contexts_of (map context_tree (take n cs)))) (methods_in m (contexts_of (map context_tree (take n cs)))) []
+    → Gains g h (classes_in above parent m (contexts_of (map context_tree cs))) (methods_in m (contexts_of (map context_tree cs))) []
+contexts_whole g h above parent m n cs l t =
+    gains_as g h _ _ _ _ _ _ (ap (λ xs. classes_in above parent m (contexts_of (map context_tree xs))) (take_all n cs l)) (ap (λ xs. methods_in m (contexts_of (map context_tree xs))) (take_all n cs l)) refl t
+
+-- a class, the contexts inside it, and then its methods
+pub gains_inside : (g h j k : Gathered) (above inner : List ℕ) (parent n : ℕ) (c : ContextDecl) → n ≡ length g.classes.items → inner ≡ above ++ n ∷ []
+    → Gains g h (entry above (Some (record { 0 = parent })) (out-ContextDecl c).name (out-ContextDecl c).vars ∷ []) [] []
+    → Gains h j (classes_in inner n (length h.classes.items) (contexts_of (map context_tree (out-ContextDecl c).contexts.items))) (methods_in (length h.classes.items) (contexts_of (map context_tree (out-ContextDecl c).contexts.items))) []
+    → Gains j k [] (map (signature n) (map method_tree (out-ContextDecl c).methods)) []
+    → Gains g k (classes_of above parent (length g.classes.items) (context_tree c)) (methods_of (length g.classes.items) (context_tree c)) []
+gains_inside g h j k above inner parent n c start is first second third =
+    let cs : ContextTrees = contexts_of (map context_tree (out-ContextDecl c).contexts.items) in
+    let number : length h.classes.items ≡ n + 1 = gains_classes g h _ _ _ first ∙ ap (λ m. m + 1) (sym start) in
+    let second' = gains_as h j _ (classes_in (above ++ n ∷ []) n (n + 1) cs) _ (methods_in (n + 1) cs) _ _ (λ i. classes_in (is i) n (number i) cs) (ap (λ m. methods_in m cs) number) refl second in
+    let all = gains_twice g h k _ _ _ _ _ _ first (gains_twice h j k _ _ _ _ _ _ second' third) in
+    let own = entry above (Some (record { 0 = parent })) (out-ContextDecl c).name (out-ContextDecl c).vars in
+    gains_as g k _ _ _ _ _ _
+    (ap (λ l. own ∷ l) (append-nil (classes_in (above ++ n ∷ []) n (n + 1) cs)) ∙ (λ i. classes_of above parent (start i) (sym (tree_parts c) i)))
+    (λ i. methods_of (start i) (sym (tree_parts c) i))
+    refl all

@@ -3,6 +3,7 @@ ghost use Rattle.std.specs.Option.{option_map};
 ghost use Rattle.wave_base.specs.Shapes.{declared_fields, parent_class, is_class};
 ghost use Rattle.mace_ast.specs.Decls.{service_tree};
 ghost use Rattle.type_rules.specs.Known as known;
+ghost use Rattle.type_tables.specs.Gathering.{IsGathered, known_in};
 
 use crate::gather::Gathered;
 use crate::names::Names;
@@ -46,7 +47,10 @@ impl Tables {
         Ok(Tables::new(gathered))
     }
 
-    fn new(gathered: Gathered) -> Tables {
+    fn new(gathered: Gathered) -> Tables
+        requires { IsGathered gathered }
+        ensures { result ≡ known_in gathered }
+    {
         let Gathered {
             classes,
             above,
