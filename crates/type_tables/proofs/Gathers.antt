@@ -1,11 +1,14 @@
 -- What is gathered, one declaration after the other.
-use Rattle.std.proofs.Common.{◌≡◌, ◌≢◌, ◌+◌, ◌<◌, ◌≤◌, ◌^◌, ◌==◌, ◌&&◌, ℕ, Bool, true, false, List, [], ◌∷◌, ◌++◌, length, map, position, get_or, Option, Some, None, set, take, All, refl, sym, ap, subst, ◌∙◌, append_assoc, arith}
-use Rattle.std.proofs.lemmas.List.{append-nil, map-append, length-append, length-map, take_more, take_all, get_or-set_same, get_or-set_other}
+use Rattle.std.proofs.Common.{◌≡◌, ◌≢◌, ◌+◌, ◌<◌, ◌≤◌, ◌^◌, ◌==◌, ◌&&◌, ℕ, Bool, true, false, List, [], ◌∷◌, ◌++◌, length, map, position, get_or, Option, Some, None, set, take, All, refl, sym, ap, subst, ◌∙◌, append_assoc, arith, rules, Result, Ok, Err, OnOk}
+use Rattle.std.proofs.lemmas.List.{append-nil, map-append, length-append, length-map, length-set, take_more, take_all, get_or-set_same, get_or-set_other}
 use Rattle.wave_base.specs.declared.path.Class.{Class}
 use Rattle.wave_base.specs.declared.shape.ClassInfo.{ClassInfo}
 use Rattle.wave_base.specs.declared.shape.EventInfo.{EventInfo}
 use Rattle.wave_base.specs.Names.{same_bytes}
-use Rattle.mace_ast.specs.declared.context.ContextDecl.{ContextDecl, ContextDecl', out-ContextDecl}
+use Rattle.wave_base.specs.declared.span.Span.{Span}
+use Rattle.mace_ast.specs.declared.name.Name.{Name}
+use Rattle.mace_ast.specs.declared.field.VarDecl.{VarDecl}
+use Rattle.mace_ast.specs.declared.context.ContextDecl.{ContextDecl, ContextDecl', out-ContextDecl, the_lemmas}
 use Rattle.mace_ast.specs.declared.method.MethodDecl.{MethodDecl}
 use Rattle.mace_ast.specs.declared.event.EventDecl.{EventDecl}
 use Rattle.mace_ast.proofs.Rows.{row_contexts-items}
@@ -17,6 +20,7 @@ use Rattle.type_tables.specs.declared.gather.Gathered.{Gathered}
 use Rattle.type_tables.specs.Gathering.{known_in, IsGathered, grown, Gains}
 use Rattle.type_tables.specs.Indexed.{IsIndexed}
 use Rattle.type_tables.specs.Numbers.{first_number, noted}
+use Rattle.type_tables.proofs.Indexing.{indexed_class, indexed_event, indexed_method}
 
 -- ---- growing
 
@@ -109,7 +113,7 @@ gains_context g h j above parent n cs ds c start more first second =
 
 -- a context by its parts
 pub tree_parts : (c : ContextDecl) → context_tree c ≡ Context (out-ContextDecl c).at (out-ContextDecl c).name (out-ContextDecl c).vars (contexts_of (map context_tree (out-ContextDecl c).contexts.items)) (map method_tree (out-ContextDecl c).methods)
-tree_parts (ContextDecl' at name vars s inner methods) = ap (λ cs. Context at name vars cs (map method_tree methods)) (row_contexts-items _ inner)
+tree_parts (ContextDecl' at name vars s inner methods) = search (rules, the_lemmas, row_contexts-items)
 
 -- ---- loops
 
@@ -140,18 +144,85 @@ contexts_whole g h above parent m n cs l t =
     gains_as g h _ _ _ _ _ _ (ap (λ xs. classes_in above parent m (contexts_of (map context_tree xs))) (take_all n cs l)) (ap (λ xs. methods_in m (contexts_of (map context_tree xs))) (take_all n cs l)) refl t
 
 -- a class, the contexts inside it, and then its methods
-pub gains_inside : (g h j k : Gathered) (above inner : List ℕ) (parent n : ℕ) (c : ContextDecl) → n ≡ length g.classes.items → inner ≡ above ++ n ∷ []
-    → Gains g h (entry above (Some (record { 0 = parent })) (out-ContextDecl c).name (out-ContextDecl c).vars ∷ []) [] []
-    → Gains h j (classes_in inner n (length h.classes.items) (contexts_of (map context_tree (out-ContextDecl c).contexts.items))) (methods_in (length h.classes.items) (contexts_of (map context_tree (out-ContextDecl c).contexts.items))) []
-    → Gains j k [] (map (signature n) (map method_tree (out-ContextDecl c).methods)) []
-    → Gains g k (classes_of above parent (length g.classes.items) (context_tree c)) (methods_of (length g.classes.items) (context_tree c)) []
-gains_inside g h j k above inner parent n c start is first second third =
-    let cs : ContextTrees = contexts_of (map context_tree (out-ContextDecl c).contexts.items) in
+pub gains_inside : (g h j k : Gathered) (above inner : List ℕ) (parent n : ℕ) (at : Span) (name : Name) (vars : List VarDecl) (cs : List ContextTree) (ms : List MethodTree) (c : ContextTree)
+    → c ≡ Context at name vars (contexts_of cs) ms → n ≡ length g.classes.items → inner ≡ above ++ n ∷ []
+    → Gains g h (entry above (Some (record { 0 = parent })) name vars ∷ []) [] []
+    → Gains h j (classes_in inner n (length h.classes.items) (contexts_of cs)) (methods_in (length h.classes.items) (contexts_of cs)) []
+    → Gains j k [] (map (signature n) ms) []
+    → Gains g k (classes_of above parent (length g.classes.items) c) (methods_of (length g.classes.items) c) []
+gains_inside g h j k above inner parent n at name vars cs ms c parts start is first second third =
     let number : length h.classes.items ≡ n + 1 = gains_classes g h _ _ _ first ∙ ap (λ m. m + 1) (sym start) in
-    let second' = gains_as h j _ (classes_in (above ++ n ∷ []) n (n + 1) cs) _ (methods_in (n + 1) cs) _ _ (λ i. classes_in (is i) n (number i) cs) (ap (λ m. methods_in m cs) number) refl second in
-    let all = gains_twice g h k _ _ _ _ _ _ first (gains_twice h j k _ _ _ _ _ _ second' third) in
-    let own = entry above (Some (record { 0 = parent })) (out-ContextDecl c).name (out-ContextDecl c).vars in
+    let inside : Gains h j (classes_in (above ++ n ∷ []) n (n + 1) (contexts_of cs)) (methods_in (n + 1) (contexts_of cs)) [] =
+          gains_as h j _ (classes_in (above ++ n ∷ []) n (n + 1) (contexts_of cs)) _ (methods_in (n + 1) (contexts_of cs)) _ _ (λ i. classes_in (is i) n (number i) (contexts_of cs)) (ap (λ m. methods_in m (contexts_of cs)) number) refl second in
+    let all = gains_twice g h k _ _ _ _ _ _ first (gains_twice h j k _ _ _ _ _ _ inside third) in
     gains_as g k _ _ _ _ _ _
-    (ap (λ l. own ∷ l) (append-nil (classes_in (above ++ n ∷ []) n (n + 1) cs)) ∙ (λ i. classes_of above parent (start i) (sym (tree_parts c) i)))
-    (λ i. methods_of (start i) (sym (tree_parts c) i))
+    (ap (λ l. entry above (Some (record { 0 = parent })) name vars ∷ l) (append-nil (classes_in (above ++ n ∷ []) n (n + 1) (contexts_of cs))) ∙ (λ i. classes_of above parent (start i) (sym parts i)))
+    (λ i. methods_of (start i) (sym parts i))
     refl all
+
+pub on_ok : {A E : Type 0} (P Q : Type 0) (r : Result A E) → (P → Q) → OnOk r P → OnOk r Q
+on_ok P Q (Ok a) f p = f p
+on_ok P Q (Err e) f p = p
+
+-- ---- one declaration more
+
+blank_more : {X : Type 0} (xs : List X) → xs ≡ xs ++ []
+blank_more xs = sym (append-nil xs)
+
+module _ (g h : Gathered) (is : IsGathered g) where
+  pub class_gained : (info made : ClassInfo) (above : List ℕ) (name : List ℕ) → info ≡ made → info.name ≡ name → length info.fields < 2 ^ 16 → length above < 2 ^ 16 → length g.classes.items + 1 < 2 ^ 16
+      → h.classes.items ≡ g.classes.items ++ info ∷ [] → h.above.items ≡ g.above.items ++ above ∷ [] → h.methods ≡ g.methods → h.events ≡ g.events
+      → h.class_names ≡ noted g.class_names name (length g.classes.items) → h.event_names ≡ g.event_names → h.method_names.items ≡ g.method_names.items ++ [] ∷ []
+      → Gains g h (record { info = made; above = above } ∷ []) [] []
+  class_gained info made above name same named fields short room classes aboves methods events cn en mn =
+      let known : known_in h ≡ record { shape = record { classes = g.classes.items ++ info ∷ []; events = g.events.items }; above = g.above.items ++ above ∷ []; methods = g.methods.items } =
+            (λ i. record { shape = record { classes = classes i; events = (events i).items }; above = aboves i; methods = (methods i).items }) in
+      let base = indexed_class (known_in g) g.class_names g.event_names g.method_names.items is.indexed info above name named fields short room in
+      record {
+        gathered = record {
+          indexed = subst (λ k. IsIndexed k h.class_names h.event_names h.method_names.items) (sym known)
+              (subst (λ x. IsIndexed _ x h.event_names h.method_names.items) (sym cn)
+              (subst (λ x. IsIndexed _ _ x h.method_names.items) (sym en)
+              (subst (λ x. IsIndexed _ _ _ x) (sym mn) base)));
+          tables = ap length mn ∙ length-append g.method_names.items ([] ∷ []) ∙ ap (λ n. n + 1) is.tables ∙ sym (ap length classes ∙ length-append g.classes.items (info ∷ []));
+        };
+        known = known ∙ (λ i. record { shape = record { classes = g.classes.items ++ same i ∷ []; events = blank_more g.events.items i }; above = g.above.items ++ above ∷ []; methods = blank_more g.methods.items i });
+      }
+
+  pub event_gained : (info made : EventInfo) (name : List ℕ) → info ≡ made → info.name ≡ name → length g.events.items + 1 < 2 ^ 16
+      → h.classes ≡ g.classes → h.above ≡ g.above → h.methods ≡ g.methods → h.events.items ≡ g.events.items ++ info ∷ []
+      → h.class_names ≡ g.class_names → h.event_names ≡ noted g.event_names name (length g.events.items) → h.method_names ≡ g.method_names
+      → Gains g h [] [] (made ∷ [])
+  event_gained info made name same named room classes aboves methods events cn en mn =
+      let known : known_in h ≡ record { shape = record { classes = g.classes.items; events = g.events.items ++ info ∷ [] }; above = g.above.items; methods = g.methods.items } =
+            (λ i. record { shape = record { classes = (classes i).items; events = events i }; above = (aboves i).items; methods = (methods i).items }) in
+      let base = indexed_event (known_in g) g.class_names g.event_names g.method_names.items is.indexed info name named room in
+      record {
+        gathered = record {
+          indexed = subst (λ k. IsIndexed k h.class_names h.event_names h.method_names.items) (sym known)
+              (subst (λ x. IsIndexed _ x h.event_names h.method_names.items) (sym cn)
+              (subst (λ x. IsIndexed _ _ x h.method_names.items) (sym en)
+              (subst (λ x. IsIndexed _ _ _ x) (sym (ap (λ v. v.items) mn)) base)));
+          tables = ap (λ v. length v.items) mn ∙ is.tables ∙ sym (ap (λ v. length v.items) classes);
+        };
+        known = known ∙ (λ i. record { shape = record { classes = blank_more g.classes.items i; events = g.events.items ++ same i ∷ [] }; above = blank_more g.above.items i; methods = blank_more g.methods.items i });
+      }
+
+  pub method_gained : (s made : Signature) (class : ℕ) (name : List ℕ) → s ≡ made → s.class ≡ class → s.name ≡ name → class < length g.classes.items → length g.methods.items + 1 < 2 ^ 16
+      → h.classes ≡ g.classes → h.above ≡ g.above → h.methods.items ≡ g.methods.items ++ s ∷ [] → h.events ≡ g.events
+      → h.class_names ≡ g.class_names → h.event_names ≡ g.event_names → h.method_names.items ≡ set g.method_names.items class (noted (get_or g.method_names.items class []) name (length g.methods.items))
+      → Gains g h [] (made ∷ []) []
+  method_gained s made class name same in_class named there room classes aboves methods events cn en mn =
+      let known : known_in h ≡ record { shape = record { classes = g.classes.items; events = g.events.items }; above = g.above.items; methods = g.methods.items ++ s ∷ [] } =
+            (λ i. record { shape = record { classes = (classes i).items; events = (events i).items }; above = (aboves i).items; methods = methods i }) in
+      let base = indexed_method (known_in g) g.class_names g.event_names g.method_names.items is.indexed s class name in_class named (subst (λ n. class < n) (sym is.tables) there) room in
+      record {
+        gathered = record {
+          indexed = subst (λ k. IsIndexed k h.class_names h.event_names h.method_names.items) (sym known)
+              (subst (λ x. IsIndexed _ x h.event_names h.method_names.items) (sym cn)
+              (subst (λ x. IsIndexed _ _ x h.method_names.items) (sym en)
+              (subst (λ x. IsIndexed _ _ _ x) (sym mn) base)));
+          tables = ap length mn ∙ length-set g.method_names.items class _ ∙ is.tables ∙ sym (ap (λ v. length v.items) classes);
+        };
+        known = known ∙ (λ i. record { shape = record { classes = blank_more g.classes.items i; events = blank_more g.events.items i }; above = blank_more g.above.items i; methods = g.methods.items ++ same i ∷ [] });
+      }

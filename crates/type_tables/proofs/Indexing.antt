@@ -138,7 +138,7 @@ module _ (k : Known) (classes events : List (List ℕ × ℕ)) (methods : List (
     few_methods = one_more k.methods s room;
   }
     where
-      abbrev now : List (List ℕ × ℕ)
+      now : List (List ℕ × ℕ)
       now = noted (get_or methods class []) name (length k.methods)
 
       by : (c : ℕ) (q : List ℕ) → (((class == c) ≡ true) × (class ≡ c)) ⊎ (((class == c) ≡ false) × (class ≢ c))
