@@ -12,15 +12,15 @@ use Rattle.mace_ast.specs.declared.context.ContextDecl.{ContextDecl, ContextDecl
 use Rattle.mace_ast.specs.declared.method.MethodDecl.{MethodDecl}
 use Rattle.mace_ast.specs.declared.event.EventDecl.{EventDecl}
 use Rattle.mace_ast.proofs.Rows.{row_contexts-items}
-use Rattle.mace_ast.specs.Decls.{method_tree, event_tree, context_tree, MethodTree, EventTree, ContextTree, ContextTrees, Context, no_contexts, context_and, contexts_of}
+use Rattle.mace_ast.specs.Decls.{method_tree, event_tree, context_tree, MethodTree, EventTree, ContextTree, ContextTrees, Context, no_contexts, context_and, contexts_of, ServiceTree}
 use Rattle.type_rules.specs.declared.known.Known.{Known}
 use Rattle.type_rules.specs.declared.known.Signature.{Signature}
-use Rattle.type_rules.specs.Known.{Entry, class_count, classes_count, classes_of, classes_in, entry, methods_of, methods_in, signature, event_info, class_named, event_named, method_named}
+use Rattle.type_rules.specs.Known.{Entry, class_count, classes_count, classes_of, classes_in, entry, methods_of, methods_in, signature, event_info, class_named, event_named, method_named, shape_of, known_of}
 use Rattle.type_tables.specs.declared.gather.Gathered.{Gathered}
 use Rattle.type_tables.specs.Gathering.{known_in, IsGathered, grown, Gains}
 use Rattle.type_tables.specs.Indexed.{IsIndexed}
 use Rattle.type_tables.specs.Numbers.{first_number, noted}
-use Rattle.type_tables.proofs.Indexing.{indexed_class, indexed_event, indexed_method}
+use Rattle.type_tables.proofs.Indexing.{indexed_as, indexed_class, indexed_event, indexed_method}
 
 -- ---- growing
 
@@ -180,10 +180,7 @@ module _ (g h : Gathered) (is : IsGathered g) where
       let base = indexed_class (known_in g) g.class_names g.event_names g.method_names.items is.indexed info above name named fields short room in
       record {
         gathered = record {
-          indexed = subst (λ k. IsIndexed k h.class_names h.event_names h.method_names.items) (sym known)
-              (subst (λ x. IsIndexed _ x h.event_names h.method_names.items) (sym cn)
-              (subst (λ x. IsIndexed _ _ x h.method_names.items) (sym en)
-              (subst (λ x. IsIndexed _ _ _ x) (sym mn) base)));
+          indexed = indexed_as _ _ _ _ _ _ _ _ (sym known) (sym cn) (sym en) (sym mn) base;
           tables = ap length mn ∙ length-append g.method_names.items ([] ∷ []) ∙ ap (λ n. n + 1) is.tables ∙ sym (ap length classes ∙ length-append g.classes.items (info ∷ []));
         };
         known = known ∙ (λ i. record { shape = record { classes = g.classes.items ++ same i ∷ []; events = blank_more g.events.items i }; above = g.above.items ++ above ∷ []; methods = blank_more g.methods.items i });
@@ -199,10 +196,7 @@ module _ (g h : Gathered) (is : IsGathered g) where
       let base = indexed_event (known_in g) g.class_names g.event_names g.method_names.items is.indexed info name named room in
       record {
         gathered = record {
-          indexed = subst (λ k. IsIndexed k h.class_names h.event_names h.method_names.items) (sym known)
-              (subst (λ x. IsIndexed _ x h.event_names h.method_names.items) (sym cn)
-              (subst (λ x. IsIndexed _ _ x h.method_names.items) (sym en)
-              (subst (λ x. IsIndexed _ _ _ x) (sym (ap (λ v. v.items) mn)) base)));
+          indexed = indexed_as _ _ _ _ _ _ _ _ (sym known) (sym cn) (sym en) (sym (ap (λ v. v.items) mn)) base;
           tables = ap (λ v. length v.items) mn ∙ is.tables ∙ sym (ap (λ v. length v.items) classes);
         };
         known = known ∙ (λ i. record { shape = record { classes = blank_more g.classes.items i; events = g.events.items ++ same i ∷ [] }; above = blank_more g.above.items i; methods = blank_more g.methods.items i });
@@ -218,11 +212,35 @@ module _ (g h : Gathered) (is : IsGathered g) where
       let base = indexed_method (known_in g) g.class_names g.event_names g.method_names.items is.indexed s class name in_class named (subst (λ n. class < n) (sym is.tables) there) room in
       record {
         gathered = record {
-          indexed = subst (λ k. IsIndexed k h.class_names h.event_names h.method_names.items) (sym known)
-              (subst (λ x. IsIndexed _ x h.event_names h.method_names.items) (sym cn)
-              (subst (λ x. IsIndexed _ _ x h.method_names.items) (sym en)
-              (subst (λ x. IsIndexed _ _ _ x) (sym mn) base)));
+          indexed = indexed_as _ _ _ _ _ _ _ _ (sym known) (sym cn) (sym en) (sym mn) base;
           tables = ap length mn ∙ length-set g.method_names.items class _ ∙ is.tables ∙ sym (ap (λ v. length v.items) classes);
         };
         known = known ∙ (λ i. record { shape = record { classes = blank_more g.classes.items i; events = blank_more g.events.items i }; above = blank_more g.above.items i; methods = g.methods.items ++ same i ∷ [] });
       }
+
+-- ---- all of a service
+
+abbrev pub nothing : Known
+nothing = record { shape = record { classes = []; events = [] }; above = []; methods = [] }
+
+pub service_gathered : (g h j k l : Gathered) (s : ServiceTree) → known_in g ≡ nothing
+    → Gains g h (entry [] None s.name s.vars ∷ []) [] []
+    → Gains h j (classes_in (0 ∷ []) 0 (length h.classes.items) (contexts_of s.contexts)) (methods_in (length h.classes.items) (contexts_of s.contexts)) []
+    → Gains j k [] (map (signature 0) s.methods) []
+    → Gains k l [] [] (map event_info s.events)
+    → IsGathered l × (known_in l ≡ known_of s)
+unfolding known_of shape_of
+service_gathered g h j k l s start first second third fourth =
+    let cs = contexts_of s.contexts in
+    let none : length g.classes.items ≡ 0 = ap (λ (k : Known). length k.shape.classes) start in
+    let counted = gains_classes g h _ _ _ first in
+    let number : length h.classes.items ≡ 1 = counted ∙ ap (λ n. n + 1) none in
+    let inside : Gains h j (classes_in (0 ∷ []) 0 1 cs) (methods_in 1 cs) [] = gains_as h j _ _ _ _ _ _ (ap (λ n. classes_in (0 ∷ []) 0 n cs) number) (ap (λ n. methods_in n cs) number) refl second in
+    let all = gains_twice g h l _ _ _ _ _ _ first (gains_twice h j l _ _ _ _ _ _ inside (gains_twice j k l _ _ _ _ _ _ third fourth)) in
+    (all.gathered,
+     all.known ∙ ap (λ k. grown k (entry [] None s.name s.vars ∷ (classes_in (0 ∷ []) 0 1 cs ++ [])) (methods_in 1 cs ++ (map (signature 0) s.methods ++ [])) (map event_info s.events)) start
+     ∙ (λ i. record {
+       shape = record { classes = map (λ (c : Entry). c.info) (entry [] None s.name s.vars ∷ append-nil (classes_in (0 ∷ []) 0 1 cs) i); events = map event_info s.events };
+       above = map (λ (c : Entry). c.above) (entry [] None s.name s.vars ∷ append-nil (classes_in (0 ∷ []) 0 1 cs) i);
+       methods = methods_in 1 cs ++ append-nil (map (signature 0) s.methods) i;
+     }))

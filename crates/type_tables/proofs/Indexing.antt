@@ -23,7 +23,7 @@ or_none (Some x) = refl
 
 module _ {X : Type 0} (p : X → Bool) where
   from_push : (xs : List X) (i : ℕ) (x : X) → position_from p i (xs ++ x ∷ []) ≡ option_or (position_from p i xs) (cond (p x) (Some (i + length xs)) None)
-  from_push [] i x = refl
+  from_push [] i x = let e : i ≡ i + 0 = omega arith in ap (λ n. cond (p x) (Some n) None) e
   from_push (y ∷ xs) i x = by (p y) (from_push xs (i + 1) x)
     where
       by : (b : Bool) → position_from p (i + 1) (xs ++ x ∷ []) ≡ option_or (position_from p (i + 1) xs) (cond (p x) (Some (i + 1 + length xs)) None)
@@ -95,6 +95,9 @@ same_number n = by (eqb_tells n n)
     by : (((n == n) ≡ true) × (n ≡ n)) ⊎ (((n == n) ≡ false) × (n ≢ n)) → (n == n) ≡ true
     by (inl e) = e.0
     by (inr e) = absurd (e.1 refl)
+
+pub indexed_as : (k l : Known) (c d e f : List (List ℕ × ℕ)) (m n : List (List (List ℕ × ℕ))) → k ≡ l → c ≡ d → e ≡ f → m ≡ n → IsIndexed k c e m → IsIndexed l d f n
+indexed_as k l c d e f m n a b g h is = subst (λ x. IsIndexed x d f n) a (subst (λ x. IsIndexed k x f n) b (subst (λ x. IsIndexed k c x n) g (subst (λ x. IsIndexed k c e x) h is)))
 
 module _ (k : Known) (classes events : List (List ℕ × ℕ)) (methods : List (List (List ℕ × ℕ))) (is : IsIndexed k classes events methods) where
   pub indexed_class : (info : ClassInfo) (above : List ℕ) (name : List ℕ) → info.name ≡ name → length info.fields < 2 ^ 16 → length above < 2 ^ 16 → length k.shape.classes + 1 < 2 ^ 16
