@@ -35,7 +35,7 @@ module _ {X : Type 0} (P : ℕ → X → Type 0) where
   pub each_both : (n : ℕ) (xs ys : List X) → Each n xs → Each (n + length xs) ys → Each n (xs ++ ys)
   each_both n [] ys a b = let e : n + 0 ≡ n = omega arith in subst (λ m. Each m ys) e b
   each_both n (x ∷ xs) ys a b =
-      let e : n + (1 + length xs) ≡ n + 1 + length xs = omega arith in
+      let e : n + suc (length xs) ≡ n + 1 + length xs = omega arith in
       each_cons n x (xs ++ ys) (each_first n x xs a) (each_both (n + 1) xs ys (each_rest n x xs a) (subst (λ m. Each m ys) e b))
 
 -- what each element is known of by another fact
@@ -44,7 +44,7 @@ each_map P Q n xs f h j d l = f (n + j) (get_or xs j d) (h j d l)
 
 -- a list at its own numbers
 pub each_self : {X : Type 0} (d : X) (all : List X) → Each (λ i x. get_or all i d ≡ x) 0 all
-each_self d all j e l = same all j d e l
+each_self d all j e l = let z : j ≡ 0 + j = omega arith in subst (λ m. get_or all m d ≡ get_or all j e) z (same all j d e l)
   where
     same : {X : Type 0} (all : List X) (j : ℕ) (d e : X) → j < length all → get_or all j d ≡ get_or all j e
     same [] j d e l = absurd (omega arith)

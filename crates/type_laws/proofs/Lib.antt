@@ -1,4 +1,7 @@
+pub mod Classes
 pub mod Each
 pub mod Names
+pub mod Services
 pub mod Sound
-pub mod Classes
+pub mod Steps
+pub mod Trees

@@ -12,12 +12,11 @@ module _ {X : Type 0} (p : X → Bool) where
   from_within : (xs : List X) (i k : ℕ) (d : X) → k < length xs → p (get_or xs k d) ≡ true → (m : ℕ) × (position_from p i xs ≡ Some m) × (m ≤ i + k)
   from_within [] i k d l h = absurd (omega arith)
   from_within (x ∷ xs) i zero d l h = (i, ap (λ b. cond b (Some i) (position_from p (i + 1) xs)) h, omega arith)
-  from_within (x ∷ xs) i (suc k) d l h = by (p x) refl
+  from_within (x ∷ xs) i (suc k) d l h = by (p x) refl (from_within xs (i + 1) k d (omega arith) h)
     where
-      by : (b : Bool) → p x ≡ b → (m : ℕ) × (position_from p i (x ∷ xs) ≡ Some m) × (m ≤ i + suc k)
-      by true e = (i, ap (λ b. cond b (Some i) (position_from p (i + 1) xs)) e, omega arith)
-      by false e =
-          let r = from_within xs (i + 1) k d (omega arith) h in
+      by : (b : Bool) → p x ≡ b → ((m : ℕ) × (position_from p (i + 1) xs ≡ Some m) × (m ≤ i + 1 + k)) → (m : ℕ) × (position_from p i (x ∷ xs) ≡ Some m) × (m ≤ i + suc k)
+      by true e r = (i, ap (λ b. cond b (Some i) (position_from p (i + 1) xs)) e, omega arith)
+      by false e r =
           let within : r.0 ≤ i + 1 + k = r.2 in
           (r.0, ap (λ b. cond b (Some i) (position_from p (i + 1) xs)) e ∙ r.1, omega arith)
 
@@ -42,7 +41,7 @@ AreFirst {X} name xs = (k : ℕ) (d : X) → k < length xs → none_before k (po
 
 module _ {X : Type 0} (name : X → List ℕ) where
   -- no two are the same
-  Apart : List X → Type 0
+  abbrev Apart : List X → Type 0
   Apart xs = (i j : ℕ) (d : X) → i < j → j < length xs → same_bytes (name (get_or xs i d)) (name (get_or xs j d)) ≡ false
 
   apart : (xs : List X) → AreFirst name xs → Apart xs

@@ -18,10 +18,22 @@ use Rattle.type_rules.specs.Services.{name_asks, field_asks, fields_demands, met
 use Rattle.type_rules.proofs.First.{first_wrong_parts}
 use Rattle.type_laws.proofs.Each.{Each, each_none, each_cons, each_both}
 
--- a demand that is asked first holds, and so do those behind it
-pub asked : (holds : Bool) (e : TypeError) (ds : List Demand) → first_wrong (ask holds e ∷ ds) ≡ None → (holds ≡ true) × (first_wrong ds ≡ None)
-asked true e ds h = (refl, h)
-asked false e ds h = cc
+-- each of these demands holds
+abbrev pub AllHold : List Demand → Type 0
+AllHold [] = Unit {0}
+AllHold (d ∷ ds) = (d.holds ≡ true) × AllHold ds
+
+pub all_hold : (ds : List Demand) → first_wrong ds ≡ None → AllHold ds
+all_hold [] h = tt
+all_hold (d ∷ ds) h = by d.holds refl h (λ k. all_hold ds k)
+  where
+    by : (b : Bool) → d.holds ≡ b → (if b then first_wrong ds else Some d.wrong) ≡ None → (first_wrong ds ≡ None → AllHold ds) → (d.holds ≡ true) × AllHold ds
+    by true e h below = (e, below h)
+    by false e h below = cc
+
+pub none_wrong : (ds : List Demand) → AllHold ds → first_wrong ds ≡ None
+none_wrong [] h = refl
+none_wrong (d ∷ ds) h = ap (λ b. if b then first_wrong ds else Some d.wrong) h.0 ∙ none_wrong ds h.1
 
 -- a field with a number
 pub record FieldSound (known : Known) (class field : ℕ) (f : FieldInfo) : Type 0 where
@@ -37,9 +49,7 @@ pub record Sound (known : Known) (class : ℕ) (e : Entry) : Type 0 where
 module _ (known : Known) where
   field_sound : (class field : ℕ) (f : VarDecl) → first_wrong (field_asks known class field f) ≡ None → FieldSound known class field (field_info f)
   field_sound class field f h =
-      let a = asked _ _ _ h in
-      let b = asked _ _ _ a.1 in
-      record { new = a.0; initial = (asked _ _ _ b.1).0 }
+      let a = all_hold (field_asks known class field f) h in record { new = a.0; initial = a.1.1.0 }
 
   fields_sound : (class n : ℕ) (fs : List VarDecl) → first_wrong (fields_demands known class n fs) ≡ None → Each (FieldSound known class) n (map field_info fs)
   fields_sound class n [] h = each_none (FieldSound known class) n
@@ -64,9 +74,9 @@ module _ (known : Known) where
         let a = first_wrong_parts (name_asks known class name) _ h in
         let b = first_wrong_parts (fields_demands known class 0 vars) _ a.1 in
         let d = first_wrong_parts (contexts_demands known (class + 1) method contexts) _ b.1 in
-        let n = asked _ _ _ a.0 in
+        let n = all_hold (name_asks known class name) a.0 in
         each_cons (Sound known) class _ (classes_in (above ++ class ∷ []) class (class + 1) contexts)
-        (record { new = n.0; deep = (asked _ _ _ n.1).0; fields = fields_sound known class 0 vars b.0 })
+        (record { new = n.0; deep = n.1.0; fields = fields_sound known class 0 vars b.0 })
         (contexts_sound (above ++ class ∷ []) class (class + 1) method contexts d.0)
 
     pub contexts_sound : (above : List ℕ) (parent class method : ℕ) (cs : ContextTrees) → first_wrong (contexts_demands known class method cs) ≡ None → Each (Sound known) class (classes_in above parent class cs)
@@ -86,7 +96,7 @@ module _ (known : Known) where
   events_sound n [] h = each_none EventSound n
   events_sound n (e ∷ es) h =
       let p = first_wrong_parts (event_demands known n e) (events_demands known (n + 1) es) h in
-      each_cons EventSound n e es (asked _ _ _ p.0).0 (events_sound (n + 1) es p.1)
+      each_cons EventSound n e es (all_hold (event_demands known n e) p.0).0 (events_sound (n + 1) es p.1)
 
 -- ---- all of a service
 
@@ -110,7 +120,7 @@ parts s h =
 pub classes_sound : (s : ServiceTree) → Parts (known_of s) s → Each (Sound (known_of s)) 0 (service_classes s)
 classes_sound s p =
     let known = known_of s in
-    let n = asked _ _ _ p.name in
+    let n = all_hold (name_asks known 0 s.name) p.name in
     each_cons (Sound known) 0 _ _
-    (record { new = n.0; deep = (asked _ _ _ n.1).0; fields = fields_sound known 0 0 s.vars p.fields })
+    (record { new = n.0; deep = n.1.0; fields = fields_sound known 0 0 s.vars p.fields })
     (contexts_sound known (0 ∷ []) 0 1 0 (contexts_of s.contexts) p.contexts)

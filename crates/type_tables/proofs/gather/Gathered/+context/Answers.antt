@@ -22,6 +22,6 @@ context-returns t c =
     on_ok _ _ c.methods.result
     (λ own.
       gains_inside _ _ _ _ c.args.above.now c.as_slice.result.now c.args.parent n _ _ _ (map context_tree contexts) (map method_tree (out-ContextDecl c.args.c.now).methods) (context_tree c.args.c.now)
-      (tree_parts c.args.c.now) (c.in_ok-class.ensures.same ∙ c.len.ensures) (c.as_slice.ensures.value ∙ c.in_ok-inner.ensures) c.in_ok-class-2.ensures inside
+      (tree_parts c.args.c.now) (c.in_ok-class.ensures.same ∙ c.len.ensures ∙ c.args.self.now.classes.ok.0) (c.as_slice.ensures.value ∙ c.in_ok-inner.ensures) c.in_ok-class-2.ensures inside
       (subst (λ ms. Gains c.contexts.new.self c.methods.new.self [] (map (rules.signature n) (map method_tree ms)) []) c.as_slice-2.ensures own))
     c.methods.ensures

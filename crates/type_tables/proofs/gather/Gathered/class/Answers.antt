@@ -5,7 +5,7 @@ use Rattle.type_tables.proofs.gather.Gathered.class.Goals as goal
 
 pub returns : goal.returns
 returns c =
-    let number = c.in_ok-class.ensures.same ∙ c.len.ensures in
+    let number = c.in_ok-class.ensures.same ∙ c.len.ensures ∙ c.args.self.now.classes.ok.0 in
     let short = c.in_ok-number.ensures in
     class_gained _ _ c.requires c.in_ok-info.info _ c.args.above.now c.args.name.now.text c.in_ok-info.ensures.info (ap (λ i. i.name) c.in_ok-info.ensures.info) c.in_ok-info.ensures.few
     (few _ _ short.same short.room) (subst (λ n. n + 1 < 65536) number c.in_ok-class.ensures.room)

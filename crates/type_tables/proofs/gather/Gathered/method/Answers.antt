@@ -6,7 +6,7 @@ use Rattle.type_tables.proofs.gather.Gathered.method.Goals as goal
 
 pub returns : goal.returns
 returns c =
-    let number = c.in_ok-method.ensures.same ∙ c.len.ensures in
+    let number = c.in_ok-method.ensures.same ∙ c.len.ensures ∙ c.args.self.now.methods.ok.0 in
     let there = subst (λ n. c.args.class < n) (sym c.requires.gathered.tables) c.requires.there in
     let names = c.index_mut-names.ensures.value ∙ get_or_default c.args.self.now.method_names.items c.args.class c.index_mut-names.result.now [] there in
     method_gained _ _ c.requires.gathered c.in_ok-signature.signature _ c.args.class c.args.m.now.name.text c.in_ok-signature.ensures (ap (λ s. s.class) c.in_ok-signature.ensures) (ap (λ s. s.name) c.in_ok-signature.ensures)
