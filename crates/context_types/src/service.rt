@@ -2,6 +2,8 @@ ghost use Rattle.std.specs.Prelude.{◌≡◌, ◌+◌, ◌<◌, ◌^◌, ◌++�
 ghost use Rattle.wave_base.specs.Shapes.{IsShape};
 ghost use Rattle.wave_base.specs.Values as values;
 ghost use Rattle.mace_ast.specs.Decls.{method_tree, event_tree, context_tree, contexts_of, service_tree};
+ghost use Rattle.resolved_service.specs.Fits.{FitsService};
+ghost use Rattle.type_laws.specs.Differ.{NamesDiffer};
 ghost use Rattle.type_rules.specs.Demands.{Judges, Fails};
 ghost use Rattle.type_rules.specs.Known as known;
 ghost use Rattle.type_rules.specs.Services as rules;
@@ -30,6 +32,8 @@ pub fn check(alloc: Global, service: Service) -> Result<Typed, TypeError>
     ensures shape { IfOk result (λ t. t.shape ≡ known.shape_of (service_tree service)) }
     ensures resolved { IfOk result (λ t. resolved_view t.resolved ≡ rules.resolve_service (service_tree service)) }
     ensures well_formed { IfOk result (λ t. IsShape t.shape) }
+    ensures names { IfOk result (λ t. NamesDiffer t.shape) }
+    ensures fits { IfOk result (λ t. FitsService t.shape t.resolved) }
     ensures err { IfErr result (λ e. Fails (rules.service_demands (service_tree service)) e) }
 {
     let tables = Tables::of(alloc, &service)?;

@@ -36,7 +36,7 @@ pub record Under (all : List Entry) (n : ℕ) (e : Entry) : Type 0 where
   pub above : e.above ≡ (get_or all parent blank).above ++ parent ∷ []
 
 module _ (all : List Entry) where
-  Agrees : ℕ → Entry → Type 0
+  abbrev Agrees : ℕ → Entry → Type 0
   Agrees i e = get_or all i blank ≡ e
 
   mutual

@@ -78,7 +78,7 @@ module _ (known : Known) (methods : List Method) (signed : map sig_of (map metho
   pub all_there : There known methods
   all_there m l =
       let r = method_is m l in
-      record { method = r.0; is_there = r.1.0; class_is = ap (λ (s : Signature). s.class) r.1.1; params = ap (λ (s : Signature). length s.params) r.1.1 }
+      record { method = r.0; is_there = r.1; class_is = ap (λ (s : Signature). s.class) r.2; params = ap (λ (s : Signature). length s.params) r.2 }
 
 -- ---- one function
 

@@ -12,7 +12,7 @@ use Rattle.type_rules.specs.declared.error.TypeError.{TypeError}
 use Rattle.type_rules.specs.declared.known.Known.{Known}
 use Rattle.type_rules.specs.Demands.{Demand, ask, first_wrong}
 use Rattle.type_rules.specs.Kinds.{same_kind}
-use Rattle.type_rules.specs.Known.{Entry, entry, field_info, class_named, event_named, field_named, above_of, none_before, class_count, classes_count, classes_of, classes_in, service_classes, methods_in, known_of}
+use Rattle.type_rules.specs.Known.{Entry, entry, field_info, class_named, event_named, field_named, above_of, none_before, class_count, classes_count, classes_of, classes_in, service_classes, methods_of, methods_in, known_of}
 use Rattle.type_rules.specs.Functions.{event_demands}
 use Rattle.type_rules.specs.Services.{name_asks, field_asks, fields_demands, methods_demands, context_demands, contexts_demands, events_demands, demands_with, service_demands, IsTyped}
 use Rattle.type_rules.proofs.First.{first_wrong_parts}
@@ -71,9 +71,10 @@ module _ (known : Known) where
   mutual
     pub context_sound : (above : List ℕ) (parent class method : ℕ) (c : ContextTree) → first_wrong (context_demands known class method c) ≡ None → Each (Sound known) class (classes_of above parent class c)
     context_sound above parent class method (Context at name vars contexts methods) h =
-        let a = first_wrong_parts (name_asks known class name) _ h in
-        let b = first_wrong_parts (fields_demands known class 0 vars) _ a.1 in
-        let d = first_wrong_parts (contexts_demands known (class + 1) method contexts) _ b.1 in
+        let own = methods_demands known class (method + length (methods_in (class + 1) contexts)) methods in
+        let a = first_wrong_parts (name_asks known class name) (fields_demands known class 0 vars ++ (contexts_demands known (class + 1) method contexts ++ own)) h in
+        let b = first_wrong_parts (fields_demands known class 0 vars) (contexts_demands known (class + 1) method contexts ++ own) a.1 in
+        let d = first_wrong_parts (contexts_demands known (class + 1) method contexts) own b.1 in
         let n = all_hold (name_asks known class name) a.0 in
         each_cons (Sound known) class _ (classes_in (above ++ class ∷ []) class (class + 1) contexts)
         (record { new = n.0; deep = n.1.0; fields = fields_sound known class 0 vars b.0 })
@@ -82,7 +83,7 @@ module _ (known : Known) where
     pub contexts_sound : (above : List ℕ) (parent class method : ℕ) (cs : ContextTrees) → first_wrong (contexts_demands known class method cs) ≡ None → Each (Sound known) class (classes_in above parent class cs)
     contexts_sound above parent class method no_contexts h = each_none (Sound known) class
     contexts_sound above parent class method (context_and c cs) h =
-        let a = first_wrong_parts (context_demands known class method c) _ h in
+        let a = first_wrong_parts (context_demands known class method c) (contexts_demands known (class + class_count c) (method + length (methods_of class c)) cs) h in
         each_both (Sound known) class (classes_of above parent class c) (classes_in above parent (class + class_count c) cs)
         (context_sound above parent class method c a.0)
         (subst (λ n. Each (Sound known) n (classes_in above parent (class + class_count c) cs)) (ap (λ n. class + n) (sym (count_of above parent class c)))
@@ -111,10 +112,13 @@ pub parts : (s : ServiceTree) → IsTyped s → Parts (known_of s) s
 unfolding service_demands
 parts s h =
     let known = known_of s in
-    let a = first_wrong_parts (name_asks known 0 s.name) _ h in
-    let b = first_wrong_parts (fields_demands known 0 0 s.vars) _ a.1 in
-    let c = first_wrong_parts (contexts_demands known 1 0 (contexts_of s.contexts)) _ b.1 in
-    let d = first_wrong_parts (methods_demands known 0 (length (methods_in 1 (contexts_of s.contexts))) s.methods) _ c.1 in
+    let own = methods_demands known 0 (length (methods_in 1 (contexts_of s.contexts))) s.methods in
+    let contexts = contexts_demands known 1 0 (contexts_of s.contexts) in
+    let events = events_demands known 0 s.events in
+    let a = first_wrong_parts (name_asks known 0 s.name) (fields_demands known 0 0 s.vars ++ (contexts ++ (own ++ events))) h in
+    let b = first_wrong_parts (fields_demands known 0 0 s.vars) (contexts ++ (own ++ events)) a.1 in
+    let c = first_wrong_parts contexts (own ++ events) b.1 in
+    let d = first_wrong_parts own events c.1 in
     record { name = a.0; fields = b.0; contexts = c.0; methods = d.0; events = d.1 }
 
 pub classes_sound : (s : ServiceTree) → Parts (known_of s) s → Each (Sound (known_of s)) 0 (service_classes s)

@@ -82,14 +82,14 @@ module _ (known : Known) (class : ℕ) where
       trees_at kinds es l d = moved_all (resolve_all h es) (args_fit h methods there_at kinds es l d)
 
       call_at : (place : Span) (name : List ℕ) (es : ExprTrees) → first_wrong (call_demands h place name es) ≡ None → Fits (call_tree place (called h name) (resolve_all h es))
-      call_at place name es d = moved _ (call_fits h methods there_at place name es (λ kinds l d. args_fit h methods there_at kinds es l d) d)
+      call_at place name es d = moved (call_tree place (called h name) (resolve_all h es)) (call_fits h methods there_at place name es (λ kinds l d. args_fit h methods there_at kinds es l d) d)
 
       child_at : (place : Span) (child : List ℕ) (key : ExprTree) (name : List ℕ) (es : ExprTrees) → first_wrong (child_demands h place child key name es) ≡ None
           → Fits (child_tree h place child name (resolve h key) (resolve_all h es))
-      child_at place child key name es d = moved _ (child_fits h methods there_at place child key name es (λ d. expr_fits h methods there_at key d) (λ kinds l d. args_fit h methods there_at kinds es l d) d)
+      child_at place child key name es d = moved (child_tree h place child name (resolve h key) (resolve_all h es)) (child_fits h methods there_at place child key name es (λ d. expr_fits h methods there_at key d) (λ kinds l d. args_fit h methods there_at kinds es l d) d)
 
       -- a field that is written is there
-      Own : Option Variable → Type 0
+      abbrev Own : Option Variable → Type 0
       Own (Some (var.Field field kind)) = IsField known.shape class field
       Own (Some (var.Local slot kind)) = Unit {0}
       Own None = Unit {0}
@@ -107,7 +107,7 @@ module _ (known : Known) (class : ℕ) where
       target_own target = own_of target.above target.name
 
       -- what is put into what is written
-      KeyFits : Option Tree → Type 0
+      abbrev KeyFits : Option Tree → Type 0
       KeyFits None = Unit {0}
       KeyFits (Some t) = Fits t
 

@@ -76,17 +76,17 @@ module _ (h : Here) (methods : List Method) where
   binary_fits : (at : Span) (sign : BinaryOp) (ka kb : Option Kind) (a b : Tree) → Fits a → Fits b → Fits (binary_tree at sign ka kb a b)
   binary_fits at op.Or ka kb a b fa fb = (fa, fb)
   binary_fits at op.And ka kb a b fa fb = (fa, fb)
-  binary_fits at op.Eq ka kb a b fa fb = (fa, fb, tt)
-  binary_fits at op.Ne ka kb a b fa fb = (fa, fb, tt)
-  binary_fits at op.Lt ka kb a b fa fb = (fa, fb, tt)
-  binary_fits at op.Le ka kb a b fa fb = (fa, fb, tt)
-  binary_fits at op.Gt ka kb a b fa fb = (fa, fb, tt)
-  binary_fits at op.Ge ka kb a b fa fb = (fa, fb, tt)
-  binary_fits at op.Add ka kb a b fa fb = (fa, fb, tt)
-  binary_fits at op.Sub ka kb a b fa fb = (fa, fb, tt)
-  binary_fits at op.Mul ka kb a b fa fb = (fa, fb, tt)
-  binary_fits at op.Div ka kb a b fa fb = (fa, fb, tt)
-  binary_fits at op.Rem ka kb a b fa fb = (fa, fb, tt)
+  binary_fits at op.Eq ka kb a b fa fb = (fa, (fb, tt))
+  binary_fits at op.Ne ka kb a b fa fb = (fa, (fb, tt))
+  binary_fits at op.Lt ka kb a b fa fb = (fa, (fb, tt))
+  binary_fits at op.Le ka kb a b fa fb = (fa, (fb, tt))
+  binary_fits at op.Gt ka kb a b fa fb = (fa, (fb, tt))
+  binary_fits at op.Ge ka kb a b fa fb = (fa, (fb, tt))
+  binary_fits at op.Add ka kb a b fa fb = (fa, (fb, tt))
+  binary_fits at op.Sub ka kb a b fa fb = (fa, (fb, tt))
+  binary_fits at op.Mul ka kb a b fa fb = (fa, (fb, tt))
+  binary_fits at op.Div ka kb a b fa fb = (fa, (fb, tt))
+  binary_fits at op.Rem ka kb a b fa fb = (fa, (fb, tt))
 
   module _ (there : There h.known methods) where
     method_there : (class m : ℕ) (name : List ℕ) → method_named h.known class name ≡ Some m → IsMethod methods class m (length (signature_at h.known m).params)
@@ -155,11 +155,11 @@ module _ (h : Here) (methods : List Method) where
       expr_fits (e.Index at name key) d =
           let a = all_hold (demands h (e.Index at name key)) d in
           let b = first_wrong_parts (demands h key) (typed h (e.Index at name key)) (none_wrong (demands h key ++ typed h (e.Index at name key)) a.1) in
-          (read_fits at (variable h name) (variable_fits name), expr_fits key b.0, tt)
+          (read_fits at (variable h name) (variable_fits name), (expr_fits key b.0, tt))
       expr_fits (e.AboveIndex at class name key) d =
           let a = first_wrong_parts (above_asks h at class name) (demands h key ++ typed h (e.AboveIndex at class name key)) d in
           let b = first_wrong_parts (demands h key) (typed h (e.AboveIndex at class name key)) a.1 in
-          (tt, expr_fits key b.0, tt)
+          (tt, (expr_fits key b.0, tt))
       expr_fits (e.Call at name args) d =
           let a = first_wrong_parts (call_demands h at name args) (typed h (e.Call at name args)) d in
           call_fits at name args (λ kinds l d. args_fit kinds args l d) a.0
