@@ -1,11 +1,10 @@
 -- The shape of a typed service is a shape.
-use Rattle.std.proofs.Common.{◌≡◌, ◌⊎◌, inl, inr, ℕ, zero, suc, ◌+◌, ◌<◌, ◌≤◌, ◌^◌, Bool, true, false, nat_le, List, [], ◌∷◌, ◌++◌, length, map, get_or, position, slice_get, All, Option, Some, None, refl, sym, ap, subst, ◌∙◌, arith}
+use Rattle.std.proofs.Common.{◌≡◌, ℕ, zero, suc, ◌+◌, ◌<◌, ◌≤◌, ◌^◌, true, nat_le, List, [], ◌∷◌, ◌++◌, length, map, get_or, position, slice_get, Some, None, refl, sym, ap, subst, ◌∙◌, arith}
 use Rattle.std.specs.Option.{option_map}
 use Rattle.std.proofs.lemmas.Bool.{leb-true}
 use Rattle.std.proofs.lemmas.List.{length-append, length-map, get_or-map}
 use Rattle.std.proofs.lemmas.Option.{slice_get-get_or, slice_get-map}
 use Rattle.wave_base.specs.declared.limits.TheConstants.{CLASS_DEPTH}
-use Rattle.wave_base.specs.declared.path.Class.{Class}
 use Rattle.wave_base.specs.declared.shape.ClassInfo.{ClassInfo}
 use Rattle.wave_base.specs.declared.shape.FieldInfo.{FieldInfo}
 use Rattle.wave_base.specs.declared.shape.EventInfo.{EventInfo}
@@ -13,17 +12,15 @@ use Rattle.wave_base.specs.declared.shape.Shape.{Shape}
 use Rattle.wave_base.specs.declared.value.Kind.{Kind}
 use Rattle.wave_base.specs.declared.value.Kind.TheVariants as k
 use Rattle.wave_base.specs.Names.{all_differ, same_bytes}
-use Rattle.wave_base.specs.Shapes.{parent_in, parent_class, passes_root, fields_in, declared_fields, is_within, HasInitials, IsShape}
-use Rattle.wave_base.specs.Values.{kind_of}
+use Rattle.wave_base.specs.Shapes.{parent_in, parent_class, passes_root, fields_in, declared_fields, HasInitials, IsShape}
 use Rattle.mace_ast.specs.Decls.{EventTree, ContextTree, ContextTrees, Context, no_contexts, context_and, contexts_of, ServiceTree}
-use Rattle.type_rules.specs.declared.known.Known.{Known}
 use Rattle.type_rules.specs.Kinds.{same_kind}
 use Rattle.type_rules.specs.Known.{Entry, entry, event_info, above_of, none_before, class_count, classes_of, classes_in, service_classes, shape_of, known_of}
 use Rattle.type_rules.specs.Services.{IsTyped}
 use Rattle.type_laws.specs.Differ.{NamesDiffer}
 use Rattle.type_laws.proofs.Each.{Each, each_none, each_first, each_rest, each_cons, each_front, each_back, each_both, each_self, all_of_each}
-use Rattle.type_laws.proofs.Names.{AreFirst, names_of_first}
-use Rattle.type_laws.proofs.Sound.{FieldSound, Sound, EventSound, events_sound, count_of, parts, classes_sound}
+use Rattle.type_laws.proofs.Names.{names_of_first}
+use Rattle.type_laws.proofs.Sound.{Sound, events_sound, count_of, parts, classes_sound}
 
 pub blank : Entry
 blank = record { info = record { name = []; parent = None; fields = [] }; above = [] }

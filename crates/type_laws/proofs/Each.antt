@@ -1,7 +1,6 @@
 -- A fact of each element of a list, whose elements are numbered from some number on.
-use Rattle.std.proofs.Common.{◌≡◌, ◌⊎◌, inl, inr, ◌+◌, ◌-◌, ◌<◌, ◌≤◌, ℕ, zero, suc, List, [], ◌∷◌, ◌++◌, length, map, get_or, slice_get, All, Option, Some, refl, sym, ap, subst, ◌∙◌, arith}
+use Rattle.std.proofs.Common.{◌≡◌, ◌+◌, ◌<◌, ℕ, zero, suc, List, [], ◌∷◌, ◌++◌, length, map, get_or, All, refl, sym, subst, arith}
 use Rattle.std.proofs.lemmas.List.{length-append, length-map, get_or_append_left, get_or-append-add, get_or-map}
-use Rattle.std.proofs.lemmas.Option.{slice_get-get_or}
 
 module _ {X : Type 0} (P : ℕ → X → Type 0) where
   abbrev pub Each : ℕ → List X → Type 0

@@ -1,37 +1,34 @@
 -- Methods and events of a typed service, with their names resolved, fit.
-use Rattle.std.proofs.Common.{◌≡◌, ◌==◌, ℕ, zero, suc, ◌+◌, ◌<◌, Bool, true, false, List, [], ◌∷◌, ◌++◌, length, map, get_or, slice_get, unwrap_or, All, Option, Some, None, is_some, refl, sym, ap, subst, ◌∙◌, arith}
+use Rattle.std.proofs.Common.{◌≡◌, ℕ, zero, suc, ◌+◌, ◌<◌, false, List, [], ◌∷◌, ◌++◌, length, map, slice_get, unwrap_or, All, Option, Some, None, is_some, refl, sym, ap, subst, ◌∙◌, arith}
 use Rattle.std.specs.Option.{option_map, option_map_or}
-use Rattle.std.proofs.lemmas.List.{map-append, length-map, get_or-map}
+use Rattle.std.proofs.lemmas.List.{map-append}
 use Rattle.std.proofs.lemmas.Option.{slice_get-get_or, slice_get-map}
 use Rattle.wave_base.specs.declared.value.Kind.{Kind}
 use Rattle.wave_base.specs.declared.value.Kind.TheVariants as k
 use Rattle.wave_base.specs.declared.span.Span.{Span}
-use Rattle.wave_base.specs.Shapes.{is_class, parent_class}
 use Rattle.mace_ast.specs.declared.method.Param.{Param}
 use Rattle.mace_ast.specs.declared.name.Name.{Name}
 use Rattle.mace_ast.specs.Decls.{LastTree, MethodTree, PhaseTree, EventTree, ContextTree, ContextTrees, Context, no_contexts, context_and, contexts_of, ServiceTree}
-use Rattle.mace_ast.specs.Stmts.{StmtTrees, stmts_of}
+use Rattle.mace_ast.specs.Stmts.{stmts_of}
 use Rattle.resolved_service.specs.declared.service.Event.{Event}
 use Rattle.resolved_service.specs.declared.service.Last.{Last}
 use Rattle.resolved_service.specs.declared.service.Method.{Method}
 use Rattle.resolved_service.specs.declared.service.Phase.{Phase}
 use Rattle.resolved_service.specs.declared.service.Resolved.{Resolved}
-use Rattle.resolved_service.specs.Fits.{IsMethod, IsChildClass, FitsTree, FitsSteps, FitsLast, FitsMethod, FitsPhases, FitsEvent, FitsService}
-use Rattle.resolved_service.specs.Steps.{Steps, steps_in}
-use Rattle.resolved_service.specs.View.{Tree, tree_of}
+use Rattle.resolved_service.specs.Fits.{IsChildClass, FitsTree, FitsSteps, FitsLast, FitsMethod, FitsPhases, FitsEvent, FitsService}
+use Rattle.resolved_service.specs.Steps.{steps_in}
 use Rattle.type_rules.specs.declared.known.Known.{Known}
 use Rattle.type_rules.specs.declared.known.Signature.{Signature}
 use Rattle.type_rules.specs.declared.error.TypeError.TheVariants.{UnknownName, Mismatch, NotDownward}
-use Rattle.type_rules.specs.Demands.{Demand, ask, first_wrong}
+use Rattle.type_rules.specs.Demands.{ask, first_wrong}
 use Rattle.type_rules.specs.Known.{class_named, class_count, signature, signature_at, no_signature, methods_of, methods_in, service_methods, shape_of, known_of}
-use Rattle.type_rules.specs.Here.{Here, start, declared, in_class, is_child}
-use Rattle.type_rules.specs.Exprs.{or_zero, resolve, class_asks, demands_as}
-use Rattle.type_rules.specs.Stmts.{after_all, resolve_stmts, stmts_demands}
+use Rattle.type_rules.specs.Here.{Here, start, declared, is_child}
+use Rattle.type_rules.specs.Exprs.{or_zero, class_asks, demands_as}
+use Rattle.type_rules.specs.Stmts.{stmts_demands}
 use Rattle.type_rules.specs.Functions.{LastView, MethodView, PhaseView, EventView, after_params, method_params_demands, event_params_demands, last_demands, resolve_last, method_start, method_end, method_demands, resolve_method, event_start, here_stmts, here_end, inside, phase_end, event_end, phase_demands, phases_demands, event_demands, resolve_phase, resolve_phases, resolve_event}
 use Rattle.type_rules.specs.Services.{ResolvedView, name_asks, fields_demands, methods_demands, context_demands, contexts_demands, events_demands, resolve_methods, resolve_context, resolve_contexts, resolve_with, resolve_service, IsTyped}
 use Rattle.type_rules.specs.Views.{last_view, method_view, phase_view, event_view, resolved_view}
 use Rattle.type_rules.proofs.First.{first_wrong_parts}
-use Rattle.type_laws.proofs.Each.{Each, each_none, each_cons, each_both}
 use Rattle.type_laws.proofs.Sound.{AllHold, all_hold, none_wrong, Parts, parts}
 use Rattle.type_laws.proofs.Steps.{At, after_all_at, tree_as, stmts_fit}
 use Rattle.type_laws.proofs.Trees.{There, absent}

@@ -1,20 +1,18 @@
 -- What is known of each class of a typed service.
-use Rattle.std.proofs.Common.{◌≡◌, ℕ, ◌+◌, ◌<◌, ◌≤◌, Bool, true, false, nat_le, List, [], ◌∷◌, ◌++◌, length, map, get_or, Option, Some, None, refl, sym, ap, subst, ◌∙◌, arith}
+use Rattle.std.proofs.Common.{◌≡◌, ℕ, ◌+◌, Bool, true, false, nat_le, List, [], ◌∷◌, ◌++◌, length, map, Some, None, refl, sym, ap, subst, ◌∙◌, arith}
 use Rattle.std.specs.Prelude.{if◌then◌else◌}
 use Rattle.std.proofs.lemmas.List.{length-append}
 use Rattle.wave_base.specs.declared.limits.TheConstants.{CLASS_DEPTH}
 use Rattle.wave_base.specs.declared.shape.FieldInfo.{FieldInfo}
 use Rattle.wave_base.specs.Values.{kind_of}
 use Rattle.mace_ast.specs.declared.field.VarDecl.{VarDecl}
-use Rattle.mace_ast.specs.declared.name.Name.{Name}
 use Rattle.mace_ast.specs.Decls.{EventTree, ContextTree, ContextTrees, Context, no_contexts, context_and, contexts_of, ServiceTree}
-use Rattle.type_rules.specs.declared.error.TypeError.{TypeError}
 use Rattle.type_rules.specs.declared.known.Known.{Known}
-use Rattle.type_rules.specs.Demands.{Demand, ask, first_wrong}
+use Rattle.type_rules.specs.Demands.{Demand, first_wrong}
 use Rattle.type_rules.specs.Kinds.{same_kind}
-use Rattle.type_rules.specs.Known.{Entry, entry, field_info, class_named, event_named, field_named, above_of, none_before, class_count, classes_count, classes_of, classes_in, service_classes, methods_of, methods_in, known_of}
+use Rattle.type_rules.specs.Known.{Entry, field_info, class_named, event_named, field_named, above_of, none_before, class_count, classes_count, classes_of, classes_in, service_classes, methods_of, methods_in, known_of}
 use Rattle.type_rules.specs.Functions.{event_demands}
-use Rattle.type_rules.specs.Services.{name_asks, field_asks, fields_demands, methods_demands, context_demands, contexts_demands, events_demands, demands_with, service_demands, IsTyped}
+use Rattle.type_rules.specs.Services.{name_asks, field_asks, fields_demands, methods_demands, context_demands, contexts_demands, events_demands, service_demands, IsTyped}
 use Rattle.type_rules.proofs.First.{first_wrong_parts}
 use Rattle.type_laws.proofs.Each.{Each, each_none, each_cons, each_both}
 

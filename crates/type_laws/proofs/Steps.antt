@@ -1,6 +1,6 @@
 -- Statements of a typed service, with their names resolved, fit.
-use Rattle.std.proofs.Common.{◌≡◌, ◌==◌, ℕ, ◌<◌, Bool, true, false, List, [], ◌∷◌, ◌++◌, length, Option, Some, None, is_some, refl, sym, ap, subst, ◌∙◌}
-use Rattle.std.specs.Option.{option_map, option_map_or}
+use Rattle.std.proofs.Common.{◌≡◌, ℕ, List, [], ◌∷◌, ◌++◌, length, Option, Some, None, sym, subst, ◌∙◌}
+use Rattle.std.specs.Option.{option_map}
 use Rattle.std.proofs.lemmas.Bool.{eqb-true}
 use Rattle.wave_base.specs.declared.span.Span.{Span}
 use Rattle.wave_base.specs.declared.value.Kind.{Kind}
@@ -17,12 +17,12 @@ use Rattle.type_rules.specs.declared.meant.Variable.{Variable}
 use Rattle.type_rules.specs.declared.meant.Variable.TheVariants as var
 use Rattle.type_rules.specs.declared.error.TypeError.TheVariants.{Mismatch}
 use Rattle.type_rules.specs.Kinds.{has_kind}
-use Rattle.type_rules.specs.Demands.{Demand, ask, first_wrong}
-use Rattle.type_rules.specs.Here.{Here, declared, counted, behind, variable, called}
+use Rattle.type_rules.specs.Demands.{ask, first_wrong}
+use Rattle.type_rules.specs.Here.{Here, counted, behind, variable, called}
 use Rattle.type_rules.specs.Exprs.{kind_of, resolve, resolve_all, call_tree, child_tree, count, of_kind, demands, demands_as, args_demands, call_demands, child_demands}
 use Rattle.type_rules.specs.Stmts.{kind_or_int, after, after_all, after_else, own_variable, target_variable, target_kind, target_asks, key_demands, set_demands, spawn_takes, spawn_demands, set_step, cut_step, resolve_stmt, resolve_stmts, resolve_else, local_asks, stmt_demands, stmts_demands, else_demands}
 use Rattle.type_rules.proofs.First.{first_wrong_parts}
-use Rattle.type_laws.proofs.Sound.{AllHold, all_hold, none_wrong}
+use Rattle.type_laws.proofs.Sound.{all_hold, none_wrong}
 use Rattle.type_laws.proofs.Trees.{There, count_exprs, FitsVariable, variable_fits, call_fits, child_fits, expr_fits, args_fit}
 
 -- a place in a class, where this is declared

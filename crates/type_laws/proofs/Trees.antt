@@ -1,5 +1,5 @@
 -- Expressions of a typed service, with their names resolved, fit.
-use Rattle.std.proofs.Common.{◌≡◌, ◌==◌, ◌&&◌, ℕ, zero, suc, ◌<◌, Bool, true, false, List, [], ◌∷◌, ◌++◌, length, map, position, Option, Some, None, is_some, option_and_then, refl, sym, ap, subst, ◌∙◌, arith}
+use Rattle.std.proofs.Common.{◌≡◌, ◌==◌, ◌&&◌, ℕ, suc, ◌<◌, true, false, List, [], ◌∷◌, ◌++◌, length, Option, Some, None, is_some, option_and_then, refl, sym, ap, subst, ◌∙◌, arith}
 use Rattle.std.specs.Option.{option_map, option_map_or}
 use Rattle.std.proofs.lemmas.Bool.{eqb-true, and_parts}
 use Rattle.std.proofs.lemmas.List.Quantifiers.{position-Some}
@@ -8,14 +8,13 @@ use Rattle.wave_base.specs.declared.value.Kind.{Kind}
 use Rattle.wave_base.specs.declared.value.Kind.TheVariants as k
 use Rattle.wave_base.specs.declared.value.Value.TheVariants as v
 use Rattle.wave_base.specs.Names.{same_bytes}
-use Rattle.wave_base.specs.Shapes.{is_class, parent_class, declared_fields}
 use Rattle.mace_ast.specs.declared.expr.BinaryOp.{BinaryOp}
 use Rattle.mace_ast.specs.declared.expr.BinaryOp.TheVariants as op
 use Rattle.mace_ast.specs.Exprs as e
 use Rattle.mace_ast.specs.Exprs.{ExprTree, ExprTrees, no_exprs, expr_and, exprs_of}
 use Rattle.value_ops.specs.Rows.{wave_rows, first_builtin}
 use Rattle.resolved_service.specs.declared.service.Method.{Method}
-use Rattle.resolved_service.specs.Fits.{count_of, IsMethod, IsChildClass, IsField, FitsTree, FitsTrees}
+use Rattle.resolved_service.specs.Fits.{count_of, IsMethod, IsField, FitsTree, FitsTrees}
 use Rattle.resolved_service.specs.View as r
 use Rattle.resolved_service.specs.View.{Tree, Trees, no_trees, tree}
 use Rattle.type_rules.specs.declared.error.TypeError.TheVariants.{UnknownName, ArgCount, NotDownward, CalleeLater}
@@ -27,8 +26,8 @@ use Rattle.type_rules.specs.declared.meant.Callee.{Callee}
 use Rattle.type_rules.specs.declared.meant.Callee.TheVariants as callee
 use Rattle.type_rules.specs.Demands.{Demand, ask, first_wrong}
 use Rattle.type_rules.specs.Known.{class_named, field_named, field_kind, method_named, signature_at, no_signature}
-use Rattle.type_rules.specs.Here.{Here, local_named, of_local, or_else, variable, called, takes, is_earlier, is_child, method_in}
-use Rattle.type_rules.specs.Exprs.{kind_of, name_kind, resolve, resolve_all, or_zero, read_tree, row_tree, binary_tree, two, call_tree, child_tree, count, above_asks, call_asks, call_takes, class_asks, method_asks, child_takes, typed, of_kind, demands, args_demands, demands_as, call_demands, child_demands}
+use Rattle.type_rules.specs.Here.{Here, local_named, of_local, or_else, variable, called, takes, is_earlier, is_child}
+use Rattle.type_rules.specs.Exprs.{kind_of, resolve, resolve_all, or_zero, read_tree, binary_tree, call_tree, child_tree, count, above_asks, class_asks, method_asks, child_takes, typed, of_kind, demands, args_demands, demands_as, call_demands, child_demands}
 use Rattle.type_rules.proofs.First.{first_wrong_parts}
 use Rattle.type_laws.proofs.Sound.{AllHold, all_hold, none_wrong}
 

@@ -104,7 +104,7 @@ pub gains_context : (g h j : Gathered) (above : List ℕ) (parent n : ℕ) (cs d
     → Gains g j (classes_in above parent n (contexts_of ds)) (methods_in n (contexts_of ds)) []
 gains_context g h j above parent n cs ds c start more first second =
     let number : length h.classes.items ≡ n + classes_count (contexts_of cs) =
-          gains_classes g h _ _ _ first ∙ (λ i. sym start i + count_in above parent n (contexts_of cs) i) in
+    gains_classes g h _ _ _ first ∙ (λ i. sym start i + count_in above parent n (contexts_of cs) i) in
     let both = gains_twice g h j _ _ _ _ _ _ first second in
     gains_as g j _ _ _ _ _ _
     (ap (λ m. classes_in above parent n (contexts_of cs) ++ classes_of above parent m c) number ∙ sym (classes_push above parent n cs c) ∙ ap (λ l. classes_in above parent n (contexts_of l)) (sym more))
@@ -153,7 +153,7 @@ pub gains_inside : (g h j k : Gathered) (above inner : List ℕ) (parent n : ℕ
 gains_inside g h j k above inner parent n at name vars cs ms c parts start is first second third =
     let number : length h.classes.items ≡ n + 1 = gains_classes g h _ _ _ first ∙ ap (λ m. m + 1) (sym start) in
     let inside : Gains h j (classes_in (above ++ n ∷ []) n (n + 1) (contexts_of cs)) (methods_in (n + 1) (contexts_of cs)) [] =
-          gains_as h j _ (classes_in (above ++ n ∷ []) n (n + 1) (contexts_of cs)) _ (methods_in (n + 1) (contexts_of cs)) _ _ (λ i. classes_in (is i) n (number i) (contexts_of cs)) (ap (λ m. methods_in m (contexts_of cs)) number) refl second in
+    gains_as h j _ (classes_in (above ++ n ∷ []) n (n + 1) (contexts_of cs)) _ (methods_in (n + 1) (contexts_of cs)) _ _ (λ i. classes_in (is i) n (number i) (contexts_of cs)) (ap (λ m. methods_in m (contexts_of cs)) number) refl second in
     let all = gains_twice g h k _ _ _ _ _ _ first (gains_twice h j k _ _ _ _ _ _ inside third) in
     gains_as g k _ _ _ _ _ _
     (ap (λ l. entry above (Some (record { 0 = parent })) name vars ∷ l) (append-nil (classes_in (above ++ n ∷ []) n (n + 1) (contexts_of cs))) ∙ (λ i. classes_of above parent (start i) (sym parts i)))
@@ -176,7 +176,7 @@ module _ (g h : Gathered) (is : IsGathered g) where
       → Gains g h (record { info = made; above = above } ∷ []) [] []
   class_gained info made above name same named fields short room classes aboves methods events cn en mn =
       let known : known_in h ≡ record { shape = record { classes = g.classes.items ++ info ∷ []; events = g.events.items }; above = g.above.items ++ above ∷ []; methods = g.methods.items } =
-            (λ i. record { shape = record { classes = classes i; events = (events i).items }; above = aboves i; methods = (methods i).items }) in
+      (λ i. record { shape = record { classes = classes i; events = (events i).items }; above = aboves i; methods = (methods i).items }) in
       let base = indexed_class (known_in g) g.class_names g.event_names g.method_names.items is.indexed info above name named fields short room in
       record {
         gathered = record {
@@ -192,7 +192,7 @@ module _ (g h : Gathered) (is : IsGathered g) where
       → Gains g h [] [] (made ∷ [])
   event_gained info made name same named room classes aboves methods events cn en mn =
       let known : known_in h ≡ record { shape = record { classes = g.classes.items; events = g.events.items ++ info ∷ [] }; above = g.above.items; methods = g.methods.items } =
-            (λ i. record { shape = record { classes = (classes i).items; events = events i }; above = (aboves i).items; methods = (methods i).items }) in
+      (λ i. record { shape = record { classes = (classes i).items; events = events i }; above = (aboves i).items; methods = (methods i).items }) in
       let base = indexed_event (known_in g) g.class_names g.event_names g.method_names.items is.indexed info name named room in
       record {
         gathered = record {
@@ -208,7 +208,7 @@ module _ (g h : Gathered) (is : IsGathered g) where
       → Gains g h [] (made ∷ []) []
   method_gained s made class name same in_class named there room classes aboves methods events cn en mn =
       let known : known_in h ≡ record { shape = record { classes = g.classes.items; events = g.events.items }; above = g.above.items; methods = g.methods.items ++ s ∷ [] } =
-            (λ i. record { shape = record { classes = (classes i).items; events = (events i).items }; above = (aboves i).items; methods = methods i }) in
+      (λ i. record { shape = record { classes = (classes i).items; events = (events i).items }; above = (aboves i).items; methods = methods i }) in
       let base = indexed_method (known_in g) g.class_names g.event_names g.method_names.items is.indexed s class name in_class named (subst (λ n. class < n) (sym is.tables) there) room in
       record {
         gathered = record {
@@ -236,11 +236,12 @@ service_gathered g h j k l s start first second third fourth =
     let counted = gains_classes g h _ _ _ first in
     let number : length h.classes.items ≡ 1 = counted ∙ ap (λ n. n + 1) none in
     let inside : Gains h j (classes_in (0 ∷ []) 0 1 cs) (methods_in 1 cs) [] = gains_as h j _ _ _ _ _ _ (ap (λ n. classes_in (0 ∷ []) 0 n cs) number) (ap (λ n. methods_in n cs) number) refl second in
-    let all = gains_twice g h l _ _ _ _ _ _ first (gains_twice h j l _ _ _ _ _ _ inside (gains_twice j k l _ _ _ _ _ _ third fourth)) in
-    (all.gathered,
-     all.known ∙ ap (λ k. grown k (entry [] None s.name s.vars ∷ (classes_in (0 ∷ []) 0 1 cs ++ [])) (methods_in 1 cs ++ (map (signature 0) s.methods ++ [])) (map event_info s.events)) start
-     ∙ (λ i. record {
-       shape = record { classes = map (λ (c : Entry). c.info) (entry [] None s.name s.vars ∷ append-nil (classes_in (0 ∷ []) 0 1 cs) i); events = map event_info s.events };
-       above = map (λ (c : Entry). c.above) (entry [] None s.name s.vars ∷ append-nil (classes_in (0 ∷ []) 0 1 cs) i);
-       methods = methods_in 1 cs ++ append-nil (map (signature 0) s.methods) i;
-     }))
+    let all = gains_twice g h l _ _ _ _ _ _ first (gains_twice h j l _ _ _ _ _ _ inside (gains_twice j k l _ _ _ _ _ _ third fourth)) in (
+      all.gathered,
+      all.known ∙ ap (λ k. grown k (entry [] None s.name s.vars ∷ (classes_in (0 ∷ []) 0 1 cs ++ [])) (methods_in 1 cs ++ (map (signature 0) s.methods ++ [])) (map event_info s.events)) start
+          ∙ (λ i. record {
+            shape = record { classes = map (λ (c : Entry). c.info) (entry [] None s.name s.vars ∷ append-nil (classes_in (0 ∷ []) 0 1 cs) i); events = map event_info s.events };
+            above = map (λ (c : Entry). c.above) (entry [] None s.name s.vars ∷ append-nil (classes_in (0 ∷ []) 0 1 cs) i);
+            methods = methods_in 1 cs ++ append-nil (map (signature 0) s.methods) i;
+          }),
+    )

@@ -113,7 +113,12 @@ impl Gathered {
         Ok(())
     }
 
-    fn methods(&mut self, alloc: Global, class: u16, decls: &[MethodDecl]) -> Result<(), OutOfMemory>
+    fn methods(
+        &mut self,
+        alloc: Global,
+        class: u16,
+        decls: &[MethodDecl],
+    ) -> Result<(), OutOfMemory>
         requires gathered { IsGathered self.old }
         requires there { class < length self.old.classes.items }
         ensures { OnOk result (Gains self.old self.new [] (map (rules.signature class) (map method_tree decls.now)) []) }

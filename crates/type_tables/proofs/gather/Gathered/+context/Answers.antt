@@ -16,12 +16,12 @@ context-returns t c =
     let contexts = (out-ContextDecl c.args.c.now).contexts.items in
     let n = c.in_ok-class.class in
     let inside : Gains c.class.new.self c.contexts.new.self (rules.classes_in c.as_slice.result.now n (length c.class.new.self.classes.items) (contexts_of (map context_tree contexts)))
-            (rules.methods_in (length c.class.new.self.classes.items) (contexts_of (map context_tree contexts))) [] =
-          subst (λ xs. Gains c.class.new.self c.contexts.new.self (rules.classes_in c.as_slice.result.now n (length c.class.new.self.classes.items) (contexts_of (map context_tree xs)))
-            (rules.methods_in (length c.class.new.self.classes.items) (contexts_of (map context_tree xs))) []) c.deref.ensures.value c.in_ok-contexts.ensures in
+    (rules.methods_in (length c.class.new.self.classes.items) (contexts_of (map context_tree contexts))) [] =
+    subst (λ xs. Gains c.class.new.self c.contexts.new.self (rules.classes_in c.as_slice.result.now n (length c.class.new.self.classes.items) (contexts_of (map context_tree xs)))
+    (rules.methods_in (length c.class.new.self.classes.items) (contexts_of (map context_tree xs))) []) c.deref.ensures.value c.in_ok-contexts.ensures in
     on_ok _ _ c.methods.result
     (λ own.
-      gains_inside _ _ _ _ c.args.above.now c.as_slice.result.now c.args.parent n _ _ _ (map context_tree contexts) (map method_tree (out-ContextDecl c.args.c.now).methods) (context_tree c.args.c.now)
-      (tree_parts c.args.c.now) (c.in_ok-class.ensures.same ∙ c.len.ensures ∙ c.args.self.now.classes.ok.0) (c.as_slice.ensures.value ∙ c.in_ok-inner.ensures) c.in_ok-class-2.ensures inside
-      (subst (λ ms. Gains c.contexts.new.self c.methods.new.self [] (map (rules.signature n) (map method_tree ms)) []) c.as_slice-2.ensures own))
+    gains_inside _ _ _ _ c.args.above.now c.as_slice.result.now c.args.parent n _ _ _ (map context_tree contexts) (map method_tree (out-ContextDecl c.args.c.now).methods) (context_tree c.args.c.now)
+    (tree_parts c.args.c.now) (c.in_ok-class.ensures.same ∙ c.len.ensures ∙ c.args.self.now.classes.ok.0) (c.as_slice.ensures.value ∙ c.in_ok-inner.ensures) c.in_ok-class-2.ensures inside
+    (subst (λ ms. Gains c.contexts.new.self c.methods.new.self [] (map (rules.signature n) (map method_tree ms)) []) c.as_slice-2.ensures own))
     c.methods.ensures
