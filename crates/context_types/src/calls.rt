@@ -6,6 +6,7 @@ ghost use Rattle.type_rules.specs.Demands.{Judges, ask};
 ghost use Rattle.type_rules.specs.Known as known;
 ghost use Rattle.type_rules.specs.Here as names;
 ghost use Rattle.type_rules.specs.Exprs as rules;
+ghost use Rattle.context_types.specs.Children.{asks_of_child, gives_of_child, child_tree_of};
 ghost use Rattle.context_types.specs.Places.{here_of, IsJudged, IsCalled};
 
 use crate::exprs::Judged;
@@ -75,24 +76,21 @@ impl Here<'_> {
         }
     }
 
-    /// A call of a method of a child.
+    /// A call of a method of a child of a class, whose key is resolved already.
     #[cycle(expr)]
     pub fn child_call(
         &self,
         alloc: Global,
         at: Span,
-        class: &Txt,
-        key: &Expr,
+        class: u16,
         name: &Txt,
         args: &[Expr],
+        key: Tree,
     ) -> Result<Called, TypeError>
-        ensures { let given = exprs_of (map expr_tree args.now) in
-            Judges (rules.child_demands (here_of self.now) at class.now (expr_tree key.now) name.now given)
-            (IsCalled (rules.child_gives (here_of self.now) class.now name.now)
-                (rules.child_tree (here_of self.now) at class.now name.now (rules.resolve (here_of self.now) (expr_tree key.now)) (rules.resolve_all (here_of self.now) given))) result }
+        ensures { let given = exprs_of (map expr_tree args.now) in let method = known.method_named self.now.known.now class name.now in
+            Judges (asks_of_child (here_of self.now) at method given)
+            (IsCalled (gives_of_child (here_of self.now) method) (child_tree_of (here_of self.now) at class method (tree_of key) given)) result }
     {
-        let class = self.child(at, class)?;
-        let key = self.expr_of(alloc, Kind::Int, key)?;
         let Some(method) = self.known.method(class, name) else {
             return Err(TypeError::UnknownName(at));
         };
@@ -134,7 +132,7 @@ impl Here<'_> {
             return Err(TypeError::ArgCount(at));
         }
         let mut trees = Vec::new(alloc);
-        'args: for (i, arg) in args.iter().enumerate() {
+        'each: for (i, arg) in args.iter().enumerate() {
             let tree = self.expr_of(alloc, kinds[i], arg)?;
             trees.push(tree)?;
         }

@@ -73,7 +73,9 @@ impl Here<'_> {
                 called.worth(at)
             }
             Node::ChildCall(class, key, name, args) => {
-                let called = self.child_call(alloc, at, class, key, name, args)?;
+                let class = self.child(at, class)?;
+                let key = self.expr_of(alloc, Kind::Int, key)?;
+                let called = self.child_call(alloc, at, class, name, args, key)?;
                 called.worth(at)
             }
             Node::Unary(op, operand) => {

@@ -6,6 +6,7 @@ ghost use Rattle.resolved_service.specs.Fits.{FitsService};
 ghost use Rattle.type_laws.specs.Differ.{NamesDiffer};
 ghost use Rattle.type_rules.specs.Demands.{Judges, Fails};
 ghost use Rattle.type_rules.specs.Known as known;
+ghost use Rattle.type_rules.specs.Functions as functions;
 ghost use Rattle.type_rules.specs.Services as rules;
 ghost use Rattle.type_rules.specs.Views.{method_view, event_view, resolved_view};
 
@@ -78,7 +79,7 @@ fn contexts(
         (λ next. (next ≡ first + known.classes_count cs) × (map method_view made.new.items ≡ map method_view made.old.items ++ rules.resolve_contexts tables.now first (length made.old.items) cs)) result }
 {
     let mut next = first;
-    'contexts: for c in decls {
+    'each: for c in decls {
         next = context(alloc, tables, next, c, made)?;
     }
     Ok(next)
@@ -177,7 +178,7 @@ fn methods(
 
 fn events(alloc: Global, tables: &Tables, decls: &[EventDecl]) -> Result<Vec<Event>, TypeError>
     ensures { let es = map event_tree decls.now in
-        Judges (rules.events_demands tables.now 0 es) (λ made. map (rules.resolve_event tables.now) es ≡ map event_view made.items) result }
+        Judges (rules.events_demands tables.now 0 es) (λ made. map (functions.resolve_event tables.now) es ≡ map event_view made.items) result }
 {
     let mut made = Vec::new(alloc);
     for (i, e) in decls.iter().enumerate() {

@@ -1,11 +1,10 @@
-ghost use Rattle.std.specs.Prelude.{◌≡◌, map};
-ghost use Rattle.std.specs.Option.{option_map};
+ghost use Rattle.std.specs.Prelude.{◌≡◌, map, length};
 ghost use Rattle.mace_ast.specs.Exprs.{expr_tree};
 ghost use Rattle.mace_ast.specs.Stmts as syntax;
 ghost use Rattle.mace_ast.specs.Stmts.{stmt_tree, stmts_of};
 ghost use Rattle.resolved_service.specs.Steps.{step_of};
 ghost use Rattle.type_rules.specs.Demands.{Judges};
-ghost use Rattle.type_rules.specs.Here.{behind};
+ghost use Rattle.type_rules.specs.Here.{behind, counted};
 ghost use Rattle.type_rules.specs.Stmts as rules;
 ghost use Rattle.context_types.specs.Places.{here_of, IsStep, AreSteps};
 
@@ -26,14 +25,32 @@ impl Here<'_> {
         let at = s.at;
         match &s.action {
             Action::Let(name, value) => self.let_in(alloc, at, name, value),
-            Action::If(test, body, other) => self.if_else(alloc, at, test, body, other),
+            Action::If(test, body, other) => {
+                let test = self.expr_of(alloc, Kind::Bool, test)?;
+                let body = self.block(alloc, body)?;
+                let other = match other {
+                    None => None,
+                    Some(other) => Some(self.block(alloc, other)?),
+                };
+                let action = Effect::If(test, body, other);
+                Ok(Step { at, action })
+            }
             Action::While(test, body) => {
                 let test = self.expr_of(alloc, Kind::Bool, test)?;
                 let body = self.block(alloc, body)?;
                 let action = Effect::While(test, body);
                 Ok(Step { at, action })
             }
-            Action::For(name, low, high, body) => self.for_in(alloc, at, name, low, high, body),
+            Action::For(name, low, high, body) => {
+                let low = self.expr_of(alloc, Kind::Int, low)?;
+                let high = self.expr_of(alloc, Kind::Int, high)?;
+                let outside = self.locals.len();
+                let counter = self.count(alloc, name)?;
+                let body = self.stmts(alloc, body)?;
+                self.locals.truncate(outside);
+                let action = Effect::For(counter, low, high, body);
+                Ok(Step { at, action })
+            }
             Action::Require(test) => self.require(alloc, at, test),
             Action::Send(label, value) => self.send(alloc, at, label, value),
             Action::Spawn(event, args) => self.spawn(alloc, at, event, args),
@@ -46,7 +63,9 @@ impl Here<'_> {
                 Ok(Step { at, action })
             }
             Action::ChildCall(class, key, name, args) => {
-                let called = self.child_call(alloc, at, class, key, name, args.as_slice())?;
+                let class = self.child(at, class)?;
+                let key = self.expr_of(alloc, Kind::Int, key)?;
+                let called = self.child_call(alloc, at, class, name, args.as_slice(), key)?;
                 let action = Effect::Do(called.tree);
                 Ok(Step { at, action })
             }
@@ -60,7 +79,7 @@ impl Here<'_> {
             Judges (rules.stmts_demands h ss) (λ steps. AreSteps (rules.after_all h ss) (rules.resolve_stmts h ss) self.new steps.items) result }
     {
         let mut steps = Vec::new(alloc);
-        'stmts: for s in body {
+        'each: for s in body {
             let step = self.stmt(alloc, s)?;
             steps.push(step)?;
         }
@@ -79,54 +98,16 @@ impl Here<'_> {
         Ok(steps)
     }
 
-    #[cycle(stmt)]
-    fn if_else(
-        &mut self,
-        alloc: Global,
-        at: Span,
-        test: &Expr,
-        body: &[Stmt],
-        other: &Option<Vec<Stmt>>,
-    ) -> Result<Step, TypeError>
+    // The name of a loop over numbers, with the counter and the bound before it; the slot of the counter.
+    fn count(&mut self, alloc: Global, name: &Name) -> Result<u16, TypeError>
         ensures { let h = here_of self.old in
-            let s = syntax.If at (expr_tree test.now) (stmts_of (map stmt_tree body.now)) (syntax.else_of (option_map (λ b. map stmt_tree b.items) other.now)) in
-            Judges (rules.stmt_demands h s) (IsStep (rules.after h s) (rules.resolve_stmt h s) self.new) result }
+            Judges (rules.local_asks h name.now 3) (λ slot. (slot ≡ length self.old.slots.items) × (counted h name.now.text ≡ here_of self.new)) result }
     {
-        let test = self.expr_of(alloc, Kind::Bool, test)?;
-        let body = self.block(alloc, body)?;
-        let other = match other {
-            None => None,
-            Some(other) => Some(self.block(alloc, other)?),
-        };
-        let action = Effect::If(test, body, other);
-        Ok(Step { at, action })
-    }
-
-    #[cycle(stmt)]
-    fn for_in(
-        &mut self,
-        alloc: Global,
-        at: Span,
-        name: &Name,
-        low: &Expr,
-        high: &Expr,
-        body: &[Stmt],
-    ) -> Result<Step, TypeError>
-        ensures { let h = here_of self.old in
-            let s = syntax.For at name.now (expr_tree low.now) (expr_tree high.now) (stmts_of (map stmt_tree body.now)) in
-            Judges (rules.stmt_demands h s) (IsStep (rules.after h s) (rules.resolve_stmt h s) self.new) result }
-    {
-        let low = self.expr_of(alloc, Kind::Int, low)?;
-        let high = self.expr_of(alloc, Kind::Int, high)?;
         let counter = self.free_slot(name, 3)?;
-        let before = self.locals.len();
         self.slots.push(Kind::Int)?;
         self.slots.push(Kind::Int)?;
         self.declare(alloc, &name.text, Kind::Int, counter + 2)?;
-        let body = self.stmts(alloc, body)?;
-        self.locals.truncate(before);
-        let action = Effect::For(counter, low, high, body);
-        Ok(Step { at, action })
+        Ok(counter)
     }
 
     fn let_in(&mut self, alloc: Global, at: Span, name: &Name, value: &Expr) -> Result<Step, TypeError>

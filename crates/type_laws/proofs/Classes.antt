@@ -157,27 +157,27 @@ typed_names s typed =
     record {
       classes = names_of_first (λ (c : ClassInfo). c.name) shape.classes
           (λ n d l.
-            (let e : get_or shape.classes n d ≡ (get_or all n blank).info = get_or-map (λ (e : Entry). e.info) all n blank d (omega arith) in
-            subst (λ (c : ClassInfo). none_before n (position (λ (x : ClassInfo). same_bytes x.name c.name) shape.classes) ≡ true) (sym e)
-            (subst (λ m. none_before m (position (λ (x : ClassInfo). same_bytes x.name (get_or all n blank).info.name) shape.classes) ≡ true) (plus n) (sound n blank (omega arith)).new)));
+          (let e : get_or shape.classes n d ≡ (get_or all n blank).info = get_or-map (λ (e : Entry). e.info) all n blank d (omega arith) in
+          subst (λ (c : ClassInfo). none_before n (position (λ (x : ClassInfo). same_bytes x.name c.name) shape.classes) ≡ true) (sym e)
+          (subst (λ m. none_before m (position (λ (x : ClassInfo). same_bytes x.name (get_or all n blank).info.name) shape.classes) ≡ true) (plus n) (sound n blank (omega arith)).new)));
       events = names_of_first (λ (e : EventInfo). e.name) shape.events
           (λ n d l.
-            (let short : n < length s.events = subst (λ m. n < m) (length-map s.events event_info) l in
-            let none : EventTree = get_or s.events n (no_event s) in
-            let e : get_or shape.events n d ≡ event_info (get_or s.events n (no_event s)) = get_or-map event_info s.events n (no_event s) d short in
-            subst (λ (c : EventInfo). none_before n (position (λ (x : EventInfo). same_bytes x.name c.name) shape.events) ≡ true) (sym e)
-            (subst (λ m. none_before m (position (λ (x : EventInfo). same_bytes x.name (get_or s.events n (no_event s)).name.text) shape.events) ≡ true) (plus n)
-            (events_sound known 0 s.events p.events n (no_event s) short))));
+          (let short : n < length s.events = subst (λ m. n < m) (length-map s.events event_info) l in
+          let none : EventTree = get_or s.events n (no_event s) in
+          let e : get_or shape.events n d ≡ event_info (get_or s.events n (no_event s)) = get_or-map event_info s.events n (no_event s) d short in
+          subst (λ (c : EventInfo). none_before n (position (λ (x : EventInfo). same_bytes x.name c.name) shape.events) ≡ true) (sym e)
+          (subst (λ m. none_before m (position (λ (x : EventInfo). same_bytes x.name (get_or s.events n (no_event s)).name.text) shape.events) ≡ true) (plus n)
+          (events_sound known 0 s.events p.events n (no_event s) short))));
       fields = λ n d l.
           (let e : get_or shape.classes n d ≡ (get_or all n blank).info = get_or-map (λ (e : Entry). e.info) all n blank d (omega arith) in
           subst (λ (c : ClassInfo). all_differ (map (λ (f : FieldInfo). f.name) c.fields) ≡ true) (sym e)
           (names_of_first (λ (f : FieldInfo). f.name) (get_or all n blank).info.fields
           (λ j f k.
-            (let there = fields_at all shape refl n (omega arith) in
-            subst (λ m. none_before m (position (λ (x : FieldInfo). same_bytes x.name (get_or (get_or all n blank).info.fields j f).name) (get_or all n blank).info.fields) ≡ true) (plus j)
-            (subst (λ fs. none_before (0 + j) (position (λ (x : FieldInfo). same_bytes x.name (get_or (get_or all n blank).info.fields j f).name) fs) ≡ true) there
-            (subst (λ m. none_before (0 + j) (position (λ (x : FieldInfo). same_bytes x.name (get_or (get_or all n blank).info.fields j f).name) (declared_fields shape m)) ≡ true) (plus n)
-            ((sound n blank (omega arith)).fields j f k).new))))));
+          (let there = fields_at all shape refl n (omega arith) in
+          subst (λ m. none_before m (position (λ (x : FieldInfo). same_bytes x.name (get_or (get_or all n blank).info.fields j f).name) (get_or all n blank).info.fields) ≡ true) (plus j)
+          (subst (λ fs. none_before (0 + j) (position (λ (x : FieldInfo). same_bytes x.name (get_or (get_or all n blank).info.fields j f).name) fs) ≡ true) there
+          (subst (λ m. none_before (0 + j) (position (λ (x : FieldInfo). same_bytes x.name (get_or (get_or all n blank).info.fields j f).name) (declared_fields shape m)) ≡ true) (plus n)
+          ((sound n blank (omega arith)).fields j f k).new))))));
     }
   where
     no_event : ServiceTree → EventTree

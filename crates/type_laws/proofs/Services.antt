@@ -180,11 +180,12 @@ module _ (known : Known) (methods : List Method) (there : There known methods) w
       let rest : map phase_view fs ≡ resolve_phases (phase_end h p) ps = cc in
       let n = or_zero (class_named h.known p.class) in
       let below : At known n (inside h p) = record { same_known = at.same_known; same_class = refl } in
-      let number : n ≡ f.class.0 = sym (ap (λ (v : PhaseView). v.class) one) in
-      (subst (IsChildClass known.shape class) number (class_child class h at p.at p.class b.0),
-       subst (FitsTree known.shape methods class) (sym (ap (λ (v : PhaseView). v.key) one)) (tree_as known class methods there h at k.Int p.key c.0),
-       subst (λ m. FitsSteps known.shape methods m (steps_in f.body)) number (subst (FitsSteps known.shape methods n) (sym (ap (λ (v : PhaseView). v.body) one)) (stmts_fit known n methods there (inside h p) below (stmts_of p.body) c.1)),
-       subst (λ m. FitsPhases known.shape methods m fs l) number (phases_fit n (phase_end h p) (after_all_at known n (inside h p) below (stmts_of p.body)) ps name kind last fs l rest is a.1 g))
+      let number : n ≡ f.class.0 = sym (ap (λ (v : PhaseView). v.class) one) in (
+        subst (IsChildClass known.shape class) number (class_child class h at p.at p.class b.0),
+        subst (FitsTree known.shape methods class) (sym (ap (λ (v : PhaseView). v.key) one)) (tree_as known class methods there h at k.Int p.key c.0),
+        subst (λ m. FitsSteps known.shape methods m (steps_in f.body)) number (subst (FitsSteps known.shape methods n) (sym (ap (λ (v : PhaseView). v.body) one)) (stmts_fit known n methods there (inside h p) below (stmts_of p.body) c.1)),
+        subst (λ m. FitsPhases known.shape methods m fs l) number (phases_fit n (phase_end h p) (after_all_at known n (inside h p) below (stmts_of p.body)) ps name kind last fs l rest is a.1 g),
+      )
 
   event_fits : (n : ℕ) (e : EventTree) (made : Event) → event_view made ≡ resolve_event known e → first_wrong (event_demands known n e) ≡ None → FitsEvent known.shape methods made
   event_fits n e made is d =
