@@ -1,6 +1,9 @@
 pub mod Arms
 pub mod CallArms
+pub mod Exits
 pub mod Lists
 pub mod Operations
+pub mod Spawns
+pub mod SyntaxNodes
 pub mod TreeRows
 pub mod Walking

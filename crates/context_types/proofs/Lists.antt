@@ -1,5 +1,6 @@
 -- The rules for lists, as one walk from place to place.
 use Rattle.std.proofs.Common.{◌≡◌, ◌==◌, ◌<◌, ◌≤◌, ◌+◌, ℕ, zero, suc, List, [], ◌∷◌, ◌++◌, length, map, get_or, take, drop, Option, Some, None, refl, sym, ap, subst, ◌∙◌, arith}
+use Rattle.std.proofs.lemmas.List.{length-take-le}
 use Rattle.wave_base.specs.declared.value.Kind.{Kind}
 use Rattle.wave_base.specs.declared.value.Kind.TheVariants as k
 use Rattle.mace_ast.specs.declared.expr.Expr.{Expr}
@@ -97,6 +98,12 @@ next_number n x = n + 1
 pub numbers_end : {X : Type 0} (n : ℕ) (xs : List X) → ends next_number n xs ≡ n + length xs
 numbers_end n [] = omega arith
 numbers_end n (x ∷ xs) = let e = numbers_end (n + 1) xs in omega arith
+
+pub number_at : {X : Type 0} (n : ℕ) (xs : List X) (i : ℕ) → i < length xs → ends next_number n (take i xs) ≡ n + i
+number_at n xs i l = numbers_end n (take i xs) ∙ ap (λ m. n + m) (length-take-le i xs (omega arith))
+
+pub at_number : {X : Type 0} (xs : List X) (i : ℕ) → i < length xs → ends next_number 0 (take i xs) ≡ i
+at_number xs i l = let e : 0 + i ≡ i = omega arith in number_at 0 xs i l ∙ e
 
 module _ (known : Known) (class : ℕ) where
   pub fields_walk : (n : ℕ) (fs : List VarDecl) → fields_demands known class n fs ≡ walk next_number (field_asks known class) n fs

@@ -42,7 +42,7 @@ module _ {H X : Type 0} (next : H → X → H) where
     split : (xs : List X) (i : ℕ) (d : X) → i < length xs → xs ≡ take i xs ++ (get_or xs i d ∷ drop (i + 1) xs)
     split [] i d l = absurd (omega arith)
     split (x ∷ xs) zero d l = refl
-    split (x ∷ xs) (suc i) d l = ap (λ ys. x ∷ ys) (split xs i d (omega arith))
+    split (x ∷ xs) (suc i) d l = ap (λ ys. x ∷ ys) (split xs i d (omega arith)) ∙ (let e : suc (i + 1) ≡ suc i + 1 = omega arith in ap (λ n. x ∷ (take i xs ++ (get_or xs i d ∷ drop n (x ∷ xs)))) e)
 
     -- the first item that fails tells
     pub walk_fails : (h : H) (xs : List X) (i : ℕ) (x : X) (e : TypeError) → i < length xs → x ≡ get_or xs i x → first_wrong (walk h (take i xs)) ≡ None → Fails (asks (ends h (take i xs)) x) e

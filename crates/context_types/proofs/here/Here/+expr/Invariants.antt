@@ -22,4 +22,7 @@ abbrev pub decreases-child_call : goal.decreases-child_call
 decreases-child_call l = 4 * goal.size-child_call l + 3
 
 abbrev pub invariant-args-each : goal.invariant-args-each
-invariant-args-each l = ?
+invariant-args-each l = record {
+  holds : first_wrong (walk next_number (arg_asks (here_of l.self) l.kinds) 0 (take l.i l.args)) ≡ None;
+  made : makes next_number (arg_made (here_of l.self) l.kinds) 0 (take l.i l.args) ≡ map tree_of l.trees.items;
+}
