@@ -1,12 +1,13 @@
 ghost use Rattle.std.specs.Prelude.{◌≡◌, map, length};
+ghost use Rattle.std.specs.Option.{option_map};
 ghost use Rattle.mace_ast.specs.Exprs.{expr_tree};
 ghost use Rattle.mace_ast.specs.Stmts as syntax;
-ghost use Rattle.mace_ast.specs.Stmts.{stmt_tree, stmts_of};
+ghost use Rattle.mace_ast.specs.Stmts.{stmt_tree, stmts_of, else_of};
 ghost use Rattle.resolved_service.specs.Steps.{step_of};
 ghost use Rattle.type_rules.specs.Demands.{Judges};
 ghost use Rattle.type_rules.specs.Here.{behind, counted};
 ghost use Rattle.type_rules.specs.Stmts as rules;
-ghost use Rattle.context_types.specs.Places.{here_of, IsStep, AreSteps};
+ghost use Rattle.context_types.specs.Places.{here_of, IsStep, AreSteps, IsOther};
 
 use crate::here::Here;
 use mace_ast::{Action, Expr, Name, Stmt};
@@ -28,10 +29,7 @@ impl Here<'_> {
             Action::If(test, body, other) => {
                 let test = self.expr_of(alloc, Kind::Bool, test)?;
                 let body = self.block(alloc, body)?;
-                let other = match other {
-                    None => None,
-                    Some(other) => Some(self.block(alloc, other)?),
-                };
+                let other = self.other(alloc, other)?;
                 let action = Effect::If(test, body, other);
                 Ok(Step { at, action })
             }
@@ -96,6 +94,21 @@ impl Here<'_> {
         let steps = self.stmts(alloc, body)?;
         self.locals.truncate(before);
         Ok(steps)
+    }
+
+    // What stands behind `else`, if anything.
+    #[cycle(stmt)]
+    fn other(&mut self, alloc: Global, body: &Option<Vec<Stmt>>) -> Result<Option<Vec<Step>>, TypeError>
+        ensures { let h = here_of self.old in let other = else_of (option_map (λ b. map stmt_tree b.items) body.now) in
+            Judges (rules.else_demands h other) (IsOther (rules.after_else h other) (rules.resolve_else h other) self.new) result }
+    {
+        match body {
+            None => Ok(None),
+            Some(body) => {
+                let steps = self.block(alloc, body)?;
+                Ok(Some(steps))
+            }
+        }
     }
 
     // The name of a loop over numbers, with the counter and the bound before it; the slot of the counter.

@@ -16,7 +16,7 @@ returns-in_err-field c =
     exit _ _ _ (err_from_is_err_and c.from_residual.result c.from_residual.ensures.1) (fields_demands known c.args.class 0 c.args.vars.now)
     (fails_same (fields_demands known c.args.class 0 c.args.vars.now) (walk next_number asks 0 c.args.vars.now) _ (ap first_wrong (fields_walk known c.args.class 0 c.args.vars.now))
     (walk_fails next_number asks 0 c.args.vars.now i c.f-item.result _ c.loop-i-test.true c.f-item.is c.loop-i.invariant
-    (subst (λ n. Fails (asks n c.f-item.result) _) (sym (at_number c.args.vars.now i c.loop-i-test.true)) c.in_err-field.ensures)))
+    (subst (λ n. Fails (asks n c.f-item.result) c.in_err-field.field-0.0) (sym (at_number c.args.vars.now i c.loop-i-test.true)) c.in_err-field.ensures)))
 
 pub loop-i-preserved : goal.loop-i-preserved
 loop-i-preserved c =

@@ -1,4 +1,5 @@
 use Rattle.std.proofs.Common.{◌≡◌, ◌==◌, [], ◌∷◌, ◌++◌, map, take, length, get_or, None, Some, refl, sym, ap, subst, ◌∙◌, eq-eqb}
+use Rattle.std.proofs.lemmas.Bool.{lt-ltb}
 use Rattle.std.proofs.lemmas.List.{take_all}
 use Rattle.std.proofs.lemmas.Result.{err_from_is_err_and}
 use Rattle.wave_base.specs.declared.value.Kind.TheVariants as k
@@ -43,7 +44,7 @@ args-returns-in_err-tree t c =
     (fails_past (length kinds == count given) (ArgCount c.args.at) (args_demands h kinds given) _ (eq-eqb _ _ (c.if-kinds-args.false ∙ sym (count_args es)))
     (fails_same (args_demands h kinds given) (walk next_number (arg_asks h kinds) 0 es) _ (ap first_wrong (args_walk h kinds es c.if-kinds-args.false))
     (walk_fails next_number (arg_asks h kinds) 0 es i a _ c.each-test.true c.index-args-i.is c.each.invariant.holds
-    (subst (λ n. Fails (arg_asks h kinds n a) _) (sym (at_number es i c.each-test.true)) c.in_err-tree.ensures))))
+    (subst (λ n. Fails (arg_asks h kinds n a) c.in_err-tree.field-0.0) (sym (at_number es i c.each-test.true)) c.in_err-tree.ensures))))
 
 pub args-each-preserved : goal.args-each-preserved
 args-each-preserved t c =
@@ -72,10 +73,25 @@ args-returns t c =
 -- ---- calls
 
 pub call-returns-in_ok-args-in-Some-Builtin : goal.call-returns-in_ok-args-in-Some-Builtin
-call-returns-in_ok-args-in-Some-Builtin t c = let a = c.in_ok-args-in-Some-Builtin.ensures in let b = c.takes-len.ensures.kinds in let d = c.called.ensures.found in let f = c.in-Some-Builtin.is in let g = c.in-Some-Builtin.row-is in let i = c.in-Some-Builtin.field-0-is in ?
+call-returns-in_ok-args-in-Some-Builtin t c =
+    let h = here_of c.args.self.now in
+    let given = exprs_of (map expr_tree c.args.args.now) in
+    let row = c.in-Some-Builtin.row in
+    let found : called h c.args.name.now ≡ Some (callee.Builtin row) = sym c.called.ensures.found ∙ c.in-Some-Builtin.is ∙ ap Some c.in-Some-Builtin.field-0-is in
+    let made = c.in_ok-args-in-Some-Builtin.ensures in
+    (call_same h c.args.at c.args.name.now given (callee.Builtin row) found refl ∙ ap (λ ks. first_wrong (args_asks h c.args.at ks given)) (sym c.takes-len.ensures.kinds) ∙ made.0,
+     builtin_called h c.args.at c.args.name.now given row c.gives.result c.in_ok-args-in-Some-Builtin.args c.new.result found made.1 c.gives.ensures c.new.ensures.gives c.new.ensures.tree)
 
 pub call-returns-in_ok-args-in-Some-Method : goal.call-returns-in_ok-args-in-Some-Method
-call-returns-in_ok-args-in-Some-Method t c = let a = c.in_ok-args-in-Some-Method.ensures in let b = c.signature-signature.ensures in let d = c.if-method-self.false in let f = c.in-Some-Method.is in let g = c.in-Some-Method.method-is in let i = c.in-Some-Method.field-0-is in let j = c.as_slice.ensures in ?
+call-returns-in_ok-args-in-Some-Method t c =
+    let h = here_of c.args.self.now in
+    let given = exprs_of (map expr_tree c.args.args.now) in
+    let m = c.in-Some-Method.method in
+    let found : called h c.args.name.now ≡ Some (callee.Method m) = sym c.called.ensures.found ∙ c.in-Some-Method.is ∙ ap Some c.in-Some-Method.field-0-is in
+    let made = c.in_ok-args-in-Some-Method.ensures in
+    let params = c.as_slice.ensures ∙ ap (λ s. s.params) c.signature-signature.ensures in
+    (call_same h c.args.at c.args.name.now given (callee.Method m) found (lt-ltb m c.args.self.now.function c.if-method-self.false) ∙ ap (λ ks. first_wrong (args_asks h c.args.at ks given)) (sym params) ∙ made.0,
+     method_called h c.args.at c.args.name.now given m c.in_ok-args-in-Some-Method.args c.new-in-Some-Method.result found made.1 (c.new-in-Some-Method.ensures.gives ∙ ap (λ s. s.result) c.signature-signature.ensures) c.new-in-Some-Method.ensures.tree)
 
 pub child_call-returns : goal.child_call-returns
 child_call-returns t c =

@@ -7,13 +7,16 @@ use Rattle.context_types.proofs.Walking.{ends, walk, makes}
 use Rattle.context_types.proofs.here.Here.+stmt.Given as goal
 
 abbrev pub decreases-stmt : goal.decreases-stmt
-decreases-stmt l = 4 * goal.size-stmt l
+decreases-stmt l = 8 * goal.size-stmt l
 
 abbrev pub decreases-stmts : goal.decreases-stmts
-decreases-stmts l = 4 * goal.size-stmts l + 2
+decreases-stmts l = 8 * goal.size-stmts l + 1
 
 abbrev pub decreases-block : goal.decreases-block
-decreases-block l = 4 * goal.size-block l + 3
+decreases-block l = 8 * goal.size-block l + 2
+
+abbrev pub decreases-other : goal.decreases-other
+decreases-other l = 8 * goal.size-other l + 3
 
 abbrev pub invariant-stmts-each : goal.invariant-stmts-each
 invariant-stmts-each l = record {

@@ -18,7 +18,7 @@ returns-in_err-param c =
     exit _ _ _ (err_from_is_err_and c.from_residual.result c.from_residual.ensures.1) (event_params_demands h ps)
     (fails_same (event_params_demands h ps) (walk next_param event_param_asks h ps) _ (ap first_wrong (event_params_walk h ps))
     (walk_fails next_param event_param_asks h ps c.loop-param.param-index p _ c.loop-param-test.true c.param-item.is c.loop-param.invariant.holds
-    (subst (λ g. Fails (event_param_asks g p) _) (sym c.loop-param.invariant.place) (fails_front (param_asks (here_of c.loop-param.self) p) (no_map p) _ c.in_err-param.ensures))))
+    (subst (λ g. Fails (event_param_asks g p) c.in_err-param.field-0.0) (sym c.loop-param.invariant.place) (fails_front (param_asks (here_of c.loop-param.self) p) (no_map p) _ c.in_err-param.ensures))))
 
 pub returns-then-same_kind : goal.returns-then-same_kind
 returns-then-same_kind c = let a = c.if-same_kind.true in let b = c.same_kind.ensures in ?

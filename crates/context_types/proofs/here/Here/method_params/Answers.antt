@@ -18,7 +18,7 @@ returns-in_err-param c =
     exit _ _ _ (err_from_is_err_and c.from_residual.result c.from_residual.ensures.1) (method_params_demands h ps)
     (fails_same (method_params_demands h ps) (walk next_param param_asks h ps) _ (ap first_wrong (method_params_walk h ps))
     (walk_fails next_param param_asks h ps c.loop-param.param-index p _ c.loop-param-test.true c.param-item.is c.loop-param.invariant.holds
-    (subst (λ g. Fails (param_asks g p) _) (sym c.loop-param.invariant.place) c.in_err-param.ensures)))
+    (subst (λ g. Fails (param_asks g p) c.in_err-param.field-0.0) (sym c.loop-param.invariant.place) c.in_err-param.ensures)))
 
 pub loop-param-preserved : goal.loop-param-preserved
 loop-param-preserved c =
