@@ -1,8 +1,10 @@
 pub mod Arms
 pub mod CallArms
 pub mod Exits
+pub mod FunctionArms
 pub mod Lists
 pub mod Operations
+pub mod ServiceArms
 pub mod Spawns
 pub mod SyntaxNodes
 pub mod TreeRows

@@ -1,20 +1,23 @@
-ghost use Rattle.std.specs.Prelude.{◌≡◌, length, map};
-ghost use Rattle.std.specs.Option.{option_map};
+ghost use Rattle.std.specs.Prelude.{◌≡◌, ◌&&◌, is_none, length, map};
+ghost use Rattle.std.specs.Option.{option_map, option_map_or};
+ghost use Rattle.value_ops.specs.Rows.{wave_rows, first_builtin};
 ghost use Rattle.mace_ast.specs.Decls.{last_tree, method_tree, phase_tree, event_tree};
+ghost use Rattle.mace_ast.specs.Stmts.{stmt_tree, stmts_of, no_stmts};
 ghost use Rattle.type_rules.specs.Demands.{Judges};
 ghost use Rattle.type_rules.specs.Here as places;
 ghost use Rattle.type_rules.specs.Known as known;
+ghost use Rattle.type_rules.specs.Stmts.{after_all, resolve_stmts, stmts_demands};
 ghost use Rattle.type_rules.specs.Functions as rules;
 ghost use Rattle.type_rules.specs.Views.{last_view, method_view, phase_view, event_view};
-ghost use Rattle.context_types.specs.Places.{here_of};
+ghost use Rattle.context_types.specs.Places.{here_of, AreSteps};
 
 use crate::here::Here;
-use mace_ast::{EventDecl, Last as LastDecl, MethodDecl, Name, Phase as PhaseDecl};
-use resolved_service::{Event, Last, Method, Phase};
+use mace_ast::{EventDecl, Last as LastDecl, MethodDecl, Name, Phase as PhaseDecl, Stmt};
+use resolved_service::{Event, Last, Method, Phase, Stmt as Step};
 use std::alloc::Global;
 use type_rules::TypeError;
 use type_tables::{Tables, kinds_of};
-use wave_base::{Class, Kind, Seq};
+use wave_base::{Class, Kind, Seq, Txt};
 
 /// Whether nothing before the n-th has a name, by the first that has it.
 pub fn none_before(n: usize, first: Option<u16>) -> bool
@@ -24,6 +27,16 @@ pub fn none_before(n: usize, first: Option<u16>) -> bool
         None => true,
         Some(first) => n <= first as usize,
     }
+}
+
+// Whether a class's method with a number may have a name: no earlier one has it, and no builtin.
+fn is_free(tables: &Tables, class: u16, number: usize, name: &Txt) -> bool
+    ensures { result ≡ (known.none_before number (known.method_named tables.now class name.now) && is_none (first_builtin wave_rows name.now)) }
+{
+    if !none_before(number, tables.method(class, name)) {
+        return false;
+    }
+    tables.operators().builtin(name.bytes()).is_none()
 }
 
 /// A class's method with a number among all methods.
@@ -37,8 +50,7 @@ pub fn method(
     ensures { Judges (rules.method_demands tables.now class number (method_tree m.now)) (λ made. rules.resolve_method tables.now class number (method_tree m.now) ≡ method_view made) result }
 {
     let name = &m.name.text;
-    let is_new = none_before(number, tables.method(class, name));
-    if !is_new || tables.operators().builtin(name.bytes()).is_some() {
+    if !is_free(tables, class, number, name) {
         return Err(TypeError::Duplicate(m.name.at));
     }
     let mut here = Here::start(alloc, tables, class, number);
@@ -66,10 +78,7 @@ pub fn event(alloc: Global, tables: &Tables, number: usize, e: &EventDecl) -> Re
     }
     let mut here = Here::start(alloc, tables, 0, tables.method_count());
     here.event_params(alloc, e.params.as_slice())?;
-    let first = match &e.here {
-        None => Vec::new(alloc),
-        Some(body) => here.stmts(alloc, body.as_slice())?,
-    };
+    let first = here.first(alloc, &e.here)?;
     let phases = here.phases(alloc, e.phases.as_slice())?;
     let last = here.last(alloc, &e.name, e.result, &e.last)?;
     Ok(Event {
@@ -106,6 +115,17 @@ impl<'t> Here<'t> {
             slots,
         } = self;
         Seq::from_vec(slots)
+    }
+
+    // The statements at the root, if any are written.
+    fn first(&mut self, alloc: Global, body: &Option<Seq<Stmt>>) -> Result<Vec<Step>, TypeError>
+        ensures { let ss = option_map_or stmts_of (option_map (map stmt_tree) body.now) no_stmts in
+            Judges (stmts_demands (here_of self.old) ss) (λ steps. AreSteps (after_all (here_of self.old) ss) (resolve_stmts (here_of self.old) ss) self.new steps.items) result }
+    {
+        match body {
+            None => Ok(Vec::new(alloc)),
+            Some(body) => self.stmts(alloc, body.as_slice()),
+        }
     }
 
     // What is returned or replied, by the kind that is to be.

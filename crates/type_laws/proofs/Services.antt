@@ -44,12 +44,12 @@ module _ (known : Known) where
   methods_signed class n (m ∷ ms) = ap (λ l. signature class m ∷ l) (methods_signed class (n + 1) ms)
 
   mutual
-    context_signed : (class n : ℕ) (c : ContextTree) → map sig_of (resolve_context known class n c) ≡ methods_of class c
+    pub context_signed : (class n : ℕ) (c : ContextTree) → map sig_of (resolve_context known class n c) ≡ methods_of class c
     context_signed class n (Context at name vars contexts methods) =
         map-append sig_of (resolve_contexts known (class + 1) n contexts) (resolve_methods known class (n + length (methods_in (class + 1) contexts)) methods)
         ∙ (λ i. contexts_signed (class + 1) n contexts i ++ methods_signed class (n + length (methods_in (class + 1) contexts)) methods i)
 
-    contexts_signed : (class n : ℕ) (cs : ContextTrees) → map sig_of (resolve_contexts known class n cs) ≡ methods_in class cs
+    pub contexts_signed : (class n : ℕ) (cs : ContextTrees) → map sig_of (resolve_contexts known class n cs) ≡ methods_in class cs
     contexts_signed class n no_contexts = refl
     contexts_signed class n (context_and c cs) =
         map-append sig_of (resolve_context known class n c) (resolve_contexts known (class + class_count c) (n + length (methods_of class c)) cs)
