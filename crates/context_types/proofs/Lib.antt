@@ -6,6 +6,8 @@ pub mod Lists
 pub mod Operations
 pub mod ServiceArms
 pub mod Spawns
+pub mod StmtArms
+pub mod StmtNodes
 pub mod SyntaxNodes
 pub mod TreeRows
 pub mod Walking
