@@ -4,6 +4,8 @@ pub mod Exits
 pub mod FunctionArms
 pub mod Lists
 pub mod Operations
+pub mod Puts
+pub mod Scopes
 pub mod ServiceArms
 pub mod Spawns
 pub mod StmtArms

@@ -26,6 +26,11 @@ Walks h p a answer = Judges (stmt_demands h a) (IsStep (after h a) (resolve_stmt
 pub walks_as : (h : Here) (p : place.Here) (a b : StmtTree) (answer : Result Stmt TypeError) → a ≡ b → Walks h p b answer → Walks h p a answer
 walks_as h p a b answer same w = subst (λ x. Walks h p x answer) (sym same) w
 
+pub walks_ok : (h : Here) (p : place.Here) (a b : StmtTree) (made : Stmt) → a ≡ b → first_wrong (stmt_demands h b) ≡ None → IsStep (after h b) (resolve_stmt h b) p made
+    → (first_wrong (stmt_demands h a) ≡ None) × IsStep (after h a) (resolve_stmt h a) p made
+walks_ok h p a b made same holds is =
+    (ap (λ x. first_wrong (stmt_demands h x)) same ∙ holds, subst (λ x. IsStep (after h x) (resolve_stmt h x) p made) (sym same) is)
+
 module _ (h : Here) (at : Span) (test : ExprTree) (body : StmtTrees) where
   abbrev Test : List Demand
   Test = demands_as h k.Bool test
