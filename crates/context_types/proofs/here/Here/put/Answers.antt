@@ -3,11 +3,12 @@ use Rattle.std.specs.Option.{option_map}
 use Rattle.std.proofs.lemmas.Result.{err_from_is_err_and}
 use Rattle.wave_base.specs.declared.value.Kind.TheVariants as k
 use Rattle.mace_ast.specs.Exprs.{expr_tree}
+use Rattle.resolved_service.specs.Steps.{action_step}
 use Rattle.resolved_service.specs.View.{tree_of}
 use Rattle.type_rules.specs.Demands.{Fails}
 use Rattle.type_rules.specs.Here.{variable_kind}
 use Rattle.type_rules.specs.Exprs.{demands_as}
-use Rattle.type_rules.specs.Stmts.{target_asks, target_kind, key_demands, set_demands}
+use Rattle.type_rules.specs.Stmts.{target_asks, target_kind, key_demands, set_demands, set_step}
 use Rattle.type_rules.proofs.First.{fails_front, fails_behind}
 use Rattle.context_types.specs.Places.{here_of}
 use Rattle.context_types.proofs.Exits.{exit}
@@ -34,4 +35,7 @@ returns c =
     let value = expr_tree c.args.value.now in
     let holds = put_holds h c.args.at c.args.target.now key value c.in_ok-map.map c.in_ok-map.ensures.0 c.in_ok-map.ensures.1 c.in_ok-key.ensures.0 c.in_ok-value.ensures.0 in
     let made = put_made h c.args.at c.args.target.now key value (tree_of c.in_ok-key.key) (tree_of c.in_ok-value.value) c.in_ok-key.ensures.1 c.in_ok-value.ensures.1 c.in_ok-map.map c.in_ok-map.ensures.1 in
-    elim c.match-map.branch [ in-Local w ↦ let a = w.in-Local.is in let b = w.action-is in ? | in-Field w ↦ let a = w.in-Field.is in let b = w.action-is in ? ]
+    elim c.match-map.branch [ 
+      | in-Local w ↦ (holds, made ∙ ap (λ x. set_step c.args.at (Some x) (Some (tree_of c.in_ok-key.key)) (tree_of c.in_ok-value.value)) w.in-Local.is ∙ sym (ap (λ a. action_step a c.args.at) w.action-is))
+      | in-Field w ↦ (holds, made ∙ ap (λ x. set_step c.args.at (Some x) (Some (tree_of c.in_ok-key.key)) (tree_of c.in_ok-value.value)) w.in-Field.is ∙ sym (ap (λ a. action_step a c.args.at) w.action-is))
+    ]
