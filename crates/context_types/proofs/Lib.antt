@@ -1,5 +1,6 @@
 pub mod Arms
 pub mod CallArms
+pub mod Checked
 pub mod Exits
 pub mod FunctionArms
 pub mod Lists
@@ -13,3 +14,4 @@ pub mod StmtNodes
 pub mod SyntaxNodes
 pub mod TreeRows
 pub mod Walking
+pub mod Whole

@@ -49,7 +49,7 @@ pub fn check(alloc: Global, service: Service) -> Result<Typed, TypeError>
 
 // All of a service, in the order of its text.
 fn all(alloc: Global, tables: &Tables, service: &Service) -> Result<Resolved, TypeError>
-    requires { length tables.now.shape.classes < 2 ^ 16 }
+    requires { 1 + known.classes_count (contexts_of (map context_tree service.now.contexts)) < 2 ^ 16 }
     ensures { Judges (rules.demands_with tables.now (service_tree service.now)) (λ made. rules.resolve_with tables.now (service_tree service.now) ≡ resolved_view made) result }
 {
     let mut made = Vec::new(alloc);

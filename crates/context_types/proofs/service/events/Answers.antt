@@ -16,10 +16,10 @@ returns-in_err-e c =
     let known = c.args.tables.now in
     let es = c.args.decls.now in
     let i = c.loop-i.i in
-    let e = c.e-item.result in
+    let e = c.index-decls-i.result in
     exit _ _ _ (err_from_is_err_and c.from_residual.result c.from_residual.ensures.1) (events_demands known 0 (map event_tree es))
     (fails_same (events_demands known 0 (map event_tree es)) (walk next_number (event_asks known) 0 es) c.in_err-e.field-0.0 (ap first_wrong (events_walk known 0 es))
-    (walk_fails next_number (event_asks known) 0 es i e c.in_err-e.field-0.0 c.loop-i-test.true c.e-item.is c.loop-i.invariant.holds
+    (walk_fails next_number (event_asks known) 0 es i e c.in_err-e.field-0.0 c.loop-i-test.true c.index-decls-i.is c.loop-i.invariant.holds
     (subst (λ k. Fails (event_asks known k e) c.in_err-e.field-0.0) (sym (at_number es i c.loop-i-test.true)) c.in_err-e.ensures)))
 
 pub loop-i-preserved : goal.loop-i-preserved
@@ -27,11 +27,11 @@ loop-i-preserved c =
     let known = c.args.tables.now in
     let es = c.args.decls.now in
     let i = c.loop-i.i in
-    let e = c.e-item.result in
+    let e = c.index-decls-i.result in
     let is = c.loop-i.invariant in
     record {
-      holds = walk_more next_number (event_asks known) 0 es i e c.loop-i-test.true c.e-item.is is.holds (ap (λ k. first_wrong (event_asks known k e)) (at_number es i c.loop-i-test.true) ∙ c.in_ok-e.ensures.0);
-      made = made_more next_number (event_made known) event_view 0 es i e c.loop-i.made.items c.push.new.self.items c.in_ok-e.e c.loop-i-test.true c.e-item.is is.made c.in_ok-e.ensures.1 c.in_ok-push.ensures.items;
+      holds = walk_more next_number (event_asks known) 0 es i e c.loop-i-test.true c.index-decls-i.is is.holds (ap (λ k. first_wrong (event_asks known k e)) (at_number es i c.loop-i-test.true) ∙ c.in_ok-e.ensures.0);
+      made = made_more next_number (event_made known) event_view 0 es i e c.loop-i.made.items c.push.new.self.items c.in_ok-e.e c.loop-i-test.true c.index-decls-i.is is.made c.in_ok-e.ensures.1 c.in_ok-push.ensures.items;
     }
 
 pub returns : goal.returns

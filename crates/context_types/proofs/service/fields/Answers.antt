@@ -15,14 +15,14 @@ returns-in_err-field c =
     let i = c.loop-i.i in
     exit _ _ _ (err_from_is_err_and c.from_residual.result c.from_residual.ensures.1) (fields_demands known c.args.class 0 c.args.vars.now)
     (fails_same (fields_demands known c.args.class 0 c.args.vars.now) (walk next_number asks 0 c.args.vars.now) _ (ap first_wrong (fields_walk known c.args.class 0 c.args.vars.now))
-    (walk_fails next_number asks 0 c.args.vars.now i c.f-item.result _ c.loop-i-test.true c.f-item.is c.loop-i.invariant
-    (subst (λ n. Fails (asks n c.f-item.result) c.in_err-field.field-0.0) (sym (at_number c.args.vars.now i c.loop-i-test.true)) c.in_err-field.ensures)))
+    (walk_fails next_number asks 0 c.args.vars.now i c.index-vars-i.result _ c.loop-i-test.true c.index-vars-i.is c.loop-i.invariant
+    (subst (λ n. Fails (asks n c.index-vars-i.result) c.in_err-field.field-0.0) (sym (at_number c.args.vars.now i c.loop-i-test.true)) c.in_err-field.ensures)))
 
 pub loop-i-preserved : goal.loop-i-preserved
 loop-i-preserved c =
     let asks = field_asks c.args.tables.now c.args.class in
-    walk_more next_number asks 0 c.args.vars.now c.loop-i.i c.f-item.result c.loop-i-test.true c.f-item.is c.loop-i.invariant
-    (ap (λ n. first_wrong (asks n c.f-item.result)) (at_number c.args.vars.now c.loop-i.i c.loop-i-test.true) ∙ c.in_ok-field.ensures.0)
+    walk_more next_number asks 0 c.args.vars.now c.loop-i.i c.index-vars-i.result c.loop-i-test.true c.index-vars-i.is c.loop-i.invariant
+    (ap (λ n. first_wrong (asks n c.index-vars-i.result)) (at_number c.args.vars.now c.loop-i.i c.loop-i-test.true) ∙ c.in_ok-field.ensures.0)
 
 pub returns : goal.returns
 returns c =

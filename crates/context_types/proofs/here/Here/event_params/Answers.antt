@@ -1,6 +1,9 @@
-use Rattle.std.proofs.Common.{◌≡◌, take, sym, ap, subst, ◌∙◌, refl}
+use Rattle.std.proofs.Common.{◌≡◌, not, [], take, sym, ap, subst, ◌∙◌, refl}
 use Rattle.std.proofs.lemmas.List.{take_all}
 use Rattle.std.proofs.lemmas.Result.{err_from_is_err_and}
+use Rattle.wave_base.specs.declared.value.Kind.TheVariants as k
+use Rattle.type_rules.specs.declared.error.TypeError.TheVariants.{Mismatch}
+use Rattle.type_rules.specs.Kinds.{same_kind}
 use Rattle.type_rules.specs.Demands.{first_wrong, Fails}
 use Rattle.type_rules.specs.Functions.{param_asks, no_map, event_params_demands}
 use Rattle.type_rules.proofs.First.{fails_same, fails_front, fails_behind, fails_at, holds_both, told_past}
@@ -21,10 +24,28 @@ returns-in_err-param c =
     (subst (λ g. Fails (event_param_asks g p) c.in_err-param.field-0.0) (sym c.loop-param.invariant.place) (fails_front (param_asks (here_of c.loop-param.self) p) (no_map p) _ c.in_err-param.ensures))))
 
 pub returns-then-same_kind : goal.returns-then-same_kind
-returns-then-same_kind c = let a = c.if-same_kind.true in let b = c.same_kind.ensures in ?
+returns-then-same_kind c =
+    let h = here_of c.args.self.now in
+    let ps = c.args.params.now in
+    let p = c.param-item.result in
+    let w = Mismatch p.name.at in
+    let is = c.loop-param.invariant in
+    fails_same (event_params_demands h ps) (walk next_param event_param_asks h ps) w (ap first_wrong (event_params_walk h ps))
+    (walk_fails next_param event_param_asks h ps c.loop-param.param-index p w c.loop-param-test.true c.param-item.is is.holds
+    (subst (λ g. Fails (event_param_asks g p) w) (sym is.place)
+    (fails_behind (param_asks (here_of c.loop-param.self) p) (no_map p) w c.in_ok-param.ensures.0 (fails_at (not (same_kind p.kind k.Map)) w [] (ap not (sym c.same_kind.ensures ∙ c.if-same_kind.true))))))
 
 pub loop-param-preserved : goal.loop-param-preserved
-loop-param-preserved c = let a = c.if-same_kind.false in let b = c.same_kind.ensures in ?
+loop-param-preserved c =
+    let h = here_of c.args.self.now in
+    let ps = c.args.params.now in
+    let p = c.param-item.result in
+    let is = c.loop-param.invariant in
+    let here = holds_both (param_asks (here_of c.loop-param.self) p) (no_map p) c.in_ok-param.ensures.0 (told_past (not (same_kind p.kind k.Map)) (Mismatch p.name.at) [] (ap not (sym c.same_kind.ensures ∙ c.if-same_kind.false))) in
+    record {
+      holds = walk_more next_param event_param_asks h ps c.loop-param.param-index p c.loop-param-test.true c.param-item.is is.holds (ap (λ g. first_wrong (event_param_asks g p)) is.place ∙ here);
+      place = ends_more next_param h ps c.loop-param.param-index p c.loop-param-test.true c.param-item.is ∙ ap (λ g. next_param g p) is.place ∙ c.in_ok-param.ensures.1;
+    }
 
 pub returns : goal.returns
 returns c =
