@@ -73,7 +73,7 @@ fn contexts(
     decls: &[ContextDecl],
     made: &mut Vec<Method>,
 ) -> Result<u16, TypeError>
-    requires { first + known.classes_count (contexts_of (map context_tree decls.now)) < 2 ^ 16 }
+    requires room { first + known.classes_count (contexts_of (map context_tree decls.now)) < 2 ^ 16 }
     ensures { let cs = contexts_of (map context_tree decls.now) in
         Judges (rules.contexts_demands tables.now first (length made.old.items) cs)
         (λ next. (next ≡ first + known.classes_count cs) × (map method_view made.new.items ≡ map method_view made.old.items ++ rules.resolve_contexts tables.now first (length made.old.items) cs)) result }
@@ -93,7 +93,7 @@ fn context(
     c: &ContextDecl,
     made: &mut Vec<Method>,
 ) -> Result<u16, TypeError>
-    requires { class + known.class_count (context_tree c.now) < 2 ^ 16 }
+    requires room { class + known.class_count (context_tree c.now) < 2 ^ 16 }
     ensures { Judges (rules.context_demands tables.now class (length made.old.items) (context_tree c.now))
         (λ next. (next ≡ class + known.class_count (context_tree c.now)) × (map method_view made.new.items ≡ map method_view made.old.items ++ rules.resolve_context tables.now class (length made.old.items) (context_tree c.now))) result }
 {

@@ -1,4 +1,4 @@
-use Rattle.std.proofs.Common.{◌≡◌, ◌+◌, ◌++◌, ◌∷◌, [], length, map, take, sym, ap, subst, ◌∙◌, append_assoc, arith, rules, ◌<◌}
+use Rattle.std.proofs.Common.{ℕ, ◌≡◌, ◌+◌, ◌++◌, ◌∷◌, [], length, map, take, sym, ap, subst, ◌∙◌, append_assoc, arith, ◌<◌}
 use Rattle.std.proofs.lemmas.List.{take_all}
 use Rattle.std.proofs.lemmas.Result.{err_from_is_err_and}
 use Rattle.mace_ast.specs.declared.context.ContextDecl.{out-ContextDecl}
@@ -80,15 +80,14 @@ context-returns-in_err-methods t c =
     (own_fails known class n name vars cs ms named fields inner e (subst (λ ds. Fails ds e) (λ i. methods_demands known class (count i) (map method_tree (c.as_slice-2.ensures i))) c.in_err-methods.ensures)))
 
 pub context-overflow_add-class : goal.context-overflow_add-class
-context-overflow_add-class t c = let e = ap class_count (tree_parts c.args.c.now) in let r = c.requires in omega arith
+context-overflow_add-class t c = let e = ap class_count (tree_parts c.args.c.now) in let r = c.requires.room in omega arith
 
-pub context-contexts-requires : goal.context-contexts-requires
-context-contexts-requires t c =
+pub context-contexts-requires-clause-room : goal.context-contexts-requires-clause-room
+context-contexts-requires-clause-room t c =
     let e = ap class_count (tree_parts c.args.c.now) in
     let f = ap (λ l. classes_count (contexts_of (map context_tree l))) c.deref.ensures.value in
-    let r = c.requires in
-    let room : c.args.class + 1 + classes_count (contexts_of (map context_tree c.deref.result.now)) < 65536 = omega arith in
-    search (rules, room)
+    let r = c.requires.room in
+    omega arith
 
 pub context-returns : goal.context-returns
 context-returns t c =
@@ -119,23 +118,22 @@ context-returns t c =
 
 -- ---- contexts one after the other
 
-pub contexts-context-requires : goal.contexts-context-requires
-contexts-context-requires t c =
+pub contexts-context-requires-clause-room : goal.contexts-context-requires-clause-room
+contexts-context-requires-clause-room t c =
     let known = c.args.tables.now in
     let n = length c.args.made.now.items in
-    let at = (c.args.first, n) in
+    let at : ℕ × ℕ = (c.args.first, n) in
     let cs = c.args.decls.now in
     let i = c.each.c-index in
     let is = c.each.invariant in
     let x = c.c-item.result in
-    let room : c.each.next + class_count (context_tree x) < 65536 = subst (λ m. m + class_count (context_tree x) < 65536) (ap (λ p. p.0) is.place) (class_room at cs i x c.each-test.true c.c-item.is c.requires) in
-    search (rules, room)
+    subst (λ m. m + class_count (context_tree x) < 65536) (ap (λ p. p.0) is.place) (class_room at cs i x c.each-test.true c.c-item.is c.requires.room)
 
 pub contexts-returns-in_err-next : goal.contexts-returns-in_err-next
 contexts-returns-in_err-next t c =
     let known = c.args.tables.now in
     let n = length c.args.made.now.items in
-    let at = (c.args.first, n) in
+    let at : ℕ × ℕ = (c.args.first, n) in
     let cs = c.args.decls.now in
     let i = c.each.c-index in
     let is = c.each.invariant in
@@ -150,7 +148,7 @@ pub contexts-each-preserved : goal.contexts-each-preserved
 contexts-each-preserved t c =
     let known = c.args.tables.now in
     let n = length c.args.made.now.items in
-    let at = (c.args.first, n) in
+    let at : ℕ × ℕ = (c.args.first, n) in
     let cs = c.args.decls.now in
     let i = c.each.c-index in
     let is = c.each.invariant in
@@ -168,7 +166,7 @@ pub contexts-returns : goal.contexts-returns
 contexts-returns t c =
     let known = c.args.tables.now in
     let n = length c.args.made.now.items in
-    let at = (c.args.first, n) in
+    let at : ℕ × ℕ = (c.args.first, n) in
     let cs = c.args.decls.now in
     let i = c.each.c-index in
     let is = c.each.invariant in

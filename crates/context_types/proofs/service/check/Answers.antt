@@ -6,6 +6,9 @@ use Rattle.type_rules.specs.Views.{resolved_view}
 use Rattle.context_types.proofs.Checked.{room, told, fails_alike, shape_is, resolved_is, is_typed, is_shape, differs, service_fits}
 use Rattle.context_types.proofs.service.check.Goals as goal
 
+pub all-requires : goal.all-requires
+all-requires c = room (service_tree c.args.service) c.in_ok-tables.tables c.in_ok-tables.ensures.known c.in_ok-tables.ensures.few_classes
+
 pub returns-in_err-resolved-clause-err : goal.returns-in_err-resolved-clause-err
 returns-in_err-resolved-clause-err c =
     let s = service_tree c.args.service in
@@ -26,7 +29,7 @@ returns-clause-shape c =
     let known = c.in_ok-tables.tables in
     let is = c.in_ok-tables.ensures.known in
     let made = c.in_ok-resolved.ensures in
-    c.into_shape.ensures ∙ shape_is s known is
+    c.into_shape-shape.ensures ∙ shape_is s known is
 
 pub returns-clause-resolved : goal.returns-clause-resolved
 returns-clause-resolved c =
@@ -42,7 +45,7 @@ returns-clause-well_formed c =
     let known = c.in_ok-tables.tables in
     let is = c.in_ok-tables.ensures.known in
     let made = c.in_ok-resolved.ensures in
-    is_shape s known is made.0 c.into_shape.result c.into_shape.ensures c.in_ok-tables.ensures.few_classes c.in_ok-tables.ensures.few_events
+    is_shape s known is made.0 c.into_shape-shape.result c.into_shape-shape.ensures c.in_ok-tables.ensures.few_classes c.in_ok-tables.ensures.few_events
 
 pub returns-clause-names : goal.returns-clause-names
 returns-clause-names c =
@@ -50,7 +53,7 @@ returns-clause-names c =
     let known = c.in_ok-tables.tables in
     let is = c.in_ok-tables.ensures.known in
     let made = c.in_ok-resolved.ensures in
-    differs s known is made.0 c.into_shape.result c.into_shape.ensures
+    differs s known is made.0 c.into_shape-shape.result c.into_shape-shape.ensures
 
 pub returns-clause-fits : goal.returns-clause-fits
 returns-clause-fits c =
@@ -58,4 +61,4 @@ returns-clause-fits c =
     let known = c.in_ok-tables.tables in
     let is = c.in_ok-tables.ensures.known in
     let made = c.in_ok-resolved.ensures in
-    service_fits s known is made.0 c.into_shape.result c.in_ok-resolved.resolved c.into_shape.ensures made.1
+    service_fits s known is made.0 c.into_shape-shape.result c.in_ok-resolved.resolved c.into_shape-shape.ensures made.1
