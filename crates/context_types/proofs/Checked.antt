@@ -1,30 +1,20 @@
 -- A service that was walked through.
 use Rattle.std.proofs.Common.{◌≡◌, ◌<◌, ◌^◌, ◌+◌, ℕ, ◌∷◌, [], length, map, List, Option, None, Result, Err, sym, ap, subst, ◌∙◌, arith}
 use Rattle.std.specs.Prelude.{IfErr}
-use Rattle.std.proofs.lemmas.List.{length-map}
 use Rattle.wave_base.specs.declared.shape.Shape.{Shape}
 use Rattle.wave_base.specs.Shapes.{IsShape}
-use Rattle.mace_ast.specs.Decls.{ServiceTree, contexts_of}
+use Rattle.mace_ast.specs.Decls.{ServiceTree}
 use Rattle.resolved_service.specs.declared.service.Resolved.{Resolved}
 use Rattle.resolved_service.specs.Fits.{FitsService}
 use Rattle.type_rules.specs.declared.error.TypeError.{TypeError}
 use Rattle.type_rules.specs.declared.known.Known.{Known}
 use Rattle.type_rules.specs.Demands.{Demand, first_wrong, Fails}
-use Rattle.type_rules.specs.Known.{Entry, classes_count, service_classes, shape_of, known_of}
+use Rattle.type_rules.specs.Known.{shape_of, known_of}
 use Rattle.type_rules.specs.Services.{ResolvedView, demands_with, service_demands, resolve_with, resolve_service, IsTyped}
 use Rattle.type_rules.specs.Views.{resolved_view}
 use Rattle.type_laws.specs.Differ.{NamesDiffer}
 use Rattle.type_laws.proofs.Classes.{typed_shape, typed_names}
 use Rattle.type_laws.proofs.Services.{typed_fits}
-use Rattle.type_laws.proofs.Sound.{count_in}
-
--- there is room for the classes of a service, where there was for those that are known
-pub room : (s : ServiceTree) (known : Known) → known ≡ known_of s → length known.shape.classes < 2 ^ 16 → 1 + classes_count (contexts_of s.contexts) < 2 ^ 16
-unfolding known_of shape_of
-room s known is few =
-    let all = ap (λ (k : Known). length k.shape.classes) is ∙ length-map (service_classes s) (λ (e : Entry). e.info) in
-    let inner = count_in (0 ∷ []) 0 1 (contexts_of s.contexts) in
-    omega arith
 
 pub told : {A : Type 0} (r : Result A TypeError) (e : TypeError) → ((y : TypeError) × (r ≡ Err y) × (y ≡ e)) → (asked : List Demand) → Fails asked e → IfErr r (λ w. Fails asked w)
 told r e same asked f = subst (λ x. IfErr x (λ w. Fails asked w)) (sym same.1) (subst (Fails asked) (sym same.2) f)

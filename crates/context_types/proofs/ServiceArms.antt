@@ -73,27 +73,9 @@ module _ (known : Known) where
 
 -- ---- numbers of classes
 
-count_both : (cs ds : List ContextDecl) → classes_count (contexts_of (map context_tree (cs ++ ds))) ≡ classes_count (contexts_of (map context_tree cs)) + classes_count (contexts_of (map context_tree ds))
-count_both [] ds = omega arith
-count_both (c ∷ cs) ds = let e = count_both cs ds in omega arith
-
 pub class_at : (at : ℕ × ℕ) (cs : List ContextDecl) → (ends next_context at cs).0 ≡ at.0 + classes_count (contexts_of (map context_tree cs))
 class_at at [] = omega arith
 class_at at (c ∷ cs) = let e = class_at (next_context at c) cs in omega arith
-
--- a class that is still to come has room
-pub class_room : (at : ℕ × ℕ) (cs : List ContextDecl) (i : ℕ) (c : ContextDecl) → i < length cs → c ≡ get_or cs i c → at.0 + classes_count (contexts_of (map context_tree cs)) < 2 ^ 16
-    → (ends next_context at (take i cs)).0 + class_count (context_tree c) < 2 ^ 16
-class_room at cs i c l is room =
-    let whole : cs ≡ take i cs ++ (c ∷ drop (i + 1) cs) = split cs i c l ∙ ap (λ x. take i cs ++ (x ∷ drop (i + 1) cs)) (sym is) in
-    let counted = ap (λ xs. classes_count (contexts_of (map context_tree xs))) whole ∙ count_both (take i cs) (c ∷ drop (i + 1) cs) in
-    let here = class_at at (take i cs) in
-    omega arith
-  where
-    split : (xs : List ContextDecl) (i : ℕ) (d : ContextDecl) → i < length xs → xs ≡ take i xs ++ (get_or xs i d ∷ drop (i + 1) xs)
-    split [] i d l = absurd (omega arith)
-    split (x ∷ xs) zero d l = refl
-    split (x ∷ xs) (suc i) d l = ap (λ ys. x ∷ ys) (split xs i d (omega arith)) ∙ (let e : suc (i + 1) ≡ suc i + 1 = omega arith in ap (λ n. x ∷ (take i xs ++ (get_or xs i d ∷ drop n (x ∷ xs)))) e)
 
 -- ---- a context by its parts
 

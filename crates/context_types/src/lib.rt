@@ -13,3 +13,6 @@ mod stmts;
 
 pub use service::{Typed, check};
 pub use type_rules::{TypeError, Which};
+
+#[cfg(test)]
+mod tests;

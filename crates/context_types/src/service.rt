@@ -49,7 +49,6 @@ pub fn check(alloc: Global, service: Service) -> Result<Typed, TypeError>
 
 // All of a service, in the order of its text.
 fn all(alloc: Global, tables: &Tables, service: &Service) -> Result<Resolved, TypeError>
-    requires { 1 + known.classes_count (contexts_of (map context_tree service.now.contexts)) < 2 ^ 16 }
     ensures { Judges (rules.demands_with tables.now (service_tree service.now)) (λ made. rules.resolve_with tables.now (service_tree service.now) ≡ resolved_view made) result }
 {
     let mut made = Vec::new(alloc);
@@ -73,7 +72,6 @@ fn contexts(
     decls: &[ContextDecl],
     made: &mut Vec<Method>,
 ) -> Result<u16, TypeError>
-    requires room { first + known.classes_count (contexts_of (map context_tree decls.now)) < 2 ^ 16 }
     ensures { let cs = contexts_of (map context_tree decls.now) in
         Judges (rules.contexts_demands tables.now first (length made.old.items) cs)
         (λ next. (next ≡ first + known.classes_count cs) × (map method_view made.new.items ≡ map method_view made.old.items ++ rules.resolve_contexts tables.now first (length made.old.items) cs)) result }
@@ -85,6 +83,7 @@ fn contexts(
     Ok(next)
 }
 
+// A context whose class has a number: there is room for 65,535 of them, more than a service text can hold.
 #[cycle(context)]
 fn context(
     alloc: Global,
@@ -93,12 +92,14 @@ fn context(
     c: &ContextDecl,
     made: &mut Vec<Method>,
 ) -> Result<u16, TypeError>
-    requires room { class + known.class_count (context_tree c.now) < 2 ^ 16 }
     ensures { Judges (rules.context_demands tables.now class (length made.old.items) (context_tree c.now))
         (λ next. (next ≡ class + known.class_count (context_tree c.now)) × (map method_view made.new.items ≡ map method_view made.old.items ++ rules.resolve_context tables.now class (length made.old.items) (context_tree c.now))) result }
 {
     class_name(tables, class, &c.name)?;
     fields(tables, class, c.vars.as_slice())?;
+    if class == 65_535 {
+        return Err(TypeError::OutOfMemory);
+    }
     let next = contexts(alloc, tables, class + 1, &c.contexts, made)?;
     methods(alloc, tables, class, c.methods.as_slice(), made)?;
     Ok(next)

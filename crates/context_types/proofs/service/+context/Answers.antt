@@ -10,7 +10,7 @@ use Rattle.type_rules.specs.Views.{method_view}
 use Rattle.type_rules.proofs.First.{fails_same}
 use Rattle.type_tables.proofs.Gathers.{tree_parts}
 use Rattle.context_types.proofs.Exits.{exit}
-use Rattle.context_types.proofs.ServiceArms.{next_context, context_asks, context_made, joined, contexts_walk, contexts_made, contexts_made_more, count_context, count_contexts, class_at, class_room, name_fails, fields_fail, inside_fails, own_fails, parts_hold}
+use Rattle.context_types.proofs.ServiceArms.{next_context, context_asks, context_made, joined, contexts_walk, contexts_made, contexts_made_more, count_context, count_contexts, class_at, name_fails, fields_fail, inside_fails, own_fails, parts_hold}
 use Rattle.context_types.proofs.Walking.{walk, ends, ends_more, walk_more, walk_fails, walk_whole, makes}
 use Rattle.context_types.proofs.service.+context.Goals as goal
 
@@ -79,16 +79,6 @@ context-returns-in_err-methods t c =
     (subst (λ x. Fails (context_demands known class n x) e) (sym parts)
     (own_fails known class n name vars cs ms named fields inner e (subst (λ ds. Fails ds e) (λ i. methods_demands known class (count i) (map method_tree (c.as_slice-2.ensures i))) c.in_err-methods.ensures)))
 
-pub context-overflow_add-class : goal.context-overflow_add-class
-context-overflow_add-class t c = let e = ap class_count (tree_parts c.args.c.now) in let r = c.requires.room in omega arith
-
-pub context-contexts-requires-clause-room : goal.context-contexts-requires-clause-room
-context-contexts-requires-clause-room t c =
-    let e = ap class_count (tree_parts c.args.c.now) in
-    let f = ap (λ l. classes_count (contexts_of (map context_tree l))) c.deref.ensures.value in
-    let r = c.requires.room in
-    omega arith
-
 pub context-returns : goal.context-returns
 context-returns t c =
     let known = c.args.tables.now in
@@ -117,17 +107,6 @@ context-returns t c =
       ∙ ap (λ x. old ++ resolve_context known class n x) (sym parts)))
 
 -- ---- contexts one after the other
-
-pub contexts-context-requires-clause-room : goal.contexts-context-requires-clause-room
-contexts-context-requires-clause-room t c =
-    let known = c.args.tables.now in
-    let n = length c.args.made.now.items in
-    let at : ℕ × ℕ = (c.args.first, n) in
-    let cs = c.args.decls.now in
-    let i = c.each.c-index in
-    let is = c.each.invariant in
-    let x = c.c-item.result in
-    subst (λ m. m + class_count (context_tree x) < 65536) (ap (λ p. p.0) is.place) (class_room at cs i x c.each-test.true c.c-item.is c.requires.room)
 
 pub contexts-returns-in_err-next : goal.contexts-returns-in_err-next
 contexts-returns-in_err-next t c =

@@ -26,9 +26,6 @@ returns-in_err-fields c =
     exit _ _ _ (err_from_is_err_and c.from_residual-in_err-fields.result c.from_residual-in_err-fields.ensures.1) (demands_with known s)
     (second_fails a b d f g named e (subst (λ fs. Fails (fields_demands known 0 0 fs) e) c.as_slice.ensures c.in_err-fields.ensures))
 
-pub contexts-requires : goal.contexts-requires
-contexts-requires c = subst (λ l. 1 + classes_count (contexts_of (map context_tree l)) < 65536) (sym c.as_slice-2.ensures) c.requires
-
 pub returns-in_err-contexts : goal.returns-in_err-contexts
 returns-in_err-contexts c =
     let known = c.args.tables.now in

@@ -3,11 +3,8 @@ use Rattle.std.proofs.lemmas.Result.{err_from_is_err_and}
 use Rattle.mace_ast.specs.Decls.{service_tree}
 use Rattle.type_rules.specs.Services.{service_demands}
 use Rattle.type_rules.specs.Views.{resolved_view}
-use Rattle.context_types.proofs.Checked.{room, told, fails_alike, shape_is, resolved_is, is_typed, is_shape, differs, service_fits}
+use Rattle.context_types.proofs.Checked.{told, fails_alike, shape_is, resolved_is, is_typed, is_shape, differs, service_fits}
 use Rattle.context_types.proofs.service.check.Goals as goal
-
-pub all-requires : goal.all-requires
-all-requires c = room (service_tree c.args.service) c.in_ok-tables.tables c.in_ok-tables.ensures.known c.in_ok-tables.ensures.few_classes
 
 pub returns-in_err-resolved-clause-err : goal.returns-in_err-resolved-clause-err
 returns-in_err-resolved-clause-err c =
