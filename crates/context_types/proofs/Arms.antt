@@ -54,10 +54,10 @@ module _ (h : Here) where
       → first_wrong front ≡ None → km ≡ Some x.kind → tm ≡ tree_of x.tree → Answers h key (Ok y)
       → Ends at (option_map gives_of (row_of_two rows_of_index (Some x.kind) (Some y.kind))) (row_tree at (row_of_two rows_of_index (Some x.kind) (Some y.kind)) (two (tree_of x.tree) (tree_of y.tree))) r
       → Judges (front ++ (demands h key ++ ask (is_some (option_map gives_of (row_of_two rows_of_index km (kind_of h key)))) (Mismatch at) ∷ []))
-        (IsJudged (option_map gives_of (row_of_two rows_of_index km (kind_of h key))) (row_tree at (row_of_two rows_of_index km (kind_of h key)) (two tm (resolve h key)))) r
+      (IsJudged (option_map gives_of (row_of_two rows_of_index km (kind_of h key))) (row_tree at (row_of_two rows_of_index km (kind_of h key)) (two tm (resolve h key)))) r
   index at front km tm key x y r holds kind tree jk end =
       let P : Option Kind → Option Kind → Tree → Tree → Type 0 = λ ka kb ta tb. Judges (front ++ (demands h key ++ ask (is_some (option_map gives_of (row_of_two rows_of_index ka kb))) (Mismatch at) ∷ []))
-            (IsJudged (option_map gives_of (row_of_two rows_of_index ka kb)) (row_tree at (row_of_two rows_of_index ka kb) (two ta tb))) r in
+      (IsJudged (option_map gives_of (row_of_two rows_of_index ka kb)) (row_tree at (row_of_two rows_of_index ka kb) (two ta tb))) r in
       let p0 : P (Some x.kind) (Some y.kind) (tree_of x.tree) (tree_of y.tree) = judges_behind front _ _ _ r holds (λ j q. q) (judges_behind (demands h key) _ _ _ r jk.0 (λ j q. q) end) in
       subst (λ t. P km (kind_of h key) t (resolve h key)) (sym tree)
       (subst (λ t. P km (kind_of h key) (tree_of x.tree) t) (sym jk.1.tree)

@@ -25,12 +25,13 @@ pub operation : (kind : Option Kind) (whole : Tree) (o : Option ℕ) (row : ℕ)
     → gives ≡ gives_of row → judged.kind ≡ gives → judged.tree ≡ record { at = at; node = node.Op row args }
     → (first_wrong (ask (is_some kind) (Mismatch at) ∷ []) ≡ None) × IsJudged kind whole judged
 operation kind whole o row at args ts judged gives of_kind of_tree found trees given of_judged made =
-    let k : kind ≡ Some (gives_of row) = of_kind ∙ ap (option_map gives_of) found in
-    (told_past _ _ [] (ap is_some k),
-     record {
-       kind = k ∙ ap Some (sym (of_judged ∙ given));
-       tree = of_tree ∙ ap (λ o. row_tree at o ts) found ∙ sym (ap tree_of made ∙ op_node row args at ∙ ap (λ l. r.Op at row l) trees);
-     })
+    let k : kind ≡ Some (gives_of row) = of_kind ∙ ap (option_map gives_of) found in (
+      told_past _ _ [] (ap is_some k),
+      record {
+        kind = k ∙ ap Some (sym (of_judged ∙ given));
+        tree = of_tree ∙ ap (λ o. row_tree at o ts) found ∙ sym (ap tree_of made ∙ op_node row args at ∙ ap (λ l. r.Op at row l) trees);
+      },
+    )
 
 -- a sign that isn't `&&` or `||` goes by its rows
 pub sign_kind : (sign : BinaryOp) (a b : Option Kind) → sign ≢ op.And → sign ≢ op.Or → binary_kind sign a b ≡ option_map gives_of (row_of_two (rows_of_sign sign) a b)

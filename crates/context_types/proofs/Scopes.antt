@@ -50,7 +50,7 @@ pub cut_loop : (h j p : Here) (name : List ℕ) (ss : StmtTrees) (before : ℕ) 
 cut_loop h j p name ss before cut on is number cuts =
     let g = all_grow j ss in
     let grown : p.locals ≡ h.locals ++ ((counted_name ∷ []) ++ g.0) =
-          ap (λ (x : Here). x.locals) (sym is) ∙ g.1 ∙ ap (λ (x : Here). x.locals ++ g.0) (sym on) ∙ append_assoc h.locals (counted_name ∷ []) g.0 in
+    ap (λ (x : Here). x.locals) (sym is) ∙ g.1 ∙ ap (λ (x : Here). x.locals ++ g.0) (sym on) ∙ append_assoc h.locals (counted_name ∷ []) g.0 in
     sym (cuts ∙ (λ i. take (number i) (grown i)) ∙ take-append_seam h.locals ((counted_name ∷ []) ++ g.0))
   where
     counted_name : Local

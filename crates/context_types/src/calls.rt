@@ -50,7 +50,13 @@ impl Called {
 impl Here<'_> {
     /// A call of a builtin or of an own method.
     #[cycle(expr)]
-    pub fn call(&self, alloc: Global, at: Span, name: &Txt, args: &[Expr]) -> Result<Called, TypeError>
+    pub fn call(
+        &self,
+        alloc: Global,
+        at: Span,
+        name: &Txt,
+        args: &[Expr],
+    ) -> Result<Called, TypeError>
         ensures { let given = exprs_of (map expr_tree args.now) in
             Judges (rules.call_demands (here_of self.now) at name.now given)
             (IsCalled (rules.call_gives (here_of self.now) name.now) (rules.call_tree at (names.called (here_of self.now) name.now) (rules.resolve_all (here_of self.now) given))) result }

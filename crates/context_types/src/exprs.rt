@@ -146,7 +146,13 @@ impl Here<'_> {
         Ok(Judged::new(at, operators.gives(row), Resolved::Op(row, args)))
     }
 
-    fn unary(&self, alloc: Global, at: Span, op: UnaryOp, operand: Judged) -> Result<Judged, TypeError>
+    fn unary(
+        &self,
+        alloc: Global,
+        at: Span,
+        op: UnaryOp,
+        operand: Judged,
+    ) -> Result<Judged, TypeError>
         ensures { let row = row_of_one (rows_before op) (Some operand.kind) in let kind = option_map gives_of row in
             Judges (ask (is_some kind) (TypeError.Mismatch at) ∷ []) (IsJudged kind (row_tree at row (rules.one (tree_of operand.tree)))) result }
     {
@@ -181,7 +187,8 @@ impl Here<'_> {
             }
             _ => {
                 let operators = self.known.operators();
-                let Some(row) = operators.first(rows_of_sign(op), left.kind, Some(right.kind)) else {
+                let Some(row) = operators.first(rows_of_sign(op), left.kind, Some(right.kind))
+                else {
                     return Err(TypeError::Mismatch(at));
                 };
                 let args = pair(alloc, left.tree, right.tree)?;

@@ -70,7 +70,12 @@ pub fn method(
 }
 
 /// An event with a number among all events.
-pub fn event(alloc: Global, tables: &Tables, number: usize, e: &EventDecl) -> Result<Event, TypeError>
+pub fn event(
+    alloc: Global,
+    tables: &Tables,
+    number: usize,
+    e: &EventDecl,
+) -> Result<Event, TypeError>
     ensures { Judges (rules.event_demands tables.now number (event_tree e.now)) (λ made. rules.resolve_event tables.now (event_tree e.now) ≡ event_view made) result }
 {
     if !none_before(number, tables.event(&e.name.text)) {

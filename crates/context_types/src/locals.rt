@@ -27,7 +27,13 @@ impl Here<'_> {
     }
 
     /// One more local, in a slot of its own.
-    pub fn declare(&mut self, alloc: Global, name: &Txt, kind: Kind, slot: u16) -> Result<(), OutOfMemory>
+    pub fn declare(
+        &mut self,
+        alloc: Global,
+        name: &Txt,
+        kind: Kind,
+        slot: u16,
+    ) -> Result<(), OutOfMemory>
         requires { slot ≡ length self.old.slots.items }
         ensures { OnOk result (here_of self.new ≡ rules.declared (here_of self.old) name.now kind) }
     {

@@ -31,7 +31,13 @@ impl Here<'_> {
         Ok(Step { at, action })
     }
 
-    pub fn send(&self, alloc: Global, at: Span, label: &Txt, value: &Expr) -> Result<Step, TypeError>
+    pub fn send(
+        &self,
+        alloc: Global,
+        at: Span,
+        label: &Txt,
+        value: &Expr,
+    ) -> Result<Step, TypeError>
         ensures { let h = here_of self.now in let s = syntax.Send at label.now (expr_tree value.now) in
             Judges (rules.stmt_demands h s) (λ step. rules.resolve_stmt h s ≡ step_of step) result }
     {
@@ -41,7 +47,13 @@ impl Here<'_> {
         Ok(Step { at, action })
     }
 
-    pub fn spawn(&self, alloc: Global, at: Span, event: &Txt, args: &Seq<Expr>) -> Result<Step, TypeError>
+    pub fn spawn(
+        &self,
+        alloc: Global,
+        at: Span,
+        event: &Txt,
+        args: &Seq<Expr>,
+    ) -> Result<Step, TypeError>
         ensures { let h = here_of self.now in let s = syntax.Spawn at event.now (map expr_tree args.now) in
             Judges (rules.stmt_demands h s) (λ step. rules.resolve_stmt h s ≡ step_of step) result }
     {
@@ -55,7 +67,13 @@ impl Here<'_> {
     }
 
     /// `drop x[k];`
-    pub fn cut(&self, alloc: Global, at: Span, target: &Target, key: &Expr) -> Result<Step, TypeError>
+    pub fn cut(
+        &self,
+        alloc: Global,
+        at: Span,
+        target: &Target,
+        key: &Expr,
+    ) -> Result<Step, TypeError>
         ensures { let h = here_of self.now in let s = syntax.Cut at target.now (expr_tree key.now) in
             Judges (rules.stmt_demands h s) (λ step. rules.resolve_stmt h s ≡ step_of step) result }
     {
@@ -69,7 +87,13 @@ impl Here<'_> {
     }
 
     /// `x = e;`
-    pub fn set(&self, alloc: Global, at: Span, target: &Target, value: &Expr) -> Result<Step, TypeError>
+    pub fn set(
+        &self,
+        alloc: Global,
+        at: Span,
+        target: &Target,
+        value: &Expr,
+    ) -> Result<Step, TypeError>
         ensures { let h = here_of self.now in let s = syntax.Set at target.now None (expr_tree value.now) in
             Judges (rules.stmt_demands h s) (λ step. rules.resolve_stmt h s ≡ step_of step) result }
     {
@@ -83,7 +107,14 @@ impl Here<'_> {
     }
 
     /// `x[k] = e;`
-    pub fn put(&self, alloc: Global, at: Span, target: &Target, key: &Expr, value: &Expr) -> Result<Step, TypeError>
+    pub fn put(
+        &self,
+        alloc: Global,
+        at: Span,
+        target: &Target,
+        key: &Expr,
+        value: &Expr,
+    ) -> Result<Step, TypeError>
         ensures { let h = here_of self.now in let s = syntax.Set at target.now (Some (expr_tree key.now)) (expr_tree value.now) in
             Judges (rules.stmt_demands h s) (λ step. rules.resolve_stmt h s ≡ step_of step) result }
     {
@@ -102,7 +133,9 @@ impl Here<'_> {
         ensures { Judges (rules.target_asks (here_of self.now) at target.now) (λ x. rules.target_variable (here_of self.now) target.now ≡ Some x) result }
     {
         match &target.above {
-            None => self.variable(&target.name).ok_or(TypeError::UnknownName(at)),
+            None => self
+                .variable(&target.name)
+                .ok_or(TypeError::UnknownName(at)),
             Some(class) => match self.known.class(class) {
                 None => Err(TypeError::UnknownName(at)),
                 Some(_) => Err(TypeError::NotDownward(at)),

@@ -98,7 +98,11 @@ impl Here<'_> {
 
     // What stands behind `else`, if anything.
     #[cycle(stmt)]
-    fn other(&mut self, alloc: Global, body: &Option<Vec<Stmt>>) -> Result<Option<Vec<Step>>, TypeError>
+    fn other(
+        &mut self,
+        alloc: Global,
+        body: &Option<Vec<Stmt>>,
+    ) -> Result<Option<Vec<Step>>, TypeError>
         ensures { let h = here_of self.old in let other = else_of (option_map (λ b. map stmt_tree b.items) body.now) in
             Judges (rules.else_demands h other) (IsOther (rules.after_else h other) (rules.resolve_else h other) self.new) result }
     {
@@ -123,7 +127,13 @@ impl Here<'_> {
         Ok(counter)
     }
 
-    fn let_in(&mut self, alloc: Global, at: Span, name: &Name, value: &Expr) -> Result<Step, TypeError>
+    fn let_in(
+        &mut self,
+        alloc: Global,
+        at: Span,
+        name: &Name,
+        value: &Expr,
+    ) -> Result<Step, TypeError>
         ensures { let h = here_of self.old in let s = syntax.Let at name.now (expr_tree value.now) in
             Judges (rules.stmt_demands h s) (IsStep (rules.after h s) (rules.resolve_stmt h s) self.new) result }
     {

@@ -97,13 +97,14 @@ returns c =
     let ends = ap (λ ps. event_end j (map phase_tree ps)) all ∙ phases.1.0 in
     let phases_hold = ap (λ ps. first_wrong (phases_demands j (map phase_tree ps))) all ∙ phases.0 in
     let last = c.in_ok-last.ensures in
-    let phases_are = ap (λ ps. resolve_phases j (map phase_tree ps)) all ∙ phases.1.1 in
-    (event_holds known number e new h begins params_hold j first.1.here first.0 l ends phases_hold last.0,
-     event_made known number e new h begins params_hold j first.1.here first.0 l ends phases_hold (steps_in c.in_ok-first.first.items) (map phase_view c.in_ok-phases.phases.items) (option_map last_view c.in_ok-last.last) first.1.steps phases_are last.1
-     ∙ (λ i. record {
-       at = c.args.e.now.at;
-       locals = sym c.into_slots.ensures i;
-       here = steps_in (sym c.from_vec.ensures i);
-       phases = map phase_view (sym c.from_vec-2.ensures i);
-       last = option_map last_view c.in_ok-last.last;
-     }))
+    let phases_are = ap (λ ps. resolve_phases j (map phase_tree ps)) all ∙ phases.1.1 in (
+      event_holds known number e new h begins params_hold j first.1.here first.0 l ends phases_hold last.0,
+      event_made known number e new h begins params_hold j first.1.here first.0 l ends phases_hold (steps_in c.in_ok-first.first.items) (map phase_view c.in_ok-phases.phases.items) (option_map last_view c.in_ok-last.last) first.1.steps phases_are last.1
+          ∙ (λ i. record {
+            at = c.args.e.now.at;
+            locals = sym c.into_slots.ensures i;
+            here = steps_in (sym c.from_vec.ensures i);
+            phases = map phase_view (sym c.from_vec-2.ensures i);
+            last = option_map last_view c.in_ok-last.last;
+          }),
+    )

@@ -67,16 +67,17 @@ returns c =
     let params_hold = (λ i. first_wrong (method_params_demands (sym c.start-here.ensures i) (sym c.as_slice.ensures i))) ∙ params.0 in
     let ends = ap (λ l. after_all h (stmts_of (map stmt_tree l))) all ∙ body.1.here in
     let holds = ap (λ l. first_wrong (stmts_demands h (stmts_of (map stmt_tree l)))) all ∙ body.0 in
-    let steps = ap (λ l. resolve_stmts h (stmts_of (map stmt_tree l))) all ∙ body.1.steps in
-    (method_holds known c.args.class c.args.number m free h begins params_hold j ends holds last.0,
-     method_made known c.args.class c.args.number m free h begins params_hold j ends holds (steps_in c.in_ok-body.body.items) (option_map last_view c.in_ok-last.last) steps last.1
-     ∙ (λ i. record {
-       at = c.args.m.now.at;
-       name = sym c.in_ok-copy.ensures i;
-       class = c.args.class;
-       params = sym c.in_ok-kinds_of.ensures i;
-       result = c.args.m.now.result;
-       locals = sym c.into_slots.ensures i;
-       body = steps_in (sym c.from_vec.ensures i);
-       last = option_map last_view c.in_ok-last.last;
-     }))
+    let steps = ap (λ l. resolve_stmts h (stmts_of (map stmt_tree l))) all ∙ body.1.steps in (
+      method_holds known c.args.class c.args.number m free h begins params_hold j ends holds last.0,
+      method_made known c.args.class c.args.number m free h begins params_hold j ends holds (steps_in c.in_ok-body.body.items) (option_map last_view c.in_ok-last.last) steps last.1
+          ∙ (λ i. record {
+            at = c.args.m.now.at;
+            name = sym c.in_ok-copy.ensures i;
+            class = c.args.class;
+            params = sym c.in_ok-kinds_of.ensures i;
+            result = c.args.m.now.result;
+            locals = sym c.into_slots.ensures i;
+            body = steps_in (sym c.from_vec.ensures i);
+            last = option_map last_view c.in_ok-last.last;
+          }),
+    )

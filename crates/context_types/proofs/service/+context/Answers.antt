@@ -98,13 +98,16 @@ context-returns t c =
     let own = (λ i. first_wrong (methods_demands known class (sym count i) (map method_tree (sym c.as_slice-2.ensures i)))) ∙ c.in_ok-methods.ensures.0 in
     let e = ap class_count parts in
     let f = ap (λ l. classes_count (contexts_of (map context_tree l))) c.deref.ensures.value in
-    let next : c.in_ok-next.next ≡ class + class_count (context_tree c.args.c.now) = let g = c.in_ok-next.ensures.1.0 in omega arith in
-    (ap (λ x. first_wrong (context_demands known class n x)) parts ∙ parts_hold known class n name vars cs ms named fields inner own,
-     (next,
-      c.in_ok-methods.ensures.1
-      ∙ (λ i. made i ++ resolve_methods known class (count i) (map method_tree (c.as_slice-2.ensures i)))
-      ∙ append_assoc old (resolve_contexts known (class + 1) n cs) (resolve_methods known class (n + length (methods_in (class + 1) cs)) ms)
-      ∙ ap (λ x. old ++ resolve_context known class n x) (sym parts)))
+    let next : c.in_ok-next.next ≡ class + class_count (context_tree c.args.c.now) = let g = c.in_ok-next.ensures.1.0 in omega arith in (
+      ap (λ x. first_wrong (context_demands known class n x)) parts ∙ parts_hold known class n name vars cs ms named fields inner own,
+      (
+        next,
+        c.in_ok-methods.ensures.1
+            ∙ (λ i. made i ++ resolve_methods known class (count i) (map method_tree (c.as_slice-2.ensures i)))
+            ∙ append_assoc old (resolve_contexts known (class + 1) n cs) (resolve_methods known class (n + length (methods_in (class + 1) cs)) ms)
+            ∙ ap (λ x. old ++ resolve_context known class n x) (sym parts),
+      ),
+    )
 
 -- ---- contexts one after the other
 
@@ -150,7 +153,10 @@ contexts-returns t c =
     let i = c.each.c-index in
     let is = c.each.invariant in
     let old = map method_view c.args.made.now.items in
-    let all = take_all i cs c.each-test.false in
-    (ap first_wrong (contexts_walk known c.args.first n cs) ∙ walk_whole next_context (context_asks known) at cs i c.each-test.false is.holds,
-     (sym (ap (λ p. p.0) is.place) ∙ class_at at (take i cs) ∙ ap (λ xs. c.args.first + classes_count (contexts_of (map context_tree xs))) all,
-      is.made ∙ ap (λ xs. old ++ joined (makes next_context (context_made known) at xs)) all ∙ ap (λ l. old ++ l) (sym (contexts_made known c.args.first n cs))))
+    let all = take_all i cs c.each-test.false in (
+      ap first_wrong (contexts_walk known c.args.first n cs) ∙ walk_whole next_context (context_asks known) at cs i c.each-test.false is.holds,
+      (
+        sym (ap (λ p. p.0) is.place) ∙ class_at at (take i cs) ∙ ap (λ xs. c.args.first + classes_count (contexts_of (map context_tree xs))) all,
+        is.made ∙ ap (λ xs. old ++ joined (makes next_context (context_made known) at xs)) all ∙ ap (λ l. old ++ l) (sym (contexts_made known c.args.first n cs)),
+      ),
+    )

@@ -38,6 +38,7 @@ pub returns : goal.returns
 returns c =
     let known = c.args.tables.now in
     let es = c.args.decls.now in
-    let is = c.loop-i.invariant in
-    (ap first_wrong (events_walk known 0 es) ∙ walk_whole next_number (event_asks known) 0 es c.loop-i.i c.loop-i-test.false is.holds,
-     events_made known 0 es ∙ ap (makes next_number (event_made known) 0) (sym (take_all c.loop-i.i es c.loop-i-test.false)) ∙ is.made)
+    let is = c.loop-i.invariant in (
+      ap first_wrong (events_walk known 0 es) ∙ walk_whole next_number (event_asks known) 0 es c.loop-i.i c.loop-i-test.false is.holds,
+      events_made known 0 es ∙ ap (makes next_number (event_made known) 0) (sym (take_all c.loop-i.i es c.loop-i-test.false)) ∙ is.made,
+    )

@@ -52,6 +52,7 @@ returns c =
     let n = length c.args.made.now.items in
     let ms = c.args.decls.now in
     let is = c.loop-m.invariant in
-    let all = sym (take_all c.loop-m.m-index ms c.loop-m-test.false) in
-    (ap first_wrong (methods_walk known c.args.class n ms) ∙ walk_whole next_number (method_asks_at known c.args.class) n ms c.loop-m.m-index c.loop-m-test.false is.holds,
-     is.made ∙ ap (λ l. map method_view c.args.made.now.items ++ l) (sym (methods_made known c.args.class n ms ∙ ap (makes next_number (method_made known c.args.class) n) all)))
+    let all = sym (take_all c.loop-m.m-index ms c.loop-m-test.false) in (
+      ap first_wrong (methods_walk known c.args.class n ms) ∙ walk_whole next_number (method_asks_at known c.args.class) n ms c.loop-m.m-index c.loop-m-test.false is.holds,
+      is.made ∙ ap (λ l. map method_view c.args.made.now.items ++ l) (sym (methods_made known c.args.class n ms ∙ ap (makes next_number (method_made known c.args.class) n) all)),
+    )

@@ -65,10 +65,11 @@ args-returns t c =
     let kinds = c.args.kinds.now in
     let es = c.args.args.now in
     let given = exprs_of (map expr_tree es) in
-    let whole = walk_whole next_number (arg_asks h kinds) 0 es c.each.i c.each-test.false c.each.invariant.holds in
-    (told_past (length kinds == count given) (ArgCount c.args.at) (args_demands h kinds given) (eq-eqb _ _ (c.if-kinds-args.false ∙ sym (count_args es)))
-     ∙ ap first_wrong (args_walk h kinds es c.if-kinds-args.false) ∙ whole,
-     args_made h kinds 0 es ∙ ap (λ xs. trees_of (makes next_number (arg_made h kinds) 0 xs)) (sym (take_all c.each.i es c.each-test.false)) ∙ ap trees_of c.each.invariant.made)
+    let whole = walk_whole next_number (arg_asks h kinds) 0 es c.each.i c.each-test.false c.each.invariant.holds in (
+      told_past (length kinds == count given) (ArgCount c.args.at) (args_demands h kinds given) (eq-eqb _ _ (c.if-kinds-args.false ∙ sym (count_args es)))
+          ∙ ap first_wrong (args_walk h kinds es c.if-kinds-args.false) ∙ whole,
+      args_made h kinds 0 es ∙ ap (λ xs. trees_of (makes next_number (arg_made h kinds) 0 xs)) (sym (take_all c.each.i es c.each-test.false)) ∙ ap trees_of c.each.invariant.made,
+    )
 
 -- ---- calls
 
@@ -78,9 +79,10 @@ call-returns-in_ok-args-in-Some-Builtin t c =
     let given = exprs_of (map expr_tree c.args.args.now) in
     let row = c.in-Some-Builtin.row in
     let found : called h c.args.name.now ≡ Some (callee.Builtin row) = sym c.called.ensures.found ∙ c.in-Some-Builtin.is ∙ ap Some c.in-Some-Builtin.field-0-is in
-    let made = c.in_ok-args-in-Some-Builtin.ensures in
-    (call_same h c.args.at c.args.name.now given (callee.Builtin row) found refl ∙ ap (λ ks. first_wrong (args_asks h c.args.at ks given)) (sym c.takes-len.ensures.kinds) ∙ made.0,
-     builtin_called h c.args.at c.args.name.now given row c.gives.result c.in_ok-args-in-Some-Builtin.args c.new.result found made.1 c.gives.ensures c.new.ensures.gives c.new.ensures.tree)
+    let made = c.in_ok-args-in-Some-Builtin.ensures in (
+      call_same h c.args.at c.args.name.now given (callee.Builtin row) found refl ∙ ap (λ ks. first_wrong (args_asks h c.args.at ks given)) (sym c.takes-len.ensures.kinds) ∙ made.0,
+      builtin_called h c.args.at c.args.name.now given row c.gives.result c.in_ok-args-in-Some-Builtin.args c.new.result found made.1 c.gives.ensures c.new.ensures.gives c.new.ensures.tree,
+    )
 
 pub call-returns-in_ok-args-in-Some-Method : goal.call-returns-in_ok-args-in-Some-Method
 call-returns-in_ok-args-in-Some-Method t c =
@@ -89,9 +91,10 @@ call-returns-in_ok-args-in-Some-Method t c =
     let m = c.in-Some-Method.method in
     let found : called h c.args.name.now ≡ Some (callee.Method m) = sym c.called.ensures.found ∙ c.in-Some-Method.is ∙ ap Some c.in-Some-Method.field-0-is in
     let made = c.in_ok-args-in-Some-Method.ensures in
-    let params = c.as_slice.ensures ∙ ap (λ s. s.params) c.signature-signature.ensures in
-    (call_same h c.args.at c.args.name.now given (callee.Method m) found (lt-ltb m c.args.self.now.function c.if-method-self.false) ∙ ap (λ ks. first_wrong (args_asks h c.args.at ks given)) (sym params) ∙ made.0,
-     method_called h c.args.at c.args.name.now given m c.in_ok-args-in-Some-Method.args c.new-in-Some-Method.result found made.1 (c.new-in-Some-Method.ensures.gives ∙ ap (λ s. s.result) c.signature-signature.ensures) c.new-in-Some-Method.ensures.tree)
+    let params = c.as_slice.ensures ∙ ap (λ s. s.params) c.signature-signature.ensures in (
+      call_same h c.args.at c.args.name.now given (callee.Method m) found (lt-ltb m c.args.self.now.function c.if-method-self.false) ∙ ap (λ ks. first_wrong (args_asks h c.args.at ks given)) (sym params) ∙ made.0,
+      method_called h c.args.at c.args.name.now given m c.in_ok-args-in-Some-Method.args c.new-in-Some-Method.result found made.1 (c.new-in-Some-Method.ensures.gives ∙ ap (λ s. s.result) c.signature-signature.ensures) c.new-in-Some-Method.ensures.tree,
+    )
 
 pub child_call-returns : goal.child_call-returns
 child_call-returns t c =
@@ -100,10 +103,11 @@ child_call-returns t c =
     let found = sym c.method.ensures.found ∙ c.in-Some.is in
     let made = c.in_ok-args.ensures in
     let method = method_named c.args.self.now.known.now c.args.class c.args.name.now in
-    let params = c.as_slice.ensures ∙ ap (λ s. s.params) c.signature-signature.ensures in
-    (child_same h c.args.at method given c.in-Some.method found ∙ ap (λ ks. first_wrong (args_asks h c.args.at ks given)) (sym params) ∙ made.0,
-     child_called h c.args.at method given c.args.class c.in-Some.method (record { 0 = c.args.class }) c.in_ok-key.key c.args.key c.in_ok-args.args c.new-2.result found refl c.in_ok-key.ensures.ok made.1
-     (c.new-2.ensures.gives ∙ ap (λ s. s.result) c.signature-signature.ensures) c.new-2.ensures.tree)
+    let params = c.as_slice.ensures ∙ ap (λ s. s.params) c.signature-signature.ensures in (
+      child_same h c.args.at method given c.in-Some.method found ∙ ap (λ ks. first_wrong (args_asks h c.args.at ks given)) (sym params) ∙ made.0,
+      child_called h c.args.at method given c.args.class c.in-Some.method (record { 0 = c.args.class }) c.in_ok-key.key c.args.key c.in_ok-args.args c.new-2.result found refl c.in_ok-key.ensures.ok made.1
+          (c.new-2.ensures.gives ∙ ap (λ s. s.result) c.signature-signature.ensures) c.new-2.ensures.tree,
+    )
 
 -- ---- expressions
 

@@ -55,12 +55,13 @@ stmts-returns t c =
     let h = here_of c.args.self.now in
     let ss = c.args.body.now in
     let i = c.each.s-index in
-    let is = c.each.invariant in
-    (ap first_wrong (stmts_walk h ss) ∙ walk_whole next_stmt stmt_asks h ss i c.each-test.false is.holds,
-     record {
-       here = stmts_ends h ss ∙ ap (ends next_stmt h) (sym (take_all i ss c.each-test.false)) ∙ is.place;
-       steps = stmts_made h ss ∙ ap (λ xs. steps_of (makes next_stmt stmt_made h xs)) (sym (take_all i ss c.each-test.false)) ∙ ap steps_of is.made;
-     })
+    let is = c.each.invariant in (
+      ap first_wrong (stmts_walk h ss) ∙ walk_whole next_stmt stmt_asks h ss i c.each-test.false is.holds,
+      record {
+        here = stmts_ends h ss ∙ ap (ends next_stmt h) (sym (take_all i ss c.each-test.false)) ∙ is.place;
+        steps = stmts_made h ss ∙ ap (λ xs. steps_of (makes next_stmt stmt_made h xs)) (sym (take_all i ss c.each-test.false)) ∙ ap steps_of is.made;
+      },
+    )
 
 -- ---- blocks
 
@@ -70,12 +71,13 @@ block-returns t c =
     let p = here_of c.stmts.new.self in
     let ss = stmts_of (map stmt_tree c.args.body.now) in
     let done = c.in_ok-steps.ensures in
-    let number = c.len-before.ensures ∙ c.args.self.now.locals.ok.0 in
-    (done.0,
-     record {
-       here = ap (λ g. behind h g) done.1.here ∙ behind_is h p c.truncate.new.self.items (cut_block h p ss c.len-before.result c.truncate.new.self.items done.1.here number c.truncate.ensures.items);
-       steps = done.1.steps;
-     })
+    let number = c.len-before.ensures ∙ c.args.self.now.locals.ok.0 in (
+      done.0,
+      record {
+        here = ap (λ g. behind h g) done.1.here ∙ behind_is h p c.truncate.new.self.items (cut_block h p ss c.len-before.result c.truncate.new.self.items done.1.here number c.truncate.ensures.items);
+        steps = done.1.steps;
+      },
+    )
 
 -- ---- `if`
 

@@ -23,9 +23,10 @@ returns-in_err-slot c =
 pub returns : goal.returns
 returns c =
     let h = here_of c.args.self.now in
-    let value = c.in_ok-value.ensures.1 in
-    (holds_both (demands h (expr_tree c.args.value.now)) (local_asks h c.args.name.now 1) c.in_ok-value.ensures.0 c.in_ok-slot.ensures.0,
-     record {
-       here = ap (λ k. declared h c.args.name.now.text (kind_or_int k)) value.kind ∙ sym c.in_ok-declare.ensures;
-       step = (λ i. r.SetLocal c.args.at (sym c.in_ok-slot.ensures.1 i) (value.tree i));
-     })
+    let value = c.in_ok-value.ensures.1 in (
+      holds_both (demands h (expr_tree c.args.value.now)) (local_asks h c.args.name.now 1) c.in_ok-value.ensures.0 c.in_ok-slot.ensures.0,
+      record {
+        here = ap (λ k. declared h c.args.name.now.text (kind_or_int k)) value.kind ∙ sym c.in_ok-declare.ensures;
+        step = (λ i. r.SetLocal c.args.at (sym c.in_ok-slot.ensures.1 i) (value.tree i));
+      },
+    )

@@ -33,6 +33,7 @@ loop-param-preserved c =
 pub returns : goal.returns
 returns c =
     let h = here_of c.args.self.now in
-    let ps = c.args.params.now in
-    (ap first_wrong (method_params_walk h ps) ∙ walk_whole next_param param_asks h ps c.loop-param.param-index c.loop-param-test.false c.loop-param.invariant.holds,
-     params_ends h ps ∙ ap (ends next_param h) (sym (take_all c.loop-param.param-index ps c.loop-param-test.false)) ∙ c.loop-param.invariant.place)
+    let ps = c.args.params.now in (
+      ap first_wrong (method_params_walk h ps) ∙ walk_whole next_param param_asks h ps c.loop-param.param-index c.loop-param-test.false c.loop-param.invariant.holds,
+      params_ends h ps ∙ ap (ends next_param h) (sym (take_all c.loop-param.param-index ps c.loop-param-test.false)) ∙ c.loop-param.invariant.place,
+    )

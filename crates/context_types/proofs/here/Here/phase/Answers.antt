@@ -40,9 +40,12 @@ returns c =
     let p = phase_tree c.args.phase.now in
     let n = c.in_ok-class.class in
     let body = c.in_ok-body.ensures in
-    let all = sym c.as_slice.ensures in
-    (phase_holds h p c.in_ok-class.ensures.0 c.in_ok-key.ensures.0 n c.in_ok-class.ensures.1 (ap (λ l. first_wrong (stmts_demands (in_class h n) (stmts_of (map stmt_tree l)))) all ∙ body.0),
-     (phase_ends h p c.in_ok-class.ensures.0 c.in_ok-key.ensures.0 n c.in_ok-class.ensures.1 (here_of c.stmts.new.self) (ap (λ l. after_all (in_class h n) (stmts_of (map stmt_tree l))) all ∙ body.1.here),
-      phase_made h p c.in_ok-class.ensures.0 c.in_ok-key.ensures.0 n c.in_ok-class.ensures.1 (tree_of c.in_ok-key.key) (steps_in c.in_ok-body.body.items) c.in_ok-key.ensures.1
-      (ap (λ l. resolve_stmts (in_class h n) (stmts_of (map stmt_tree l))) all ∙ body.1.steps)
-      ∙ (λ i. record { at = c.args.phase.now.at; class = n; key = tree_of c.in_ok-key.key; body = steps_in (sym c.from_vec.ensures i) })))
+    let all = sym c.as_slice.ensures in (
+      phase_holds h p c.in_ok-class.ensures.0 c.in_ok-key.ensures.0 n c.in_ok-class.ensures.1 (ap (λ l. first_wrong (stmts_demands (in_class h n) (stmts_of (map stmt_tree l)))) all ∙ body.0),
+      (
+        phase_ends h p c.in_ok-class.ensures.0 c.in_ok-key.ensures.0 n c.in_ok-class.ensures.1 (here_of c.stmts.new.self) (ap (λ l. after_all (in_class h n) (stmts_of (map stmt_tree l))) all ∙ body.1.here),
+        phase_made h p c.in_ok-class.ensures.0 c.in_ok-key.ensures.0 n c.in_ok-class.ensures.1 (tree_of c.in_ok-key.key) (steps_in c.in_ok-body.body.items) c.in_ok-key.ensures.1
+            (ap (λ l. resolve_stmts (in_class h n) (stmts_of (map stmt_tree l))) all ∙ body.1.steps)
+            ∙ (λ i. record { at = c.args.phase.now.at; class = n; key = tree_of c.in_ok-key.key; body = steps_in (sym c.from_vec.ensures i) }),
+      ),
+    )

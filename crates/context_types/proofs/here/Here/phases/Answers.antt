@@ -42,6 +42,7 @@ returns c =
     let ps = c.args.phases.now in
     let i = c.loop-phase.phase-index in
     let is = c.loop-phase.invariant in
-    let all = sym (take_all i ps c.loop-phase-test.false) in
-    (ap first_wrong (phases_walk h ps) ∙ walk_whole next_phase phase_asks h ps i c.loop-phase-test.false is.holds,
-     (phases_ends h ps ∙ ap (ends next_phase h) all ∙ is.place, phases_made h ps ∙ ap (makes next_phase phase_made h) all ∙ is.made))
+    let all = sym (take_all i ps c.loop-phase-test.false) in (
+      ap first_wrong (phases_walk h ps) ∙ walk_whole next_phase phase_asks h ps i c.loop-phase-test.false is.holds,
+      (phases_ends h ps ∙ ap (ends next_phase h) all ∙ is.place, phases_made h ps ∙ ap (makes next_phase phase_made h) all ∙ is.made),
+    )

@@ -35,7 +35,7 @@ returns c =
     let value = expr_tree c.args.value.now in
     let holds = put_holds h c.args.at c.args.target.now key value c.in_ok-map.map c.in_ok-map.ensures.0 c.in_ok-map.ensures.1 c.in_ok-key.ensures.0 c.in_ok-value.ensures.0 in
     let made = put_made h c.args.at c.args.target.now key value (tree_of c.in_ok-key.key) (tree_of c.in_ok-value.value) c.in_ok-key.ensures.1 c.in_ok-value.ensures.1 c.in_ok-map.map c.in_ok-map.ensures.1 in
-    elim c.match-map.branch [ 
+    elim c.match-map.branch [
       | in-Local w ↦ (holds, made ∙ ap (λ x. set_step c.args.at (Some x) (Some (tree_of c.in_ok-key.key)) (tree_of c.in_ok-value.value)) w.in-Local.is ∙ sym (ap (λ a. action_step a c.args.at) w.action-is))
       | in-Field w ↦ (holds, made ∙ ap (λ x. set_step c.args.at (Some x) (Some (tree_of c.in_ok-key.key)) (tree_of c.in_ok-value.value)) w.in-Field.is ∙ sym (ap (λ a. action_step a c.args.at) w.action-is))
     ]

@@ -27,7 +27,8 @@ returns-then-not-same_kind c =
 pub returns : goal.returns
 returns c =
     let h = here_of c.args.self.now in
-    let e = expr_tree c.args.test.now in
-    (holds_both (demands h e) (ask (has_kind (kind_of h e) k.Bool) (Mismatch c.args.at) ∷ []) c.in_ok-test.ensures.0
-     (told_past (has_kind (kind_of h e) k.Bool) (Mismatch c.args.at) [] (ap (λ o. has_kind o k.Bool) c.in_ok-test.ensures.1.kind ∙ sym c.same_kind.ensures ∙ c.if-not-same_kind.false)),
-     ap (r.Require c.args.at) c.in_ok-test.ensures.1.tree)
+    let e = expr_tree c.args.test.now in (
+      holds_both (demands h e) (ask (has_kind (kind_of h e) k.Bool) (Mismatch c.args.at) ∷ []) c.in_ok-test.ensures.0
+          (told_past (has_kind (kind_of h e) k.Bool) (Mismatch c.args.at) [] (ap (λ o. has_kind o k.Bool) c.in_ok-test.ensures.1.kind ∙ sym c.same_kind.ensures ∙ c.if-not-same_kind.false)),
+      ap (r.Require c.args.at) c.in_ok-test.ensures.1.tree,
+    )

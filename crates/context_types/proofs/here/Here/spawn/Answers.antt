@@ -28,7 +28,8 @@ pub returns : goal.returns
 returns c =
     let h = here_of c.args.self.now in
     let found = sym c.event.ensures ∙ c.in-Some.is in
-    let es = map expr_tree c.args.args.now in
-    (spawn_same h c.args.at c.args.event.now es c.in-Some.event c.event_params-kinds.result.now found c.event_params-kinds.ensures
-     ∙ ap (λ l. first_wrong (args_asks h c.args.at c.event_params-kinds.result.now (exprs_of (map expr_tree l)))) (sym c.as_slice.ensures) ∙ c.in_ok-args.ensures.0,
-     (λ i. r.Spawn c.args.at (or_zero (found i)) ((ap (λ l. resolve_all h (exprs_of (map expr_tree l))) (sym c.as_slice.ensures) ∙ c.in_ok-args.ensures.1) i)))
+    let es = map expr_tree c.args.args.now in (
+      spawn_same h c.args.at c.args.event.now es c.in-Some.event c.event_params-kinds.result.now found c.event_params-kinds.ensures
+          ∙ ap (λ l. first_wrong (args_asks h c.args.at c.event_params-kinds.result.now (exprs_of (map expr_tree l)))) (sym c.as_slice.ensures) ∙ c.in_ok-args.ensures.0,
+      (λ i. r.Spawn c.args.at (or_zero (found i)) ((ap (λ l. resolve_all h (exprs_of (map expr_tree l))) (sym c.as_slice.ensures) ∙ c.in_ok-args.ensures.1) i)),
+    )
