@@ -1,0 +1,17 @@
+pub mod Arms
+pub mod CallArms
+pub mod Checked
+pub mod Exits
+pub mod FunctionArms
+pub mod Lists
+pub mod Operations
+pub mod Puts
+pub mod Scopes
+pub mod ServiceArms
+pub mod Spawns
+pub mod StmtArms
+pub mod StmtNodes
+pub mod SyntaxNodes
+pub mod TreeRows
+pub mod Walking
+pub mod Whole

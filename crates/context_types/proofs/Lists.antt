@@ -1,0 +1,171 @@
+-- The rules for lists, as one walk from place to place.
+use Rattle.std.proofs.Common.{◌≡◌, ◌==◌, ◌<◌, ◌≤◌, ◌+◌, ℕ, zero, suc, List, [], ◌∷◌, ◌++◌, length, map, get_or, take, drop, Option, Some, None, refl, sym, ap, subst, ◌∙◌, arith}
+use Rattle.std.proofs.lemmas.List.{length-take-le}
+use Rattle.wave_base.specs.declared.value.Kind.{Kind}
+use Rattle.wave_base.specs.declared.value.Kind.TheVariants as k
+use Rattle.mace_ast.specs.declared.expr.Expr.{Expr}
+use Rattle.mace_ast.specs.declared.stmt.Stmt.{Stmt}
+use Rattle.mace_ast.specs.declared.field.VarDecl.{VarDecl}
+use Rattle.mace_ast.specs.declared.method.Param.{Param}
+use Rattle.mace_ast.specs.declared.method.MethodDecl.{MethodDecl}
+use Rattle.mace_ast.specs.declared.event.Phase.{Phase}
+use Rattle.mace_ast.specs.declared.event.EventDecl.{EventDecl}
+use Rattle.mace_ast.specs.Exprs.{expr_tree, exprs_of}
+use Rattle.mace_ast.specs.Stmts.{stmt_tree, stmts_of}
+use Rattle.mace_ast.specs.Decls.{method_tree, phase_tree, event_tree}
+use Rattle.resolved_service.specs.Steps.{Step, Steps, steps_of, step}
+use Rattle.resolved_service.specs.View.{Tree, Trees, trees_of, tree}
+use Rattle.type_rules.specs.declared.known.Known.{Known}
+use Rattle.type_rules.specs.Demands.{Demand, first_wrong}
+use Rattle.type_rules.specs.Here.{Here, declared}
+use Rattle.type_rules.specs.Exprs.{count, resolve, resolve_all, demands_as, args_demands}
+use Rattle.type_rules.specs.Stmts.{after, after_all, resolve_stmt, resolve_stmts, stmt_demands, stmts_demands}
+use Rattle.type_rules.specs.Functions.{MethodView, PhaseView, EventView, after_params, param_asks, no_map, method_params_demands, event_params_demands, phase_end, event_end, phase_demands, phases_demands, resolve_phase, resolve_phases, method_demands, resolve_method, event_demands, resolve_event}
+use Rattle.type_rules.specs.Services.{field_asks, fields_demands, methods_demands, events_demands, resolve_methods}
+use Rattle.context_types.proofs.Walking.{ends, walk, makes}
+
+-- ---- parameters
+
+abbrev pub next_param : Here → Param → Here
+next_param h p = declared h p.name.text p.kind
+
+abbrev pub event_param_asks : Here → Param → List Demand
+event_param_asks h p = param_asks h p ++ no_map p
+
+pub method_params_walk : (h : Here) (ps : List Param) → method_params_demands h ps ≡ walk next_param param_asks h ps
+method_params_walk h [] = refl
+method_params_walk h (p ∷ ps) = ap (λ ds. param_asks h p ++ ds) (method_params_walk (next_param h p) ps)
+
+pub event_params_walk : (h : Here) (ps : List Param) → event_params_demands h ps ≡ walk next_param event_param_asks h ps
+event_params_walk h [] = refl
+event_params_walk h (p ∷ ps) = ap (λ ds. event_param_asks h p ++ ds) (event_params_walk (next_param h p) ps)
+
+pub params_ends : (h : Here) (ps : List Param) → after_params h ps ≡ ends next_param h ps
+params_ends h [] = refl
+params_ends h (p ∷ ps) = params_ends (next_param h p) ps
+
+-- ---- statements
+
+abbrev pub next_stmt : Here → Stmt → Here
+next_stmt h s = after h (stmt_tree s)
+
+abbrev pub stmt_asks : Here → Stmt → List Demand
+stmt_asks h s = stmt_demands h (stmt_tree s)
+
+abbrev pub stmt_made : Here → Stmt → Step
+stmt_made h s = resolve_stmt h (stmt_tree s)
+
+pub stmts_walk : (h : Here) (ss : List Stmt) → stmts_demands h (stmts_of (map stmt_tree ss)) ≡ walk next_stmt stmt_asks h ss
+stmts_walk h [] = refl
+stmts_walk h (s ∷ ss) = ap (λ ds. stmt_asks h s ++ ds) (stmts_walk (next_stmt h s) ss)
+
+pub stmts_ends : (h : Here) (ss : List Stmt) → after_all h (stmts_of (map stmt_tree ss)) ≡ ends next_stmt h ss
+stmts_ends h [] = refl
+stmts_ends h (s ∷ ss) = stmts_ends (next_stmt h s) ss
+
+pub stmts_made : (h : Here) (ss : List Stmt) → resolve_stmts h (stmts_of (map stmt_tree ss)) ≡ steps_of (makes next_stmt stmt_made h ss)
+stmts_made h [] = refl
+stmts_made h (s ∷ ss) = ap (λ l. step (stmt_made h s) l) (stmts_made (next_stmt h s) ss)
+
+-- ---- phases
+
+abbrev pub next_phase : Here → Phase → Here
+next_phase h p = phase_end h (phase_tree p)
+
+abbrev pub phase_asks : Here → Phase → List Demand
+phase_asks h p = phase_demands h (phase_tree p)
+
+abbrev pub phase_made : Here → Phase → PhaseView
+phase_made h p = resolve_phase h (phase_tree p)
+
+pub phases_walk : (h : Here) (ps : List Phase) → phases_demands h (map phase_tree ps) ≡ walk next_phase phase_asks h ps
+phases_walk h [] = refl
+phases_walk h (p ∷ ps) = ap (λ ds. phase_asks h p ++ ds) (phases_walk (next_phase h p) ps)
+
+pub phases_ends : (h : Here) (ps : List Phase) → event_end h (map phase_tree ps) ≡ ends next_phase h ps
+phases_ends h [] = refl
+phases_ends h (p ∷ ps) = phases_ends (next_phase h p) ps
+
+pub phases_made : (h : Here) (ps : List Phase) → resolve_phases h (map phase_tree ps) ≡ makes next_phase phase_made h ps
+phases_made h [] = refl
+phases_made h (p ∷ ps) = ap (λ l. phase_made h p ∷ l) (phases_made (next_phase h p) ps)
+
+-- ---- what is numbered
+
+abbrev pub next_number : {X : Type 0} → ℕ → X → ℕ
+next_number n x = n + 1
+
+pub numbers_end : {X : Type 0} (n : ℕ) (xs : List X) → ends next_number n xs ≡ n + length xs
+numbers_end n [] = omega arith
+numbers_end n (x ∷ xs) = let e = numbers_end (n + 1) xs in omega arith
+
+pub number_at : {X : Type 0} (n : ℕ) (xs : List X) (i : ℕ) → i < length xs → ends next_number n (take i xs) ≡ n + i
+number_at n xs i l = numbers_end n (take i xs) ∙ ap (λ m. n + m) (length-take-le i xs (omega arith))
+
+pub at_number : {X : Type 0} (xs : List X) (i : ℕ) → i < length xs → ends next_number 0 (take i xs) ≡ i
+at_number xs i l = let e : 0 + i ≡ i = omega arith in number_at 0 xs i l ∙ e
+
+module _ (known : Known) (class : ℕ) where
+  pub fields_walk : (n : ℕ) (fs : List VarDecl) → fields_demands known class n fs ≡ walk next_number (field_asks known class) n fs
+  fields_walk n [] = refl
+  fields_walk n (f ∷ fs) = ap (λ ds. field_asks known class n f ++ ds) (fields_walk (n + 1) fs)
+
+  abbrev pub method_asks_at : ℕ → MethodDecl → List Demand
+  method_asks_at n m = method_demands known class n (method_tree m)
+
+  abbrev pub method_made : ℕ → MethodDecl → MethodView
+  method_made n m = resolve_method known class n (method_tree m)
+
+  pub methods_walk : (n : ℕ) (ms : List MethodDecl) → methods_demands known class n (map method_tree ms) ≡ walk next_number method_asks_at n ms
+  methods_walk n [] = refl
+  methods_walk n (m ∷ ms) = ap (λ ds. method_asks_at n m ++ ds) (methods_walk (n + 1) ms)
+
+  pub methods_made : (n : ℕ) (ms : List MethodDecl) → resolve_methods known class n (map method_tree ms) ≡ makes next_number method_made n ms
+  methods_made n [] = refl
+  methods_made n (m ∷ ms) = ap (λ l. method_made n m ∷ l) (methods_made (n + 1) ms)
+
+module _ (known : Known) where
+  abbrev pub event_asks : ℕ → EventDecl → List Demand
+  event_asks n e = event_demands known n (event_tree e)
+
+  abbrev pub event_made : ℕ → EventDecl → EventView
+  event_made n e = resolve_event known (event_tree e)
+
+  pub events_walk : (n : ℕ) (es : List EventDecl) → events_demands known n (map event_tree es) ≡ walk next_number event_asks n es
+  events_walk n [] = refl
+  events_walk n (e ∷ es) = ap (λ ds. event_asks n e ++ ds) (events_walk (n + 1) es)
+
+  pub events_made : (n : ℕ) (es : List EventDecl) → map (resolve_event known) (map event_tree es) ≡ makes next_number event_made n es
+  events_made n [] = refl
+  events_made n (e ∷ es) = ap (λ l. event_made n e ∷ l) (events_made (n + 1) es)
+
+-- ---- arguments, where there are as many as kinds
+
+module _ (h : Here) (kinds : List Kind) where
+  abbrev pub arg_asks : ℕ → Expr → List Demand
+  arg_asks n a = demands_as h (get_or kinds n k.Int) (expr_tree a)
+
+  abbrev pub arg_made : ℕ → Expr → Tree
+  arg_made n a = resolve h (expr_tree a)
+
+  pub args_made : (n : ℕ) (es : List Expr) → resolve_all h (exprs_of (map expr_tree es)) ≡ trees_of (makes next_number arg_made n es)
+  args_made n [] = refl
+  args_made n (a ∷ es) = ap (λ l. tree (resolve h (expr_tree a)) l) (args_made (n + 1) es)
+
+  args_walk_from : (n : ℕ) (ks : List Kind) (es : List Expr) → ((j : ℕ) → j < length ks → get_or ks j k.Int ≡ get_or kinds (n + j) k.Int) → length ks ≡ length es
+      → args_demands h ks (exprs_of (map expr_tree es)) ≡ walk next_number arg_asks n es
+  args_walk_from n [] [] same l = refl
+  args_walk_from n [] (a ∷ es) same l = absurd (omega arith)
+  args_walk_from n (kind ∷ ks) [] same l = absurd (omega arith)
+  args_walk_from n (kind ∷ ks) (a ∷ es) same l =
+      let z : n + 0 ≡ n = omega arith in
+      let here : kind ≡ get_or kinds n k.Int = same 0 (omega arith) ∙ ap (λ m. get_or kinds m k.Int) z in
+      (λ i. demands_as h (here i) (expr_tree a) ++ args_demands h ks (exprs_of (map expr_tree es)))
+      ∙ ap (λ ds. arg_asks n a ++ ds) (args_walk_from (n + 1) ks es (λ j s. let e : n + suc j ≡ n + 1 + j = omega arith in same (suc j) (omega arith) ∙ ap (λ m. get_or kinds m k.Int) e) (omega arith))
+
+  pub args_walk : (es : List Expr) → length kinds ≡ length es → args_demands h kinds (exprs_of (map expr_tree es)) ≡ walk next_number arg_asks 0 es
+  args_walk es l = args_walk_from 0 kinds es (λ j s. let e : j ≡ 0 + j = omega arith in ap (λ m. get_or kinds m k.Int) e) l
+
+pub count_args : (es : List Expr) → count (exprs_of (map expr_tree es)) ≡ length es
+count_args [] = refl
+count_args (a ∷ es) = ap suc (count_args es)

@@ -1,0 +1,186 @@
+ghost use Rattle.std.specs.Prelude.{◌≡◌, ◌&&◌, is_none, length, map};
+ghost use Rattle.std.specs.Option.{option_map, option_map_or};
+ghost use Rattle.value_ops.specs.Rows.{wave_rows, first_builtin};
+ghost use Rattle.mace_ast.specs.Decls.{last_tree, method_tree, phase_tree, event_tree};
+ghost use Rattle.mace_ast.specs.Stmts.{stmt_tree, stmts_of, no_stmts};
+ghost use Rattle.type_rules.specs.Demands.{Judges};
+ghost use Rattle.type_rules.specs.Here as places;
+ghost use Rattle.type_rules.specs.Known as known;
+ghost use Rattle.type_rules.specs.Stmts.{after_all, resolve_stmts, stmts_demands};
+ghost use Rattle.type_rules.specs.Functions as rules;
+ghost use Rattle.type_rules.specs.Views.{last_view, method_view, phase_view, event_view};
+ghost use Rattle.context_types.specs.Places.{here_of, AreSteps};
+
+use crate::here::Here;
+use mace_ast::{EventDecl, Last as LastDecl, MethodDecl, Name, Phase as PhaseDecl, Stmt};
+use resolved_service::{Event, Last, Method, Phase, Stmt as Step};
+use std::alloc::Global;
+use type_rules::TypeError;
+use type_tables::{Tables, kinds_of};
+use wave_base::{Class, Kind, Seq, Txt};
+
+/// Whether nothing before the n-th has a name, by the first that has it.
+pub fn none_before(n: usize, first: Option<u16>) -> bool
+    ensures { result ≡ known.none_before n first }
+{
+    match first {
+        None => true,
+        Some(first) => n <= first as usize,
+    }
+}
+
+// Whether a class's method with a number may have a name: no earlier one has it, and no builtin.
+fn is_free(tables: &Tables, class: u16, number: usize, name: &Txt) -> bool
+    ensures { result ≡ (known.none_before number (known.method_named tables.now class name.now) && is_none (first_builtin wave_rows name.now)) }
+{
+    if !none_before(number, tables.method(class, name)) {
+        return false;
+    }
+    tables.operators().builtin(name.bytes()).is_none()
+}
+
+/// A class's method with a number among all methods.
+pub fn method(
+    alloc: Global,
+    tables: &Tables,
+    class: u16,
+    number: usize,
+    m: &MethodDecl,
+) -> Result<Method, TypeError>
+    ensures { Judges (rules.method_demands tables.now class number (method_tree m.now)) (λ made. rules.resolve_method tables.now class number (method_tree m.now) ≡ method_view made) result }
+{
+    let name = &m.name.text;
+    if !is_free(tables, class, number, name) {
+        return Err(TypeError::Duplicate(m.name.at));
+    }
+    let mut here = Here::start(alloc, tables, class, number);
+    here.method_params(alloc, m.params.as_slice())?;
+    let body = here.stmts(alloc, m.body.as_slice())?;
+    let last = here.last(alloc, &m.name, m.result, &m.last)?;
+    Ok(Method {
+        at: m.at,
+        name: name.copy(alloc)?,
+        class: Class(class),
+        params: kinds_of(alloc, &m.params)?,
+        result: m.result,
+        locals: here.into_slots(),
+        body: Seq::from_vec(body),
+        last,
+    })
+}
+
+/// An event with a number among all events.
+pub fn event(
+    alloc: Global,
+    tables: &Tables,
+    number: usize,
+    e: &EventDecl,
+) -> Result<Event, TypeError>
+    ensures { Judges (rules.event_demands tables.now number (event_tree e.now)) (λ made. rules.resolve_event tables.now (event_tree e.now) ≡ event_view made) result }
+{
+    if !none_before(number, tables.event(&e.name.text)) {
+        return Err(TypeError::Duplicate(e.name.at));
+    }
+    let mut here = Here::start(alloc, tables, 0, tables.method_count());
+    here.event_params(alloc, e.params.as_slice())?;
+    let first = here.first(alloc, &e.here)?;
+    let phases = here.phases(alloc, e.phases.as_slice())?;
+    let last = here.last(alloc, &e.name, e.result, &e.last)?;
+    Ok(Event {
+        at: e.at,
+        locals: here.into_slots(),
+        here: Seq::from_vec(first),
+        phases: Seq::from_vec(phases),
+        last,
+    })
+}
+
+impl<'t> Here<'t> {
+    // Where a method or an event begins.
+    fn start(alloc: Global, known: &'t Tables, class: u16, function: usize) -> Here<'t>
+        ensures { here_of result ≡ places.start known.now class function }
+    {
+        Here {
+            known,
+            class,
+            function,
+            locals: Vec::new(alloc),
+            slots: Vec::new(alloc),
+        }
+    }
+
+    fn into_slots(self) -> Seq<Kind>
+        ensures { result ≡ self.entry.slots.items }
+    {
+        let Here {
+            known: _,
+            class: _,
+            function: _,
+            locals: _,
+            slots,
+        } = self;
+        Seq::from_vec(slots)
+    }
+
+    // The statements at the root, if any are written.
+    fn first(&mut self, alloc: Global, body: &Option<Seq<Stmt>>) -> Result<Vec<Step>, TypeError>
+        ensures { let ss = option_map_or stmts_of (option_map (map stmt_tree) body.now) no_stmts in
+            Judges (stmts_demands (here_of self.old) ss) (λ steps. AreSteps (after_all (here_of self.old) ss) (resolve_stmts (here_of self.old) ss) self.new steps.items) result }
+    {
+        match body {
+            None => Ok(Vec::new(alloc)),
+            Some(body) => self.stmts(alloc, body.as_slice()),
+        }
+    }
+
+    // What is returned or replied, by the kind that is to be.
+    fn last(
+        &self,
+        alloc: Global,
+        name: &Name,
+        gives: Option<Kind>,
+        last: &Option<LastDecl>,
+    ) -> Result<Option<Last>, TypeError>
+        ensures { let tree = option_map last_tree last.now in
+            Judges (rules.last_demands (here_of self.now) name.now gives tree) (λ made. option_map (rules.resolve_last (here_of self.now)) tree ≡ option_map last_view made) result }
+    {
+        match (gives, last) {
+            (None, None) => Ok(None),
+            (Some(_), None) => Err(TypeError::MissingReply(name.at)),
+            (None, Some(last)) => Err(TypeError::Mismatch(last.at)),
+            (Some(kind), Some(last)) => {
+                let value = self.expr_of(alloc, kind, &last.value)?;
+                Ok(Some(Last { at: last.at, value }))
+            }
+        }
+    }
+
+    fn phases(&mut self, alloc: Global, phases: &[PhaseDecl]) -> Result<Vec<Phase>, TypeError>
+        ensures { let ps = map phase_tree phases.now in
+            Judges (rules.phases_demands (here_of self.old) ps)
+            (λ made. (rules.event_end (here_of self.old) ps ≡ here_of self.new) × (rules.resolve_phases (here_of self.old) ps ≡ map phase_view made.items)) result }
+    {
+        let mut made = Vec::new(alloc);
+        for phase in phases {
+            let phase = self.phase(alloc, phase)?;
+            made.push(phase)?;
+        }
+        Ok(made)
+    }
+
+    fn phase(&mut self, alloc: Global, phase: &PhaseDecl) -> Result<Phase, TypeError>
+        ensures { Judges (rules.phase_demands (here_of self.old) (phase_tree phase.now))
+            (λ made. (rules.phase_end (here_of self.old) (phase_tree phase.now) ≡ here_of self.new) × (rules.resolve_phase (here_of self.old) (phase_tree phase.now) ≡ phase_view made)) result }
+    {
+        let class = self.child(phase.at, &phase.class)?;
+        let key = self.expr_of(alloc, Kind::Int, &phase.key)?;
+        self.class = class;
+        let body = self.stmts(alloc, phase.body.as_slice())?;
+        Ok(Phase {
+            at: phase.at,
+            class: Class(class),
+            key,
+            body: Seq::from_vec(body),
+        })
+    }
+}

@@ -1,0 +1,69 @@
+ghost use Rattle.std.specs.Prelude.{◌≡◌, IfSome};
+ghost use Rattle.std.specs.Option.{option_copied};
+ghost use Rattle.type_rules.specs.Here as rules;
+ghost use Rattle.type_rules.specs.Known as known;
+ghost use Rattle.context_types.specs.Places.{here_of};
+ghost use Rattle.type_tables.specs.Rows.{IsCallable};
+
+use type_rules::{Callee, Local, Variable};
+use type_tables::Tables;
+use wave_base::{Kind, Txt};
+
+/// Where the walk stands: in a class, in a method or an event with a number, behind the locals that may be named. `slots`
+/// has the kinds of all slots that the function has given so far.
+#[derive(Drop)]
+pub struct Here<'t> {
+    pub known: &'t Tables,
+    pub class: u16,
+    pub function: usize,
+    pub locals: Vec<Local>,
+    pub slots: Vec<Kind>,
+}
+
+impl Here<'_> {
+    /// The local of a name.
+    pub fn local(&self, name: &Txt) -> Option<&Local>
+        ensures { option_copied result ≡ rules.local_named (here_of self.now) name.now }
+    {
+        for local in &self.locals {
+            if local.name == *name {
+                return Some(local);
+            }
+        }
+        None
+    }
+
+    /// What a name of a value stands for: a local, else an own field.
+    pub fn variable(&self, name: &Txt) -> Option<Variable>
+        ensures { result ≡ rules.variable (here_of self.now) name.now }
+    {
+        match self.local(name) {
+            Some(local) => Some(Variable::Local(local.slot, local.kind)),
+            None => match self.known.field(self.class, name) {
+                Some((field, kind)) => Some(Variable::Field(field, kind)),
+                None => None,
+            },
+        }
+    }
+
+    /// What a call names: a builtin, else an own method.
+    pub fn called(&self, name: &Txt) -> Option<Callee>
+        ensures found { result ≡ rules.called (here_of self.now) name.now }
+        ensures callable { IfSome result (IsCallable self.now.known.now) }
+    {
+        match self.known.operators().builtin(name.bytes()) {
+            Some(row) => Some(Callee::Builtin(row)),
+            None => match self.known.method(self.class, name) {
+                Some(method) => Some(Callee::Method(method)),
+                None => None,
+            },
+        }
+    }
+
+    /// Whether a class is a child of the class here.
+    pub fn is_child(&self, class: u16) -> bool
+        ensures { result ≡ rules.is_child (here_of self.now) class }
+    {
+        self.known.is_child(self.class, class)
+    }
+}

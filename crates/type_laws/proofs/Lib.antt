@@ -1,0 +1,7 @@
+pub mod Classes
+pub mod Each
+pub mod Names
+pub mod Services
+pub mod Sound
+pub mod Steps
+pub mod Trees

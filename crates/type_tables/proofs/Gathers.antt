@@ -1,0 +1,247 @@
+-- What is gathered, one declaration after the other.
+use Rattle.std.proofs.Common.{◌≡◌, ◌≢◌, ◌+◌, ◌<◌, ◌≤◌, ◌^◌, ◌==◌, ◌&&◌, ℕ, Bool, true, false, List, [], ◌∷◌, ◌++◌, length, map, position, get_or, Option, Some, None, set, take, All, refl, sym, ap, subst, ◌∙◌, append_assoc, arith, rules, Result, Ok, Err, OnOk}
+use Rattle.std.proofs.lemmas.List.{append-nil, map-append, length-append, length-map, length-set, take_more, take_all, get_or-set_same, get_or-set_other}
+use Rattle.wave_base.specs.declared.path.Class.{Class}
+use Rattle.wave_base.specs.declared.shape.ClassInfo.{ClassInfo}
+use Rattle.wave_base.specs.declared.shape.EventInfo.{EventInfo}
+use Rattle.wave_base.specs.Names.{same_bytes}
+use Rattle.wave_base.specs.declared.span.Span.{Span}
+use Rattle.mace_ast.specs.declared.name.Name.{Name}
+use Rattle.mace_ast.specs.declared.field.VarDecl.{VarDecl}
+use Rattle.mace_ast.specs.declared.context.ContextDecl.{ContextDecl, ContextDecl', out-ContextDecl, the_lemmas}
+use Rattle.mace_ast.specs.declared.method.MethodDecl.{MethodDecl}
+use Rattle.mace_ast.specs.declared.event.EventDecl.{EventDecl}
+use Rattle.mace_ast.proofs.Rows.{row_contexts-items}
+use Rattle.mace_ast.specs.Decls.{method_tree, event_tree, context_tree, MethodTree, EventTree, ContextTree, ContextTrees, Context, no_contexts, context_and, contexts_of, ServiceTree}
+use Rattle.type_rules.specs.declared.known.Known.{Known}
+use Rattle.type_rules.specs.declared.known.Signature.{Signature}
+use Rattle.type_rules.specs.Known.{Entry, class_count, classes_count, classes_of, classes_in, entry, methods_of, methods_in, signature, event_info, class_named, event_named, method_named, shape_of, known_of}
+use Rattle.type_tables.specs.declared.gather.Gathered.{Gathered}
+use Rattle.type_tables.specs.Gathering.{known_in, IsGathered, grown, Gains}
+use Rattle.type_tables.specs.Indexed.{IsIndexed}
+use Rattle.type_tables.specs.Numbers.{first_number, noted}
+use Rattle.type_tables.proofs.Indexing.{indexed_as, indexed_class, indexed_event, indexed_method}
+
+-- ---- growing
+
+pub grown_none : (k : Known) → grown k [] [] [] ≡ k
+grown_none k = (λ i. record { shape = record { classes = append-nil k.shape.classes i; events = append-nil k.shape.events i }; above = append-nil k.above i; methods = append-nil k.methods i })
+
+pub grown_twice : (k : Known) (a b : List Entry) (c d : List Signature) (e f : List EventInfo) → grown (grown k a c e) b d f ≡ grown k (a ++ b) (c ++ d) (e ++ f)
+grown_twice k a b c d e f =
+    (λ i. record {
+      shape = record { classes = joined (λ (c : Entry). c.info) k.shape.classes a b i; events = append_assoc k.shape.events e f i };
+      above = joined (λ (c : Entry). c.above) k.above a b i;
+      methods = append_assoc k.methods c d i;
+    })
+  where
+    joined : {X Y : Type 0} (g : X → Y) (ys : List Y) (a b : List X) → (ys ++ map g a) ++ map g b ≡ ys ++ map g (a ++ b)
+    joined g ys a b = append_assoc ys (map g a) (map g b) ∙ ap (λ l. ys ++ l) (sym (map-append g a b))
+
+-- nothing more
+pub gains_none : (g : Gathered) → IsGathered g → Gains g g [] [] []
+gains_none g h = record { gathered = h; known = sym (grown_none (known_in g)) }
+
+-- first some, and then more
+pub gains_twice : (g h j : Gathered) (a b : List Entry) (c d : List Signature) (e f : List EventInfo) → Gains g h a c e → Gains h j b d f → Gains g j (a ++ b) (c ++ d) (e ++ f)
+gains_twice g h j a b c d e f first second = record {
+  gathered = second.gathered;
+  known = second.known ∙ ap (λ k. grown k b d f) first.known ∙ grown_twice (known_in g) a b c d e f;
+}
+
+-- the same under other names
+pub gains_as : (g h : Gathered) (a b : List Entry) (c d : List Signature) (e f : List EventInfo) → a ≡ b → c ≡ d → e ≡ f → Gains g h a c e → Gains g h b d f
+gains_as g h a b c d e f p q r t = subst (λ x. Gains g h x d f) p (subst (λ x. Gains g h a x f) q (subst (λ x. Gains g h a c x) r t))
+
+-- how many classes there are then
+pub gains_classes : (g h : Gathered) (a : List Entry) (c : List Signature) (e : List EventInfo) → Gains g h a c e → length h.classes.items ≡ length g.classes.items + length a
+gains_classes g h a c e t =
+    ap (λ (k : Known). length k.shape.classes) t.known ∙ length-append g.classes.items (map (λ (c : Entry). c.info) a) ∙ ap (λ n. length g.classes.items + n) (length-map a (λ (c : Entry). c.info))
+
+-- ---- classes of contexts, and their number
+
+mutual
+  pub count_of : (above : List ℕ) (parent n : ℕ) (c : ContextTree) → length (classes_of above parent n c) ≡ class_count c
+  count_of above parent n (Context at name vars contexts methods) = let e = count_in (above ++ n ∷ []) n (n + 1) contexts in omega arith
+
+  pub count_in : (above : List ℕ) (parent n : ℕ) (cs : ContextTrees) → length (classes_in above parent n cs) ≡ classes_count cs
+  count_in above parent n no_contexts = refl
+  count_in above parent n (context_and c cs) =
+      length-append (classes_of above parent n c) (classes_in above parent (n + class_count c) cs) ∙ (λ i. count_of above parent n c i + count_in above parent (n + class_count c) cs i)
+
+add3 : (n a b : ℕ) → n + a + b ≡ n + (a + b)
+add3 n a b = omega arith
+
+pub classes_push : (above : List ℕ) (parent n : ℕ) (cs : List ContextTree) (c : ContextTree)
+    → classes_in above parent n (contexts_of (cs ++ c ∷ [])) ≡ classes_in above parent n (contexts_of cs) ++ classes_of above parent (n + classes_count (contexts_of cs)) c
+classes_push above parent n [] c = append-nil (classes_of above parent n c) ∙ ap (λ m. classes_of above parent m c) (plus n)
+  where
+    plus : (n : ℕ) → n ≡ n + 0
+    plus n = omega arith
+classes_push above parent n (d ∷ cs) c =
+    ap (λ l. classes_of above parent n d ++ l) (classes_push above parent (n + class_count d) cs c)
+    ∙ sym (append_assoc (classes_of above parent n d) (classes_in above parent (n + class_count d) (contexts_of cs)) (classes_of above parent (n + class_count d + classes_count (contexts_of cs)) c))
+    ∙ ap (λ m. classes_in above parent n (contexts_of (d ∷ cs)) ++ classes_of above parent m c) (add3 n (class_count d) (classes_count (contexts_of cs)))
+
+pub methods_push : (n : ℕ) (cs : List ContextTree) (c : ContextTree) → methods_in n (contexts_of (cs ++ c ∷ [])) ≡ methods_in n (contexts_of cs) ++ methods_of (n + classes_count (contexts_of cs)) c
+methods_push n [] c = append-nil (methods_of n c) ∙ ap (λ m. methods_of m c) (plus n)
+  where
+    plus : (n : ℕ) → n ≡ n + 0
+    plus n = omega arith
+methods_push n (d ∷ cs) c =
+    ap (λ l. methods_of n d ++ l) (methods_push (n + class_count d) cs c)
+    ∙ sym (append_assoc (methods_of n d) (methods_in (n + class_count d) (contexts_of cs)) (methods_of (n + class_count d + classes_count (contexts_of cs)) c))
+    ∙ ap (λ m. methods_in n (contexts_of (d ∷ cs)) ++ methods_of m c) (add3 n (class_count d) (classes_count (contexts_of cs)))
+
+-- a list up to an item and that item
+pub map_more : {X Y : Type 0} (f : X → Y) (xs : List X) (i : ℕ) (x : X) → i < length xs → x ≡ get_or xs i x → map f (take (i + 1) xs) ≡ map f (take i xs) ++ f x ∷ []
+map_more f xs i x l at = ap (map f) (take_more xs i x l) ∙ map-append f (take i xs) (get_or xs i x ∷ []) ∙ ap (λ y. map f (take i xs) ++ f y ∷ []) (sym at)
+
+-- contexts up to one, and that one
+pub gains_context : (g h j : Gathered) (above : List ℕ) (parent n : ℕ) (cs ds : List ContextTree) (c : ContextTree) → n ≡ length g.classes.items → ds ≡ cs ++ c ∷ []
+    → Gains g h (classes_in above parent n (contexts_of cs)) (methods_in n (contexts_of cs)) []
+    → Gains h j (classes_of above parent (length h.classes.items) c) (methods_of (length h.classes.items) c) []
+    → Gains g j (classes_in above parent n (contexts_of ds)) (methods_in n (contexts_of ds)) []
+gains_context g h j above parent n cs ds c start more first second =
+    let number : length h.classes.items ≡ n + classes_count (contexts_of cs) =
+    gains_classes g h _ _ _ first ∙ (λ i. sym start i + count_in above parent n (contexts_of cs) i) in
+    let both = gains_twice g h j _ _ _ _ _ _ first second in
+    gains_as g j _ _ _ _ _ _
+    (ap (λ m. classes_in above parent n (contexts_of cs) ++ classes_of above parent m c) number ∙ sym (classes_push above parent n cs c) ∙ ap (λ l. classes_in above parent n (contexts_of l)) (sym more))
+    (ap (λ m. methods_in n (contexts_of cs) ++ methods_of m c) number ∙ sym (methods_push n cs c) ∙ ap (λ l. methods_in n (contexts_of l)) (sym more))
+    refl both
+
+-- a context by its parts
+pub tree_parts : (c : ContextDecl) → context_tree c ≡ Context (out-ContextDecl c).at (out-ContextDecl c).name (out-ContextDecl c).vars (contexts_of (map context_tree (out-ContextDecl c).contexts.items)) (map method_tree (out-ContextDecl c).methods)
+tree_parts (ContextDecl' at name vars s inner methods) = search (rules, the_lemmas, row_contexts-items)
+
+-- ---- loops
+
+map_twice : {X Y Z : Type 0} (f : Y → Z) (g : X → Y) (xs : List X) (i : ℕ) (x : X) → i < length xs → x ≡ get_or xs i x → map f (map g (take i xs)) ++ f (g x) ∷ [] ≡ map f (map g (take (i + 1) xs))
+map_twice f g xs i x l at = sym (map-append f (map g (take i xs)) (g x ∷ [])) ∙ ap (map f) (sym (map_more g xs i x l at))
+
+pub gains_method : (g h j : Gathered) (class : ℕ) (ms : List MethodDecl) (i : ℕ) (m : MethodDecl) → i < length ms → m ≡ get_or ms i m
+    → Gains g h [] (map (signature class) (map method_tree (take i ms))) [] → Gains h j [] (signature class (method_tree m) ∷ []) [] → Gains g j [] (map (signature class) (map method_tree (take (i + 1) ms))) []
+gains_method g h j class ms i m l at first second =
+    gains_as g j _ _ _ _ _ _ refl (map_twice (signature class) method_tree ms i m l at) refl (gains_twice g h j _ _ _ _ _ _ first second)
+
+pub gains_event : (g h j : Gathered) (es : List EventDecl) (i : ℕ) (e : EventDecl) → i < length es → e ≡ get_or es i e
+    → Gains g h [] [] (map event_info (map event_tree (take i es))) → Gains h j [] [] (event_info (event_tree e) ∷ []) → Gains g j [] [] (map event_info (map event_tree (take (i + 1) es)))
+gains_event g h j es i e l at first second =
+    gains_as g j _ _ _ _ _ _ refl refl (map_twice event_info event_tree es i e l at) (gains_twice g h j _ _ _ _ _ _ first second)
+
+-- all of the methods and all of the events, where the loop is at its end
+pub methods_whole : (g h : Gathered) (class n : ℕ) (ms : List MethodDecl) → length ms ≤ n → Gains g h [] (map (signature class) (map method_tree (take n ms))) [] → Gains g h [] (map (signature class) (map method_tree ms)) []
+methods_whole g h class n ms l t = gains_as g h _ _ _ _ _ _ refl (ap (λ xs. map (signature class) (map method_tree xs)) (take_all n ms l)) refl t
+
+pub events_whole : (g h : Gathered) (n : ℕ) (es : List EventDecl) → length es ≤ n → Gains g h [] [] (map event_info (map event_tree (take n es))) → Gains g h [] [] (map event_info (map event_tree es))
+events_whole g h n es l t = gains_as g h _ _ _ _ _ _ refl refl (ap (λ xs. map event_info (map event_tree xs)) (take_all n es l)) t
+
+pub contexts_whole : (g h : Gathered) (above : List ℕ) (parent m n : ℕ) (cs : List ContextDecl) → length cs ≤ n
+    → Gains g h (classes_in above parent m (contexts_of (map context_tree (take n cs)))) (methods_in m (contexts_of (map context_tree (take n cs)))) []
+    → Gains g h (classes_in above parent m (contexts_of (map context_tree cs))) (methods_in m (contexts_of (map context_tree cs))) []
+contexts_whole g h above parent m n cs l t =
+    gains_as g h _ _ _ _ _ _ (ap (λ xs. classes_in above parent m (contexts_of (map context_tree xs))) (take_all n cs l)) (ap (λ xs. methods_in m (contexts_of (map context_tree xs))) (take_all n cs l)) refl t
+
+-- a class, the contexts inside it, and then its methods
+pub gains_inside : (g h j k : Gathered) (above inner : List ℕ) (parent n : ℕ) (at : Span) (name : Name) (vars : List VarDecl) (cs : List ContextTree) (ms : List MethodTree) (c : ContextTree)
+    → c ≡ Context at name vars (contexts_of cs) ms → n ≡ length g.classes.items → inner ≡ above ++ n ∷ []
+    → Gains g h (entry above (Some (record { 0 = parent })) name vars ∷ []) [] []
+    → Gains h j (classes_in inner n (length h.classes.items) (contexts_of cs)) (methods_in (length h.classes.items) (contexts_of cs)) []
+    → Gains j k [] (map (signature n) ms) []
+    → Gains g k (classes_of above parent (length g.classes.items) c) (methods_of (length g.classes.items) c) []
+gains_inside g h j k above inner parent n at name vars cs ms c parts start is first second third =
+    let number : length h.classes.items ≡ n + 1 = gains_classes g h _ _ _ first ∙ ap (λ m. m + 1) (sym start) in
+    let inside : Gains h j (classes_in (above ++ n ∷ []) n (n + 1) (contexts_of cs)) (methods_in (n + 1) (contexts_of cs)) [] =
+    gains_as h j _ (classes_in (above ++ n ∷ []) n (n + 1) (contexts_of cs)) _ (methods_in (n + 1) (contexts_of cs)) _ _ (λ i. classes_in (is i) n (number i) (contexts_of cs)) (ap (λ m. methods_in m (contexts_of cs)) number) refl second in
+    let all = gains_twice g h k _ _ _ _ _ _ first (gains_twice h j k _ _ _ _ _ _ inside third) in
+    gains_as g k _ _ _ _ _ _
+    (ap (λ l. entry above (Some (record { 0 = parent })) name vars ∷ l) (append-nil (classes_in (above ++ n ∷ []) n (n + 1) (contexts_of cs))) ∙ (λ i. classes_of above parent (start i) (sym parts i)))
+    (λ i. methods_of (start i) (sym parts i))
+    refl all
+
+pub on_ok : {A E : Type 0} (P Q : Type 0) (r : Result A E) → (P → Q) → OnOk r P → OnOk r Q
+on_ok P Q (Ok a) f p = f p
+on_ok P Q (Err e) f p = p
+
+-- ---- one declaration more
+
+blank_more : {X : Type 0} (xs : List X) → xs ≡ xs ++ []
+blank_more xs = sym (append-nil xs)
+
+module _ (g h : Gathered) (is : IsGathered g) where
+  pub class_gained : (info made : ClassInfo) (above : List ℕ) (name : List ℕ) → info ≡ made → info.name ≡ name → length info.fields < 2 ^ 16 → length above < 2 ^ 16 → length g.classes.items + 1 < 2 ^ 16
+      → h.classes.items ≡ g.classes.items ++ info ∷ [] → h.above.items ≡ g.above.items ++ above ∷ [] → h.methods ≡ g.methods → h.events ≡ g.events
+      → h.class_names ≡ noted g.class_names name (length g.classes.items) → h.event_names ≡ g.event_names → h.method_names.items ≡ g.method_names.items ++ [] ∷ []
+      → Gains g h (record { info = made; above = above } ∷ []) [] []
+  class_gained info made above name same named fields short room classes aboves methods events cn en mn =
+      let known : known_in h ≡ record { shape = record { classes = g.classes.items ++ info ∷ []; events = g.events.items }; above = g.above.items ++ above ∷ []; methods = g.methods.items } =
+      (λ i. record { shape = record { classes = classes i; events = (events i).items }; above = aboves i; methods = (methods i).items }) in
+      let base = indexed_class (known_in g) g.class_names g.event_names g.method_names.items is.indexed info above name named fields short room in
+      record {
+        gathered = record {
+          indexed = indexed_as _ _ _ _ _ _ _ _ (sym known) (sym cn) (sym en) (sym mn) base;
+          tables = ap length mn ∙ length-append g.method_names.items ([] ∷ []) ∙ ap (λ n. n + 1) is.tables ∙ sym (ap length classes ∙ length-append g.classes.items (info ∷ []));
+        };
+        known = known ∙ (λ i. record { shape = record { classes = g.classes.items ++ same i ∷ []; events = blank_more g.events.items i }; above = g.above.items ++ above ∷ []; methods = blank_more g.methods.items i });
+      }
+
+  pub event_gained : (info made : EventInfo) (name : List ℕ) → info ≡ made → info.name ≡ name → length g.events.items + 1 < 2 ^ 16
+      → h.classes ≡ g.classes → h.above ≡ g.above → h.methods ≡ g.methods → h.events.items ≡ g.events.items ++ info ∷ []
+      → h.class_names ≡ g.class_names → h.event_names ≡ noted g.event_names name (length g.events.items) → h.method_names ≡ g.method_names
+      → Gains g h [] [] (made ∷ [])
+  event_gained info made name same named room classes aboves methods events cn en mn =
+      let known : known_in h ≡ record { shape = record { classes = g.classes.items; events = g.events.items ++ info ∷ [] }; above = g.above.items; methods = g.methods.items } =
+      (λ i. record { shape = record { classes = (classes i).items; events = events i }; above = (aboves i).items; methods = (methods i).items }) in
+      let base = indexed_event (known_in g) g.class_names g.event_names g.method_names.items is.indexed info name named room in
+      record {
+        gathered = record {
+          indexed = indexed_as _ _ _ _ _ _ _ _ (sym known) (sym cn) (sym en) (sym (ap (λ v. v.items) mn)) base;
+          tables = ap (λ v. length v.items) mn ∙ is.tables ∙ sym (ap (λ v. length v.items) classes);
+        };
+        known = known ∙ (λ i. record { shape = record { classes = blank_more g.classes.items i; events = g.events.items ++ same i ∷ [] }; above = blank_more g.above.items i; methods = blank_more g.methods.items i });
+      }
+
+  pub method_gained : (s made : Signature) (class : ℕ) (name : List ℕ) → s ≡ made → s.class ≡ class → s.name ≡ name → class < length g.classes.items → length g.methods.items + 1 < 2 ^ 16
+      → h.classes ≡ g.classes → h.above ≡ g.above → h.methods.items ≡ g.methods.items ++ s ∷ [] → h.events ≡ g.events
+      → h.class_names ≡ g.class_names → h.event_names ≡ g.event_names → h.method_names.items ≡ set g.method_names.items class (noted (get_or g.method_names.items class []) name (length g.methods.items))
+      → Gains g h [] (made ∷ []) []
+  method_gained s made class name same in_class named there room classes aboves methods events cn en mn =
+      let known : known_in h ≡ record { shape = record { classes = g.classes.items; events = g.events.items }; above = g.above.items; methods = g.methods.items ++ s ∷ [] } =
+      (λ i. record { shape = record { classes = (classes i).items; events = (events i).items }; above = (aboves i).items; methods = methods i }) in
+      let base = indexed_method (known_in g) g.class_names g.event_names g.method_names.items is.indexed s class name in_class named (subst (λ n. class < n) (sym is.tables) there) room in
+      record {
+        gathered = record {
+          indexed = indexed_as _ _ _ _ _ _ _ _ (sym known) (sym cn) (sym en) (sym mn) base;
+          tables = ap length mn ∙ length-set g.method_names.items class _ ∙ is.tables ∙ sym (ap (λ v. length v.items) classes);
+        };
+        known = known ∙ (λ i. record { shape = record { classes = blank_more g.classes.items i; events = blank_more g.events.items i }; above = blank_more g.above.items i; methods = g.methods.items ++ same i ∷ [] });
+      }
+
+-- ---- all of a service
+
+abbrev pub nothing : Known
+nothing = record { shape = record { classes = []; events = [] }; above = []; methods = [] }
+
+pub service_gathered : (g h j k l : Gathered) (s : ServiceTree) → known_in g ≡ nothing
+    → Gains g h (entry [] None s.name s.vars ∷ []) [] []
+    → Gains h j (classes_in (0 ∷ []) 0 (length h.classes.items) (contexts_of s.contexts)) (methods_in (length h.classes.items) (contexts_of s.contexts)) []
+    → Gains j k [] (map (signature 0) s.methods) []
+    → Gains k l [] [] (map event_info s.events)
+    → IsGathered l × (known_in l ≡ known_of s)
+unfolding known_of shape_of
+service_gathered g h j k l s start first second third fourth =
+    let cs = contexts_of s.contexts in
+    let none : length g.classes.items ≡ 0 = ap (λ (k : Known). length k.shape.classes) start in
+    let counted = gains_classes g h _ _ _ first in
+    let number : length h.classes.items ≡ 1 = counted ∙ ap (λ n. n + 1) none in
+    let inside : Gains h j (classes_in (0 ∷ []) 0 1 cs) (methods_in 1 cs) [] = gains_as h j _ _ _ _ _ _ (ap (λ n. classes_in (0 ∷ []) 0 n cs) number) (ap (λ n. methods_in n cs) number) refl second in
+    let all = gains_twice g h l _ _ _ _ _ _ first (gains_twice h j l _ _ _ _ _ _ inside (gains_twice j k l _ _ _ _ _ _ third fourth)) in (
+      all.gathered,
+      all.known ∙ ap (λ k. grown k (entry [] None s.name s.vars ∷ (classes_in (0 ∷ []) 0 1 cs ++ [])) (methods_in 1 cs ++ (map (signature 0) s.methods ++ [])) (map event_info s.events)) start
+          ∙ (λ i. record {
+            shape = record { classes = map (λ (c : Entry). c.info) (entry [] None s.name s.vars ∷ append-nil (classes_in (0 ∷ []) 0 1 cs) i); events = map event_info s.events };
+            above = map (λ (c : Entry). c.above) (entry [] None s.name s.vars ∷ append-nil (classes_in (0 ∷ []) 0 1 cs) i);
+            methods = methods_in 1 cs ++ append-nil (map (signature 0) s.methods) i;
+          }),
+    )

@@ -1,0 +1,13 @@
+use Rattle.std.proofs.Common.{[], ◌∷◌, map, length, sym, subst, refl}
+use Rattle.mace_ast.specs.Decls.{context_tree, contexts_of, method_tree, event_tree, service_tree}
+use Rattle.type_rules.specs.Known as rules
+use Rattle.type_tables.specs.Gathering.{Gains}
+use Rattle.type_tables.proofs.Gathers.{service_gathered}
+use Rattle.type_tables.proofs.gather.Gathered.of.Goals as goal
+
+pub returns : goal.returns
+returns c =
+    service_gathered _ _ _ _ _ (service_tree c.args.service.now) c.new-gathered.ensures.known c.in_ok-class.ensures
+    (subst (λ xs. Gains c.class.new.self c.contexts.new.self (rules.classes_in (0 ∷ []) 0 (length c.class.new.self.classes.items) (contexts_of (map context_tree xs))) (rules.methods_in (length c.class.new.self.classes.items) (contexts_of (map context_tree xs))) []) c.as_slice.ensures c.in_ok-contexts.ensures)
+    (subst (λ xs. Gains c.contexts.new.self c.methods.new.self [] (map (rules.signature 0) (map method_tree xs)) []) c.as_slice-2.ensures c.in_ok-methods.ensures)
+    (subst (λ xs. Gains c.methods.new.self c.events.new.self [] [] (map rules.event_info (map event_tree xs))) c.as_slice-3.ensures c.in_ok-events.ensures)

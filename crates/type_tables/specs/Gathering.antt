@@ -1,0 +1,28 @@
+-- What was gathered so far, and what more declarations add.
+use Rattle.std.specs.Prelude.{◌≡◌, ◌++◌, List, map, length}
+use Rattle.wave_base.specs.declared.shape.EventInfo.{EventInfo}
+use Rattle.type_rules.specs.declared.known.Known.{Known}
+use Rattle.type_rules.specs.declared.known.Signature.{Signature}
+use Rattle.type_rules.specs.Known.{Entry}
+use Rattle.type_tables.specs.declared.gather.Gathered.{Gathered}
+use Rattle.type_tables.specs.Indexed.{IsIndexed}
+
+abbrev pub known_in : Gathered → Known
+known_in g = record { shape = record { classes = g.classes.items; events = g.events.items }; above = g.above.items; methods = g.methods.items }
+
+-- the tables tell the numbers of all names so far
+pub record IsGathered (g : Gathered) : Type 0 where
+  pub indexed : IsIndexed (known_in g) g.class_names g.event_names g.method_names.items
+  pub tables : length g.method_names.items ≡ length g.classes.items
+
+-- so many more classes, methods and events
+abbrev pub grown : Known → List Entry → List Signature → List EventInfo → Known
+grown known classes methods events = record {
+  shape = record { classes = known.shape.classes ++ map (λ c. c.info) classes; events = known.shape.events ++ events };
+  above = known.above ++ map (λ c. c.above) classes;
+  methods = known.methods ++ methods;
+}
+
+pub record Gains (old new : Gathered) (classes : List Entry) (methods : List Signature) (events : List EventInfo) : Type 0 where
+  pub gathered : IsGathered new
+  pub known : known_in new ≡ grown (known_in old) classes methods events

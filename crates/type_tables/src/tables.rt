@@ -1,0 +1,211 @@
+ghost use Rattle.std.specs.Prelude.{◌≡◌, ◌<◌, ◌^◌, IfOk, IfSome, length};
+ghost use Rattle.std.specs.Option.{option_map};
+ghost use Rattle.wave_base.specs.Shapes.{declared_fields, parent_class, is_class};
+ghost use Rattle.mace_ast.specs.Decls.{service_tree};
+ghost use Rattle.type_rules.specs.Known as known;
+ghost use Rattle.type_tables.specs.Gathering.{IsGathered, known_in};
+
+use crate::gather::Gathered;
+use crate::names::Names;
+use crate::operators::Operators;
+use mace_ast::Service;
+use std::alloc::Global;
+use std::marker::Model;
+use type_rules::{Known, Signature};
+use wave_base::{FieldInfo, Kind, OutOfMemory, Seq, Shape, Txt};
+
+/// What a service declares, with tables by which names are found.
+#[derive(Drop)]
+pub struct Tables {
+    known: Known,
+    operators: Operators,
+    classes: Names,
+    events: Names,
+    /// The methods of each class.
+    methods: Vec<Names>,
+}
+
+impl Model for Tables {
+    ghost use Rattle.type_rules.specs.declared.known.Known.{Known};
+    ghost use Rattle.type_tables.specs.Indexed.{IsIndexed};
+
+    ghost Value = { Known };
+
+    ghost view = { λ t. t.known };
+
+    ghost invariant = { λ t. IsIndexed t.known t.classes t.events t.methods.items };
+}
+
+impl Tables {
+    /// The tables of all that a service declares.
+    pub fn of(alloc: Global, service: &Service) -> Result<Tables, OutOfMemory>
+        ensures known { IfOk result (λ t. t ≡ known.known_of (service_tree service.now)) }
+        ensures few_classes { IfOk result (λ t. length t.shape.classes < 2 ^ 16) }
+        ensures few_events { IfOk result (λ t. length t.shape.events < 2 ^ 16) }
+    {
+        let gathered = Gathered::of(alloc, service)?;
+        Ok(Tables::new(gathered))
+    }
+
+    fn new(gathered: Gathered) -> Tables
+        requires { IsGathered gathered }
+        ensures { result ≡ known_in gathered }
+    {
+        let Gathered {
+            classes,
+            above,
+            methods,
+            events,
+            class_names,
+            event_names,
+            method_names,
+        } = gathered;
+        let shape = Shape {
+            classes: Seq::from_vec(classes),
+            events: Seq::from_vec(events),
+        };
+        let known = Known {
+            shape,
+            above: Seq::from_vec(above),
+            methods: Seq::from_vec(methods),
+        };
+        Tables {
+            known,
+            operators: Operators::new(),
+            classes: class_names,
+            events: event_names,
+            methods: method_names,
+        }
+    }
+
+    /// The shape of the service.
+    pub fn into_shape(self) -> Shape
+        ensures { result ≡ self.shape }
+    {
+        let Tables {
+            known,
+            operators: _,
+            classes: _,
+            events: _,
+            methods: _,
+        } = self;
+        let Known {
+            shape,
+            above: _,
+            methods: _,
+        } = known;
+        shape
+    }
+
+    pub fn operators(&self) -> &Operators {
+        &self.operators
+    }
+
+    /// The number of the class of a name.
+    pub fn class(&self, name: &Txt) -> Option<u16>
+        ensures { result ≡ known.class_named self.now name.now }
+    {
+        self.classes.first(name.bytes())
+    }
+
+    /// The number of the event of a name.
+    pub fn event(&self, name: &Txt) -> Option<u16>
+        ensures { result ≡ known.event_named self.now name.now }
+    {
+        self.events.first(name.bytes())
+    }
+
+    /// The number of a class's method of a name, among all methods.
+    pub fn method(&self, class: u16, name: &Txt) -> Option<u16>
+        ensures found { result ≡ known.method_named self.now class name.now }
+        ensures within { IfSome result (λ m. m < length self.now.methods) }
+    {
+        match self.methods.get(class as usize) {
+            None => None,
+            Some(methods) => methods.first(name.bytes()),
+        }
+    }
+
+    /// The number of a class's field of a name, and its kind.
+    pub fn field(&self, class: u16, name: &Txt) -> Option<(u16, Kind)>
+        ensures { result ≡ option_map (λ f. (f, known.field_kind self.now class f)) (known.field_named self.now class name.now) }
+    {
+        for (i, field) in self.fields(class).iter().enumerate() {
+            if field.name == *name {
+                return Some((i as u16, field.kind));
+            }
+        }
+        None
+    }
+
+    fn fields(&self, class: u16) -> &[FieldInfo]
+        ensures fields { result.now ≡ declared_fields self.now.shape class }
+        ensures few { length result.now < 2 ^ 16 }
+    {
+        match self.known.shape.classes.get(class as usize) {
+            None => &[],
+            Some(class) => class.fields.as_slice(),
+        }
+    }
+
+    /// The level of a class above another, the root's being 0.
+    pub fn level(&self, class: u16, ancestor: u16) -> Option<u16>
+        ensures { result ≡ known.level_of self.now class ancestor }
+    {
+        for (i, above) in self.above(class).iter().enumerate() {
+            if *above == ancestor {
+                return Some(i as u16);
+            }
+        }
+        None
+    }
+
+    /// The classes that a class lies in, the root first.
+    pub fn above(&self, class: u16) -> &[u16]
+        ensures above { result.now ≡ known.above_of self.now class }
+        ensures few { length result.now < 2 ^ 16 }
+    {
+        match self.known.above.get(class as usize) {
+            None => &[],
+            Some(above) => above.as_slice(),
+        }
+    }
+
+    /// Whether a class is a child class of another.
+    pub fn is_child(&self, class: u16, child: u16) -> bool
+        ensures { result ≡ is_class class (parent_class self.now.shape child) }
+    {
+        match self.known.shape.classes.get(child as usize) {
+            None => false,
+            Some(child) => match child.parent {
+                None => false,
+                Some(parent) => parent.0 == class,
+            },
+        }
+    }
+
+    /// The number of methods.
+    pub fn method_count(&self) -> usize
+        ensures { result ≡ length self.now.methods }
+    {
+        self.known.methods.len()
+    }
+
+    /// What a call of a method has to know.
+    pub fn signature(&self, method: u16) -> &Signature
+        requires { method < length self.now.methods }
+        ensures { result.now ≡ known.signature_at self.now method }
+    {
+        &self.known.methods.as_slice()[method as usize]
+    }
+
+    /// The kinds of an event's parameters.
+    pub fn event_params(&self, event: u16) -> &[Kind]
+        ensures { result.now ≡ known.event_params self.now event }
+    {
+        match self.known.shape.events.get(event as usize) {
+            None => &[],
+            Some(event) => event.params.as_slice(),
+        }
+    }
+}

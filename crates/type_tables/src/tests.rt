@@ -1,0 +1,200 @@
+ghost use Rattle.wave_base.specs.Text.{IsText};
+
+use crate::{Operators, Tables, kinds_of, rows_before, rows_of_index, rows_of_sign, same_kind};
+use mace_ast::{
+    BinaryOp, ContextDecl, EventDecl, Initial, Literal, MethodDecl, Name, Param, Service, UnaryOp,
+    VarDecl,
+};
+use std::alloc::Global;
+use std::test::Fail;
+use wave_base::{Kind, OutOfMemory, Seq, Span, Txt};
+
+fn at(col: u32) -> Span {
+    Span { line: 1, col }
+}
+
+fn name(alloc: Global, col: u32, text: &[u8]) -> Result<Name, OutOfMemory>
+    requires { IsText text.now }
+{
+    Ok(Name {
+        at: at(col),
+        text: Txt::from_bytes(alloc, text)?,
+    })
+}
+
+fn one<T>(alloc: Global, item: T) -> Result<Vec<T>, OutOfMemory>
+where
+    T: Drop,
+{
+    let mut items = Vec::new(alloc);
+    items.push(item)?;
+    Ok(items)
+}
+
+fn param(alloc: Global, text: &[u8], kind: Kind) -> Result<Seq<Param>, OutOfMemory>
+    requires { IsText text.now }
+{
+    let param = Param {
+        name: name(alloc, 1, text)?,
+        kind,
+    };
+    Ok(Seq::from_vec(one(alloc, param)?))
+}
+
+fn method(
+    alloc: Global,
+    text: &[u8],
+    params: Seq<Param>,
+    gives: Option<Kind>,
+) -> Result<Seq<MethodDecl>, OutOfMemory>
+    requires { IsText text.now }
+{
+    let method = MethodDecl {
+        at: at(1),
+        name: name(alloc, 1, text)?,
+        params,
+        result: gives,
+        body: Seq::from_vec(Vec::new(alloc)),
+        last: None,
+    };
+    Ok(Seq::from_vec(one(alloc, method)?))
+}
+
+// A service of a field, a context in a context with a method of its own, a method and an event.
+// service S { var r: int = -7; context A[int] { context B[int] { method m(x: text): int } } method u() event e(p: bool) }
+fn service(alloc: Global) -> Result<Service, OutOfMemory> {
+    let initial = Initial {
+        at: at(1),
+        value: Literal::Minus(7),
+    };
+    let var = VarDecl {
+        at: at(1),
+        name: name(alloc, 1, b"r")?,
+        kind: Kind::Int,
+        initial,
+    };
+    let methods = method(alloc, b"u", Seq::from_vec(Vec::new(alloc)), None)?;
+    Ok(Service {
+        at: at(1),
+        name: name(alloc, 1, b"S")?,
+        vars: Seq::from_vec(one(alloc, var)?),
+        contexts: Seq::from_vec(one(alloc, outer(alloc)?)?),
+        methods,
+        events: Seq::from_vec(one(alloc, event(alloc)?)?),
+    })
+}
+
+fn event(alloc: Global) -> Result<EventDecl, OutOfMemory> {
+    Ok(EventDecl {
+        at: at(1),
+        name: name(alloc, 1, b"e")?,
+        params: param(alloc, b"p", Kind::Bool)?,
+        result: None,
+        here: None,
+        phases: Seq::from_vec(Vec::new(alloc)),
+        last: None,
+    })
+}
+
+fn outer(alloc: Global) -> Result<ContextDecl, OutOfMemory> {
+    let inner = one(alloc, inner(alloc)?)?;
+    let name = name(alloc, 1, b"A")?;
+    Ok(ContextDecl::new(
+        at(1),
+        name,
+        Seq::from_vec(Vec::new(alloc)),
+        inner,
+        Seq::from_vec(Vec::new(alloc)),
+    ))
+}
+
+fn inner(alloc: Global) -> Result<ContextDecl, OutOfMemory> {
+    let methods = method(
+        alloc,
+        b"m",
+        param(alloc, b"x", Kind::Text)?,
+        Some(Kind::Int),
+    )?;
+    let name = name(alloc, 1, b"B")?;
+    Ok(ContextDecl::new(
+        at(1),
+        name,
+        Seq::from_vec(Vec::new(alloc)),
+        Vec::new(alloc),
+        methods,
+    ))
+}
+
+fn tables(alloc: Global) -> Result<Tables, OutOfMemory> {
+    let service = service(alloc)?;
+    Tables::of(alloc, &service)
+}
+
+#[test]
+fn classes_and_events_have_the_numbers_of_their_places(rt: HostRuntime) -> Result<(), Fail> {
+    let alloc = rt.alloc();
+    let tables = tables(alloc)?;
+    let b = Txt::from_bytes(alloc, b"B")?;
+    let e = Txt::from_bytes(alloc, b"e")?;
+    assert_eq!(rt; tables.class(&b), Some(2));
+    assert_eq!(rt; tables.class(&e), None);
+    assert_eq!(rt; tables.event(&e), Some(0));
+    Ok(())
+}
+
+#[test]
+fn methods_and_fields_belong_to_their_classes(rt: HostRuntime) -> Result<(), Fail> {
+    let alloc = rt.alloc();
+    let tables = tables(alloc)?;
+    let m = Txt::from_bytes(alloc, b"m")?;
+    let r = Txt::from_bytes(alloc, b"r")?;
+    assert_eq!(rt; tables.method(2, &m), Some(0));
+    assert_eq!(rt; tables.method(0, &m), None);
+    assert!(rt; matches!(tables.field(0, &r), Some((0, Kind::Int))));
+    assert_eq!(rt; tables.method_count(), 2);
+    Ok(())
+}
+
+#[test]
+fn classes_know_those_above_them(rt: HostRuntime) -> Result<(), Fail> {
+    let tables = tables(rt.alloc())?;
+    assert_eq!(rt; tables.level(2, 1), Some(1));
+    assert_eq!(rt; tables.level(2, 2), None);
+    assert!(rt; tables.is_child(1, 2) && !tables.is_child(0, 2) && !tables.is_child(0, 0));
+    assert_eq!(rt; tables.above(2).len(), 2);
+    assert_eq!(rt; tables.event_params(0).len(), 1);
+    if tables.method_count() > 0 {
+        assert_eq!(rt; tables.signature(0).class, 2);
+    }
+    assert_eq!(rt; tables.operators().builtin(b"sizes"), None);
+    assert_eq!(rt; tables.into_shape().classes.as_slice().len(), 3);
+    Ok(())
+}
+
+#[test]
+fn rows_take_kinds(rt: HostRuntime) -> Result<(), Fail> {
+    let operators = Operators::new();
+    // texts and ints are put in order by two rows
+    assert_eq!(rt;
+        operators.first(rows_of_sign(BinaryOp::Lt), Kind::Text, Some(Kind::Text)),
+        Some(17)
+    );
+    assert_eq!(rt;
+        operators.first(rows_of_sign(BinaryOp::Le), Kind::Text, Some(Kind::Text)),
+        None
+    );
+    assert_eq!(rt;
+        operators.first(rows_before(UnaryOp::Not), Kind::Bool, None),
+        Some(6)
+    );
+    assert_eq!(rt;
+        operators.first(rows_of_index(), Kind::Map, Some(Kind::Int)),
+        Some(19)
+    );
+    assert!(rt; same_kind(operators.gives(17), Kind::Bool));
+    let (kinds, len) = operators.takes(23);
+    assert!(rt; len == 1 && same_kind(kinds[0], Kind::Map));
+    let params = param(rt.alloc(), b"x", Kind::Map)?;
+    assert_eq!(rt; kinds_of(rt.alloc(), &params)?.as_slice().len(), 1);
+    Ok(())
+}
