@@ -1,10 +1,18 @@
-ghost use Rattle.std.specs.Prelude.{◌≡◌, ◌≤◌, [], length, IfOk};
-ghost use Rattle.eventwave_program.specs.Due.{IsOnlyDue, listed};
+ghost use Rattle.std.specs.Prelude.{◌≡◌, ◌≢◌, ◌≤◌, [], length, IfOk, Ok, Err};
+ghost use Rattle.mace_ast.specs.Decls.{service_tree};
+ghost use Rattle.mace_printer.specs.Written.{IsParsed};
+ghost use Rattle.service_reader.specs.declared.fault.TextFault.{TextFault};
+ghost use Rattle.eventwave_program.specs.Due.{IsOnlyDue, IsReadBack, listed, print_due};
 
 use crate::answer::Answer;
 use crate::command::Command;
 use crate::listing::{any_trap, listing};
+use fault_notes::text_note;
+use input_parts::parts_of;
+use mace_ast::Service;
 use mace_parser::{Small, SmallError, parse_small};
+use mace_printer::print;
+use service_reader::{TextFault, parse_text};
 use std::alloc::Global;
 use wave_base::{INPUT_BYTES, OutOfMemory, Seq};
 use wave_meaning::run_small;
@@ -41,6 +49,7 @@ pub fn judge(alloc: Global, command: Command, input: &[u8]) -> Result<Answer, Ou
 {
     match command {
         Command::Run => judge_run(alloc, input),
+        Command::Print => judge_print(alloc, input),
     }
 }
 
@@ -53,5 +62,40 @@ fn judge_run(alloc: Global, input: &[u8]) -> Result<Answer, OutOfMemory>
         Ok(small) => listed(alloc, &small),
         Err(SmallError::NotSmall) => refused(alloc, 9, b"NotYet"),
         Err(SmallError::OutOfMemory) => Err(OutOfMemory),
+    }
+}
+
+/// A service in canonical layout.
+fn printed(alloc: Global, service: &Service) -> Result<Answer, OutOfMemory>
+    requires { IsParsed (service_tree service.now) }
+    ensures due { IfOk result (λ a. a ≡ print_due (Ok (service_tree service.now))) }
+    ensures again { IfOk result (λ a. IsReadBack (Ok (service_tree service.now)) a.text) }
+{
+    let text = print(alloc, service)?;
+    Ok(Answer {
+        status: 0,
+        note: Seq::new(alloc),
+        text,
+    })
+}
+
+/// The refusal of a text that is no service.
+fn refused_text(alloc: Global, fault: &TextFault) -> Result<Answer, OutOfMemory>
+    ensures refused { IfOk result (λ a. a ≡ print_due (Err fault.now)) }
+    ensures told { IfOk result (λ _. fault.now ≢ TextFault.OutOfMemory) }
+{
+    let note = text_note(alloc, fault)?;
+    refused(alloc, 3, note.as_slice())
+}
+
+/// What is due for a service that is to be printed.
+fn judge_print(alloc: Global, input: &[u8]) -> Result<Answer, OutOfMemory>
+    requires { length input.now ≤ INPUT_BYTES }
+    ensures { IfOk result (IsOnlyDue Command.Print input.now) }
+{
+    let (text, _) = parts_of(input);
+    match parse_text(alloc, text) {
+        Ok(service) => printed(alloc, &service),
+        Err(fault) => refused_text(alloc, &fault),
     }
 }

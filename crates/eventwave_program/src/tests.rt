@@ -112,6 +112,30 @@ fn rows(rt: HostRuntime) -> Result<(), Fail> {
 }
 
 #[test]
+fn prints(rt: HostRuntime) -> Result<(), Fail> {
+    let alloc = rt.alloc();
+    let method = b"service A { method f(): int { return (1+2)*3; } }\n----\n\"";
+    let printed = b"service A {\nmethod f ( ) : int {\nreturn ( 1 + 2 ) * 3 ;\n}\n}\n";
+    let rows = [
+        plain("print", b"service A { }", 0, b"service A {\n}\n", b""),
+        plain("print", method, 0, printed, b""),
+        plain("print", b"service A { \"x", 3, b"", b"L3 OpenText 1:13\n"),
+        plain(
+            "print",
+            b"service A { event e() { down",
+            3,
+            b"",
+            b"P1 Expected 1:29\n",
+        ),
+        plain("print", b"service A { ,", 3, b"", b"P1 Expected 1:13\n"),
+    ];
+    for row in &rows {
+        holds(&rt, alloc, row)?;
+    }
+    Ok(())
+}
+
+#[test]
 fn faults(rt: HostRuntime) -> Result<(), Fail> {
     let alloc = rt.alloc();
     for failing_read in 1..9 {

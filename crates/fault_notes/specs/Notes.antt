@@ -6,6 +6,8 @@ use Rattle.mace_lexer.specs.declared.fault.LexError.{LexError}
 use Rattle.mace_lexer.specs.declared.fault.LexError.TheVariants as lex
 use Rattle.mace_parser.specs.declared.fault.ParseError.{ParseError}
 use Rattle.mace_parser.specs.declared.fault.ParseError.TheVariants as parse
+use Rattle.script_reader.specs.declared.error.ScriptError.{ScriptError}
+use Rattle.script_reader.specs.declared.error.ScriptError.TheVariants as script
 use Rattle.service_reader.specs.declared.fault.TextFault.{TextFault}
 use Rattle.service_reader.specs.declared.fault.TextFault.TheVariants as fault
 use Rattle.type_rules.specs.declared.error.TypeError.{TypeError}
@@ -45,3 +47,18 @@ type_note (wrong.CalleeLater at) = placed (codes "Y6 CalleeLater") at
 type_note (wrong.MissingReply at) = placed (codes "Y7 MissingReply") at
 type_note (wrong.Limit which at) = placed (codes "Y8 Limit") at
 type_note wrong.OutOfMemory = []
+
+-- what it is, and the line of the script
+abbrev pub on_line : List ℕ → ℕ → List ℕ
+on_line name line = name ++ (codes " line " ++ decimal line)
+
+abbrev pub script_note : ScriptError → List ℕ
+script_note (script.UnknownCommand line) = on_line (codes "S1 UnknownCommand") line
+script_note (script.UnknownEvent line) = on_line (codes "S2 UnknownEvent") line
+script_note (script.ArgCount line) = on_line (codes "S3 ArgCount") line
+script_note (script.ArgType line) = on_line (codes "S4 ArgType") line
+script_note (script.BadPath line) = on_line (codes "S5 BadPath") line
+script_note (script.HostRange line) = on_line (codes "S6 HostRange") line
+script_note (script.HostsLate line) = on_line (codes "S7 HostsLate") line
+script_note (script.TooMany line) = on_line (codes "S8 TooMany") line
+script_note script.OutOfMemory = []

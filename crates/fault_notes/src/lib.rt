@@ -5,4 +5,4 @@ mod notes;
 #[cfg(test)]
 mod tests;
 
-pub use notes::{lex_note, parse_note, text_note, type_note};
+pub use notes::{lex_note, parse_note, script_note, text_note, type_note};

@@ -1,8 +1,14 @@
-ghost use Rattle.std.specs.Prelude.{◌≡◌, IfOk};
-ghost use Rattle.fault_notes.specs.Notes.{placed, lex_note, parse_note, text_note, type_note};
+ghost use Rattle.std.specs.Prelude.{◌≡◌, ◌≢◌, IfOk};
+ghost use Rattle.mace_lexer.specs.declared.fault.LexError.{LexError};
+ghost use Rattle.mace_parser.specs.declared.fault.ParseError.{ParseError};
+ghost use Rattle.script_reader.specs.declared.error.ScriptError.{ScriptError};
+ghost use Rattle.service_reader.specs.declared.fault.TextFault.{TextFault};
+ghost use Rattle.type_rules.specs.declared.error.TypeError.{TypeError};
+ghost use Rattle.fault_notes.specs.Notes.{placed, on_line, lex_note, parse_note, text_note, type_note, script_note};
 
 use mace_lexer::LexError;
 use mace_parser::ParseError;
+use script_reader::ScriptError;
 use service_reader::TextFault;
 use std::alloc::Global;
 use type_rules::TypeError;
@@ -24,7 +30,8 @@ pub fn placed(alloc: Global, name: &[u8], at: Span) -> Result<Vec<u8>, OutOfMemo
 
 /// What is told of a text that can't be cut into tokens.
 pub fn lex_note(alloc: Global, error: &LexError) -> Result<Vec<u8>, OutOfMemory>
-    ensures { IfOk result (λ note. note.items ≡ lex_note error.now) }
+    ensures note { IfOk result (λ note. note.items ≡ lex_note error.now) }
+    ensures told { IfOk result (λ _. error.now ≢ LexError.OutOfMemory) }
 {
     match error {
         LexError::BadByte(at) => placed(alloc, b"L1 BadByte", *at),
@@ -38,7 +45,8 @@ pub fn lex_note(alloc: Global, error: &LexError) -> Result<Vec<u8>, OutOfMemory>
 
 /// What is told of tokens that are no service.
 pub fn parse_note(alloc: Global, error: &ParseError) -> Result<Vec<u8>, OutOfMemory>
-    ensures { IfOk result (λ note. note.items ≡ parse_note error.now) }
+    ensures note { IfOk result (λ note. note.items ≡ parse_note error.now) }
+    ensures told { IfOk result (λ _. error.now ≢ ParseError.OutOfMemory) }
 {
     match error {
         ParseError::Expected { at, .. } => placed(alloc, b"P1 Expected", *at),
@@ -49,7 +57,8 @@ pub fn parse_note(alloc: Global, error: &ParseError) -> Result<Vec<u8>, OutOfMem
 
 /// What is told of a text that is no service.
 pub fn text_note(alloc: Global, fault: &TextFault) -> Result<Vec<u8>, OutOfMemory>
-    ensures { IfOk result (λ note. note.items ≡ text_note fault.now) }
+    ensures note { IfOk result (λ note. note.items ≡ text_note fault.now) }
+    ensures told { IfOk result (λ _. fault.now ≢ TextFault.OutOfMemory) }
 {
     match fault {
         TextFault::TooLarge => Ok(Vec::from_slice(alloc, b"TooLarge service")?),
@@ -61,7 +70,8 @@ pub fn text_note(alloc: Global, fault: &TextFault) -> Result<Vec<u8>, OutOfMemor
 
 /// What is told of a service that isn't typed.
 pub fn type_note(alloc: Global, error: &TypeError) -> Result<Vec<u8>, OutOfMemory>
-    ensures { IfOk result (λ note. note.items ≡ type_note error.now) }
+    ensures note { IfOk result (λ note. note.items ≡ type_note error.now) }
+    ensures told { IfOk result (λ _. error.now ≢ TypeError.OutOfMemory) }
 {
     match error {
         TypeError::UnknownName(at) => placed(alloc, b"Y1 UnknownName", *at),
@@ -73,5 +83,34 @@ pub fn type_note(alloc: Global, error: &TypeError) -> Result<Vec<u8>, OutOfMemor
         TypeError::MissingReply(at) => placed(alloc, b"Y7 MissingReply", *at),
         TypeError::Limit(_, at) => placed(alloc, b"Y8 Limit", *at),
         TypeError::OutOfMemory => Err(OutOfMemory),
+    }
+}
+
+// What it is, and the line of the script.
+fn on_line(alloc: Global, name: &[u8], line: u32) -> Result<Vec<u8>, OutOfMemory>
+    ensures { IfOk result (λ note. note.items ≡ on_line name.now line) }
+{
+    let mut note = Vec::new(alloc);
+    put_bytes(&mut note, name)?;
+    put_bytes(&mut note, b" line ")?;
+    put_number(alloc, &mut note, u64::from(line))?;
+    Ok(note)
+}
+
+/// What is told of a script line that is refused.
+pub fn script_note(alloc: Global, error: &ScriptError) -> Result<Vec<u8>, OutOfMemory>
+    ensures note { IfOk result (λ note. note.items ≡ script_note error.now) }
+    ensures told { IfOk result (λ _. error.now ≢ ScriptError.OutOfMemory) }
+{
+    match error {
+        ScriptError::UnknownCommand { line } => on_line(alloc, b"S1 UnknownCommand", *line),
+        ScriptError::UnknownEvent { line } => on_line(alloc, b"S2 UnknownEvent", *line),
+        ScriptError::ArgCount { line } => on_line(alloc, b"S3 ArgCount", *line),
+        ScriptError::ArgType { line } => on_line(alloc, b"S4 ArgType", *line),
+        ScriptError::BadPath { line } => on_line(alloc, b"S5 BadPath", *line),
+        ScriptError::HostRange { line } => on_line(alloc, b"S6 HostRange", *line),
+        ScriptError::HostsLate { line } => on_line(alloc, b"S7 HostsLate", *line),
+        ScriptError::TooMany { line } => on_line(alloc, b"S8 TooMany", *line),
+        ScriptError::OutOfMemory => Err(OutOfMemory),
     }
 }

@@ -1,6 +1,7 @@
-use crate::{lex_note, text_note, type_note};
+use crate::{lex_note, script_note, text_note, type_note};
 use mace_lexer::LexError;
 use mace_parser::ParseError;
+use script_reader::ScriptError;
 use service_reader::TextFault;
 use std::test::Fail;
 use type_rules::{TypeError, Which};
@@ -21,5 +22,7 @@ fn tells_number_name_and_place(rt: HostRuntime) -> Result<(), Fail> {
     assert_eq!(rt; note.as_slice(), b"Y5 NotDownward 8:23".as_slice());
     let note = type_note(alloc, &TypeError::Limit(Which::Locals, at))?;
     assert_eq!(rt; note.as_slice(), b"Y8 Limit 8:23".as_slice());
+    let note = script_note(alloc, &ScriptError::ArgCount { line: 12 })?;
+    assert_eq!(rt; note.as_slice(), b"S3 ArgCount line 12".as_slice());
     Ok(())
 }
