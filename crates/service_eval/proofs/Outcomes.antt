@@ -1,0 +1,76 @@
+-- One act after the other.
+use Rattle.std.proofs.Common.{◌≡◌, ℕ, zero, suc, ◌+◌, Bool, true, false, List, [], ◌∷◌, ◌++◌, length, take, drop, get_or, refl, sym, ap, subst, ◌∙◌, append_assoc}
+use Rattle.std.proofs.Math.Seq.{take-append_seam, drop-append_seam}
+use Rattle.wave_base.specs.declared.path.Path.{Path}
+use Rattle.wave_base.specs.declared.span.Span.{Span}
+use Rattle.wave_base.specs.declared.trap.TrapKind.{TrapKind}
+use Rattle.wave_base.specs.declared.value.Value.{Value}
+use Rattle.resolved_service.specs.declared.service.Method.{Method}
+use Rattle.resolved_service.specs.Meaning.{State, Outcome, Done, Trapped, Left, Act, and_then, give}
+use Rattle.resolved_service.specs.World.{World, nothing}
+use Rattle.service_eval.specs.declared.stop.Stop.{Stop}
+use Rattle.service_eval.specs.declared.stop.Stop.TheVariants as stop
+use Rattle.service_eval.specs.Items.{Item, Eval, Evals, Apply, AndThen, OrElse, Invoke, Child, Block, Begin, Finish, Turns, Check, Counts, Next, Return}
+use Rattle.service_eval.specs.Machines.{resume, own}
+use Rattle.service_eval.specs.Worlds.{Fails}
+
+pub assoc : {A B C : Type 0} (o : Outcome A) (f : A → Act B) (g : B → Act C) → and_then (and_then o f) g ≡ and_then o (λ a st. and_then (f a st) g)
+assoc (Done a st) f g = refl
+assoc (Trapped k at w) f g = refl
+assoc (Left l st) f g = refl
+
+pub regroup : {A B : Type 0} (o : Outcome A) (f g : A → Act B) → ((a : A) (st : State) → f a st ≡ g a st) → and_then o f ≡ and_then o g
+regroup (Done a st) f g h = h a st
+regroup (Trapped k at w) f g h = refl
+regroup (Left l st) f g h = refl
+
+-- a value is put down, and then taken up
+pub feeds : {A B C : Type 0} (o : Outcome A) (f : A → Act B) (view : A → C) (g : C → Act B) → ((a : A) (st : State) → f a st ≡ g (view a) st) → and_then o f ≡ and_then (and_then o (λ a. give (view a))) g
+feeds (Done a st) f view g h = h a st
+feeds (Trapped k at w) f view g h = refl
+feeds (Left l st) f view g h = refl
+
+pub fails_then : {A B : Type 0} (o : Outcome A) (f : A → Act B) (e : Stop) (w : World) → Fails o e w → Fails (and_then o f) e w
+fails_then o f stop.OutOfMemory w h = tt
+fails_then o f (stop.Trapped t) w h = ap (λ o. and_then o f) h
+
+-- a trap ends all
+pub trap_through : (methods : List Method) (items : List Item) (p : Path) (n : ℕ) (k : TrapKind) (at : Span) (w : World) → resume methods items p n (Trapped k at w) ≡ Trapped k at w
+trap_through methods [] p n k at w = refl
+trap_through methods (Return locals depth base up ∷ items) p n k at w = trap_through methods items _ depth k at w
+trap_through methods (Eval t ∷ items) p n k at w = trap_through methods items p n k at w
+trap_through methods (Evals ts ∷ items) p n k at w = trap_through methods items p n k at w
+trap_through methods (Apply a row base ∷ items) p n k at w = trap_through methods items p n k at w
+trap_through methods (AndThen right base ∷ items) p n k at w = trap_through methods items p n k at w
+trap_through methods (OrElse right base ∷ items) p n k at w = trap_through methods items p n k at w
+trap_through methods (Invoke a method base ∷ items) p n k at w = trap_through methods items p n k at w
+trap_through methods (Child a class method base ∷ items) p n k at w = trap_through methods items p n k at w
+trap_through methods (Block steps ∷ items) p n k at w = trap_through methods items p n k at w
+trap_through methods (Begin s ∷ items) p n k at w = trap_through methods items p n k at w
+trap_through methods (Finish a what base ∷ items) p n k at w = trap_through methods items p n k at w
+trap_through methods (Turns a test body left ∷ items) p n k at w = trap_through methods items p n k at w
+trap_through methods (Check a test body left base ∷ items) p n k at w = trap_through methods items p n k at w
+trap_through methods (Counts a counter body left ∷ items) p n k at w = trap_through methods items p n k at w
+trap_through methods (Next a counter ∷ items) p n k at w = trap_through methods items p n k at w
+
+pub fails_through : (methods : List Method) (items : List Item) (p : Path) (n : ℕ) (o : Outcome (List Value)) (e : Stop) (w : World) → Fails o e w → Fails (resume methods items p n o) e w
+fails_through methods items p n o stop.OutOfMemory w h = tt
+fails_through methods items p n o (stop.Trapped t) w h = ap (resume methods items p n) h ∙ trap_through methods items p n t.kind t.at w
+
+-- values upon those that lie below
+module _ (vs xs : List Value) where
+  pub below : take (length vs) (vs ++ xs) ≡ vs
+  below = take-append_seam vs xs
+
+  pub upon : drop (length vs) (vs ++ xs) ≡ xs
+  upon = drop-append_seam vs xs
+
+  pub first_upon : (x : Value) → own 0 (length vs) (vs ++ x ∷ xs) ≡ x
+  first_upon x = ap (λ ys. get_or ys 0 nothing) (drop-append_seam vs (x ∷ xs))
+
+  pub second_upon : (x y : Value) → own 1 (length vs) (vs ++ x ∷ y ∷ xs) ≡ y
+  second_upon x y = ap (λ ys. get_or ys 1 nothing) (drop-append_seam vs (x ∷ y ∷ xs))
+
+pub rest_upon : (vs xs : List Value) (x : Value) → drop (suc (length vs)) (vs ++ x ∷ xs) ≡ xs
+rest_upon [] xs x = refl
+rest_upon (v ∷ vs) xs x = rest_upon vs xs x

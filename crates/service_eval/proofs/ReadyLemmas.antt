@@ -1,0 +1,55 @@
+-- A machine stays ready.
+use Rattle.std.proofs.Common.{◌≡◌, ℕ, ◌+◌, ◌*◌, ◌^◌, ◌≤◌, Bool, true, false, List, [], ◌∷◌, ◌++◌, Result, Ok, Err, OnOk, IfErr, refl, sym, ap, subst, ◌∙◌, arith}
+use Rattle.wave_base.specs.declared.path.Path.{Path}
+use Rattle.wave_base.specs.declared.shape.Shape.{Shape}
+use Rattle.wave_base.specs.declared.value.Value.{Value}
+use Rattle.wave_base.specs.Tree.{Tree}
+use Rattle.context_tree.specs.Contexts.{Contexts, tree_of as shown}
+use Rattle.resolved_service.specs.declared.service.Method.{Method}
+use Rattle.resolved_service.specs.Meaning.{State, Done, value, called}
+use Rattle.resolved_service.specs.View.{Tree as Expression}
+use Rattle.service_eval.specs.declared.code.Code.{Code}
+use Rattle.service_eval.specs.declared.machine.Machine.{Machine}
+use Rattle.service_eval.specs.declared.stop.Stop.{Stop}
+use Rattle.service_eval.specs.declared.stop.Stop.TheVariants as stop
+use Rattle.service_eval.specs.Items.{Item, Eval}
+use Rattle.service_eval.specs.Machines.{Mach, mach_of, state_of, on_top, with_value, comes_to}
+use Rattle.service_eval.specs.Ready.{FitsItems, owed, downs, Ready, Turned}
+use Rattle.service_eval.specs.Turns.{mach, IsNext, Goes}
+use Rattle.service_eval.specs.Worlds.{Holds}
+use Rattle.service_eval.proofs.EvalLemmas.{found_value}
+
+-- other items, values and depth at the same context and in the same state
+pub ready_with : (shape : Shape) (methods : List Method) (m : Mach) (items : List Item) (vs : List Value) (n : ℕ) → Ready shape methods m → FitsItems shape methods items m.path → owed items + downs m.items m.path ≤ owed m.items + downs items m.path → Ready shape methods (record { items = items; values = vs; path = m.path; depth = n; state = m.state })
+ready_with shape methods m items vs n r fits less = record {
+  items = fits;
+  holds = r.holds;
+  path = r.path;
+  held = r.held;
+  here = r.here;
+  early = r.early;
+  room = omega (arith, r.room, less);
+}
+
+-- what was done by calls that fail for want of memory alone, on other contexts
+pub turned_to : (code : Code) (contexts : Contexts) (before target : Mach) (m' : Machine) (r : Result (Unit {0}) Stop) → comes_to code.methods.now before ≡ comes_to code.methods.now target → Ready code.shape.now code.methods.now target → Holds code.shape.now (shown code.shape.now contexts) → OnOk r (mach code contexts m' ≡ target) → IfErr r (λ e. e ≡ stop.OutOfMemory) → Turned code.shape.now code.methods.now before r (mach code contexts m')
+turned_to code contexts before target m' (Ok u) same ready holds ok err = (same ∙ ap (comes_to code.methods.now) (sym ok), subst (Ready code.shape.now code.methods.now) (sym ok) ready)
+turned_to code contexts before target m' (Err stop.OutOfMemory) same ready holds ok err = (tt, holds)
+turned_to code contexts before target m' (Err (stop.Trapped t)) same ready holds ok err = cc
+
+-- what was done by calls that fail for want of memory alone
+pub turned : (code : Code) (contexts : Contexts) (item : Item) (f : Mach → Mach) (m m' : Machine) (r : Result (Unit {0}) Stop) → IsNext code contexts m item → comes_to code.methods.now (on_top item (mach code contexts m)) ≡ comes_to code.methods.now (f (mach code contexts m)) → Ready code.shape.now code.methods.now (f (mach code contexts m)) → OnOk r ((tree : Tree (List Value)) → mach_of tree m' ≡ f (mach_of tree m)) → IfErr r (λ e. e ≡ stop.OutOfMemory) → Goes code contexts m item r contexts m'
+turned code contexts item f m m' (Ok u) next same ready ok err =
+    let e = ok (shown code.shape.now contexts) in
+    (same ∙ ap (comes_to code.methods.now) (sym e), subst (Ready code.shape.now code.methods.now) (sym e) ready)
+turned code contexts item f m m' (Err stop.OutOfMemory) next same ready ok err = (tt, next.holds)
+turned code contexts item f m m' (Err (stop.Trapped t)) next same ready ok err = cc
+
+-- an expression as it is named
+pub at_tree : (code : Code) (contexts : Contexts) (m m' : Machine) (r : Result (Unit {0}) Stop) (t u : Expression) → t ≡ u → (IsNext code contexts m (Eval u) → Goes code contexts m (Eval u) r contexts m') → IsNext code contexts m (Eval t) → Goes code contexts m (Eval t) r contexts m'
+at_tree code contexts m m' r t u e f next = subst (λ t. Goes code contexts m (Eval t) r contexts m') (sym e) (f (subst (λ t. IsNext code contexts m (Eval t)) e next))
+
+-- an expression that has its value at once
+pub gives : (code : Code) (contexts : Contexts) (m m' : Machine) (r : Result (Unit {0}) Stop) (t : Expression) (v : Value) → value (called code.methods.now m.depth) m.path t (state_of (shown code.shape.now contexts) m) ≡ Done v (state_of (shown code.shape.now contexts) m) → OnOk r ((tree : Tree (List Value)) → mach_of tree m' ≡ with_value v (mach_of tree m)) → IfErr r (λ e. e ≡ stop.OutOfMemory) → IsNext code contexts m (Eval t) → Goes code contexts m (Eval t) r contexts m'
+gives code contexts m m' r t v h ok err next =
+    turned code contexts (Eval t) (with_value v) m m' r next (found_value code.methods.now (mach code contexts m) t v h) (ready_with code.shape.now code.methods.now (on_top (Eval t) (mach code contexts m)) (mach code contexts m).items (m.values.items ++ v ∷ []) m.depth next next.items.1 (omega arith)) ok err

@@ -1,0 +1,28 @@
+-- Resolved nodes and statements with lists in them, by the items of the lists.
+use Rattle.std.proofs.Common.{◌≡◌, ℕ, List, [], ◌∷◌, map, refl, sym, ap, ◌∙◌, rules, Vec, Box, Global, Option, Some, None}
+use Rattle.wave_base.specs.declared.path.Class.{Class}
+use Rattle.wave_base.specs.declared.span.Span.{Span}
+use Rattle.resolved_service.specs.declared.expr.Expr.{Expr}
+use Rattle.resolved_service.specs.declared.expr.Node.TheVariants as node
+use Rattle.resolved_service.specs.declared.expr.Node.{Row_of-Expr, end_of-Expr, more_of-Expr, items-the_row-Expr, the_lemmas}
+use Rattle.resolved_service.specs.View as r
+use Rattle.resolved_service.specs.View.{Trees, tree, node_tree, row_trees, tree_of, trees_of}
+
+pub row_trees-items : (n : _) (k : Row_of-Expr n) → row_trees k ≡ trees_of (map tree_of (items-the_row-Expr n k))
+row_trees-items _ end_of-Expr = refl
+row_trees-items _ (more_of-Expr a x rest) = ap (λ ts. tree (node_tree x a) ts) (row_trees-items _ rest)
+
+pub op_node : (row : ℕ) (args : Vec Expr Global) (at : Span) → node_tree (node.Op row args) at ≡ r.Op at row (trees_of (map tree_of args.items))
+op_node row args at = search (rules, the_lemmas, row_trees-items)
+
+pub call_node : (method : ℕ) (args : Vec Expr Global) (at : Span) → node_tree (node.Call method args) at ≡ r.Call at method (trees_of (map tree_of args.items))
+call_node method args at = search (rules, the_lemmas, row_trees-items)
+
+pub child_node : (class : Class) (method : ℕ) (key : Box Expr Global) (args : Vec Expr Global) (at : Span) → node_tree (node.Child class method key args) at ≡ r.Child at class.0 method (tree_of key.value) (trees_of (map tree_of args.items))
+child_node class method key args at = search (rules, the_lemmas, row_trees-items)
+
+pub and_node : (left right : Box Expr Global) (at : Span) → node_tree (node.And left right) at ≡ r.And at (tree_of left.value) (tree_of right.value)
+and_node left right at = search (rules, the_lemmas, row_trees-items)
+
+pub or_node : (left right : Box Expr Global) (at : Span) → node_tree (node.Or left right) at ≡ r.Or at (tree_of left.value) (tree_of right.value)
+or_node left right at = search (rules, the_lemmas, row_trees-items)

@@ -1,0 +1,27 @@
+use Rattle.std.proofs.Common.{◌≡◌, List, [], ◌∷◌, length, drop, map, true, false, Ok, Err, sym, ap, subst, ◌∙◌, refl, arith}
+use Rattle.std.proofs.lemmas.Result.{on_ok_weaker}
+use Rattle.wave_base.specs.declared.value.Value.TheVariants.{Bool as Truth}
+use Rattle.wave_base.specs.Tree.{Tree}
+use Rattle.resolved_service.specs.View as r
+use Rattle.resolved_service.specs.View.{tree_of, trees_of}
+use Rattle.service_eval.specs.Items as i
+use Rattle.service_eval.specs.Machines.{mach_of, on_top, with_value, cut_to}
+use Rattle.service_eval.specs.Turns.{mach}
+use Rattle.service_eval.proofs.EvalLemmas as e
+use Rattle.service_eval.proofs.ReadyLemmas.{ready_with, turned}
+use Rattle.service_eval.proofs.EvalTurns.{op_turn}
+use Rattle.service_eval.proofs.ReadyLemmas.{gives}
+use Rattle.service_eval.proofs.eval.operate.Goals as goal
+
+pub returns-in-Ok-Some : goal.returns-in-Ok-Some
+returns-in-Ok-Some c =
+    let found = rw c.in-Ok-Some.field-0-is at c.in-Ok-Some.ensures in
+    gives c.args.code c.args.contexts.now c.args.m.now c.give.new.self c.give.result (r.Op c.args.at c.args.row (trees_of (map tree_of c.args.args.now))) c.in-Ok-Some.value found c.give.ensures.ok c.give.ensures.err c.requires
+
+pub returns-in-Ok-None : goal.returns-in-Ok-None
+returns-in-Ok-None c =
+    op_turn c.args.code c.args.contexts.now c.args.m.now c.push_two.new.self c.push_two.result c.height-base.result c.height-base.ensures c.args.at c.args.row (trees_of (map tree_of c.args.args.now)) c.push_two.ensures.ok c.push_two.ensures.err c.requires
+
+pub returns-in-Err : goal.returns-in-Err
+returns-in-Err c =
+    (e.found_fails c.args.code.methods.now (mach c.args.code c.args.contexts.now c.args.m.now) (r.Op c.args.at c.args.row (trees_of (map tree_of c.args.args.now))) c.in-Err.e _ c.in-Err.ensures, c.requires.holds)

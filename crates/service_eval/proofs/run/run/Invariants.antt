@@ -1,0 +1,11 @@
+use Rattle.std.proofs.Common.{◌≡◌}
+use Rattle.service_eval.specs.Machines.{comes_to}
+use Rattle.service_eval.specs.Ready.{Ready}
+use Rattle.service_eval.specs.Turns.{mach}
+use Rattle.service_eval.proofs.run.run.Given as goal
+
+abbrev pub invariant-items : goal.invariant-items
+invariant-items l = record {
+  same : comes_to l.code.methods.now (mach l.code l.fn.contexts l.fn.m) ≡ comes_to l.code.methods.now (mach l.code l.contexts l.m);
+  ready : Ready l.code.shape.now l.code.methods.now (mach l.code l.contexts l.m);
+}

@@ -1,0 +1,76 @@
+-- What is still to be done, item by item, as contracts see it: no pointers.
+use Rattle.std.specs.Prelude.{ℕ, Bool, List, map, Option, Some, None, Vec}
+use Rattle.std.specs.Global.{Global}
+use Rattle.wave_base.specs.declared.span.Span.{Span}
+use Rattle.wave_base.specs.declared.value.Value.{Value}
+use Rattle.resolved_service.specs.declared.stmt.Stmt.{Stmt}
+use Rattle.resolved_service.specs.Steps.{Step, Steps, no_steps, Else, no_else, otherwise, steps_in}
+use Rattle.resolved_service.specs.View.{Tree, Trees, tree_of, trees_of}
+use Rattle.service_eval.specs.declared.work.Ending.{Ending}
+use Rattle.service_eval.specs.declared.work.Ending.TheVariants as ending
+use Rattle.service_eval.specs.declared.work.Work.{Work}
+use Rattle.service_eval.specs.declared.work.Work.TheVariants as work
+
+-- what a statement does with the values of its expressions
+pub data End : Type 0 where
+  SetLocal SetField PutLocal PutField CutLocal CutField : ℕ → End
+  Branch : Steps → Steps → End
+  Require : End
+  Send : List ℕ → End
+  Spawn : ℕ → End
+  Drop : End
+
+-- `base` is the number of values below those of the item's own
+pub data Item : Type 0 where
+  Eval : Tree → Item
+  Evals : Trees → Item
+  Apply : (at : Span) (row base : ℕ) → Item
+  AndThen OrElse : (right : Tree) (base : ℕ) → Item
+  Invoke : (at : Span) (method base : ℕ) → Item
+  Child : (at : Span) (class method base : ℕ) → Item
+  Block : Steps → Item
+  Begin : Step → Item
+  Finish : (at : Span) (what : End) (base : ℕ) → Item
+  Turns : (at : Span) (test : Tree) (body : Steps) (left : ℕ) → Item
+  Check : (at : Span) (test : Tree) (body : Steps) (left base : ℕ) → Item
+  Counts : (at : Span) (counter : ℕ) (body : Steps) (left : ℕ) → Item
+  Next : (at : Span) (counter : ℕ) → Item
+  Return : (locals : List Value) (depth base : ℕ) (up : Bool) → Item
+
+abbrev pub end_of : Ending → End
+end_of (ending.SetLocal s) = SetLocal s
+end_of (ending.SetField f) = SetField f
+end_of (ending.PutLocal s) = PutLocal s
+end_of (ending.PutField f) = PutField f
+end_of (ending.CutLocal s) = CutLocal s
+end_of (ending.CutField f) = CutField f
+end_of (ending.Branch body other) = Branch (steps_in body.now) (steps_in other.now)
+end_of ending.Require = Require
+end_of (ending.Send label) = Send label.now
+end_of (ending.Spawn event) = Spawn event
+end_of ending.Drop = Drop
+
+abbrev pub item_of : Work → Item
+item_of (work.Eval e) = Eval (tree_of e.now)
+item_of (work.Evals es) = Evals (trees_of (map tree_of es.now))
+item_of (work.Apply at row base) = Apply at row base
+item_of (work.AndThen e base) = AndThen (tree_of e.now) base
+item_of (work.OrElse e base) = OrElse (tree_of e.now) base
+item_of (work.Invoke at method base) = Invoke at method base
+item_of (work.Child at class method base) = Child at class.0 method base
+item_of (work.Block body) = Block (steps_in body.now)
+item_of (work.Finish at what base) = Finish at (end_of what) base
+item_of (work.Turns at test body left) = Turns at (tree_of test.now) (steps_in body.now) left
+item_of (work.Check at test body left base) = Check at (tree_of test.now) (steps_in body.now) left base
+item_of (work.Counts at counter body left) = Counts at counter (steps_in body.now) left
+item_of (work.Next at counter) = Next at counter
+item_of (work.Return locals depth base up) = Return locals.items depth base up
+
+-- the statements of an `else`, if there is one
+abbrev pub else_steps : Else → Steps
+else_steps no_else = no_steps
+else_steps (otherwise ss) = ss
+
+abbrev pub else_in : Option (Vec Stmt Global) → Else
+else_in None = no_else
+else_in (Some v) = otherwise (steps_in v.items)

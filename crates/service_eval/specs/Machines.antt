@@ -1,0 +1,195 @@
+-- A machine as contracts see it, and what is still to come of it.
+use Rattle.std.specs.Prelude.{◌≡◌, ℕ, zero, suc, ◌+◌, pos, Bool, true, false, List, [], ◌∷◌, ◌++◌, ◌-◌, length, map, reverse, take, drop, get_or, if◌then◌else◌, Option, Some, None}
+use Rattle.wave_base.specs.declared.path.Path.{Path}
+use Rattle.wave_base.specs.declared.span.Span.{Span}
+use Rattle.wave_base.specs.declared.value.Value.{Value}
+use Rattle.wave_base.specs.declared.value.Value.TheVariants.{Int, Bool as Truth}
+use Rattle.wave_base.specs.Paths.{parent_of}
+use Rattle.wave_base.specs.Tree.{Tree as Contexts}
+use Rattle.value_ops.specs.Operators.{apply_row}
+use Rattle.resolved_service.specs.declared.service.Last.{Last}
+use Rattle.resolved_service.specs.declared.service.Method.{Method}
+use Rattle.resolved_service.specs.Meaning.{State, Outcome, Done, Trapped, Left, Act, and_then, ◌>>=◌, ◌>>◌, give, answer, with_world, tick, enter_at, back, choose, get_local, set_local, get_field, put_field, demand, row_add, row_put, row_cut, worth, value, values, while_turns, for_test, for_body, effect, effects, with_blanks, called}
+use Rattle.resolved_service.specs.Steps.{Steps, steps_in}
+use Rattle.resolved_service.specs.View.{Tree, tree_of}
+use Rattle.resolved_service.specs.World.{World, nothing, is_true, child, changed, sending, spawning}
+use Rattle.service_eval.specs.declared.machine.Machine.{Machine}
+use Rattle.service_eval.specs.Items.{End, SetLocal, SetField, PutLocal, PutField, CutLocal, CutField, Branch, Require, Send, Spawn, Drop, Item, Eval, Evals, Apply, AndThen, OrElse, Invoke, Child, Block, Begin, Finish, Turns, Check, Counts, Next, Return, item_of}
+use Rattle.service_eval.specs.Worlds.{world_of}
+
+-- what is to be done next stands first
+pub record Mach : Type 0 where
+  pub items : List Item
+  pub values : List Value
+  pub path : Path
+  pub depth : ℕ
+  pub state : State
+
+abbrev pub state_of : Contexts (List Value) → Machine → State
+state_of tree m = record { locals = m.locals.items; world = world_of tree m.trace }
+
+abbrev pub mach_of : Contexts (List Value) → Machine → Mach
+mach_of tree m = record { items = map item_of (reverse m.work.items); values = m.values.items; path = m.path; depth = m.depth; state = state_of tree m }
+
+-- one thing more to be done, before all others
+abbrev pub on_top : Item → Mach → Mach
+on_top item m = record m { items = item ∷ m.items }
+
+-- a value more
+abbrev pub with_value : Value → Mach → Mach
+with_value v m = record m { values = m.values ++ v ∷ [] }
+
+-- values taken away
+abbrev pub cut_to : ℕ → Mach → Mach
+cut_to base m = record m { values = take base m.values }
+
+abbrev pub in_state : State → Mach → Mach
+in_state st m = record m { state = st }
+
+-- an item's own values
+abbrev pub own : ℕ → ℕ → List Value → Value
+own i base vs = get_or (drop base vs) i nothing
+
+-- what a statement does with its values
+module _ (call : ℕ → Path → List Value → Act (Option Value)) (n : ℕ) (p : Path) (at : Span) (vs : List Value) where
+  abbrev pub finish : End → Act (Unit {0})
+  finish (SetLocal slot) = set_local slot (get_or vs 0 nothing)
+  finish (SetField f) = put_field f p (get_or vs 0 nothing)
+  finish (PutLocal slot) = do
+    m ← get_local slot
+    more ← answer (apply_row row_put (m ∷ get_or vs 0 nothing ∷ get_or vs 1 nothing ∷ [])) at
+    set_local slot more
+  finish (PutField f) = do
+    m ← get_field f p
+    more ← answer (apply_row row_put (m ∷ get_or vs 0 nothing ∷ get_or vs 1 nothing ∷ [])) at
+    put_field f p more
+  finish (CutLocal slot) = do
+    m ← get_local slot
+    less ← answer (apply_row row_cut (m ∷ get_or vs 0 nothing ∷ [])) at
+    set_local slot less
+  finish (CutField f) = do
+    m ← get_field f p
+    less ← answer (apply_row row_cut (m ∷ get_or vs 0 nothing ∷ [])) at
+    put_field f p less
+  finish (Branch body other) = choose (is_true (get_or vs 0 nothing)) (effects call n p body) (effects call n p other)
+  finish Require = demand (is_true (get_or vs 0 nothing)) at
+  finish (Send label) = λ st. with_world (sending label (get_or vs 0 nothing) st.world) at st
+  finish (Spawn event) = λ st. with_world (spawning event vs st.world) at st
+  finish Drop = give tt
+
+-- a turn of a loop, where its test has its value
+abbrev pub turn_on : ℕ → Act Value → Act (Unit {0}) → Span → Value → Act (Unit {0})
+turn_on zero test body at t = choose (is_true t) (tick at) (give tt)
+turn_on (suc n) test body at t = choose (is_true t) (tick at >> (body >> while_turns n test body at)) (give tt)
+
+-- the counter of a loop over numbers goes on
+abbrev pub next : ℕ → Span → Act (Unit {0})
+next counter at = do
+  j ← get_local counter
+  more ← answer (apply_row row_add (j ∷ Int (pos 1) ∷ [])) at
+  set_local counter more
+
+-- what an item does, from the values that are there to those that are there then
+module _ (methods : List Method) (p : Path) (n : ℕ) where
+  abbrev pub act : Item → List Value → Act (List Value)
+  act (Eval t) vs = value (called methods n) p t >>= (λ v. give (vs ++ v ∷ []))
+  act (Evals ts) vs = values (called methods n) p ts >>= (λ more. give (vs ++ more))
+  act (Apply at row base) vs = answer (apply_row row (drop base vs)) at >>= (λ v. give (take base vs ++ v ∷ []))
+  act (AndThen right base) vs = choose (is_true (own 0 base vs)) (value (called methods n) p right) (give (Truth false)) >>= (λ v. give (take base vs ++ v ∷ []))
+  act (OrElse right base) vs = choose (is_true (own 0 base vs)) (give (Truth true)) (value (called methods n) p right) >>= (λ v. give (take base vs ++ v ∷ []))
+  act (Invoke at method base) vs = do
+    tick at
+    result ← called methods n method p (drop base vs)
+    give (take base vs ++ worth result ∷ [])
+  act (Child at class method base) vs = do
+    tick at
+    enter_at (child p class (own 0 base vs)) at
+    result ← called methods n method (child p class (own 0 base vs)) (drop (suc base) vs)
+    back
+    give (take base vs ++ worth result ∷ [])
+  act (Block steps) vs = effects (called methods n) n p steps >> give vs
+  act (Begin s) vs = effect (called methods n) n p s >> give vs
+  act (Finish at what base) vs = finish (called methods n) n p at (drop base vs) what >> give (take base vs)
+  act (Turns at test body left) vs = while_turns left (value (called methods n) p test) (effects (called methods n) n p body) at >> give vs
+  act (Check at test body left base) vs = turn_on left (value (called methods n) p test) (effects (called methods n) n p body) at (own 0 base vs) >> give (take base vs)
+  act (Counts at counter body left) vs = while_turns left (for_test counter at) (for_body counter at (effects (called methods n) n p body)) at >> give vs
+  act (Next at counter) vs = next counter at >> give vs
+  act (Return locals depth base up) vs = give vs
+
+abbrev pub path_after : Bool → Path → Path
+path_after true p = parent_of p
+path_after false p = p
+
+abbrev pub world_after : Bool → World → World
+world_after true w = changed w
+world_after false w = w
+
+-- the caller has its locals again, and the value of the call
+abbrev pub returned : List Value → ℕ → Bool → Outcome (List Value) → Outcome (List Value)
+returned locals base up (Done vs st) = Done (take base vs ++ own 0 base vs ∷ []) (record { locals = locals; world = world_after up st.world })
+returned locals base up (Trapped k at w) = Trapped k at w
+returned locals base up (Left l st) = Left l st
+
+-- where nothing is left to do: the values that are there, and where
+pub record Rest : Type 0 where
+  pub values : List Value
+  pub path : Path
+  pub depth : ℕ
+
+abbrev pub rest_at : Path → ℕ → List Value → Rest
+rest_at p n vs = record { values = vs; path = p; depth = n }
+
+module _ (methods : List Method) where
+  -- all that is to be done, after what was done so far
+  abbrev pub resume : List Item → Path → ℕ → Outcome (List Value) → Outcome Rest
+  resume [] p n out = and_then out (λ vs. give (rest_at p n vs))
+  resume (Return locals depth base up ∷ items) p n out = resume items (path_after up p) depth (returned locals base up out)
+  resume (Eval t ∷ items) p n out = resume items p n (and_then out (act methods p n (Eval t)))
+  resume (Evals ts ∷ items) p n out = resume items p n (and_then out (act methods p n (Evals ts)))
+  resume (Apply at row base ∷ items) p n out = resume items p n (and_then out (act methods p n (Apply at row base)))
+  resume (AndThen right base ∷ items) p n out = resume items p n (and_then out (act methods p n (AndThen right base)))
+  resume (OrElse right base ∷ items) p n out = resume items p n (and_then out (act methods p n (OrElse right base)))
+  resume (Invoke at method base ∷ items) p n out = resume items p n (and_then out (act methods p n (Invoke at method base)))
+  resume (Child at class method base ∷ items) p n out = resume items p n (and_then out (act methods p n (Child at class method base)))
+  resume (Block steps ∷ items) p n out = resume items p n (and_then out (act methods p n (Block steps)))
+  resume (Begin s ∷ items) p n out = resume items p n (and_then out (act methods p n (Begin s)))
+  resume (Finish at what base ∷ items) p n out = resume items p n (and_then out (act methods p n (Finish at what base)))
+  resume (Turns at test body left ∷ items) p n out = resume items p n (and_then out (act methods p n (Turns at test body left)))
+  resume (Check at test body left base ∷ items) p n out = resume items p n (and_then out (act methods p n (Check at test body left base)))
+  resume (Counts at counter body left ∷ items) p n out = resume items p n (and_then out (act methods p n (Counts at counter body left)))
+  resume (Next at counter ∷ items) p n out = resume items p n (and_then out (act methods p n (Next at counter)))
+
+  -- what a machine comes to
+  abbrev pub comes_to : Mach → Outcome Rest
+  comes_to m = resume m.items m.path m.depth (Done m.values m.state)
+
+-- back at the parent
+abbrev pub risen : Mach → Mach
+risen m = record m { path = parent_of m.path; state = record { locals = m.state.locals; world = changed m.state.world } }
+
+abbrev pub with_last : Option Last → List Item → List Item
+with_last None items = items
+with_last (Some last) items = Eval (tree_of last.value) ∷ items
+
+-- a method is to run with these arguments, and then to return
+abbrev pub started : Method → List Value → Bool → Mach → Mach
+started method given up m = record {
+  items = Block (steps_in method.body) ∷ with_last method.last (Return m.state.locals m.depth (length m.values) up ∷ m.items);
+  values = m.values;
+  path = m.path;
+  depth = m.depth - 1;
+  state = record { locals = with_blanks given method.locals; world = m.state.world };
+}
+
+-- the caller goes on
+abbrev pub back_to : List Value → ℕ → ℕ → Bool → Mach → Mach
+back_to locals depth base up m = record {
+  items = m.items;
+  values = take base m.values ++ own 0 base m.values ∷ [];
+  path = path_after up m.path;
+  depth = depth;
+  state = record { locals = locals; world = world_after up m.state.world };
+}
+
+abbrev pub in_world : World → Mach → Mach
+in_world w m = record m { state = record { locals = m.state.locals; world = w } }

@@ -1,0 +1,74 @@
+-- What a machine is known to have while it runs.
+use Rattle.std.specs.Prelude.{◌≡◌, ◌≤◌, ℕ, zero, suc, ◌+◌, ◌*◌, ◌^◌, min, length, Bool, true, false, List, [], ◌∷◌, Result, Ok, Err, All}
+use Rattle.wave_base.specs.declared.limits.TheConstants.{GENERATION}
+use Rattle.wave_base.specs.declared.path.Path.{Path}
+use Rattle.wave_base.specs.declared.shape.Shape.{Shape}
+use Rattle.wave_base.specs.Shapes.{class_of, is_path}
+use Rattle.wave_base.specs.Tree.{there}
+use Rattle.resolved_service.specs.declared.service.Method.{Method}
+use Rattle.resolved_service.specs.Fits.{FitsTree, FitsTrees, FitsStep, FitsSteps, IsMethod, IsChildClass}
+use Rattle.resolved_service.specs.Meaning.{Trapped}
+use Rattle.service_eval.specs.declared.stop.Stop.{Stop}
+use Rattle.service_eval.specs.declared.stop.Stop.TheVariants as stop
+use Rattle.service_eval.specs.Items.{End, Branch, Item, Eval, Evals, Apply, AndThen, OrElse, Invoke, Child, Block, Begin, Finish, Turns, Check, Counts, Next, Return}
+use Rattle.service_eval.specs.Machines.{Mach, comes_to, path_after}
+use Rattle.service_eval.specs.Worlds.{Holds, Fails}
+
+module _ (shape : Shape) (methods : List Method) where
+  abbrev pub FitsEnd : ℕ → End → Type 0
+  FitsEnd class (Branch body other) = FitsSteps shape methods class body × FitsSteps shape methods class other
+  FitsEnd class _ = Unit {0}
+
+  -- an item at a context of a class
+  abbrev pub FitsItem : ℕ → Item → Type 0
+  FitsItem class (Eval t) = FitsTree shape methods class t
+  FitsItem class (Evals ts) = FitsTrees shape methods class ts
+  FitsItem class (AndThen right base) = FitsTree shape methods class right
+  FitsItem class (OrElse right base) = FitsTree shape methods class right
+  FitsItem class (Invoke at method base) = (count : ℕ) × IsMethod methods class method count
+  FitsItem class (Child at c method base) = IsChildClass shape class c × ((count : ℕ) × IsMethod methods c method count)
+  FitsItem class (Block steps) = FitsSteps shape methods class steps
+  FitsItem class (Begin s) = FitsStep shape methods class s
+  FitsItem class (Finish at what base) = FitsEnd class what
+  FitsItem class (Turns at test body left) = FitsTree shape methods class test × FitsSteps shape methods class body
+  FitsItem class (Check at test body left base) = FitsTree shape methods class test × FitsSteps shape methods class body
+  FitsItem class (Counts at counter body left) = FitsSteps shape methods class body
+  FitsItem class _ = Unit {0}
+
+  -- where an item leads to
+  abbrev pub path_behind : Item → Path → Path
+  path_behind (Return locals depth base up) p = path_after up p
+  path_behind _ p = p
+
+  abbrev pub FitsItems : List Item → Path → Type 0
+  FitsItems [] p = Unit {0}
+  FitsItems (item ∷ items) p = FitsItem (class_of p) item × FitsItems items (path_behind item p)
+
+-- how many changes of place are still to come when callers go on
+abbrev pub owed_by : Item → ℕ
+owed_by (Return locals depth base true) = 1
+owed_by _ = 0
+
+abbrev pub owed : List Item → ℕ
+owed [] = 0
+owed (item ∷ items) = owed_by item + owed items
+
+-- how often the event has gone down, at most
+abbrev pub downs : List Item → Path → ℕ
+downs [] p = min 8 (length p)
+downs (Return locals depth base up ∷ items) p = downs items (path_after up p)
+downs (_ ∷ items) p = downs items p
+
+pub record Ready (shape : Shape) (methods : List Method) (m : Mach) : Type 0 where
+  pub items : FitsItems shape methods m.items m.path
+  pub holds : Holds shape m.state.world.tree
+  pub path : is_path shape m.path ≡ true
+  pub held : All (λ q. there m.state.world.tree q ≡ true) m.state.world.held
+  pub here : there m.state.world.tree m.path ≡ true
+  pub early : m.state.world.generation ≤ GENERATION
+  pub room : m.state.world.changes + owed m.items + 2 * m.state.world.ticks ≤ 2 ^ 61 + downs m.items m.path
+
+-- one item was done: the rest comes to the same
+abbrev pub Turned : Shape → List Method → Mach → Result (Unit {0}) Stop → Mach → Type 0
+Turned shape methods before (Ok _) after = (comes_to methods before ≡ comes_to methods after) × Ready shape methods after
+Turned shape methods before (Err e) after = Fails (comes_to methods before) e after.state.world × Holds shape after.state.world.tree

@@ -1,0 +1,37 @@
+-- What a call that does an item asks, and what it does.
+use Rattle.std.specs.Prelude.{◌≡◌, ℤ, List, [], Option, Some, None, Result, Ok, Err}
+use Rattle.wave_base.specs.declared.span.Span.{Span}
+use Rattle.wave_base.specs.declared.value.Value.{Value}
+use Rattle.value_ops.specs.Kinds.{Answer}
+use Rattle.context_tree.specs.Contexts.{Contexts, tree_of as shown}
+use Rattle.service_eval.specs.declared.code.Code.{Code}
+use Rattle.service_eval.specs.declared.machine.Machine.{Machine}
+use Rattle.service_eval.specs.declared.stop.Stop.{Stop}
+use Rattle.service_eval.specs.declared.stop.Stop.TheVariants as stop
+use Rattle.service_eval.specs.Items.{Item}
+use Rattle.service_eval.specs.Machines.{Mach, mach_of, on_top, rest_at, comes_to}
+use Rattle.resolved_service.specs.Meaning.{Done}
+use Rattle.service_eval.specs.Ready.{Ready, Turned}
+use Rattle.service_eval.specs.Worlds.{Holds, Fails}
+
+abbrev pub mach : Code → Contexts → Machine → Mach
+mach code contexts m = mach_of (shown code.shape.now contexts) m
+
+-- the item is the next thing to be done
+abbrev pub IsNext : Code → Contexts → Machine → Item → Type 0
+IsNext code contexts m item = Ready code.shape.now code.methods.now (on_top item (mach code contexts m))
+
+-- it was done
+abbrev pub Goes : Code → Contexts → Machine → Item → Result (Unit {0}) Stop → Contexts → Machine → Type 0
+Goes code contexts m item result contexts' m' = Turned code.shape.now code.methods.now (on_top item (mach code contexts m)) result (mach code contexts' m')
+
+-- a change of a map in place: the new value, or its trap at a place, which leaves it
+abbrev pub Alters : Answer Value → Span → Value → Result (Unit {0}) Stop → Value → Type 0
+Alters answer at before (Ok _) after = answer ≡ Ok after
+Alters answer at before (Err (stop.Trapped t)) after = (answer ≡ Err t.kind) × (t.at ≡ at) × (after ≡ before)
+Alters answer at before (Err stop.OutOfMemory) after = Unit {0}
+
+-- all was done: nothing is left to do
+abbrev pub Ran : Code → Mach → Result (Unit {0}) Stop → Mach → Type 0
+Ran code before (Ok _) after = (comes_to code.methods.now before ≡ Done (rest_at after.path after.depth after.values) after.state) × (after.items ≡ []) × Ready code.shape.now code.methods.now after
+Ran code before (Err e) after = Fails (comes_to code.methods.now before) e after.state.world × Holds code.shape.now after.state.world.tree

@@ -1,0 +1,45 @@
+-- What an event has done, as it is kept, and the state that it stands for.
+use Rattle.std.specs.Prelude.{◌≡◌, true, List, [], Result, Ok, Err, All}
+use Rattle.wave_base.specs.declared.path.Path.{Path}
+use Rattle.wave_base.specs.declared.shape.Shape.{Shape}
+use Rattle.wave_base.specs.declared.span.Span.{Span}
+use Rattle.wave_base.specs.declared.value.Value.{Value}
+use Rattle.wave_base.specs.Paths.{parent_of}
+use Rattle.wave_base.specs.Shapes.{is_path}
+use Rattle.wave_base.specs.Tree.{Tree, there}
+use Rattle.value_ops.specs.Kinds.{Answer}
+use Rattle.resolved_service.specs.Meaning.{Outcome, Trapped}
+use Rattle.resolved_service.specs.World.{World}
+use Rattle.service_eval.specs.declared.stop.Stop.{Stop}
+use Rattle.service_eval.specs.declared.stop.Stop.TheVariants as stop
+use Rattle.service_eval.specs.declared.trace.Trace.{Trace}
+
+-- the world of an event on a tree
+abbrev pub world_of : Tree (List Value) → Trace → World
+world_of tree t = record {
+  generation = t.generation;
+  tree = tree;
+  ticks = t.ticks;
+  entered = t.entered.items;
+  held = t.held.items;
+  messages = t.messages.items;
+  created = t.created.items;
+  changes = t.changes;
+}
+
+-- all paths are the shape's, each parent is there, and so is the root
+pub record Holds (shape : Shape) (tree : Tree (List Value)) : Type 0 where
+  pub paths : All (λ p. is_path shape p ≡ true) tree.paths
+  pub parents : All (λ p. there tree (parent_of p) ≡ true) tree.paths
+  pub root : there tree [] ≡ true
+
+-- why nothing was done: a trap, and the world that it leaves, or want of memory, of which nothing is said
+abbrev pub Fails : {A : Type 0} → Outcome A → Stop → World → Type 0
+Fails out (stop.Trapped t) w = out ≡ Trapped t.kind t.at w
+Fails out stop.OutOfMemory w = Unit {0}
+
+-- a change of the world, or its trap at a place, which leaves it
+abbrev pub Changes : Answer World → Span → World → Result (Unit {0}) Stop → World → Type 0
+Changes answer at before (Ok _) after = answer ≡ Ok after
+Changes answer at before (Err (stop.Trapped t)) after = (answer ≡ Err t.kind) × (t.at ≡ at) × (after ≡ before)
+Changes answer at before (Err stop.OutOfMemory) after = Unit {0}

@@ -1,0 +1,146 @@
+//! Statements: their expressions come first.
+
+ghost use Rattle.std.specs.Prelude.{◌≡◌, [], ◌∷◌, OnOk, IfErr, IsNone, IfSome};
+ghost use Rattle.resolved_service.specs.Steps.{For, step_of, steps_in};
+ghost use Rattle.resolved_service.specs.View.{tree_of};
+ghost use Rattle.service_eval.specs.Items.{else_steps, else_in};
+ghost use Rattle.service_eval.specs.Items as i;
+ghost use Rattle.service_eval.specs.Turns.{IsNext, Goes};
+
+use crate::code::Code;
+use crate::machine::Machine;
+use crate::stop::Stop;
+use crate::work::{Ending, Work};
+use context_tree::Tree;
+use resolved_service::{Action, Expr, Stmt};
+use wave_base::Span;
+
+/// The first of some statements, and then the others.
+pub fn block<'s>(
+    code: Code<'s>,
+    contexts: &Tree,
+    m: &mut Machine<'s>,
+    stmts: &'s [Stmt],
+) -> Result<(), Stop>
+    requires { IsNext code contexts.now m.old (i.Block (steps_in stmts.now)) }
+    ensures { Goes code.entry contexts.now m.old (i.Block (steps_in stmts.now)) result contexts.now m.new }
+{
+    match first_of(stmts) {
+        None => Ok(()),
+        Some((first, others)) => match m.push(Work::Block(others)) {
+            Ok(()) => begin(code, contexts, m, first),
+            Err(e) => Err(e),
+        },
+    }
+}
+
+fn first_of(stmts: &[Stmt]) -> Option<(&Stmt, &[Stmt])>
+    ensures none { IsNone result → stmts.now ≡ [] }
+    ensures some { IfSome result (λ parts. stmts.now ≡ parts.0.now ∷ parts.1.now) }
+{
+    match stmts {
+        [] => None,
+        [first, others @ ..] => Some((first, others)),
+    }
+}
+
+// A statement: its expressions, and then what it does with their values.
+fn begin<'s>(
+    code: Code<'s>,
+    contexts: &Tree,
+    m: &mut Machine<'s>,
+    stmt: &'s Stmt,
+) -> Result<(), Stop>
+    requires { IsNext code contexts.now m.old (i.Begin (step_of stmt.now)) }
+    ensures { Goes code.entry contexts.now m.old (i.Begin (step_of stmt.now)) result contexts.now m.new }
+{
+    let at = stmt.at;
+    let base = m.height();
+    match &stmt.action {
+        Action::SetLocal(slot, e) => {
+            m.push_two(
+                Work::Eval(e),
+                Work::Finish(at, Ending::SetLocal(*slot as usize), base),
+            )
+        }
+        Action::SetField(f, e) => {
+            m.push_two(Work::Eval(e), Work::Finish(at, Ending::SetField(*f), base))
+        }
+        Action::PutLocal(slot, key, e) => m.push_three(
+            Work::Eval(key),
+            Work::Eval(e),
+            Work::Finish(at, Ending::PutLocal(*slot), base),
+        ),
+        Action::PutField(f, key, e) => m.push_three(
+            Work::Eval(key),
+            Work::Eval(e),
+            Work::Finish(at, Ending::PutField(*f), base),
+        ),
+        Action::CutLocal(slot, key) => {
+            m.push_two(
+                Work::Eval(key),
+                Work::Finish(at, Ending::CutLocal(*slot), base),
+            )
+        }
+        Action::CutField(f, key) => {
+            m.push_two(
+                Work::Eval(key),
+                Work::Finish(at, Ending::CutField(*f), base),
+            )
+        }
+        Action::If(test, body, other) => {
+            let ending = Ending::Branch(body.as_slice(), else_of(other));
+            m.push_two(Work::Eval(test), Work::Finish(at, ending, base))
+        }
+        Action::While(test, body) => { m.push(Work::Turns(at, test, body.as_slice(), m.depth)) }
+        Action::For(counter, from, to, body) => {
+            begin_for(code, contexts, m, at, *counter, from, to, body.as_slice())
+        }
+        Action::Require(e) => m.push_two(Work::Eval(e), Work::Finish(at, Ending::Require, base)),
+        Action::Send(label, e) => {
+            m.push_two(Work::Eval(e), Work::Finish(at, Ending::Send(label), base))
+        }
+        Action::Spawn(event, args) => m.push_two(
+            Work::Evals(args.as_slice()),
+            Work::Finish(at, Ending::Spawn(*event), base),
+        ),
+        Action::Do(e) => m.push_two(Work::Eval(e), Work::Finish(at, Ending::Drop, base)),
+    }
+}
+
+// The statements of an `else`, if there is one.
+fn else_of(other: &Option<Vec<Stmt>>) -> &[Stmt]
+    ensures { steps_in result.now ≡ else_steps (else_in other.now) }
+{
+    match other {
+        Some(stmts) => stmts.as_slice(),
+        None => &[],
+    }
+}
+
+// A loop over numbers: both bounds, and then its turns.
+fn begin_for<'s>(
+    code: Code<'s>,
+    contexts: &Tree,
+    m: &mut Machine<'s>,
+    at: Span,
+    counter: u16,
+    from: &'s Expr,
+    to: &'s Expr,
+    body: &'s [Stmt],
+) -> Result<(), Stop>
+    requires { IsNext code contexts.now m.old (i.Begin (For at counter (tree_of from.now) (tree_of to.now) (steps_in body.now))) }
+    ensures { Goes code.entry contexts.now m.old (i.Begin (For at counter (tree_of from.now) (tree_of to.now) (steps_in body.now))) result contexts.now m.new }
+{
+    let base = m.height();
+    let slot = counter as usize;
+    let last = Work::Finish(at, Ending::SetLocal(slot + 1), base);
+    let turns = Work::Counts(at, counter, body, m.depth);
+    match m.push_three(Work::Eval(to), last, turns) {
+        Ok(()) => m.push_two(
+            Work::Eval(from),
+            Work::Finish(at, Ending::SetLocal(slot), base),
+        ),
+        Err(e) => Err(e),
+    }
+}

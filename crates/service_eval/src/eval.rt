@@ -1,0 +1,206 @@
+//! Expressions on their way to their values.
+
+ghost use Rattle.std.specs.Prelude.{◌≡◌, [], ◌∷◌, map, OnOk, IfOk, IfErr, IsNone, IfSome};
+ghost use Rattle.context_tree.specs.Contexts.{tree_of as shown};
+ghost use Rattle.resolved_service.specs.Meaning.{value, called};
+ghost use Rattle.service_eval.specs.Answers.{Finds};
+ghost use Rattle.service_eval.specs.declared.stop.Stop.{Stop};
+ghost use Rattle.service_eval.specs.Machines.{mach_of, state_of, with_value};
+ghost use Rattle.wave_base.specs.declared.value.Value.{Value};
+ghost use Rattle.resolved_service.specs.View.{Op, tree_of, trees_of};
+ghost use Rattle.service_eval.specs.Items as i;
+ghost use Rattle.service_eval.specs.Turns.{IsNext, Goes};
+
+use crate::code::Code;
+use crate::fields::{field, item};
+use crate::look::{above, look_row};
+use crate::machine::Machine;
+use crate::rows::apply_any;
+use crate::stop::Stop;
+use crate::work::Work;
+use context_tree::Tree;
+use resolved_service::{Expr, Node};
+use wave_base::{OutOfMemory, Span, Value};
+
+/// A leaf has its value at once, and so has an operator where no call is met; of any other expression the parts come
+/// first.
+pub fn eval<'s>(
+    code: Code<'s>,
+    contexts: &Tree,
+    m: &mut Machine<'s>,
+    e: &'s Expr,
+) -> Result<(), Stop>
+    requires { IsNext code contexts.now m.old (i.Eval (tree_of e.now)) }
+    ensures { Goes code.entry contexts.now m.old (i.Eval (tree_of e.now)) result contexts.now m.new }
+{
+    let base = m.height();
+    match &e.node {
+        Node::Const(value) => give(m, value.copy(code.alloc)),
+        Node::Local(slot) => {
+            let value = item(m.locals.as_slice(), *slot as usize).owned(code.alloc);
+            give(m, value)
+        }
+        Node::Field(f) => {
+            let value = field(code.shape, contexts, &m.path, *f as usize).owned(code.alloc);
+            give(m, value)
+        }
+        Node::Above(level, f) => {
+            let path = above(&m.path, *level as usize);
+            let value = field(code.shape, contexts, &path, *f as usize).owned(code.alloc);
+            give(m, value)
+        }
+        Node::Op(row, args) => operate(code, contexts, m, e.at, *row, args.as_slice()),
+        Node::And(left, right) => m.push_two(Work::Eval(left), Work::AndThen(right, base)),
+        Node::Or(left, right) => m.push_two(Work::Eval(left), Work::OrElse(right, base)),
+        Node::Call(method, args) => m.push_two(
+            Work::Evals(args.as_slice()),
+            Work::Invoke(e.at, *method, base),
+        ),
+        Node::Child(class, method, key, args) => m.push_three(
+            Work::Eval(key),
+            Work::Evals(args.as_slice()),
+            Work::Child(e.at, *class, *method, base),
+        ),
+    }
+}
+
+// A value more, where there was memory for it.
+fn give(m: &mut Machine<'_>, value: Result<Value, OutOfMemory>) -> Result<(), Stop>
+    ensures ok { (v : Value) → IfOk value (λ x. x ≡ v) → OnOk result ((tree : _) → mach_of tree m.new ≡ with_value v (mach_of tree m.old)) }
+    ensures err { IfErr result (λ e. e ≡ Stop.OutOfMemory) }
+{
+    match value {
+        Ok(value) => m.give(value),
+        Err(_) => Err(Stop::OutOfMemory),
+    }
+}
+
+// An operator: its value, or its operands come first.
+fn operate<'s>(
+    code: Code<'s>,
+    contexts: &Tree,
+    m: &mut Machine<'s>,
+    at: Span,
+    row: u16,
+    args: &'s [Expr],
+) -> Result<(), Stop>
+    requires { IsNext code contexts.now m.old (i.Eval (Op at row (trees_of (map tree_of args.now)))) }
+    ensures { Goes code.entry contexts.now m.old (i.Eval (Op at row (trees_of (map tree_of args.now)))) result contexts.now m.new }
+{
+    match operated(code, contexts, m, at, row, args) {
+        Ok(Some(value)) => m.give(value),
+        Ok(None) => {
+            let base = m.height();
+            m.push_two(Work::Evals(args), Work::Apply(at, row, base))
+        }
+        Err(e) => Err(e),
+    }
+}
+
+// The value of an operator, where no call is met.
+fn operated(
+    code: Code<'_>,
+    contexts: &Tree,
+    m: &Machine<'_>,
+    at: Span,
+    row: u16,
+    args: &[Expr],
+) -> Result<Option<Value>, Stop>
+    ensures { Finds (value (called code.entry.methods.now m.now.depth) m.now.path (Op at row (trees_of (map tree_of args.now))) (state_of (shown code.entry.shape.now contexts.now) m.now)) (state_of (shown code.entry.shape.now contexts.now) m.now) result }
+{
+    match look_row(code, contexts, m, row, args, at) {
+        Ok(Some(operand)) => match operand.owned(code.alloc) {
+            Ok(value) => Ok(Some(value)),
+            Err(_) => Err(Stop::OutOfMemory),
+        },
+        Ok(None) => Ok(None),
+        Err(e) => Err(e),
+    }
+}
+
+/// The first of some expressions, and then the others.
+pub fn evals<'s>(
+    code: Code<'s>,
+    contexts: &Tree,
+    m: &mut Machine<'s>,
+    es: &'s [Expr],
+) -> Result<(), Stop>
+    requires { IsNext code contexts.now m.old (i.Evals (trees_of (map tree_of es.now))) }
+    ensures { Goes code.entry contexts.now m.old (i.Evals (trees_of (map tree_of es.now))) result contexts.now m.new }
+{
+    match first_of(es) {
+        None => Ok(()),
+        Some((first, others)) => m.push_two(Work::Eval(first), Work::Evals(others)),
+    }
+}
+
+fn first_of(es: &[Expr]) -> Option<(&Expr, &[Expr])>
+    ensures none { IsNone result → es.now ≡ [] }
+    ensures some { IfSome result (λ parts. es.now ≡ parts.0.now ∷ parts.1.now) }
+{
+    match es {
+        [] => None,
+        [first, others @ ..] => Some((first, others)),
+    }
+}
+
+/// An operator whose operands have their values.
+pub fn apply(
+    code: Code<'_>,
+    contexts: &Tree,
+    m: &mut Machine<'_>,
+    at: Span,
+    row: u16,
+    base: usize,
+) -> Result<(), Stop>
+    requires { IsNext code contexts.now m.old (i.Apply at row base) }
+    ensures { Goes code.entry contexts.now m.old (i.Apply at row base) result contexts.now m.new }
+{
+    match apply_any(code.alloc, row as usize, m.own(base), at) {
+        Ok(value) => {
+            m.cut(base);
+            m.give(value)
+        }
+        Err(e) => Err(e),
+    }
+}
+
+/// `&&` whose left operand has its value.
+pub fn and_then<'s>(
+    code: Code<'s>,
+    contexts: &Tree,
+    m: &mut Machine<'s>,
+    right: &'s Expr,
+    base: usize,
+) -> Result<(), Stop>
+    requires { IsNext code contexts.now m.old (i.AndThen (tree_of right.now) base) }
+    ensures { Goes code.entry contexts.now m.old (i.AndThen (tree_of right.now) base) result contexts.now m.new }
+{
+    let holds = m.is_true(base);
+    m.cut(base);
+    if holds {
+        m.push(Work::Eval(right))
+    } else {
+        m.give(Value::Bool(false))
+    }
+}
+
+/// `||` whose left operand has its value.
+pub fn or_else<'s>(
+    code: Code<'s>,
+    contexts: &Tree,
+    m: &mut Machine<'s>,
+    right: &'s Expr,
+    base: usize,
+) -> Result<(), Stop>
+    requires { IsNext code contexts.now m.old (i.OrElse (tree_of right.now) base) }
+    ensures { Goes code.entry contexts.now m.old (i.OrElse (tree_of right.now) base) result contexts.now m.new }
+{
+    let holds = m.is_true(base);
+    m.cut(base);
+    if holds {
+        m.give(Value::Bool(true))
+    } else {
+        m.push(Work::Eval(right))
+    }
+}

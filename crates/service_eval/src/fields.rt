@@ -1,0 +1,76 @@
+//! The fields of contexts: read where they are, and set.
+
+ghost use Rattle.std.specs.Prelude.{◌≡◌, ℕ, ◌<◌, ◌↔◌, true, IsTrue, List};
+ghost use Rattle.context_tree.specs.Contexts.{Contexts, tree_of, is_there, with_field, HasField};
+ghost use Rattle.service_eval.specs.Answers.{value_in};
+ghost use Rattle.wave_base.specs.declared.shape.Shape.{Shape};
+ghost use Rattle.resolved_service.specs.World.{nothing};
+ghost use Rattle.wave_base.specs.Shapes.{initial_fields, class_of};
+ghost use Rattle.std.specs.Prelude.{get_or};
+
+use crate::operand::Operand;
+use context_tree::Tree;
+use wave_base::{Path, Shape, Value};
+
+/// A field of the context at a path: the initial one where the context is not there.
+pub fn field<'v>(shape: &'v Shape, tree: &'v Tree, path: &Path, field: usize) -> Operand<'v>
+    ensures { value_in result ≡ get_or ((tree_of shape.now tree.now).fields path.now) field nothing }
+{
+    match tree.get(path) {
+        Some(record) => item(record.fields.as_slice(), field),
+        None => initial(shape, path, field),
+    }
+}
+
+/// A value of a list, or a number where there is none.
+pub fn item<'v>(values: &'v [Value], at: usize) -> Operand<'v>
+    ensures { value_in result ≡ get_or values.now at nothing }
+{
+    match values.get(at) {
+        Some(value) => Operand::Held(value),
+        None => Operand::Made(Value::Int(0)),
+    }
+}
+
+// What a field begins with.
+fn initial<'v>(shape: &'v Shape, path: &Path, field: usize) -> Operand<'v>
+    ensures { value_in result ≡ get_or (initial_fields shape.now path.now) field nothing }
+{
+    let Some(class) = shape.classes.get(class_of(path)) else {
+        return Operand::Made(Value::Int(0));
+    };
+    match class.fields.get(field) {
+        Some(info) => Operand::Held(&info.initial),
+        None => Operand::Made(Value::Int(0)),
+    }
+}
+
+// The class of the context at a path.
+fn class_of(path: &Path) -> usize
+    ensures { result ≡ class_of path.now }
+{
+    match path.as_slice() {
+        [.., last] => last.class.0 as usize,
+        [] => 0,
+    }
+}
+
+/// Whether the context at a path is there with a field.
+pub fn has_field(tree: &Tree, path: &Path, field: usize) -> bool
+    ensures { IsTrue result ↔ HasField tree.now path.now field }
+{
+    match tree.get(path) {
+        Some(record) => field < record.fields.len(),
+        None => false,
+    }
+}
+
+/// Sets a field, where there is one, of a context that is there.
+pub fn set_field(tree: &mut Tree, path: &Path, field: usize, value: Value)
+    requires { is_there tree.old path.now ≡ true }
+    ensures { (shape : Shape) → tree_of shape tree.new ≡ with_field (tree_of shape tree.old) path.now field value }
+{
+    if has_field(tree, path, field) {
+        tree.set(path, field, value);
+    }
+}

@@ -1,0 +1,310 @@
+//! What statements do once their expressions have their values.
+
+ghost use Rattle.std.specs.Prelude.{◌≡◌, ◌∷◌, [], IfOk};
+ghost use Rattle.resolved_service.specs.Meaning.{row_put, row_cut};
+ghost use Rattle.resolved_service.specs.Steps.{steps_in};
+ghost use Rattle.service_eval.specs.Answers.{Gives};
+ghost use Rattle.service_eval.specs.Items as i;
+ghost use Rattle.service_eval.specs.Items.{end_of};
+ghost use Rattle.service_eval.specs.Machines.{own};
+ghost use Rattle.service_eval.specs.Turns.{IsNext, Goes};
+ghost use Rattle.value_ops.specs.Operators.{apply_row};
+ghost use Rattle.wave_base.specs.declared.value.Value.{Value};
+
+use crate::code::Code;
+use crate::fields::{field, item, set_field};
+use crate::machine::Machine;
+use crate::rows::apply_any;
+use crate::stop::Stop;
+use crate::trace::trapped;
+use crate::work::{Ending, Work};
+use context_tree::Tree;
+use resolved_service::Stmt;
+use wave_base::{OutOfMemory, Span, TrapKind, Txt, Value};
+
+/// The operator rows of statements that change a map.
+const PUT: usize = 20;
+
+const CUT: usize = 21;
+
+/// The rest of a statement.
+pub fn finish<'s>(
+    code: Code<'s>,
+    contexts: &mut Tree,
+    m: &mut Machine<'s>,
+    at: Span,
+    ending: Ending<'s>,
+    base: usize,
+) -> Result<(), Stop>
+    requires { IsNext code contexts.old m.old (i.Finish at (end_of ending) base) }
+    ensures { Goes code.entry contexts.old m.old (i.Finish at (end_of ending.entry) base) result contexts.new m.new }
+{
+    match ending {
+        Ending::SetLocal(slot) => set_slot(code, contexts, m, at, slot, base),
+        Ending::SetField(f) => set_own(code, contexts, m, at, f, base),
+        Ending::PutLocal(slot) => put_slot(code, contexts, m, at, slot, base),
+        Ending::PutField(f) => put_own(code, contexts, m, at, f, base),
+        Ending::CutLocal(slot) => cut_slot(code, contexts, m, at, slot, base),
+        Ending::CutField(f) => cut_own(code, contexts, m, at, f, base),
+        Ending::Branch(body, other) => branch(code, contexts, m, at, body, other, base),
+        Ending::Require => demand(code, contexts, m, at, base),
+        Ending::Send(label) => send(code, contexts, m, at, label, base),
+        Ending::Spawn(event) => spawn(code, contexts, m, at, event, base),
+        Ending::Drop => forget(code, contexts, m, at, base),
+    }
+}
+
+// A local has the value.
+fn set_slot<'s>(
+    code: Code<'s>,
+    contexts: &Tree,
+    m: &mut Machine<'s>,
+    at: Span,
+    slot: usize,
+    base: usize,
+) -> Result<(), Stop>
+    requires { IsNext code contexts.now m.old (i.Finish at (i.SetLocal slot) base) }
+    ensures { Goes code.entry contexts.now m.old (i.Finish at (i.SetLocal slot) base) result contexts.now m.new }
+{
+    let value = m.take(base);
+    m.set_local(slot, value);
+    Ok(())
+}
+
+// A field has the value.
+fn set_own<'s>(
+    code: Code<'s>,
+    contexts: &mut Tree,
+    m: &mut Machine<'s>,
+    at: Span,
+    f: u16,
+    base: usize,
+) -> Result<(), Stop>
+    requires { IsNext code contexts.old m.old (i.Finish at (i.SetField f) base) }
+    ensures { Goes code.entry contexts.old m.old (i.Finish at (i.SetField f) base) result contexts.new m.new }
+{
+    let value = m.take(base);
+    set_field(contexts, &m.path, f as usize, value);
+    Ok(())
+}
+
+// A local map has the pair.
+fn put_slot<'s>(
+    code: Code<'s>,
+    contexts: &Tree,
+    m: &mut Machine<'s>,
+    at: Span,
+    slot: u16,
+    base: usize,
+) -> Result<(), Stop>
+    requires { IsNext code contexts.now m.old (i.Finish at (i.PutLocal slot) base) }
+    ensures { Goes code.entry contexts.now m.old (i.Finish at (i.PutLocal slot) base) result contexts.now m.new }
+{
+    let map = item(m.locals.as_slice(), slot as usize).owned(code.alloc);
+    match put(code, m, map, at, base) {
+        Ok(value) => {
+            m.cut(base);
+            m.set_local(slot as usize, value);
+            Ok(())
+        }
+        Err(e) => Err(e),
+    }
+}
+
+// A field's map has the pair.
+fn put_own<'s>(
+    code: Code<'s>,
+    contexts: &mut Tree,
+    m: &mut Machine<'s>,
+    at: Span,
+    f: u16,
+    base: usize,
+) -> Result<(), Stop>
+    requires { IsNext code contexts.old m.old (i.Finish at (i.PutField f) base) }
+    ensures { Goes code.entry contexts.old m.old (i.Finish at (i.PutField f) base) result contexts.new m.new }
+{
+    let map = field(code.shape, contexts, &m.path, f as usize).owned(code.alloc);
+    match put(code, m, map, at, base) {
+        Ok(value) => {
+            m.cut(base);
+            set_field(contexts, &m.path, f as usize, value);
+            Ok(())
+        }
+        Err(e) => Err(e),
+    }
+}
+
+// A local map has the key no more.
+fn cut_slot<'s>(
+    code: Code<'s>,
+    contexts: &Tree,
+    m: &mut Machine<'s>,
+    at: Span,
+    slot: u16,
+    base: usize,
+) -> Result<(), Stop>
+    requires { IsNext code contexts.now m.old (i.Finish at (i.CutLocal slot) base) }
+    ensures { Goes code.entry contexts.now m.old (i.Finish at (i.CutLocal slot) base) result contexts.now m.new }
+{
+    let map = item(m.locals.as_slice(), slot as usize).owned(code.alloc);
+    match cut(code, m, map, at, base) {
+        Ok(value) => {
+            m.cut(base);
+            m.set_local(slot as usize, value);
+            Ok(())
+        }
+        Err(e) => Err(e),
+    }
+}
+
+// A field's map has the key no more.
+fn cut_own<'s>(
+    code: Code<'s>,
+    contexts: &mut Tree,
+    m: &mut Machine<'s>,
+    at: Span,
+    f: u16,
+    base: usize,
+) -> Result<(), Stop>
+    requires { IsNext code contexts.old m.old (i.Finish at (i.CutField f) base) }
+    ensures { Goes code.entry contexts.old m.old (i.Finish at (i.CutField f) base) result contexts.new m.new }
+{
+    let map = field(code.shape, contexts, &m.path, f as usize).owned(code.alloc);
+    match cut(code, m, map, at, base) {
+        Ok(value) => {
+            m.cut(base);
+            set_field(contexts, &m.path, f as usize, value);
+            Ok(())
+        }
+        Err(e) => Err(e),
+    }
+}
+
+// The statements for the value of a test.
+fn branch<'s>(
+    code: Code<'s>,
+    contexts: &Tree,
+    m: &mut Machine<'s>,
+    at: Span,
+    body: &'s [Stmt],
+    other: &'s [Stmt],
+    base: usize,
+) -> Result<(), Stop>
+    requires { IsNext code contexts.now m.old (i.Finish at (i.Branch (steps_in body.now) (steps_in other.now)) base) }
+    ensures { Goes code.entry contexts.now m.old (i.Finish at (i.Branch (steps_in body.now) (steps_in other.now)) base) result contexts.now m.new }
+{
+    let holds = m.is_true(base);
+    m.cut(base);
+    if holds {
+        m.push(Work::Block(body))
+    } else {
+        m.push(Work::Block(other))
+    }
+}
+
+// A condition holds, or the event ends.
+fn demand<'s>(
+    code: Code<'s>,
+    contexts: &Tree,
+    m: &mut Machine<'s>,
+    at: Span,
+    base: usize,
+) -> Result<(), Stop>
+    requires { IsNext code contexts.now m.old (i.Finish at (i.Require) base) }
+    ensures { Goes code.entry contexts.now m.old (i.Finish at (i.Require) base) result contexts.now m.new }
+{
+    let holds = m.is_true(base);
+    if holds {
+        m.cut(base);
+        Ok(())
+    } else {
+        trapped(TrapKind::Require, at)
+    }
+}
+
+// A message with the value.
+fn send<'s>(
+    code: Code<'s>,
+    contexts: &Tree,
+    m: &mut Machine<'s>,
+    at: Span,
+    label: &Txt,
+    base: usize,
+) -> Result<(), Stop>
+    requires { IsNext code contexts.now m.old (i.Finish at (i.Send label.now) base) }
+    ensures { Goes code.entry contexts.now m.old (i.Finish at (i.Send label.now) base) result contexts.now m.new }
+{
+    let value = m.take(base);
+    m.trace.send(code.alloc, label, value, at)
+}
+
+// A created event with the arguments.
+fn spawn<'s>(
+    code: Code<'s>,
+    contexts: &Tree,
+    m: &mut Machine<'s>,
+    at: Span,
+    event: u16,
+    base: usize,
+) -> Result<(), Stop>
+    requires { IsNext code contexts.now m.old (i.Finish at (i.Spawn event) base) }
+    ensures { Goes code.entry contexts.now m.old (i.Finish at (i.Spawn event) base) result contexts.now m.new }
+{
+    match m.take_all(base) {
+        Ok(args) => m.trace.spawn(event, args, at),
+        Err(e) => Err(e),
+    }
+}
+
+// The value of a call is dropped.
+fn forget<'s>(
+    code: Code<'s>,
+    contexts: &Tree,
+    m: &mut Machine<'s>,
+    at: Span,
+    base: usize,
+) -> Result<(), Stop>
+    requires { IsNext code contexts.now m.old (i.Finish at (i.Drop) base) }
+    ensures { Goes code.entry contexts.now m.old (i.Finish at (i.Drop) base) result contexts.now m.new }
+{
+    m.cut(base);
+    Ok(())
+}
+
+// A map with a pair, which stands in an item's own values.
+fn put(
+    code: Code<'_>,
+    m: &Machine<'_>,
+    map: Result<Value, OutOfMemory>,
+    at: Span,
+    base: usize,
+) -> Result<Value, Stop>
+    ensures { (before : Value) → IfOk map (λ x. x ≡ before) → Gives (apply_row row_put (before ∷ own 0 base m.now.values.items ∷ own 1 base m.now.values.items ∷ [])) at result }
+{
+    let map = match map {
+        Ok(map) => map,
+        Err(_) => return Err(Stop::OutOfMemory),
+    };
+    let own = m.own(base);
+    let key = item(own, 0).owned(code.alloc)?;
+    let value = item(own, 1).owned(code.alloc)?;
+    apply_any(code.alloc, PUT, &[map, key, value], at)
+}
+
+// A map without a key, which is an item's own value.
+fn cut(
+    code: Code<'_>,
+    m: &Machine<'_>,
+    map: Result<Value, OutOfMemory>,
+    at: Span,
+    base: usize,
+) -> Result<Value, Stop>
+    ensures { (before : Value) → IfOk map (λ x. x ≡ before) → Gives (apply_row row_cut (before ∷ own 0 base m.now.values.items ∷ [])) at result }
+{
+    let map = match map {
+        Ok(map) => map,
+        Err(_) => return Err(Stop::OutOfMemory),
+    };
+    let key = item(m.own(base), 0).owned(code.alloc)?;
+    apply_any(code.alloc, CUT, &[map, key], at)
+}

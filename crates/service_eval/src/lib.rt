@@ -1,0 +1,21 @@
+//! The events of a resolved service, run.
+#![tactic(auto)]
+
+mod block;
+mod calls;
+mod code;
+mod eval;
+mod event;
+mod fields;
+mod finish;
+mod look;
+mod loops;
+mod machine;
+mod operand;
+mod rows;
+mod run;
+mod stop;
+mod trace;
+mod work;
+
+pub use event::{EventRan, run_event};

@@ -1,0 +1,173 @@
+//! Expressions whose values are found without any change: they have no calls.
+
+ghost use Rattle.std.specs.Prelude.{◌≡◌, map, take};
+ghost use Rattle.context_tree.specs.Contexts.{tree_of as shown};
+ghost use Rattle.resolved_service.specs.Meaning.{value, called};
+ghost use Rattle.resolved_service.specs.View.{Op, And, Or, tree, no_trees, tree_of, trees_of};
+ghost use Rattle.service_eval.specs.Answers.{Looks};
+ghost use Rattle.service_eval.specs.Machines.{state_of};
+
+use crate::code::Code;
+use crate::fields::{field, item};
+use crate::machine::Machine;
+use crate::operand::{Operand, is_true};
+use crate::rows::{apply_any, apply_two};
+use crate::stop::Stop;
+use context_tree::Tree;
+use resolved_service::{Expr, Node};
+use std::slice;
+use wave_base::{Path, Span, Value};
+
+/// The value of an expression. None where a call is met; nothing has changed then.
+#[cycle(look)]
+pub fn look<'v, 's>(
+    code: Code<'v>,
+    contexts: &'v Tree,
+    m: &'v Machine<'s>,
+    e: &'v Expr,
+) -> Result<Option<Operand<'v>>, Stop>
+    ensures { Looks (value (called code.entry.methods.now m.now.depth) m.now.path (tree_of e.now) (state_of (shown code.entry.shape.now contexts.now) m.now)) (state_of (shown code.entry.shape.now contexts.now) m.now) result }
+{
+    match &e.node {
+        Node::Const(value) => Ok(Some(Operand::Held(value))),
+        Node::Local(slot) => Ok(Some(item(m.locals.as_slice(), *slot as usize))),
+        Node::Field(f) => Ok(Some(field(code.shape, contexts, &m.path, *f as usize))),
+        Node::Above(level, f) => {
+            let path = above(&m.path, *level as usize);
+            Ok(Some(field(code.shape, contexts, &path, *f as usize)))
+        }
+        Node::Op(row, args) => look_row(code, contexts, m, *row, args.as_slice(), e.at),
+        Node::And(left, right) => look_and(code, contexts, m, left, right, e.at),
+        Node::Or(left, right) => look_or(code, contexts, m, left, right, e.at),
+        Node::Call(_, _) => Ok(None),
+        Node::Child(_, _, _, _) => Ok(None),
+    }
+}
+
+/// The value of an operator, as `look` has it.
+#[cycle(look)]
+pub fn look_row<'v, 's>(
+    code: Code<'v>,
+    contexts: &'v Tree,
+    m: &'v Machine<'s>,
+    row: u16,
+    args: &'v [Expr],
+    at: Span,
+) -> Result<Option<Operand<'v>>, Stop>
+    ensures { Looks (value (called code.entry.methods.now m.now.depth) m.now.path (Op at row (trees_of (map tree_of args.now))) (state_of (shown code.entry.shape.now contexts.now) m.now)) (state_of (shown code.entry.shape.now contexts.now) m.now) result }
+{
+    match args {
+        [a] => look_one(code, contexts, m, row, a, at),
+        [a, b] => look_two(code, contexts, m, row, a, b, at),
+        _ => Ok(None),
+    }
+}
+
+#[cycle(look)]
+fn look_one<'v, 's>(
+    code: Code<'v>,
+    contexts: &'v Tree,
+    m: &'v Machine<'s>,
+    row: u16,
+    a: &'v Expr,
+    at: Span,
+) -> Result<Option<Operand<'v>>, Stop>
+    ensures { Looks (value (called code.entry.methods.now m.now.depth) m.now.path (Op at row (tree (tree_of a.now) no_trees)) (state_of (shown code.entry.shape.now contexts.now) m.now)) (state_of (shown code.entry.shape.now contexts.now) m.now) result }
+{
+    match look(code, contexts, m, a) {
+        Ok(Some(a)) => {
+            let value = apply_any(code.alloc, row as usize, slice::from_ref(a.value()), at)?;
+            Ok(Some(Operand::Made(value)))
+        }
+        Ok(None) => Ok(None),
+        Err(e) => Err(e),
+    }
+}
+
+#[cycle(look)]
+fn look_two<'v, 's>(
+    code: Code<'v>,
+    contexts: &'v Tree,
+    m: &'v Machine<'s>,
+    row: u16,
+    a: &'v Expr,
+    b: &'v Expr,
+    at: Span,
+) -> Result<Option<Operand<'v>>, Stop>
+    ensures { Looks (value (called code.entry.methods.now m.now.depth) m.now.path (Op at row (tree (tree_of a.now) (tree (tree_of b.now) no_trees))) (state_of (shown code.entry.shape.now contexts.now) m.now)) (state_of (shown code.entry.shape.now contexts.now) m.now) result }
+{
+    match look(code, contexts, m, a) {
+        Ok(Some(a)) => match look(code, contexts, m, b) {
+            Ok(Some(b)) => {
+                let value = apply_two(code.alloc, row as usize, a.value(), b.value(), at)?;
+                Ok(Some(Operand::Made(value)))
+            }
+            Ok(None) => Ok(None),
+            Err(e) => Err(e),
+        },
+        Ok(None) => Ok(None),
+        Err(e) => Err(e),
+    }
+}
+
+#[cycle(look)]
+fn look_and<'v, 's>(
+    code: Code<'v>,
+    contexts: &'v Tree,
+    m: &'v Machine<'s>,
+    left: &'v Expr,
+    right: &'v Expr,
+    at: Span,
+) -> Result<Option<Operand<'v>>, Stop>
+    ensures { Looks (value (called code.entry.methods.now m.now.depth) m.now.path (And at (tree_of left.now) (tree_of right.now)) (state_of (shown code.entry.shape.now contexts.now) m.now)) (state_of (shown code.entry.shape.now contexts.now) m.now) result }
+{
+    match look(code, contexts, m, left) {
+        Ok(Some(a)) => {
+            if is_true(a.value()) {
+                look(code, contexts, m, right)
+            } else {
+                Ok(Some(Operand::Made(Value::Bool(false))))
+            }
+        }
+        Ok(None) => Ok(None),
+        Err(e) => Err(e),
+    }
+}
+
+#[cycle(look)]
+fn look_or<'v, 's>(
+    code: Code<'v>,
+    contexts: &'v Tree,
+    m: &'v Machine<'s>,
+    left: &'v Expr,
+    right: &'v Expr,
+    at: Span,
+) -> Result<Option<Operand<'v>>, Stop>
+    ensures { Looks (value (called code.entry.methods.now m.now.depth) m.now.path (Or at (tree_of left.now) (tree_of right.now)) (state_of (shown code.entry.shape.now contexts.now) m.now)) (state_of (shown code.entry.shape.now contexts.now) m.now) result }
+{
+    match look(code, contexts, m, left) {
+        Ok(Some(a)) => {
+            if is_true(a.value()) {
+                Ok(Some(Operand::Made(Value::Bool(true))))
+            } else {
+                look(code, contexts, m, right)
+            }
+        }
+        Ok(None) => Ok(None),
+        Err(e) => Err(e),
+    }
+}
+
+/// The path of the ancestor at a level.
+pub fn above(path: &Path, level: usize) -> Path
+    ensures { result ≡ take level path.now }
+{
+    let mut above = *path;
+    while above.as_slice().len() > level {
+        match above.parent() {
+            Some(parent) => above = parent,
+            None => return above,
+        }
+    }
+    above
+}

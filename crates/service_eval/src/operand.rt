@@ -1,0 +1,43 @@
+ghost use Rattle.std.specs.Prelude.{◌≡◌, IfOk};
+ghost use Rattle.resolved_service.specs.World.{is_true};
+ghost use Rattle.service_eval.specs.Answers.{value_in};
+
+use std::alloc::Global;
+use wave_base::{OutOfMemory, Value};
+
+/// A value of an expression: one that is kept elsewhere, or a new one.
+#[derive(Drop)]
+pub enum Operand<'v> {
+    Held(&'v Value),
+    Made(Value),
+}
+
+impl<'v> Operand<'v> {
+    pub fn value(&self) -> &Value
+        ensures { result.now ≡ value_in self.now }
+    {
+        match self {
+            Operand::Held(value) => *value,
+            Operand::Made(value) => value,
+        }
+    }
+
+    pub fn owned(self, alloc: Global) -> Result<Value, OutOfMemory>
+        ensures { IfOk result (λ v. v ≡ value_in self.entry) }
+    {
+        match self {
+            Operand::Held(value) => value.copy(alloc),
+            Operand::Made(value) => Ok(value),
+        }
+    }
+}
+
+/// Whether a value is true.
+pub fn is_true(value: &Value) -> bool
+    ensures { result ≡ is_true value.now }
+{
+    match value {
+        Value::Bool(b) => *b,
+        _ => false,
+    }
+}

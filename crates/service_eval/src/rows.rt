@@ -1,0 +1,133 @@
+ghost use Rattle.std.specs.Prelude.{◌≡◌, ◌<◌, ◌∷◌, [], map, false, Err, IsTrue};
+ghost use Rattle.service_eval.specs.Answers.{Gives, is_kind, are_kinds};
+ghost use Rattle.value_ops.specs.Answers.{Answers};
+ghost use Rattle.value_ops.specs.Kinds.{Answer};
+ghost use Rattle.value_ops.specs.Operators.{takes_of, gives_of, apply_row};
+ghost use Rattle.wave_base.specs.declared.operators.TheConstants.{OPERATORS};
+ghost use Rattle.wave_base.specs.declared.trap.TrapKind.{TrapKind};
+ghost use Rattle.wave_base.specs.declared.value.Kind.{Kind};
+ghost use Rattle.wave_base.specs.declared.value.Value.{Value};
+ghost use Rattle.wave_base.specs.Values.{kind_of};
+
+use crate::stop::Stop;
+use std::alloc::Global;
+use value_ops::{OpError, apply, apply_ints, compare_texts, read_map, wave_ops};
+use wave_base::{Kind, OPERATORS, Span, Trap, TrapKind, Value};
+
+/// What a row gives of any values; of others than it takes, it gives nothing.
+pub fn apply_any(alloc: Global, row: usize, args: &[Value], at: Span) -> Result<Value, Stop>
+    ensures { Gives (apply_row row args.now) at result }
+{
+    if takes(row, args) {
+        placed(apply(alloc, row, args), at)
+    } else {
+        placed(Err(OpError::Trap(TrapKind::Absent)), at)
+    }
+}
+
+// Whether a row takes these values.
+fn takes(row: usize, args: &[Value]) -> bool
+    ensures row { IsTrue result → row < OPERATORS }
+    ensures kinds { IsTrue result → map kind_of args.now ≡ takes_of row }
+    ensures none { result ≡ false → apply_row row args.now ≡ Err TrapKind.Absent }
+{
+    row < OPERATORS && are_kinds(&wave_ops().row(row).takes, args)
+}
+
+// Whether the values have the kinds, of which there are three at most.
+fn are_kinds(kinds: &[Option<Kind>; 3], args: &[Value]) -> bool
+    ensures { result ≡ are_kinds kinds.now args.now }
+{
+    match args {
+        [] => kinds[0].is_none(),
+        [x] => is_kind(kinds[0], x) && kinds[1].is_none(),
+        [x, y] => is_kind(kinds[0], x) && is_kind(kinds[1], y) && kinds[2].is_none(),
+        [x, y, z] => is_kind(kinds[0], x) && is_kind(kinds[1], y) && is_kind(kinds[2], z),
+        _ => false,
+    }
+}
+
+fn is_kind(kind: Option<Kind>, value: &Value) -> bool
+    ensures { result ≡ is_kind kind value.now }
+{
+    match (kind, value) {
+        (Some(Kind::Int), Value::Int(_)) => true,
+        (Some(Kind::Bool), Value::Bool(_)) => true,
+        (Some(Kind::Text), Value::Str(_)) => true,
+        (Some(Kind::Map), Value::Map(_)) => true,
+        _ => false,
+    }
+}
+
+/// What a row gives of two values. Ints are added and compared, maps read and texts compared where they are.
+pub fn apply_two(alloc: Global, row: usize, a: &Value, b: &Value, at: Span) -> Result<Value, Stop>
+    ensures { Gives (apply_row row (a.now ∷ b.now ∷ [])) at result }
+{
+    match (a, b) {
+        (Value::Int(x), Value::Int(y)) if is_ints(row) => trapping(apply_ints(row, *x, *y), at),
+        (Value::Map(m), Value::Int(k)) if is_read(row) => trapping(read_map(row, m, *k), at),
+        (Value::Str(s), Value::Str(t)) if is_comparison(row) => {
+            Ok(Value::Bool(compare_texts(row, s, t)))
+        }
+        _ => {
+            let args = [a.copy(alloc)?, b.copy(alloc)?];
+            apply_any(alloc, row, &args, at)
+        }
+    }
+}
+
+// Whether a row takes two ints.
+#[tactic(auto, unfolding(value_ops::specs::Operators::takes_of, value_ops::specs::Operators::operators))]
+fn is_ints(row: usize) -> bool
+    ensures { IsTrue result → takes_of row ≡ Kind.Int ∷ Kind.Int ∷ [] }
+{
+    match row {
+        0 | 1 | 2 | 3 | 4 | 7 | 8 | 9 | 10 | 11 | 12 => true,
+        _ => false,
+    }
+}
+
+// Whether a row reads a map at an int.
+#[tactic(auto, unfolding(value_ops::specs::Operators::takes_of, value_ops::specs::Operators::gives_of, value_ops::specs::Operators::operators))]
+fn is_read(row: usize) -> bool
+    ensures takes { IsTrue result → takes_of row ≡ Kind.Map ∷ Kind.Int ∷ [] }
+    ensures reads { IsTrue result → gives_of row ≡ Kind.Map → ⊥ }
+{
+    match row {
+        19 | 22 | 24 => true,
+        _ => false,
+    }
+}
+
+// Whether a row compares two texts.
+#[tactic(auto, unfolding(value_ops::specs::Operators::takes_of, value_ops::specs::Operators::gives_of, value_ops::specs::Operators::operators))]
+fn is_comparison(row: usize) -> bool
+    ensures takes { IsTrue result → takes_of row ≡ Kind.Text ∷ Kind.Text ∷ [] }
+    ensures says { IsTrue result → gives_of row ≡ Kind.Bool }
+{
+    match row {
+        15 | 16 | 17 => true,
+        _ => false,
+    }
+}
+
+// The answer of an operator at a place.
+fn placed(answer: Result<Value, OpError>, at: Span) -> Result<Value, Stop>
+    ensures { (given : Answer Value) → Answers given answer → Gives given at result }
+{
+    match answer {
+        Ok(value) => Ok(value),
+        Err(OpError::Trap(kind)) => Err(Stop::Trapped(Trap { kind, at })),
+        Err(OpError::OutOfMemory) => Err(Stop::OutOfMemory),
+    }
+}
+
+// The answer of an operator that takes no memory, at a place.
+fn trapping(answer: Result<Value, TrapKind>, at: Span) -> Result<Value, Stop>
+    ensures { Gives answer at result }
+{
+    match answer {
+        Ok(value) => Ok(value),
+        Err(kind) => Err(Stop::Trapped(Trap { kind, at })),
+    }
+}

@@ -1,0 +1,95 @@
+ghost use Rattle.std.specs.Prelude.{◌≡◌, ◌≤◌, Err};
+ghost use Rattle.resolved_service.specs.World.{has, ticking, releasing, sending, spawning};
+ghost use Rattle.service_eval.specs.Worlds.{world_of, Changes};
+ghost use Rattle.wave_base.specs.declared.limits.TheConstants.{GENERATION};
+ghost use Rattle.service_eval.specs.declared.stop.Stop.{Stop};
+
+use crate::stop::Stop;
+use std::alloc::Global;
+use wave_base::{
+    Call, GENERATION, MESSAGES, Message, Path, SPAWNS, Seq, Span, Trap, TrapKind, Txt, Value,
+};
+
+/// What an event has done so far, besides its changes of fields.
+#[derive(Drop)]
+pub struct Trace {
+    pub generation: u8,
+    /// The ticks that are left.
+    pub ticks: u32,
+    pub entered: Vec<Path>,
+    pub held: Vec<Path>,
+    pub messages: Vec<Message>,
+    pub created: Vec<Call>,
+    /// How often it changed its place.
+    pub changes: u64,
+}
+
+impl Trace {
+    /// Takes a tick.
+    pub fn tick(&mut self, at: Span) -> Result<(), Stop>
+        ensures { (tree : _) → Changes (ticking (world_of tree self.old)) at (world_of tree self.old) result (world_of tree self.new) }
+    {
+        if self.ticks == 0 {
+            return trapped(TrapKind::Ticks, at);
+        }
+        self.ticks -= 1;
+        Ok(())
+    }
+
+    /// Whether the event holds a context.
+    pub fn holds(&self, path: &Path) -> bool
+        ensures { result ≡ has self.now.held.items path.now }
+    {
+        for held in &self.held {
+            if path == held {
+                return true;
+            }
+        }
+        false
+    }
+
+    /// Gives up all that lies outside the subtree of a context.
+    pub fn release(&mut self, path: &Path)
+        ensures { (tree : _) → world_of tree self.new ≡ releasing path.now (world_of tree self.old) }
+    {
+        self.held.retain(|held| path.is_above(held));
+    }
+
+    /// Sends a message.
+    pub fn send(&mut self, alloc: Global, label: &Txt, value: Value, at: Span) -> Result<(), Stop>
+        ensures { (tree : _) → Changes (sending label.now value (world_of tree self.old)) at (world_of tree self.old) result (world_of tree self.new) }
+    {
+        if self.messages.len() >= MESSAGES {
+            return trapped(TrapKind::Sends, at);
+        }
+        let label = label.copy(alloc)?;
+        self.messages.push(Message { label, value })?;
+        Ok(())
+    }
+
+    /// Creates an event.
+    pub fn spawn(&mut self, event: u16, args: Vec<Value>, at: Span) -> Result<(), Stop>
+        requires { self.old.generation ≤ GENERATION }
+        ensures { (tree : _) → Changes (spawning event args.items (world_of tree self.old)) at (world_of tree self.old) result (world_of tree self.new) }
+    {
+        if self.generation == GENERATION {
+            return trapped(TrapKind::Generation, at);
+        }
+        if self.created.len() >= SPAWNS {
+            return trapped(TrapKind::Spawns, at);
+        }
+        self.created.push(Call {
+            event,
+            args: Seq::from_vec(args),
+            generation: self.generation + 1,
+        })?;
+        Ok(())
+    }
+}
+
+/// A trap at a place.
+pub fn trapped(kind: TrapKind, at: Span) -> Result<(), Stop>
+    ensures { result ≡ Err (Stop.Trapped (record { kind = kind; at = at })) }
+{
+    Err(Stop::Trapped(Trap { kind, at }))
+}
