@@ -54,6 +54,7 @@ turned h l = by_test (nat_lt h.done (length h.known)) refl
         let none : wait h ≡ [] = ap (λ n. drop n h.known) d ∙ drop-length h.known in
         let new : drop h.done (h.known ++ b) ≡ b = ap (λ n. drop n (h.known ++ b)) d ∙ drop-append_seam h.known b in
         record { done = refl; within = omega (arith, d, length-append h.known b); left = (λ i. (new i, bs)) ∙ (λ i. norm (sym none i) (sym e i)); more = b; grows = refl }
+
     by_test : (t : Bool) → nat_lt h.done (length h.known) ≡ t → Turned h (if t then h else begun h h.later)
     by_test true e = record { done = refl; within = l; left = some_waits h (ltb-true h.done (length h.known) e); more = []; grows = sym (append-nil h.known) }
     by_test false e = by_later h.later refl (omega (arith, l, ltb-false h.done (length h.known) e))
@@ -145,13 +146,11 @@ others_push (x ∷ js) [] j r more e = let same : x ≡ j = cc in ap (λ x. if i
     by_test : (b : Bool) → (if b then r ∷ other_results (js ++ more) [] else other_results (js ++ more) []) ≡ (if b then r ∷ [] else [])
     by_test true = ap (λ rs. r ∷ rs) (nothing (js ++ more))
     by_test false = nothing (js ++ more)
-others_push (x ∷ js) (s ∷ rs) j r more e = by_test (is_other x)
+others_push (x ∷ js) (s ∷ rs) j r more e = by_test (is_other x) (others_push js rs j r more e)
   where
-    later : other_results (js ++ more) (rs ++ r ∷ []) ≡ other_results js rs ++ one_other j r
-    later = others_push js rs j r more e
-    by_test : (b : Bool) → (if b then s ∷ other_results (js ++ more) (rs ++ r ∷ []) else other_results (js ++ more) (rs ++ r ∷ [])) ≡ (if b then s ∷ other_results js rs else other_results js rs) ++ one_other j r
-    by_test true = ap (λ rs. s ∷ rs) later
-    by_test false = later
+    by_test : (b : Bool) → other_results (js ++ more) (rs ++ r ∷ []) ≡ other_results js rs ++ one_other j r → (if b then s ∷ other_results (js ++ more) (rs ++ r ∷ []) else other_results (js ++ more) (rs ++ r ∷ [])) ≡ (if b then s ∷ other_results js rs else other_results js rs) ++ one_other j r
+    by_test true later = ap (λ rs. s ∷ rs) later
+    by_test false later = later
 
 -- ---- both folds
 
@@ -210,7 +209,7 @@ module _ (meaning : Meaning) (first : ℕ) where
 
   -- any other job is done there too
   module _ (w v : P) (j : Line) (b : Beside w v) (is : next_job w.head ≡ Some j) (other : is_other j ≡ true) where
-    pair : (wait v.head, v.head.later) ≡ (j ∷ filter is_other (rest_of w), without_moves w.head.later)
+    pair : ◌≡◌ {A = Two} (wait v.head, v.head.later) (j ∷ filter is_other (rest_of w), without_moves w.head.later)
     pair =
         b.left ∙ ap (λ ls. norm (filter is_other ls) (without_moves w.head.later)) (next_is w.head.known w.head.done j is)
         ∙ ap (λ t. norm (if t then j ∷ filter is_other (rest_of w) else filter is_other (rest_of w)) (without_moves w.head.later)) other
@@ -261,6 +260,7 @@ module _ (meaning : Meaning) (first : ℕ) where
       where
         done_too : (j : Line) (is : next_job w.head ≡ Some j) (other : is_other j ≡ true) → (k : ℕ) × Beside (after_ran w j) (others k)
         done_too j is other = (suc m, subst (Beside (after_ran w j)) (sym (ap (with_job first (line_by meaning) created_lines (others m)) (comes_next w (others m) j b is other))) (both w (others m) j b is other))
+
         by_job : (o : Option Line) → next_job w.head ≡ o → (k : ℕ) × Beside (with_job first (line_by meaning) created_lines w o) (others k)
         by_job None e = (m, b)
         by_job (Some (Request call)) e = done_too (Request call) e refl
@@ -280,7 +280,7 @@ module _ (meaning : Meaning) (first : ℕ) where
         let b = so_far.1 in
         let none : wait w.head ≡ [] = none_left w.head.known w.head.done (no_job (next_job w.head) over) in
         let last : w.head.later ≡ [] = b.settled none in
-        let left : (wait (others so_far.0).head, (others so_far.0).head.later) ≡ ([], []) = b.left ∙ (λ i. norm (filter is_other (none i)) (without_moves (last i))) in
+        let left : ◌≡◌ {A = Two} (wait (others so_far.0).head, (others so_far.0).head.later) ([], []) = b.left ∙ (λ i. norm (filter is_other (none i)) (without_moves (last i))) in
         let waits_none : wait (others so_far.0).head ≡ [] = ap (λ (x : Two). x.0) left in
         record {
           count = so_far.0;

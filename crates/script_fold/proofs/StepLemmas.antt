@@ -38,7 +38,7 @@ pub admitted_done : (first : ℕ) (done : List Line) (line : Line) (w : Head Lin
 admitted_done first done line w h a = ap (λ (w : Head Line). w.done) (sym a.head) ∙ a.done_is
 
 -- the ticket makes no difference
-any_ticket : (meaning : Meaning) (a b : ℕ) (t : Tree (List Value)) (l : Line) → line_by meaning a t l ≡ line_by meaning b t l
+pub any_ticket : (meaning : Meaning) (a b : ℕ) (t : Tree (List Value)) (l : Line) → line_by meaning a t l ≡ line_by meaning b t l
 any_ticket meaning a b t (Request call) = refl
 any_ticket meaning a b t (Move p h) = refl
 any_ticket meaning a b t Snapshot = refl
