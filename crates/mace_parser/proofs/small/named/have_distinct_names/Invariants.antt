@@ -1,9 +1,0 @@
-use Rattle.std.proofs.Common.{◌≡◌, length}
-use Rattle.mace_parser.specs.SmallGrammar.{are_distinct}
-use Rattle.mace_parser.proofs.small.named.have_distinct_names.Given as goal
-
-abbrev pub invariant-loop-rest : goal.invariant-loop-rest
-invariant-loop-rest g l = are_distinct g.T.Named.name_of l.rest ≡ are_distinct g.T.Named.name_of l.items
-
-abbrev pub decreases-loop-rest : goal.decreases-loop-rest
-decreases-loop-rest g l = length l.rest
