@@ -374,3 +374,18 @@ module _ (meaning : Meaning) (shape : Shape) (start : Start) (script : Script) w
   whole_is n l e =
       let all : most_jobs script.batches ≡ (most_jobs script.batches - n) + n = omega (arith, l) in
       ap (after_jobs meaning shape start script) all ∙ stays_long n (most_jobs script.batches - n) e
+
+  -- no more results than jobs
+  few_after : (n : ℕ) → length (after_jobs meaning shape start script n).results ≤ n
+  few_after zero = omega arith
+  few_after (suc n) = by_job (after_jobs meaning shape start script n) n (few_after n) (next_job (after_jobs meaning shape start script n).head)
+    where
+      by_job : (w : Progress (List Value) EventResult Line) (n : ℕ) → length w.results ≤ n → (o : Option Line) → length (with_job start.next.0 (line_by meaning) created_lines w o).results ≤ suc n
+      by_job w n e None = omega (arith, e)
+      by_job w n e (Some j) = omega (arith, e, length-append w.results ((line_by meaning (start.next.0 + w.head.done) w.tree j).result ∷ []))
+
+  pub few_results : IsScript shape script → length (whole_run meaning shape start script).results ≤ 2 ^ 32 - 1
+  unfolding whole_run
+  few_results s =
+      let lines : sum_by length script.batches ≤ 4000 = s.few_lines in
+      omega (arith, lines, most_lines script.batches, few_after (most_jobs script.batches))

@@ -51,7 +51,8 @@ impl Folding {
 
     /// Runs the next job. False where none is left.
     pub fn step<R: Runner>(&mut self, alloc: Global, runner: &R) -> Result<bool, OutOfMemory>
-        requires { (start : Start) × (script : Script) × Stands (R.meaning runner.now) (R.shape runner.now) start script self.old }
+        requires sound { R.sound runner.now }
+        requires stands { (start : Start) × (script : Script) × Stands (R.meaning runner.now) (R.shape runner.now) start script self.old }
         ensures stands { IfOk result (λ more. (start : Start) (script : Script) → Stands (R.meaning runner.now) (R.shape runner.now) start script self.old → IsTrue more → Stands (R.meaning runner.now) (R.shape runner.now) start script self.new) }
         ensures done { IfOk result (λ more. IsTrue more → self.new.head.done ≡ suc self.old.head.done) }
         ensures ended { IfOk result (λ more. (start : Start) (script : Script) → Stands (R.meaning runner.now) (R.shape runner.now) start script self.old → more ≡ false → Ended (R.meaning runner.now) (R.shape runner.now) start script self.new) }

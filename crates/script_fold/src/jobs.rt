@@ -20,6 +20,7 @@ pub fn run_job<R: Runner>(
     contexts: &mut Tree,
     job: &Job,
 ) -> Result<(EventResult, Vec<Path>), OutOfMemory>
+    requires sound { R.sound runner.now }
     requires tree { R.fits_tree runner.now (tree_of (R.shape runner.now) contexts.old) }
     requires job { FitsJob (R.fits_call runner.now) (line_of job.now) }
     ensures tree { OnOk result (tree_of (R.shape runner.now) contexts.new ≡ (line_by (R.meaning runner.now) 0 (tree_of (R.shape runner.now) contexts.old) (line_of job.now)).tree) }

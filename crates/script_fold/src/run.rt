@@ -1,6 +1,6 @@
 //! A script, run whole.
 
-ghost use Rattle.std.specs.Prelude.{◌≡◌, ◌<◌, length, IfOk, IsTrue};
+ghost use Rattle.std.specs.Prelude.{◌≡◌, ◌≤◌, ◌-◌, ◌^◌, length, IfOk, IsTrue};
 ghost use Rattle.wave_base.specs.declared.script.Script.{Script};
 ghost use Rattle.wave_base.specs.declared.start.Start.{Start};
 ghost use Rattle.wave_base.specs.Fold.{is_over};
@@ -23,9 +23,11 @@ pub fn run_script_at<R: Runner>(
     script: &Script,
     start: &Start,
 ) -> Result<Finished, OutOfMemory>
+    requires sound { R.sound runner.now }
     requires script { IsScript (R.shape runner.now) script.now }
     requires start { IsStart (R.shape runner.now) script.now.hosts start.now }
     ensures finished { IfOk result (λ f. f ≡ finished_of (R.meaning runner.now) (R.shape runner.now) start.now script.now) }
+    ensures few { IfOk result (λ f. length f.results ≤ 2 ^ 32 - 1) }
     ensures over { IfOk result (λ _. IsTrue (is_over (whole_run (R.meaning runner.now) (R.shape runner.now) start.now script.now))) }
 {
     let mut folding = Folding::begin(alloc, script, start)?;
@@ -42,8 +44,10 @@ pub fn run_script<R: Runner>(
 ) -> Result<Finished, OutOfMemory>
     requires shape { IsShape shape.now }
     requires runner { R.shape runner.now ≡ shape.now }
+    requires sound { R.sound runner.now }
     requires script { IsScript shape.now script.now }
     ensures finished { IfOk result (λ f. f ≡ finished_of (R.meaning runner.now) shape.now (first_start shape.now) script.now) }
+    ensures few { IfOk result (λ f. length f.results ≤ 2 ^ 32 - 1) }
     ensures over { IfOk result (λ _. IsTrue (is_over (whole_run (R.meaning runner.now) shape.now (first_start shape.now) script.now))) }
 {
     trees_that_fit();

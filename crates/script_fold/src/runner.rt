@@ -19,6 +19,9 @@ pub trait Runner {
     /// What a call does on a tree.
     ghost meaning: { Self → Meaning };
 
+    /// What is known of it where it runs.
+    ghost sound: { Self → Type 0 };
+
     /// The trees that it runs calls on.
     ghost fits_tree: { Self → tree.Tree (List Value) → Type 0 };
 
@@ -32,6 +35,7 @@ pub trait Runner {
         contexts: &mut Tree,
         call: &Call,
     ) -> Result<(EventResult, Vec<Path>), OutOfMemory>
+        requires sound { sound self.now }
         requires tree { fits_tree self.now (tree_of (shape self.now) contexts.old) }
         requires call { fits_call self.now call.now }
         ensures tree { OnOk result (tree_of (shape self.now) contexts.new ≡ (meaning self.now (tree_of (shape self.now) contexts.old) call.now).tree) }
@@ -39,5 +43,5 @@ pub trait Runner {
         ensures entered { IfOk result (λ r. r.1.items ≡ (meaning self.now (tree_of (shape self.now) contexts.old) call.now).entered) };
 
     /// What it owes.
-    ghost owed: { (s : Self) → Owed (shape s) (meaning s) (fits_tree s) (fits_call s) };
+    ghost owed: { (s : Self) → sound s → Owed (shape s) (meaning s) (fits_tree s) (fits_call s) };
 }

@@ -1,12 +1,25 @@
-use Rattle.std.proofs.Common.{◌≡◌, ◌≤◌, ◌<◌, ◌-◌, suc, length, Result, Ok, Err, IfOk, ap, ◌∙◌, arith}
+use Rattle.std.proofs.Common.{◌≡◌, ◌≤◌, ◌<◌, ◌-◌, ◌^◌, suc, length, Result, Ok, Err, IfOk, ap, sym, subst, ◌∙◌, arith}
+use Rattle.wave_base.specs.declared.finished.Finished.{Finished}
+use Rattle.wave_base.specs.declared.script.Script.{Script}
+use Rattle.wave_base.specs.declared.shape.Shape.{Shape}
+use Rattle.wave_base.specs.declared.start.Start.{Start}
 use Rattle.wave_base.specs.Fold.{is_over}
-use Rattle.script_fold.specs.Lines.{most_jobs}
-use Rattle.script_fold.proofs.FoldLemmas.{whole_is}
+use Rattle.wave_base.specs.Scripts.{IsScript}
+use Rattle.script_fold.specs.declared.folding.Folding.{Folding}
+use Rattle.script_fold.specs.Lines.{Meaning, most_jobs}
+use Rattle.script_fold.specs.Runs.{finished_of}
+use Rattle.script_fold.specs.Standing.{Ended}
+use Rattle.script_fold.proofs.FoldLemmas.{whole_is, few_results}
 use Rattle.script_fold.proofs.run.run_script_at.Goals as goal
 
 always : {A E : Type 0} (r : Result A E) (P : Type 0) → P → IfOk r (λ _. P)
 always (Ok x) P p = p
 always (Err e) P p = tt
+
+few_if : {E : Type 0} (meaning : Meaning) (shape : Shape) (start : Start) (script : Script) → IsScript shape script → (folding : Folding) → Ended meaning shape start script folding → (r : Result Finished E) →
+    IfOk r (λ f. (meaning : Meaning) (shape : Shape) (start : Start) (script : Script) → Ended meaning shape start script folding → f ≡ finished_of meaning shape start script) → IfOk r (λ f. length f.results ≤ 2 ^ 32 - 1)
+few_if meaning shape start script s folding e (Ok f) h = subst (λ (f : Finished). length f.results ≤ 2 ^ 32 - 1) (sym (h meaning shape start script e)) (few_results meaning shape start script s)
+few_if meaning shape start script s folding e (Err x) h = tt
 
 pub loop-folding-smaller : goal.loop-folding-smaller
 loop-folding-smaller g c =
@@ -21,3 +34,8 @@ pub returns-clause-over : goal.returns-clause-over
 returns-clause-over g c =
     let e = c.in_ok-step.ensures.ended c.args.start.now c.args.script.now c.loop-folding.invariant c.if-branch.false in
     always c.end.result _ (ap is_over (whole_is (g.R.Runner.meaning c.args.runner.now) (g.R.Runner.shape c.args.runner.now) c.args.start.now c.args.script.now e.count e.few e.over) ∙ e.over)
+
+pub returns-clause-few : goal.returns-clause-few
+returns-clause-few g c =
+    few_if (g.R.Runner.meaning c.args.runner.now) (g.R.Runner.shape c.args.runner.now) c.args.start.now c.args.script.now c.requires.script _
+    (c.in_ok-step.ensures.ended c.args.start.now c.args.script.now c.loop-folding.invariant c.if-branch.false) c.end.result c.end.ensures

@@ -1,0 +1,45 @@
+ghost use Rattle.resolved_service.specs.Fits.{FitsService};
+ghost use Rattle.wave_base.specs.Shapes.{IsShape};
+
+use context_tree::Tree;
+use resolved_service::Resolved;
+use script_fold::Runner;
+use service_eval::run_event;
+use std::alloc::Global;
+use wave_base::{Call, EventResult, OutOfMemory, Path, Shape};
+
+/// Runs the calls of a service's events, each whole, on the tree that it is given.
+#[derive(Clone, Copy)]
+pub struct Evaluator<'s> {
+    pub shape: &'s Shape,
+    pub service: &'s Resolved,
+}
+
+impl<'s> Runner for Evaluator<'s> {
+    ghost use Rattle.wave_base.specs.declared.limits.TheConstants.{GENERATION};
+    ghost use Rattle.service_eval.specs.Worlds.{Holds};
+    ghost use Rattle.wave_meaning.specs.Meaning.{call_ran, IsFit, IsEarly};
+    ghost use Rattle.wave_meaning.proofs.Owing.{evaluator_owes};
+
+    ghost shape = { λ e. e.shape.now };
+
+    ghost meaning = { λ e. call_ran e.service.now };
+
+    ghost sound = { λ e. IsFit e.shape.now e.service.now };
+
+    ghost fits_tree = { λ e. Holds e.shape.now };
+
+    ghost fits_call = { λ _. IsEarly };
+
+    fn run(
+        &self,
+        alloc: Global,
+        contexts: &mut Tree,
+        call: &Call,
+    ) -> Result<(EventResult, Vec<Path>), OutOfMemory> {
+        let ran = run_event(alloc, self.shape, self.service, contexts, call)?;
+        Ok((ran.result, ran.entered.into_vec()))
+    }
+
+    ghost owed = { λ e. evaluator_owes e.shape.now e.service.now };
+}
