@@ -1,6 +1,5 @@
 -- What a script means for a service: the fold of its jobs, where calls do what the service says.
-use Rattle.std.specs.Prelude.{◌≤◌, List}
-use Rattle.wave_base.specs.declared.limits.TheConstants.{GENERATION}
+use Rattle.std.specs.Prelude.{List}
 use Rattle.wave_base.specs.declared.call.Call.{Call}
 use Rattle.wave_base.specs.declared.finished.Finished.{Finished}
 use Rattle.wave_base.specs.declared.outcome.EventResult.{EventResult}
@@ -32,7 +31,3 @@ results_of shape service script = results_at shape service (first_start shape) s
 -- a shape, and a service that fits it
 abbrev pub IsFit : Shape → Resolved → Type 0
 IsFit shape service = IsShape shape × FitsService shape service
-
--- no later than the last generation
-abbrev pub IsEarly : Call → Type 0
-IsEarly call = call.generation ≤ GENERATION

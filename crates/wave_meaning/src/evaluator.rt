@@ -1,6 +1,3 @@
-ghost use Rattle.resolved_service.specs.Fits.{FitsService};
-ghost use Rattle.wave_base.specs.Shapes.{IsShape};
-
 use context_tree::Tree;
 use resolved_service::Resolved;
 use script_fold::Runner;
@@ -16,10 +13,10 @@ pub struct Evaluator<'s> {
 }
 
 impl<'s> Runner for Evaluator<'s> {
-    ghost use Rattle.wave_base.specs.declared.limits.TheConstants.{GENERATION};
     ghost use Rattle.service_eval.specs.Worlds.{Holds};
-    ghost use Rattle.wave_meaning.specs.Meaning.{call_ran, IsFit, IsEarly};
-    ghost use Rattle.wave_meaning.proofs.Owing.{evaluator_owes};
+    ghost use Rattle.meaning_laws.specs.Kept.{IsEarly};
+    ghost use Rattle.wave_meaning.specs.Meaning.{call_ran, IsFit};
+    ghost use Rattle.wave_meaning.specs.Owing.{evaluator_owes};
 
     ghost shape = { λ e. e.shape.now };
 

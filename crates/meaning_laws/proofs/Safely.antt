@@ -15,13 +15,13 @@ use Rattle.resolved_service.specs.declared.service.Event.{Event}
 use Rattle.resolved_service.specs.declared.service.Last.{Last}
 use Rattle.resolved_service.specs.declared.service.Method.{Method}
 use Rattle.resolved_service.specs.declared.service.Phase.{Phase}
-use Rattle.resolved_service.specs.Fits.{IsMethod, IsChildClass, FitsTree, FitsTrees, FitsStep, FitsSteps, FitsElse, FitsLast, FitsMethod, FitsPhases, FitsEvent}
+use Rattle.resolved_service.specs.Fits.{count_of, IsMethod, IsChildClass, FitsTree, FitsTrees, FitsStep, FitsSteps, FitsElse, FitsLast, FitsMethod, FitsPhases, FitsEvent}
 use Rattle.resolved_service.specs.Meaning.{State, Outcome, Done, Trapped, Left, Act, and_then, ◌>>=◌, ◌>>◌, give, answer, with_world, tick, enter_at, release, back, choose, get_local, set_local, put_field, demand, value, values, while_turns, for_test, for_body, effect, effects, else_effect, last_value, with_locals, run_method, called, worth, phases_run, event_run}
 use Rattle.resolved_service.specs.Steps.{Step, SetLocal, SetField, PutLocal, PutField, CutLocal, CutField, If, While, For, Require, Send, Spawn, Do, Steps, no_steps, step, Else, no_else, otherwise, steps_in}
 use Rattle.resolved_service.specs.View.{Tree, Const, Local, Field, Above, Op, And, Or, Call, Child, Trees, no_trees, tree, tree_of}
 use Rattle.resolved_service.specs.World.{World, is_true, key_of, child, releasing}
 use Rattle.service_eval.proofs.PathLemmas.{class_of-child}
-use Rattle.wave_meaning.proofs.Keeping.{At, Good, Safe, Ends, ends_good, ends_then, then_at, safe_then, safe_answer, safe_choose, safe_demand, safe_tick, enters_child, rises, releases, puts, sends, spawns}
+use Rattle.meaning_laws.proofs.Keeping.{At, Good, Safe, Ends, ends_good, ends_then, then_at, safe_then, safe_answer, safe_choose, safe_demand, safe_tick, enters_child, rises, releases, puts, sends, spawns}
 
 pub all_at : {A : Type 0} (P : A → Type 0) (xs : List A) (n : ℕ) (x : A) → slice_get xs n ≡ Some x → All P xs → P x
 all_at P [] n x e h = cc
@@ -51,13 +51,13 @@ module _ (shape : Shape) (first : Contexts (List Value)) (g : ℕ) (methods : Li
       safe_value (Or at a b) f st h = safe_then shape first g p (value call p a st) _ (safe_value a f.0 st h) (λ x. safe_choose shape first g p (is_true x) _ (value call p b) (λ st h. h) (safe_value b f.1))
       safe_value (Call at m ts) f st h =
           safe_then shape first g p (values call p ts st) _ (safe_values ts f.1 st h) (λ given st h. safe_then shape first g p (tick at st) (λ _. call m p given >>= (λ r. give (worth r))) (safe_tick shape first g p at st h)
-          (λ u st h. safe_then shape first g p (call m p given st) (λ r. give (worth r)) (fine m _ p given f.0 st h) (λ r st h. h)))
+          (λ u st h. safe_then shape first g p (call m p given st) (λ r. give (worth r)) (fine m (count_of ts) p given f.0 st h) (λ r st h. h)))
       safe_value (Child at c m key ts) f st h =
           safe_then shape first g p (value call p key st) _ (safe_value key f.2 st h) (λ k st h. safe_then shape first g p (values call p ts st) _ (safe_values ts f.3 st h) (λ given st h.
           safe_then shape first g p (tick at st) (λ _. enter_at (child p c k) at >> (call m (child p c k) given >>= (λ r. back >> give (worth r)))) (safe_tick shape first g p at st h)
           (λ u st h. then_at shape first g p (child p c k) (enter_at (child p c k) at st) (λ _. call m (child p c k) given >>= (λ r. back >> give (worth r))) (enters_child shape first g p c k at st h f.0)
           (λ u st h. then_at shape first g p (child p c k) (call m (child p c k) given st) (λ r. back >> give (worth r))
-          (fine m _ (child p c k) given (subst (λ n. IsMethod methods n m _) (sym (class_below p c k)) f.1) st h) (λ r st h. rises shape first g p c k st.world h)))))
+          (fine m (count_of ts) (child p c k) given (subst (λ n. IsMethod methods n m (count_of ts)) (sym (class_below p c k)) f.1) st h) (λ r st h. rises shape first g p c k st.world h)))))
 
       pub safe_values : (ts : Trees) → FitsTrees shape methods (class_of p) ts → Safe shape first g p (values call p ts)
       safe_values no_trees f st h = h

@@ -22,7 +22,7 @@ use Rattle.resolved_service.specs.Meaning.{State, Outcome, Done, Trapped, Left, 
 use Rattle.resolved_service.specs.World.{World, has, key_of, child, took, ticking, changed, with_entered, entering, releasing, sending, spawning, set_field}
 use Rattle.service_eval.proofs.PathLemmas.{class_of-child, parent_of-child, is_path-child, all_there, parent_there, enter_holds, entered_there, still_there, same_paths}
 use Rattle.service_eval.specs.Worlds.{Holds}
-use Rattle.wave_meaning.specs.Meaning.{IsEarly}
+use Rattle.meaning_laws.specs.Kept.{IsEarly}
 
 module _ (shape : Shape) (first : Tree (List Value)) (g : ℕ) where
   -- of a generation, a tree, the paths that were entered and are held, and the calls that were created, since an event of
@@ -154,27 +154,33 @@ module _ (shape : Shape) (first : Tree (List Value)) (g : ℕ) where
       (h.0, sym (ap (there w.tree) (parent_of-child p s)) ∙ parent_there shape w.tree h.0.holds (p ++ s ∷ []) h.1)
 
   pub releases : (p q : Path) (w : World) → At p w → At p (releasing q w)
-  releases p q w h = (record {
-    same = h.0.same;
-    holds = h.0.holds;
-    held_there = All-filter (is_above q) (λ r. there w.tree r ≡ true) w.held h.0.held_there;
-    joined = h.0.joined;
-    few = h.0.few;
-    later = h.0.later;
-    early = h.0.early;
-  }, h.1)
+  releases p q w h = (
+    record {
+      same = h.0.same;
+      holds = h.0.holds;
+      held_there = All-filter (is_above q) (λ r. there w.tree r ≡ true) w.held h.0.held_there;
+      joined = h.0.joined;
+      few = h.0.few;
+      later = h.0.later;
+      early = h.0.early;
+    },
+    h.1,
+  )
 
   pub puts : (p : Path) (f : ℕ) (value : Value) (w : World) → At p w → At p (set_field f value p w)
   unfolding set_field
-  puts p f value w h = (record {
-    same = h.0.same;
-    holds = same_paths shape w.tree (put w.tree p _) refl h.0.holds;
-    held_there = h.0.held_there;
-    joined = h.0.joined;
-    few = h.0.few;
-    later = h.0.later;
-    early = h.0.early;
-  }, h.1)
+  puts p f value w h = (
+    record {
+      same = h.0.same;
+      holds = same_paths shape w.tree (put w.tree p _) refl h.0.holds;
+      held_there = h.0.held_there;
+      joined = h.0.joined;
+      few = h.0.few;
+      later = h.0.later;
+      early = h.0.early;
+    },
+    h.1,
+  )
 
   pub sends : (p : Path) (label : List ℕ) (value : Value) (at : Span) (st : State) → At p st.world → Good p (with_world (sending label value st.world) at st)
   unfolding sending

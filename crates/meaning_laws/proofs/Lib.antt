@@ -1,3 +1,3 @@
 pub mod Keeping
 pub mod Safely
-pub mod Owing
+pub mod Keeps
