@@ -1,0 +1,2 @@
+pub mod CodeActors
+pub mod Follows
