@@ -21,8 +21,8 @@ pub record Follows (x : Alone Event Fields EventResult) (t : Trip) : Type 0 wher
   pub result : x.result ≡ t.tour.result
 
 -- a whole run, and how many segments it had
-pub record IsWhole (ran : Ran Fields EventResult) (segments : ℕ) (tour : Tour) : Type 0 where
+pub record IsWhole (ran : Ran Fields EventResult) (count : ℕ) (tour : Tour) : Type 0 where
   pub result : tour.result ≡ Some ran.result
   pub tree : ran.tree ≡ tour.tree
   pub entered : ran.entered ≡ tour.entered
-  pub segments : segments ≡ tour.segments
+  pub segments : count ≡ tour.segments
