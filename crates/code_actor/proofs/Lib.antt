@@ -1,2 +1,5 @@
+pub mod Following
 pub mod Held
 pub mod Holding
+pub mod Segmented
+pub mod Whole
