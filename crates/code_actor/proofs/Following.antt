@@ -1,6 +1,5 @@
 -- An event alone goes where its code leads it, segment by segment.
-use Rattle.std.proofs.Common.{◌≡◌, ℕ, zero, suc, ◌+◌, List, [], ◌∷◌, ◌++◌, if◌then◌else◌, Bool, true, false, Option, Some, None, refl, ap, sym, subst, ◌∙◌, arith}
-use Rattle.std.specs.Prelude.{is_some}
+use Rattle.std.proofs.Common.{◌≡◌, ℕ, zero, suc, List, [], ◌∷◌, ◌++◌, Bool, true, false, Some, None, refl, ap, sym, subst, ◌∙◌}
 use Rattle.std.specs.List.{filter}
 use Rattle.wave_base.specs.declared.call.Call.{Call}
 use Rattle.wave_base.specs.declared.outcome.EventResult.{EventResult}
@@ -15,7 +14,7 @@ use Rattle.service_verify.specs.Boxes.{Box, first_box}
 use Rattle.service_verify.specs.Copies.{Trip, tripped, trip_if, next_trip, trip_after, first_trip}
 use Rattle.service_verify.specs.Fit.{IsFit}
 use Rattle.service_verify.specs.Points.{IsVerified}
-use Rattle.service_verify.specs.Segments.{Event, Left as Halted, event_segment}
+use Rattle.service_verify.specs.Segments.{Event, event_segment}
 use Rattle.service_verify.specs.Standing.{HasFields, HasTree, Leaves, Stands}
 use Rattle.service_verify.specs.Steps.{is_held}
 use Rattle.service_verify.specs.Tours.{Tour, halted}
@@ -23,8 +22,8 @@ use Rattle.service_verify.specs.Tours as tour
 use Rattle.service_verify.proofs.Locals.{begins}
 use Rattle.service_verify.proofs.Touring.{put_has}
 use Rattle.wave_states.specs.Actors.{Left}
-use Rattle.wave_states.specs.Alone.{Alone, has, tree_with, into, back, goes_on, segment_alone, segment_if, next_alone, first_alone, after_segments, count_from}
-use Rattle.code_actor.specs.CodeActors.{Fields, pause_of, left_of, code_actors, IsJob, IsFine}
+use Rattle.wave_states.specs.Alone.{Alone, has, tree_with, into, back, goes_on, segment_alone, segment_if, next_alone, first_alone, after_segments}
+use Rattle.code_actor.specs.CodeActors.{Fields, pause_of, left_of, code_actors, IsJob}
 use Rattle.code_actor.specs.Follows.{Follows}
 use Rattle.code_actor.proofs.Held.{down_held, down_new, go_held, go_new}
 use Rattle.code_actor.proofs.Holding

@@ -1,14 +1,13 @@
 -- What is held after a context is entered: in the order of paths, as an event keeps it, and in the order of entry.
 use Rattle.std.proofs.Common.{◌≡◌, List, [], ◌∷◌, ◌++◌, ◌||◌, ◌&&◌, if◌then◌else◌, Bool, true, false, refl, ap, sym, subst, ◌∙◌}
 use Rattle.std.specs.BTreeSet.{insert_key}
-use Rattle.std.specs.List.{filter, list_any}
+use Rattle.std.specs.List.{filter}
 use Rattle.std.proofs.lemmas.List.Folds.{list_any-append}
 use Rattle.std.proofs.lemmas.Map.Views.{any-filter_same}
 use Rattle.wave_base.specs.declared.path.Path.{Path}
-use Rattle.wave_base.specs.declared.path.Step.{Step}
 use Rattle.wave_base.specs.Paths.{path_eq, path_cmp, is_above}
 use Rattle.wave_base.specs.PathLaws.{path_eq_decides, is_above_append}
-use Rattle.wave_base.specs.Tree.{Tree, enter, there}
+use Rattle.wave_base.specs.Tree.{Tree}
 use Rattle.wave_base.proofs.Trees.{there-enter}
 use Rattle.std.proofs.lemmas.List.{append-nil}
 use Rattle.service_verify.specs.Steps.{is_held}

@@ -130,6 +130,7 @@ module _ (program : Program) (levels : List (List Value)) (f : Frame) (below : L
   keeps (Go c) = int_keeps b.path b.held f.stack _ (λ key rest. enter_keeps b.path b.held (b.path ++ step_to program levels c.0 key ∷ []) b (λ b'. Paused (record b' { frames = next_with f rest ∷ below; path = b.path ++ step_to program levels c.0 key ∷ []; held = filter (is_above (b.path ++ step_to program levels c.0 key ∷ [])) b'.held }) fields (pause.Go (step_to program levels c.0 key))) (trapped trap.Reach at b fields) (λ more entered is. ap (filter (is_above (b.path ++ step_to program levels c.0 key ∷ []))) is) (trap_keeps trap.Reach))
   keeps Reply = top_keeps b.path b.held f.stack (λ x rest. finished (Replied x) b fields) (λ x rest. (refl, refl))
   keeps End = (refl, refl)
+
   acted_keeps : (i : Instr) → Kept (acted program levels i at f below b fields)
   unfolding acted
   acted_keeps i = keeps i

@@ -1,5 +1,5 @@
 -- A whole event alone is what its code means; and so events owe what the machine asks.
-use Rattle.std.proofs.Common.{◌≡◌, ℕ, zero, suc, ◌+◌, List, [], ◌∷◌, if◌then◌else◌, true, false, Some, None, refl, ap, sym, ◌∙◌, arith}
+use Rattle.std.proofs.Common.{◌≡◌, ℕ, zero, suc, ◌+◌, if◌then◌else◌, Some, refl, ap, sym, ◌∙◌, arith}
 use Rattle.std.specs.Prelude.{is_some, unwrap_or}
 use mathlib.Core.Bool.{true≢false}
 use Rattle.wave_base.specs.declared.call.Call.{Call}
@@ -11,7 +11,7 @@ use Rattle.service_verify.specs.Fit.{IsFit}
 use Rattle.service_verify.specs.Points.{IsVerified}
 use Rattle.service_verify.specs.Segments.{Event}
 use Rattle.service_verify.specs.Standing.{HasFields, HasTree}
-use Rattle.service_verify.specs.Tours.{Tour, most_segments, first_tour, tour_after, code_tour}
+use Rattle.service_verify.specs.Tours.{Tour, most_segments, code_tour}
 use Rattle.service_verify.proofs.Copying.{copies_same}
 use Rattle.service_verify.proofs.Locals.{begins}
 use Rattle.service_verify.proofs.Touring.{code_ends}
@@ -19,7 +19,7 @@ use Rattle.wave_states.specs.Alone.{Alone, next_alone, after_segments, first_alo
 use Rattle.wave_states.specs.Owes.{Owes}
 use Rattle.code_actor.specs.CodeActors.{Fields, no_result, enough_segments, code_actors, IsJob, IsFine}
 use Rattle.code_actor.specs.Follows.{Follows, IsWhole}
-use Rattle.code_actor.proofs.Following.{Walked, done, going, followed, walks_on, counts, trip_stays, next_walked, first_walked, all_walked}
+use Rattle.code_actor.proofs.Following.{Walked, done, going, followed, walks_on, counts, trip_stays, first_walked, all_walked}
 use Rattle.code_actor.proofs.Segmented.{initial_has, segment_kept, segment_protocol}
 
 module _ (program : Program) (fit : IsFit program) (verified : IsVerified program) where
@@ -40,7 +40,11 @@ module _ (program : Program) (fit : IsFit program) (verified : IsVerified progra
   all_counted zero x t w = omega arith
   all_counted (suc m) x t (done r e f) =
       ap (λ o. (if is_some o then 0 else suc (count_from (code_actors program) m (next_alone (code_actors program) x))) + t.tour.segments) e
+      ∙ none t.tour.segments
       ∙ ap (λ (u : Trip). u.tour.segments) (sym (over_stays (suc m) t r (sym f.result ∙ e)))
+    where
+      none : (a : ℕ) → 0 + a ≡ a
+      none a = omega arith
   all_counted (suc m) x t (going p n w) =
       ap (λ o. (if is_some o then 0 else suc (count_from (code_actors program) m (next_alone (code_actors program) x))) + t.tour.segments) w.running
       ∙ one (count_from (code_actors program) m (next_alone (code_actors program) x)) t.tour.segments (next_trip program t).tour.segments (counts program fit verified p n x t w)
