@@ -1,3 +1,4 @@
+pub mod Examples
 pub mod Following
 pub mod Held
 pub mod Holding
