@@ -1,5 +1,5 @@
 -- The market as actors of the machine, computed: a sale, and then a call into two stalls.
-use Rattle.std.proofs.Common.{◌≡◌, ℕ, List, [], ◌∷◌, ◌++◌, Option, Some, None, pos, refl}
+use Rattle.std.proofs.Common.{◌≡◌, ℕ, [], ◌∷◌, Option, Some, pos, refl}
 use Rattle.std.specs.Prelude.{codes, option_map}
 use Rattle.wave_base.specs.declared.call.Call.{Call}
 use Rattle.wave_base.specs.declared.outcome.EventResult.{EventResult}

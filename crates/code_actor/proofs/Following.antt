@@ -34,11 +34,11 @@ use Rattle.code_actor.proofs.Segmented.{Runs, segment_runs}
 abbrev One : Type 0
 One = Alone Event Fields EventResult
 
-abbrev event_of : Trip → Event
+abbrev pub event_of : Trip → Event
 event_of t = record { box = t.tour.box; levels = t.levels }
 
 -- what a pause makes of a trip
-abbrev trip_to : Trip → Box → List Fields → Fields → Halt → Trip
+abbrev pub trip_to : Trip → Box → List Fields → Fields → Halt → Trip
 trip_to t b levels f why = record { tour = halted t.tour b f why; levels = levels }
 
 -- each segment counts

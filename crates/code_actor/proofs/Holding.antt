@@ -36,7 +36,7 @@ abbrev pub Pauses : Path → List Path → Box → Pause → Type 0
 Pauses p held b (pause.Go s) = b.held ≡ filter (is_above (p ++ s ∷ [])) (with_held held (p ++ s ∷ []))
 Pauses p held b (pause.Down s) = b.held ≡ with_held held (p ++ s ∷ [])
 Pauses p held b pause.Back = b.held ≡ held
-Pauses p held b (pause.Over r) = (b.path ≡ p) × (move_of r ≡ None)
+Pauses p held b (pause.Over r) = (b.path ≡ p) × (b.held ≡ held) × (move_of r ≡ None)
 
 -- while it runs on it stays, and holds the same
 abbrev pub Keeps : Path → List Path → Move → Type 0
@@ -93,7 +93,7 @@ module _ (program : Program) (levels : List (List Value)) (f : Frame) (below : L
   Kept m = Keeps b.path b.held m
 
   trap_keeps : (t : TrapKind) → Kept (trapped t at b fields)
-  trap_keeps t = (refl, refl)
+  trap_keeps t = (refl, refl, refl)
 
   left_keeps : (x : Option Value) → Kept (left program levels b f below fields x)
   left_keeps x = go below
@@ -128,8 +128,8 @@ module _ (program : Program) (levels : List (List Value)) (f : Frame) (below : L
   keeps (Send t) = some_keeps b.path b.held (slice_get program.texts t) (λ label. on_top f.stack (λ x rest. sent program levels b below (next_with f rest) fields at (record { label = label; value = x }))) (λ label. top_keeps b.path b.held f.stack (λ x rest. sent program levels b below (next_with f rest) fields at (record { label = label; value = x })) (λ x rest. if_keeps b.path b.held (nat_lt (length b.kept.messages) MESSAGES) _ (trapped trap.Sends at b fields) (refl, refl) (trap_keeps trap.Sends)))
   keeps (Spawn e) = some_keeps b.path b.held (slice_get program.shape.events e) (λ event. with_some (taken (length event.params) [] f.stack) (λ t. created program levels b below (next_with f t.1) fields at (record { event = e; args = t.0; generation = suc b.generation }))) (λ event. some_keeps b.path b.held (taken (length event.params) [] f.stack) (λ t. created program levels b below (next_with f t.1) fields at (record { event = e; args = t.0; generation = suc b.generation })) (λ t. if_keeps b.path b.held (b.generation == GENERATION) (trapped trap.Generation at b fields) _ (trap_keeps trap.Generation) (if_keeps b.path b.held (nat_lt (length b.kept.created) SPAWNS) (runs program levels (record b { kept = with_call b.kept (record { event = e; args = t.0; generation = suc b.generation }) }) below (next_with f t.1) fields) (trapped trap.Spawns at b fields) (refl, refl) (trap_keeps trap.Spawns))))
   keeps (Go c) = int_keeps b.path b.held f.stack _ (λ key rest. enter_keeps b.path b.held (b.path ++ step_to program levels c.0 key ∷ []) b (λ b'. Paused (record b' { frames = next_with f rest ∷ below; path = b.path ++ step_to program levels c.0 key ∷ []; held = filter (is_above (b.path ++ step_to program levels c.0 key ∷ [])) b'.held }) fields (pause.Go (step_to program levels c.0 key))) (trapped trap.Reach at b fields) (λ more entered is. ap (filter (is_above (b.path ++ step_to program levels c.0 key ∷ []))) is) (trap_keeps trap.Reach))
-  keeps Reply = top_keeps b.path b.held f.stack (λ x rest. finished (Replied x) b fields) (λ x rest. (refl, refl))
-  keeps End = (refl, refl)
+  keeps Reply = top_keeps b.path b.held f.stack (λ x rest. finished (Replied x) b fields) (λ x rest. (refl, refl, refl))
+  keeps End = (refl, refl, refl)
 
   acted_keeps : (i : Instr) → Kept (acted program levels i at f below b fields)
   unfolding acted

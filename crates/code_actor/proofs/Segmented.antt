@@ -65,7 +65,7 @@ module _ (program : Program) (fit : IsFit program) (verified : IsVerified progra
     protocol e e' p n (halt.Down s) l h = l
     protocol e e' p zero halt.Back l h = absurd l
     protocol e e' p (suc n) halt.Back l h = l
-    protocol e e' p n (halt.Over r) l h = (l, subst (MovesOnly hosts p) (sym h.1) tt)
+    protocol e e' p n (halt.Over r) l h = (l, subst (MovesOnly hosts p) (sym h.2) tt)
 
     pub segment_protocol : (p : Path) (n : ℕ) (e : Event) (fields : Fields) → Stands program p n e → HasFields program.shape p fields → Keeps (code_actors program) hosts (HasFields program.shape) (IsJob program) (IsFine program) (left_of e fields (event_segment program e fields)).actor p n (left_of e fields (event_segment program e fields)).pause
     segment_protocol p n e fields stands has =

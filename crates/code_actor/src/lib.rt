@@ -3,4 +3,4 @@
 
 mod laws;
 
-pub use laws::{alone_is_code, events_follow, events_owe};
+pub use laws::{alone_is_code, events_follow, events_lock, events_owe};
