@@ -22,7 +22,7 @@ use Rattle.wave_states.specs.Actors.{Actors, Left, Pause, Go, Down, Back, Over}
 abbrev pub Fields : Type 0
 Fields = List Value
 
--- an outcome that no event has
+-- what stands for a result where there is none; no instruction of code ends an event so
 abbrev pub no_result : EventResult
 no_result = record { outcome = Absent []; messages = []; created = [] }
 
