@@ -1,7 +1,7 @@
-//! An event that counts to a number in one segment, a tick each; and a plain loop that counts as far, beside it.
+//! An event that counts to a number in one segment, a tick each; and a plain loop with as many turns, beside it.
 //!
 //! The words are COUNT [RUNS]. Without RUNS it prints the event's reply. With RUNS it prints a line for each run: the
-//! nanoseconds of the event, and those of the plain loop.
+//! nanoseconds of the event, those of the plain loop, and what the loop came to.
 #![tactic(auto)]
 
 ghost use Rattle.std.specs.Prelude.{◌≡◌};
@@ -12,7 +12,6 @@ mod spin;
 
 use service_verify::{Verified, verify};
 use std::alloc::Global;
-use std::hint::black_box;
 use std::time::{Clock, Instant};
 use std::{env, io};
 use wave_base::{EventResult, Outcome, Pause, Value};
@@ -36,13 +35,15 @@ fn print_reply<R: Print>(rt: &R, pause: Pause) -> io::Result<()> {
     }
 }
 
-// Counts as far by a plain loop.
-fn plain(count: u32) -> u32 {
-    let mut n: u32 = 0;
+// As many turns of a plain loop, each a step of a generator: a loop that only counted would be compiled away.
+fn plain(count: u32) -> u64 {
+    let mut x: u64 = 1;
     for _ in 0..count {
-        n = black_box(n.wrapping_add(1));
+        x ^= x << 13;
+        x ^= x >> 7;
+        x ^= x << 17;
     }
-    n
+    x
 }
 
 // Prints how long each took, run by run.
@@ -60,9 +61,9 @@ fn print_times<R: Print + Clock>(
         let _ = run::count(alloc, program, i64::from(count));
         let event = start.elapsed(rt)?.as_nanos();
         let start = Instant::now(rt)?;
-        let _ = black_box(plain(count));
+        let last = plain(count);
         let plain = start.elapsed(rt)?.as_nanos();
-        println!(rt; "{event} {plain}")?;
+        println!(rt; "{event} {plain} {last}")?;
     }
     Ok(())
 }

@@ -1,0 +1,3 @@
+pub mod CodeActors
+pub mod Follows
+pub mod Locks
