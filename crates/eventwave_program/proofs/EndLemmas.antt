@@ -1,17 +1,12 @@
 -- Where too much was read, one answer is due.
-use Rattle.std.proofs.Common.{◌≡◌, ℕ, ◌≤◌, ◌<◌, ◌⊎◌, ◌↔◌, List, [], length, Option, None, Some, ap, ◌∙◌, arith, inl, inr, refl, sym, subst, true, false, length-append}
-use mathlib.Core.Bool.{true≢false}
-use Rattle.std.specs.Io.KnownBytes.{Appends, Keeps, Consumes, IsAtEnd}
+use Rattle.std.proofs.Common.{◌≡◌, ℕ, ◌<◌, List, length, Option, None, Some, ap, arith, refl, sym, subst, length-append}
+use Rattle.std.specs.Io.KnownBytes.{Consumes}
 use Rattle.wave_base.specs.declared.limits.TheConstants.{INPUT_BYTES}
-use Rattle.wave_io.specs.Causes.{Rose}
-use Rattle.wave_io.specs.Streams.{AppendsFront}
-use Rattle.eventwave_program.specs.declared.answer.Answer.{Answer}
-use Rattle.eventwave_program.specs.declared.answer.Ending.TheVariants.{the_data as Ending, WordsRefused, ReadFault, WriteFault, NoMemory, Answered}
-use Rattle.eventwave_program.specs.declared.command.Command.{Command}
-use Rattle.eventwave_program.specs.Commands.{command_of}
-use Rattle.eventwave_program.specs.Due.{IsDue, IsOnlyDue, too_large_input}
-use Rattle.eventwave_program.specs.Ends.{is_given, note_for, IsInput, SomeDue, SomeInputDue, IsLong, ReadsAll, ReadsDue, WritesFront, Told, status_of, note_of, Gave, Ended}
-use Rattle.eventwave_program.proofs.DueLemmas.{only_too_large}
+use Rattle.due_answer.specs.declared.answer.Answer.{Answer}
+use Rattle.due_answer.specs.declared.command.Command.{Command}
+use Rattle.due_answer.specs.Due.{IsOnlyDue, too_large_input}
+use Rattle.eventwave_program.specs.Ends.{SomeInputDue, IsLong}
+use Rattle.due_answer.proofs.DueLemmas.{only_too_large}
 
 -- where more was read than is allowed, the input is too large
 pub long_input : (old new : Option (List ℕ)) (bytes : List ℕ) → Consumes old new bytes → INPUT_BYTES < length bytes → IsLong old

@@ -1,15 +1,15 @@
 -- How a call ends: statuses, notes, and what was read and written.
-use Rattle.std.specs.Prelude.{◌≡◌, ℕ, ◌⊎◌, ◌==◌, ◌||◌, Bool, true, false, not, if◌then◌else◌, Option, Some, None, List, [], ◌∷◌, ◌++◌, codes, length, ◌<◌}
+use Rattle.std.specs.Prelude.{◌≡◌, ℕ, ◌⊎◌, ◌==◌, ◌||◌, Bool, not, if◌then◌else◌, Option, Some, None, List, [], ◌∷◌, ◌++◌, codes, length, ◌<◌}
 use Rattle.std.specs.Io.KnownBytes.{Appends, Keeps, IsAtEnd}
 use Rattle.wave_base.specs.declared.limits.TheConstants.{INPUT_BYTES}
 use Rattle.wave_io.specs.Causes.{Rose}
 use Rattle.wave_io.specs.Streams.{AppendsFront}
-use Rattle.eventwave_program.specs.declared.answer.Answer.{Answer}
-use Rattle.eventwave_program.specs.declared.answer.Ending.{Ending}
-use Rattle.eventwave_program.specs.declared.answer.Ending.TheVariants.{WordsRefused, ReadFault, WriteFault, NoMemory, Answered}
-use Rattle.eventwave_program.specs.declared.command.Command.{Command}
-use Rattle.eventwave_program.specs.Commands.{command_of}
-use Rattle.eventwave_program.specs.Due.{IsOnlyDue}
+use Rattle.due_answer.specs.declared.answer.Answer.{Answer}
+use Rattle.eventwave_program.specs.declared.ending.Ending.{Ending}
+use Rattle.eventwave_program.specs.declared.ending.Ending.TheVariants.{WordsRefused, ReadFault, WriteFault, NoMemory, Answered}
+use Rattle.due_answer.specs.declared.command.Command.{Command}
+use Rattle.due_answer.specs.Commands.{command_of}
+use Rattle.due_answer.specs.Due.{IsOnlyDue}
 
 -- wrong words, a read fault, a write fault, want of memory
 abbrev pub note_for : ℕ → Option (List ℕ)

@@ -1,4 +1,1 @@
-pub mod Commands
-pub mod Due
 pub mod Ends
-pub mod Listing

@@ -1,10 +1,7 @@
 //! Runs a service: reads a service and a script from standard input, and writes what its events answer.
 #![tactic(auto)]
 
-mod answer;
-mod command;
-mod judge;
-mod listing;
+mod ending;
 #[cfg(test)]
 mod tests;
 mod top;

@@ -26,6 +26,51 @@ request score()
 const NO_REQUESTS: &[u8] =
     b"service Tick { var n: int = 0; event hit(): int { here { n = n + 1; } reply n; } }\n----\n";
 
+const MARKET: &[u8] = b"service Market {
+  var seen: int = 0;
+  context Hall[int] {
+    var count: int = 0;
+    context Stall[int] {
+      var stock: int = 10;
+      method take(n: int): int { stock = stock - n; return stock; }
+    }
+    method both(a: int, b: int): int { return Stall[a].take(1) + Stall[b].take(1); }
+  }
+  event buy(h: int, s: int, n: int): int {
+    here { seen = seen + 1; }
+    down Hall[h] { count = count + n; }
+    down Stall[s] { let left = take(n); send \"till\", Hall.count; }
+    reply left;
+  }
+  event pair(h: int): int { down Hall[h] { let t = both(1, 2); } reply t; }
+  event same(h: int): int { down Hall[h] { let t = both(1, 1); } reply t; }
+}
+----
+request buy(1,1,3)
+request buy(1,2,4)
+";
+
+const MOVED: &[u8] =
+    b"service Tick { var n: int = 0; event hit(): int { here { n = n + 1; } reply n; } }
+----
+hosts 2
+request hit()
+move / to 1
+snapshot
+";
+
+const CHAIN: &[u8] = b"service Chain {
+  var n: int = 0;
+  event two(): int {
+    here { n = n + 1; spawn one(); spawn one(); }
+    reply n;
+  }
+  event one(): int { here { n = n + 10; } reply n; }
+}
+----
+request two()
+";
+
 fn bytes(alloc: Global, text: &[u8]) -> Result<Seq<u8>, OutOfMemory> {
     Ok(Seq::from_vec(Vec::from_slice(alloc, text)?))
 }
@@ -34,16 +79,18 @@ fn calls(alloc: Global, numbers: &[u64]) -> Result<Seq<u64>, OutOfMemory> {
     Ok(Seq::from_vec(Vec::from_slice(alloc, numbers)?))
 }
 
-fn words(alloc: Global, word: &str) -> Result<Words, OutOfMemory> {
+fn words(alloc: Global, text: &str) -> Result<Words, OutOfMemory> {
     let mut words = Words::new(alloc);
-    words.push(word)?;
+    for word in text.split(' ') {
+        words.push(word)?;
+    }
     Ok(words)
 }
 
-/// A run on one word: what comes in, which read and write fail (0 is none), and what has to come out.
+/// A run on some words: what comes in, which read and write fail (0 is none), and what has to come out.
 #[derive(Clone, Copy)]
 struct Row<'a> {
-    word: &'a str,
+    words: &'a str,
     input: &'a [u8],
     failing_read: u64,
     failing_write: u64,
@@ -53,7 +100,7 @@ struct Row<'a> {
 }
 
 fn holds(rt: &impl Abort, alloc: Global, row: &Row) -> Result<(), OutOfMemory> {
-    let words = words(alloc, row.word)?;
+    let words = words(alloc, row.words)?;
     let mut source = MemSource::new(
         bytes(alloc, row.input)?,
         16,
@@ -68,9 +115,15 @@ fn holds(rt: &impl Abort, alloc: Global, row: &Row) -> Result<(), OutOfMemory> {
     Ok(())
 }
 
-fn plain<'a>(word: &'a str, input: &'a [u8], status: u8, out: &'a [u8], note: &'a [u8]) -> Row<'a> {
+fn plain<'a>(
+    words: &'a str,
+    input: &'a [u8],
+    status: u8,
+    out: &'a [u8],
+    note: &'a [u8],
+) -> Row<'a> {
     Row {
-        word,
+        words,
         input,
         failing_read: 0,
         failing_write: 0,
@@ -83,51 +136,70 @@ fn plain<'a>(word: &'a str, input: &'a [u8], status: u8, out: &'a [u8], note: &'
 #[test]
 fn rows(rt: HostRuntime) -> Result<(), Fail> {
     let alloc = rt.alloc();
-    holds(
-        &rt,
-        alloc,
-        &plain("run", TICK, 0, b"#1 hit = 1\ndone 1\n", b""),
-    )?;
-    holds(
-        &rt,
-        alloc,
-        &plain(
-            "run",
-            FULL_TICK,
-            1,
-            b"#1 hit trap Overflow at 1:80\ndone 1\n",
-            b"",
-        ),
-    )?;
+    let sold = b"#1 buy = 7\n#1 send \"till\" 3\n#2 buy = 6\n#2 send \"till\" 7\ndone 2\n";
+    let chain = b"#1 two = 1\n#1 made #2\n#1 made #3\n#2 one = 11\n#3 one = 21\ndone 3\n";
+    let moved = b"#1 hit = 1\n#2 moved / to 1\n#3 snapshot 1\n#3 at / n=1\nplace / 1\ndone 3\n";
+    let placed = b"#1 hit = 1\nplace / 0\ndone 1\n";
     let counted = b"#1 hit = 1\n#2 hit = 2\n#3 score = 122\ndone 3\n";
-    holds(&rt, alloc, &plain("run", COUNTER, 0, counted, b""))?;
-    holds(&rt, alloc, &plain("run", NO_REQUESTS, 0, b"done 0\n", b""))?;
-    holds(&rt, alloc, &plain("walk", TICK, 2, b"", b"words\n"))?;
-    holds(
-        &rt,
-        alloc,
-        &plain("run", b"service A { }\n", 9, b"", b"NotYet\n"),
-    )?;
+    let full = b"#1 hit trap Overflow at 1:80\ndone 1\n";
+    let printed = b"service A {\n}\n";
+    let typo = b"service A { event e(): int { reply m; } }";
+    let late = b"service A { }\n----\nsettle\nhosts 2\n";
+    let rows = [
+        plain("run", TICK, 0, b"#1 hit = 1\ndone 1\n", b""),
+        plain("run", FULL_TICK, 1, full, b""),
+        plain("seq", COUNTER, 0, counted, b""),
+        plain("run", NO_REQUESTS, 0, b"done 0\n", b""),
+        plain("run", MARKET, 0, sold, b""),
+        plain("seq", MARKET, 0, sold, b""),
+        plain("run", CHAIN, 0, chain, b""),
+        plain("run --map", TICK, 0, placed, b""),
+        plain("seq --map", MOVED, 0, moved, b""),
+        plain("run", MOVED, 9, b"", b"NotYet\n"),
+        plain("check", MARKET, 0, b"ok\n", b""),
+        plain("print", b"service A { }", 0, printed, b""),
+        plain("check", typo, 3, b"", b"Y1 UnknownName 1:36\n"),
+        plain("print", b"service A { \"x", 3, b"", b"L3 OpenText 1:13\n"),
+        plain("run", b"service A { }\n", 3, b"", b"NoScript\n"),
+        plain("seq", late, 4, b"", b"S7 HostsLate line 2\n"),
+        plain("walk", TICK, 2, b"", b"words\n"),
+        plain("check --map", TICK, 2, b"", b"words\n"),
+        plain("run --map --map", TICK, 2, b"", b"words\n"),
+    ];
+    for row in &rows {
+        holds(&rt, alloc, row)?;
+    }
     Ok(())
 }
 
+/// A missing script comes before a fault of the service, that before one of the script, and that before `NotYet`.
 #[test]
-fn prints(rt: HostRuntime) -> Result<(), Fail> {
+fn refusals_in_order(rt: HostRuntime) -> Result<(), Fail> {
     let alloc = rt.alloc();
-    let method = b"service A { method f(): int { return (1+2)*3; } }\n----\n\"";
-    let printed = b"service A {\nmethod f ( ) : int {\nreturn ( 1 + 2 ) * 3 ;\n}\n}\n";
     let rows = [
-        plain("print", b"service A { }", 0, b"service A {\n}\n", b""),
-        plain("print", method, 0, printed, b""),
-        plain("print", b"service A { \"x", 3, b"", b"L3 OpenText 1:13\n"),
+        plain("run", b"service A { ", 3, b"", b"NoScript\n"),
         plain(
-            "print",
-            b"service A { event e() { down",
+            "run",
+            b"service A { \n----\nmiss\n",
             3,
             b"",
-            b"P1 Expected 1:29\n",
+            b"P1 Expected 2:1\n",
         ),
-        plain("print", b"service A { ,", 3, b"", b"P1 Expected 1:13\n"),
+        plain(
+            "run",
+            b"service A { }\n----\nhosts 2\nmiss\n",
+            4,
+            b"",
+            b"S1 UnknownCommand line 2\n",
+        ),
+        plain(
+            "run",
+            b"service A { }\n----\nhosts 2\n",
+            9,
+            b"",
+            b"NotYet\n",
+        ),
+        plain("check", b"service A { }\n----\nmiss\n", 0, b"ok\n", b""),
     ];
     for row in &rows {
         holds(&rt, alloc, row)?;

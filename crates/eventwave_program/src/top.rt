@@ -1,15 +1,14 @@
 ghost use Rattle.std.specs.Prelude.{◌≡◌, ◌⊎◌, ◌↔◌, List, ℕ, true, Some, None, IsSome, IfSome, IfOk, IsErrOf};
 ghost use Rattle.std.specs.Io.KnownBytes.{Appends, Keeps};
 ghost use Rattle.wave_io.specs.Causes.{Rose};
-ghost use Rattle.eventwave_program.specs.declared.answer.Answer.{Answer};
-ghost use Rattle.eventwave_program.specs.declared.command.Command.{Command};
-ghost use Rattle.eventwave_program.specs.Commands.{command_of};
-ghost use Rattle.eventwave_program.specs.Due.{IsDue, IsOnlyDue};
+ghost use Rattle.due_answer.specs.declared.answer.Answer.{Answer};
+ghost use Rattle.due_answer.specs.declared.command.Command.{Command};
+ghost use Rattle.due_answer.specs.Commands.{command_of};
+ghost use Rattle.due_answer.specs.Due.{IsDue, IsOnlyDue};
 ghost use Rattle.eventwave_program.specs.Ends.{note_for, is_given, SomeInputDue, SomeDue, Told, ReadsAll, WritesFront, status_of, note_of, Gave, Ended, ReadsDue};
 
-use crate::answer::{Answer, Ending};
-use crate::command::{Command, command_of};
-use crate::judge::{judge, refused};
+use crate::ending::Ending;
+use due_answer::{Answer, Command, command_of, judge, refused};
 use std::alloc::Global;
 use std::sync::Wait;
 use std::thread::Threads;

@@ -1,0 +1,94 @@
+-- Only one answer is due for an input.
+use Rattle.std.proofs.Common.{◌≡◌, ℕ, ◌≤◌, ◌<◌, inl, inr, false, List, length, Option, Some, Result, Ok, Err, IfOk, refl, sym, ◌∙◌, subst, ap, arith}
+use Rattle.wave_base.specs.declared.limits.TheConstants.{INPUT_BYTES, SCRIPT_BYTES}
+use Rattle.wave_base.specs.declared.script.Script.{Script}
+use Rattle.wave_base.specs.declared.shape.Shape.{Shape}
+use Rattle.wave_base.specs.Starts.{first_start}
+use Rattle.mace_ast.specs.Decls.{ServiceTree}
+use Rattle.resolved_service.specs.declared.service.Resolved.{Resolved}
+use Rattle.type_rules.specs.Known.{shape_of}
+use Rattle.type_rules.specs.Views.{resolved_view}
+use Rattle.meaning_views.proofs.SameMeaning.{same_calls}
+use Rattle.script_fold.specs.Runs.{finished_of}
+use Rattle.wave_meaning.specs.Meaning.{results_of}
+use Rattle.context_types.specs.declared.Typed.{Typed}
+use Rattle.service_reader.specs.declared.fault.TextFault.{TextFault}
+use Rattle.service_reader.specs.Parsing.{IsOnlyParse}
+use Rattle.due_answer.specs.declared.answer.Answer.{Answer}
+use Rattle.due_answer.specs.declared.command.Command.{Command}
+use Rattle.due_answer.specs.declared.command.Engine.{Engine}
+use Rattle.due_answer.specs.declared.command.Places.{Places}
+use Rattle.due_answer.specs.Due.{Only, IsDue, IsDueBoth, IsDueService, IsDueOf, IsDueTyped, IsDueScript, IsDueLines, IsDueRun, IsDueWhere, IsDueFold, IsOnlyDue, is_unbuilt, listed, too_large_input}
+use Rattle.due_answer.specs.Served.{IsTypedTree, IsRead, IsTypedRead}
+
+-- ---- a typed service
+
+of_read : (P : ServiceTree → Answer → Type 0) (text : List ℕ) (read : Result ServiceTree TextFault) (due : Answer) → IsOnlyParse text read → Only (IsDueOf P read) due → Only (IsDueService P text) due
+of_read P text read due so o = record {
+  is_due = record { read = read; parses = so.is_so; due_is = o.is_due };
+  only = λ other h. o.only other (subst (λ r. IsDueOf P r other) (so.only h.read h.parses) h.due_is);
+}
+
+typed_read : (P : ServiceTree → Answer → Type 0) (typed : Typed) (read : Result ServiceTree TextFault) (due : Answer) → IsTypedRead typed read →
+    ((tree : ServiceTree) → IsTypedTree tree typed → Only (P tree) due) → Only (IsDueOf P read) due
+typed_read P typed (Err e) due h o = absurd h
+typed_read P typed (Ok tree) due h o = subst (λ w. Only (IsDueTyped P tree w) due) (sym h.holds) (o tree h)
+
+-- what is due for the service of a text, where it is typed
+pub typed_text : {E : Type 0} (P : ServiceTree → Answer → Type 0) (text : List ℕ) (typed : Typed) (r : Result Answer E) → IsRead text (IsTypedRead typed) →
+    ((tree : ServiceTree) → IsTypedTree tree typed → IfOk r (Only (P tree))) → IfOk r (Only (IsDueService P text))
+typed_text P text typed (Ok due) read o = of_read P text read.read due read.parse (typed_read P typed read.read due read.is_so o)
+typed_text P text typed (Err e) read o = tt
+
+-- ---- a script
+
+same_results : (shape : Shape) (a b : Resolved) (script : Script) → resolved_view a ≡ resolved_view b → results_of shape a script ≡ results_of shape b script
+same_results shape a b script e = ap (λ calls. finished_of (λ tree call. (calls tree call).ran) shape (first_start shape) script) (same_calls a b e)
+
+only_fold : (places : Places) (tree : ServiceTree) (typed : Typed) (script : Script) → IsTypedTree tree typed →
+    Only (IsDueFold places tree script) (listed typed.shape places (results_of typed.shape typed.resolved script))
+only_fold places tree typed script t = record {
+  is_due = record { service = typed.resolved; resolved = t.resolved_is; due_is = ap (λ s. listed s places (results_of s typed.resolved script)) t.shape_is };
+  only = λ other h. h.due_is ∙ ap (listed (shape_of tree) places) (same_results (shape_of tree) h.service typed.resolved script (h.resolved ∙ sym t.resolved_is))
+      ∙ ap (λ s. listed s places (results_of s typed.resolved script)) (sym t.shape_is);
+}
+
+only_built : (engine : Engine) (places : Places) (tree : ServiceTree) (typed : Typed) (script : Script) → is_unbuilt engine script ≡ false → IsTypedTree tree typed →
+    Only (IsDueRun engine places tree script) (listed typed.shape places (results_of typed.shape typed.resolved script))
+only_built engine places tree typed script h t = subst (λ w. Only (IsDueWhere places tree script w) (listed typed.shape places (results_of typed.shape typed.resolved script))) (sym h) (only_fold places tree typed script t)
+
+-- the listing of a script that wants no machine
+pub built_if : {E : Type 0} (engine : Engine) (places : Places) (tree : ServiceTree) (typed : Typed) (script : Script) (r : Result Answer E) → is_unbuilt engine script ≡ false → IsTypedTree tree typed →
+    IfOk r (λ a. a ≡ listed typed.shape places (results_of typed.shape typed.resolved script)) → IfOk r (Only (IsDueRun engine places tree script))
+built_if engine places tree typed script (Ok a) h t e = subst (Only (IsDueRun engine places tree script)) (sym e) (only_built engine places tree typed script h t)
+built_if engine places tree typed script (Err e) h t is = tt
+
+only_short : (P : ServiceTree → Script → Answer → Type 0) (text : List ℕ) (tree : ServiceTree) (shape : Shape) (due : Answer) → length text ≤ SCRIPT_BYTES → shape ≡ shape_of tree →
+    Only (IsDueLines (P tree) shape text) due → Only (IsDueScript P text tree) due
+only_short P text tree shape due small e o = record { is_due = inr (small, so.is_due); only = others }
+  where
+    so : Only (IsDueLines (P tree) (shape_of tree) text) due
+    so = subst (λ s. Only (IsDueLines (P tree) s text) due) e o
+
+    others : (other : Answer) → IsDueScript P text tree other → other ≡ due
+    others other (inl h) = let long = h.0 in absurd (omega arith)
+    others other (inr h) = so.only other h.1
+
+-- the lines of a script that isn't too long
+pub short_if : {E : Type 0} (P : ServiceTree → Script → Answer → Type 0) (text : List ℕ) (tree : ServiceTree) (shape : Shape) (r : Result Answer E) → length text ≤ SCRIPT_BYTES → shape ≡ shape_of tree →
+    IfOk r (Only (IsDueLines (P tree) shape text)) → IfOk r (Only (IsDueScript P text tree))
+short_if P text tree shape (Ok a) small e o = only_short P text tree shape a small e o
+short_if P text tree shape (Err x) small e o = tt
+
+-- ---- both, and the whole
+
+pub with_script : {E : Type 0} (P : ServiceTree → Script → Answer → Type 0) (text : List ℕ) (found : Option (List ℕ)) (script : List ℕ) (r : Result Answer E) → found ≡ Some script →
+    IfOk r (Only (IsDueService (IsDueScript P script) text)) → IfOk r (Only (IsDueBoth P text found))
+with_script P text found script r e o = subst (λ s. IfOk r (Only (IsDueBoth P text s))) (sym e) o
+
+pub only_too_large : (c : Command) (bytes : List ℕ) → INPUT_BYTES < length bytes → IsOnlyDue c bytes too_large_input
+only_too_large c bytes long = record { is_due = inl (long, refl); only = others }
+  where
+    others : (other : Answer) → IsDue c bytes other → other ≡ too_large_input
+    others other (inl h) = h.1
+    others other (inr h) = let small = h.0 in absurd (omega arith)

@@ -1,0 +1,31 @@
+-- The words of a command line.
+use Rattle.std.specs.Prelude.{ℕ, Bool, if◌then◌else◌, Option, Some, None, List, [], ◌∷◌, codes, nat_eq}
+use Rattle.std.specs.Cmp.Lexicographic.{pointwise}
+use Rattle.due_answer.specs.declared.command.Command.{Command}
+use Rattle.due_answer.specs.declared.command.Command.TheVariants.{Run, Seq, Check, Print}
+use Rattle.due_answer.specs.declared.command.Places.TheVariants.{Unlisted, Listed}
+
+abbrev pub same_word : List ℕ → List ℕ → Bool
+same_word = pointwise nat_eq
+
+-- a command by itself
+abbrev pub command_named : List ℕ → Option Command
+command_named w =
+    if same_word w (codes "run") then Some (Run Unlisted)
+    else if same_word w (codes "seq") then Some (Seq Unlisted)
+    else if same_word w (codes "check") then Some Check
+    else if same_word w (codes "print") then Some Print
+    else None
+
+-- one that lists the places of contexts too
+abbrev pub with_places : Option Command → Option Command
+with_places (Some (Run places)) = Some (Run Listed)
+with_places (Some (Seq places)) = Some (Seq Listed)
+with_places _ = None
+
+-- a command, and behind it `--map` where it lists results
+abbrev pub command_of : List (List ℕ) → Option Command
+command_of [] = None
+command_of (w ∷ []) = command_named w
+command_of (w ∷ v ∷ []) = if same_word v (codes "--map") then with_places (command_named w) else None
+command_of (w ∷ v ∷ u ∷ words) = None

@@ -1,0 +1,175 @@
+-- What is due for a command and the bytes of its input. Statuses, notes and output are read off it.
+use Rattle.std.specs.Prelude.{◌≡◌, ℕ, ◌<◌, ◌≤◌, ◌⊎◌, ◌||◌, Bool, true, false, if◌then◌else◌, nat_lt, not, List, [], ◌∷◌, ◌++◌, length, codes, Option, Some, None, Result, Ok, Err}
+use Rattle.std.specs.List.{list_any, list_all}
+use Rattle.wave_base.specs.declared.limits.TheConstants.{INPUT_BYTES, SCRIPT_BYTES}
+use Rattle.wave_base.specs.declared.finished.Finished.{Finished}
+use Rattle.wave_base.specs.declared.outcome.EventResult.{EventResult}
+use Rattle.wave_base.specs.declared.outcome.Outcome.{Outcome}
+use Rattle.wave_base.specs.declared.outcome.Outcome.TheVariants.{Trapped}
+use Rattle.wave_base.specs.declared.script.Line.{Line}
+use Rattle.wave_base.specs.declared.script.Line.TheVariants.{Request}
+use Rattle.wave_base.specs.declared.script.Script.{Script}
+use Rattle.wave_base.specs.declared.shape.Shape.{Shape}
+use Rattle.input_parts.specs.Parts.{service_of, script_of}
+use Rattle.mace_ast.specs.Decls.{ServiceTree, SameUpToSpans}
+use Rattle.mace_grammar.specs.Spelled.{Spelled}
+use Rattle.mace_printer.specs.Canon.{service_words}
+use Rattle.mace_printer.specs.Layout.{layout}
+use Rattle.mace_printer.specs.Written.{IsCutInto}
+use Rattle.resolved_service.specs.declared.service.Resolved.{Resolved}
+use Rattle.type_rules.specs.declared.error.TypeError.{TypeError}
+use Rattle.type_rules.specs.Demands.{first_wrong}
+use Rattle.type_rules.specs.Known.{shape_of}
+use Rattle.type_rules.specs.Services.{service_demands, resolve_service}
+use Rattle.type_rules.specs.Views.{resolved_view}
+use Rattle.service_reader.specs.declared.fault.TextFault.{TextFault}
+use Rattle.service_reader.specs.Parsing.{Parses}
+use Rattle.fault_notes.specs.Notes.{text_note, type_note, script_note}
+use Rattle.script_reader.specs.declared.error.ScriptError.{ScriptError}
+use Rattle.script_reader.specs.Judged.{nothing_earlier}
+use Rattle.script_reader.specs.Scripts.{IsRead}
+use Rattle.wave_text.specs.Lines.{lines_of}
+use Rattle.listing_out.specs.Listing.{listing}
+use Rattle.wave_meaning.specs.Meaning.{results_of}
+use Rattle.due_answer.specs.declared.answer.Answer.{Answer}
+use Rattle.due_answer.specs.declared.command.Command.{Command}
+use Rattle.due_answer.specs.declared.command.Command.TheVariants.{Run, Seq, Check, Print}
+use Rattle.due_answer.specs.declared.command.Engine.{Engine}
+use Rattle.due_answer.specs.declared.command.Engine.TheVariants.{Workers, Evaluator}
+use Rattle.due_answer.specs.declared.command.Places.{Places}
+use Rattle.due_answer.specs.declared.command.Places.TheVariants.{Unlisted, Listed}
+
+-- ---- answers
+
+abbrev pub refusal : ℕ → List ℕ → Answer
+refusal status note = record { status = status; note = note; text = [] }
+
+-- the input has more bytes than one may have
+abbrev pub too_large_input : Answer
+too_large_input = refusal 3 (codes "TooLarge input")
+
+abbrev pub no_script : Answer
+no_script = refusal 3 (codes "NoScript")
+
+abbrev pub too_large_script : Answer
+too_large_script = refusal 4 (codes "TooLarge script")
+
+-- what is asked for isn't built yet
+abbrev pub not_yet : Answer
+not_yet = refusal 9 (codes "NotYet")
+
+abbrev pub written : List ℕ → Answer
+written text = record { status = 0; note = []; text = text }
+
+-- a service that is typed is told so
+abbrev pub approved : Answer
+approved = written (codes "ok" ++ 10 ∷ [])
+
+-- ---- a service
+
+-- of a tree, where it is known what is wrong with its types, if anything; P is what is due where nothing is
+abbrev pub IsDueTyped : (ServiceTree → Answer → Type 0) → ServiceTree → Option TypeError → Answer → Type 0
+IsDueTyped P tree (Some e) due = due ≡ refusal 3 (type_note e)
+IsDueTyped P tree None due = P tree due
+
+abbrev pub IsDueOf : (ServiceTree → Answer → Type 0) → Result ServiceTree TextFault → Answer → Type 0
+IsDueOf P (Err e) due = due ≡ refusal 3 (text_note e)
+IsDueOf P (Ok tree) due = IsDueTyped P tree (first_wrong (service_demands tree)) due
+
+-- of the text of a service: its first fault is told, and P is what is due where it has none
+pub record IsDueService (P : ServiceTree → Answer → Type 0) (text : List ℕ) (due : Answer) : Type 0 where
+  pub read : Result ServiceTree TextFault
+  pub parses : Parses text read
+  pub due_is : IsDueOf P read due
+
+-- ---- a script
+
+abbrev pub is_listed : Places → Bool
+is_listed Unlisted = false
+is_listed Listed = true
+
+abbrev pub is_trap : Outcome → Bool
+is_trap (Trapped t) = true
+is_trap _ = false
+
+abbrev pub any_trap : List EventResult → Bool
+any_trap rs = list_any (λ (r : EventResult). is_trap r.outcome) rs
+
+-- the listing of all that was done; the status tells whether something trapped
+abbrev pub listed : Shape → Places → Finished → Answer
+listed shape places done = record { status = if any_trap done.results then 1 else 0; note = []; text = listing shape 1 done (is_listed places) }
+
+-- of a script that was read: the listing of its fold on the service with each name resolved
+pub record IsDueFold (places : Places) (tree : ServiceTree) (script : Script) (due : Answer) : Type 0 where
+  pub service : Resolved
+  pub resolved : resolved_view service ≡ resolve_service tree
+  pub due_is : due ≡ listed (shape_of tree) places (results_of (shape_of tree) service script)
+
+abbrev pub is_request : Line → Bool
+is_request (Request call) = true
+is_request _ = false
+
+-- hosts that are more than one, moves and snapshots want the machine, which isn't built yet
+abbrev pub wants_machine : Script → Bool
+wants_machine script = nat_lt 1 script.hosts || not (list_all (list_all is_request) script.batches)
+
+abbrev pub is_unbuilt : Engine → Script → Bool
+is_unbuilt Workers script = wants_machine script
+is_unbuilt Evaluator script = false
+
+abbrev pub IsDueWhere : Places → ServiceTree → Script → Bool → Answer → Type 0
+IsDueWhere places tree script true due = due ≡ not_yet
+IsDueWhere places tree script false due = IsDueFold places tree script due
+
+abbrev pub IsDueRun : Engine → Places → ServiceTree → Script → Answer → Type 0
+IsDueRun engine places tree script due = IsDueWhere places tree script (is_unbuilt engine script) due
+
+abbrev pub IsDueRead : (Script → Answer → Type 0) → Result Script ScriptError → Answer → Type 0
+IsDueRead P (Err e) due = due ≡ refusal 4 (script_note e)
+IsDueRead P (Ok script) due = P script due
+
+-- of the text of a script that isn't too long: its first fault is told, and P is what is due where it has none
+pub record IsDueLines (P : Script → Answer → Type 0) (shape : Shape) (text : List ℕ) (due : Answer) : Type 0 where
+  pub read : Result Script ScriptError
+  pub reads : IsRead shape nothing_earlier [] (lines_of text) read
+  pub due_is : IsDueRead P read due
+
+abbrev pub IsDueScript : (ServiceTree → Script → Answer → Type 0) → List ℕ → ServiceTree → Answer → Type 0
+IsDueScript P text tree due = ((SCRIPT_BYTES < length text) × (due ≡ too_large_script)) ⊎ ((length text ≤ SCRIPT_BYTES) × IsDueLines (P tree) (shape_of tree) text due)
+
+-- of a service and a script, which has to be there
+abbrev pub IsDueBoth : (ServiceTree → Script → Answer → Type 0) → List ℕ → Option (List ℕ) → Answer → Type 0
+IsDueBoth P text None due = due ≡ no_script
+IsDueBoth P text (Some script) due = IsDueService (IsDueScript P script) text due
+
+-- ---- a service that is printed
+
+-- the text is cut into the words of the service, which spell it and, but for places, no other
+abbrev pub IsReadBack : ServiceTree → List ℕ → Type 0
+IsReadBack tree text =
+    IsCutInto text (service_words tree) × Spelled tree (service_words tree) × ((s : ServiceTree) → Spelled s (service_words tree) → SameUpToSpans s tree)
+
+-- the service in canonical layout, which is read back as that service
+pub record IsPrinted (tree : ServiceTree) (due : Answer) : Type 0 where
+  pub due_is : due ≡ written (layout (service_words tree))
+  pub again : IsReadBack tree due.text
+
+-- ---- commands
+
+abbrev pub IsDueFor : Command → List ℕ → Answer → Type 0
+IsDueFor (Run places) bytes due = IsDueBoth (IsDueRun Workers places) (service_of bytes) (script_of bytes) due
+IsDueFor (Seq places) bytes due = IsDueBoth (IsDueRun Evaluator places) (service_of bytes) (script_of bytes) due
+IsDueFor Check bytes due = IsDueService (λ tree due. due ≡ approved) (service_of bytes) due
+IsDueFor Print bytes due = IsDueService IsPrinted (service_of bytes) due
+
+abbrev pub IsDue : Command → List ℕ → Answer → Type 0
+IsDue c bytes due = ((INPUT_BYTES < length bytes) × (due ≡ too_large_input)) ⊎ ((length bytes ≤ INPUT_BYTES) × IsDueFor c bytes due)
+
+-- it is so of this answer, and of no other
+pub record Only (P : Answer → Type 0) (due : Answer) : Type 0 where
+  pub is_due : P due
+  pub only : (other : Answer) → P other → other ≡ due
+
+-- it is due, and nothing else is
+abbrev pub IsOnlyDue : Command → List ℕ → Answer → Type 0
+IsOnlyDue c bytes due = Only (IsDue c bytes) due

@@ -1,0 +1,36 @@
+ghost use Rattle.std.specs.Prelude.{◌≡◌, [], IfOk};
+ghost use Rattle.due_answer.specs.Due.{refusal, written};
+
+use std::alloc::Global;
+use wave_base::{OutOfMemory, Seq};
+
+/// What is due for an input: the status, the bytes for `out`, and the note, which is empty where there is none.
+#[derive(Debug, Drop)]
+pub struct Answer {
+    pub status: u8,
+    pub note: Seq<u8>,
+    pub text: Seq<u8>,
+}
+
+/// A refusal with this status and note.
+pub fn refused(alloc: Global, status: u8, note: &[u8]) -> Result<Answer, OutOfMemory>
+    ensures { IfOk result (λ a. a ≡ refusal status note.now) }
+{
+    let note = Vec::from_slice(alloc, note)?;
+    Ok(Answer {
+        status,
+        note: Seq::from_vec(note),
+        text: Seq::new(alloc),
+    })
+}
+
+/// A text that is written, with nothing to tell.
+pub fn written(alloc: Global, text: Seq<u8>) -> Answer
+    ensures { result ≡ written text }
+{
+    Answer {
+        status: 0,
+        note: Seq::new(alloc),
+        text,
+    }
+}

@@ -1,0 +1,12 @@
+//! What is due for a command and an input: a status, a note, and a text to write.
+#![tactic(auto)]
+
+mod answer;
+mod command;
+mod judging;
+mod script;
+mod service;
+
+pub use answer::{Answer, refused};
+pub use command::{Command, Engine, Places, command_of};
+pub use judging::judge;

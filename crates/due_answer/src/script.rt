@@ -1,0 +1,163 @@
+ghost use Rattle.std.specs.Prelude.{◌≡◌, ◌≢◌, ◌≤◌, length, IfOk};
+ghost use Rattle.std.specs.List.{list_all};
+ghost use Rattle.wave_base.specs.declared.limits.TheConstants.{SCRIPT_BYTES};
+ghost use Rattle.wave_base.specs.Scripts.{IsScript};
+ghost use Rattle.wave_base.specs.Shapes.{IsShape};
+ghost use Rattle.resolved_service.specs.Fits.{FitsService};
+ghost use Rattle.wave_meaning.specs.Meaning.{results_of};
+ghost use Rattle.mace_ast.specs.Decls.{ServiceTree};
+ghost use Rattle.fault_notes.specs.Notes.{script_note};
+ghost use Rattle.script_reader.specs.declared.error.ScriptError.{ScriptError};
+ghost use Rattle.due_answer.specs.Due.{Only, IsDueRun, IsDueLines, IsDueScript, any_trap, is_listed, is_request, is_unbuilt, listed, not_yet, refusal, wants_machine};
+ghost use Rattle.due_answer.specs.Served.{IsTypedTree};
+
+use crate::answer::{Answer, refused};
+use crate::command::{Engine, Places};
+use context_types::Typed;
+use fault_notes::script_note;
+use listing_out::listing;
+use script_reader::{ScriptError, read_script};
+use std::alloc::Global;
+use wave_base::{EventResult, Line, OutOfMemory, Outcome, SCRIPT_BYTES, Script, Seq, Ticket};
+use wave_meaning::run_script;
+
+fn is_listed(places: Places) -> bool
+    ensures { result ≡ is_listed places }
+{
+    match places {
+        Places::Unlisted => false,
+        Places::Listed => true,
+    }
+}
+
+// Whether one of the results is a trap.
+fn any_trap(results: &[EventResult]) -> bool
+    ensures { result ≡ any_trap results.now }
+{
+    results
+        .iter()
+        .any(|result_| matches!(result_.outcome, Outcome::Trapped(_)))
+}
+
+fn is_request(line: &Line) -> bool
+    ensures { result ≡ is_request line.now }
+{
+    matches!(line, Line::Request(_))
+}
+
+fn are_requests(batch: &Seq<Line>) -> bool
+    ensures { result ≡ list_all is_request batch.now }
+{
+    batch.as_slice().iter().all(is_request)
+}
+
+fn are_all_requests(batches: &[Seq<Line>]) -> bool
+    ensures { result ≡ list_all (list_all is_request) batches.now }
+{
+    batches.iter().all(are_requests)
+}
+
+// Hosts, moves and snapshots want the machine.
+fn wants_machine(script: &Script) -> bool
+    ensures { result ≡ wants_machine script.now }
+{
+    script.hosts > 1 || !are_all_requests(script.batches.as_slice())
+}
+
+fn is_unbuilt(engine: Engine, script: &Script) -> bool
+    ensures { result ≡ is_unbuilt engine script.now }
+{
+    match engine {
+        Engine::Workers => wants_machine(script),
+        Engine::Evaluator => false,
+    }
+}
+
+// The listing of a script's results.
+fn listed(
+    alloc: Global,
+    places: Places,
+    typed: &Typed,
+    script: &Script,
+) -> Result<Answer, OutOfMemory>
+    requires shape { IsShape typed.now.shape }
+    requires service { FitsService typed.now.shape typed.now.resolved }
+    requires script { IsScript typed.now.shape script.now }
+    ensures { IfOk result (λ a. a ≡ listed typed.now.shape places (results_of typed.now.shape typed.now.resolved script.now)) }
+{
+    let done = run_script(alloc, &typed.shape, &typed.resolved, script)?;
+    let text = listing(alloc, &typed.shape, Ticket(1), &done, is_listed(places))?;
+    Ok(Answer {
+        status: if any_trap(done.results.as_slice()) {
+            1
+        } else {
+            0
+        },
+        note: Seq::new(alloc),
+        text,
+    })
+}
+
+// What is due for a script that was read.
+fn judge_read(
+    alloc: Global,
+    engine: Engine,
+    places: Places,
+    typed: &Typed,
+    script: &Script,
+) -> Result<Answer, OutOfMemory>
+    requires shape { IsShape typed.now.shape }
+    requires service { FitsService typed.now.shape typed.now.resolved }
+    requires script { IsScript typed.now.shape script.now }
+    ensures { (tree : ServiceTree) → IsTypedTree tree typed.now → IfOk result (Only (IsDueRun engine places tree script.now)) }
+{
+    if is_unbuilt(engine, script) {
+        return refused(alloc, 9, b"NotYet");
+    }
+    listed(alloc, places, typed, script)
+}
+
+fn refused_script(alloc: Global, error: &ScriptError) -> Result<Answer, OutOfMemory>
+    ensures refused { IfOk result (λ a. a ≡ refusal 4 (script_note error.now)) }
+    ensures told { IfOk result (λ _. error.now ≢ ScriptError.OutOfMemory) }
+{
+    let note = script_note(alloc, error)?;
+    refused(alloc, 4, note.as_slice())
+}
+
+// What is due for the text of a script that isn't too long.
+fn judge_lines(
+    alloc: Global,
+    engine: Engine,
+    places: Places,
+    typed: &Typed,
+    text: &[u8],
+) -> Result<Answer, OutOfMemory>
+    requires shape { IsShape typed.now.shape }
+    requires service { FitsService typed.now.shape typed.now.resolved }
+    requires short { length text.now ≤ SCRIPT_BYTES }
+    ensures { (tree : ServiceTree) → IsTypedTree tree typed.now → IfOk result (Only (IsDueLines (IsDueRun engine places tree) typed.now.shape text.now)) }
+{
+    match read_script(alloc, &typed.shape, text) {
+        Ok(script) => judge_read(alloc, engine, places, typed, &script),
+        Err(error) => refused_script(alloc, &error),
+    }
+}
+
+/// What is due for a typed service and the text of a script.
+pub fn judge_script(
+    alloc: Global,
+    engine: Engine,
+    places: Places,
+    typed: &Typed,
+    text: &[u8],
+) -> Result<Answer, OutOfMemory>
+    requires shape { IsShape typed.now.shape }
+    requires service { FitsService typed.now.shape typed.now.resolved }
+    ensures { (tree : ServiceTree) → IsTypedTree tree typed.now → IfOk result (Only (IsDueScript (IsDueRun engine places) text.now tree)) }
+{
+    if text.len() > SCRIPT_BYTES {
+        return refused(alloc, 4, b"TooLarge script");
+    }
+    judge_lines(alloc, engine, places, typed, text)
+}

@@ -1,0 +1,61 @@
+ghost use Rattle.std.specs.Prelude.{◌≡◌, ◌≢◌, [], IfOk};
+ghost use Rattle.mace_ast.specs.Decls.{service_tree};
+ghost use Rattle.service_reader.specs.declared.fault.TextFault.{TextFault};
+ghost use Rattle.fault_notes.specs.Notes.{text_note, type_note};
+ghost use Rattle.type_rules.specs.declared.error.TypeError.{TypeError};
+ghost use Rattle.due_answer.specs.Due.{refusal};
+ghost use Rattle.due_answer.specs.Served.{IsChecked, IsServed};
+
+use crate::answer::{Answer, refused};
+use context_types::{Typed, check};
+use fault_notes::{text_note, type_note};
+use mace_ast::Service;
+use service_reader::{TextFault, parse_text};
+use std::alloc::Global;
+use type_rules::TypeError;
+use wave_base::OutOfMemory;
+
+/// A service that is typed, or what is due instead.
+#[derive(Debug, Drop)]
+pub enum Judged {
+    Typed(Typed),
+    Refused(Answer),
+}
+
+// The refusal of a text that is no service.
+fn refused_text(alloc: Global, fault: &TextFault) -> Result<Answer, OutOfMemory>
+    ensures refused { IfOk result (λ a. a ≡ refusal 3 (text_note fault.now)) }
+    ensures told { IfOk result (λ _. fault.now ≢ TextFault.OutOfMemory) }
+{
+    let note = text_note(alloc, fault)?;
+    refused(alloc, 3, note.as_slice())
+}
+
+// The refusal of a service that isn't typed.
+fn refused_types(alloc: Global, error: &TypeError) -> Result<Answer, OutOfMemory>
+    ensures refused { IfOk result (λ a. a ≡ refusal 3 (type_note error.now)) }
+    ensures told { IfOk result (λ _. error.now ≢ TypeError.OutOfMemory) }
+{
+    let note = type_note(alloc, error)?;
+    refused(alloc, 3, note.as_slice())
+}
+
+// A service, checked.
+fn checked(alloc: Global, service: Service) -> Result<Judged, OutOfMemory>
+    ensures { IfOk result (IsChecked (service_tree service)) }
+{
+    match check(alloc, service) {
+        Ok(typed) => Ok(Judged::Typed(typed)),
+        Err(error) => Ok(Judged::Refused(refused_types(alloc, &error)?)),
+    }
+}
+
+/// A text as a typed service, or its first fault.
+pub fn served(alloc: Global, text: &[u8]) -> Result<Judged, OutOfMemory>
+    ensures { IfOk result (IsServed text.now) }
+{
+    match parse_text(alloc, text) {
+        Ok(service) => checked(alloc, service),
+        Err(fault) => Ok(Judged::Refused(refused_text(alloc, &fault)?)),
+    }
+}

@@ -1,0 +1,15 @@
+use wave_base::Seq;
+
+/// How a call ended.
+#[derive(Debug, Drop)]
+pub enum Ending {
+    /// The words are no command.
+    WordsRefused,
+    /// The source failed.
+    ReadFault,
+    /// The sink failed.
+    WriteFault,
+    NoMemory,
+    /// An answer was given whole: its status and note.
+    Answered(u8, Seq<u8>),
+}
