@@ -6,6 +6,8 @@ mod command;
 mod judging;
 mod script;
 mod service;
+#[cfg(test)]
+mod tests;
 
 pub use answer::{Answer, refused};
 pub use command::{Command, Engine, Places, command_of};
