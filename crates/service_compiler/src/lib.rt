@@ -1,0 +1,23 @@
+//! The compiler: from a resolved service to its program.
+#![tactic(auto)]
+
+mod collect;
+mod program;
+mod emit;
+mod error;
+mod functions;
+mod heights;
+mod statements;
+mod texts;
+mod whole;
+
+pub use collect::texts_of_service;
+pub use program::compile;
+pub use emit::{emit_expr, emit_exprs};
+pub use error::CompileError;
+pub use functions::{emit_event, emit_method};
+pub use statements::{emit_stmts, leaves};
+pub use texts::Texts;
+
+#[cfg(test)]
+mod tests;
