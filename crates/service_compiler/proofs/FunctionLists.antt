@@ -38,7 +38,7 @@ adds_then old a b c d x y = record { is = y.is ∙ ap (λ l. l ++ b) x.is ∙ ap
 
 -- ---- lists by their places
 
-split_at : {A : Type 0} (xs : List A) (k : ℕ) (x : A) → k < length xs → x ≡ get_or xs k x → xs ≡ take k xs ++ x ∷ drop (k + 1) xs
+split_at : {A : Type 0} (xs : List A) (k : ℕ) (x : A) → k < length xs → x ≡ get_or xs k x → xs ≡ take k xs ++ x ∷ drop (suc k) xs
 split_at [] k x lt at = absurd (omega (arith, lt))
 split_at (y ∷ xs) zero x lt at = ap (λ z. z ∷ xs) (sym at)
 split_at (y ∷ xs) (suc k) x lt at = ap (λ l. y ∷ l) (split_at xs k x (omega (arith, lt)) at)
@@ -47,28 +47,35 @@ map_append : {A B : Type 0} (g : A → B) (xs ys : List A) → map g (xs ++ ys) 
 map_append g [] ys = refl
 map_append g (x ∷ xs) ys = ap (λ l. g x ∷ l) (map_append g xs ys)
 
-pub map_at : {A B : Type 0} (g : A → B) (xs : List A) (k : ℕ) (x : A) → k < length xs → x ≡ get_or xs k x → map g xs ≡ map g (take k xs) ++ g x ∷ map g (drop (k + 1) xs)
-map_at g xs k x lt at = ap (map g) (split_at xs k x lt at) ∙ map_append g (take k xs) (x ∷ drop (k + 1) xs)
+pub map_at : {A B : Type 0} (g : A → B) (xs : List A) (k : ℕ) (x : A) → k < length xs → x ≡ get_or xs k x → map g xs ≡ map g (take k xs) ++ g x ∷ map g (drop (suc k) xs)
+map_at g xs k x lt at = ap (map g) (split_at xs k x lt at) ∙ map_append g (take k xs) (x ∷ drop (suc k) xs)
+
+map_next_suc : {A B : Type 0} (g : A → B) (xs : List A) (k : ℕ) (x : A) → k < length xs → x ≡ get_or xs k x → map g (take (suc k) xs) ≡ map g (take k xs) ++ g x ∷ []
+map_next_suc g [] k x lt at = absurd (omega (arith, lt))
+map_next_suc g (y ∷ xs) zero x lt at = ap (λ z. g z ∷ []) (sym at)
+map_next_suc g (y ∷ xs) (suc k) x lt at = ap (λ l. g y ∷ l) (map_next_suc g xs k x (omega (arith, lt)) at)
 
 pub map_next : {A B : Type 0} (g : A → B) (xs : List A) (k : ℕ) (x : A) → k < length xs → x ≡ get_or xs k x → map g (take (k + 1) xs) ≡ map g (take k xs) ++ g x ∷ []
-map_next g [] k x lt at = absurd (omega (arith, lt))
-map_next g (y ∷ xs) zero x lt at = ap (λ z. g z ∷ []) (sym at)
-map_next g (y ∷ xs) (suc k) x lt at = ap (λ l. g y ∷ l) (map_next g xs k x (omega (arith, lt)) at)
+map_next g xs k x lt at = let e : k + 1 ≡ suc k = omega arith in ap (λ n. map g (take n xs)) e ∙ map_next_suc g xs k x lt at
 
 module _ (methods : List Method) (texts : List Text) where
   pub events_at : (is : List EventInfo) (es : List Event) (k : ℕ) (i : EventInfo) (e : Event) → k < length is → k < length es → i ≡ get_or is k i → e ≡ get_or es k e →
-      event_functions methods texts is es ≡ event_functions methods texts (take k is) (take k es) ++ event_function methods texts i e ∷ event_functions methods texts (drop (k + 1) is) (drop (k + 1) es)
+      event_functions methods texts is es ≡ event_functions methods texts (take k is) (take k es) ++ event_function methods texts i e ∷ event_functions methods texts (drop (suc k) is) (drop (suc k) es)
   events_at [] es k i e lt ht at bt = absurd (omega (arith, lt))
   events_at (j ∷ is) [] k i e lt ht at bt = absurd (omega (arith, ht))
   events_at (j ∷ is) (d ∷ es) zero i e lt ht at bt = λ x. event_function methods texts (sym at x) (sym bt x) ∷ event_functions methods texts is es
   events_at (j ∷ is) (d ∷ es) (suc k) i e lt ht at bt = ap (λ l. event_function methods texts j d ∷ l) (events_at is es k i e (omega (arith, lt)) (omega (arith, ht)) at bt)
 
+  events_next_suc : (is : List EventInfo) (es : List Event) (k : ℕ) (i : EventInfo) (e : Event) → k < length is → k < length es → i ≡ get_or is k i → e ≡ get_or es k e →
+      event_functions methods texts (take (suc k) is) (take (suc k) es) ≡ event_functions methods texts (take k is) (take k es) ++ event_function methods texts i e ∷ []
+  events_next_suc [] es k i e lt ht at bt = absurd (omega (arith, lt))
+  events_next_suc (j ∷ is) [] k i e lt ht at bt = absurd (omega (arith, ht))
+  events_next_suc (j ∷ is) (d ∷ es) zero i e lt ht at bt = λ x. event_function methods texts (sym at x) (sym bt x) ∷ []
+  events_next_suc (j ∷ is) (d ∷ es) (suc k) i e lt ht at bt = ap (λ l. event_function methods texts j d ∷ l) (events_next_suc is es k i e (omega (arith, lt)) (omega (arith, ht)) at bt)
+
   pub events_next : (is : List EventInfo) (es : List Event) (k : ℕ) (i : EventInfo) (e : Event) → k < length is → k < length es → i ≡ get_or is k i → e ≡ get_or es k e →
       event_functions methods texts (take (k + 1) is) (take (k + 1) es) ≡ event_functions methods texts (take k is) (take k es) ++ event_function methods texts i e ∷ []
-  events_next [] es k i e lt ht at bt = absurd (omega (arith, lt))
-  events_next (j ∷ is) [] k i e lt ht at bt = absurd (omega (arith, ht))
-  events_next (j ∷ is) (d ∷ es) zero i e lt ht at bt = λ x. event_function methods texts (sym at x) (sym bt x) ∷ []
-  events_next (j ∷ is) (d ∷ es) (suc k) i e lt ht at bt = ap (λ l. event_function methods texts j d ∷ l) (events_next is es k i e (omega (arith, lt)) (omega (arith, ht)) at bt)
+  events_next is es k i e lt ht at bt = let s : k + 1 ≡ suc k = omega arith in ap (λ n. event_functions methods texts (take n is) (take n es)) s ∙ events_next_suc is es k i e lt ht at bt
 
   pub events_end : (is : List EventInfo) (es : List Event) (k : ℕ) → k ≡ min (length is) (length es) → event_functions methods texts (take k is) (take k es) ≡ event_functions methods texts is es
   events_end [] es k e = let z : k ≡ 0 = omega (arith, e) in ap (λ k. event_functions methods texts (take k []) (take k es)) z
@@ -87,11 +94,14 @@ module _ (methods : List Method) (texts : List Text) where
   pub event_long : (i : EventInfo) (e : Event) → length (event_function methods texts i e).code ≡ length (event_code methods texts e)
   event_long i e = length-map (event_code methods texts e) (λ (l : Line). l.instr)
 
-pub numbers_next : (first k : ℕ) → numbers_from first k ++ first + k ∷ [] ≡ numbers_from first (k + 1)
-numbers_next first zero = let e : first + 0 ≡ first = omega arith in ap (λ n. n ∷ []) e
-numbers_next first (suc k) =
+numbers_next_suc : (first k : ℕ) → numbers_from first k ++ ((first + k) ∷ []) ≡ numbers_from first (suc k)
+numbers_next_suc first zero = let e : first + 0 ≡ first = omega arith in ap (λ n. n ∷ []) e
+numbers_next_suc first (suc k) =
     let e : first + suc k ≡ suc first + k = omega arith in
-    ap (λ n. first ∷ (numbers_from (suc first) k ++ n ∷ [])) e ∙ ap (λ l. first ∷ l) (numbers_next (suc first) k)
+    ap (λ n. first ∷ (numbers_from (suc first) k ++ n ∷ [])) e ∙ ap (λ l. first ∷ l) (numbers_next_suc (suc first) k)
+
+pub numbers_next : (first k : ℕ) (xs ys : List ℕ) → xs ≡ numbers_from first k → ys ≡ xs ++ ((first + k) ∷ []) → ys ≡ numbers_from first (k + 1)
+numbers_next first k xs ys e g = let s : suc k ≡ k + 1 = omega arith in g ∙ ap (λ l. l ++ ((first + k) ∷ [])) e ∙ numbers_next_suc first k ∙ ap (numbers_from first) s
 
 -- ---- the first that is too long
 

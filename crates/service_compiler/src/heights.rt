@@ -3,7 +3,7 @@
 ghost use Rattle.std.specs.Prelude.{◌≡◌, min, map};
 ghost use Rattle.resolved_service.specs.Steps.{step_of, steps_in};
 ghost use Rattle.resolved_service.specs.View.{tree_of, trees_of};
-ghost use Rattle.code_scheme.specs.Heights.{tree_height, trees_height, step_height, steps_height, last_height, method_height, phases_height, event_height};
+ghost use Rattle.code_scheme.specs.Heights.{one_if, tree_height, trees_height, step_height, steps_height, last_height, method_height, phases_height, event_height};
 
 use crate::statements::leaves;
 use resolved_service::{Action, Event, Expr, Last, Method, Node, Phase, Stmt};
@@ -36,7 +36,7 @@ fn height_of_last(methods: &[Method], last: &Option<Last>) -> u16
 fn height_of_phases(methods: &[Method], phases: &[Phase]) -> u16
     ensures { result ≡ min (phases_height methods.now phases.now) 65535 }
 {
-    let mut height = 0;
+    let mut height: u16 = 0;
     for phase in phases {
         let body = stmts_height(methods, phase.body.as_slice());
         height = expr_height(methods, &phase.key).max(body).max(height);
@@ -48,7 +48,7 @@ fn height_of_phases(methods: &[Method], phases: &[Phase]) -> u16
 fn stmts_height(methods: &[Method], stmts: &[Stmt]) -> u16
     ensures { result ≡ min (steps_height methods.now (steps_in stmts.now)) 65535 }
 {
-    let mut height = 0;
+    let mut height: u16 = 0;
     'stmts: for stmt in stmts {
         height = stmt_height(methods, stmt).max(height);
     }
@@ -90,13 +90,14 @@ fn stmt_height(methods: &[Method], stmt: &Stmt) -> u16
 fn exprs_height(methods: &[Method], exprs: &[Expr]) -> u16
     ensures { result ≡ min (trees_height methods.now (trees_of (map tree_of exprs.now))) 65535 }
 {
-    match exprs {
-        [] => 0,
-        [first, rest @ ..] => {
-            let others = exprs_height(methods, rest).saturating_add(1);
-            expr_height(methods, first).max(others)
-        }
+    let mut height: u16 = 0;
+    let mut below: u16 = 0;
+    'exprs: for expr in exprs {
+        let operand = expr_height(methods, expr).max(1);
+        height = operand.saturating_add(below).max(height);
+        below = below.saturating_add(1);
     }
+    height
 }
 
 #[cycle(expr_height)]
@@ -109,14 +110,17 @@ fn expr_height(methods: &[Method], expr: &Expr) -> u16
         Node::And(left, right) | Node::Or(left, right) => {
             expr_height(methods, left).max(expr_height(methods, right)).max(1)
         }
-        Node::Call(_, args) => exprs_height(methods, args).max(one_if(leaves(methods, expr))),
+        Node::Call(_, args) => exprs_height(methods, args).max(left(leaves(methods, expr))),
         Node::Child(_, _, key, args) => {
             let given = exprs_height(methods, args).saturating_add(1);
-            expr_height(methods, key).max(given).max(one_if(leaves(methods, expr)))
+            expr_height(methods, key).max(given).max(left(leaves(methods, expr)))
         }
     }
 }
 
-fn one_if(leaves: bool) -> u16 {
+// What a call leaves on the stack.
+fn left(leaves: bool) -> u16
+    ensures { result ≡ one_if leaves }
+{
     if leaves { 1 } else { 0 }
 }

@@ -3,7 +3,8 @@
 ghost use Rattle.std.specs.Prelude.{◌≡◌, ◌<◌, ◌≤◌, ◌^◌, length, map, IfOk, IfErr, OnOk};
 ghost use Rattle.wave_base.specs.declared.limits.TheConstants.{INSTRUCTIONS};
 ghost use Rattle.code_scheme.specs.Programs.{method_function, event_function};
-ghost use Rattle.code_scheme.specs.Scheme.{Line, method_code, event_code};
+ghost use Rattle.code_scheme.specs.declared.line.Line.{Line};
+ghost use Rattle.code_scheme.specs.Scheme.{method_code, event_code};
 ghost use Rattle.service_compiler.specs.Faults.{IsShort, IsLong};
 
 use crate::error::CompileError;
