@@ -13,6 +13,7 @@ use Rattle.code_scheme.specs.Scheme.{method_code, event_code}
 use Rattle.code_scheme.specs.Texts.{Text}
 use Rattle.code_scheme.proofs.Parts.{Part, code, code_is, whole_targets, method_part, event_part}
 use Rattle.service_compiler.specs.Wrapped.{wrap, wrap_instr, wrapped}
+use Rattle.service_compiler.proofs.Emits.{wrapped-length}
 
 small : (n : ℕ) → n ≤ 65535 → wrap n ≡ n
 small n h = omega (arith, h)
@@ -40,3 +41,20 @@ method_same methods texts m h = part_same (method_code methods texts m) (method_
 
 pub event_same : (methods : List Method) (texts : List Text) (e : Event) → length (event_code methods texts e) ≤ 65535 → wrapped (event_code methods texts e) ≡ event_code methods texts e
 event_same methods texts e h = part_same (event_code methods texts e) (event_part methods texts e) h
+
+-- lines that are not too many are the scheme's
+pub method_lines : (methods : List Method) (texts : List Text) (m : Method) (ls : List Line) (size : ℕ) → ls ≡ wrapped (method_code methods texts m) → size ≡ length ls → size ≤ 65535 → (ls ≡ method_code methods texts m) × (length (method_code methods texts m) ≤ 65535)
+method_lines methods texts m ls size e long le =
+    let same : length ls ≡ length (method_code methods texts m) = ap length e ∙ wrapped-length (method_code methods texts m) in
+    let few : length (method_code methods texts m) ≤ 65535 = omega (arith, same, long, le) in
+    (e ∙ method_same methods texts m few, few)
+
+pub event_lines : (methods : List Method) (texts : List Text) (x : Event) (ls : List Line) (size : ℕ) → ls ≡ wrapped (event_code methods texts x) → size ≡ length ls → size ≤ 65535 → (ls ≡ event_code methods texts x) × (length (event_code methods texts x) ≤ 65535)
+event_lines methods texts x ls size e long le =
+    let same : length ls ≡ length (event_code methods texts x) = ap length e ∙ wrapped-length (event_code methods texts x) in
+    let few : length (event_code methods texts x) ≤ 65535 = omega (arith, same, long, le) in
+    (e ∙ event_same methods texts x few, few)
+
+-- the length of all lines, where there are too many
+pub all_lines : (code ls : List Line) (size : ℕ) → ls ≡ wrapped code → size ≡ length ls → size ≡ length code
+all_lines code ls size e long = long ∙ ap length e ∙ wrapped-length code
