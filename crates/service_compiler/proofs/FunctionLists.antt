@@ -105,6 +105,10 @@ numbers_next first k xs ys e g = let s : suc k ≡ k + 1 = omega arith in g ∙ 
 
 -- ---- the first that is too long
 
+-- the one behind those that are made
+pub one_behind : (init a made rest whole : List Function) (f : Function) → made ≡ init ++ a → whole ≡ a ++ f ∷ rest → init ++ whole ≡ made ++ f ∷ rest
+one_behind init a made rest whole f is e = ap (λ l. init ++ l) e ∙ sym (append_assoc init a (f ∷ rest)) ∙ ap (λ l. l ++ f ∷ rest) (sym is)
+
 is_there : (made rest : List Function) (f : Function) → slice_get (made ++ f ∷ rest) (length made) ≡ Some f
 is_there [] rest f = refl
 is_there (g ∷ made) rest f = is_there made rest f

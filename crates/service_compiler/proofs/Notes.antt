@@ -1,6 +1,7 @@
 -- Texts noted one after the other.
-use Rattle.std.proofs.Common.{◌≡◌, ℕ, ◌+◌, ◌<◌, ◌⊎◌, inl, inr, Vec, Box, Global, Option, List, [], ◌∷◌, ◌++◌, length, map, take, get_or, Result, Ok, Err, refl, sym, ap, ◌∙◌, append_assoc}
-use Rattle.std.specs.Prelude.{OnOk}
+use Rattle.std.proofs.Common.{◌≡◌, ℕ, ◌+◌, ◌<◌, ◌⊎◌, inl, inr, Vec, Box, Global, Option, List, [], ◌∷◌, ◌++◌, length, map, take, get_or, Result, Ok, Err, refl, sym, ap, subst, ◌∙◌, append_assoc}
+use Rattle.std.specs.Prelude.{OnOk, IfErr}
+use Rattle.std.specs.Result.{IsErrAnd}
 use Rattle.std.proofs.lemmas.List.{take_more}
 use Rattle.resolved_service.specs.declared.expr.Expr.{Expr}
 use Rattle.resolved_service.specs.declared.stmt.Stmt.{Stmt}
@@ -18,6 +19,11 @@ use Rattle.service_compiler.proofs.TreeRows.{op_node, call_node, and_node, or_no
 pub on_ok : {A E : Type 0} (P Q : Type 0) (r : Result A E) → (P → Q) → OnOk r P → OnOk r Q
 on_ok P Q (Ok x) f h = f h
 on_ok P Q (Err e) f h = tt
+
+-- an error that is handed on
+pub err_same : {A E : Type 0} (P : E → Type 0) (r : Result A E) (e : E) → IsErrAnd r (λ y. y ≡ e) → P e → IfErr r P
+err_same P (Ok x) e h p = tt
+err_same P (Err y) e h p = subst P (sym h) p
 
 pub with_more : (ts a b : List Text) → with_texts ts (a ++ b) ≡ with_texts (with_texts ts a) b
 with_more ts [] b = refl
