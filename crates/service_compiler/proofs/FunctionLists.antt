@@ -163,3 +163,43 @@ refuses shape service (CodeTooLong k size) h = record {
   too_long = h.too_long;
   first = h.first;
 }
+
+-- ---- all of a program, made from what a service has
+
+module _ (shape : Shape) (service : Resolved) (start : List Function) (methods : List Method) (texts : List Text) (infos : List EventInfo) (events : List Event)
+  (none : start ≡ []) (methods_are : methods ≡ service.methods) (texts_are : texts ≡ service_texts service) (infos_are : infos ≡ shape.events) (events_are : events ≡ service.events) where
+  abbrev first : List Function
+  first = map (method_function methods texts) methods
+
+  abbrev second : List Function
+  second = event_functions methods texts infos events
+
+  pub methods_refused : (e : CompileError) → HasLong (start ++ first) e → Refuses shape service e
+  methods_refused e h =
+      let same : start ++ first ≡ map (method_function service.methods (service_texts service)) service.methods = λ i. none i ++ map (method_function (methods_are i) (texts_are i)) (methods_are i) in
+      refuses shape service e (long_front _ (event_functions service.methods (service_texts service) shape.events service.events) e (subst (λ fs. HasLong fs e) same h))
+
+  all_same : (start ++ first) ++ second ≡ functions_with shape service (service_texts service)
+  all_same = λ i. (none i ++ map (method_function (methods_are i) (texts_are i)) (methods_are i)) ++ event_functions (methods_are i) (texts_are i) (infos_are i) (events_are i)
+
+  module _ (made : List Function) (front : Adds start first made) where
+    pub events_refused : (e : CompileError) → HasLong (made ++ second) e → Refuses shape service e
+    events_refused e h = refuses shape service e (subst (λ fs. HasLong fs e) (ap (λ fs. fs ++ second) front.is ∙ all_same) h)
+
+    module _ (all : List Function) (back : Adds made second all) where
+      pub functions_are : all ≡ functions_with shape service (service_texts service)
+      functions_are = back.is ∙ ap (λ fs. fs ++ second) front.is ∙ all_same
+
+      pub program_is : (functions : List Function) (lists : List Text) (numbers : List ℕ) → functions ≡ all → lists ≡ texts → numbers ≡ numbers_from (length methods) (length events) →
+          record { shape = shape; functions = functions; texts = lists; events = numbers } ≡ scheme_program shape service
+      unfolding scheme_program
+      program_is functions lists numbers f t n = λ i. record {
+        shape = shape;
+        functions = (f ∙ functions_are) i;
+        texts = (t ∙ texts_are) i;
+        events = (n ∙ (λ j. numbers_from (length (methods_are j)) (length (events_are j)))) i;
+      }
+
+      pub few_functions : length methods + length events < 65536 → length all < 65536
+      few_functions few =
+          omega (arith, few, ap length back.is, length-append made second, ap length front.is, length-append start first, ap length none, length-map methods (method_function methods texts), events_few methods texts infos events)
