@@ -112,9 +112,9 @@ pub fn emit_expr(
             put(code, Instr::Tick, expr.at)?;
             put(code, Instr::Call(*method), expr.at)
         }
-        Node::Child(class, method, key, args) => {
+        Node::Child(class, method, key, given) => {
             emit_expr(code, methods, texts, key)?;
-            emit_exprs(code, methods, texts, args)?;
+            emit_exprs(code, methods, texts, given)?;
             put(code, Instr::Tick, expr.at)?;
             put(code, Instr::CallDown(*class, *method), expr.at)
         }

@@ -166,13 +166,13 @@ fn emit_loop(
     ensures { let n = length code.old.items in
         OnOk result (code.new.items ≡ code.old.items ++ wrapped (while_code n at (test_code counter at) (turn_code counter at (steps_code methods.now texts.now (block_at n) (steps_in body.now))))) }
 {
-    let start = code.len();
+    let first = code.len();
     emit_test(code, counter, at)?;
     let test_end = code.len();
     put(code, Instr::JumpFalse(0), at)?;
     put(code, Instr::Tick, at)?;
     emit_turn(code, methods, texts, counter, body, at)?;
-    put(code, Instr::Jump(target(start)), at)?;
+    put(code, Instr::Jump(target(first)), at)?;
     let end = code.len();
     patch(code, test_end, Instr::JumpFalse(target(end)), at);
     Ok(())

@@ -85,7 +85,7 @@ emit_expr-returns-in_ok-put-in-Child t c =
     let at = c.args.expr.now.at in
     let base = c.args.code.now.items in
     let key = tree_of c.in-Child.key.value in
-    let ts = trees_of (map tree_of c.in-Child.args.items) in
+    let ts = trees_of (map tree_of c.in-Child.given.items) in
     let c1 = c.emit_expr-in-Child.new.code.items in
     let ck = tree_code m x (length base) key in
     on_ok _ _ c.put-in-Child-2.result (λ g.
@@ -95,7 +95,7 @@ emit_expr-returns-in_ok-put-in-Child t c =
     (c.in_ok-emit_exprs-in-Child.ensures ∙ ap (λ es. c1 ++ wrapped (trees_code m x (length c1) (trees_of (map tree_of es)))) c.deref-in-Child-2.ensures.value))
     c.in_ok-put-in-Child.ensures g
     ∙ ap (λ l. base ++ wrapped l) (append_assoc ck (trees_code m x (length base + length ck) ts) (line i.Tick at ∷ line (i.CallDown c.in-Child.class c.in-Child.method) at ∷ []))
-    ∙ ap (λ e. base ++ wrapped (tree_code m x (length base) e)) (sym (ap (λ n. node_tree n at) c.in-Child.is ∙ child_node c.in-Child.class c.in-Child.method c.in-Child.key c.in-Child.args at)))
+    ∙ ap (λ e. base ++ wrapped (tree_code m x (length base) e)) (sym (ap (λ n. node_tree n at) c.in-Child.is ∙ child_node c.in-Child.class c.in-Child.method c.in-Child.key c.in-Child.given at)))
     c.put-in-Child-2.ensures
 
 pub emit_exprs-exprs-preserved : goal.emit_exprs-exprs-preserved

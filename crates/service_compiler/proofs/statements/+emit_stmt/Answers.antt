@@ -22,8 +22,8 @@ emit_loop-returns t c =
     let c5 = c.put-3.new.code.items in
     c.patch.ensures
     ∙ ap (λ t. slice_set c5 c.len-test_end.result (line (i.JumpFalse t) at)) c.target-2.ensures
-    ∙ while_emitted base c.emit_test.new.code.items c.put.new.code.items c3 c4 c5 (test_code c.args.counter at) (λ n. turn_code c.args.counter at (steps_code m x (n + 1 + 1) (steps_in c.args.body.now))) _ at c.len-start.result c.len-test_end.result c.len-end.result
-    (c.len-start.ensures ∙ c.args.code.now.ok.0)
+    ∙ while_emitted base c.emit_test.new.code.items c.put.new.code.items c3 c4 c5 (test_code c.args.counter at) (λ n. turn_code c.args.counter at (steps_code m x (n + 1 + 1) (steps_in c.args.body.now))) _ at c.len-first.result c.len-test_end.result c.len-end.result
+    (c.len-first.ensures ∙ c.args.code.now.ok.0)
     c.in_ok-emit_test.ensures
     (c.len-test_end.ensures ∙ c.emit_test.new.code.ok.0)
     c.in_ok-put.ensures c.in_ok-put-2.ensures c.in_ok-emit_turn.ensures
