@@ -167,7 +167,7 @@ refuses shape service (CodeTooLong k size) h = record {
 -- ---- all of a program, made from what a service has
 
 module _ (shape : Shape) (service : Resolved) (start : List Function) (methods : List Method) (texts : List Text) (infos : List EventInfo) (events : List Event)
-  (none : start ≡ []) (methods_are : methods ≡ service.methods) (texts_are : texts ≡ service_texts service) (infos_are : infos ≡ shape.events) (events_are : events ≡ service.events) where
+    (none : start ≡ []) (methods_are : methods ≡ service.methods) (texts_are : texts ≡ service_texts service) (infos_are : infos ≡ shape.events) (events_are : events ≡ service.events) where
   abbrev first : List Function
   first = map (method_function methods texts) methods
 

@@ -131,8 +131,16 @@ module _ (methods : List Method) (texts : List Text) where
         let w = loop_at n (length cf) (length ct) in
         let cb = steps_code methods texts (block_at w) body in
         let cw = while_code w at (test_code counter at) (turn_code counter at cb) in
-        omega (arith, line_long cf (ct ++ line (i.Store (counter + 1)) at ∷ cw) (line (i.Store counter) at), line_long ct cw (line (i.Store (counter + 1)) at),
-        while_long w at (test_code counter at) (turn_code counter at cb), turn_long counter at cb, tree_within from n, tree_within to m, steps_within body (block_at w))
+        omega (
+          arith,
+          line_long cf (ct ++ line (i.Store (counter + 1)) at ∷ cw) (line (i.Store counter) at),
+          line_long ct cw (line (i.Store (counter + 1)) at),
+          while_long w at (test_code counter at) (turn_code counter at cb),
+          turn_long counter at cb,
+          tree_within from n,
+          tree_within to m,
+          steps_within body (block_at w),
+        )
     step_within (Require at e) n = omega (arith, one_long (tree_code methods texts n e) (line i.Require at), tree_within e n)
     step_within (Send at label e) n = omega (arith, one_long (tree_code methods texts n e) (line (i.Send (place_of_text texts label)) at), tree_within e n)
     step_within (Spawn at event args) n = omega (arith, one_long (trees_code methods texts n args) (line (i.Spawn event) at), trees_within args n)

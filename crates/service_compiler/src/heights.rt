@@ -108,12 +108,16 @@ fn expr_height(methods: &[Method], expr: &Expr) -> u16
         Node::Const(_) | Node::Local(_) | Node::Field(_) | Node::Above(_, _) => 1,
         Node::Op(_, args) => exprs_height(methods, args).max(1),
         Node::And(left, right) | Node::Or(left, right) => {
-            expr_height(methods, left).max(expr_height(methods, right)).max(1)
+            expr_height(methods, left)
+                .max(expr_height(methods, right))
+                .max(1)
         }
         Node::Call(_, args) => exprs_height(methods, args).max(left(leaves(methods, expr))),
         Node::Child(_, _, key, args) => {
             let given = exprs_height(methods, args).saturating_add(1);
-            expr_height(methods, key).max(given).max(left(leaves(methods, expr)))
+            expr_height(methods, key)
+                .max(given)
+                .max(left(leaves(methods, expr)))
         }
     }
 }

@@ -2,20 +2,20 @@
 #![tactic(auto)]
 
 mod collect;
-mod program;
 mod emit;
 mod error;
 mod functions;
 mod heights;
+mod program;
 mod statements;
 mod texts;
 mod whole;
 
 pub use collect::texts_of_service;
-pub use program::compile;
 pub use emit::{emit_expr, emit_exprs};
 pub use error::CompileError;
 pub use functions::{emit_event, emit_method};
+pub use program::compile;
 pub use statements::{emit_stmts, leaves};
 pub use texts::Texts;
 

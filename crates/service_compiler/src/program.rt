@@ -30,7 +30,14 @@ pub fn compile(alloc: Global, shape: Shape, service: &Resolved) -> Result<Progra
     }
     let mut functions = Vec::new(alloc);
     add_methods(alloc, &mut functions, methods, &texts)?;
-    add_events(alloc, &mut functions, methods, &texts, shape.events.as_slice(), events)?;
+    add_events(
+        alloc,
+        &mut functions,
+        methods,
+        &texts,
+        shape.events.as_slice(),
+        events,
+    )?;
     let numbers = numbers(alloc, methods.len() as u16, events.len() as u16)?;
     let texts = texts.to_seq(alloc)?;
     Ok(Program {

@@ -13,8 +13,15 @@ add_event-requires-clause-few c =
     let is = take k c.args.infos.now in
     let es = take k c.args.events.now in
     let made = event_functions c.args.methods.now c.args.texts.now is es in
-    omega (arith, ap length c.loop-info.invariant.is, length-append c.args.functions.now.items made, events_few c.args.methods.now c.args.texts.now is es, length-take k c.args.events.now, c.requires.few,
-    (zip_turn c.args.infos.now c.args.events.now c.loop-info.yielded _ c.loop-info.info-iterator c.next.new.self c.next.result (cc) (cc) c.loop-info.yielded_by (c.in-Some.info, c.in-Some.event) c.in-Some.is c.next.ensures.steps).1)
+    omega (
+      arith,
+      ap length c.loop-info.invariant.is,
+      length-append c.args.functions.now.items made,
+      events_few c.args.methods.now c.args.texts.now is es,
+      length-take k c.args.events.now,
+      c.requires.few,
+      (zip_turn c.args.infos.now c.args.events.now c.loop-info.yielded _ c.loop-info.info-iterator c.next.new.self c.next.result (cc) (cc) c.loop-info.yielded_by (c.in-Some.info, c.in-Some.event) c.in-Some.is c.next.ensures.steps).1,
+    )
 
 pub loop-info-preserved : goal.loop-info-preserved
 loop-info-preserved c =
