@@ -1,6 +1,6 @@
 -- Functions one after the other, and the first of them that is too long.
-use Rattle.std.proofs.Common.{◌≡◌, ℕ, zero, suc, ◌+◌, ◌<◌, ◌≤◌, min, List, [], ◌∷◌, ◌++◌, length, map, take, drop, get_or, Some, None, Option, refl, sym, ap, ◌∙◌, subst, arith, append_assoc, length-append}
-use Rattle.std.specs.Prelude.{All, slice_get}
+use Rattle.std.proofs.Common.{◌≡◌, ℕ, zero, suc, ◌+◌, ◌<◌, ◌≤◌, min, List, [], ◌∷◌, ◌++◌, length, map, take, drop, get_or, Some, refl, sym, ap, ◌∙◌, subst, arith, append_assoc, length-append}
+use Rattle.std.specs.Prelude.{slice_get}
 use Rattle.std.proofs.lemmas.List.{length-map}
 use Rattle.std.proofs.lemmas.List.Elements.{All-push}
 use Rattle.wave_base.specs.declared.limits.TheConstants.{INSTRUCTIONS}
@@ -11,7 +11,7 @@ use Rattle.resolved_service.specs.declared.service.Method.{Method}
 use Rattle.resolved_service.specs.declared.service.Resolved.{Resolved}
 use Rattle.service_code.specs.declared.program.Function.{Function}
 use Rattle.code_scheme.specs.declared.line.Line.{Line}
-use Rattle.code_scheme.specs.Programs.{method_function, event_function, event_functions, numbers_from, functions_with, scheme_program, IsTooLong}
+use Rattle.code_scheme.specs.Programs.{method_function, event_function, event_functions, numbers_from, functions_with, scheme_program}
 use Rattle.code_scheme.specs.Scheme.{method_code, event_code}
 use Rattle.code_scheme.specs.Texts.{Text, service_texts}
 use Rattle.service_compiler.specs.declared.error.CompileError.{CompileError}

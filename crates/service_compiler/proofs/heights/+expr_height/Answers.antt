@@ -1,4 +1,4 @@
-use Rattle.std.proofs.Common.{◌≡◌, suc, max, map, take, sym, ap, ◌∙◌, arith}
+use Rattle.std.proofs.Common.{◌≡◌, suc, max, map, sym, ap, ◌∙◌, arith}
 use Rattle.resolved_service.specs.View.{node_tree, tree_of, trees_of}
 use Rattle.code_scheme.specs.Heights.{one_if, tree_height, trees_height}
 use Rattle.code_scheme.specs.Scheme.{leaves_value}

@@ -1,4 +1,4 @@
-use Rattle.std.proofs.Common.{◌≡◌, max, Some, None, refl, ap, ◌∙◌, arith}
+use Rattle.std.proofs.Common.{◌≡◌, max, refl, ap, ◌∙◌, arith}
 use Rattle.resolved_service.specs.declared.stmt.Action.TheVariants as action
 use Rattle.resolved_service.specs.Steps.{action_step, step_of, steps_in}
 use Rattle.resolved_service.specs.View.{tree_of}

@@ -1,6 +1,5 @@
 use Rattle.std.proofs.Common.{suc, ◌++◌, map, take, drop}
 use Rattle.code_scheme.specs.Programs.{method_function}
-use Rattle.code_scheme.specs.Scheme.{method_code}
 use Rattle.service_compiler.specs.Faults.{HasLong}
 use Rattle.service_compiler.proofs.FunctionLists.{map_at, method_long, one_behind, first_long}
 use Rattle.service_compiler.proofs.Notes.{err_same}

@@ -1,4 +1,4 @@
-use Rattle.std.proofs.Common.{◌≡◌, ◌<◌, ◌+◌, length, ap, refl, sym, ◌∙◌, subst, arith}
+use Rattle.std.proofs.Common.{◌≡◌, ◌<◌, length, refl, sym, subst, arith}
 use Rattle.code_scheme.specs.Programs.{numbers_from}
 use Rattle.service_compiler.specs.Faults.{AreShort, Refuses}
 use Rattle.service_compiler.proofs.FunctionLists.{methods_refused, events_refused, program_is, few_functions}

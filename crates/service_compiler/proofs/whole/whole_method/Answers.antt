@@ -1,4 +1,4 @@
-use Rattle.std.proofs.Common.{◌≡◌, ◌≤◌, true, false, length, map, ap, ◌∙◌, arith}
+use Rattle.std.proofs.Common.{◌≡◌, false, length, map, ap, ◌∙◌, arith}
 use Rattle.std.proofs.lemmas.List.{length-map}
 use Rattle.code_scheme.specs.declared.line.Line.{Line}
 use Rattle.code_scheme.specs.Scheme.{method_code}
