@@ -1,3 +1,5 @@
 pub mod Rows
 pub mod Levels
 pub mod Exprs
+pub mod Slots
+pub mod Simple
