@@ -3,3 +3,4 @@ pub mod Levels
 pub mod Exprs
 pub mod Slots
 pub mod Simple
+pub mod Blocks

@@ -85,15 +85,15 @@ module _ (h : Here) (methods : List Method) (locals : List Kind) (there : Declar
   pub any : (a : ExprTree) → first_wrong (demands h a) ≡ None → (kind : Kind) × (kind_of h a ≡ Some kind) × Has h methods locals (resolve h a) kind
   any a d = let x = kinded h a d in (x.0, x.1, expr_has h methods locals there levels named a d x.0 x.1)
 
-  require_is : (at : Span) (test : ExprTree) → first_wrong (demands h test ++ ask (has_kind (kind_of h test) k.Bool) (Mismatch at) ∷ []) ≡ None → Step (st.Require at (resolve h test))
+  pub require_is : (at : Span) (test : ExprTree) → first_wrong (demands h test ++ ask (has_kind (kind_of h test) k.Bool) (Mismatch at) ∷ []) ≡ None → Step (st.Require at (resolve h test))
   require_is at test d =
       let p = first_wrong_parts (demands h test) (ask (has_kind (kind_of h test) k.Bool) (Mismatch at) ∷ []) d in
       expr_has h methods locals there levels named test p.0 k.Bool (kind_is (kind_of h test) k.Bool (all_hold (ask (has_kind (kind_of h test) k.Bool) (Mismatch at) ∷ []) p.1).0)
 
-  send_is : (at : Span) (label : List ℕ) (value : ExprTree) → first_wrong (demands h value) ≡ None → Step (st.Send at label (resolve h value))
+  pub send_is : (at : Span) (label : List ℕ) (value : ExprTree) → first_wrong (demands h value) ≡ None → Step (st.Send at label (resolve h value))
   send_is at label value d = let x = any value d in (x.0, x.2)
 
-  spawn_is : (at : Span) (event : List ℕ) (args : List ExprTree) → first_wrong (spawn_demands h at event args) ≡ None → Step (st.Spawn at (or_zero (event_named h.known event)) (resolve_all h (exprs_of args)))
+  pub spawn_is : (at : Span) (event : List ℕ) (args : List ExprTree) → first_wrong (spawn_demands h at event args) ≡ None → Step (st.Spawn at (or_zero (event_named h.known event)) (resolve_all h (exprs_of args)))
   spawn_is at event args d = by (event_named h.known event) refl (all_hold (spawn_demands h at event args) d)
     where
       by : (o : Option ℕ) → event_named h.known event ≡ o
@@ -110,10 +110,10 @@ module _ (h : Here) (methods : List Method) (locals : List Kind) (there : Declar
   done_is at t (Some kind) c = inl (kind, c)
   done_is at t None c = inr c
 
-  call_step : (at : Span) (name : List ℕ) (es : ExprTrees) → first_wrong (call_demands h at name es) ≡ None → Step (st.Do at (call_tree at (called h name) (resolve_all h es)))
+  pub call_step : (at : Span) (name : List ℕ) (es : ExprTrees) → first_wrong (call_demands h at name es) ≡ None → Step (st.Do at (call_tree at (called h name) (resolve_all h es)))
   call_step at name es d = done_is at (call_tree at (called h name) (resolve_all h es)) (option_and_then (gives h.known) (called h name)) (call_is h methods locals there levels named at name es d)
 
-  child_step : (at : Span) (class : List ℕ) (key : ExprTree) (name : List ℕ) (es : ExprTrees) → first_wrong (child_demands h at class key name es) ≡ None → Step (st.Do at (child_tree h at class name (resolve h key) (resolve_all h es)))
+  pub child_step : (at : Span) (class : List ℕ) (key : ExprTree) (name : List ℕ) (es : ExprTrees) → first_wrong (child_demands h at class key name es) ≡ None → Step (st.Do at (child_tree h at class name (resolve h key) (resolve_all h es)))
   child_step at class key name es d = done_is at (child_tree h at class name (resolve h key) (resolve_all h es)) (child_gives h class name) (child_is h methods locals there levels named at class key name es d)
 
   -- ---- what is written
@@ -143,7 +143,7 @@ module _ (h : Here) (methods : List Method) (locals : List Kind) (there : Declar
   cut_has at (var.Local slot kind) key is m a = (is ∙ m, a)
   cut_has at (var.Field field kind) key is m a = (is ∙ m, a)
 
-  set_is : (at : Span) (target : Target) (key : Option ExprTree) (value : ExprTree) → first_wrong (set_demands h at target key value) ≡ None → Step (set_step at (target_variable h target) (option_map (resolve h) key) (resolve h value))
+  pub set_is : (at : Span) (target : Target) (key : Option ExprTree) (value : ExprTree) → first_wrong (set_demands h at target key value) ≡ None → Step (set_step at (target_variable h target) (option_map (resolve h) key) (resolve h value))
   set_is at target None value d =
       let p = first_wrong_parts (target_asks h at target) (demands_as h (kind_or_int (target_kind h target)) value) d in
       let x = target_is at target p.0 in
@@ -158,7 +158,7 @@ module _ (h : Here) (methods : List Method) (locals : List Kind) (there : Declar
       subst (λ o. Step (set_step at o (Some (resolve h key)) (resolve h value))) (sym x.1)
       (put_has at x.0 (resolve h key) (resolve h value) x.2 (ap (option_map variable_kind) (sym x.1) ∙ y.0) y.1 (of_this k.Int value q.1))
 
-  cut_is : (at : Span) (target : Target) (key : ExprTree) → first_wrong (target_asks h at target ++ key_demands h at (target_kind h target) key) ≡ None → Step (cut_step at (target_variable h target) (resolve h key))
+  pub cut_is : (at : Span) (target : Target) (key : ExprTree) → first_wrong (target_asks h at target ++ key_demands h at (target_kind h target) key) ≡ None → Step (cut_step at (target_variable h target) (resolve h key))
   cut_is at target key d =
       let p = first_wrong_parts (target_asks h at target) (key_demands h at (target_kind h target) key) d in
       let x = target_is at target p.0 in
