@@ -4,3 +4,4 @@ pub mod Exprs
 pub mod Slots
 pub mod Simple
 pub mod Blocks
+pub mod Functions
