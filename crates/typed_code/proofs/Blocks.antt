@@ -1,5 +1,5 @@
 -- Statements of a typed service, with their names resolved, are typed.
-use Rattle.std.proofs.Common.{◌≡◌, ℕ, ◌+◌, List, [], ◌∷◌, ◌++◌, length, slice_get, Option, Some, None, refl, sym, ap, subst, ◌∙◌}
+use Rattle.std.proofs.Common.{◌≡◌, ℕ, List, [], ◌∷◌, ◌++◌, Some, None, refl, sym, ap, subst, ◌∙◌}
 use Rattle.wave_base.specs.declared.shape.Shape.{Shape}
 use Rattle.wave_base.specs.declared.value.Kind.{Kind}
 use Rattle.wave_base.specs.declared.value.Kind.TheVariants as k
@@ -18,7 +18,7 @@ use Rattle.type_rules.proofs.First.{first_wrong_parts}
 use Rattle.typed_code.proofs.Exprs.{Declared, Named}
 use Rattle.typed_code.proofs.Levels.{LevelsAre}
 use Rattle.typed_code.proofs.Simple.{of_this, any, require_is, send_is, spawn_is, call_step, child_step, set_is, cut_is}
-use Rattle.typed_code.proofs.Slots.{Grows, grows_then, at_place, three_places, after_grows, after_all_grows, after_else_grows, after_named, declared_named}
+use Rattle.typed_code.proofs.Slots.{Grows, grows_then, at_place, three_places, after_all_grows, after_else_grows, after_named, declared_named}
 
 -- a place in a class and in a function, where this is declared
 pub record At (known : Known) (class function : ℕ) (h : Here) : Type 0 where
@@ -107,7 +107,9 @@ module _ (known : Known) (class function : ℕ) where
           let r = first_wrong_parts (local_asks h name 3) (stmts_demands start body) q.1 in
           let grown : Grows start.slots locals = grows_then start.slots (after_all start body).slots locals (after_all_grows start body) g in
           let slots = three_places h.slots k.Int k.Int k.Int locals grown in (
-            slots.0, slots.1, slots.2,
+            slots.0,
+            slots.1,
+            slots.2,
             tree_as h at named k.Int low p.0,
             tree_as h at named k.Int high q.0,
             stmts_are start (placed h start at refl refl refl) (declared_named locals pair name.text k.Int named grown) body g r.1,

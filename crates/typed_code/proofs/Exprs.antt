@@ -1,5 +1,5 @@
 -- Expressions of a typed service, with their names resolved, have their kinds.
-use Rattle.std.proofs.Common.{◌≡◌, ◌==◌, ◌&&◌, ℕ, suc, ◌+◌, ◌<◌, Bool, true, false, List, [], ◌∷◌, ◌++◌, length, map, get_or, slice_get, find, cond, if◌then◌else◌, Option, Some, None, is_some, option_and_then, refl, sym, ap, subst, ◌∙◌, arith}
+use Rattle.std.proofs.Common.{◌≡◌, ◌==◌, ◌&&◌, ℕ, ◌<◌, Bool, true, false, List, [], ◌∷◌, ◌++◌, length, map, slice_get, find, cond, if◌then◌else◌, Option, Some, None, is_some, option_and_then, refl, sym, ap, subst, ◌∙◌, arith}
 use Rattle.std.specs.Option.{option_map, option_map_or}
 use Rattle.std.proofs.lemmas.Bool.{eqb-true, ltb-true, and_parts}
 use Rattle.std.proofs.lemmas.List.{length-map}
@@ -16,7 +16,7 @@ use Rattle.mace_ast.specs.declared.expr.BinaryOp.{BinaryOp}
 use Rattle.mace_ast.specs.declared.expr.BinaryOp.TheVariants as op
 use Rattle.mace_ast.specs.Exprs as e
 use Rattle.mace_ast.specs.Exprs.{ExprTree, ExprTrees, no_exprs, expr_and}
-use Rattle.value_ops.specs.Operators.{takes_of, gives_of}
+use Rattle.value_ops.specs.Operators.{gives_of}
 use Rattle.value_ops.specs.Rows.{wave_rows, first_builtin}
 use Rattle.resolved_service.specs.declared.service.Method.{Method}
 use Rattle.resolved_service.specs.View as r
@@ -40,7 +40,7 @@ use Rattle.type_rules.proofs.First.{first_wrong_parts}
 use Rattle.type_laws.proofs.Sound.{AllHold, all_hold, none_wrong}
 use Rattle.type_laws.proofs.Trees.{absent}
 use Rattle.typed_code.proofs.Levels.{LevelsAre}
-use Rattle.typed_code.proofs.Rows.{kind_is, found_passes, one_row, two_row, builtin_within}
+use Rattle.typed_code.proofs.Rows.{kind_is, one_row, two_row, builtin_within}
 
 -- each method that is known is there, as it is declared
 abbrev pub Declared : Known → List Method → Type 0

@@ -1,7 +1,6 @@
 -- Methods and events of a typed service, with their names resolved, are typed.
-use Rattle.std.proofs.Common.{◌≡◌, ℕ, zero, suc, ◌+◌, ◌<◌, false, List, [], ◌∷◌, ◌++◌, length, map, slice_get, Option, Some, None, is_some, refl, sym, ap, subst, ◌∙◌, arith, append_assoc}
+use Rattle.std.proofs.Common.{◌≡◌, ℕ, ◌<◌, false, List, [], ◌∷◌, ◌++◌, length, map, Option, Some, None, is_some, refl, sym, ap, subst, ◌∙◌, append_assoc}
 use Rattle.std.specs.Option.{option_map, option_map_or}
-use Rattle.wave_base.specs.declared.shape.EventInfo.{EventInfo}
 use Rattle.wave_base.specs.declared.span.Span.{Span}
 use Rattle.wave_base.specs.declared.value.Kind.{Kind}
 use Rattle.wave_base.specs.declared.value.Kind.TheVariants as k
@@ -19,9 +18,9 @@ use Rattle.type_rules.specs.declared.known.Known.{Known}
 use Rattle.type_rules.specs.declared.error.TypeError.TheVariants.{UnknownName, Mismatch, MissingReply, NotDownward}
 use Rattle.type_rules.specs.Demands.{ask, first_wrong}
 use Rattle.type_rules.specs.Known.{kinds_of, class_named, event_info}
-use Rattle.type_rules.specs.Here.{Here, start, declared, in_class, is_child}
+use Rattle.type_rules.specs.Here.{Here, start, declared, is_child}
 use Rattle.type_rules.specs.Exprs.{or_zero, class_asks, demands_as}
-use Rattle.type_rules.specs.Stmts.{after_all, stmts_demands}
+use Rattle.type_rules.specs.Stmts.{stmts_demands}
 use Rattle.type_rules.specs.Functions.{LastView, MethodView, PhaseView, EventView, after_params, method_params_demands, event_params_demands, last_demands, resolve_last, method_start, method_end, method_demands, resolve_method, event_start, here_stmts, here_end, inside, phase_end, event_end, phase_demands, phases_demands, event_demands, resolve_phase, resolve_phases, resolve_event}
 use Rattle.type_rules.specs.Views.{last_view, method_view, phase_view, event_view}
 use Rattle.type_rules.proofs.First.{first_wrong_parts}
@@ -30,7 +29,7 @@ use Rattle.type_laws.proofs.Trees.{absent}
 use Rattle.typed_code.proofs.Blocks.{At, placed, after_all_at, tree_as, stmts_are}
 use Rattle.typed_code.proofs.Exprs.{Declared, Named}
 use Rattle.typed_code.proofs.Levels.{LevelsAre}
-use Rattle.typed_code.proofs.Slots.{Grows, grows_none, grows_more, grows_then, after_all_grows, after_all_named, declared_named}
+use Rattle.typed_code.proofs.Slots.{Grows, grows_none, grows_then, after_all_grows, after_all_named, declared_named}
 
 -- ---- parameters have the first slots
 
@@ -146,9 +145,9 @@ module _ (known : Known) (methods : List Method) (there : Declared known methods
           subst (IsChild known.shape class) number (class_child class function h at p.at p.class b.0),
           subst (λ t. HasKind known.shape methods function locals class t k.Int) (sym (ap (λ (v : PhaseView). v.key) one)) (tree_as known class function methods locals there levels h at named k.Int p.key c.0),
           subst (λ m. AreTyped known.shape methods function locals m (steps_in x.body)) number
-          (subst (AreTyped known.shape methods function locals n) (sym (ap (λ (v : PhaseView). v.body) one)) (stmts_are known n function methods locals there levels (inside h p) below named (stmts_of p.body) grown c.1)),
+              (subst (AreTyped known.shape methods function locals n) (sym (ap (λ (v : PhaseView). v.body) one)) (stmts_are known n function methods locals there levels (inside h p) below named (stmts_of p.body) grown c.1)),
           subst (λ m. AreTypedPhases known.shape methods function locals m fs result l) number
-          (phases_are n end (after_all_at known n function (inside h p) below (stmts_of p.body)) names ps g name result last fs l rest is a.1 f),
+              (phases_are n end (after_all_at known n function (inside h p) below (stmts_of p.body)) names ps g name result last fs l rest is a.1 f),
         )
 
   pub event_is : (n : ℕ) (e : EventTree) (made : Event) → length known.methods ≡ length methods → event_view made ≡ resolve_event known e → first_wrong (event_demands known n e) ≡ None → IsTypedEvent known.shape methods (event_info e) made

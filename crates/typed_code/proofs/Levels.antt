@@ -1,11 +1,10 @@
 -- The classes above a class are those that a path of the shape leads through.
-use Rattle.std.proofs.Common.{◌≡◌, ℕ, zero, suc, true, nat_le, ◌+◌, ◌<◌, ◌≤◌, List, [], ◌∷◌, ◌++◌, length, map, get_or, reverse, slice_get, ◌⊎◌, inl, inr, Option, Some, None, refl, sym, ap, ◌∙◌, arith, subst, length-append}
+use Rattle.std.proofs.Common.{◌≡◌, ℕ, zero, suc, true, nat_le, ◌+◌, ◌<◌, ◌≤◌, List, [], ◌∷◌, ◌++◌, length, map, get_or, reverse, slice_get, ◌⊎◌, inl, inr, None, refl, sym, ap, ◌∙◌, arith, subst, length-append}
 use Rattle.std.specs.Option.{option_map}
 use Rattle.std.proofs.lemmas.List.{length-map, get_or-map, get_or_past, reverse-append}
 use Rattle.std.proofs.lemmas.Bool.{cases_lt, leb-true}
 use Rattle.std.proofs.lemmas.Option.{slice_get-get_or, slice_get-map, slice_get_past}
 use Rattle.wave_base.specs.declared.limits.TheConstants.{CLASS_DEPTH}
-use Rattle.wave_base.specs.declared.path.Class.{Class}
 use Rattle.wave_base.specs.declared.shape.Shape.{Shape}
 use Rattle.wave_base.specs.Shapes.{parent_in, parent_class}
 use Rattle.mace_ast.specs.Decls.{ServiceTree}
@@ -14,7 +13,7 @@ use Rattle.type_rules.specs.declared.known.Known.{Known}
 use Rattle.type_rules.specs.Known.{Entry, above_of, service_classes, shape_of, known_of}
 use Rattle.type_rules.specs.Services.{IsTyped}
 use Rattle.type_laws.proofs.Classes.{blank, Under, service_under}
-use Rattle.type_laws.proofs.Sound.{Sound, parts, classes_sound}
+use Rattle.type_laws.proofs.Sound.{parts, classes_sound}
 
 -- of each class
 abbrev pub LevelsAre : Known → Type 0

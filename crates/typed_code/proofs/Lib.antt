@@ -5,3 +5,4 @@ pub mod Slots
 pub mod Simple
 pub mod Blocks
 pub mod Functions
+pub mod Services

@@ -1,5 +1,5 @@
 -- Kinds that are the same, and the rows of the operator table that take given kinds.
-use Rattle.std.proofs.Common.{◌≡◌, ◌&&◌, ℕ, zero, suc, ◌+◌, ◌<◌, ◌≤◌, Bool, true, false, cond, ◌⊎◌, inl, inr, List, [], ◌∷◌, length, find, Option, Some, None, refl, sym, ap, ◌∙◌, arith}
+use Rattle.std.proofs.Common.{◌≡◌, ℕ, ◌<◌, ◌≤◌, Bool, true, false, cond, ◌⊎◌, inl, inr, List, [], ◌∷◌, length, find, Option, Some, None, refl, sym, ap, ◌∙◌, arith}
 use Rattle.std.specs.Cmp.Lexicographic.{pointwise}
 use Rattle.std.proofs.lemmas.Bool.{and_parts, cases_lt}
 use Rattle.std.proofs.lemmas.List.{get_or_past}
@@ -8,7 +8,7 @@ use Rattle.wave_base.specs.declared.operators.TheConstants.{OPERATORS}
 use Rattle.wave_base.specs.declared.value.Kind.{Kind}
 use Rattle.wave_base.specs.declared.value.Kind.TheVariants as k
 use Rattle.value_ops.specs.Operators.{Operator, operators, no_operator, takes_of}
-use Rattle.value_ops.specs.Rows.{Row, wave_rows, named, first_builtin, is_builtin}
+use Rattle.value_ops.specs.Rows.{wave_rows, named, first_builtin, is_builtin}
 use Rattle.wave_base.specs.Operators.{operator_names}
 use Rattle.type_rules.specs.Kinds.{same_kind, has_kind, takes_kinds, row_of_one, row_of_two}
 

@@ -1,8 +1,8 @@
 -- Statements without blocks, of a typed service, with their names resolved, are typed.
-use Rattle.std.proofs.Common.{◌≡◌, ◌==◌, ℕ, ◌+◌, ◌<◌, ◌⊎◌, inl, inr, Bool, true, false, List, [], ◌∷◌, ◌++◌, length, map, get_or, slice_get, Option, Some, None, is_some, option_and_then, refl, sym, ap, subst, ◌∙◌, arith}
+use Rattle.std.proofs.Common.{◌≡◌, ◌==◌, ℕ, inl, inr, true, List, [], ◌∷◌, ◌++◌, length, get_or, slice_get, Option, Some, None, is_some, option_and_then, refl, sym, ap, subst, ◌∙◌}
 use Rattle.std.specs.Option.{option_map, option_map_or}
 use Rattle.std.proofs.lemmas.Bool.{eqb-true}
-use Rattle.std.proofs.lemmas.List.{length-map, get_or-map}
+use Rattle.std.proofs.lemmas.List.{get_or-map}
 use Rattle.std.proofs.lemmas.List.Quantifiers.{position-Some}
 use Rattle.std.proofs.lemmas.Option.{slice_get-get_or}
 use Rattle.wave_base.specs.declared.shape.EventInfo.{EventInfo}
@@ -10,31 +10,29 @@ use Rattle.wave_base.specs.declared.span.Span.{Span}
 use Rattle.wave_base.specs.declared.value.Kind.{Kind}
 use Rattle.wave_base.specs.declared.value.Kind.TheVariants as k
 use Rattle.wave_base.specs.Names.{same_bytes}
-use Rattle.mace_ast.specs.declared.name.Name.{Name}
 use Rattle.mace_ast.specs.declared.stmt.Target.{Target}
 use Rattle.mace_ast.specs.Exprs as e
 use Rattle.mace_ast.specs.Exprs.{ExprTree, ExprTrees, exprs_of}
 use Rattle.resolved_service.specs.declared.service.Method.{Method}
-use Rattle.resolved_service.specs.View.{Tree, Trees}
-use Rattle.resolved_service.specs.View as r
+use Rattle.resolved_service.specs.View.{Tree}
 use Rattle.resolved_service.specs.Steps as st
-use Rattle.code_scheme.specs.Typed.{IsSilent, IsTypedStep}
-use Rattle.type_rules.specs.declared.error.TypeError.TheVariants.{UnknownName, ArgCount, Mismatch, NotDownward}
+use Rattle.code_scheme.specs.Typed.{IsTypedStep}
+use Rattle.type_rules.specs.declared.error.TypeError.TheVariants.{UnknownName, ArgCount, Mismatch}
 use Rattle.type_rules.specs.declared.known.Known.{Known}
 use Rattle.type_rules.specs.declared.meant.Variable.{Variable}
 use Rattle.type_rules.specs.declared.meant.Variable.TheVariants as var
-use Rattle.type_rules.specs.Demands.{Demand, ask, first_wrong}
+use Rattle.type_rules.specs.Demands.{ask, first_wrong}
 use Rattle.type_rules.specs.Kinds.{has_kind}
-use Rattle.type_rules.specs.Known.{class_named, event_named, event_params, level_of, field_named, field_kind}
-use Rattle.type_rules.specs.Here.{Here, variable, variable_kind, called, gives, kind_in}
-use Rattle.type_rules.specs.Exprs.{kind_of, resolve, resolve_all, or_zero, call_tree, child_tree, child_gives, above_asks, typed, of_kind, demands, args_demands, demands_as, call_demands, child_demands}
-use Rattle.type_rules.specs.Stmts.{kind_or_int, own_variable, target_variable, target_kind, own_asks, target_asks, key_demands, set_demands, spawn_takes, spawn_demands, set_step, cut_step}
+use Rattle.type_rules.specs.Known.{class_named, event_named, event_params, field_named, field_kind}
+use Rattle.type_rules.specs.Here.{Here, variable, variable_kind, called, gives}
+use Rattle.type_rules.specs.Exprs.{kind_of, resolve, resolve_all, or_zero, call_tree, child_tree, child_gives, above_asks, typed, demands, args_demands, demands_as, call_demands, child_demands}
+use Rattle.type_rules.specs.Stmts.{kind_or_int, own_variable, target_variable, target_kind, own_asks, target_asks, key_demands, set_demands, spawn_demands, set_step, cut_step}
 use Rattle.type_rules.proofs.First.{first_wrong_parts}
 use Rattle.type_laws.proofs.Sound.{AllHold, all_hold, none_wrong}
 use Rattle.type_laws.proofs.Trees.{absent, count_exprs}
 use Rattle.typed_code.proofs.Exprs.{Declared, Named, Has, Have, Calls, IsVariable, variable_is, expr_has, args_have, expr_as, call_is, child_is}
 use Rattle.typed_code.proofs.Levels.{LevelsAre}
-use Rattle.typed_code.proofs.Rows.{kind_is, kinds_same}
+use Rattle.typed_code.proofs.Rows.{kind_is}
 
 pub some_of : {A : Type 0} (o : Option A) → is_some o ≡ true → (x : A) × (o ≡ Some x)
 some_of None h = absurd (absent h)
