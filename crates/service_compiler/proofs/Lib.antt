@@ -7,3 +7,4 @@ pub mod Wrapping
 pub mod Fronting
 pub mod HeightLemmas
 pub mod FunctionLists
+pub mod Listed

@@ -9,6 +9,7 @@ mod heights;
 mod program;
 mod statements;
 mod texts;
+mod verified;
 mod whole;
 
 pub use collect::texts_of_service;
@@ -18,6 +19,7 @@ pub use functions::{emit_event, emit_method};
 pub use program::compile;
 pub use statements::{emit_stmts, leaves};
 pub use texts::Texts;
+pub use verified::compile_verified;
 
 #[cfg(test)]
 mod tests;
