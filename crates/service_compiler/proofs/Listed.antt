@@ -1,5 +1,5 @@
 -- A program that is fit and verified can be listed.
-use Rattle.std.proofs.Common.{◌≡◌, ℕ, suc, ◌<◌, Bool, true, false, nat_lt, List, [], ◌∷◌, length, All, get_or, Option, Some, None, Ok, Err, Result, refl, arith}
+use Rattle.std.proofs.Common.{◌≡◌, ℕ, suc, ◌<◌, Bool, true, false, nat_lt, List, [], ◌∷◌, All, get_or, Option, Some, None, Ok, Err, refl}
 use Rattle.std.specs.Prelude.{slice_get}
 use Rattle.std.specs.List.{AllByRecursion}
 use Rattle.std.proofs.lemmas.Bool.{ltb-true}
@@ -16,8 +16,8 @@ use Rattle.service_code.specs.Listing.{CanList}
 use Rattle.service_verify.specs.declared.error.Rule.TheVariants as rule
 use Rattle.service_verify.specs.declared.point.Point.{Point}
 use Rattle.service_verify.specs.Fit.{IsFit}
-use Rattle.service_verify.specs.Points.{Table, Fault, kept_stack, arrivals, visited_then, first_table, point_after, visit, judged_from, judged_function, IsVerified}
-use Rattle.service_verify.specs.Rules.{Judged, Effect, found, must, judged_then, operands, effect_of, left_below, next_of}
+use Rattle.service_verify.specs.Points.{Table, arrivals, visited_then, first_table, point_after, visit, judged_from, judged_function, IsVerified}
+use Rattle.service_verify.specs.Rules.{Judged, Effect, found, must, judged_then, operands, effect_of, next_of}
 
 then_ok : {A B : Type 0} (a : Judged A) (go : A → Judged B) (b : B) → judged_then a go ≡ Ok b → (x : A) × (a ≡ Ok x)
 then_ok (Ok x) go b h = (x, refl)
