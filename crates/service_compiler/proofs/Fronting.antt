@@ -1,0 +1,86 @@
+-- The phases of an event, one after the other.
+use Rattle.std.proofs.Common.{◌≡◌, ℕ, ◌+◌, ◌<◌, List, [], ◌∷◌, ◌++◌, length, take, get_or, Option, refl, sym, ap, ◌∙◌, arith, append_assoc, length-append}
+use Rattle.wave_base.specs.declared.span.Span.{Span}
+use Rattle.resolved_service.specs.declared.service.Event.{Event}
+use Rattle.resolved_service.specs.declared.service.Last.{Last}
+use Rattle.resolved_service.specs.declared.service.Method.{Method}
+use Rattle.resolved_service.specs.declared.service.Phase.{Phase}
+use Rattle.resolved_service.specs.Steps.{steps_in}
+use Rattle.resolved_service.specs.View.{tree_of}
+use Rattle.service_code.specs.declared.instr.Instr.TheVariants as i
+use Rattle.code_scheme.specs.declared.line.Line.{Line}
+use Rattle.code_scheme.specs.Scheme.{line, tree_code, steps_code, return_code, reply_code, phases_code, method_code, event_code}
+use Rattle.code_scheme.specs.Texts.{Text}
+use Rattle.service_compiler.specs.Fronts.{phase_code, phases_front}
+use Rattle.service_compiler.specs.Wrapped.{wrapped}
+use Rattle.service_compiler.proofs.Emits.{emits_then, emits_one}
+use Rattle.service_compiler.proofs.Notes.{item_more}
+
+module _ (methods : List Method) (texts : List Text) where
+  front_push : (fs : List Phase) (f : Phase) (n : ℕ) → phases_front methods texts n (fs ++ f ∷ []) ≡ phases_front methods texts n fs ++ phase_code methods texts (n + length (phases_front methods texts n fs)) f
+  front_push [] f n = let e : n ≡ n + 0 = omega arith in none (phase_code methods texts n f) ∙ ap (λ m. phase_code methods texts m f) e
+    where
+      none : (l : List Line) → l ++ [] ≡ l
+      none [] = refl
+      none (y ∷ l) = ap (λ m. y ∷ m) (none l)
+  front_push (g ∷ fs) f n =
+      let cg = phase_code methods texts n g in
+      let cs = phases_front methods texts (n + length cg) fs in
+      let e : n + length cg + length cs ≡ n + length (cg ++ cs) = omega (arith, length-append cg cs) in
+      ap (λ l. cg ++ l) (front_push fs f (n + length cg))
+      ∙ sym (append_assoc cg cs (phase_code methods texts (n + length cg + length cs) f))
+      ∙ ap (λ m. (cg ++ cs) ++ phase_code methods texts m f) e
+
+  pub phases_next : (fs : List Phase) (k : ℕ) (f : Phase) → k < length fs → f ≡ get_or fs k f → (base c1 c2 : List Line) → c1 ≡ base ++ wrapped (phases_front methods texts (length base) (take k fs)) → c2 ≡ c1 ++ wrapped (phase_code methods texts (length c1) f) →
+      c2 ≡ base ++ wrapped (phases_front methods texts (length base) (take (k + 1) fs))
+  phases_next fs k f lt at base c1 c2 e1 e2 =
+      emits_then base c1 c2 (λ n. phases_front methods texts n (take k fs)) (λ n. phase_code methods texts n f) e1 e2
+      ∙ ap (λ l. base ++ wrapped l) (sym (front_push (take k fs) f (length base)) ∙ ap (phases_front methods texts (length base)) (sym (item_more fs k f lt at)))
+
+  -- a key, the way down, and the block
+  pub phase_emitted : (base c1 c2 c3 : List Line) (f : Phase) → c1 ≡ base ++ wrapped (tree_code methods texts (length base) (tree_of f.key)) → c2 ≡ c1 ++ line (i.Go f.class) f.at ∷ [] → c3 ≡ c2 ++ wrapped (steps_code methods texts (length c2) (steps_in f.body)) →
+      c3 ≡ base ++ wrapped (phase_code methods texts (length base) f)
+  phase_emitted base c1 c2 c3 f e1 e2 e3 =
+      let ck = tree_code methods texts (length base) (tree_of f.key) in
+      let l = line (i.Go f.class) f.at in
+      let e : length base + length (ck ++ l ∷ []) ≡ length base + length ck + 1 = omega (arith, length-append ck (l ∷ [])) in
+      emits_then base c2 c3 (λ n. tree_code methods texts n (tree_of f.key) ++ l ∷ []) (λ n. steps_code methods texts n (steps_in f.body)) (emits_one base c1 c2 (λ n. tree_code methods texts n (tree_of f.key)) l refl e1 e2) e3
+      ∙ ap (λ m. base ++ wrapped ((ck ++ l ∷ []) ++ steps_code methods texts m (steps_in f.body))) e
+      ∙ ap (λ x. base ++ wrapped x) (append_assoc ck (l ∷ []) (steps_code methods texts (length base + length ck + 1) (steps_in f.body)))
+
+  -- all phases, and the reply
+  whole_front : (fs : List Phase) (n : ℕ) (at : Span) (last : Option Last) → phases_front methods texts n fs ++ reply_code methods texts (n + length (phases_front methods texts n fs)) at last ≡ phases_code methods texts n fs at last
+  whole_front [] n at last = let e : n + 0 ≡ n = omega arith in ap (λ m. reply_code methods texts m at last) e
+  whole_front (f ∷ fs) n at last =
+      let ck = tree_code methods texts n (tree_of f.key) in
+      let cb = steps_code methods texts (n + length ck + 1) (steps_in f.body) in
+      let l = line (i.Go f.class) f.at in
+      let cf = ck ++ l ∷ cb in
+      let cs = phases_front methods texts (n + length cf) fs in
+      let p : n + length cf ≡ n + length ck + 1 + length cb = omega (arith, length-append ck (l ∷ cb)) in
+      let e : n + length (cf ++ cs) ≡ n + length cf + length cs = omega (arith, length-append cf cs) in
+      ap (λ m. (cf ++ cs) ++ reply_code methods texts m at last) e
+      ∙ append_assoc cf cs (reply_code methods texts (n + length cf + length cs) at last)
+      ∙ ap (λ x. cf ++ x) (whole_front fs (n + length cf) at last ∙ ap (λ m. phases_code methods texts m fs at last) p)
+      ∙ append_assoc ck (l ∷ cb) (phases_code methods texts (n + length ck + 1 + length cb) fs at last)
+
+  pub method_emitted : (c0 c1 c2 : List Line) (m : Method) → c0 ≡ [] → c1 ≡ c0 ++ wrapped (steps_code methods texts (length c0) (steps_in m.body)) → c2 ≡ c1 ++ wrapped (return_code methods texts (length c1) m.at m.last) → c2 ≡ wrapped (method_code methods texts m)
+  unfolding method_code
+  method_emitted c0 c1 c2 m e0 e1 e2 =
+      let cb = steps_code methods texts 0 (steps_in m.body) in
+      let e1' : c1 ≡ [] ++ wrapped cb = e1 ∙ ap (λ c. c ++ wrapped (steps_code methods texts (length c) (steps_in m.body))) e0 in
+      let n : 0 + length cb ≡ length cb = omega arith in
+      emits_then [] c1 c2 (λ k. cb) (λ k. return_code methods texts k m.at m.last) e1' e2
+      ∙ ap (λ k. wrapped (cb ++ return_code methods texts k m.at m.last)) n
+
+  pub event_emitted : (c0 c1 c2 c3 : List Line) (x : Event) → c0 ≡ [] → c1 ≡ c0 ++ wrapped (steps_code methods texts (length c0) (steps_in x.here)) → c2 ≡ c1 ++ wrapped (phases_front methods texts (length c1) x.phases) → c3 ≡ c2 ++ wrapped (reply_code methods texts (length c2) x.at x.last) → c3 ≡ wrapped (event_code methods texts x)
+  unfolding event_code
+  event_emitted c0 c1 c2 c3 x e0 e1 e2 e3 =
+      let cb = steps_code methods texts 0 (steps_in x.here) in
+      let e1' : c1 ≡ [] ++ wrapped cb = e1 ∙ ap (λ c. c ++ wrapped (steps_code methods texts (length c) (steps_in x.here))) e0 in
+      let n : 0 + length cb ≡ length cb = omega arith in
+      let e23 : c3 ≡ c1 ++ wrapped (phases_code methods texts (length c1) x.phases x.at x.last) =
+      emits_then c1 c2 c3 (λ k. phases_front methods texts k x.phases) (λ k. reply_code methods texts k x.at x.last) e2 e3
+      ∙ ap (λ l. c1 ++ wrapped l) (whole_front x.phases (length c1) x.at x.last) in
+      emits_then [] c1 c3 (λ k. cb) (λ k. phases_code methods texts k x.phases x.at x.last) e1' e23
+      ∙ ap (λ k. wrapped (cb ++ phases_code methods texts k x.phases x.at x.last)) n

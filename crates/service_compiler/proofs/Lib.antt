@@ -1,0 +1,10 @@
+pub mod TextLemmas
+pub mod TreeRows
+pub mod Notes
+pub mod Emits
+pub mod Patches
+pub mod Wrapping
+pub mod Fronting
+pub mod HeightLemmas
+pub mod FunctionLists
+pub mod Listed

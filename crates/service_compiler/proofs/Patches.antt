@@ -1,0 +1,140 @@
+-- Jumps of statements, written after what they pass.
+use Rattle.std.proofs.Common.{◌≡◌, ℕ, zero, suc, ◌+◌, ◌<◌, List, [], ◌∷◌, ◌++◌, length, take, get_or, refl, sym, ap, ap₂, ◌∙◌, arith, append_assoc, length-append}
+use Rattle.std.specs.Prelude.{slice_set}
+use Rattle.std.proofs.Math.Seq.{set-append_seam}
+use Rattle.wave_base.specs.declared.span.Span.{Span}
+use Rattle.resolved_service.specs.declared.service.Method.{Method}
+use Rattle.resolved_service.specs.declared.stmt.Stmt.{Stmt}
+use Rattle.resolved_service.specs.Steps.{step_of, steps_in}
+use Rattle.service_code.specs.declared.instr.Instr.TheVariants as i
+use Rattle.code_scheme.specs.declared.line.Line.{Line}
+use Rattle.code_scheme.specs.Scheme.{line, if_code, else_code, while_code, loop_at, step_code, steps_code}
+use Rattle.code_scheme.specs.Texts.{Text}
+use Rattle.service_compiler.specs.Wrapped.{wrap, wrap_line, wrapped}
+use Rattle.service_compiler.proofs.Emits.{wrapped-append, wrapped-length, long_after, emits_then}
+use Rattle.service_compiler.proofs.Notes.{item_more}
+
+set_long : (xs : List Line) (n : ℕ) (y : Line) → length (slice_set xs n y) ≡ length xs
+set_long [] n y = refl
+set_long (x ∷ xs) zero y = refl
+set_long (x ∷ xs) (suc n) y = ap suc (set_long xs n y)
+
+pub if_emitted : (base c1 c2 c3 : List Line) (ct : List Line) (ca : ℕ → List Line) (x : Line) (at : Span) (test end : ℕ) → c1 ≡ base ++ wrapped ct → test ≡ length c1 → c2 ≡ c1 ++ x ∷ [] → c3 ≡ c2 ++ wrapped (ca (length c2)) → end ≡ length c3 →
+    slice_set c3 test (line (i.JumpFalse (wrap end)) at) ≡ base ++ wrapped (if_code (length base) at ct (ca (length base + length ct + 1)))
+if_emitted base c1 c2 c3 ct ca x at test end e1 m1 e2 e3 m3 =
+    let n = length base in
+    let l1 = long_after base c1 ct e1 in
+    let l2 : length c2 ≡ n + length ct + 1 = omega (arith, ap length e2, length-append c1 (x ∷ []), l1) in
+    let b = ca (n + length ct + 1) in
+    let e3' : c3 ≡ c2 ++ wrapped b = e3 ∙ ap (λ k. c2 ++ wrapped (ca k)) l2 in
+    let l3 = long_after c2 c3 b e3' in
+    let s : end ≡ n + length ct + 1 + length b = omega (arith, m3, l3, l2) in
+    let all : c3 ≡ c1 ++ x ∷ wrapped b = e3' ∙ ap (λ c. c ++ wrapped b) e2 ∙ append_assoc c1 (x ∷ []) (wrapped b) in
+    ap₂ (λ c k. slice_set c k (line (i.JumpFalse (wrap end)) at)) all m1
+    ∙ set-append_seam c1 x (wrapped b) (line (i.JumpFalse (wrap end)) at)
+    ∙ (λ j. e1 j ++ line (i.JumpFalse (wrap (s j))) at ∷ wrapped b)
+    ∙ append_assoc base (wrapped ct) (line (i.JumpFalse (wrap (n + length ct + 1 + length b))) at ∷ wrapped b)
+    ∙ ap (λ l. base ++ l) (sym (wrapped-append ct (line (i.JumpFalse (n + length ct + 1 + length b)) at ∷ b)))
+
+pub else_emitted : (base c1 c2 c3 c4 c5 : List Line) (ct : List Line) (ca cb : ℕ → List Line) (x y : Line) (at : Span) (test skip end : ℕ) → c1 ≡ base ++ wrapped ct → test ≡ length c1 → c2 ≡ c1 ++ x ∷ [] → c3 ≡ c2 ++ wrapped (ca (length c2)) → skip ≡ length c3 → c4 ≡ c3 ++ y ∷ [] → c5 ≡ c4 ++ wrapped (cb (length c4)) → end ≡ length c5 →
+    slice_set (slice_set c5 test (line (i.JumpFalse (wrap (skip + 1))) at)) skip (line (i.Jump (wrap end)) at) ≡ base ++ wrapped (else_code (length base) at ct (ca (length base + length ct + 1)) (cb (length base + length ct + 1 + length (ca (length base + length ct + 1)) + 1)))
+else_emitted base c1 c2 c3 c4 c5 ct ca cb x y at test skip end e1 m1 e2 e3 m3 e4 e5 m5 =
+    let n = length base in
+    let l1 = long_after base c1 ct e1 in
+    let l2 : length c2 ≡ n + length ct + 1 = omega (arith, ap length e2, length-append c1 (x ∷ []), l1) in
+    let a = ca (n + length ct + 1) in
+    let e3' : c3 ≡ c2 ++ wrapped a = e3 ∙ ap (λ k. c2 ++ wrapped (ca k)) l2 in
+    let l3 = long_after c2 c3 a e3' in
+    let l4 : length c4 ≡ n + length ct + 1 + length a + 1 = omega (arith, ap length e4, length-append c3 (y ∷ []), l3, l2) in
+    let b = cb (n + length ct + 1 + length a + 1) in
+    let e5' : c5 ≡ c4 ++ wrapped b = e5 ∙ ap (λ k. c4 ++ wrapped (cb k)) l4 in
+    let l5 = long_after c4 c5 b e5' in
+    let j1 = line (i.JumpFalse (wrap (skip + 1))) at in
+    let j2 = line (i.Jump (wrap end)) at in
+    let s1 : skip + 1 ≡ n + length ct + 1 + length a + 1 = omega (arith, m3, l3, l2) in
+    let s2 : end ≡ n + length ct + 1 + length a + 1 + length b = omega (arith, m5, l5, l4) in
+    let all : c5 ≡ c1 ++ x ∷ (wrapped a ++ y ∷ wrapped b) =
+    e5' ∙ ap (λ c. c ++ wrapped b) (e4 ∙ ap (λ c. c ++ y ∷ []) (e3' ∙ ap (λ c. c ++ wrapped a) e2))
+    ∙ append_assoc ((c1 ++ x ∷ []) ++ wrapped a) (y ∷ []) (wrapped b)
+    ∙ append_assoc (c1 ++ x ∷ []) (wrapped a) (y ∷ wrapped b)
+    ∙ append_assoc c1 (x ∷ []) (wrapped a ++ y ∷ wrapped b) in
+    let k : skip ≡ length (c1 ++ j1 ∷ wrapped a) = omega (arith, m3, l3, l2, l1, length-append c1 (j1 ∷ wrapped a), wrapped-length a) in
+    ap (λ c. slice_set c skip j2) (ap₂ (λ c k. slice_set c k j1) all m1 ∙ set-append_seam c1 x (wrapped a ++ y ∷ wrapped b) j1 ∙ sym (append_assoc c1 (j1 ∷ wrapped a) (y ∷ wrapped b)))
+    ∙ ap (λ k. slice_set ((c1 ++ j1 ∷ wrapped a) ++ y ∷ wrapped b) k j2) k
+    ∙ set-append_seam (c1 ++ j1 ∷ wrapped a) y (wrapped b) j2
+    ∙ append_assoc c1 (j1 ∷ wrapped a) (j2 ∷ wrapped b)
+    ∙ (λ j. e1 j ++ line (i.JumpFalse (wrap (s1 j))) at ∷ (wrapped a ++ line (i.Jump (wrap (s2 j))) at ∷ wrapped b))
+    ∙ append_assoc base (wrapped ct) _
+    ∙ ap (λ l. base ++ (wrapped ct ++ line (i.JumpFalse (wrap (n + length ct + 1 + length a + 1))) at ∷ l)) (sym (wrapped-append a (line (i.Jump (n + length ct + 1 + length a + 1 + length b)) at ∷ b)))
+    ∙ ap (λ l. base ++ l) (sym (wrapped-append ct (line (i.JumpFalse (n + length ct + 1 + length a + 1)) at ∷ (a ++ line (i.Jump (n + length ct + 1 + length a + 1 + length b)) at ∷ b))))
+
+pub while_emitted : (base c1 c2 c3 c4 c5 : List Line) (ct : List Line) (ca : ℕ → List Line) (x : Line) (at : Span) (start test end : ℕ) → start ≡ length base → c1 ≡ base ++ wrapped ct → test ≡ length c1 → c2 ≡ c1 ++ x ∷ [] → c3 ≡ c2 ++ line i.Tick at ∷ [] → c4 ≡ c3 ++ wrapped (ca (length c3)) → c5 ≡ c4 ++ line (i.Jump (wrap start)) at ∷ [] → end ≡ length c5 →
+    slice_set c5 test (line (i.JumpFalse (wrap end)) at) ≡ base ++ wrapped (while_code (length base) at ct (ca (length base + length ct + 1 + 1)))
+while_emitted base c1 c2 c3 c4 c5 ct ca x at start test end m0 e1 m1 e2 e3 e4 e5 m5 =
+    let n = length base in
+    let l1 = long_after base c1 ct e1 in
+    let l2 : length c2 ≡ n + length ct + 1 = omega (arith, ap length e2, length-append c1 (x ∷ []), l1) in
+    let l3 : length c3 ≡ n + length ct + 1 + 1 = omega (arith, ap length e3, length-append c2 (line i.Tick at ∷ []), l2) in
+    let a = ca (n + length ct + 1 + 1) in
+    let e4' : c4 ≡ c3 ++ wrapped a = e4 ∙ ap (λ k. c3 ++ wrapped (ca k)) l3 in
+    let l4 = long_after c3 c4 a e4' in
+    let l5 : length c5 ≡ length c4 + 1 = omega (arith, ap length e5, length-append c4 (line (i.Jump (wrap start)) at ∷ [])) in
+    let s : end ≡ n + length ct + 1 + 1 + length a + 1 = omega (arith, m5, l5, l4, l3) in
+    let back = line (i.Jump (wrap start)) at in
+    let out = line (i.JumpFalse (wrap end)) at in
+    let tail = line i.Tick at ∷ (wrapped a ++ back ∷ []) in
+    let all : c5 ≡ c1 ++ x ∷ tail =
+    e5 ∙ ap (λ c. c ++ back ∷ []) (e4' ∙ ap (λ c. c ++ wrapped a) (e3 ∙ ap (λ c. c ++ line i.Tick at ∷ []) e2))
+    ∙ append_assoc ((c1 ++ x ∷ []) ++ line i.Tick at ∷ []) (wrapped a) (back ∷ [])
+    ∙ append_assoc (c1 ++ x ∷ []) (line i.Tick at ∷ []) (wrapped a ++ back ∷ [])
+    ∙ append_assoc c1 (x ∷ []) tail in
+    ap₂ (λ c k. slice_set c k out) all m1
+    ∙ set-append_seam c1 x tail out
+    ∙ (λ j. e1 j ++ line (i.JumpFalse (wrap (s j))) at ∷ line i.Tick at ∷ (wrapped a ++ line (i.Jump (wrap (m0 j))) at ∷ []))
+    ∙ append_assoc base (wrapped ct) _
+    ∙ ap (λ l. base ++ (wrapped ct ++ line (i.JumpFalse (wrap (n + length ct + 1 + 1 + length a + 1))) at ∷ line i.Tick at ∷ l)) (sym (wrapped-append a (line (i.Jump n) at ∷ [])))
+    ∙ ap (λ l. base ++ l) (sym (wrapped-append ct (line (i.JumpFalse (n + length ct + 1 + 1 + length a + 1)) at ∷ line i.Tick at ∷ (a ++ line (i.Jump n) at ∷ []))))
+
+-- both bounds, and then the loop
+pub for_emitted : (base c1 c2 c3 c4 c5 : List Line) (cf : List Line) (ct loop : ℕ → List Line) (l m : Line) → wrap_line l ≡ l → wrap_line m ≡ m → c1 ≡ base ++ wrapped cf → c2 ≡ c1 ++ l ∷ [] → c3 ≡ c2 ++ wrapped (ct (length c2)) → c4 ≡ c3 ++ m ∷ [] → c5 ≡ c4 ++ wrapped (loop (length c4)) →
+    c5 ≡ base ++ wrapped (cf ++ l ∷ (ct (length base + length cf + 1) ++ m ∷ loop (loop_at (length base) (length cf) (length (ct (length base + length cf + 1))))))
+for_emitted base c1 c2 c3 c4 c5 cf ct loop l m w w' e1 e2 e3 e4 e5 =
+    let n = length base in
+    let l1 = long_after base c1 cf e1 in
+    let l2 : length c2 ≡ n + length cf + 1 = omega (arith, ap length e2, length-append c1 (l ∷ []), l1) in
+    let t = ct (n + length cf + 1) in
+    let e3' : c3 ≡ c2 ++ wrapped t = e3 ∙ ap (λ k. c2 ++ wrapped (ct k)) l2 in
+    let l3 = long_after c2 c3 t e3' in
+    let l4 : length c4 ≡ n + length cf + 1 + length t + 1 = omega (arith, ap length e4, length-append c3 (m ∷ []), l3, l2) in
+    let b = loop (n + length cf + 1 + length t + 1) in
+    e5 ∙ ap (λ k. c4 ++ wrapped (loop k)) l4
+    ∙ ap (λ c. c ++ wrapped b) (e4 ∙ ap (λ c. c ++ m ∷ []) (e3' ∙ ap (λ c. c ++ wrapped t) (e2 ∙ ap (λ c. c ++ l ∷ []) e1)))
+    ∙ append_assoc (((base ++ wrapped cf) ++ l ∷ []) ++ wrapped t) (m ∷ []) (wrapped b)
+    ∙ append_assoc ((base ++ wrapped cf) ++ l ∷ []) (wrapped t) (m ∷ wrapped b)
+    ∙ append_assoc (base ++ wrapped cf) (l ∷ []) (wrapped t ++ m ∷ wrapped b)
+    ∙ append_assoc base (wrapped cf) (l ∷ (wrapped t ++ m ∷ wrapped b))
+    ∙ (λ j. base ++ (wrapped cf ++ sym w j ∷ (wrapped t ++ sym w' j ∷ wrapped b)))
+    ∙ ap (λ x. base ++ (wrapped cf ++ wrap_line l ∷ x)) (sym (wrapped-append t (m ∷ b)))
+    ∙ ap (λ x. base ++ x) (sym (wrapped-append cf (l ∷ (t ++ m ∷ b))))
+
+-- statements one after the other
+module _ (methods : List Method) (texts : List Text) where
+  steps_push : (xs : List Stmt) (x : Stmt) (n : ℕ) → steps_code methods texts n (steps_in (xs ++ x ∷ [])) ≡ steps_code methods texts n (steps_in xs) ++ step_code methods texts (n + length (steps_code methods texts n (steps_in xs))) (step_of x)
+  steps_push [] x n = let e : n ≡ n + 0 = omega arith in none (step_code methods texts n (step_of x)) ∙ ap (λ m. step_code methods texts m (step_of x)) e
+    where
+      none : (l : List Line) → l ++ [] ≡ l
+      none [] = refl
+      none (y ∷ l) = ap (λ m. y ∷ m) (none l)
+  steps_push (y ∷ xs) x n =
+      let cy = step_code methods texts n (step_of y) in
+      let cs = steps_code methods texts (n + length cy) (steps_in xs) in
+      let e : n + length cy + length cs ≡ n + length (cy ++ cs) = omega (arith, length-append cy cs) in
+      ap (λ l. cy ++ l) (steps_push xs x (n + length cy))
+      ∙ sym (append_assoc cy cs (step_code methods texts (n + length cy + length cs) (step_of x)))
+      ∙ ap (λ m. (cy ++ cs) ++ step_code methods texts m (step_of x)) e
+
+  pub steps_next : (xs : List Stmt) (k : ℕ) (x : Stmt) → k < length xs → x ≡ get_or xs k x → (base c1 c2 : List Line) → c1 ≡ base ++ wrapped (steps_code methods texts (length base) (steps_in (take k xs))) → c2 ≡ c1 ++ wrapped (step_code methods texts (length c1) (step_of x)) →
+      c2 ≡ base ++ wrapped (steps_code methods texts (length base) (steps_in (take (k + 1) xs)))
+  steps_next xs k x lt at base c1 c2 e1 e2 =
+      emits_then base c1 c2 (λ n. steps_code methods texts n (steps_in (take k xs))) (λ n. step_code methods texts n (step_of x)) e1 e2
+      ∙ ap (λ l. base ++ wrapped l) (sym (steps_push (take k xs) x (length base)) ∙ ap (λ ys. steps_code methods texts (length base) (steps_in ys)) (sym (item_more xs k x lt at)))

@@ -1,0 +1,20 @@
+-- The code of an event's phases, without what ends it.
+use Rattle.std.specs.Prelude.{ℕ, ◌+◌, List, [], ◌∷◌, ◌++◌, length}
+use Rattle.resolved_service.specs.declared.service.Method.{Method}
+use Rattle.resolved_service.specs.declared.service.Phase.{Phase}
+use Rattle.resolved_service.specs.Steps.{steps_in}
+use Rattle.resolved_service.specs.View.{tree_of}
+use Rattle.service_code.specs.declared.instr.Instr.TheVariants as i
+use Rattle.code_scheme.specs.declared.line.Line.{Line}
+use Rattle.code_scheme.specs.Scheme.{line, tree_code, steps_code}
+use Rattle.code_scheme.specs.Texts.{Text}
+
+module _ (methods : List Method) (texts : List Text) where
+  abbrev pub phase_code : ℕ → Phase → List Line
+  phase_code n f =
+      tree_code methods texts n (tree_of f.key) ++ line (i.Go f.class) f.at
+      ∷ steps_code methods texts (n + length (tree_code methods texts n (tree_of f.key)) + 1) (steps_in f.body)
+
+  abbrev pub phases_front : ℕ → List Phase → List Line
+  phases_front n [] = []
+  phases_front n (f ∷ fs) = phase_code n f ++ phases_front (n + length (phase_code n f)) fs

@@ -1,0 +1,4 @@
+pub mod Kept
+pub mod Wrapped
+pub mod Faults
+pub mod Fronts

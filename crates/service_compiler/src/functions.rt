@@ -1,0 +1,119 @@
+//! The instructions of methods and events, by the scheme.
+
+ghost use Rattle.std.specs.Prelude.{◌≡◌, ◌<◌, ◌^◌, ◌++◌, length, IfOk, OnOk};
+ghost use Rattle.code_scheme.specs.Scheme.{return_code, reply_code, method_code, event_code};
+ghost use Rattle.service_compiler.specs.Fronts.{phase_code, phases_front};
+ghost use Rattle.service_compiler.specs.Wrapped.{wrapped};
+
+use crate::emit::{emit_expr, put};
+use crate::statements::emit_stmts;
+use crate::texts::Texts;
+use code_scheme::Line;
+use resolved_service::{Event, Last, Method, Phase};
+use service_code::Instr;
+use std::alloc::Global;
+use wave_base::{OutOfMemory, Span};
+
+/// The code of a method.
+pub fn emit_method(
+    alloc: Global,
+    methods: &[Method],
+    texts: &Texts,
+    method: &Method,
+) -> Result<Vec<Line>, OutOfMemory>
+    requires { length texts.now < 2 ^ 32 }
+    ensures { IfOk result (λ code. code.items ≡ wrapped (method_code methods.now texts.now method.now)) }
+{
+    let mut code = Vec::new(alloc);
+    emit_stmts(&mut code, methods, texts, method.body.as_slice())?;
+    emit_return(&mut code, methods, texts, method.at, &method.last)?;
+    Ok(code)
+}
+
+/// The code of an event.
+pub fn emit_event(
+    alloc: Global,
+    methods: &[Method],
+    texts: &Texts,
+    event: &Event,
+) -> Result<Vec<Line>, OutOfMemory>
+    requires { length texts.now < 2 ^ 32 }
+    ensures { IfOk result (λ code. code.items ≡ wrapped (event_code methods.now texts.now event.now)) }
+{
+    let mut code = Vec::new(alloc);
+    emit_stmts(&mut code, methods, texts, event.here.as_slice())?;
+    emit_phases(&mut code, methods, texts, event.phases.as_slice())?;
+    emit_reply(&mut code, methods, texts, event.at, &event.last)?;
+    Ok(code)
+}
+
+// The end of a method.
+fn emit_return(
+    code: &mut Vec<Line>,
+    methods: &[Method],
+    texts: &Texts,
+    at: Span,
+    last: &Option<Last>,
+) -> Result<(), OutOfMemory>
+    requires { length texts.now < 2 ^ 32 }
+    ensures { OnOk result (code.new.items ≡ code.old.items ++ wrapped (return_code methods.now texts.now (length code.old.items) at last.now)) }
+{
+    match last {
+        Some(last) => {
+            emit_expr(code, methods, texts, &last.value)?;
+            put(code, Instr::Return, last.at)
+        }
+        None => put(code, Instr::Return, at),
+    }
+}
+
+// The end of an event.
+fn emit_reply(
+    code: &mut Vec<Line>,
+    methods: &[Method],
+    texts: &Texts,
+    at: Span,
+    last: &Option<Last>,
+) -> Result<(), OutOfMemory>
+    requires { length texts.now < 2 ^ 32 }
+    ensures { OnOk result (code.new.items ≡ code.old.items ++ wrapped (reply_code methods.now texts.now (length code.old.items) at last.now)) }
+{
+    match last {
+        Some(last) => {
+            emit_expr(code, methods, texts, &last.value)?;
+            put(code, Instr::Reply, last.at)
+        }
+        None => put(code, Instr::End, at),
+    }
+}
+
+// The phases of an event.
+fn emit_phases(
+    code: &mut Vec<Line>,
+    methods: &[Method],
+    texts: &Texts,
+    phases: &[Phase],
+) -> Result<(), OutOfMemory>
+    requires { length texts.now < 2 ^ 32 }
+    ensures { OnOk result (code.new.items ≡ code.old.items ++ wrapped (phases_front methods.now texts.now (length code.old.items) phases.now)) }
+{
+    for phase in phases {
+        emit_phase(code, methods, texts, phase)?;
+    }
+    Ok(())
+}
+
+// A downgrade, and what is done there.
+fn emit_phase(
+    code: &mut Vec<Line>,
+    methods: &[Method],
+    texts: &Texts,
+    phase: &Phase,
+) -> Result<(), OutOfMemory>
+    requires { length texts.now < 2 ^ 32 }
+    ensures { OnOk result (code.new.items ≡ code.old.items ++ wrapped (phase_code methods.now texts.now (length code.old.items) phase.now)) }
+{
+    emit_expr(code, methods, texts, &phase.key)?;
+    put(code, Instr::Go(phase.class), phase.at)?;
+    emit_stmts(code, methods, texts, phase.body.as_slice())
+}

@@ -1,0 +1,25 @@
+//! The compiler: from a resolved service to its program.
+#![tactic(auto)]
+
+mod collect;
+mod emit;
+mod error;
+mod functions;
+mod heights;
+mod program;
+mod statements;
+mod texts;
+mod verified;
+mod whole;
+
+pub use collect::texts_of_service;
+pub use emit::{emit_expr, emit_exprs};
+pub use error::CompileError;
+pub use functions::{emit_event, emit_method};
+pub use program::compile;
+pub use statements::{emit_stmts, leaves};
+pub use texts::Texts;
+pub use verified::compile_verified;
+
+#[cfg(test)]
+mod tests;
