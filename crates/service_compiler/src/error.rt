@@ -1,11 +1,10 @@
-use std::alloc::AllocError;
 use thiserror::Error;
 use wave_base::OutOfMemory;
 
 /// Why a service has no code.
 #[derive(Clone, Copy, PartialEq, Eq, Debug, Error)]
 pub enum CompileError {
-    /// The first function, in text order, that has more than 65,535 instructions, and how many it has.
+    /// The number of the program's first function that has more than 65,535 instructions, and how many it has.
     #[error("function {function} has {length} instructions")]
     CodeTooLong { function: u16, length: usize },
     /// Memory was wanting.
