@@ -19,7 +19,12 @@ use Rattle.due_answer.specs.declared.command.Command.{Command}
 use Rattle.due_answer.specs.declared.command.Engine.{Engine}
 use Rattle.due_answer.specs.declared.command.Places.{Places}
 use Rattle.due_answer.specs.Due.{Only, IsDue, IsDueBoth, IsDueService, IsDueOf, IsDueTyped, IsDueScript, IsDueLines, IsDueRun, IsDueWhere, IsDueFold, IsOnlyDue, is_unbuilt, listed, too_large_input}
-use Rattle.due_answer.specs.Served.{IsTypedTree, IsRead, IsTypedRead}
+use Rattle.service_code.specs.declared.program.Program.{Program}
+use Rattle.due_answer.specs.Coded.{IsCoded}
+use Rattle.due_answer.specs.declared.service.Judged.{Judged}
+use Rattle.due_answer.specs.declared.service.Judged.TheVariants as judged
+use Rattle.due_answer.specs.Served.{IsTypedTree, IsRefusal, IsRead, IsServed, IsTypedRead}
+use Rattle.due_answer.proofs.CodeLemmas.{only_coded, only_long}
 
 -- ---- a typed service
 
@@ -29,16 +34,42 @@ of_read P text read due so o = record {
   only = λ other h. o.only other (subst (λ r. IsDueOf P r other) (so.only h.read h.parses) h.due_is);
 }
 
-typed_read : (P : ServiceTree → Answer → Type 0) (typed : Typed) (read : Result ServiceTree TextFault) (due : Answer) → IsTypedRead typed read →
-    ((tree : ServiceTree) → IsTypedTree tree typed → Only (P tree) due) → Only (IsDueOf P read) due
-typed_read P typed (Err e) due h o = absurd h
-typed_read P typed (Ok tree) due h o = subst (λ w. Only (IsDueTyped P tree w) due) (sym h.holds) (o tree h)
+typed_read : (P : ServiceTree → Answer → Type 0) (typed : Typed) (program : Program) (read : Result ServiceTree TextFault) (due : Answer) → IsTypedRead typed program read →
+    ((tree : ServiceTree) → IsTypedTree tree typed → IsCoded typed.shape typed.resolved program → Only (P tree) due) → Only (IsDueOf P read) due
+typed_read P typed program (Err e) due h o = absurd h
+typed_read P typed program (Ok tree) due h o = subst (λ w. Only (IsDueTyped P tree w) due) (sym h.0.holds) (only_coded P tree typed due h.0 h.1.short (o tree h.0 h.1))
+
+refused_read : (P : ServiceTree → Answer → Type 0) (read : Result ServiceTree TextFault) (due : Answer) → IsRefusal read due → Only (IsDueOf P read) due
+refused_read P (Err e) due h = record { is_due = h; only = λ other o. o ∙ sym h }
+refused_read P (Ok tree) due (inl h) = subst (λ w. Only (IsDueTyped P tree w) due) (sym h.is) (record { is_due = h.told; only = λ other o. o ∙ sym h.told })
+refused_read P (Ok tree) due (inr h) = subst (λ w. Only (IsDueTyped P tree w) due) (sym h.holds) (only_long P tree h.service due h.resolved h.long)
+
+-- what is due for the service of a text, where it is refused
+pub refused_text : (P : ServiceTree → Answer → Type 0) (text : List ℕ) (due : Answer) → IsRead text (λ read. IsRefusal read due) → Only (IsDueService P text) due
+refused_text P text due r = of_read P text r.read due r.parse (refused_read P r.read due r.is_so)
 
 -- what is due for the service of a text, where it is typed
-pub typed_text : {E : Type 0} (P : ServiceTree → Answer → Type 0) (text : List ℕ) (typed : Typed) (r : Result Answer E) → IsRead text (IsTypedRead typed) →
-    ((tree : ServiceTree) → IsTypedTree tree typed → IfOk r (Only (P tree))) → IfOk r (Only (IsDueService P text))
-typed_text P text typed (Ok due) read o = of_read P text read.read due read.parse (typed_read P typed read.read due read.is_so o)
-typed_text P text typed (Err e) read o = tt
+pub typed_text : {E : Type 0} (P : ServiceTree → Answer → Type 0) (text : List ℕ) (typed : Typed) (program : Program) (r : Result Answer E) → IsRead text (IsTypedRead typed program) →
+    ((tree : ServiceTree) → IsTypedTree tree typed → IsCoded typed.shape typed.resolved program → IfOk r (Only (P tree))) → IfOk r (Only (IsDueService P text))
+typed_text P text typed program (Ok due) read o = of_read P text read.read due read.parse (typed_read P typed program read.read due read.is_so o)
+typed_text P text typed program (Err e) read o = tt
+
+-- the same, where it is told at once
+pub typed_as : {E : Type 0} (P : ServiceTree → Answer → Type 0) (text : List ℕ) (typed : Typed) (program : Program) (x : Answer) (r : Result Answer E) → IsRead text (IsTypedRead typed program) → IfOk r (λ a. a ≡ x) →
+    ((tree : ServiceTree) → IsTypedTree tree typed → IsCoded typed.shape typed.resolved program → Only (P tree) x) → IfOk r (Only (IsDueService P text))
+typed_as P text typed program x (Ok due) read e o = subst (Only (IsDueService P text)) (sym e) (of_read P text read.read x read.parse (typed_read P typed program read.read x read.is_so o))
+typed_as P text typed program x (Err f) read e o = tt
+
+-- what was served, where it is refused
+pub refused_served : (P : ServiceTree → Answer → Type 0) (text found : List ℕ) (served : Judged) (answer : Answer) → found ≡ text → IsServed found served → served ≡ judged.Refused answer → Only (IsDueService P text) answer
+refused_served P text found served answer e s is = subst (λ t. Only (IsDueService P t) answer) e (refused_text P found answer (subst (IsServed found) is s))
+
+-- and where it is typed
+pub typed_served : (text found : List ℕ) (served : Judged) (typed : Typed) (program : Program) → found ≡ text → IsServed found served → served ≡ judged.Typed typed program → IsRead text (IsTypedRead typed program)
+typed_served text found served typed program e s is = subst (λ t. IsRead t (IsTypedRead typed program)) e (subst (IsServed found) is s)
+
+pub only_same : (x : Answer) → Only (λ due. due ≡ x) x
+only_same x = record { is_due = refl; only = λ other h. h }
 
 -- ---- a script
 

@@ -2,7 +2,7 @@
 use Rattle.std.specs.Prelude.{ℕ, Bool, if◌then◌else◌, Option, Some, None, List, [], ◌∷◌, codes, nat_eq}
 use Rattle.std.specs.Cmp.Lexicographic.{pointwise}
 use Rattle.due_answer.specs.declared.command.Command.{Command}
-use Rattle.due_answer.specs.declared.command.Command.TheVariants.{Run, Seq, Check, Print}
+use Rattle.due_answer.specs.declared.command.Command.TheVariants.{Run, Seq, Check, Print, Code}
 use Rattle.due_answer.specs.declared.command.Places.TheVariants.{Unlisted, Listed}
 
 abbrev pub same_word : List ℕ → List ℕ → Bool
@@ -15,6 +15,7 @@ command_named w =
     else if same_word w (codes "seq") then Some (Seq Unlisted)
     else if same_word w (codes "check") then Some Check
     else if same_word w (codes "print") then Some Print
+    else if same_word w (codes "code") then Some Code
     else None
 
 -- one that lists the places of contexts too

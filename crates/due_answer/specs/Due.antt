@@ -1,7 +1,7 @@
 -- What is due for a command and the bytes of its input. Statuses, notes and output are read off it.
-use Rattle.std.specs.Prelude.{◌≡◌, ℕ, ◌<◌, ◌≤◌, ◌⊎◌, ◌||◌, Bool, true, false, if◌then◌else◌, nat_lt, not, List, [], ◌∷◌, ◌++◌, length, codes, Option, Some, None, Result, Ok, Err}
+use Rattle.std.specs.Prelude.{◌≡◌, ℕ, ◌<◌, ◌≤◌, ◌⊎◌, ◌||◌, Bool, true, false, if◌then◌else◌, nat_lt, not, List, [], ◌∷◌, ◌++◌, length, codes, All, Option, Some, None, Result, Ok, Err}
 use Rattle.std.specs.List.{list_any, list_all}
-use Rattle.wave_base.specs.declared.limits.TheConstants.{INPUT_BYTES, SCRIPT_BYTES}
+use Rattle.wave_base.specs.declared.limits.TheConstants.{INPUT_BYTES, INSTRUCTIONS, SCRIPT_BYTES}
 use Rattle.wave_base.specs.declared.finished.Finished.{Finished}
 use Rattle.wave_base.specs.declared.outcome.EventResult.{EventResult}
 use Rattle.wave_base.specs.declared.outcome.Outcome.{Outcome}
@@ -22,6 +22,9 @@ use Rattle.type_rules.specs.Demands.{first_wrong}
 use Rattle.type_rules.specs.Known.{shape_of}
 use Rattle.type_rules.specs.Services.{service_demands, resolve_service}
 use Rattle.type_rules.specs.Views.{resolved_view}
+use Rattle.service_code.specs.declared.program.Function.{Function}
+use Rattle.service_code.specs.Listing.{function_name, program_text}
+use Rattle.code_scheme.specs.Programs.{IsTooLong, scheme_program}
 use Rattle.service_reader.specs.declared.fault.TextFault.{TextFault}
 use Rattle.service_reader.specs.Parsing.{Parses}
 use Rattle.fault_notes.specs.Notes.{text_note, type_note, script_note}
@@ -33,7 +36,7 @@ use Rattle.listing_out.specs.Listing.{listing}
 use Rattle.wave_meaning.specs.Meaning.{results_of}
 use Rattle.due_answer.specs.declared.answer.Answer.{Answer}
 use Rattle.due_answer.specs.declared.command.Command.{Command}
-use Rattle.due_answer.specs.declared.command.Command.TheVariants.{Run, Seq, Check, Print}
+use Rattle.due_answer.specs.declared.command.Command.TheVariants.{Run, Seq, Check, Print, Code}
 use Rattle.due_answer.specs.declared.command.Engine.{Engine}
 use Rattle.due_answer.specs.declared.command.Engine.TheVariants.{Workers, Evaluator}
 use Rattle.due_answer.specs.declared.command.Places.{Places}
@@ -67,10 +70,27 @@ approved = written (codes "ok" ++ 10 ∷ [])
 
 -- ---- a service
 
--- of a tree, where it is known what is wrong with its types, if anything; P is what is due where nothing is
+-- the first function of a service's code that has more instructions than a function may have is told
+pub record IsLong (shape : Shape) (service : Resolved) (due : Answer) : Type 0 where
+  pub number : ℕ
+  pub size : ℕ
+  pub long : IsTooLong shape service number size
+  pub due_is : due ≡ refusal 3 (codes "C1 CodeTooLong " ++ function_name shape long.function)
+
+-- no function has more
+abbrev pub AreShort : Shape → Resolved → Type 0
+AreShort shape service = All (λ (f : Function). length f.code ≤ INSTRUCTIONS) (scheme_program shape service).functions
+
+-- of a typed service, with each name resolved: P is what is due where its code is not too long
+pub record IsDueCoded (P : ServiceTree → Answer → Type 0) (tree : ServiceTree) (due : Answer) : Type 0 where
+  pub service : Resolved
+  pub resolved : resolved_view service ≡ resolve_service tree
+  pub due_is : IsLong (shape_of tree) service due ⊎ (AreShort (shape_of tree) service × P tree due)
+
+-- of a tree, where it is known what is wrong with its types, if anything
 abbrev pub IsDueTyped : (ServiceTree → Answer → Type 0) → ServiceTree → Option TypeError → Answer → Type 0
 IsDueTyped P tree (Some e) due = due ≡ refusal 3 (type_note e)
-IsDueTyped P tree None due = P tree due
+IsDueTyped P tree None due = IsDueCoded P tree due
 
 abbrev pub IsDueOf : (ServiceTree → Answer → Type 0) → Result ServiceTree TextFault → Answer → Type 0
 IsDueOf P (Err e) due = due ≡ refusal 3 (text_note e)
@@ -156,10 +176,17 @@ pub record IsPrinted (tree : ServiceTree) (due : Answer) : Type 0 where
 
 -- ---- commands
 
+-- the code of a service, function by function
+pub record IsListedCode (tree : ServiceTree) (due : Answer) : Type 0 where
+  pub service : Resolved
+  pub resolved : resolved_view service ≡ resolve_service tree
+  pub due_is : due ≡ written (program_text (scheme_program (shape_of tree) service))
+
 abbrev pub IsDueFor : Command → List ℕ → Answer → Type 0
 IsDueFor (Run places) bytes due = IsDueBoth (IsDueRun Workers places) (service_of bytes) (script_of bytes) due
 IsDueFor (Seq places) bytes due = IsDueBoth (IsDueRun Evaluator places) (service_of bytes) (script_of bytes) due
 IsDueFor Check bytes due = IsDueService (λ tree due. due ≡ approved) (service_of bytes) due
+IsDueFor Code bytes due = IsDueService IsListedCode (service_of bytes) due
 IsDueFor Print bytes due = IsDueService IsPrinted (service_of bytes) due
 
 abbrev pub IsDue : Command → List ℕ → Answer → Type 0

@@ -1,3 +1,4 @@
 pub mod Commands
 pub mod Due
 pub mod Served
+pub mod Coded

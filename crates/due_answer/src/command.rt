@@ -30,6 +30,8 @@ pub enum Command {
     Check,
     /// Writes the service in canonical layout.
     Print,
+    /// Writes the service's code.
+    Code,
 }
 
 fn command_named(word: &[u8]) -> Option<Command>
@@ -43,6 +45,8 @@ fn command_named(word: &[u8]) -> Option<Command>
         Some(Command::Check)
     } else if word == b"print".as_slice() {
         Some(Command::Print)
+    } else if word == b"code".as_slice() {
+        Some(Command::Code)
     } else {
         None
     }
@@ -54,7 +58,7 @@ fn with_places(command: Option<Command>) -> Option<Command>
     match command {
         Some(Command::Run(_)) => Some(Command::Run(Places::Listed)),
         Some(Command::Seq(_)) => Some(Command::Seq(Places::Listed)),
-        Some(Command::Check | Command::Print) | None => None,
+        Some(Command::Check | Command::Print | Command::Code) | None => None,
     }
 }
 

@@ -1,9 +1,10 @@
-ghost use Rattle.std.specs.Prelude.{◌≡◌, ◌≤◌, length, IfOk};
+ghost use Rattle.std.specs.Prelude.{◌≡◌, ◌≤◌, length, All, IfOk};
 ghost use Rattle.input_parts.specs.Parts.{service_of, script_of};
 ghost use Rattle.mace_ast.specs.Decls.{service_tree};
 ghost use Rattle.mace_printer.specs.Written.{IsParsed};
+ghost use Rattle.service_code.specs.Listing.{CanList, program_text};
 ghost use Rattle.due_answer.specs.declared.command.Command.{Command};
-ghost use Rattle.due_answer.specs.Due.{Only, IsDueBoth, IsDueFor, IsDueRun, IsOnlyDue, IsPrinted, approved};
+ghost use Rattle.due_answer.specs.Due.{Only, IsDueBoth, IsDueFor, IsDueRun, IsOnlyDue, IsPrinted, approved, written};
 
 use crate::answer::{Answer, refused, written};
 use crate::command::{Command, Engine, Places};
@@ -12,6 +13,7 @@ use crate::service::{Judged, served};
 use input_parts::parts_of;
 use mace_ast::Service;
 use mace_printer::print;
+use service_code::{Program, code_listing};
 use std::alloc::Global;
 use wave_base::{INPUT_BYTES, OutOfMemory, Seq};
 
@@ -32,6 +34,7 @@ fn judge_parts(alloc: Global, command: Command, input: &[u8]) -> Result<Answer, 
         Command::Seq(places) => judge_both(alloc, Engine::Evaluator, places, input),
         Command::Check => judge_check(alloc, input),
         Command::Print => judge_print(alloc, input),
+        Command::Code => judge_code(alloc, input),
     }
 }
 
@@ -49,7 +52,7 @@ fn judge_check(alloc: Global, input: &[u8]) -> Result<Answer, OutOfMemory>
 {
     let (text, _) = parts_of(input);
     match served(alloc, text)? {
-        Judged::Typed(_) => approved(alloc),
+        Judged::Typed(_, _) => approved(alloc),
         Judged::Refused(refusal) => Ok(refusal),
     }
 }
@@ -68,7 +71,26 @@ fn judge_print(alloc: Global, input: &[u8]) -> Result<Answer, OutOfMemory>
 {
     let (text, _) = parts_of(input);
     match served(alloc, text)? {
-        Judged::Typed(typed) => printed(alloc, &typed.service),
+        Judged::Typed(typed, _) => printed(alloc, &typed.service),
+        Judged::Refused(answer) => Ok(answer),
+    }
+}
+
+// The code of a service.
+fn listed_code(alloc: Global, program: &Program) -> Result<Answer, OutOfMemory>
+    requires { All (CanList program.now.shape) program.now.functions }
+    ensures { IfOk result (λ a. a ≡ written (program_text program.now)) }
+{
+    Ok(written(alloc, code_listing(alloc, program)?))
+}
+
+// What is due for a service whose code is asked for.
+fn judge_code(alloc: Global, input: &[u8]) -> Result<Answer, OutOfMemory>
+    ensures { IfOk result (Only (IsDueFor Command.Code input.now)) }
+{
+    let (text, _) = parts_of(input);
+    match served(alloc, text)? {
+        Judged::Typed(_, code) => listed_code(alloc, code.program()),
         Judged::Refused(answer) => Ok(answer),
     }
 }
@@ -87,7 +109,7 @@ fn judge_both(
         return refused(alloc, 3, b"NoScript");
     };
     match served(alloc, text)? {
-        Judged::Typed(typed) => judge_script(alloc, engine, places, &typed, script),
+        Judged::Typed(typed, _) => judge_script(alloc, engine, places, &typed, script),
         Judged::Refused(answer) => Ok(answer),
     }
 }

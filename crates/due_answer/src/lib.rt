@@ -2,6 +2,7 @@
 #![tactic(auto)]
 
 mod answer;
+mod code;
 mod command;
 mod judging;
 mod script;

@@ -1,24 +1,26 @@
 ghost use Rattle.std.specs.Prelude.{◌≡◌, ◌≢◌, [], IfOk};
-ghost use Rattle.mace_ast.specs.Decls.{service_tree};
+ghost use Rattle.mace_ast.specs.Decls.{ServiceTree, service_tree};
 ghost use Rattle.service_reader.specs.declared.fault.TextFault.{TextFault};
 ghost use Rattle.fault_notes.specs.Notes.{text_note, type_note};
 ghost use Rattle.type_rules.specs.declared.error.TypeError.{TypeError};
 ghost use Rattle.due_answer.specs.Due.{refusal};
-ghost use Rattle.due_answer.specs.Served.{IsChecked, IsServed};
+ghost use Rattle.due_answer.specs.Served.{IsChecked, IsServed, IsTypedTree};
 
 use crate::answer::{Answer, refused};
+use crate::code::{Compiled, code_of};
 use context_types::{Typed, check};
 use fault_notes::{text_note, type_note};
 use mace_ast::Service;
 use service_reader::{TextFault, parse_text};
+use service_verify::Verified;
 use std::alloc::Global;
 use type_rules::TypeError;
 use wave_base::OutOfMemory;
 
-/// A service that is typed, or what is due instead.
+/// A service that is typed, with its code, or what is due instead.
 #[derive(Debug, Drop)]
 pub enum Judged {
-    Typed(Typed),
+    Typed(Typed, Verified),
     Refused(Answer),
 }
 
@@ -40,12 +42,23 @@ fn refused_types(alloc: Global, error: &TypeError) -> Result<Answer, OutOfMemory
     refused(alloc, 3, note.as_slice())
 }
 
+// A typed service with its code.
+fn coded(alloc: Global, typed: Typed) -> Result<Judged, OutOfMemory>
+    requires { (tree : ServiceTree) × IsTypedTree tree typed }
+    ensures { (tree : ServiceTree) → IsTypedTree tree typed → IfOk result (IsChecked tree) }
+{
+    match code_of(alloc, &typed)? {
+        Compiled::Program(program) => Ok(Judged::Typed(typed, program)),
+        Compiled::TooLong(answer) => Ok(Judged::Refused(answer)),
+    }
+}
+
 // A service, checked.
 fn checked(alloc: Global, service: Service) -> Result<Judged, OutOfMemory>
     ensures { IfOk result (IsChecked (service_tree service)) }
 {
     match check(alloc, service) {
-        Ok(typed) => Ok(Judged::Typed(typed)),
+        Ok(typed) => coded(alloc, typed),
         Err(error) => Ok(Judged::Refused(refused_types(alloc, &error)?)),
     }
 }

@@ -1,0 +1,71 @@
+//! The code of a typed service.
+
+ghost use Rattle.std.specs.Prelude.{◌≡◌, ◌++◌, IfOk, OnOk, codes};
+ghost use Rattle.code_scheme.specs.Typed.{IsTyped};
+ghost use Rattle.service_code.specs.Listing.{class_name};
+ghost use Rattle.due_answer.specs.Coded.{IsCompiled, IsLongNamed, name_at};
+
+use crate::answer::{Answer, refused};
+use context_types::Typed;
+use service_compiler::{CompileError, compile_verified};
+use service_verify::Verified;
+use std::alloc::{AllocError, Global};
+use wave_base::{Class, OutOfMemory, Shape};
+
+/// The program of a typed service, or what is due where a function of it is too long.
+#[derive(Debug, Drop)]
+pub enum Compiled {
+    Program(Verified),
+    TooLong(Answer),
+}
+
+fn class_name(shape: &Shape, class: Class) -> &[u8]
+    ensures { result.now ≡ class_name shape.now class.0 }
+{
+    match shape.classes.get(class.0 as usize) {
+        Some(info) => info.name.bytes(),
+        None => b"",
+    }
+}
+
+// Writes a function's name: `Class.method` or `event`.
+fn put_name(note: &mut Vec<u8>, typed: &Typed, number: u16) -> Result<(), AllocError>
+    ensures { OnOk result (note.new.items ≡ note.old.items ++ name_at typed.now.shape typed.now.resolved number) }
+{
+    let methods = typed.resolved.methods.as_slice();
+    let number = number as usize;
+    match methods.get(number) {
+        Some(method) => {
+            note.extend_from_slice(class_name(&typed.shape, method.class))?;
+            note.push(b'.')?;
+            note.extend_from_slice(method.name.bytes())
+        }
+        None => match typed.shape.events.get(number - methods.len()) {
+            Some(event) => note.extend_from_slice(event.name.bytes()),
+            None => Ok(()),
+        },
+    }
+}
+
+// The refusal of a service whose function of this number is too long.
+fn refused_code(alloc: Global, typed: &Typed, number: u16) -> Result<Answer, OutOfMemory>
+    ensures { IfOk result (IsLongNamed typed.now.shape typed.now.resolved number) }
+{
+    let mut note = Vec::from_slice(alloc, b"C1 CodeTooLong ")?;
+    put_name(&mut note, typed, number)?;
+    refused(alloc, 3, note.as_slice())
+}
+
+/// Compiles a typed service.
+pub fn code_of(alloc: Global, typed: &Typed) -> Result<Compiled, OutOfMemory>
+    requires { IsTyped typed.now.shape typed.now.resolved }
+    ensures { IfOk result (IsCompiled typed.now.shape typed.now.resolved) }
+{
+    match compile_verified(alloc, typed.shape.copy(alloc)?, &typed.resolved) {
+        Ok(program) => Ok(Compiled::Program(program)),
+        Err(CompileError::CodeTooLong { function, .. }) => {
+            Ok(Compiled::TooLong(refused_code(alloc, typed, function)?))
+        }
+        Err(CompileError::OutOfMemory) => Err(OutOfMemory),
+    }
+}
