@@ -3,10 +3,13 @@ use Rattle.std.proofs.Common.{◌≡◌, ◌≤◌, ◌==◌, ◌||◌, ℕ, suc
 use Rattle.std.proofs.lemmas.List.Elements.{All-nil, All-cons}
 use Rattle.std.specs.List.{list_any}
 use Rattle.wave_base.specs.declared.call.Call.{Call}
-use Rattle.wave_base.specs.declared.limits.TheConstants.{SPAWNS}
+use Rattle.wave_base.specs.declared.limits.TheConstants.{GENERATION, SPAWNS}
 use Rattle.wave_base.specs.Paths.{path_eq}
 use Rattle.script_fold.specs.Greeting.{small_shape, call_at, greets, AnyTree, Greeted}
 use Rattle.script_fold.specs.Owed.{Owed}
+
+early : (g : ℕ) → g ≡ 0 → g ≤ GENERATION
+early g e = omega (arith, e)
 
 module _ (e g : ℕ) where
   created_fit : (b : Bool) → All Greeted (if b then call_at e 1 ∷ [] else [])
@@ -30,7 +33,7 @@ module _ (e g : ℕ) where
 pub greets_owed : Owed small_shape greets AnyTree Greeted
 greets_owed = record {
   begins = λ t f r. tt;
-  asked = λ c i e. omega (arith, e);
+  asked = λ c i e. early c.generation e;
   kept = λ t c f h. tt;
   created = λ t c f h. created_fit c.event c.generation (c.generation == 0);
   few = λ t c f h. created_few c.event c.generation (c.generation == 0);
