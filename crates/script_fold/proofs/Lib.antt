@@ -7,3 +7,4 @@ pub mod FoldLemmas
 pub mod StepLemmas
 pub mod StartLemmas
 pub mod MoveLemmas
+pub mod GreetingLemmas

@@ -4,3 +4,5 @@ pub mod Owed
 pub mod Visiting
 pub mod Standing
 pub mod Moves
+pub mod Greeting
+pub mod Greets

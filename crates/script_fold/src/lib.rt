@@ -12,3 +12,6 @@ mod visits;
 pub use laws::moves_change_no_other_result;
 pub use run::{run_script, run_script_at};
 pub use runner::Runner;
+
+#[cfg(test)]
+mod tests;
