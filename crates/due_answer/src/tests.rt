@@ -2,6 +2,7 @@
 
 mod limits;
 mod rows;
+mod traps;
 
 use crate::{Answer, Command, judge};
 use rows::{FINE, Part, ROWS};
@@ -61,12 +62,13 @@ fn service_with(alloc: Global, part: Part, text: &[u8]) -> Result<Vec<u8>, OutOf
     Ok(service)
 }
 
-// The place of the mark `^` in a text of one line, and the text without it.
-fn unmarked(alloc: Global, marked: &[u8]) -> Result<(usize, Vec<u8>), OutOfMemory> {
+// The column of the mark `^` in a text of one line, and the text without it.
+fn unmarked(alloc: Global, marked: &[u8]) -> Result<(u64, Vec<u8>), OutOfMemory> {
     let at = marked.iter().position(|b| *b == b'^').unwrap_or(0);
-    let mut text = Vec::from_slice(alloc, marked.get(..at).unwrap_or(b""))?;
+    let before = marked.get(..at).unwrap_or(b"");
+    let mut text = Vec::from_slice(alloc, before)?;
     text.extend_from_slice(marked.get(at + 1..).unwrap_or(b""))?;
-    Ok((at, text))
+    Ok((before.len() as u64 + 1, text))
 }
 
 #[test]
@@ -74,10 +76,10 @@ fn each_demand_is_told_at_its_place(rt: HostRuntime) -> Result<(), Fail> {
     let alloc = rt.alloc();
     for (fault, part, text) in &ROWS {
         let marked = service_with(alloc, *part, text)?;
-        let (at, service) = unmarked(alloc, marked.as_slice())?;
+        let (column, service) = unmarked(alloc, marked.as_slice())?;
         let mut note = Vec::from_slice(alloc, fault)?;
         note.extend_from_slice(b" 1:")?;
-        put_number(alloc, &mut note, at as u64 + 1)?;
+        put_number(alloc, &mut note, column)?;
         refuses(&rt, alloc, service.as_slice(), note.as_slice())?;
     }
     Ok(())
