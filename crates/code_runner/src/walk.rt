@@ -1,4 +1,4 @@
-ghost use Rattle.std.specs.Prelude.{◌≡◌, ◌<◌, ◌≤◌, ◌^◌, [], ◌∷◌, true, None, IfOk, OnOk};
+ghost use Rattle.std.specs.Prelude.{◌≡◌, ◌<◌, ◌≤◌, ◌^◌, suc, [], ◌∷◌, true, None, IfOk, OnOk};
 ghost use Rattle.std.specs.List.{list_any};
 ghost use Rattle.context_tree.specs.Contexts.{tree_of, is_there};
 ghost use Rattle.wave_base.specs.declared.limits.TheConstants.{GENERATION};
@@ -8,6 +8,7 @@ ghost use Rattle.wave_base.specs.Shapes.{is_path};
 ghost use Rattle.wave_base.specs.Tree.{there};
 ghost use Rattle.service_verify.specs.Copies.{first_trip, next_trip};
 ghost use Rattle.service_verify.specs.Fit.{IsFit};
+ghost use Rattle.service_verify.specs.Points.{IsVerified};
 ghost use Rattle.code_runner.specs.Walks.{Walks, trip_of, paths_into, tree_into};
 
 use crate::fields::{put_fields, record_at};
@@ -37,7 +38,8 @@ impl Walk {
         requires call { IsCall program.now.shape call.now }
         requires generation { call.now.generation ≤ GENERATION }
         requires root { is_there contexts.old [] ≡ true }
-        ensures { IfOk result (λ w. trip_of w (tree_of program.now.shape contexts.new) None ≡ first_trip program.now call.now (tree_of program.now.shape contexts.old)) }
+        ensures verified { IsVerified program.now }
+        ensures first { IfOk result (λ w. trip_of w (tree_of program.now.shape contexts.new) None ≡ first_trip program.now call.now (tree_of program.now.shape contexts.old)) }
     {
         let root = Path::root();
         contexts.enter(alloc, &program.program().shape, &root)?;
@@ -63,7 +65,8 @@ impl Walk {
         requires fit { IsFit program.now }
         requires walks { Walks program.now (trip_of self.old (tree_of program.now.shape contexts.old) None) }
         requires few { self.old.segments < 2 ^ 63 }
-        ensures { IfOk result (λ over. trip_of self.new (tree_of program.now.shape contexts.new) over ≡ next_trip program.now (trip_of self.old (tree_of program.now.shape contexts.old) None)) }
+        ensures segments { OnOk result (self.new.segments ≡ suc self.old.segments) }
+        ensures next { IfOk result (λ over. trip_of self.new (tree_of program.now.shape contexts.new) over ≡ next_trip program.now (trip_of self.old (tree_of program.now.shape contexts.old) None)) }
     {
         let here = self.event.path();
         let mut record = record_at(alloc, contexts, &here)?;
