@@ -1,5 +1,5 @@
 -- The fields of a context put back one by one, the last first.
-use Rattle.std.proofs.Common.{◌≡◌, ℕ, zero, suc, ◌+◌, ◌<◌, ◌≤◌, Bool, true, false, if◌then◌else◌, List, [], ◌∷◌, ◌++◌, length, take, map, Option, Some, None, is_some, IsSomeAnd, unwrap_or, slice_set, refl, ap, sym, subst, ◌∙◌, arith}
+use Rattle.std.proofs.Common.{◌≡◌, ℕ, zero, suc, ◌+◌, ◌<◌, ◌≤◌, Bool, true, false, if◌then◌else◌, List, [], ◌∷◌, ◌++◌, length, take, map, Option, Some, None, is_some, IsSomeAnd, unwrap_or, slice_set, refl, ap, sym, subst, ◌∙◌, arith, append_assoc}
 use mathlib.Core.Bool.{true≢false}
 use Rattle.std.proofs.lemmas.List.{length-append, append-nil}
 use Rattle.wave_base.specs.declared.path.Path.{Path}
@@ -9,9 +9,10 @@ use Rattle.wave_base.specs.declared.value.Value.{Value}
 use Rattle.wave_base.specs.Paths.{path_eq}
 use Rattle.wave_base.specs.PathLaws.{path_eq_decides}
 use Rattle.wave_base.specs.Shapes.{initial_fields}
-use Rattle.wave_base.specs.Tree.{Tree, put}
+use Rattle.wave_base.specs.Tree.{Tree, there, put}
 use Rattle.context_tree.specs.Contexts.{Contexts, is_there, fields_in, HasField, tree_of, with_field}
 use Rattle.context_tree.proofs.KeptLemmas.{there_in, shown_is}
+use Rattle.code_runner.specs.Walks.{PutSoFar}
 
 -- the fields of a context that is there are those kept
 pub record Kept (t : Contexts) (p : Path) : Type 0 where
@@ -80,3 +81,51 @@ module _ (tree : Tree (List Value)) (p : Path) where
 
   pub put_none : (fields : List Value) → length fields ≡ length (tree.fields p) → tree ≡ put tree p (take (length fields) (tree.fields p) ++ [])
   put_none fields e = sym put_same ∙ ap (put tree p) (sym (append-nil (take (length fields) (tree.fields p)) ∙ take_all (tree.fields p) (length fields) e))
+
+-- one shape, of which nothing is asked
+no_shape : Shape
+no_shape = record { classes = []; events = [] }
+
+module _ (old : Contexts) (p : Path) (all : List Value) (now : Contexts) (many : (shape : Shape) → length all ≡ length ((tree_of shape old).fields p)) where
+  pub begun : is_there old p ≡ true → PutSoFar old p all old all
+  begun there = record { rest = []; is = sym (append-nil all); there = there; tree = λ shape. put_none (tree_of shape old) p all (many shape) }
+
+  module _ (left left' : List Value) (v : Value) (so : PutSoFar old p all now left) (e : left ≡ left' ++ v ∷ []) where
+    one_longer : length left ≡ suc (length left')
+    one_longer = ap length e ∙ length-append left' (v ∷ []) ∙ plus_one (length left')
+      where
+        plus_one : (n : ℕ) → n + 1 ≡ suc n
+        plus_one n = omega arith
+
+    within : (shape : Shape) → length left ≤ length ((tree_of shape old).fields p)
+    within shape = let l = ap length so.is in let k = length-append left so.rest in let m = many shape in omega (arith, l, k, m)
+
+    pub last_is_there : HasField now p (length left')
+    last_is_there = has_field no_shape now p (length left') so.there (subst (λ fs. length left' < length fs) (sym shown) less)
+      where
+        shown : (tree_of no_shape now).fields p ≡ take (length left) ((tree_of no_shape old).fields p) ++ so.rest
+        shown = ap (λ (t : Tree (List Value)). t.fields p) (so.tree no_shape) ∙ put_at (tree_of no_shape old) p (take (length left) ((tree_of no_shape old).fields p) ++ so.rest)
+
+        less : length left' < length (take (length left) ((tree_of no_shape old).fields p) ++ so.rest)
+        less = let l = length-append (take (length left) ((tree_of no_shape old).fields p)) so.rest in let k = take_long ((tree_of no_shape old).fields p) (length left) (within no_shape) in let o = one_longer in omega (arith, l, k, o)
+
+    pub one_more : (now' : Contexts) → ((shape : Shape) → tree_of shape now' ≡ with_field (tree_of shape now) p (length left') v) → PutSoFar old p all now' left'
+    one_more now' set = record {
+      rest = v ∷ so.rest;
+      is = so.is ∙ ap (λ fs. fs ++ so.rest) e ∙ append_assoc left' (v ∷ []) so.rest;
+      there = ap (λ (t : Tree (List Value)). there t p) (set no_shape) ∙ so.there;
+      tree = tree;
+    }
+      where
+        tree : (shape : Shape) → tree_of shape now' ≡ put (tree_of shape old) p (take (length left') ((tree_of shape old).fields p) ++ v ∷ so.rest)
+        tree shape =
+            let before = so.tree shape ∙ ap (λ n. put (tree_of shape old) p (take n ((tree_of shape old).fields p) ++ so.rest)) one_longer in
+            let w = within shape in
+            let o = one_longer in
+            set shape ∙ ap (λ t. with_field t p (length left') v) before ∙ set_one (tree_of shape old) p so.rest (length left') v (omega (arith, w, o))
+
+  pub all_put : (left : List Value) → left ≡ [] → PutSoFar old p all now left → (shape : Shape) → tree_of shape now ≡ put (tree_of shape old) p all
+  all_put left none so shape =
+      so.tree shape
+      ∙ ap (λ ls. put (tree_of shape old) p (take (length ls) ((tree_of shape old).fields p) ++ so.rest)) none
+      ∙ ap (put (tree_of shape old) p) (sym (so.is ∙ ap (λ ls. ls ++ so.rest) none))

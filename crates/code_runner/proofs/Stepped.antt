@@ -1,7 +1,7 @@
 -- What a segment makes of a call under way.
 use Rattle.std.proofs.Common.{◌≡◌, ℕ, zero, suc, ◌⊎◌, inl, inr, Bool, true, false, List, [], ◌∷◌, ◌++◌, length, Option, Some, None, refl, ap, sym, subst, ◌∙◌, arith}
 use mathlib.Core.Bool.{true≢false}
-use Rattle.std.proofs.lemmas.List.{length-append}
+use Rattle.std.proofs.lemmas.List.{length-append, length-map}
 use Rattle.std.specs.List.{list_any}
 use Rattle.wave_base.specs.declared.call.Call.{Call}
 use Rattle.wave_base.specs.declared.outcome.EventResult.{EventResult}
@@ -9,21 +9,38 @@ use Rattle.wave_base.specs.declared.path.Path.{Path}
 use Rattle.wave_base.specs.declared.path.Step.{Step}
 use Rattle.wave_base.specs.declared.pause.Pause.{Pause as Halt}
 use Rattle.wave_base.specs.declared.pause.Pause.TheVariants as halt
-use Rattle.wave_base.specs.Paths.{path_eq}
-use Rattle.wave_base.specs.Tree.{Tree, enter, put}
+use Rattle.wave_base.specs.Paths.{path_eq, parent_of}
+use Rattle.wave_base.specs.declared.shape.Shape.{Shape}
+use Rattle.wave_base.specs.Shapes.{is_path}
+use Rattle.wave_base.specs.Values.{kind_of}
+use Rattle.wave_base.specs.Tree.{Tree, there, enter, put}
+use Rattle.wave_base.specs.Trees.{HasKinds}
+use Rattle.context_tree.specs.Contexts.{Contexts, tree_of, is_there}
 use Rattle.service_code.specs.declared.program.Program.{Program}
 use Rattle.service_verify.specs.Boxes.{Box, first_box}
 use Rattle.service_verify.specs.Copies.{Trip, tripped, next_trip, first_trip}
 use Rattle.service_verify.specs.Segments.{Event, Left, event_segment}
+use Rattle.service_verify.specs.Standing.{kinds_of, HasFields, Stands, Leaves}
 use Rattle.service_verify.specs.Steps.{is_held}
 use Rattle.service_verify.specs.Tours.{Fields, Tour, into, halted}
+use Rattle.code_actor.specs.CodeActors.{first_event}
 use Rattle.code_actor.specs.Locks.{Enters, Locks, holds, has_entered}
 use Rattle.code_runner.specs.declared.walk.Walk.{Walk}
+use Rattle.code_actor.proofs.Above.{parent_child}
+use Rattle.code_runner.proofs.Putting.{Kept, kept_here}
+use Rattle.code_runner.proofs.Walking.{at_there}
 use Rattle.code_runner.specs.Walks.{event_of, trip_of, Walks, paths_into, tree_into}
 
 -- a call that begins
-pub started : (program : Program) (call : Call) (tree tree' : Tree Fields) (w : Walk) → w.event ≡ record { box = first_box program call; levels = [] } → w.entered.items ≡ [] ∷ [] → w.segments ≡ 0 → tree' ≡ enter tree [] → trip_of w tree' None ≡ first_trip program call tree
-started program call tree tree' w e n s t i = record { tour = record { box = (e i).box; tree = t i; entered = n i; segments = s i; result = None }; levels = (e i).levels }
+pub started : (program : Program) (call call' : Call) (tree tree' : Tree Fields) (w : Walk) → call' ≡ call → w.event ≡ first_event program call' → w.entered.items ≡ [] ∷ [] → w.segments ≡ 0 → tree' ≡ enter tree [] → trip_of w tree' None ≡ first_trip program call tree
+started program call call' tree tree' w c e n s t = let f = e ∙ ap (first_event program) c in λ i. record { tour = record { box = (f i).box; tree = t i; entered = n i; segments = s i; result = None }; levels = (f i).levels }
+
+-- by whether it had entered the path
+pub entered_so : (entered new : List Path) (p q : Path) (c : Bool) → q ≡ p → list_any (path_eq q) entered ≡ c → new ≡ paths_into c entered q → new ≡ paths_into (list_any (path_eq p) entered) entered p
+entered_so entered new p q c same e n = subst (λ r. new ≡ paths_into (list_any (path_eq r) entered) entered r) same (subst (λ d. new ≡ paths_into d entered q) (sym e) n)
+
+pub tree_so : (entered : List Path) (tree new : Tree Fields) (p q : Path) (c : Bool) → q ≡ p → list_any (path_eq q) entered ≡ c → new ≡ tree_into c tree q → new ≡ tree_into (list_any (path_eq p) entered) tree p
+tree_so entered tree new p q c same e n = subst (λ r. new ≡ tree_into (list_any (path_eq r) entered) tree r) same (subst (λ d. new ≡ tree_into d tree q) (sym e) n)
 
 last_is : (xs : List Path) (a b : Path) → xs ++ a ∷ [] ≡ xs ++ b ∷ [] → a ≡ b
 last_is [] a b e = head_is e
@@ -47,6 +64,34 @@ tells t b left false e known l = by l.enters
     by (inl same) = grew t.entered b.path same
     by (inr new) = ap (has_entered t) (last_is t.entered b.path (t.box.path ++ new.0 ∷ []) new.2) ∙ new.1
 
+-- what a segment requires of the event and of the fields
+pub stands_on : (program : Program) (w : Walk) (tree : Tree Fields) → Walks program (trip_of w tree None) → (here : Path) (fields : Fields) → here ≡ w.event.box.path → fields ≡ tree.fields here → (p : Path) × (n : ℕ) × Stands program p n w.event × HasFields program.shape p fields
+stands_on program w tree walks here fields at same =
+    let has : HasFields program.shape walks.path (tree.fields walks.path) = at_there (λ q. HasKinds program.shape q (tree.fields q)) walks.path tree.paths walks.fits.kinds walks.here in
+    (walks.path, walks.calls, walks.stands, subst (HasFields program.shape walks.path) (sym (same ∙ ap tree.fields (at ∙ walks.stands.box.path))) has)
+
+same_length : (shape : Shape) (p : Path) (x y : Fields) → HasFields shape p x → HasFields shape p y → length x ≡ length y
+same_length shape p x y e f = sym (length-map kind_of x) ∙ ap length (e ∙ sym f) ∙ length-map kind_of y
+
+-- fields of the right kinds are as many as those there
+pub as_many : (shape other : Shape) (t : Contexts) (p here : Path) (left : Fields) → is_there t p ≡ true → here ≡ p → HasFields shape p left → HasFields shape p ((tree_of shape t).fields p) → length left ≡ length ((tree_of other t).fields here)
+as_many shape other t p here left there at e f =
+    let k = kept_here t p there in
+    same_length shape p left ((tree_of shape t).fields p) e f
+    ∙ ap length (k.shown shape ∙ sym (k.shown other) ∙ ap (tree_of other t).fields (sym at))
+
+-- into a child, for good or for a call
+abbrev pub IsInto : Halt → Type 0
+IsInto why = (s : Step) × ((why ≡ halt.Go s) ⊎ (why ≡ halt.Down s))
+
+pub into_child : (program : Program) (p : Path) (n : ℕ) (e : Event) (why : Halt) → IsInto why → Leaves program p n e why → (is_path program.shape e.box.path ≡ true) × (parent_of e.box.path ≡ p)
+into_child program p n e (halt.Go s) i l = (subst (λ q. is_path program.shape q ≡ true) (sym l.1.box.path) l.1.box.is_path, ap parent_of l.1.box.path ∙ parent_child p s)
+into_child program p n e (halt.Down s) i l = (subst (λ q. is_path program.shape q ≡ true) (sym l.box.path) l.box.is_path, ap parent_of l.box.path ∙ parent_child p s)
+into_child program p n e halt.Back (s, inl is) l = cc
+into_child program p n e halt.Back (s, inr is) l = cc
+into_child program p n e (halt.Over r) (s, inl is) l = cc
+into_child program p n e (halt.Over r) (s, inr is) l = cc
+
 module _ (program : Program) (w : Walk) (tree : Tree Fields) (walks : Walks program (trip_of w tree None)) (fields : Fields) (same : fields ≡ tree.fields w.event.box.path) (e : Event) (left : Fields) (why : Halt) (is : event_segment program w.event fields ≡ Some (record { event = e; fields = left; pause = why })) where
   abbrev t : Trip
   t = trip_of w tree None
@@ -63,14 +108,22 @@ module _ (program : Program) (w : Walk) (tree : Tree Fields) (walks : Walks prog
     by_into true n r i = record { tour = record { box = (event i).box; tree = r i; entered = n i; segments = segments i; result = None }; levels = (event i).levels }
     by_into false n r i = record { tour = record { box = (event i).box; tree = r i; entered = n i; segments = segments i; result = None }; levels = (event i).levels }
 
-    pub stepped_into : next_trip program t ≡ record { tour = into t.tour e.box left (is_held t.tour.box.held e.box.path); levels = e.levels } → w'.entered.items ≡ paths_into (list_any (path_eq e.box.path) w.entered.items) w.entered.items e.box.path → tree' ≡ tree_into (list_any (path_eq e.box.path) w.entered.items) left_tree e.box.path → trip_of w' tree' None ≡ next_trip program t
-    stepped_into next n r =
+    next_into : IsInto why → next_trip program t ≡ record { tour = into t.tour e.box left (is_held t.tour.box.held e.box.path); levels = e.levels }
+    next_into i = by i.1
+      where
+        by : (why ≡ halt.Go i.0) ⊎ (why ≡ halt.Down i.0) → next_trip program t ≡ record { tour = into t.tour e.box left (is_held t.tour.box.held e.box.path); levels = e.levels }
+        by (inl is) = subst (λ y. next_trip program t ≡ record { tour = halted t.tour e.box left y; levels = e.levels }) is is_next
+        by (inr is) = subst (λ y. next_trip program t ≡ record { tour = halted t.tour e.box left y; levels = e.levels }) is is_next
+
+    pub stepped_into : IsInto why → w'.entered.items ≡ paths_into (list_any (path_eq e.box.path) w.entered.items) w.entered.items e.box.path → tree' ≡ tree_into (list_any (path_eq e.box.path) w.entered.items) left_tree e.box.path → trip_of w' tree' None ≡ next_trip program t
+    stepped_into i n r =
+        let next = next_into i in
         let c = is_held t.tour.box.held e.box.path in
         let told : list_any (path_eq e.box.path) w.entered.items ≡ c = tells t.tour e.box left c refl walks.known (subst (λ (u : Trip). Locks t.tour u.tour) next walks.locks) in
         by_into c (subst (λ d. w'.entered.items ≡ paths_into d w.entered.items e.box.path) told n) (subst (λ d. tree' ≡ tree_into d left_tree e.box.path) told r) ∙ sym next
 
-    pub stepped_back : next_trip program t ≡ record { tour = halted t.tour e.box left halt.Back; levels = e.levels } → w'.entered.items ≡ w.entered.items → tree' ≡ left_tree → trip_of w' tree' None ≡ next_trip program t
-    stepped_back next n r = (λ i. record { tour = record { box = (event i).box; tree = r i; entered = n i; segments = segments i; result = None }; levels = (event i).levels }) ∙ sym next
+    pub stepped_back : why ≡ halt.Back → w'.entered.items ≡ w.entered.items → tree' ≡ left_tree → trip_of w' tree' None ≡ next_trip program t
+    stepped_back is n r = let next = subst (λ y. next_trip program t ≡ record { tour = halted t.tour e.box left y; levels = e.levels }) is is_next in (λ i. record { tour = record { box = (event i).box; tree = r i; entered = n i; segments = segments i; result = None }; levels = (event i).levels }) ∙ sym next
 
-    pub stepped_over : (o : EventResult) → next_trip program t ≡ record { tour = halted t.tour e.box left (halt.Over o); levels = e.levels } → w'.entered.items ≡ w.entered.items → tree' ≡ left_tree → trip_of w' tree' (Some o) ≡ next_trip program t
-    stepped_over o next n r = (λ i. record { tour = record { box = (event i).box; tree = r i; entered = n i; segments = segments i; result = Some o }; levels = (event i).levels }) ∙ sym next
+    pub stepped_over : (o : EventResult) → why ≡ halt.Over o → w'.entered.items ≡ w.entered.items → tree' ≡ left_tree → trip_of w' tree' (Some o) ≡ next_trip program t
+    stepped_over o is n r = let next = subst (λ y. next_trip program t ≡ record { tour = halted t.tour e.box left y; levels = e.levels }) is is_next in (λ i. record { tour = record { box = (event i).box; tree = r i; entered = n i; segments = segments i; result = Some o }; levels = (event i).levels }) ∙ sym next
