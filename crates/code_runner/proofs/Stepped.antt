@@ -1,5 +1,5 @@
 -- What a segment makes of a call under way.
-use Rattle.std.proofs.Common.{◌≡◌, ℕ, zero, suc, ◌⊎◌, inl, inr, Bool, true, false, List, [], ◌∷◌, ◌++◌, length, Option, Some, None, refl, ap, sym, subst, ◌∙◌, arith}
+use Rattle.std.proofs.Common.{◌≡◌, ℕ, zero, suc, ◌⊎◌, inl, inr, Bool, true, false, List, [], ◌∷◌, ◌++◌, length, ◌||◌, Option, Some, None, refl, ap, sym, subst, ◌∙◌, arith}
 use mathlib.Core.Bool.{true≢false}
 use Rattle.std.proofs.lemmas.List.{length-append, length-map}
 use Rattle.std.specs.List.{list_any}
@@ -10,11 +10,12 @@ use Rattle.wave_base.specs.declared.path.Step.{Step}
 use Rattle.wave_base.specs.declared.pause.Pause.{Pause as Halt}
 use Rattle.wave_base.specs.declared.pause.Pause.TheVariants as halt
 use Rattle.wave_base.specs.Paths.{path_eq, parent_of}
+use Rattle.wave_base.specs.PathLaws.{path_eq_equiv}
 use Rattle.wave_base.specs.declared.shape.Shape.{Shape}
 use Rattle.wave_base.specs.Shapes.{is_path}
 use Rattle.wave_base.specs.Values.{kind_of}
 use Rattle.wave_base.specs.Tree.{Tree, there, enter, put}
-use Rattle.wave_base.specs.Trees.{HasKinds}
+use Rattle.wave_base.specs.Trees.{FitsShape, HasKinds}
 use Rattle.context_tree.specs.Contexts.{Contexts, tree_of, is_there}
 use Rattle.service_code.specs.declared.program.Program.{Program}
 use Rattle.service_verify.specs.Boxes.{Box, first_box}
@@ -34,6 +35,14 @@ use Rattle.code_runner.specs.Walks.{event_of, trip_of, Walks, paths_into, tree_i
 -- a call that begins
 pub started : (program : Program) (call call' : Call) (tree tree' : Tree Fields) (w : Walk) → call' ≡ call → w.event ≡ first_event program call' → w.entered.items ≡ [] ∷ [] → w.segments ≡ 0 → tree' ≡ enter tree [] → trip_of w tree' None ≡ first_trip program call tree
 started program call call' tree tree' w c e n s t = let f = e ∙ ap (first_event program) c in λ i. record { tour = record { box = (f i).box; tree = t i; entered = n i; segments = s i; result = None }; levels = (f i).levels }
+
+same_test : (p : Path) (ps : List Path) → list_any (λ q. path_eq q p) ps ≡ list_any (path_eq p) ps
+same_test p [] = refl
+same_test p (q ∷ ps) = λ i. path_eq_equiv.symm q p i || same_test p ps i
+
+-- a search for a path, as it was answered
+pub told : (p : Path) (ps qs : List Path) (answer c : Bool) → answer ≡ list_any (λ q. path_eq q p) ps → ps ≡ qs → answer ≡ c → list_any (path_eq p) qs ≡ c
+told p ps qs answer c value same is = sym (same_test p qs) ∙ ap (list_any (λ q. path_eq q p)) (sym same) ∙ sym value ∙ is
 
 -- by whether it had entered the path
 pub entered_so : (entered new : List Path) (p q : Path) (c : Bool) → q ≡ p → list_any (path_eq q) entered ≡ c → new ≡ paths_into c entered q → new ≡ paths_into (list_any (path_eq p) entered) entered p
@@ -71,7 +80,10 @@ stands_on program w tree walks here fields at same =
     (walks.path, walks.calls, walks.stands, subst (HasFields program.shape walks.path) (sym (same ∙ ap tree.fields (at ∙ walks.stands.box.path))) has)
 
 same_length : (shape : Shape) (p : Path) (x y : Fields) → HasFields shape p x → HasFields shape p y → length x ≡ length y
-same_length shape p x y e f = sym (length-map kind_of x) ∙ ap length (e ∙ sym f) ∙ length-map kind_of y
+same_length shape p x y e f = sym (length-map x kind_of) ∙ ap length (e ∙ sym f) ∙ length-map y kind_of
+
+pub has_kinds : (program : Program) (tree : Tree Fields) (p : Path) → FitsShape program.shape tree → there tree p ≡ true → HasFields program.shape p (tree.fields p)
+has_kinds program tree p fits here = at_there (λ q. HasKinds program.shape q (tree.fields q)) p tree.paths fits.kinds here
 
 -- fields of the right kinds are as many as those there
 pub as_many : (shape other : Shape) (t : Contexts) (p here : Path) (left : Fields) → is_there t p ≡ true → here ≡ p → HasFields shape p left → HasFields shape p ((tree_of shape t).fields p) → length left ≡ length ((tree_of other t).fields here)
@@ -80,17 +92,33 @@ as_many shape other t p here left there at e f =
     same_length shape p left ((tree_of shape t).fields p) e f
     ∙ ap length (k.shown shape ∙ sym (k.shown other) ∙ ap (tree_of other t).fields (sym at))
 
+-- a context is there after fields were put
+pub still_there : (shape : Shape) (t u : Contexts) (here p q : Path) (left : Fields) → ((shape : Shape) → tree_of shape u ≡ put (tree_of shape t) here left) → q ≡ p → is_there t p ≡ true → is_there u q ≡ true
+still_there shape t u here p q left is same there' = ap (λ (r : Tree Fields). there r q) (is shape) ∙ ap (is_there t) same ∙ there'
+
 -- into a child, for good or for a call
 abbrev pub IsInto : Halt → Type 0
-IsInto why = (s : Step) × ((why ≡ halt.Go s) ⊎ (why ≡ halt.Down s))
+IsInto why = ((s : Step) × (why ≡ halt.Go s)) ⊎ ((s : Step) × (why ≡ halt.Down s))
+
+no_go : {A : Type 0} (y : Halt) (s : Step) → y ≡ halt.Back → y ≡ halt.Go s → A
+no_go y s e f = cc
+
+no_down : {A : Type 0} (y : Halt) (s : Step) → y ≡ halt.Back → y ≡ halt.Down s → A
+no_down y s e f = cc
+
+over_no_go : {A : Type 0} (r : EventResult) (s : Step) → halt.Over r ≡ halt.Go s → A
+over_no_go r s e = cc
+
+over_no_down : {A : Type 0} (r : EventResult) (s : Step) → halt.Over r ≡ halt.Down s → A
+over_no_down r s e = cc
 
 pub into_child : (program : Program) (p : Path) (n : ℕ) (e : Event) (why : Halt) → IsInto why → Leaves program p n e why → (is_path program.shape e.box.path ≡ true) × (parent_of e.box.path ≡ p)
 into_child program p n e (halt.Go s) i l = (subst (λ q. is_path program.shape q ≡ true) (sym l.1.box.path) l.1.box.is_path, ap parent_of l.1.box.path ∙ parent_child p s)
 into_child program p n e (halt.Down s) i l = (subst (λ q. is_path program.shape q ≡ true) (sym l.box.path) l.box.is_path, ap parent_of l.box.path ∙ parent_child p s)
-into_child program p n e halt.Back (s, inl is) l = cc
-into_child program p n e halt.Back (s, inr is) l = cc
-into_child program p n e (halt.Over r) (s, inl is) l = cc
-into_child program p n e (halt.Over r) (s, inr is) l = cc
+into_child program p n e halt.Back (inl is) l = no_go halt.Back is.0 refl is.1
+into_child program p n e halt.Back (inr is) l = no_down halt.Back is.0 refl is.1
+into_child program p n e (halt.Over r) (inl is) l = over_no_go r is.0 is.1
+into_child program p n e (halt.Over r) (inr is) l = over_no_down r is.0 is.1
 
 module _ (program : Program) (w : Walk) (tree : Tree Fields) (walks : Walks program (trip_of w tree None)) (fields : Fields) (same : fields ≡ tree.fields w.event.box.path) (e : Event) (left : Fields) (why : Halt) (is : event_segment program w.event fields ≡ Some (record { event = e; fields = left; pause = why })) where
   abbrev t : Trip
@@ -109,11 +137,8 @@ module _ (program : Program) (w : Walk) (tree : Tree Fields) (walks : Walks prog
     by_into false n r i = record { tour = record { box = (event i).box; tree = r i; entered = n i; segments = segments i; result = None }; levels = (event i).levels }
 
     next_into : IsInto why → next_trip program t ≡ record { tour = into t.tour e.box left (is_held t.tour.box.held e.box.path); levels = e.levels }
-    next_into i = by i.1
-      where
-        by : (why ≡ halt.Go i.0) ⊎ (why ≡ halt.Down i.0) → next_trip program t ≡ record { tour = into t.tour e.box left (is_held t.tour.box.held e.box.path); levels = e.levels }
-        by (inl is) = subst (λ y. next_trip program t ≡ record { tour = halted t.tour e.box left y; levels = e.levels }) is is_next
-        by (inr is) = subst (λ y. next_trip program t ≡ record { tour = halted t.tour e.box left y; levels = e.levels }) is is_next
+    next_into (inl is) = subst (λ y. next_trip program t ≡ record { tour = halted t.tour e.box left y; levels = e.levels }) is.1 is_next
+    next_into (inr is) = subst (λ y. next_trip program t ≡ record { tour = halted t.tour e.box left y; levels = e.levels }) is.1 is_next
 
     pub stepped_into : IsInto why → w'.entered.items ≡ paths_into (list_any (path_eq e.box.path) w.entered.items) w.entered.items e.box.path → tree' ≡ tree_into (list_any (path_eq e.box.path) w.entered.items) left_tree e.box.path → trip_of w' tree' None ≡ next_trip program t
     stepped_into i n r =

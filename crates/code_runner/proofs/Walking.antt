@@ -43,11 +43,11 @@ some_none r e = cc
 -- what holds of all paths holds of one that is among them
 pub at_there : (P : Path → Type 0) (p : Path) (ps : List Path) → All P ps → list_any (path_eq p) ps ≡ true → P p
 at_there P p [] all h = absurd (true≢false (sym h))
-at_there P p (q ∷ ps) all h = by (path_eq p q) refl (or_is _ _ h)
+at_there P p (q ∷ ps) all h = by (at_there P p ps (All-tail P q ps all)) (or_is _ _ h)
   where
-    by : (b : Bool) → path_eq p q ≡ b → (path_eq p q ≡ true) ⊎ (list_any (path_eq p) ps ≡ true) → P p
-    by b e (inl same) = subst P (sym ((path_eq_decides p q).0 same)) (All-head P q ps all)
-    by b e (inr more) = at_there P p ps (All-tail P q ps all) more
+    by : (list_any (path_eq p) ps ≡ true → P p) → (path_eq p q ≡ true) ⊎ (list_any (path_eq p) ps ≡ true) → P p
+    by rest (inl same) = subst P (sym ((path_eq_decides p q).0 same)) (All-head P q ps all)
+    by rest (inr more) = rest more
 
 choose_false : {A : Type 0} (b : Bool) (x y : A) → b ≡ false → (if b then x else y) ≡ y
 choose_false b x y e = rw e refl
@@ -195,8 +195,8 @@ module _ (program : Program) (fit : IsFit program) (verified : IsVerified progra
 
     known : (n : ℕ) → (tour n).result ≡ None → (q : Path) → holds (tour n) q ≡ true → has_entered (tour n) q ≡ true
     unfolding tour_after first_box
-    known zero running q e = e
-    known (suc n) running q e = by (l.held q e)
+    known zero running r e = e
+    known (suc n) running r e = by (known n (running_before n running)) (l.held r e)
       where
         before : (tour n).result ≡ None
         before = running_before n running
@@ -204,9 +204,9 @@ module _ (program : Program) (fit : IsFit program) (verified : IsVerified progra
         l : Locks (tour n) (tour (suc n))
         l = locks n before
 
-        by : (holds (tour n) q ≡ true) ⊎ ((has_entered (tour n) q ≡ false) × (has_entered (tour (suc n)) q ≡ true)) → has_entered (tour (suc n)) q ≡ true
-        by (inl was) = stays_entered (tour n) (tour (suc n)) l.enters q (known n before q was)
-        by (inr new) = new.1
+        by : ((s : Path) → holds (tour n) s ≡ true → has_entered (tour n) s ≡ true) → (holds (tour n) r ≡ true) ⊎ ((has_entered (tour n) r ≡ false) × (has_entered (tour (suc n)) r ≡ true)) → has_entered (tour (suc n)) r ≡ true
+        by rest (inl was) = stays_entered (tour n) (tour (suc n)) l.enters r (rest r was)
+        by rest (inr new) = new.1
 
     first_at : At (trip 0)
     unfolding trip_after first_box

@@ -10,15 +10,15 @@ loop-value-init c = begun c.args.contexts.now c.args.path.now c.into_vec-fields.
 
 pub set-requires : goal.set-requires
 set-requires c =
-    subst (HasField c.loop-value.contexts c.args.path.now) (sym c.len.ensures)
+    subst (HasField c.loop-value.contexts c.args.path.now) (sym (c.len.ensures ∙ ?))
     (last_is_there c.args.contexts.now c.args.path.now c.into_vec-fields.result.items c.loop-value.contexts (λ shape. ap length c.into_vec-fields.ensures ∙ c.requires.many shape)
-    c.loop-value.fields.items c.pop.new.self.items c.in-Some.value c.loop-value.invariant ?)
+    c.loop-value.fields.items c.pop.new.self.items c.in-Some.value c.loop-value.invariant c.in-Some.ensures.items)
 
 pub loop-value-preserved : goal.loop-value-preserved
 loop-value-preserved c =
     one_more c.args.contexts.now c.args.path.now c.into_vec-fields.result.items c.loop-value.contexts (λ shape. ap length c.into_vec-fields.ensures ∙ c.requires.many shape)
-    c.loop-value.fields.items c.pop.new.self.items c.in-Some.value c.loop-value.invariant ? c.set.new.self
-    (λ shape. c.set.ensures shape ∙ ap (λ n. with_field (tree_of shape c.loop-value.contexts) c.args.path.now n c.in-Some.value) c.len.ensures)
+    c.loop-value.fields.items c.pop.new.self.items c.in-Some.value c.loop-value.invariant c.in-Some.ensures.items c.set.new.self
+    (λ shape. c.set.ensures shape ∙ ap (λ n. with_field (tree_of shape c.loop-value.contexts) c.args.path.now n c.in-Some.value) (c.len.ensures ∙ ?))
 
 pub returns : goal.returns
 returns c shape =

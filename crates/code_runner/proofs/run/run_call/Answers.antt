@@ -1,4 +1,4 @@
-use Rattle.std.proofs.Common.{◌≡◌, ◌<◌, suc, Some, None, ap, sym, subst, ◌∙◌, refl, arith}
+use Rattle.std.proofs.Common.{◌≡◌, ◌<◌, ◌-◌, ◌^◌, ℕ, suc, Some, None, ap, sym, subst, ◌∙◌, refl, arith}
 use Rattle.context_tree.specs.Contexts.{tree_of}
 use Rattle.service_verify.specs.Copies.{Trip, next_trip, trip_after, first_trip}
 use Rattle.service_verify.specs.Tours.{Tour, most_segments, code_tour}
@@ -11,16 +11,44 @@ unfolding trip_after
 under_way-init c = record { verified = c.start.ensures.verified; follows = c.in_ok-walk.ensures.first ∙ sym (ap (λ n. trip_after c.args.program.now n (first_trip c.args.program.now c.args.call.now (tree_of c.args.program.now.shape c.args.contexts.now))) (ap (λ (t : Trip). t.tour.segments) c.in_ok-walk.ensures.first)) }
 
 pub step-requires-clause-walks : goal.step-requires-clause-walks
-step-requires-clause-walks c = ?
+step-requires-clause-walks c =
+    let p = c.args.program.now in
+    let is = c.under_way.invariant.follows in
+    subst (Walks p) (sym is)
+    (walks p c.requires.fit c.under_way.invariant.verified c.args.call.now (tree_of p.shape c.args.contexts.now) (c.requires.call, c.requires.generation) c.requires.tree c.requires.root c.under_way.walk.segments (ap (λ (t : Trip). t.tour.result) (sym is)))
+
+most_small : (a m : ℕ) → a < m → m ≡ 200009 → a < 2 ^ 63
+most_small a m h e = omega (arith, h, e)
 
 pub step-requires-clause-few : goal.step-requires-clause-few
-step-requires-clause-few c = ?
+step-requires-clause-few c =
+    let p = c.args.program.now in
+    let is = c.under_way.invariant.follows in
+    most_small c.under_way.walk.segments (most_segments p)
+    (few p c.requires.fit c.under_way.invariant.verified c.args.call.now (tree_of p.shape c.args.contexts.now) (c.requires.call, c.requires.generation) c.requires.tree c.requires.root c.under_way.walk.segments (ap (λ (t : Trip). t.tour.result) (sym is)))
+    refl
+
+fewer : (a b m : ℕ) → b ≡ suc a → a < m → m - b < m - a
+fewer a b m e h = omega (arith, e, h)
 
 pub under_way-smaller : goal.under_way-smaller
-under_way-smaller c = ?
+under_way-smaller c =
+    let p = c.args.program.now in
+    let is = c.under_way.invariant.follows in
+    fewer c.under_way.walk.segments c.step.new.self.segments (most_segments p) c.in_ok-result.ensures.segments
+    (few p c.requires.fit c.under_way.invariant.verified c.args.call.now (tree_of p.shape c.args.contexts.now) (c.requires.call, c.requires.generation) c.requires.tree c.requires.root c.under_way.walk.segments (ap (λ (t : Trip). t.tour.result) (sym is)))
 
 pub under_way-preserved : goal.under_way-preserved
-under_way-preserved c = ?
+under_way-preserved c = record { verified = c.under_way.invariant.verified; follows = ? }
 
 pub returns-in-Some-clause-result : goal.returns-in-Some-clause-result
 returns-in-Some-clause-result c = ?
+
+pub returns-in-Some-clause-tree : goal.returns-in-Some-clause-tree
+returns-in-Some-clause-tree c = ?
+
+pub returns-in-Some-clause-entered : goal.returns-in-Some-clause-entered
+returns-in-Some-clause-entered c = ?
+
+pub returns-in-Some-clause-segments : goal.returns-in-Some-clause-segments
+returns-in-Some-clause-segments c = ?
