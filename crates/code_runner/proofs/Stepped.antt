@@ -73,11 +73,15 @@ tells t b left false e known l = by l.enters
     by (inl same) = grew t.entered b.path same
     by (inr new) = ap (has_entered t) (last_is t.entered b.path (t.box.path ++ new.0 ∷ []) new.2) ∙ new.1
 
+-- the fields where it runs have the kinds of their class
+pub has_here : (program : Program) (w : Walk) (tree : Tree Fields) (walks : Walks program (trip_of w tree None)) (here : Path) (fields : Fields) → here ≡ w.event.box.path → fields ≡ tree.fields here → HasFields program.shape walks.path fields
+has_here program w tree walks here fields at same =
+    let has : HasFields program.shape walks.path (tree.fields walks.path) = at_there (λ q. HasKinds program.shape q (tree.fields q)) walks.path tree.paths walks.fits.kinds walks.here in
+    subst (HasFields program.shape walks.path) (sym (same ∙ ap tree.fields (at ∙ walks.stands.box.path))) has
+
 -- what a segment requires of the event and of the fields
 pub stands_on : (program : Program) (w : Walk) (tree : Tree Fields) → Walks program (trip_of w tree None) → (here : Path) (fields : Fields) → here ≡ w.event.box.path → fields ≡ tree.fields here → (p : Path) × (n : ℕ) × Stands program p n w.event × HasFields program.shape p fields
-stands_on program w tree walks here fields at same =
-    let has : HasFields program.shape walks.path (tree.fields walks.path) = at_there (λ q. HasKinds program.shape q (tree.fields q)) walks.path tree.paths walks.fits.kinds walks.here in
-    (walks.path, walks.calls, walks.stands, subst (HasFields program.shape walks.path) (sym (same ∙ ap tree.fields (at ∙ walks.stands.box.path))) has)
+stands_on program w tree walks here fields at same = (walks.path, walks.calls, walks.stands, has_here program w tree walks here fields at same)
 
 same_length : (shape : Shape) (p : Path) (x y : Fields) → HasFields shape p x → HasFields shape p y → length x ≡ length y
 same_length shape p x y e f = sym (length-map x kind_of) ∙ ap length (e ∙ sym f) ∙ length-map y kind_of

@@ -305,3 +305,12 @@ module _ (program : Program) (fit : IsFit program) (verified : IsVerified progra
         by : Order n most → tour n ≡ tour most
         by (below h) = sym (later (most - n) n r over_there) ∙ ap tour (split most n (omega (arith, h)))
         by (above h) = past n h
+
+    -- from one segment to the next
+    pub follows_on : (n m : ℕ) (t u : Trip) → t ≡ trip n → u ≡ next_trip program t → m ≡ suc n → u ≡ trip m
+    follows_on n m t u is next e = next ∙ ap (next_trip program) is ∙ sym (trip_next n) ∙ ap trip (sym e)
+
+    pub is_all : (n m : ℕ) (t u : Trip) (r : EventResult) → t ≡ trip n → u ≡ next_trip program t → m ≡ suc n → u.tour.result ≡ Some r → u.tour ≡ code_tour program call tree
+    is_all n m t u r is next e ended =
+        let same = follows_on n m t u is next e in
+        ap (λ (v : Trip). v.tour) same ∙ is_whole m r (ap (λ (v : Trip). v.tour.result) (sym same) ∙ ended)

@@ -1,9 +1,9 @@
 use Rattle.std.proofs.Common.{◌≡◌, ◌<◌, ◌-◌, ◌^◌, ℕ, suc, Some, None, ap, sym, subst, ◌∙◌, refl, arith}
 use Rattle.context_tree.specs.Contexts.{tree_of}
-use Rattle.service_verify.specs.Copies.{Trip, next_trip, trip_after, first_trip}
+use Rattle.service_verify.specs.Copies.{Trip, trip_after, first_trip}
 use Rattle.service_verify.specs.Tours.{Tour, most_segments, code_tour}
 use Rattle.code_runner.specs.Walks.{Walks, trip_of}
-use Rattle.code_runner.proofs.Walking.{walks, few, is_whole, trip_next}
+use Rattle.code_runner.proofs.Walking.{walks, few, follows_on, is_all}
 use Rattle.code_runner.proofs.run.run_call.Goals as goal
 
 pub under_way-init : goal.under_way-init
@@ -39,16 +39,43 @@ under_way-smaller c =
     (few p c.requires.fit c.under_way.invariant.verified c.args.call.now (tree_of p.shape c.args.contexts.now) (c.requires.call, c.requires.generation) c.requires.tree c.requires.root c.under_way.walk.segments (ap (λ (t : Trip). t.tour.result) (sym is)))
 
 pub under_way-preserved : goal.under_way-preserved
-under_way-preserved c = record { verified = c.under_way.invariant.verified; follows = ? }
+under_way-preserved c =
+    let p = c.args.program.now in
+    record {
+      verified = c.under_way.invariant.verified;
+      follows = follows_on p c.requires.fit c.under_way.invariant.verified c.args.call.now (tree_of p.shape c.args.contexts.now) (c.requires.call, c.requires.generation) c.requires.tree c.requires.root c.under_way.walk.segments c.step.new.self.segments (trip_of c.under_way.walk (tree_of p.shape c.under_way.contexts) None)
+          (trip_of c.step.new.self (tree_of p.shape c.step.new.contexts) None)
+          c.under_way.invariant.follows (ap (trip_of c.step.new.self (tree_of p.shape c.step.new.contexts)) (sym c.in_default.is) ∙ c.in_ok-result.ensures.next) c.in_ok-result.ensures.segments;
+    }
 
 pub returns-in-Some-clause-result : goal.returns-in-Some-clause-result
-returns-in-Some-clause-result c = ?
+returns-in-Some-clause-result c =
+    let p = c.args.program.now in
+    let whole = is_all p c.requires.fit c.under_way.invariant.verified c.args.call.now (tree_of p.shape c.args.contexts.now) (c.requires.call, c.requires.generation) c.requires.tree c.requires.root c.under_way.walk.segments c.step.new.self.segments (trip_of c.under_way.walk (tree_of p.shape c.under_way.contexts) None)
+        (trip_of c.step.new.self (tree_of p.shape c.step.new.contexts) (Some c.in-Some.result)) c.in-Some.result
+        c.under_way.invariant.follows (ap (trip_of c.step.new.self (tree_of p.shape c.step.new.contexts)) (sym c.in-Some.is) ∙ c.in_ok-result.ensures.next) c.in_ok-result.ensures.segments refl in
+    sym (ap (λ (t : Tour). t.result) whole)
 
 pub returns-in-Some-clause-tree : goal.returns-in-Some-clause-tree
-returns-in-Some-clause-tree c = ?
+returns-in-Some-clause-tree c =
+    let p = c.args.program.now in
+    let whole = is_all p c.requires.fit c.under_way.invariant.verified c.args.call.now (tree_of p.shape c.args.contexts.now) (c.requires.call, c.requires.generation) c.requires.tree c.requires.root c.under_way.walk.segments c.step.new.self.segments (trip_of c.under_way.walk (tree_of p.shape c.under_way.contexts) None)
+        (trip_of c.step.new.self (tree_of p.shape c.step.new.contexts) (Some c.in-Some.result)) c.in-Some.result
+        c.under_way.invariant.follows (ap (trip_of c.step.new.self (tree_of p.shape c.step.new.contexts)) (sym c.in-Some.is) ∙ c.in_ok-result.ensures.next) c.in_ok-result.ensures.segments refl in
+    ap (λ (t : Tour). t.tree) whole
 
 pub returns-in-Some-clause-entered : goal.returns-in-Some-clause-entered
-returns-in-Some-clause-entered c = ?
+returns-in-Some-clause-entered c =
+    let p = c.args.program.now in
+    let whole = is_all p c.requires.fit c.under_way.invariant.verified c.args.call.now (tree_of p.shape c.args.contexts.now) (c.requires.call, c.requires.generation) c.requires.tree c.requires.root c.under_way.walk.segments c.step.new.self.segments (trip_of c.under_way.walk (tree_of p.shape c.under_way.contexts) None)
+        (trip_of c.step.new.self (tree_of p.shape c.step.new.contexts) (Some c.in-Some.result)) c.in-Some.result
+        c.under_way.invariant.follows (ap (trip_of c.step.new.self (tree_of p.shape c.step.new.contexts)) (sym c.in-Some.is) ∙ c.in_ok-result.ensures.next) c.in_ok-result.ensures.segments refl in
+    c.from_vec.ensures ∙ ap (λ (t : Tour). t.entered) whole
 
 pub returns-in-Some-clause-segments : goal.returns-in-Some-clause-segments
-returns-in-Some-clause-segments c = ?
+returns-in-Some-clause-segments c =
+    let p = c.args.program.now in
+    let whole = is_all p c.requires.fit c.under_way.invariant.verified c.args.call.now (tree_of p.shape c.args.contexts.now) (c.requires.call, c.requires.generation) c.requires.tree c.requires.root c.under_way.walk.segments c.step.new.self.segments (trip_of c.under_way.walk (tree_of p.shape c.under_way.contexts) None)
+        (trip_of c.step.new.self (tree_of p.shape c.step.new.contexts) (Some c.in-Some.result)) c.in-Some.result
+        c.under_way.invariant.follows (ap (trip_of c.step.new.self (tree_of p.shape c.step.new.contexts)) (sym c.in-Some.is) ∙ c.in_ok-result.ensures.next) c.in_ok-result.ensures.segments refl in
+    ap (λ (t : Tour). t.segments) whole

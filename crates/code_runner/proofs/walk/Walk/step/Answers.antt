@@ -7,7 +7,7 @@ use Rattle.wave_base.specs.Shapes.{is_path}
 use Rattle.service_code.specs.declared.program.Program.{Program}
 use Rattle.service_verify.specs.Standing.{Leaves}
 use Rattle.code_runner.specs.Walks.{Walks, trip_of, tree_into}
-use Rattle.code_runner.proofs.Stepped.{stands_on, as_many, still_there, into_child, stepped_into, stepped_back, stepped_over, has_kinds}
+use Rattle.code_runner.proofs.Stepped.{has_here, stands_on, as_many, still_there, into_child, stepped_into, stepped_back, stepped_over, has_kinds}
 use Rattle.code_runner.proofs.walk.Walk.step.Goals as goal
 
 pub segment-requires-clause-stands : goal.segment-requires-clause-stands
@@ -17,26 +17,26 @@ pub put_fields-requires-clause-many : goal.put_fields-requires-clause-many
 put_fields-requires-clause-many c other =
     let w = c.requires.walks in
     let p = c.args.program.now in
-    let s = stands_on p c.args.self.now (tree_of p.shape c.args.contexts.now) w c.path-here.result c.in_ok-record.record.fields c.path-here.ensures (c.in_ok-record.ensures.fields p.shape) in
+    let has = has_here p c.args.self.now (tree_of p.shape c.args.contexts.now) w c.path-here.result c.in_ok-record.record.fields c.path-here.ensures (c.in_ok-record.ensures.fields p.shape) in
     let at = c.path-here.ensures ∙ w.stands.box.path in
     as_many p.shape other c.args.contexts.now w.path c.path-here.result c.segment.new.body.fields w.here at
-    (c.in_ok-pause.ensures.leaves s.0 s.1 s.2 s.3).0
+    (c.in_ok-pause.ensures.leaves w.path w.calls w.stands has).0
     (has_kinds p (tree_of p.shape c.args.contexts.now) w.path w.fits w.here)
 
 pub enter-requires-clause-path : goal.enter-requires-clause-path
 enter-requires-clause-path c =
     let w = c.requires.walks in
     let p = c.args.program.now in
-    let s = stands_on p c.args.self.now (tree_of p.shape c.args.contexts.now) w c.path-here.result c.in_ok-record.record.fields c.path-here.ensures (c.in_ok-record.ensures.fields p.shape) in
-    let i = into_child p w.path w.calls c.segment.new.event c.in_ok-pause.pause c.in-Go.is (c.in_ok-pause.ensures.leaves s.0 s.1 s.2 s.3).1 in
+    let has = has_here p c.args.self.now (tree_of p.shape c.args.contexts.now) w c.path-here.result c.in_ok-record.record.fields c.path-here.ensures (c.in_ok-record.ensures.fields p.shape) in
+    let i = into_child p w.path w.calls c.segment.new.event c.in_ok-pause.pause c.in-Go.is (c.in_ok-pause.ensures.leaves w.path w.calls w.stands has).1 in
     subst (λ (q : Program). is_path q.shape c.segment.new.event.box.path ≡ true) (sym c.program.ensures.program) i.0
 
 pub enter-requires-clause-parent : goal.enter-requires-clause-parent
 enter-requires-clause-parent c =
     let w = c.requires.walks in
     let p = c.args.program.now in
-    let s = stands_on p c.args.self.now (tree_of p.shape c.args.contexts.now) w c.path-here.result c.in_ok-record.record.fields c.path-here.ensures (c.in_ok-record.ensures.fields p.shape) in
-    let i = into_child p w.path w.calls c.segment.new.event c.in_ok-pause.pause c.in-Go.is (c.in_ok-pause.ensures.leaves s.0 s.1 s.2 s.3).1 in
+    let has = has_here p c.args.self.now (tree_of p.shape c.args.contexts.now) w c.path-here.result c.in_ok-record.record.fields c.path-here.ensures (c.in_ok-record.ensures.fields p.shape) in
+    let i = into_child p w.path w.calls c.segment.new.event c.in_ok-pause.pause c.in-Go.is (c.in_ok-pause.ensures.leaves w.path w.calls w.stands has).1 in
     still_there p.shape c.args.contexts.now c.put_fields.new.contexts c.path-here.result w.path (parent_of c.segment.new.event.box.path) c.segment.new.body.fields c.put_fields.ensures i.1 w.here
 
 plus_one : (n : ℕ) → n + 1 ≡ suc n
