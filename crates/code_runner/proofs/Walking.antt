@@ -24,7 +24,7 @@ use Rattle.service_verify.specs.Copies.{Trip, tripped, trip_if, next_trip, trip_
 use Rattle.service_verify.specs.Fit.{IsFit}
 use Rattle.service_verify.specs.Points.{IsVerified}
 use Rattle.service_verify.specs.Segments.{Event}
-use Rattle.service_verify.specs.Standing.{HasFields, HasTree, Leaves, Stands}
+use Rattle.service_verify.specs.Standing.{AreCalls, HasFields, HasTree, Leaves, Stands}
 use Rattle.service_verify.specs.Steps.{is_held}
 use Rattle.service_verify.specs.Tours.{Fields, Tour, tree_with, into, halted, tour_if, next_tour, tour_after, first_tour, most_segments, code_tour}
 use Rattle.service_verify.proofs.Copying.{copies_same}
@@ -97,9 +97,18 @@ module _ (program : Program) (fit : IsFit program) (verified : IsVerified progra
     pub fits : FitsShape program.shape t.tour.tree
     pub here : there t.tour.tree path ≡ true
     pub entered : (q : Path) → has_entered t.tour q ≡ true → there t.tour.tree q ≡ true
+    pub root : there t.tour.tree [] ≡ true
+
+  -- it is over, on a tree that still fits, and what it created are calls
+  pub record Ended (t : Tour) : Type 0 where
+    pub result : EventResult
+    pub is : t.result ≡ Some result
+    pub fits : FitsShape program.shape t.tree
+    pub root : there t.tree [] ≡ true
+    pub created : AreCalls program.shape result.created
 
   pub data At (t : Trip) : Type 0 where
-    over : (r : EventResult) → t.tour.result ≡ Some r → At t
+    over : Ended t.tour → At t
     on : Here t → At t
 
   module _ (t : Trip) (h : Here t) (known : (q : Path) → holds t.tour q ≡ true → has_entered t.tour q ≡ true) where
@@ -127,12 +136,13 @@ module _ (program : Program) (fit : IsFit program) (verified : IsVerified progra
         to = stands.box.path
 
         into_here : (c : Bool) → is_held t.tour.box.held b.path ≡ c → Here (record { tour = into t.tour b left c; levels = levels })
-        into_here true e = record { path = q; calls = m; running = refl; stands = stands; fits = fits; here = subst (λ r. there t.tour.tree r ≡ true) to (h.entered b.path (known b.path e)); entered = h.entered }
+        into_here true e = record { path = q; calls = m; running = refl; stands = stands; fits = fits; here = subst (λ r. there t.tour.tree r ≡ true) to (h.entered b.path (known b.path e)); entered = h.entered; root = h.root }
         into_here false e = record {
           path = q; calls = m; running = refl; stands = stands;
           fits = enter_fits program.shape fit.shape put_tree b.path fits (subst (λ r. is_path program.shape r ≡ true) (sym to) stands.box.is_path) (subst (λ r. there put_tree r ≡ true) (sym (ap parent_of to ∙ parent_child p s)) h.here);
           here = there-enter put_tree b.path q ∙ or_left _ _ ((path_eq_decides q b.path).1 (sym to));
           entered = λ r e. there-enter put_tree b.path r ∙ more r (or_is _ _ (sym (entered_more t.tour.entered b.path r) ∙ e));
+          root = there-enter put_tree b.path [] ∙ or_right _ _ h.root;
         }
           where
             more : (r : Path) → (list_any (path_eq r) t.tour.entered ≡ true) ⊎ ((path_eq r b.path || false) ≡ true) → (path_eq r b.path || there put_tree r) ≡ true
@@ -149,8 +159,8 @@ module _ (program : Program) (fit : IsFit program) (verified : IsVerified progra
         where
           back : (n : ℕ) → Leaves program p n (record { box = b; levels = levels }) halt.Back → At (record { tour = halted t.tour b left halt.Back; levels = levels })
           back zero l = absurd l
-          back (suc m) l = on (record { path = parent_of p; calls = m; running = refl; stands = l; fits = fits; here = at_there (λ q. there t.tour.tree (parent_of q) ≡ true) p t.tour.tree.paths h.fits.parents h.here; entered = h.entered })
-      by (halt.Over r) l = over r refl
+          back (suc m) l = on (record { path = parent_of p; calls = m; running = refl; stands = l; fits = fits; here = at_there (λ q. there t.tour.tree (parent_of q) ≡ true) p t.tour.tree.paths h.fits.parents h.here; entered = h.entered; root = h.root })
+      by (halt.Over r) l = over (record { result = r; is = refl; fits = fits; root = h.root; created = l })
 
     a : Runs program fit verified p h.calls (event_of t) (t.tour.tree.fields t.tour.box.path)
     a = segment_runs program fit verified p h.calls (event_of t) (t.tour.tree.fields t.tour.box.path) h.stands has_fields
@@ -216,6 +226,7 @@ module _ (program : Program) (fit : IsFit program) (verified : IsVerified progra
       fits = enter_fits program.shape fit.shape tree [] tree_fits refl root;
       here = there-enter tree [] [];
       entered = λ q e. there-enter tree [] q ∙ first q e;
+      root = there-enter tree [] [];
     })
       where
         first : (q : Path) → list_any (path_eq q) ([] ∷ []) ≡ true → (path_eq q [] || there tree q) ≡ true
@@ -227,7 +238,7 @@ module _ (program : Program) (fit : IsFit program) (verified : IsVerified progra
     all_at (suc n) = subst At (sym (trip_next n)) (next (all_at n))
       where
         next : At (trip n) → At (next_trip program (trip n))
-        next (over r e) = over r (ap (λ (t : Trip). t.tour.result) (ap (trip_if program (trip n)) e) ∙ e)
+        next (over e) = subst At (sym (ap (trip_if program (trip n)) e.is)) (over e)
         next (on h) = at_next (trip n) h (subst (λ t. (q : Path) → holds t q ≡ true → has_entered t q ≡ true) (sym (is_tour n)) (known n (ap (λ (t : Tour). t.result) (sym (is_tour n)) ∙ h.running)))
 
     -- before each segment
@@ -238,7 +249,7 @@ module _ (program : Program) (fit : IsFit program) (verified : IsVerified progra
         tour_running = ap (λ (t : Tour). t.result) (sym (is_tour n)) ∙ running
 
         by : At (trip n) → Walks program (trip n)
-        by (over r e) = some_none r (sym e ∙ running)
+        by (over e) = some_none e.result (sym e.is ∙ running)
         by (on h) = record {
           path = h.path;
           calls = h.calls;
@@ -314,3 +325,10 @@ module _ (program : Program) (fit : IsFit program) (verified : IsVerified progra
     is_all n m t u r is next e ended =
         let same = follows_on n m t u is next e in
         ap (λ (v : Trip). v.tour) same ∙ is_whole m r (ap (λ (v : Trip). v.tour.result) (sym same) ∙ ended)
+
+    pub ended : Ended (code_tour program call tree)
+    ended = subst Ended (is_tour most ∙ whole) (by (all_at most))
+      where
+        by : At (trip most) → Ended (trip most).tour
+        by (over e) = e
+        by (on h) = some_none ends.0 (sym ends.1 ∙ ap (λ (t : Tour). t.result) (sym (is_tour most)) ∙ h.running)
