@@ -1,4 +1,4 @@
-ghost use Rattle.std.specs.Prelude.{◌≡◌, ◌≤◌, [], true, Some, IfOk};
+ghost use Rattle.std.specs.Prelude.{◌≡◌, ◌≤◌, [], true, Some, All, IfOk, OnOk};
 ghost use Rattle.context_tree.specs.Contexts.{tree_of};
 ghost use Rattle.wave_base.specs.declared.limits.TheConstants.{GENERATION};
 ghost use Rattle.wave_base.specs.Scripts.{IsCall};
@@ -6,6 +6,7 @@ ghost use Rattle.wave_base.specs.Tree.{there};
 ghost use Rattle.wave_base.specs.Trees.{FitsShape};
 ghost use Rattle.service_verify.specs.Fit.{IsFit};
 ghost use Rattle.service_verify.specs.Tours.{code_tour};
+ghost use Rattle.code_runner.specs.Coded.{IsTree, IsJob};
 
 use crate::walk::Walk;
 use context_tree::Tree;
@@ -38,6 +39,8 @@ pub fn run_call(
     ensures result { IfOk result (λ ran. (code_tour program.now call.now (tree_of program.now.shape contexts.old)).result ≡ Some ran.result) }
     ensures tree { IfOk result (λ ran. tree_of program.now.shape contexts.new ≡ (code_tour program.now call.now (tree_of program.now.shape contexts.old)).tree) }
     ensures entered { IfOk result (λ ran. ran.entered ≡ (code_tour program.now call.now (tree_of program.now.shape contexts.old)).entered) }
+    ensures fits { OnOk result (IsTree program.now.shape (tree_of program.now.shape contexts.new)) }
+    ensures created { IfOk result (λ ran. All (IsJob program.now.shape) ran.result.created) }
     ensures segments { IfOk result (λ ran. ran.segments ≡ (code_tour program.now call.now (tree_of program.now.shape contexts.old)).segments) }
 {
     let mut walk = Walk::start(alloc, program, contexts, call)?;

@@ -1,9 +1,13 @@
 use Rattle.std.proofs.Common.{◌≡◌, ◌<◌, ◌-◌, ◌^◌, ℕ, suc, Some, None, ap, sym, subst, ◌∙◌, refl, arith}
+use Rattle.std.specs.Prelude.{All}
 use Rattle.context_tree.specs.Contexts.{tree_of}
+use Rattle.wave_base.specs.declared.outcome.EventResult.{EventResult}
 use Rattle.service_verify.specs.Copies.{Trip, trip_after, first_trip}
 use Rattle.service_verify.specs.Tours.{Tour, most_segments, code_tour}
+use Rattle.code_runner.specs.Coded.{IsTree, IsJob}
 use Rattle.code_runner.specs.Walks.{Walks, trip_of}
-use Rattle.code_runner.proofs.Walking.{walks, few, follows_on, is_all}
+use Rattle.code_runner.proofs.Walking.{walks, few, follows_on, is_all, ended}
+use Rattle.code_runner.proofs.Meant.{same_result}
 use Rattle.code_runner.proofs.run.run_call.Goals as goal
 
 pub under_way-init : goal.under_way-init
@@ -71,6 +75,24 @@ returns-in-Some-clause-entered c =
         (trip_of c.step.new.self (tree_of p.shape c.step.new.contexts) (Some c.in-Some.result)) c.in-Some.result
         c.under_way.invariant.follows (ap (trip_of c.step.new.self (tree_of p.shape c.step.new.contexts)) (sym c.in-Some.is) ∙ c.in_ok-result.ensures.next) c.in_ok-result.ensures.segments refl in
     c.from_vec.ensures ∙ ap (λ (t : Tour). t.entered) whole
+
+pub returns-in-Some-clause-fits : goal.returns-in-Some-clause-fits
+returns-in-Some-clause-fits c =
+    let p = c.args.program.now in
+    let whole = is_all p c.requires.fit c.under_way.invariant.verified c.args.call.now (tree_of p.shape c.args.contexts.now) (c.requires.call, c.requires.generation) c.requires.tree c.requires.root c.under_way.walk.segments c.step.new.self.segments (trip_of c.under_way.walk (tree_of p.shape c.under_way.contexts) None)
+        (trip_of c.step.new.self (tree_of p.shape c.step.new.contexts) (Some c.in-Some.result)) c.in-Some.result
+        c.under_way.invariant.follows (ap (trip_of c.step.new.self (tree_of p.shape c.step.new.contexts)) (sym c.in-Some.is) ∙ c.in_ok-result.ensures.next) c.in_ok-result.ensures.segments refl in
+    let e = ended p c.requires.fit c.under_way.invariant.verified c.args.call.now (tree_of p.shape c.args.contexts.now) (c.requires.call, c.requires.generation) c.requires.tree c.requires.root in
+    subst (IsTree p.shape) (sym (ap (λ (t : Tour). t.tree) whole)) (e.fits, e.root)
+
+pub returns-in-Some-clause-created : goal.returns-in-Some-clause-created
+returns-in-Some-clause-created c =
+    let p = c.args.program.now in
+    let whole = is_all p c.requires.fit c.under_way.invariant.verified c.args.call.now (tree_of p.shape c.args.contexts.now) (c.requires.call, c.requires.generation) c.requires.tree c.requires.root c.under_way.walk.segments c.step.new.self.segments (trip_of c.under_way.walk (tree_of p.shape c.under_way.contexts) None)
+        (trip_of c.step.new.self (tree_of p.shape c.step.new.contexts) (Some c.in-Some.result)) c.in-Some.result
+        c.under_way.invariant.follows (ap (trip_of c.step.new.self (tree_of p.shape c.step.new.contexts)) (sym c.in-Some.is) ∙ c.in_ok-result.ensures.next) c.in_ok-result.ensures.segments refl in
+    let e = ended p c.requires.fit c.under_way.invariant.verified c.args.call.now (tree_of p.shape c.args.contexts.now) (c.requires.call, c.requires.generation) c.requires.tree c.requires.root in
+    subst (λ (r : EventResult). All (IsJob p.shape) r.created) (same_result e.result c.in-Some.result (sym e.is ∙ sym (ap (λ (t : Tour). t.result) whole))) e.created
 
 pub returns-in-Some-clause-segments : goal.returns-in-Some-clause-segments
 returns-in-Some-clause-segments c =
