@@ -1,5 +1,5 @@
 -- What a call's code gives is what the service says.
-use Rattle.std.proofs.Common.{◌≡◌, List, Some, ap, sym, subst, ◌∙◌}
+use Rattle.std.proofs.Common.{◌≡◌, List, Some, sym, subst, ◌∙◌}
 use Rattle.std.specs.Prelude.{All}
 use Rattle.wave_base.specs.declared.call.Call.{Call}
 use Rattle.wave_base.specs.declared.outcome.EventResult.{EventResult}

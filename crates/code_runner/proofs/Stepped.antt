@@ -1,6 +1,5 @@
 -- What a segment makes of a call under way.
-use Rattle.std.proofs.Common.{◌≡◌, ℕ, zero, suc, ◌⊎◌, inl, inr, Bool, true, false, List, [], ◌∷◌, ◌++◌, length, ◌||◌, Option, Some, None, refl, ap, sym, subst, ◌∙◌, arith}
-use mathlib.Core.Bool.{true≢false}
+use Rattle.std.proofs.Common.{◌≡◌, ℕ, suc, ◌⊎◌, inl, inr, Bool, true, false, List, [], ◌∷◌, ◌++◌, length, ◌||◌, Some, None, refl, ap, sym, subst, ◌∙◌, arith}
 use Rattle.std.proofs.lemmas.List.{length-append, length-map}
 use Rattle.std.specs.List.{list_any}
 use Rattle.wave_base.specs.declared.call.Call.{Call}
@@ -18,19 +17,19 @@ use Rattle.wave_base.specs.Tree.{Tree, there, enter, put}
 use Rattle.wave_base.specs.Trees.{FitsShape, HasKinds}
 use Rattle.context_tree.specs.Contexts.{Contexts, tree_of, is_there}
 use Rattle.service_code.specs.declared.program.Program.{Program}
-use Rattle.service_verify.specs.Boxes.{Box, first_box}
+use Rattle.service_verify.specs.Boxes.{Box}
 use Rattle.service_verify.specs.Copies.{Trip, tripped, next_trip, first_trip}
-use Rattle.service_verify.specs.Segments.{Event, Left, event_segment}
-use Rattle.service_verify.specs.Standing.{kinds_of, HasFields, Stands, Leaves}
+use Rattle.service_verify.specs.Segments.{Event, event_segment}
+use Rattle.service_verify.specs.Standing.{HasFields, Stands, Leaves}
 use Rattle.service_verify.specs.Steps.{is_held}
 use Rattle.service_verify.specs.Tours.{Fields, Tour, into, halted}
 use Rattle.code_actor.specs.CodeActors.{first_event}
 use Rattle.code_actor.specs.Locks.{Enters, Locks, holds, has_entered}
 use Rattle.code_runner.specs.declared.walk.Walk.{Walk}
 use Rattle.code_actor.proofs.Above.{parent_child}
-use Rattle.code_runner.proofs.Putting.{Kept, kept_here}
+use Rattle.code_runner.proofs.Putting.{kept_here}
 use Rattle.code_runner.proofs.Walking.{at_there}
-use Rattle.code_runner.specs.Walks.{event_of, trip_of, Walks, paths_into, tree_into}
+use Rattle.code_runner.specs.Walks.{trip_of, Walks, paths_into, tree_into}
 
 -- a call that begins
 pub started : (program : Program) (call call' : Call) (tree tree' : Tree Fields) (w : Walk) → call' ≡ call → w.event ≡ first_event program call' → w.entered.items ≡ [] ∷ [] → w.segments ≡ 0 → tree' ≡ enter tree [] → trip_of w tree' None ≡ first_trip program call tree

@@ -14,8 +14,8 @@ use Rattle.wave_base.specs.declared.pause.Pause.TheVariants as halt
 use Rattle.wave_base.specs.declared.shape.Shape.{Shape}
 use Rattle.wave_base.specs.Paths.{path_eq, parent_of}
 use Rattle.wave_base.specs.PathLaws.{path_eq_decides}
-use Rattle.wave_base.specs.Shapes.{is_path, initial_fields}
-use Rattle.wave_base.specs.Tree.{Tree, there, enter, put}
+use Rattle.wave_base.specs.Shapes.{is_path}
+use Rattle.wave_base.specs.Tree.{Tree, there, put}
 use Rattle.wave_base.specs.Trees.{FitsShape, HasKinds}
 use Rattle.context_tree.proofs.FitLemmas.{enter_fits}
 use Rattle.service_code.specs.declared.program.Program.{Program}
@@ -23,7 +23,6 @@ use Rattle.service_verify.specs.Boxes.{Box, first_box}
 use Rattle.service_verify.specs.Copies.{Trip, tripped, trip_if, next_trip, trip_after, first_trip}
 use Rattle.service_verify.specs.Fit.{IsFit}
 use Rattle.service_verify.specs.Points.{IsVerified}
-use Rattle.service_verify.specs.Segments.{Event}
 use Rattle.service_verify.specs.Standing.{AreCalls, HasFields, HasTree, Leaves, Stands}
 use Rattle.service_verify.specs.Steps.{is_held}
 use Rattle.service_verify.specs.Tours.{Fields, Tour, tree_with, into, halted, tour_if, next_tour, tour_after, first_tour, most_segments, code_tour}
@@ -138,7 +137,10 @@ module _ (program : Program) (fit : IsFit program) (verified : IsVerified progra
         into_here : (c : Bool) → is_held t.tour.box.held b.path ≡ c → Here (record { tour = into t.tour b left c; levels = levels })
         into_here true e = record { path = q; calls = m; running = refl; stands = stands; fits = fits; here = subst (λ r. there t.tour.tree r ≡ true) to (h.entered b.path (known b.path e)); entered = h.entered; root = h.root }
         into_here false e = record {
-          path = q; calls = m; running = refl; stands = stands;
+          path = q;
+          calls = m;
+          running = refl;
+          stands = stands;
           fits = enter_fits program.shape fit.shape put_tree b.path fits (subst (λ r. is_path program.shape r ≡ true) (sym to) stands.box.is_path) (subst (λ r. there put_tree r ≡ true) (sym (ap parent_of to ∙ parent_child p s)) h.here);
           here = there-enter put_tree b.path q ∙ or_left _ _ ((path_eq_decides q b.path).1 (sym to));
           entered = λ r e. there-enter put_tree b.path r ∙ more r (or_is _ _ (sym (entered_more t.tour.entered b.path r) ∙ e));
@@ -221,7 +223,9 @@ module _ (program : Program) (fit : IsFit program) (verified : IsVerified progra
     first_at : At (trip 0)
     unfolding trip_after first_box
     first_at = on (record {
-      path = []; calls = 0; running = refl;
+      path = [];
+      calls = 0;
+      running = refl;
       stands = begins program fit verified call is_job.0 is_job.1;
       fits = enter_fits program.shape fit.shape tree [] tree_fits refl root;
       here = there-enter tree [] [];

@@ -1,6 +1,5 @@
 use Rattle.std.proofs.Common.{◌≡◌, ℕ, List, [], ◌∷◌, length, ap, sym, subst, refl, ◌∙◌, arith}
 use Rattle.context_tree.specs.Contexts.{tree_of, with_field, HasField}
-use Rattle.wave_base.specs.declared.shape.Shape.{Shape}
 use Rattle.wave_base.specs.declared.value.Value.{Value}
 use Rattle.wave_base.specs.Tree.{put}
 use Rattle.code_runner.proofs.Putting.{begun, last_is_there, one_more, all_put}

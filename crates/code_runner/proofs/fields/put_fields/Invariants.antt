@@ -1,9 +1,3 @@
-use Rattle.std.proofs.Common.{◌≡◌, true, List, [], ◌∷◌, ◌++◌, length, take}
-use Rattle.context_tree.specs.Contexts.{Contexts, tree_of, is_there}
-use Rattle.wave_base.specs.declared.path.Path.{Path}
-use Rattle.wave_base.specs.declared.shape.Shape.{Shape}
-use Rattle.wave_base.specs.declared.value.Value.{Value}
-use Rattle.wave_base.specs.Tree.{put}
 use Rattle.code_runner.specs.Walks.{PutSoFar}
 use Rattle.code_runner.proofs.fields.put_fields.Given as goal
 

@@ -3,7 +3,7 @@ use Rattle.std.specs.Prelude.{All}
 use Rattle.context_tree.specs.Contexts.{tree_of}
 use Rattle.wave_base.specs.declared.outcome.EventResult.{EventResult}
 use Rattle.service_verify.specs.Copies.{Trip, trip_after, first_trip}
-use Rattle.service_verify.specs.Tours.{Tour, most_segments, code_tour}
+use Rattle.service_verify.specs.Tours.{Tour, most_segments}
 use Rattle.code_runner.specs.Coded.{IsTree, IsJob}
 use Rattle.code_runner.specs.Walks.{Walks, trip_of}
 use Rattle.code_runner.proofs.Walking.{walks, few, follows_on, is_all, ended}
@@ -56,32 +56,32 @@ pub returns-in-Some-clause-result : goal.returns-in-Some-clause-result
 returns-in-Some-clause-result c =
     let p = c.args.program.now in
     let whole = is_all p c.requires.fit c.under_way.invariant.verified c.args.call.now (tree_of p.shape c.args.contexts.now) (c.requires.call, c.requires.generation) c.requires.tree c.requires.root c.under_way.walk.segments c.step.new.self.segments (trip_of c.under_way.walk (tree_of p.shape c.under_way.contexts) None)
-        (trip_of c.step.new.self (tree_of p.shape c.step.new.contexts) (Some c.in-Some.result)) c.in-Some.result
-        c.under_way.invariant.follows (ap (trip_of c.step.new.self (tree_of p.shape c.step.new.contexts)) (sym c.in-Some.is) ∙ c.in_ok-result.ensures.next) c.in_ok-result.ensures.segments refl in
+    (trip_of c.step.new.self (tree_of p.shape c.step.new.contexts) (Some c.in-Some.result)) c.in-Some.result
+    c.under_way.invariant.follows (ap (trip_of c.step.new.self (tree_of p.shape c.step.new.contexts)) (sym c.in-Some.is) ∙ c.in_ok-result.ensures.next) c.in_ok-result.ensures.segments refl in
     sym (ap (λ (t : Tour). t.result) whole)
 
 pub returns-in-Some-clause-tree : goal.returns-in-Some-clause-tree
 returns-in-Some-clause-tree c =
     let p = c.args.program.now in
     let whole = is_all p c.requires.fit c.under_way.invariant.verified c.args.call.now (tree_of p.shape c.args.contexts.now) (c.requires.call, c.requires.generation) c.requires.tree c.requires.root c.under_way.walk.segments c.step.new.self.segments (trip_of c.under_way.walk (tree_of p.shape c.under_way.contexts) None)
-        (trip_of c.step.new.self (tree_of p.shape c.step.new.contexts) (Some c.in-Some.result)) c.in-Some.result
-        c.under_way.invariant.follows (ap (trip_of c.step.new.self (tree_of p.shape c.step.new.contexts)) (sym c.in-Some.is) ∙ c.in_ok-result.ensures.next) c.in_ok-result.ensures.segments refl in
+    (trip_of c.step.new.self (tree_of p.shape c.step.new.contexts) (Some c.in-Some.result)) c.in-Some.result
+    c.under_way.invariant.follows (ap (trip_of c.step.new.self (tree_of p.shape c.step.new.contexts)) (sym c.in-Some.is) ∙ c.in_ok-result.ensures.next) c.in_ok-result.ensures.segments refl in
     ap (λ (t : Tour). t.tree) whole
 
 pub returns-in-Some-clause-entered : goal.returns-in-Some-clause-entered
 returns-in-Some-clause-entered c =
     let p = c.args.program.now in
     let whole = is_all p c.requires.fit c.under_way.invariant.verified c.args.call.now (tree_of p.shape c.args.contexts.now) (c.requires.call, c.requires.generation) c.requires.tree c.requires.root c.under_way.walk.segments c.step.new.self.segments (trip_of c.under_way.walk (tree_of p.shape c.under_way.contexts) None)
-        (trip_of c.step.new.self (tree_of p.shape c.step.new.contexts) (Some c.in-Some.result)) c.in-Some.result
-        c.under_way.invariant.follows (ap (trip_of c.step.new.self (tree_of p.shape c.step.new.contexts)) (sym c.in-Some.is) ∙ c.in_ok-result.ensures.next) c.in_ok-result.ensures.segments refl in
+    (trip_of c.step.new.self (tree_of p.shape c.step.new.contexts) (Some c.in-Some.result)) c.in-Some.result
+    c.under_way.invariant.follows (ap (trip_of c.step.new.self (tree_of p.shape c.step.new.contexts)) (sym c.in-Some.is) ∙ c.in_ok-result.ensures.next) c.in_ok-result.ensures.segments refl in
     c.from_vec.ensures ∙ ap (λ (t : Tour). t.entered) whole
 
 pub returns-in-Some-clause-fits : goal.returns-in-Some-clause-fits
 returns-in-Some-clause-fits c =
     let p = c.args.program.now in
     let whole = is_all p c.requires.fit c.under_way.invariant.verified c.args.call.now (tree_of p.shape c.args.contexts.now) (c.requires.call, c.requires.generation) c.requires.tree c.requires.root c.under_way.walk.segments c.step.new.self.segments (trip_of c.under_way.walk (tree_of p.shape c.under_way.contexts) None)
-        (trip_of c.step.new.self (tree_of p.shape c.step.new.contexts) (Some c.in-Some.result)) c.in-Some.result
-        c.under_way.invariant.follows (ap (trip_of c.step.new.self (tree_of p.shape c.step.new.contexts)) (sym c.in-Some.is) ∙ c.in_ok-result.ensures.next) c.in_ok-result.ensures.segments refl in
+    (trip_of c.step.new.self (tree_of p.shape c.step.new.contexts) (Some c.in-Some.result)) c.in-Some.result
+    c.under_way.invariant.follows (ap (trip_of c.step.new.self (tree_of p.shape c.step.new.contexts)) (sym c.in-Some.is) ∙ c.in_ok-result.ensures.next) c.in_ok-result.ensures.segments refl in
     let e = ended p c.requires.fit c.under_way.invariant.verified c.args.call.now (tree_of p.shape c.args.contexts.now) (c.requires.call, c.requires.generation) c.requires.tree c.requires.root in
     subst (IsTree p.shape) (sym (ap (λ (t : Tour). t.tree) whole)) (e.fits, e.root)
 
@@ -89,8 +89,8 @@ pub returns-in-Some-clause-created : goal.returns-in-Some-clause-created
 returns-in-Some-clause-created c =
     let p = c.args.program.now in
     let whole = is_all p c.requires.fit c.under_way.invariant.verified c.args.call.now (tree_of p.shape c.args.contexts.now) (c.requires.call, c.requires.generation) c.requires.tree c.requires.root c.under_way.walk.segments c.step.new.self.segments (trip_of c.under_way.walk (tree_of p.shape c.under_way.contexts) None)
-        (trip_of c.step.new.self (tree_of p.shape c.step.new.contexts) (Some c.in-Some.result)) c.in-Some.result
-        c.under_way.invariant.follows (ap (trip_of c.step.new.self (tree_of p.shape c.step.new.contexts)) (sym c.in-Some.is) ∙ c.in_ok-result.ensures.next) c.in_ok-result.ensures.segments refl in
+    (trip_of c.step.new.self (tree_of p.shape c.step.new.contexts) (Some c.in-Some.result)) c.in-Some.result
+    c.under_way.invariant.follows (ap (trip_of c.step.new.self (tree_of p.shape c.step.new.contexts)) (sym c.in-Some.is) ∙ c.in_ok-result.ensures.next) c.in_ok-result.ensures.segments refl in
     let e = ended p c.requires.fit c.under_way.invariant.verified c.args.call.now (tree_of p.shape c.args.contexts.now) (c.requires.call, c.requires.generation) c.requires.tree c.requires.root in
     subst (λ (r : EventResult). All (IsJob p.shape) r.created) (same_result e.result c.in-Some.result (sym e.is ∙ sym (ap (λ (t : Tour). t.result) whole))) e.created
 
@@ -98,6 +98,6 @@ pub returns-in-Some-clause-segments : goal.returns-in-Some-clause-segments
 returns-in-Some-clause-segments c =
     let p = c.args.program.now in
     let whole = is_all p c.requires.fit c.under_way.invariant.verified c.args.call.now (tree_of p.shape c.args.contexts.now) (c.requires.call, c.requires.generation) c.requires.tree c.requires.root c.under_way.walk.segments c.step.new.self.segments (trip_of c.under_way.walk (tree_of p.shape c.under_way.contexts) None)
-        (trip_of c.step.new.self (tree_of p.shape c.step.new.contexts) (Some c.in-Some.result)) c.in-Some.result
-        c.under_way.invariant.follows (ap (trip_of c.step.new.self (tree_of p.shape c.step.new.contexts)) (sym c.in-Some.is) ∙ c.in_ok-result.ensures.next) c.in_ok-result.ensures.segments refl in
+    (trip_of c.step.new.self (tree_of p.shape c.step.new.contexts) (Some c.in-Some.result)) c.in-Some.result
+    c.under_way.invariant.follows (ap (trip_of c.step.new.self (tree_of p.shape c.step.new.contexts)) (sym c.in-Some.is) ∙ c.in_ok-result.ensures.next) c.in_ok-result.ensures.segments refl in
     ap (λ (t : Tour). t.segments) whole

@@ -1,4 +1,4 @@
-use Rattle.std.proofs.Common.{◌≡◌, ◌∷◌, [], ◌++◌, ap, refl, sym, ◌∙◌, Bool, true, false}
+use Rattle.std.proofs.Common.{refl, true, false}
 use Rattle.context_tree.specs.Contexts.{tree_of}
 use Rattle.code_runner.proofs.Stepped.{told, entered_so, tree_so}
 use Rattle.code_runner.proofs.walk.Walk.enter.Goals as goal

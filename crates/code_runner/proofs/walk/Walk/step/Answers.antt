@@ -1,12 +1,11 @@
-use Rattle.std.proofs.Common.{◌≡◌, ◌+◌, ℕ, suc, true, Some, None, ap, sym, subst, ◌∙◌, refl, arith}
-use Rattle.context_tree.specs.Contexts.{tree_of, is_there}
+use Rattle.std.proofs.Common.{◌≡◌, ◌+◌, ℕ, suc, true, ap, sym, subst, ◌∙◌, refl, arith}
+use Rattle.context_tree.specs.Contexts.{tree_of}
 use Rattle.std.specs.List.{list_any}
 use Rattle.wave_base.specs.Paths.{path_eq, parent_of}
 use Rattle.wave_base.specs.Tree.{put}
 use Rattle.wave_base.specs.Shapes.{is_path}
 use Rattle.service_code.specs.declared.program.Program.{Program}
-use Rattle.service_verify.specs.Standing.{Leaves}
-use Rattle.code_runner.specs.Walks.{Walks, trip_of, tree_into}
+use Rattle.code_runner.specs.Walks.{tree_into}
 use Rattle.code_runner.proofs.Stepped.{has_here, stands_on, as_many, still_there, into_child, stepped_into, stepped_back, stepped_over, has_kinds}
 use Rattle.code_runner.proofs.walk.Walk.step.Goals as goal
 
