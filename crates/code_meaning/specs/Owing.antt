@@ -1,11 +1,9 @@
 -- The code of a service does what it owes to the fold.
-use Rattle.std.proofs.Common.{◌≡◌, ◌≤◌, ℕ, true, List, [], Some, ap, sym, subst, ◌∙◌, arith}
-use Rattle.std.specs.Prelude.{All}
+use Rattle.std.proofs.Common.{◌≡◌, ◌≤◌, ℕ, List, arith}
 use Rattle.wave_base.specs.declared.call.Call.{Call}
 use Rattle.wave_base.specs.declared.limits.TheConstants.{GENERATION}
 use Rattle.wave_base.specs.declared.value.Value.{Value}
-use Rattle.wave_base.specs.Tree.{Tree, there}
-use Rattle.wave_base.specs.Trees.{FitsShape}
+use Rattle.wave_base.specs.Tree.{Tree}
 use Rattle.resolved_service.specs.declared.service.Resolved.{Resolved}
 use Rattle.resolved_service.specs.Jobs.{call_meaning}
 use Rattle.script_fold.specs.Owed.{Owed}

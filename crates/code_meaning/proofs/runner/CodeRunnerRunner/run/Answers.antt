@@ -1,4 +1,4 @@
-use Rattle.std.proofs.Common.{◌≡◌, Some, ap, sym, ◌∙◌}
+use Rattle.std.proofs.Common.{◌∙◌}
 use Rattle.context_tree.specs.Contexts.{tree_of}
 use Rattle.code_runner.proofs.Meant.{code_fit, code_means, meant_result}
 use Rattle.code_meaning.proofs.runner.CodeRunnerRunner.run.Goals as goal
