@@ -1,0 +1,4 @@
+pub mod Meant
+pub mod Putting
+pub mod Stepped
+pub mod Walking

@@ -1,0 +1,53 @@
+-- A call under way on a tree, as it is kept, and what stands before each of its segments.
+use Rattle.std.specs.Prelude.{◌≡◌, ℕ, Bool, true, false, List, [], ◌∷◌, ◌++◌, length, take, Option}
+use Rattle.context_tree.specs.Contexts.{Contexts, tree_of, is_there}
+use Rattle.wave_base.specs.declared.outcome.EventResult.{EventResult}
+use Rattle.wave_base.specs.declared.path.Path.{Path}
+use Rattle.wave_base.specs.declared.shape.Shape.{Shape}
+use Rattle.wave_base.specs.Tree.{Tree, there, enter, put}
+use Rattle.wave_base.specs.Trees.{FitsShape}
+use Rattle.service_code.specs.declared.program.Program.{Program}
+use Rattle.service_verify.specs.Copies.{Trip, next_trip}
+use Rattle.service_verify.specs.Segments.{Event}
+use Rattle.service_verify.specs.Standing.{Stands}
+use Rattle.service_verify.specs.Tours.{Fields}
+use Rattle.code_actor.specs.Locks.{Locks, holds, has_entered}
+use Rattle.code_runner.specs.declared.walk.Walk.{Walk}
+
+-- the event of a trip, with its copies
+abbrev pub event_of : Trip → Event
+event_of t = record { box = t.tour.box; levels = t.levels }
+
+-- the trip that a call under way on a tree stands for, over with a result or not
+abbrev pub trip_of : Walk → Tree Fields → Option EventResult → Trip
+trip_of w tree result = record {
+  tour = record { box = w.event.box; tree = tree; entered = w.entered.items; segments = w.segments; result = result };
+  levels = w.event.levels;
+}
+
+-- The event stands where it runs, in a context that is there, on a tree of the shape; it has entered what it holds, and the
+-- segment to come keeps the protocol of the tree.
+pub record Walks (program : Program) (t : Trip) : Type 0 where
+  pub path : Path
+  pub calls : ℕ
+  pub stands : Stands program path calls (event_of t)
+  pub fits : FitsShape program.shape t.tour.tree
+  pub here : there t.tour.tree path ≡ true
+  pub known : (q : Path) → holds t.tour q ≡ true → has_entered t.tour q ≡ true
+  pub locks : Locks t.tour (next_trip program t).tour
+
+-- the paths and the tree once the event came into a context, which it had entered or enters now
+abbrev pub paths_into : Bool → List Path → Path → List Path
+paths_into true entered p = entered
+paths_into false entered p = entered ++ p ∷ []
+
+abbrev pub tree_into : Bool → Tree Fields → Path → Tree Fields
+tree_into true tree p = tree
+tree_into false tree p = enter tree p
+
+-- Of a context's new fields, from the last on, some are put: the tree shows the old ones up to there, and then the new ones.
+pub record PutSoFar (old : Contexts) (p : Path) (all : Fields) (now : Contexts) (left : Fields) : Type 0 where
+  pub rest : Fields
+  pub is : all ≡ left ++ rest
+  pub there : is_there now p ≡ true
+  pub tree : (shape : Shape) → tree_of shape now ≡ put (tree_of shape old) p (take (length left) ((tree_of shape old).fields p) ++ rest)
