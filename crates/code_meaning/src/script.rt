@@ -1,6 +1,6 @@
 //! Scripts of a service, run by its code.
 
-ghost use Rattle.std.specs.Prelude.{◌≡◌, IfOk};
+ghost use Rattle.std.specs.Prelude.{◌≡◌, ◌≤◌, ◌-◌, ◌^◌, length, IfOk};
 ghost use Rattle.wave_base.specs.Scripts.{IsScript};
 ghost use Rattle.wave_base.specs.Starts.{IsStart};
 ghost use Rattle.wave_meaning.specs.Meaning.{results_at, results_of};
@@ -23,7 +23,8 @@ pub fn run_script_at(
     requires code { IsCode service.now program.now }
     requires start { IsStart program.now.shape script.now.hosts start.now }
     requires script { IsScript program.now.shape script.now }
-    ensures { IfOk result (λ f. f ≡ results_at program.now.shape service.now start.now script.now) }
+    ensures finished { IfOk result (λ f. f ≡ results_at program.now.shape service.now start.now script.now) }
+    ensures few { IfOk result (λ f. length f.results ≤ 2 ^ 32 - 1) }
 {
     script_fold::run_script_at(alloc, &CodeRunner { program, service }, script, start)
 }
@@ -37,7 +38,8 @@ pub fn run_script(
 ) -> Result<Finished, OutOfMemory>
     requires code { IsCode service.now program.now }
     requires script { IsScript program.now.shape script.now }
-    ensures { IfOk result (λ f. f ≡ results_of program.now.shape service.now script.now) }
+    ensures finished { IfOk result (λ f. f ≡ results_of program.now.shape service.now script.now) }
+    ensures few { IfOk result (λ f. length f.results ≤ 2 ^ 32 - 1) }
 {
     script_fold::run_script(
         alloc,
