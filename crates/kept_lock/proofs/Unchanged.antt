@@ -1,6 +1,6 @@
 -- What a leave that adds nothing leaves, and what an attempt tells.
-use Rattle.std.proofs.Common.{◌≡◌, ◌∙◌, ℕ, Option, Some, List, [], ◌∷◌, ◌++◌, ap, subst, sym, refl, append-nil}
-use Rattle.std.specs.Prelude.{All, IfSome}
+use Rattle.std.proofs.Common.{◌≡◌, ◌∙◌, ℕ, Option, Some, List, [], ◌++◌, ap, subst, sym, append-nil}
+use Rattle.std.specs.Prelude.{IfSome}
 use Rattle.std.proofs.Math.Seq.{drop-length}
 use Rattle.std.proofs.lemmas.List.Elements.{All-nil}
 use Rattle.kept_lock.specs.declared.attempt.Attempt.{Attempt}
