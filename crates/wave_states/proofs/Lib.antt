@@ -1,3 +1,4 @@
+pub mod Children
 pub mod Counter
 pub mod Moving
 pub mod Segments

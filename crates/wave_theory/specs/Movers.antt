@@ -28,7 +28,7 @@ abbrev pub IsMoverIn : Setting → Mover → Path → ℕ → Type 0
 IsMoverIn c = IsMover c.hosts
 
 pub movers_owe : (c : Setting) → Owes (movers_in c) c.hosts Fits (IsMove c) (IsMoverIn c)
-movers_owe c = Moving.movers_owe c.initial c.hosts
+movers_owe c = Moving.movers_owe c.initial c.hosts Fits (λ p. tt)
 
 -- a walk
 abbrev pub IsWalk : Unit {0} → Type 0
@@ -38,4 +38,4 @@ abbrev pub walkers_in : Setting → Actors (Walker ℕ) ℕ (List (Path × ℕ))
 walkers_in c = walkers c.initial
 
 pub walkers_owe : (c : Setting) → Owes (walkers_in c) c.hosts Fits IsWalk IsWalker
-walkers_owe c = Walking.walkers_owe c.initial c.hosts
+walkers_owe c = Walking.walkers_owe c.initial c.hosts Fits (λ p. tt)
