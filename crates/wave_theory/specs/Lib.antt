@@ -1,4 +1,5 @@
 pub mod Counter
+pub mod Hands
 pub mod Laws
 pub mod Movers
 pub mod Orders
