@@ -10,7 +10,8 @@ use Rattle.wave_states.specs.Actors.{Actors, Left, Go, Over}
 use Rattle.wave_states.specs.States.{State, Entry}
 use Rattle.wave_states.specs.Labels.{Label, is_pass}
 use Rattle.wave_states.specs.Begins.{Begin, first_begin, start_state}
-use Rattle.wave_states.specs.Canonical.{is_finished}
+use Rattle.wave_states.specs.Canonical.{enabled}
+use Rattle.wave_states.specs.Steps.{step}
 use Rattle.wave_states.specs.Runs.{run, drive, seed, oldest, newest, movers, mail_last, Rule}
 use Rattle.wave_states.specs.Alone.{fold_alone, places_alone, after_segments}
 use Rattle.wave_states.specs.Work.{work_after}
@@ -106,34 +107,40 @@ entry_seen o = option_map (λ e. (e.served, e.moves)) o
 abbrev pub passes : List Label → ℕ
 passes ls = count_by (λ l. is_pass l.act) ls
 
-abbrev pub summary : {X : Type 0} → Rule X Trip ℕ Told Trip → X → ℕ → List (List Trip) → Option (ℕ × ℕ × Bool × Option (ℕ × ℕ) × List ℕ)
+abbrev pub summary : {X : Type 0} → Rule X Trip ℕ Told Trip → X → ℕ → List (List Trip) → Option (ℕ × ℕ × ℕ × Option (ℕ × ℕ) × List ℕ)
 summary rule x workers batches =
     let ls : List Label = drive trips workers 2 rule 200 x (start_state begin batches) in
     option_map (λ s. (
       length ls,
       passes ls,
-      is_finished trips workers 2 s,
+      length (enabled trips workers 2 s),
       entry_seen ((s.columns (hall ∷ [])).store 0),
       trail_from trips workers (hall ∷ []) (first_trail begin (hall ∷ [])) (Some (start_state begin batches)) ls,
     )) (run trips workers (start_state begin batches) ls)
 
 -- four tickets, eight segments, eight paths entered, two moves: 8 + 24 + 16 labels, besides the Passes
-seed_0 : summary seed 0 1 moves ≡ Some (50, 2, true, Some (4, 2), 0 ∷ 1 ∷ 0 ∷ [])
+seed_0 : summary seed 0 1 moves ≡ Some (50, 2, 0, Some (4, 2), 0 ∷ 1 ∷ 0 ∷ [])
+unfolding step run enabled drive
 seed_0 = refl
 
-seed_7 : summary seed 7 4 moves ≡ Some (49, 1, true, Some (4, 2), 0 ∷ 1 ∷ 0 ∷ [])
+seed_7 : summary seed 7 4 moves ≡ Some (49, 1, 0, Some (4, 2), 0 ∷ 1 ∷ 0 ∷ [])
+unfolding step run enabled drive
 seed_7 = refl
 
-oldest_first : summary oldest tt 4 moves ≡ Some (50, 2, true, Some (4, 2), 0 ∷ 1 ∷ 0 ∷ [])
+oldest_first : summary oldest tt 4 moves ≡ Some (50, 2, 0, Some (4, 2), 0 ∷ 1 ∷ 0 ∷ [])
+unfolding step run enabled drive
 oldest_first = refl
 
-newest_first : summary newest tt 4 moves ≡ Some (48, 0, true, Some (4, 2), 0 ∷ 1 ∷ 0 ∷ [])
+newest_first : summary newest tt 4 moves ≡ Some (48, 0, 0, Some (4, 2), 0 ∷ 1 ∷ 0 ∷ [])
+unfolding step run enabled drive
 newest_first = refl
 
-movers_first : summary (movers is_move) tt 4 moves ≡ Some (49, 1, true, Some (4, 2), 0 ∷ 1 ∷ 0 ∷ [])
+movers_first : summary (movers is_move) tt 4 moves ≡ Some (49, 1, 0, Some (4, 2), 0 ∷ 1 ∷ 0 ∷ [])
+unfolding step run enabled drive
 movers_first = refl
 
-mails_last : summary mail_last tt 4 moves ≡ Some (48, 0, true, Some (4, 2), 0 ∷ 1 ∷ 0 ∷ [])
+mails_last : summary mail_last tt 4 moves ≡ Some (48, 0, 0, Some (4, 2), 0 ∷ 1 ∷ 0 ∷ [])
+unfolding step run enabled drive
 mails_last = refl
 
 fold_is : (fold_alone trips begin moves 4).results ≡ Sum 1 ∷ Moved (hall ∷ []) 1 ∷ Sum 2 ∷ Moved (hall ∷ []) 0 ∷ []
@@ -156,7 +163,8 @@ looks_fold : (fold_alone trips begin looks 4).results ≡ Sum 1 ∷ Sum 1 ∷ Su
 unfolding after_segments
 looks_fold = refl
 
-looks_seed : summary seed 5 2 looks ≡ Some (48, 0, true, Some (4, 0), 0 ∷ [])
+looks_seed : summary seed 5 2 looks ≡ Some (48, 0, 0, Some (4, 0), 0 ∷ [])
+unfolding step run enabled drive
 looks_seed = refl
 
 -- From a later Start: the root and the child are on host 1, so host 0 has the root's mark, and an Enter to the root is passed on once.
@@ -177,10 +185,13 @@ abbrev pub later_drive : List Label
 later_drive = drive trips 1 2 seed 40 0 later
 
 from_later : later_seen (run trips 1 later later_drive) ≡ Some (Some (Sum 5), Some (8, 1), Some (1, 0))
+unfolding step run enabled drive
 from_later = refl
 
 so_many : length later_drive ≡ 13
+unfolding step enabled drive
 so_many = refl
 
 passed_once : passes later_drive ≡ 1
+unfolding step enabled drive
 passed_once = refl

@@ -8,7 +8,7 @@ use Rattle.wave_states.specs.States.{State, Entry, Record, Enter, set, ask_in}
 use Rattle.wave_states.specs.Labels.{Label, Act, Admit, Queue, Grant, Start, Stop, Free, Pass, Land, is_pass}
 use Rattle.wave_states.specs.Work.{work_after}
 use Rattle.wave_states.specs.Begins.{start_state}
-use Rattle.wave_states.specs.Steps.{◌>>=◌, granted, part_of, with_bench, with_entry, with_body, child_or_new}
+use Rattle.wave_states.specs.Steps.{step, ◌>>=◌, granted, part_of, with_bench, with_entry, with_body, child_or_new}
 use Rattle.wave_states.specs.Runs.{run}
 use Rattle.wave_states.specs.Alone.{fold_alone, after_segments}
 use Rattle.wave_states.proofs.Trips.{Trip, Told, Sum, Adds, Moves_to, trips, trip, hall, begin}
@@ -55,6 +55,7 @@ by_arrival = then_run (option_and_then (let_in_first 2 2 (hall ∷ [])) (run tri
 
 -- ticket 2 sees the child before ticket 1 was there: its result isn't the fold's
 arrival_is_wrong : result_of by_arrival 2 ≡ Some (Sum 1)
+unfolding step run
 arrival_is_wrong = refl
 
 -- A parent that is released before the number is taken: the Enter is sent later, with the number of then.
@@ -86,6 +87,7 @@ released_first = then_run (option_map held_back (run trips 1 (start_state begin 
 
 -- ticket 1, the first that enters the child, would have number 2 there
 number_is_wrong : option_and_then number_now released_first ≡ Some 2
+unfolding step run
 number_is_wrong = refl
 
 -- A move that leaves the old entry: after it lands, two hosts have the context.
@@ -105,9 +107,11 @@ abbrev owners : Option S → Option (Bool × Bool)
 owners o = option_map (λ s. (is_some ((s.columns []).store 0), is_some ((s.columns []).store 1))) o
 
 two_owners : owners left_behind ≡ Some (true, true)
+unfolding step run
 two_owners = refl
 
 one_owner : owners (run trips 1 (start_state begin one_move) (at_zero (Admit 1 ∷ Queue 1 1 [] ∷ Grant 1 [] ∷ Start 1 [] ∷ Stop 1 [] ∷ []) ++ on 1 (Land 1 2 []) ∷ [])) ≡ Some (false, true)
+unfolding step run
 one_owner = refl
 
 -- A mark that is followed twice. Hall went from host 0 to 1 and is on its way back, and the Enter of ticket 4 has followed both marks and
@@ -142,10 +146,12 @@ enter_at o = do
   Some (m.host, a.followed)
 
 lies_at_zero : enter_at both_followed ≡ Some (0, 2)
+unfolding step run
 lies_at_zero = refl
 
 -- it waits there until hall lands
 it_waits : then_run both_followed (pass 4 0 1 ∷ []) ≡ None
+unfolding step run
 it_waits = refl
 
 -- by a machine that doesn't ask what it has followed it goes to the mark's host
@@ -169,6 +175,7 @@ again (suc n) o = again n (option_and_then pass_on o)
 
 -- and comes back: it goes round for ever
 goes_round : enter_at (again 2 both_followed) ≡ enter_at both_followed
+unfolding step run
 goes_round = refl
 
 -- four tickets enter eight contexts, and hall is moved twice, so there are at most 16 Passes; these would be 17
@@ -177,6 +184,7 @@ unfolding after_segments
 passes_at_most = refl
 
 too_often : enter_at (again 14 both_followed) ≡ Some (0, 2)
+unfolding step run
 too_often = refl
 
 -- A commit out of order: the later event ends first, and is committed as it ends.
@@ -193,7 +201,9 @@ too_early = option_and_then (commit_any 2) (run trips 1 (start_state begin one_s
 
 -- one result is committed, and the first ticket has none
 committed_is_wrong : option_map (λ (s : S). s.head.done) too_early ≡ Some 1
+unfolding step run
 committed_is_wrong = refl
 
 first_is_missing : result_of too_early 1 ≡ None
+unfolding step run
 first_is_missing = refl
