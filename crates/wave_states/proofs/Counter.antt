@@ -1,5 +1,5 @@
 -- What runs of the counter are, computed.
-use Rattle.std.proofs.Common.{◌≡◌, refl, ℕ, List, [], ◌∷◌, Option, Some, Bool, true, length, map}
+use Rattle.std.proofs.Common.{◌≡◌, refl, ℕ, List, [], ◌∷◌, Option, Some, length, map}
 use Rattle.std.specs.Prelude.{option_map}
 use Rattle.wave_base.specs.Tree.{bare}
 use Rattle.wave_states.specs.Counter.{counter}

@@ -1,6 +1,6 @@
 -- Events that go down one child after another, and moves, over two hosts: what the drives give.
 use Rattle.std.proofs.Common.{◌≡◌, refl, ℕ, suc, List, [], ◌∷◌, ◌++◌, Option, Some, None, Bool, true, false, length, pos}
-use Rattle.std.specs.Prelude.{option_map, count_by, if◌then◌else◌}
+use Rattle.std.specs.Prelude.{option_map, count_by, map, if◌then◌else◌}
 use Rattle.wave_base.specs.declared.path.Step.{Step}
 use Rattle.wave_base.specs.declared.path.Path.{Path}
 use Rattle.std.specs.List.{list_any}
@@ -8,7 +8,7 @@ use Rattle.wave_base.specs.Paths.{step_eq}
 use Rattle.wave_base.specs.Tree.{shots}
 use Rattle.wave_states.specs.Actors.{Actors, Left, Go, Over}
 use Rattle.wave_states.specs.States.{State, Entry}
-use Rattle.wave_states.specs.Labels.{Label, is_pass}
+use Rattle.wave_states.specs.Labels.{Act, Label, Admit, Queue, Grant, Start, Stop, Free, Commit, is_pass}
 use Rattle.wave_states.specs.Begins.{Begin, first_begin, start_state}
 use Rattle.wave_states.specs.Canonical.{enabled}
 use Rattle.wave_states.specs.Steps.{step}
@@ -18,7 +18,7 @@ use Rattle.wave_states.specs.Work.{work_after}
 use Rattle.wave_states.specs.Owners.{trail_from, first_trail}
 
 -- a way down with an end: it adds one to each context and tells the last sum; it only looks at the last one and tells its sum;
--- or it moves the last one to a host. A call goes down one step and back, adding one there
+-- or it moves the last one to a host
 pub data Way : Type 0 where
   Adds Looks : Way
   Moves_to : ℕ → Way
@@ -195,3 +195,35 @@ so_many = refl
 passed_once : passes later_drive ≡ 1
 unfolding step enabled drive
 passed_once = refl
+
+-- Ties. After its first Stop an event has two labels, the Queue of its Enter and the Free of its Release: the oldest rule takes the first
+-- label of a ticket, the newest rule the last one.
+abbrev at_zero : List Act → List Label
+at_zero acts = map (λ a. record { worker = 0; host = 0; act = a }) acts
+
+abbrev alone_down : List (List Trip)
+alone_down = (trip (hall ∷ []) Adds ∷ []) ∷ []
+
+oldest_takes_first : drive trips 1 1 oldest 40 tt (start_state begin alone_down)
+    ≡ at_zero (Admit 1 ∷ Queue 1 1 [] ∷ Grant 1 [] ∷ Start 1 [] ∷ Stop 1 [] ∷ Queue 1 2 (hall ∷ []) ∷ Grant 1 (hall ∷ []) ∷ Start 1 (hall ∷ []) ∷ Stop 1 (hall ∷ []) ∷ Free 1 3 [] ∷ Free 1 4 (hall ∷ []) ∷ Commit 1 ∷ [])
+unfolding step enabled drive
+oldest_takes_first = refl
+
+newest_takes_last : drive trips 1 1 newest 40 tt (start_state begin alone_down)
+    ≡ at_zero (Admit 1 ∷ Queue 1 1 [] ∷ Grant 1 [] ∷ Start 1 [] ∷ Stop 1 [] ∷ Free 1 3 [] ∷ Queue 1 2 (hall ∷ []) ∷ Grant 1 (hall ∷ []) ∷ Start 1 (hall ∷ []) ∷ Stop 1 (hall ∷ []) ∷ Commit 1 ∷ Free 1 4 (hall ∷ []) ∷ [])
+unfolding step enabled drive
+newest_takes_last = refl
+
+-- of two tickets the oldest rule goes on with the lower one, the newest rule with the higher one where it can
+abbrev two_down : List (List Trip)
+two_down = (trip (hall ∷ []) Adds ∷ trip (hall ∷ []) Adds ∷ []) ∷ []
+
+oldest_takes_least : drive trips 1 1 oldest 9 tt (start_state begin two_down)
+    ≡ at_zero (Admit 1 ∷ Queue 1 1 [] ∷ Grant 1 [] ∷ Start 1 [] ∷ Stop 1 [] ∷ Queue 1 2 (hall ∷ []) ∷ Grant 1 (hall ∷ []) ∷ Start 1 (hall ∷ []) ∷ Stop 1 (hall ∷ []) ∷ [])
+unfolding step enabled drive
+oldest_takes_least = refl
+
+newest_takes_greatest : drive trips 1 1 newest 12 tt (start_state begin two_down)
+    ≡ at_zero (Admit 1 ∷ Admit 2 ∷ Queue 2 1 [] ∷ Queue 1 1 [] ∷ Grant 1 [] ∷ Start 1 [] ∷ Stop 1 [] ∷ Free 1 3 [] ∷ Grant 2 [] ∷ Start 2 [] ∷ Stop 2 [] ∷ Free 2 3 [] ∷ [])
+unfolding step enabled drive
+newest_takes_greatest = refl
