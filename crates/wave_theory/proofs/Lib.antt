@@ -3,6 +3,7 @@ pub mod Able
 pub mod Alive
 pub mod Alone
 pub mod Along
+pub mod AsAlone
 pub mod Basics
 pub mod Beginning
 pub mod Canon
@@ -16,6 +17,7 @@ pub mod Found
 pub mod Frames
 pub mod Freeing
 pub mod Granting
+pub mod Halts
 pub mod Held
 pub mod InHand
 pub mod Homes

@@ -1,5 +1,6 @@
 pub mod Counter
 pub mod Hands
+pub mod Holding
 pub mod Laws
 pub mod Movers
 pub mod Orders

@@ -1,5 +1,6 @@
 ghost use Rattle.wave_theory.specs.Hands.{HandsStayOver, MayRun, Stoppable};
-ghost use Rattle.wave_theory.specs.States.{Always, AlwaysBy};
+ghost use Rattle.wave_theory.specs.Holding.{Holders, Holding};
+ghost use Rattle.wave_theory.specs.States.{Always, AlwaysBy, AlwaysOf};
 
 use crate::acting::Acting;
 
@@ -16,4 +17,14 @@ pub fn may_run<T: Acting>()
 /// What is in a worker's hand stays there until that worker takes a label.
 pub fn hands_stay_over<T: Acting>()
     ensures { (c : T.Code) → HandsStayOver (T.system c) }
+{}
+
+/// Each event is as it is alone, and holds what it holds alone but for what it waits for.
+pub fn holding<T: Acting>()
+    ensures { (c : T.Code) → AlwaysOf (T.system c) (T.hosts c) (T.fits c) (T.is_job c) (T.fine c) (Holding (T.system c)) }
+{}
+
+/// What an event holds is held by it, and nothing else is but what it has just given up.
+pub fn holders<T: Acting>()
+    ensures { (c : T.Code) → Always (T.system c) (T.hosts c) (T.fits c) (T.is_job c) (T.fine c) (Holders (T.system c)) }
 {}
