@@ -29,6 +29,7 @@ pub mod Noted
 pub mod Often
 pub mod Opened
 pub mod Order
+pub mod Outcome
 pub mod Own
 pub mod Passed
 pub mod Paths
@@ -42,6 +43,7 @@ pub mod Settled
 pub mod Shows
 pub mod Sites
 pub mod Sizes
+pub mod Spent
 pub mod Starting
 pub mod Stopping
 pub mod Stops

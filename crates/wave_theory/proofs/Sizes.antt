@@ -115,7 +115,7 @@ module _ {A F R J : Type 0} (sys : Actors A F R J) where
         by true z s s' a a' e d u = (let d' : s' ≡ s + 5 = d ∙ ap (λ i. s + full_part i) z in let u' : a' ≡ a + 1 = u ∙ ap (λ i. a + one_if i) z in omega (arith, e, d', u'))
         by false z s s' a a' e d u = (let d' : s' ≡ s + 3 = d ∙ ap (λ i. s + full_part i) z in let u' : a' ≡ a + 0 = u ∙ ap (λ i. a + one_if i) z in omega (arith, e, d', u'))
 
-    last_stale : (after_segments sys (suc n) y).fresh ≡ false
+    pub last_stale : (after_segments sys (suc n) y).fresh ≡ false
     last_stale = ap (λ (z : Alone A F R). z.fresh) (next_is sys n y) ∙ over_stale (after_segments sys n y) c.result (c.under n (omega arith)) (sym (ap (λ (z : Alone A F R). z.result) (next_is sys n y)) ∙ c.ends)
 
     none_more : (n : ℕ) → n + 0 ≡ n

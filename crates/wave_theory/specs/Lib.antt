@@ -1,3 +1,4 @@
+pub mod Agree
 pub mod Counter
 pub mod Hands
 pub mod Holding
