@@ -1,5 +1,6 @@
 pub mod Admitting
 pub mod Able
+pub mod Agreed
 pub mod Alive
 pub mod Alone
 pub mod Along

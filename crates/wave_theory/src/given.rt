@@ -1,3 +1,4 @@
+ghost use Rattle.wave_theory.specs.Agree.{Agree};
 ghost use Rattle.wave_theory.specs.Hands.{HandsStayOver, MayRun, Stoppable};
 ghost use Rattle.wave_theory.specs.Holding.{Holders, Holding};
 ghost use Rattle.wave_theory.specs.States.{Always, AlwaysBy, AlwaysOf};
@@ -27,4 +28,9 @@ pub fn holding<T: Acting>()
 /// What an event holds is held by it, and nothing else is but what it has just given up.
 pub fn holders<T: Acting>()
     ensures { (c : T.Code) → Always (T.system c) (T.hosts c) (T.fits c) (T.is_job c) (T.fine c) (Holders (T.system c)) }
+{}
+
+/// The parts of a state agree: mails with the entries that they go to, results with events, records with who holds them.
+pub fn agree<T: Acting>()
+    ensures { (c : T.Code) → Always (T.system c) (T.hosts c) (T.fits c) (T.is_job c) (T.fine c) (Agree (T.system c)) }
 {}
