@@ -8,6 +8,7 @@ use Rattle.wave_states.specs.Actors.{Actors}
 use Rattle.wave_states.specs.States.{State, Ask, Cell, Claim, Entry, Event, Hand, Mail, Status, Travelling, Ended, Waiting, Ready, Running, Letter, Enter, Visit, Back, Release, Transfer, hold_at}
 use Rattle.wave_states.specs.Alone.{Alone, after_segments}
 use Rattle.wave_states.specs.Begins.{Begin}
+use Rattle.wave_states.specs.Kinds.{Kind}
 use Rattle.wave_states.specs.Owes.{Owes, IsBegin}
 use Rattle.wave_theory.proofs.Basics.{clash, some_same, none_not, bool_cases, options, number_self, path_self}
 use Rattle.wave_theory.proofs.Order.{Way, IsWay, visits, rank, Stage, Entering, Lined, Coming, There, Done, is_pending, here}
@@ -27,7 +28,8 @@ use Rattle.wave_theory.proofs.Spent.{OnceIn}
 use Rattle.wave_theory.proofs.Spent
 use Rattle.wave_theory.proofs.Reached.{Good_state}
 use Rattle.wave_theory.proofs.Reached
-use Rattle.wave_theory.specs.States.{HasEntry, IsIn}
+use Rattle.wave_theory.specs.Numbers.{HasEntry}
+use Rattle.wave_theory.specs.Listed.{IsIn}
 use Rattle.wave_theory.specs.Agree.{Agree, IsHolder, IsAway}
 
 -- the only claim
@@ -106,21 +108,21 @@ stage_cases There = inr not_done
     not_done : There ≡ Done → ⊥
     not_done e = grind arith
 
-module _ {A F R J : Type 0} (sys : Actors A F R J) (hosts : ℕ) (fits : Path → F → Type 0) (is_job : J → Type 0) (fine : A → Path → ℕ → Type 0) (owes : Owes sys hosts fits is_job fine) (b : Begin F) (batches : List (List J)) (begins : IsBegin sys hosts fits is_job fine b) (jobs : All (All is_job) batches) where
+module _ {A F R J : Type 0} (kind : Kind A F R J) (owes : Owes kind) (b : Begin F) (batches : List (List J)) (begins : IsBegin kind b) (jobs : All (All kind.is_job) batches) where
   abbrev w : Way
-  w = Courses.w sys hosts fits is_job fine owes b batches begins jobs
+  w = Courses.w kind owes b batches begins jobs
 
-  abbrev course : Course sys
-  course = Courses.course sys hosts fits is_job fine owes b batches begins jobs
+  abbrev course : Course kind.system
+  course = Courses.course kind owes b batches begins jobs
 
   abbrev Is_real : ℕ → Type 0
-  Is_real = Courses.Real sys hosts fits is_job fine owes b batches begins jobs
+  Is_real = Courses.Real kind owes b batches begins jobs
 
   law : IsWay w
-  law = Courses.law sys hosts fits is_job fine owes b batches begins jobs
+  law = Courses.law kind owes b batches begins jobs
 
-  module _ (s : State A F R J) (k : Good_state sys hosts fits is_job fine owes b batches begins jobs s) where
-    x : Shows.Shows sys w course b.before Is_real s k.ghost
+  module _ (s : State A F R J) (k : Good_state kind owes b batches begins jobs s) where
+    x : Shows.Shows kind.system w course b.before Is_real s k.ghost
     x = k.shows
 
     abbrev g : Shows.Ghost F
@@ -145,24 +147,24 @@ module _ {A F R J : Type 0} (sys : Actors A F R J) (hosts : ℕ) (fits : Path �
     first a t l = omega (arith, l)
 
     mail_known : (t i : ℕ) (m : Mail F) → (s.cells t).mails i ≡ Some m → (b.before < t) × (t ≤ (g).lines.admitted)
-    mail_known t i m e = Reached.known sys hosts fits is_job fine owes b batches begins jobs s k.ghost x t (λ q. none_not (sym (ap (λ (u : Cell A F R). u.mails i) q) ∙ e))
+    mail_known t i m e = Reached.known kind owes b batches begins jobs s k.ghost x t (λ q. none_not (sym (ap (λ (u : Cell A F R). u.mails i) q) ∙ e))
 
-    shown : (t i : ℕ) (m : Mail F) → (s.cells t).mails i ≡ Some m → (l : Letter F) → m.letter ≡ l → Shows.MailShows sys w course b.before Is_real k.ghost t i m.host m.path l
-    shown t i m e l z = (let n = mail_known t i m e in subst (Shows.MailShows sys w course b.before Is_real k.ghost t i m.host m.path) z ((x.cells t n.0 n.1).mails i m e))
+    shown : (t i : ℕ) (m : Mail F) → (s.cells t).mails i ≡ Some m → (l : Letter F) → m.letter ≡ l → Shows.MailShows kind.system w course b.before Is_real k.ghost t i m.host m.path l
+    shown t i m e l z = (let n = mail_known t i m e in subst (Shows.MailShows kind.system w course b.before Is_real k.ghost t i m.host m.path) z ((x.cells t n.0 n.1).mails i m e))
 
     comes_to : (t : ℕ) (p : Path) → t ≤ (g).lines.admitted → ((g).lines.stage t ≡ Done → ⊥) → here w (g).lines t ≡ p → visits w t p ≡ true
-    comes_to t p l n e = subst (λ r. visits w t r ≡ true) e (visits_of sys w law course b.before Is_real k.ghost x.good t (here w (g).lines t) l (entered_spot sys w law course b.before Is_real k.ghost x.good t l n))
+    comes_to t p l n e = subst (λ r. visits w t r ≡ true) e (visits_of kind.system w law course b.before Is_real k.ghost x.good t (here w (g).lines t) l (entered_spot kind.system w law course b.before Is_real k.ghost x.good t l n))
 
-    entry_is : (p : Path) (en : Entry F) → HasEntry sys b batches s p en → en ≡ (g).entry p
-    entry_is p en h = Told.entry_same sys hosts fits is_job fine owes b batches begins jobs s k p en h
+    entry_is : (p : Path) (en : Entry F) → HasEntry s p en → en ≡ (g).entry p
+    entry_is p en h = Told.entry_same kind owes b batches begins jobs s k p en h
 
-    enters : (t i : ℕ) (m : Mail F) (a : Ask) (en : Entry F) → (s.cells t).mails i ≡ Some m → m.letter ≡ Enter a → HasEntry sys b batches s m.path en → (en.served < a.number) × (en.waiting a.number ≡ None)
+    enters : (t i : ℕ) (m : Mail F) (a : Ask) (en : Entry F) → (s.cells t).mails i ≡ Some m → m.letter ≡ Enter a → HasEntry s m.path en → (en.served < a.number) × (en.waiting a.number ≡ None)
     enters t i m a en e l h = (above _ _ not_served, elim (options (en.waiting a.number)) [ inl z ↦ z | inr z ↦ absurd (waits z.0 (ap (λ (u : Entry F). u.waiting a.number) (sym same) ∙ z.1)) ])
       where
         n : (b.before < t) × (t ≤ (g).lines.admitted)
         n = mail_known t i m e
 
-        y : Shows.EnterShows sys w course b.before Is_real k.ghost t i m.host m.path a
+        y : Shows.EnterShows kind.system w course b.before Is_real k.ghost t i m.host m.path a
         y = shown t i m e (Enter a) l
 
         same : en ≡ (g).entry m.path
@@ -190,17 +192,17 @@ module _ {A F R J : Type 0} (sys : Actors A F R J) (hosts : ℕ) (fits : Path �
       where
         store_is : (s.columns p).store (owner ((g).trail p)) ≡ Some ((g).entry p)
         store_is = elim (bool_cases ((g).born p)) [
-          | inl u ↦ (subst (λ i. Shows.ColumnShows sys w course b.before Is_real i k.ghost p (s.columns p)) u (x.columns p)).there st
+          | inl u ↦ (subst (λ i. Shows.ColumnShows kind.system w course b.before Is_real i k.ghost p (s.columns p)) u (x.columns p)).there st
           | inr u ↦ absurd (clash _ holds (sym ((x.entries p).holders t) ∙ ap (λ (y : Entry F). Shows.holds_claim y.holders t) ((x.entries p).unborn u)))
         ]
 
-    coming : (t i : ℕ) (m : Mail F) → (s.cells t).mails i ≡ Some m → Shows.ComingShows sys w course b.before Is_real k.ghost t i m.host m.path → (en : Entry F) × ((s.columns m.path).store m.host ≡ Some en) × IsHolder en t
-    coming t i m e y = in_store m.path t m.host (subst (λ r. (g).lines.holds r t ≡ true) (sym y.place) (holds_spot sys w law course b.before Is_real k.ghost x.good t (first _ _ n.0) n.1 (λ d. coming_done (sym y.stage ∙ d)) (ap is_pending y.stage))) (c.where_held m.path held.0 held.1).1 y.host_is
+    coming : (t i : ℕ) (m : Mail F) → (s.cells t).mails i ≡ Some m → Shows.ComingShows kind.system w course b.before Is_real k.ghost t i m.host m.path → (en : Entry F) × ((s.columns m.path).store m.host ≡ Some en) × IsHolder en t
+    coming t i m e y = in_store m.path t m.host (subst (λ r. (g).lines.holds r t ≡ true) (sym y.place) (holds_spot kind.system w law course b.before Is_real k.ghost x.good t (first _ _ n.0) n.1 (λ d. coming_done (sym y.stage ∙ d)) (ap is_pending y.stage))) (c.where_held m.path held.0 held.1).1 y.host_is
       where
         n : (b.before < t) × (t ≤ (g).lines.admitted)
         n = mail_known t i m e
 
-        c : Shows.CellShows sys w course b.before Is_real k.ghost t (s.cells t)
+        c : Shows.CellShows kind.system w course b.before Is_real k.ghost t (s.cells t)
         c = x.cells t (n).0 (n).1
 
         held : (o : _) × (hold_at (c).event.held m.path ≡ Some o)
@@ -219,8 +221,8 @@ module _ {A F R J : Type 0} (sys : Actors A F R J) (hosts : ℕ) (fits : Path �
       hs.known,
     ))
 
-    module _ (single : Spent.Single sys hosts fits is_job fine owes b batches begins jobs s) where
-      alone_in : (p : Path) (en : Entry F) (c : Claim) → HasEntry sys b batches s p en → IsIn en.holders c → c.peek ≡ false → en.holders ≡ c ∷ []
+    module _ (single : Spent.Single kind owes b batches begins jobs s) where
+      alone_in : (p : Path) (en : Entry F) (c : Claim) → HasEntry s p en → IsIn en.holders c → c.peek ≡ false → en.holders ≡ c ∷ []
       alone_in p en c h i e = one_claim en.holders c (single p en h) i (λ d j. (let v = claims c i in let u = claims d j in x.good.alone c.ticket p v.0 (sym v.1 ∙ e) d.ticket u.0))
         where
           claims : (d : Claim) → IsIn en.holders d → ((g).lines.holds p d.ticket ≡ true) × (d.peek ≡ w.looks d.ticket p)
@@ -234,13 +236,13 @@ module _ {A F R J : Type 0} (sys : Actors A F R J) (hosts : ℕ) (fits : Path �
           same_mail : (m : Mail F) {l : Letter F} → m.letter ≡ l → m ≡ record { host = m.host; path = m.path; letter = l }
           same_mail m k = λ i. record { host = m.host; path = m.path; letter = k i }
 
-          y : Shows.Leaving sys w course b.before Is_real k.ghost t i m.host m.path × (((g).trail m.path).stored ≡ false) × (en ≡ (g).entry m.path) × (w.looks t m.path ≡ false)
+          y : Shows.Leaving kind.system w course b.before Is_real k.ghost t i m.host m.path × (((g).trail m.path).stored ≡ false) × (en ≡ (g).entry m.path) × (w.looks t m.path ≡ false)
           y = shown t i m e (Transfer en) l
 
           no_store : (h : ℕ) → (s.columns m.path).store h ≡ None
           no_store h = elim (options ((s.columns m.path).store h)) [
             | inl z ↦ z
-            | inr z ↦ absurd (clash _ (found sys w course b.before Is_real k.ghost m.path (s.columns m.path) h z.0 (x.columns m.path) z.1).stored y.1)
+            | inr z ↦ absurd (clash _ (found kind.system w course b.before Is_real k.ghost m.path (s.columns m.path) h z.0 (x.columns m.path) z.1).stored y.1)
           ]
 
           has_body : is_some en.body ≡ true
@@ -259,36 +261,36 @@ module _ {A F R J : Type 0} (sys : Actors A F R J) (hosts : ℕ) (fits : Path �
       ], λ z. ap is_some (result_is ∙ ends (ended_done event.status _ _ _ status z)))
         where
           n : (b.before < t) × (t ≤ (g).lines.admitted)
-          n = Reached.known sys hosts fits is_job fine owes b batches begins jobs s k.ghost x t (λ q. none_not (sym (ap (λ (u : Cell A F R). u.event) q) ∙ e))
+          n = Reached.known kind owes b batches begins jobs s k.ghost x t (λ q. none_not (sym (ap (λ (u : Cell A F R). u.event) q) ∙ e))
 
-          c : Shows.CellShows sys w course b.before Is_real k.ghost t (s.cells t)
+          c : Shows.CellShows kind.system w course b.before Is_real k.ghost t (s.cells t)
           c = x.cells t (n).0 (n).1
 
           status : Shows.StatusShows event.status ((g).lines.stage t) ((g).out t) (here w (g).lines t)
           status = subst (λ (u : Event A). Shows.StatusShows u.status ((g).lines.stage t) ((g).out t) (here w (g).lines t)) (some_same _ event (sym c.event_is ∙ e)) c.status
 
-          r : Courses.Real sys hosts fits is_job fine owes b batches begins jobs t
+          r : Courses.Real kind owes b batches begins jobs t
           r = c.real
 
           x₀ : Alone A F R
-          x₀ = Plans.first_of sys hosts fits is_job fine owes b batches begins jobs (r).index (r).job
+          x₀ = Plans.first_of kind owes b batches begins jobs (r).index (r).job
 
-          view_is : view sys hosts fits is_job fine owes b batches begins jobs t ≡ Courses.view_at sys hosts fits is_job fine owes b batches begins jobs (r).index (Some (r).job)
-          view_is = ap (view sys hosts fits is_job fine owes b batches begins jobs) r.ticket_is ∙ view_real sys hosts fits is_job fine owes b batches begins jobs r.index r.job r.job_is
+          view_is : view kind owes b batches begins jobs t ≡ Courses.view_at kind owes b batches begins jobs (r).index (Some (r).job)
+          view_is = ap (view kind owes b batches begins jobs) r.ticket_is ∙ view_real kind owes b batches begins jobs r.index r.job r.job_is
 
-          result_is : (s.cells t).result ≡ (after_segments sys ((g).lines.pos t) (x₀)).result
+          result_is : (s.cells t).result ≡ (after_segments kind.system ((g).lines.pos t) (x₀)).result
           result_is = c.result ∙ ap (λ (u : View A F R). u.result ((g).lines.pos t)) view_is
 
-          before : ((g).lines.stage t ≡ Done → ⊥) → (after_segments sys ((g).lines.pos t) (x₀)).result ≡ None
-          before d = (Plans.counts sys hosts fits is_job fine owes b batches begins jobs r.index r.job r.job_is).under ((g).lines.pos t) (less_suc _ _ (subst (λ (u : View A F R). (g).lines.pos t ≤ u.one.last) view_is (x.good.going t n.1 d)))
+          before : ((g).lines.stage t ≡ Done → ⊥) → (after_segments kind.system ((g).lines.pos t) (x₀)).result ≡ None
+          before d = (Plans.counts kind owes b batches begins jobs r.index r.job r.job_is).under ((g).lines.pos t) (less_suc _ _ (subst (λ (u : View A F R). (g).lines.pos t ≤ u.one.last) view_is (x.good.going t n.1 d)))
             where
               less_suc : (a m : ℕ) → a ≤ m → a < suc m
               less_suc a m l = omega (arith, l)
 
-          ends : (g).lines.stage t ≡ Done → (after_segments sys ((g).lines.pos t) (x₀)).result ≡ Some (Plans.counts sys hosts fits is_job fine owes b batches begins jobs (r).index (r).job (r).job_is).result
-          ends d = ap (λ m. (after_segments sys m (x₀)).result) (x.good.ended t n.1 d ∙ ap (λ (u : View A F R). suc u.one.last) view_is) ∙ (Plans.counts sys hosts fits is_job fine owes b batches begins jobs r.index r.job r.job_is).ends
+          ends : (g).lines.stage t ≡ Done → (after_segments kind.system ((g).lines.pos t) (x₀)).result ≡ Some (Plans.counts kind owes b batches begins jobs (r).index (r).job (r).job_is).result
+          ends d = ap (λ m. (after_segments kind.system m (x₀)).result) (x.good.ended t n.1 d ∙ ap (λ (u : View A F R). suc u.one.last) view_is) ∙ (Plans.counts kind owes b batches begins jobs r.index r.job r.job_is).ends
 
-      away_is : (p : Path) (en : Entry F) → HasEntry sys b batches s p en → en.body ≡ None → IsAway s p en
+      away_is : (p : Path) (en : Entry F) → HasEntry s p en → en.body ≡ None → IsAway s p en
       away_is p en h e = (let a = away p (ap (λ (u : Entry F). u.body) (sym (entry_is p en h)) ∙ e) in record {
         worker = a.0;
         hand = a.1;
@@ -297,7 +299,7 @@ module _ {A F R J : Type 0} (sys : Actors A F R J) (hosts : ℕ) (fits : Path �
         holds = subst (λ (u : Entry F). IsIn u.holders (record { ticket = a.1.ticket; peek = false })) (sym (entry_is p en h)) (subst (λ j. IsIn ((g).entry p).holders (record { ticket = a.1.ticket; peek = j })) a.5 (holder p a.1.ticket a.4));
       })
 
-      pub agree : Agree sys b batches s
+      pub agree : Agree kind b batches s
       agree = record {
         enters = enters;
         comings = λ t i m e l. elim l [ inl z ↦ coming t i m e (shown t i m e Visit z) | inr z ↦ coming t i m e (shown t i m e Back z) ];

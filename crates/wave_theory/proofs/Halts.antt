@@ -9,6 +9,7 @@ use Rattle.wave_states.specs.Labels
 use Rattle.wave_states.specs.Steps.{step}
 use Rattle.wave_states.specs.Runs.{run}
 use Rattle.wave_states.specs.Begins.{Begin, start_state}
+use Rattle.wave_states.specs.Kinds.{Kind}
 use Rattle.wave_states.specs.Owes.{Owes, IsBegin}
 use Rattle.wave_theory.proofs.Basics.{clash, number_cases, number_self, set_at, set_there, differ}
 use Rattle.wave_theory.proofs.Order.{Way, Stage, There, Done}
@@ -72,29 +73,29 @@ no_stop (Stop u p) d e s t = absurd (off d e s)
     off Deeds.Rests e s = s
     off Deeds.Lands e s = s
 
-module _ {A F R J : Type 0} (sys : Actors A F R J) (hosts : ℕ) (fits : Path → F → Type 0) (is_job : J → Type 0) (fine : A → Path → ℕ → Type 0) (owes : Owes sys hosts fits is_job fine) (b : Begin F) (batches : List (List J)) (begins : IsBegin sys hosts fits is_job fine b) (jobs : All (All is_job) batches) where
+module _ {A F R J : Type 0} (kind : Kind A F R J) (owes : Owes kind) (b : Begin F) (batches : List (List J)) (begins : IsBegin kind b) (jobs : All (All kind.is_job) batches) where
   abbrev w : Way
-  w = Courses.w sys hosts fits is_job fine owes b batches begins jobs
+  w = Courses.w kind owes b batches begins jobs
 
-  abbrev course : Course sys
-  course = Courses.course sys hosts fits is_job fine owes b batches begins jobs
+  abbrev course : Course kind.system
+  course = Courses.course kind owes b batches begins jobs
 
   abbrev Is_real : ℕ → Type 0
-  Is_real = Courses.Real sys hosts fits is_job fine owes b batches begins jobs
+  Is_real = Courses.Real kind owes b batches begins jobs
 
   abbrev Good : State A F R J → Type 0
-  Good s = Good_state sys hosts fits is_job fine owes b batches begins jobs s
+  Good s = Good_state kind owes b batches begins jobs s
 
   -- so many segments of each admitted ticket are over
   pub record HaltsOf (n pos : ℕ → ℕ) (admitted : ℕ) : Type 0 where
     pub each : (t : ℕ) → b.before < t → t ≤ admitted → pos t ≡ n t
     pub none : (t : ℕ) → admitted < t → n t ≡ 0
 
-  module _ (some_host : 0 < hosts) (workers : ℕ) where
+  module _ (some_host : 0 < kind.hosts) (workers : ℕ) where
     abbrev pub Halts : (ls : List Label) (s : State A F R J) → Good s → Type 0
     Halts ls s k = HaltsOf (λ t. stops t ls) (k.ghost).lines.pos (k.ghost).lines.admitted
 
-    module _ (ls : List Label) (s s' : State A F R J) (k : Good s) (l : Label) (r : Along.from_start sys hosts fits is_job fine owes b batches begins jobs some_host workers ls s) (h : Halts ls s k) (e : step sys workers s l ≡ Some s') (n : Along.Follows sys hosts fits is_job fine owes b batches begins jobs some_host workers s s' k l) where
+    module _ (ls : List Label) (s s' : State A F R J) (k : Good s) (l : Label) (r : Along.from_start kind owes b batches begins jobs some_host workers ls s) (h : Halts ls s k) (e : step kind.system workers s l ≡ Some s') (n : Along.Follows kind owes b batches begins jobs some_host workers s s' k l) where
       abbrev g : Shows.Ghost F
       g = k.ghost
 
@@ -121,7 +122,7 @@ module _ {A F R J : Type 0} (sys : Actors A F R J) (hosts : ℕ) (fits : Path �
       }
         where
           kn : (b.before < t) × (t ≤ (g).lines.admitted)
-          kn = Homes.known_by_shows sys hosts fits is_job fine owes b batches begins jobs s k.ghost k.shows t (λ z. there_done (sym st ∙ z))
+          kn = Homes.known_by_shows kind owes b batches begins jobs s k.ghost k.shows t (λ z. there_done (sym st ∙ z))
 
           past : (a c d : ℕ) → a ≤ c → c < d → a ≡ d → ⊥
           past a c d x y z = omega (arith, x, y, z)
@@ -135,7 +136,7 @@ module _ {A F R J : Type 0} (sys : Actors A F R J) (hosts : ℕ) (fits : Path �
         none = λ t x. ap (λ i. if i then suc (stops t ls) else stops t ls) (no_stop a d z su t) ∙ h.none t x;
       }
 
-      by : (a : Act) (d : Deed) → Suits a d → Deeds.Fits sys w course b.before Is_real s k.ghost (n.good).ghost (ticket_of a) (path_of a) d → HaltsOf (counts a) (done_by w o (ticket_of a) (path_of a) d).pos (done_by w o (ticket_of a) (path_of a) d).admitted
+      by : (a : Act) (d : Deed) → Suits a d → Deeds.Fits kind.system w course b.before Is_real s k.ghost (n.good).ghost (ticket_of a) (path_of a) d → HaltsOf (counts a) (done_by w o (ticket_of a) (path_of a) d).pos (done_by w o (ticket_of a) (path_of a) d).admitted
       by a Deeds.Admits su f = (let q = admit_form a su in record {
         each = λ t x y. elim (number_cases (suc (g).lines.admitted) t) [
           | inl z ↦ subst (λ i. set nat_eq (g).lines.pos (suc (g).lines.admitted) 0 i ≡ counts a i) z (set_at (g).lines.pos (suc (g).lines.admitted) 0 ∙ sym (ap (λ u. counts u (suc (g).lines.admitted)) q.1 ∙ h.none (suc (g).lines.admitted) (omega arith)))
@@ -162,21 +163,21 @@ module _ {A F R J : Type 0} (sys : Actors A F R J) (hosts : ℕ) (fits : Path �
       pub halts_now : Halts (ls ++ l ∷ []) s' n.good
       halts_now = subst (λ (u : Outline). HaltsOf (λ t. stops t (ls ++ l ∷ [])) u.pos u.admitted) (sym (n.turn).is) (to_list (by l.act (n.turn).deed (n.turn).suits (n.turn).fits))
 
-    halts_next : (ls : List Label) (s s' : State A F R J) (k : Good s) (l : Label) → Along.from_start sys hosts fits is_job fine owes b batches begins jobs some_host workers ls s → Halts ls s k → step sys workers s l ≡ Some s' → (n : Along.Follows sys hosts fits is_job fine owes b batches begins jobs some_host workers s s' k l) → Halts (ls ++ l ∷ []) s' n.good
+    halts_next : (ls : List Label) (s s' : State A F R J) (k : Good s) (l : Label) → Along.from_start kind owes b batches begins jobs some_host workers ls s → Halts ls s k → step kind.system workers s l ≡ Some s' → (n : Along.Follows kind owes b batches begins jobs some_host workers s s' k l) → Halts (ls ++ l ∷ []) s' n.good
     halts_next ls s s' k l r h e n = halts_now ls s s' k l r h e n
 
     pub record Halted (ls : List Label) (s : State A F R J) : Type 0 where
       pub good : Good s
       pub halts : Halts ls s good
 
-    pub halting : (ls : List Label) (s : State A F R J) → run sys workers (start_state b batches) ls ≡ Some s → Halted ls s
-    halting ls s e = by (Along.along sys hosts fits is_job fine owes b batches begins jobs some_host workers Halts halts_next first ls s e)
+    pub halting : (ls : List Label) (s : State A F R J) → run kind.system workers (start_state b batches) ls ≡ Some s → Halted ls s
+    halting ls s e = by (Along.along kind owes b batches begins jobs some_host workers Halts halts_next first ls s e)
       where
-        first : Halts [] (start_state b batches) (Along.first sys hosts fits is_job fine owes b batches begins jobs some_host workers)
-        first = subst (λ (g : Shows.Ghost F). HaltsOf (λ t. 0) g.lines.pos g.lines.admitted) (sym (Reached.first_ghost sys hosts fits is_job fine owes b batches begins jobs some_host)) (record { each = λ t l m. absurd (apart b.before t l m); none = λ t l. refl })
+        first : Halts [] (start_state b batches) (Along.first kind owes b batches begins jobs some_host workers)
+        first = subst (λ (g : Shows.Ghost F). HaltsOf (λ t. 0) g.lines.pos g.lines.admitted) (sym (Reached.first_ghost kind owes b batches begins jobs some_host)) (record { each = λ t l m. absurd (apart b.before t l m); none = λ t l. refl })
           where
             apart : (a t : ℕ) → a < t → t ≤ a → ⊥
             apart a t l m = omega (arith, l, m)
 
-        by : Along.Along sys hosts fits is_job fine owes b batches begins jobs some_host workers Halts halts_next ls s → Halted ls s
+        by : Along.Along kind owes b batches begins jobs some_host workers Halts halts_next ls s → Halted ls s
         by a = record { good = a.good; halts = a.holds }

@@ -1,21 +1,20 @@
 -- What is in a hand can be stopped there, and may run.
-use Rattle.std.proofs.Common.{◌≡◌, ◌≢◌, ℕ, suc, ◌+◌, ◌<◌, ◌≤◌, ◌⊎◌, ◌==◌, ◌&&◌, not, inl, inr, nat_eq, nat_lt, Bool, true, false, Option, Some, None, is_some, List, [], ◌∷◌, ◌++◌, length, refl, sym, ◌∙◌, ap, ap₂, subst, arith}
+use Rattle.std.proofs.Common.{◌≡◌, ◌≢◌, ℕ, suc, ◌+◌, ◌<◌, ◌≤◌, ◌⊎◌, ◌==◌, ◌&&◌, not, inl, inr, nat_eq, nat_lt, Bool, true, false, Option, Some, None, is_some, List, [], ◌∷◌, length, refl, sym, ◌∙◌, ap, ap₂, subst, arith}
 use Rattle.std.specs.Prelude.{if◌then◌else◌, All, slice_get}
 use Rattle.std.specs.List.{AllByRecursion}
 use Rattle.std.proofs.lemmas.Bool.Decides.{nat_tests}
 use Rattle.std.proofs.lemmas.List.Elements.{recursion_from_All}
-use Rattle.wave_base.specs.declared.path.Step.{Step}
 use Rattle.wave_base.specs.declared.path.Path.{Path}
-use Rattle.wave_base.specs.declared.children.Child.{Child}
 use Rattle.wave_base.specs.Paths.{path_eq}
-use Rattle.wave_states.specs.Actors.{Actors, Left, Pause, Over}
+use Rattle.wave_states.specs.Actors.{Actors, Left, Over}
 use Rattle.wave_states.specs.States.{State, Cell, Entry, Event, Hand, Record, Running, hold_at, holds_as_peek, is_peek_in, steps_of, Status}
 use Rattle.wave_states.specs.States
 use Rattle.wave_states.specs.Labels.{Act, Label, Admit, Commit, Stop, is_local}
-use Rattle.wave_states.specs.Steps.{Part, Desk, step, step_by, only_if, next_ticket, admitted, committed, act_bench, with_hand, stop, stopped, looked, desk_back, segment_of, part_of, with_bench}
+use Rattle.wave_states.specs.Steps.{step, step_by, only_if, next_ticket, admitted, committed, act_bench, stop, stopped, looked, desk_back, segment_of, part_of, with_bench}
 use Rattle.wave_states.specs.Runs.{run}
 use Rattle.wave_states.specs.Alone.{Alone, after_segments}
 use Rattle.wave_states.specs.Begins.{Begin}
+use Rattle.wave_states.specs.Kinds.{Kind}
 use Rattle.wave_states.specs.Owes.{Owes, IsBegin}
 use Rattle.wave_theory.proofs.Basics.{clash, some_same, none_not, bool_cases, number_self, path_self, and_both, then_some, map_some, only_some, if_some, differ, set_there}
 use Rattle.wave_theory.proofs.Commute.{local_step}
@@ -25,14 +24,12 @@ use Rattle.wave_theory.proofs.Tracks.{owner}
 use Rattle.wave_theory.proofs.Frames.{option_some, holds_spot}
 use Rattle.wave_theory.proofs.Able.{then_can, map_can, if_can}
 use Rattle.wave_theory.proofs.Alone.{Fine, Stands}
-use Rattle.wave_theory.proofs.Ways.{Counts}
 use Rattle.wave_theory.proofs.Plans
 use Rattle.wave_theory.proofs.Courses.{View, view, view_real}
 use Rattle.wave_theory.proofs.Courses
 use Rattle.wave_theory.proofs.Shows
 use Rattle.wave_theory.proofs.Reached.{Good_state}
-use Rattle.wave_theory.proofs.Reached
-use Rattle.wave_theory.specs.Hands.{CanStop, MayRun, HandsStayOver}
+use Rattle.wave_theory.specs.Hands.{CanStop, HandsStayOver}
 
 there_done : There ≡ Done → ⊥
 there_done e = grind arith
@@ -47,24 +44,24 @@ running_is (Running q) There o p z f = ap Running z.0
 running_is States.Status.Ended Done o p z f = absurd (clash _ f z)
 running_is st v o p z f = absurd z
 
-module _ {A F R J : Type 0} (sys : Actors A F R J) (hosts : ℕ) (fits : Path → F → Type 0) (is_job : J → Type 0) (fine : A → Path → ℕ → Type 0) (owes : Owes sys hosts fits is_job fine) (b : Begin F) (batches : List (List J)) (begins : IsBegin sys hosts fits is_job fine b) (jobs : All (All is_job) batches) where
+module _ {A F R J : Type 0} (kind : Kind A F R J) (owes : Owes kind) (b : Begin F) (batches : List (List J)) (begins : IsBegin kind b) (jobs : All (All kind.is_job) batches) where
   abbrev w : Way
-  w = Courses.w sys hosts fits is_job fine owes b batches begins jobs
+  w = Courses.w kind owes b batches begins jobs
 
-  abbrev course : Course sys
-  course = Courses.course sys hosts fits is_job fine owes b batches begins jobs
+  abbrev course : Course kind.system
+  course = Courses.course kind owes b batches begins jobs
 
   abbrev Is_real : ℕ → Type 0
-  Is_real = Courses.Real sys hosts fits is_job fine owes b batches begins jobs
+  Is_real = Courses.Real kind owes b batches begins jobs
 
   law : IsWay w
-  law = Courses.law sys hosts fits is_job fine owes b batches begins jobs
+  law = Courses.law kind owes b batches begins jobs
 
-  courses : IsCourse sys w course b.before Is_real
-  courses = Courses.courses sys hosts fits is_job fine owes b batches begins jobs
+  courses : IsCourse kind.system w course b.before Is_real
+  courses = Courses.courses kind owes b batches begins jobs
 
-  module _ (s : State A F R J) (k : Good_state sys hosts fits is_job fine owes b batches begins jobs s) (v : ℕ) (hd : Hand A F) (hand_is : s.hands v ≡ Some hd) where
-    x : Shows.Shows sys w course b.before Is_real s k.ghost
+  module _ (s : State A F R J) (k : Good_state kind owes b batches begins jobs s) (v : ℕ) (hd : Hand A F) (hand_is : s.hands v ≡ Some hd) where
+    x : Shows.Shows kind.system w course b.before Is_real s k.ghost
     x = k.shows
 
     abbrev t : ℕ
@@ -76,25 +73,25 @@ module _ {A F R J : Type 0} (sys : Actors A F R J) (hosts : ℕ) (fits : Path �
     abbrev n : ℕ
     n = (k.ghost).lines.pos hd.ticket
 
-    hs : Shows.HandShows sys w course b.before Is_real k.ghost v hd
+    hs : Shows.HandShows kind.system w course b.before Is_real k.ghost v hd
     hs = x.hands v hd hand_is
 
-    c : Shows.CellShows sys w course b.before Is_real k.ghost t (s.cells t)
+    c : Shows.CellShows kind.system w course b.before Is_real k.ghost t (s.cells t)
     c = x.cells t hs.later hs.known
 
     going : n ≤ w.last t
     going = x.good.going t hs.known (λ e. there_done (sym hs.stage ∙ e))
 
-    seg : Segment sys w course t n
+    seg : Segment kind.system w course t n
     seg = courses.segment t n c.real going
 
     held : is_some (hold_at (c).event.held p) ≡ true
     held = c.held p ∙ ap₂ (λ i j. i && not (is_pending j && path_eq (here w (k.ghost).lines t) p)) (subst (λ r. w.held t n r ≡ true) (sym hs.place) (law.at_held t n going)) hs.stage
 
     holds : (k.ghost).lines.holds p t ≡ true
-    holds = subst (λ r. (k.ghost).lines.holds r t ≡ true) (sym hs.place) (holds_spot sys w law course b.before Is_real k.ghost x.good t (omega (arith, hs.later)) hs.known (λ e. there_done (sym hs.stage ∙ e)) (ap is_pending hs.stage))
+    holds = subst (λ r. (k.ghost).lines.holds r t ≡ true) (sym hs.place) (holds_spot kind.system w law course b.before Is_real k.ghost x.good t (omega (arith, hs.later)) hs.known (λ e. there_done (sym hs.stage ∙ e)) (ap is_pending hs.stage))
 
-    like : Shows.Like sys w course b.before Is_real ((k.ghost).body p) (course.leaf t n p)
+    like : Shows.Like kind.system w course b.before Is_real ((k.ghost).body p) (course.leaf t n p)
     like = x.kept.held p t holds
 
     entry_there : (s.columns p).store (owner ((k.ghost).trail p)) ≡ Some ((k.ghost).entry p)
@@ -104,10 +101,10 @@ module _ {A F R J : Type 0} (sys : Actors A F R J) (hosts : ℕ) (fits : Path �
         o = option_some (hold_at (c).event.held p) held
 
         by : ((k.ghost).born p ≡ true) ⊎ ((k.ghost).born p ≡ false) → (s.columns p).store (owner ((k.ghost).trail p)) ≡ Some ((k.ghost).entry p)
-        by (inl u) = (subst (λ i. Shows.ColumnShows sys w course b.before Is_real i k.ghost p (s.columns p)) u (x.columns p)).there (c.where_held p o.0 o.1).1
+        by (inl u) = (subst (λ i. Shows.ColumnShows kind.system w course b.before Is_real i k.ghost p (s.columns p)) u (x.columns p)).there (c.where_held p o.0 o.1).1
         by (inr u) = absurd (clash _ holds (sym ((x.entries p).holders t) ∙ ap (λ (y : Entry F). Shows.holds_claim y.holders t) ((x.entries p).unborn u)))
 
-    stop_can : is_some (stop sys p (owner ((k.ghost).trail p)) hd (part_of sys s t p)) ≡ true
+    stop_can : is_some (stop kind.system p (owner ((k.ghost).trail p)) hd (part_of kind.system s t p)) ≡ true
     stop_can = then_can _ (s.cells t).event (c).event c.event_is (then_can _ ((s.columns p).store (owner ((k.ghost).trail p))) ((k.ghost).entry p) entry_there (by (holds_as_peek (c).event.held p) refl))
       where
         o : (y : _) × (hold_at (c).event.held p ≡ Some y)
@@ -116,18 +113,18 @@ module _ {A F R J : Type 0} (sys : Actors A F R J) (hosts : ℕ) (fits : Path �
         peek_is : holds_as_peek (c).event.held p ≡ w.looks t p
         peek_is = ap is_peek_in (o).1 ∙ (c.where_held p (o).0 (o).1).2
 
-        over : w.looks t p ≡ true → (r : R) × ((segment_of sys hd).pause ≡ Over r)
+        over : w.looks t p ≡ true → (r : R) × ((segment_of kind.system hd).pause ≡ Over r)
         over e = (let i = subst (λ q. w.looks t q ≡ true) hs.place e in let z = seg.ends i in (z.0, ap (λ (l : Left A F R). l.pause) same ∙ z.1))
           where
-            same : segment_of sys hd ≡ sys.segment (seg).actor (course.leaf t n (w.place t n)).0 (course.leaf t n (w.place t n)).1
-            same = ap₂ (λ a f. sys.segment a f (steps_of hd.body.children)) (some_same _ _ (hs.actor ∙ seg.actor_is)) (hs.fields ∙ like.fields ∙ ap (λ q. (course.leaf t n q).0) hs.place)
-                ∙ ap (λ cs. sys.segment (seg).actor (course.leaf t n (w.place t n)).0 (steps_of cs)) (hs.bare e) ∙ sym (seg.blind (subst (λ q. w.looks t q ≡ true) hs.place e))
+            same : segment_of kind.system hd ≡ kind.system.segment (seg).actor (course.leaf t n (w.place t n)).0 (course.leaf t n (w.place t n)).1
+            same = ap₂ (λ a f. kind.system.segment a f (steps_of hd.body.children)) (some_same _ _ (hs.actor ∙ seg.actor_is)) (hs.fields ∙ like.fields ∙ ap (λ q. (course.leaf t n q).0) hs.place)
+                ∙ ap (λ cs. kind.system.segment (seg).actor (course.leaf t n (w.place t n)).0 (steps_of cs)) (hs.bare e) ∙ sym (seg.blind (subst (λ q. w.looks t q ≡ true) hs.place e))
 
-        by : (i : Bool) → holds_as_peek (c).event.held p ≡ i → is_some (stopped sys p (owner ((k.ghost).trail p)) (part_of sys s t p) (desk_back (s.cells t) (c).event (segment_of sys hd).actor) ((k.ghost).entry p) hd.body.children (segment_of sys hd) i) ≡ true
+        by : (i : Bool) → holds_as_peek (c).event.held p ≡ i → is_some (stopped kind.system p (owner ((k.ghost).trail p)) (part_of kind.system s t p) (desk_back (s.cells t) (c).event (segment_of kind.system hd).actor) ((k.ghost).entry p) hd.body.children (segment_of kind.system hd) i) ≡ true
         by false e = refl
-        by true e = (let z = over (sym peek_is ∙ e) in subst (λ u. is_some (looked (part_of sys s t p) (owner ((k.ghost).trail p)) (desk_back (s.cells t) (c).event (segment_of sys hd).actor) ((k.ghost).entry p) u) ≡ true) (sym z.1) refl)
+        by true e = (let z = over (sym peek_is ∙ e) in subst (λ u. is_some (looked (part_of kind.system s t p) (owner ((k.ghost).trail p)) (desk_back (s.cells t) (c).event (segment_of kind.system hd).actor) ((k.ghost).entry p) u) ≡ true) (sym z.1) refl)
 
-    pub can_stop : (workers : ℕ) → nat_lt v workers ≡ true → CanStop sys workers s v hd
+    pub can_stop : (workers : ℕ) → nat_lt v workers ≡ true → CanStop kind.system workers s v hd
     can_stop workers less = record {
       event = (c).event;
       is_event = c.event_is;
@@ -135,39 +132,39 @@ module _ {A F R J : Type 0} (sys : Actors A F R J) (hosts : ℕ) (fits : Path �
       only = λ u h e f. (let y = x.hands u h e in y.worker ∙ ap (k.ghost).worker f ∙ sym hs.worker);
       host = owner ((k.ghost).trail p);
       here = ap is_some entry_there;
-      enabled = if_can (nat_lt v workers) _ less (map_can (λ y. with_bench sys s t p v y) _ (subst (λ o. is_some (act_bench sys (Stop t p) (owner ((k.ghost).trail p)) (part_of sys s t p) o) ≡ true) (sym hand_is)
+      enabled = if_can (nat_lt v workers) _ less (map_can (λ y. with_bench kind.system s t p v y) _ (subst (λ o. is_some (act_bench kind.system (Stop t p) (owner ((k.ghost).trail p)) (part_of kind.system s t p) o) ≡ true) (sym hand_is)
           (if_can ((t == t) && path_eq p p) _ (and_both (t == t) (path_eq p p) (number_self t) (path_self p)) (map_can _ _ stop_can))));
     }
 
-    pub may_run : ((calls : ℕ) × fine hd.actor hd.path calls) × fits hd.path hd.body.fields
-    may_run = (ready alone.phase, subst (fits p) (sym (hs.fields ∙ like.fields ∙ ap (λ (u : View A F R). (u.leaf n p).0) view_is)) (alone.fitting p))
+    pub may_run : ((calls : ℕ) × kind.may_run hd.actor hd.path calls) × kind.fits hd.path hd.body.fields
+    may_run = (ready alone.phase, subst (kind.fits p) (sym (hs.fields ∙ like.fields ∙ ap (λ (u : View A F R). (u.leaf n p).0) view_is)) (alone.fitting p))
       where
-        r : Courses.Real sys hosts fits is_job fine owes b batches begins jobs t
+        r : Courses.Real kind owes b batches begins jobs t
         r = c.real
 
         x₀ : Alone A F R
-        x₀ = Plans.first_of sys hosts fits is_job fine owes b batches begins jobs (r).index (r).job
+        x₀ = Plans.first_of kind owes b batches begins jobs (r).index (r).job
 
-        view_is : view sys hosts fits is_job fine owes b batches begins jobs t ≡ Courses.view_at sys hosts fits is_job fine owes b batches begins jobs (r).index (Some (r).job)
-        view_is = ap (view sys hosts fits is_job fine owes b batches begins jobs) r.ticket_is ∙ view_real sys hosts fits is_job fine owes b batches begins jobs r.index r.job r.job_is
+        view_is : view kind owes b batches begins jobs t ≡ Courses.view_at kind owes b batches begins jobs (r).index (Some (r).job)
+        view_is = ap (view kind owes b batches begins jobs) r.ticket_is ∙ view_real kind owes b batches begins jobs r.index r.job r.job_is
 
-        alone : Fine sys hosts fits is_job fine owes (after_segments sys n x₀)
-        alone = Plans.fine_after sys hosts fits is_job fine owes x₀ (Plans.first_ok sys hosts fits is_job fine owes b batches begins jobs r.index r.job r.job_is) n
+        alone : Fine kind owes (after_segments kind.system n x₀)
+        alone = Plans.fine_after kind owes x₀ (Plans.first_ok kind owes b batches begins jobs r.index r.job r.job_is) n
 
-        under : (after_segments sys n x₀).result ≡ None
-        under = (Plans.counts sys hosts fits is_job fine owes b batches begins jobs r.index r.job r.job_is).under n (less_suc _ _ (subst (λ (u : View A F R). n ≤ u.one.last) view_is going))
+        under : (after_segments kind.system n x₀).result ≡ None
+        under = (Plans.counts kind owes b batches begins jobs r.index r.job r.job_is).under n (less_suc _ _ (subst (λ (u : View A F R). n ≤ u.one.last) view_is going))
           where
             less_suc : (a m : ℕ) → a ≤ m → a < suc m
             less_suc a m l = omega (arith, l)
 
-        actor_is : hd.actor ≡ (after_segments sys n x₀).actor
+        actor_is : hd.actor ≡ (after_segments kind.system n x₀).actor
         actor_is = some_same _ _ (hs.actor ∙ ap (λ (u : View A F R). u.actor n) view_is)
 
-        place_is : hd.path ≡ (after_segments sys n x₀).at
+        place_is : hd.path ≡ (after_segments kind.system n x₀).at
         place_is = hs.place ∙ ap (λ (u : View A F R). u.one.place n) view_is
 
-        ready : (((after_segments sys n x₀).result ≡ None) × (base : Path) × Stands sys hosts fits is_job fine owes (after_segments sys n x₀) base) ⊎ ((q : R) × ((after_segments sys n x₀).result ≡ Some q) × ((after_segments sys n x₀).held ≡ [])) → (calls : ℕ) × fine hd.actor hd.path calls
-        ready (inl z) = (length (z.2).below, subst (λ a. fine a hd.path (length (z.2).below)) (sym actor_is) (subst (λ q. fine (after_segments sys n x₀).actor q (length (z.2).below)) (sym place_is) (z.2).ready))
+        ready : (((after_segments kind.system n x₀).result ≡ None) × (base : Path) × Stands kind owes (after_segments kind.system n x₀) base) ⊎ ((q : R) × ((after_segments kind.system n x₀).result ≡ Some q) × ((after_segments kind.system n x₀).held ≡ [])) → (calls : ℕ) × kind.may_run hd.actor hd.path calls
+        ready (inl z) = (length (z.2).below, subst (λ a. kind.may_run a hd.path (length (z.2).below)) (sym actor_is) (subst (λ q. kind.may_run (after_segments kind.system n x₀).actor q (length (z.2).below)) (sym place_is) (z.2).ready))
         ready (inr z) = absurd (none_not (sym under ∙ z.1))
 
 module _ {A F R J : Type 0} (sys : Actors A F R J) where

@@ -17,6 +17,7 @@ use Rattle.wave_states.specs.Steps.{Part, Bench, Route, Deliver, Born, Wait, For
 use Rattle.wave_states.specs.Runs.{run}
 use Rattle.wave_states.specs.Begins.{Begin, start_state, entry_at_start}
 use Rattle.wave_base.specs.Tree.{there}
+use Rattle.wave_states.specs.Kinds.{Kind}
 use Rattle.wave_states.specs.Owes.{Owes, IsBegin}
 use Rattle.wave_theory.proofs.Basics.{clash, some_same, none_not, some_not, bool_cases, options, number_cases, number_is, number_self, path_cases, path_is, path_self, set_at, set_there, set_at_path, and_first, and_second, and_both, then_some, map_some, only_some, if_some}
 use Rattle.wave_theory.proofs.Commute.{local_step}
@@ -43,7 +44,7 @@ use Rattle.wave_theory.proofs.Told
 use Rattle.wave_theory.proofs.Reached.{Good_state}
 use Rattle.wave_theory.proofs.Reached
 use Rattle.wave_theory.proofs.Along
-use Rattle.wave_theory.specs.States.{HasEntry}
+use Rattle.wave_theory.specs.Numbers.{HasEntry}
 
 -- each ticket once
 abbrev pub OnceIn : List Claim → Type 0
@@ -177,27 +178,27 @@ over a d e s u u' sp x = (let f = stop_form a d e s in by (subst (λ b. Spends b
         travels : Shows.StatusShows Travelling Done x.0 x.1 → ⊥
         travels z = z
 
-module _ {A F R J : Type 0} (sys : Actors A F R J) (hosts : ℕ) (fits : Path → F → Type 0) (is_job : J → Type 0) (fine : A → Path → ℕ → Type 0) (owes : Owes sys hosts fits is_job fine) (b : Begin F) (batches : List (List J)) (begins : IsBegin sys hosts fits is_job fine b) (jobs : All (All is_job) batches) where
+module _ {A F R J : Type 0} (kind : Kind A F R J) (owes : Owes kind) (b : Begin F) (batches : List (List J)) (begins : IsBegin kind b) (jobs : All (All kind.is_job) batches) where
   abbrev w : Way
-  w = Courses.w sys hosts fits is_job fine owes b batches begins jobs
+  w = Courses.w kind owes b batches begins jobs
 
-  abbrev course : Course sys
-  course = Courses.course sys hosts fits is_job fine owes b batches begins jobs
+  abbrev course : Course kind.system
+  course = Courses.course kind owes b batches begins jobs
 
   abbrev Is_real : ℕ → Type 0
-  Is_real = Courses.Real sys hosts fits is_job fine owes b batches begins jobs
+  Is_real = Courses.Real kind owes b batches begins jobs
 
   law : IsWay w
-  law = Courses.law sys hosts fits is_job fine owes b batches begins jobs
+  law = Courses.law kind owes b batches begins jobs
 
-  courses : IsCourse sys w course b.before Is_real
-  courses = Courses.courses sys hosts fits is_job fine owes b batches begins jobs
+  courses : IsCourse kind.system w course b.before Is_real
+  courses = Courses.courses kind owes b batches begins jobs
 
   abbrev pub Single : State A F R J → Type 0
-  Single s = (p : Path) (en : Entry F) → HasEntry sys b batches s p en → OnceIn en.holders
+  Single s = (p : Path) (en : Entry F) → HasEntry s p en → OnceIn en.holders
 
-  module _ (s : State A F R J) (k : Good_state sys hosts fits is_job fine owes b batches begins jobs s) where
-    x : Shows.Shows sys w course b.before Is_real s k.ghost
+  module _ (s : State A F R J) (k : Good_state kind owes b batches begins jobs s) where
+    x : Shows.Shows kind.system w course b.before Is_real s k.ghost
     x = k.shows
 
     -- what a label leaves of its cell and its column
@@ -218,7 +219,7 @@ module _ {A F R J : Type 0} (sys : Actors A F R J) (hosts : ℕ) (fits : Path �
       | inl n ↦ absurd (none_not (sym (set_at mails j None) ∙ subst (λ u. set nat_eq mails j None u ≡ Some m) (sym n) z))
     ]
 
-    calm_is : (o : Option (Part A F R)) (y : Bench A F R) → with_hand sys None o ≡ Some y → (z : Part A F R) × (o ≡ Some z) × (y ≡ record { part = z; hand = None })
+    calm_is : (o : Option (Part A F R)) (y : Bench A F R) → with_hand kind.system None o ≡ Some y → (z : Part A F R) × (o ≡ Some z) × (y ≡ record { part = z; hand = None })
     calm_is o y e = map_some (λ (z : Part A F R). record { part = z; hand = None }) o y e
 
     no_transfer : (a : Ask) (en : Entry F) → ◌≡◌ {A = Letter F} (Enter a) (Transfer en) → ⊥
@@ -231,7 +232,7 @@ module _ {A F R J : Type 0} (sys : Actors A F R J) (hosts : ℕ) (fits : Path �
       | inl z ↦ absurd (no_transfer a u (sym i ∙ ap (λ (v : Mail F). v.letter) (some_same d m (sym (set_at mails n (Some d)) ∙ subst (λ c. set nat_eq mails n (Some d) c ≡ Some m) (sym z) r)) ∙ g))
     ]
 
-    entry_once : Single s → (c : Column F) (p : Path) (h : ℕ) (en : Entry F) → c ≡ s.columns p → (r : Route) → entry_for sys p h c r ≡ Some en → OnceIn en.holders
+    entry_once : Single s → (c : Column F) (p : Path) (h : ℕ) (en : Entry F) → c ≡ s.columns p → (r : Route) → entry_for kind.system p h c r ≡ Some en → OnceIn en.holders
     entry_once o c p h en q Deliver e = o p en (inl (h, ap (λ (u : Column F). u.store h) (sym q) ∙ e))
     entry_once o c p h en q Born e = subst (λ (u : Entry F). OnceIn u.holders) (some_same _ _ e) tt
     entry_once o c p h en q Wait e = absurd (none_not e)
@@ -241,17 +242,17 @@ module _ {A F R J : Type 0} (sys : Actors A F R J) (hosts : ℕ) (fits : Path �
     no_sum a c = omega arith
 
     -- a ticket that is let in doesn't hold the context yet
-    module _ (t : ℕ) (p : Path) (h : ℕ) (z : Part A F R) (q : Opened.Grants t p h (part_of sys s t p) z) where
-      waits : Shows.WaitShows sys w course b.before Is_real k.ghost p (suc q.entry.served) q.claim
-      waits = (x.entries p).waits (suc q.entry.served) q.claim (ap (λ (u : Entry F). u.waiting (suc q.entry.served)) (sym (found sys w course b.before Is_real k.ghost p (s.columns p) h q.entry (x.columns p) q.entry_is).entry_is) ∙ q.claim_is)
+    module _ (t : ℕ) (p : Path) (h : ℕ) (z : Part A F R) (q : Opened.Grants t p h (part_of kind.system s t p) z) where
+      waits : Shows.WaitShows kind.system w course b.before Is_real k.ghost p (suc q.entry.served) q.claim
+      waits = (x.entries p).waits (suc q.entry.served) q.claim (ap (λ (u : Entry F). u.waiting (suc q.entry.served)) (sym (found kind.system w course b.before Is_real k.ghost p (s.columns p) h q.entry (x.columns p) q.entry_is).entry_is) ∙ q.claim_is)
 
       not_holder : Shows.holds_claim q.entry.holders q.claim.ticket ≡ false
       not_holder = elim (bool_cases (Shows.holds_claim q.entry.holders q.claim.ticket)) [
         | inr n ↦ n
-        | inl n ↦ absurd ((x.good.let_in q.claim.ticket p (sym ((x.entries p).holders q.claim.ticket) ∙ ap (λ (u : Entry F). Shows.holds_claim u.holders q.claim.ticket) (sym (found sys w course b.before Is_real k.ghost p (s.columns p) h q.entry (x.columns p) q.entry_is).entry_is) ∙ n)).past (ap is_pending (waits).stage) (waits).place)
+        | inl n ↦ absurd ((x.good.let_in q.claim.ticket p (sym ((x.entries p).holders q.claim.ticket) ∙ ap (λ (u : Entry F). Shows.holds_claim u.holders q.claim.ticket) (sym (found kind.system w course b.before Is_real k.ghost p (s.columns p) h q.entry (x.columns p) q.entry_is).entry_is) ∙ n)).past (ap is_pending (waits).stage) (waits).place)
       ]
 
-      c : Shows.CellShows sys w course b.before Is_real k.ghost t (s.cells t)
+      c : Shows.CellShows kind.system w course b.before Is_real k.ghost t (s.cells t)
       c = x.cells t (subst (λ u. b.before < u) q.ticket_is (waits).later) (subst (λ u. u ≤ (k.ghost).lines.admitted) q.ticket_is (waits).known)
 
       off : is_some (hold_at (c).event.held p) ≡ false
@@ -267,53 +268,53 @@ module _ {A F R J : Type 0} (sys : Actors A F R J) (hosts : ℕ) (fits : Path �
       not_held : hold_at q.event.held p ≡ None
       not_held = subst (λ (u : Event A). hold_at u.held p ≡ None) (some_same _ _ (sym c.event_is ∙ q.event_is)) (none_of _ off)
 
-    local : (v h : ℕ) (a : Act) (y : Bench A F R) (hd : Option (Hand A F)) → s.hands v ≡ hd → is_local a ≡ true → act_bench sys a h (part_of sys s (ticket_of a) (path_of a)) hd ≡ Some y → Leaves a y
+    local : (v h : ℕ) (a : Act) (y : Bench A F R) (hd : Option (Hand A F)) → s.hands v ≡ hd → is_local a ≡ true → act_bench kind.system a h (part_of kind.system s (ticket_of a) (path_of a)) hd ≡ Some y → Leaves a y
     local v h (Admit t) y hd i l e = absurd (clash false l refl)
     local v h (Commit t) y hd i l e = absurd (clash false l refl)
     local v h (Queue t n p) y (Some g) i l e = absurd (none_not e)
-    local v h (Queue t n p) y None i l e = (let z = calm_is _ y e in let q = queues sys t n p h (part_of sys s t p) z.0 z.1 in
+    local v h (Queue t n p) y None i l e = (let z = calm_is _ y e in let q = queues kind.system t n p h (part_of kind.system s t p) z.0 z.1 in
         subst (Leaves (Queue t n p)) (sym z.2) (subst (λ (u : Part A F R). Leaves (Queue t n p) (record { part = u; hand = None })) q.gives (record {
           mails = λ o j m u r g. inl (cut (s.cells t).mails n j m r);
           store = λ o. in_entry (s.columns p) h _ (entry_once o (s.columns p) p h q.entry refl (route (s.columns p) h q.ask.followed) q.entry_is);
           event = λ u r. (q.event, q.event_is, subst (λ (d : Event A). d.sent + length d.held ≡ q.event.sent + length q.event.held) (some_same _ u r) refl);
         })))
     local v h (Grant t p) y (Some g) i l e = absurd (none_not e)
-    local v h (Grant t p) y None i l e = (let z = calm_is _ y e in let q = grants t p h (part_of sys s t p) z.0 z.1 in
+    local v h (Grant t p) y None i l e = (let z = calm_is _ y e in let q = grants t p h (part_of kind.system s t p) z.0 z.1 in
         subst (Leaves (Grant t p)) (sym z.2) (subst (λ (u : Part A F R). Leaves (Grant t p) (record { part = u; hand = None })) q.gives (record {
           mails = λ o j m u r g. inl r;
           store = λ o. in_entry (s.columns p) h _ (once_more q.entry.holders q.claim (o p q.entry (inl (h, q.entry_is))) (not_holder t p h z.0 q));
           event = λ u r. (q.event, q.event_is, subst (λ (d : Event A). d.sent + length d.held ≡ suc (q.event.sent + length q.event.held)) (some_same _ u r) (ap (λ n. q.event.sent + n) (length_insert q.event.held p _ (not_held t p h z.0 q)) ∙ no_sum q.event.sent (length q.event.held)));
         })))
     local v h (Labels.Visit t n p) y (Some g) i l e = absurd (none_not e)
-    local v h (Labels.Visit t n p) y None i l e = (let z = calm_is _ y e in let q = Opened.visits n p h (part_of sys s t p) z.0 z.1 in
+    local v h (Labels.Visit t n p) y None i l e = (let z = calm_is _ y e in let q = Opened.visits n p h (part_of kind.system s t p) z.0 z.1 in
         subst (Leaves (Labels.Visit t n p)) (sym z.2) (subst (λ (u : Part A F R). Leaves (Labels.Visit t n p) (record { part = u; hand = None })) q.gives (record {
           mails = λ o j m u r g. inl (cut (s.cells t).mails n j m r);
           store = λ o j u r. inl r;
           event = λ u r. (q.event, q.event_is, subst (λ (d : Event A). d.sent + length d.held ≡ q.event.sent + length q.event.held) (some_same _ u r) refl);
         })))
     local v h (Start t p) y (Some g) i l e = absurd (none_not e)
-    local v h (Start t p) y None i l e = (let q = starts t p h (part_of sys s t p) y e in
+    local v h (Start t p) y None i l e = (let q = starts t p h (part_of kind.system s t p) y e in
         subst (Leaves (Start t p)) q.gives (record {
           mails = λ o j m u r g. inl r;
           store = λ o. in_entry (s.columns p) h _ (o p q.entry (inl (h, q.entry_is)));
           event = λ u r. (q.event, q.event_is, subst (λ (d : Event A). d.sent + length d.held ≡ q.event.sent + length q.event.held) (some_same _ u r) refl);
         }))
     local v h (Free t n p) y (Some g) i l e = absurd (none_not e)
-    local v h (Free t n p) y None i l e = (let z = calm_is _ y e in let q = frees t n p h (part_of sys s t p) z.0 z.1 in
+    local v h (Free t n p) y None i l e = (let z = calm_is _ y e in let q = frees t n p h (part_of kind.system s t p) z.0 z.1 in
         subst (Leaves (Free t n p)) (sym z.2) (subst (λ (u : Part A F R). Leaves (Free t n p) (record { part = u; hand = None })) q.gives (record {
           mails = λ o j m u r g. inl (cut (s.cells t).mails n j m r);
           store = λ o. in_entry (s.columns p) h _ (once_others t q.entry.holders (o p q.entry (inl (h, q.entry_is))));
           event = λ u r. (u, r, refl);
         })))
     local v h (Pass t n p to) y (Some g) i l e = absurd (none_not e)
-    local v h (Pass t n p to) y None i l e = (let z = calm_is _ y e in let q = passes n to p h (part_of sys s t p) z.0 z.1 in
+    local v h (Pass t n p to) y None i l e = (let z = calm_is _ y e in let q = passes n to p h (part_of kind.system s t p) z.0 z.1 in
         subst (Leaves (Pass t n p to)) (sym z.2) (subst (λ (u : Part A F R). Leaves (Pass t n p to) (record { part = u; hand = None })) q.gives (record {
           mails = λ o j m u r g. inl (not_passed (s.cells t).mails n (record { host = to; path = p; letter = Enter (record { number = q.ask.number; followed = q.mark.number; peek = q.ask.peek }) }) (record { number = q.ask.number; followed = q.mark.number; peek = q.ask.peek }) refl j m u r g);
           store = λ o j u r. inl r;
           event = λ u r. (u, r, refl);
         })))
     local v h (Land t n p) y (Some g) i l e = absurd (none_not e)
-    local v h (Land t n p) y None i l e = (let z = calm_is _ y e in let q = lands n p h (part_of sys s t p) z.0 z.1 in
+    local v h (Land t n p) y None i l e = (let z = calm_is _ y e in let q = lands n p h (part_of kind.system s t p) z.0 z.1 in
         subst (Leaves (Land t n p)) (sym z.2) (subst (λ (u : Part A F R). Leaves (Land t n p) (record { part = u; hand = None })) q.gives (record {
           mails = λ o j m u r g. inl (cut (s.cells t).mails n j m r);
           store = λ o. in_entry (s.columns p) h (Rattle.wave_states.specs.Steps.with_holders q.entry []) tt;
@@ -324,15 +325,15 @@ module _ {A F R J : Type 0} (sys : Actors A F R J) (hosts : ℕ) (fits : Path �
         let et : g.ticket ≡ t = number_is g.ticket t (and_first _ _ j.0) in
         let ep : g.path ≡ p = path_is g.path p (and_second (g.ticket == t) _ j.0) in
         subst (λ u. Leaves (Stop u p) y) et (subst (λ r. Leaves (Stop g.ticket r) y) ep (stop_leaves g i y
-        (subst (λ r. with_hand sys None (stop sys r h g (part_of sys s g.ticket r)) ≡ Some y) (sym ep) (subst (λ u. with_hand sys None (stop sys p h g (part_of sys s u p)) ≡ Some y) (sym et) j.1)))))
+        (subst (λ r. with_hand kind.system None (stop kind.system r h g (part_of kind.system s g.ticket r)) ≡ Some y) (sym ep) (subst (λ u. with_hand kind.system None (stop kind.system p h g (part_of kind.system s u p)) ≡ Some y) (sym et) j.1)))))
       where
-        stop_leaves : (g : Hand A F) → s.hands v ≡ Some g → (y : Bench A F R) → with_hand sys None (stop sys g.path h g (part_of sys s g.ticket g.path)) ≡ Some y → Leaves (Stop g.ticket g.path) y
-        stop_leaves g i y e = (let z = calm_is _ y e in let q = stopping sys g.ticket g.path h g (part_of sys s g.ticket g.path) z.0 z.1 in
-            subst (Leaves (Stop g.ticket g.path)) (sym z.2) (by z.0 q (outcome sys g.ticket g.path h g (part_of sys s g.ticket g.path) z.0 q
-            (subst (λ (u : Event A). Shows.Once u.held) (sym (Stopping.same sys w law course b.before Is_real courses s k.ghost x g v h i z.0 q)) (Stopping.c sys w law course b.before Is_real courses s k.ghost x g v h i z.0 q).once)
-            (Stopping.held_is sys w law course b.before Is_real courses s k.ghost x g v h i z.0 q g.path ∙ Stopping.held_p sys w law course b.before Is_real courses s k.ghost x g v h i z.0 q))))
+        stop_leaves : (g : Hand A F) → s.hands v ≡ Some g → (y : Bench A F R) → with_hand kind.system None (stop kind.system g.path h g (part_of kind.system s g.ticket g.path)) ≡ Some y → Leaves (Stop g.ticket g.path) y
+        stop_leaves g i y e = (let z = calm_is _ y e in let q = stopping kind.system g.ticket g.path h g (part_of kind.system s g.ticket g.path) z.0 z.1 in
+            subst (Leaves (Stop g.ticket g.path)) (sym z.2) (by z.0 q (outcome kind.system g.ticket g.path h g (part_of kind.system s g.ticket g.path) z.0 q
+            (subst (λ (u : Event A). Shows.Once u.held) (sym (Stopping.same kind.system w law course b.before Is_real courses s k.ghost x g v h i z.0 q)) (Stopping.c kind.system w law course b.before Is_real courses s k.ghost x g v h i z.0 q).once)
+            (Stopping.held_is kind.system w law course b.before Is_real courses s k.ghost x g v h i z.0 q g.path ∙ Stopping.held_p kind.system w law course b.before Is_real courses s k.ghost x g v h i z.0 q))))
           where
-            by : (z : Part A F R) (q : Opened.Stopping sys g.ticket g.path h g (part_of sys s g.ticket g.path) z) → Outcome (part_of sys s g.ticket g.path) q.event q.entry h z → Leaves (Stop g.ticket g.path) (record { part = z; hand = None })
+            by : (z : Part A F R) (q : Opened.Stopping kind.system g.ticket g.path h g (part_of kind.system s g.ticket g.path) z) → Outcome (part_of kind.system s g.ticket g.path) q.event q.entry h z → Leaves (Stop g.ticket g.path) (record { part = z; hand = None })
             by z q o = record {
               mails = λ c j m u r d. elim (o.mails j m r) [ inl a ↦ inl a | inr a ↦ inr (subst OnceIn (sym (a u d)) (c g.path q.entry (inl (h, q.entry_is)))) ];
               store = λ c j u r. elim (o.store j u r) [ inl a ↦ inl a | inr a ↦ inr (subst OnceIn (sym a) (c g.path q.entry (inl (h, q.entry_is)))) ];
@@ -355,43 +356,43 @@ module _ {A F R J : Type 0} (sys : Actors A F R J) (hosts : ℕ) (fits : Path �
 
   -- so many contexts the ticket has entered before this segment
   abbrev pub came_to : ℕ → ℕ → ℕ
-  came_to t n = sum_to (suc n) (λ i. one_if sys (w.fresh t i))
+  came_to t n = sum_to (suc n) (λ i. one_if kind.system (w.fresh t i))
 
   -- what was sent, and is to be given up or waited for, is one for each segment that is over or out and each context that was entered
   abbrev pub Balance : Event A → ℕ → Stage → ℕ → Type 0
   Balance e t v n = e.sent + length e.held + pend v ≡ live v + n + came_to t n
 
-  came_more : (t n : ℕ) → came_to t (suc n) ≡ came_to t n + one_if sys (w.fresh t (suc n))
-  came_more t n = sum_more (suc n) (λ i. one_if sys (w.fresh t i))
+  came_more : (t n : ℕ) → came_to t (suc n) ≡ came_to t n + one_if kind.system (w.fresh t (suc n))
+  came_more t n = sum_more (suc n) (λ i. one_if kind.system (w.fresh t i))
 
   -- nothing is entered after the last segment
   none_after : (t : ℕ) → Is_real t → w.fresh t (suc (w.last t)) ≡ false
-  none_after t r = subst (λ (v : View A F R). v.one.fresh (suc v.one.last) ≡ false) (sym (ap (view sys hosts fits is_job fine owes b batches begins jobs) r.ticket_is ∙ view_real sys hosts fits is_job fine owes b batches begins jobs r.index r.job r.job_is))
-      (last_stale sys (first_of sys hosts fits is_job fine owes b batches begins jobs r.index r.job) (last_of sys hosts fits is_job fine owes b batches begins jobs r.index r.job) (counts sys hosts fits is_job fine owes b batches begins jobs r.index r.job r.job_is) refl refl)
+  none_after t r = subst (λ (v : View A F R). v.one.fresh (suc v.one.last) ≡ false) (sym (ap (view kind owes b batches begins jobs) r.ticket_is ∙ view_real kind owes b batches begins jobs r.index r.job r.job_is))
+      (last_stale kind.system (first_of kind owes b batches begins jobs r.index r.job) (last_of kind owes b batches begins jobs r.index r.job) (counts kind owes b batches begins jobs r.index r.job r.job_is) refl refl)
 
-  module _ (some_host : 0 < hosts) (workers : ℕ) where
+  module _ (some_host : 0 < kind.hosts) (workers : ℕ) where
     pub record Kept (s : State A F R J) (g : Shows.Ghost F) : Type 0 where
       pub single : Single s
       pub balance : (t : ℕ) → b.before < t → t ≤ g.lines.admitted → (e : Event A) → (s.cells t).event ≡ Some e → Balance e t (g.lines.stage t) (g.lines.pos t)
 
-    abbrev pub KeptBy : (ls : List Label) (s : State A F R J) → Good_state sys hosts fits is_job fine owes b batches begins jobs s → Type 0
+    abbrev pub KeptBy : (ls : List Label) (s : State A F R J) → Good_state kind owes b batches begins jobs s → Type 0
     KeptBy ls s k = Kept s k.ghost
 
-    module _ (s s' : State A F R J) (k : Good_state sys hosts fits is_job fine owes b batches begins jobs s) (l : Label) (h : Kept s k.ghost) (e : step sys workers s l ≡ Some s') (n : Along.Follows sys hosts fits is_job fine owes b batches begins jobs some_host workers s s' k l) where
+    module _ (s s' : State A F R J) (k : Good_state kind owes b batches begins jobs s) (l : Label) (h : Kept s k.ghost) (e : step kind.system workers s l ≡ Some s') (n : Along.Follows kind owes b batches begins jobs some_host workers s s' k l) where
       abbrev g : Shows.Ghost F
       g = k.ghost
 
       abbrev o : Outline
       o = outline k.ghost
 
-      by_it : step_by sys s l.worker l.host l.act ≡ Some s'
-      by_it = (if_some (nat_lt l.worker workers) (step_by sys s l.worker l.host l.act) s' e).1
+      by_it : step_by kind.system s l.worker l.host l.act ≡ Some s'
+      by_it = (if_some (nat_lt l.worker workers) (step_by kind.system s l.worker l.host l.act) s' e).1
 
       there_done : There ≡ Done → ⊥
       there_done e = grind arith
 
       real_of : (t : ℕ) → k.ghost.lines.stage t ≡ There → Is_real t
-      real_of t st = (let kn = Homes.known_by_shows sys hosts fits is_job fine owes b batches begins jobs s k.ghost k.shows t (λ z. there_done (sym st ∙ z)) in (k.shows.cells t kn.0 kn.1).real)
+      real_of t st = (let kn = Homes.known_by_shows kind owes b batches begins jobs s k.ghost k.shows t (λ z. there_done (sym st ∙ z)) in (k.shows.cells t kn.0 kn.1).real)
 
       same_sum : (a a' p q v m c : ℕ) → a + p ≡ v + m + c → a' ≡ a → q ≡ p → a' + q ≡ v + m + c
       same_sum a a' p q v m c x y z = omega (arith, x, y, z)
@@ -399,13 +400,13 @@ module _ {A F R J : Type 0} (sys : Actors A F R J) (hosts : ℕ) (fits : Path �
       ending_sum : (t : ℕ) → (g).lines.stage t ≡ There → (g).lines.pos t ≡ w.last t → (u u' : Event A) → u'.sent + length u'.held ≡ u.sent + length u.held → Balance u t ((g).lines.stage t) ((g).lines.pos t) →
           Balance u' t (set nat_eq (g).lines.stage t Done t) (set nat_eq (g).lines.pos t (suc ((g).lines.pos t)) t)
       ending_sum t st last u u' y bal = sums _ _ _ _ _ _ _ _ _ _ (ap pend st) (ap live st) (ap pend (set_at (g).lines.stage t Done)) (ap live (set_at (g).lines.stage t Done)) (set_at (g).lines.pos t _)
-          (ap (came_to t) (set_at (g).lines.pos t (suc ((g).lines.pos t))) ∙ came_more t ((g).lines.pos t) ∙ ap (λ i. came_to t ((g).lines.pos t) + one_if sys i) (ap (λ m. w.fresh t (suc m)) last ∙ none_after t (real_of t st))) y bal
+          (ap (came_to t) (set_at (g).lines.pos t (suc ((g).lines.pos t))) ∙ came_more t ((g).lines.pos t) ∙ ap (λ i. came_to t ((g).lines.pos t) + one_if kind.system i) (ap (λ m. w.fresh t (suc m)) last ∙ none_after t (real_of t st))) y bal
         where
           sums : (x x' p v p' v' m m' c c' : ℕ) → p ≡ 0 → v ≡ 1 → p' ≡ 0 → v' ≡ 0 → m' ≡ suc m → c' ≡ c + 0 → x' ≡ x → x + p ≡ v + m + c → x' + p' ≡ v' + m' + c'
           sums x x' p v p' v' m m' c c' h0 h1 h2 h3 h4 h5 h6 h7 = omega (arith, h0, h1, h2, h3, h4, h5, h6, h7)
 
       -- the ticket of the label
-      own : (a : Act) (d : Deed) → Suits a d → Deeds.Fits sys w course b.before Is_real s k.ghost (n.good).ghost (ticket_of a) (path_of a) d → (u u' : Event A) → Spends a u u' →
+      own : (a : Act) (d : Deed) → Suits a d → Deeds.Fits kind.system w course b.before Is_real s k.ghost (n.good).ghost (ticket_of a) (path_of a) d → (u u' : Event A) → Spends a u u' →
           ((v : Stage) → (done_by w o (ticket_of a) (path_of a) d).stage (ticket_of a) ≡ v → (q : Bool) × (r : Path) × Shows.StatusShows u'.status v q r) →
           d ≢ Deeds.Admits → Balance u (ticket_of a) ((g).lines.stage (ticket_of a)) ((g).lines.pos (ticket_of a)) → Balance u' (ticket_of a) ((done_by w o (ticket_of a) (path_of a) d).stage (ticket_of a)) ((done_by w o (ticket_of a) (path_of a) d).pos (ticket_of a))
       own a Deeds.Admits su f u u' sp st off bal = absurd (off refl)
@@ -424,12 +425,12 @@ module _ {A F R J : Type 0} (sys : Actors A F R J) (hosts : ℕ) (fits : Path �
       own a Deeds.Rests su f u u' sp st off bal = ap (λ x. x + pend ((g).lines.stage (ticket_of a))) (plain a Deeds.Rests refl su u u' sp) ∙ bal
       own a Deeds.Lands su f u u' sp st off bal = ap (λ x. x + pend ((g).lines.stage (ticket_of a))) (plain a Deeds.Lands refl su u u' sp) ∙ bal
       own a Deeds.Goes_on su f u u' sp st off bal = sums _ _ _ _ _ _ _ _ _ _ (ap pend f.stopped.stage) (ap live f.stopped.stage) (ap pend (set_at (g).lines.stage (ticket_of a) Coming)) (ap live (set_at (g).lines.stage (ticket_of a) Coming)) (set_at (g).lines.pos (ticket_of a) _)
-          (ap (came_to (ticket_of a)) (set_at (g).lines.pos (ticket_of a) (suc ((g).lines.pos (ticket_of a)))) ∙ came_more (ticket_of a) ((g).lines.pos (ticket_of a)) ∙ ap (λ i. came_to (ticket_of a) ((g).lines.pos (ticket_of a)) + one_if sys i) f.stale) (going Coming a Deeds.Goes_on refl su u u' sp (st Coming (set_at (g).lines.stage (ticket_of a) Coming)) (λ q r z. z)) bal
+          (ap (came_to (ticket_of a)) (set_at (g).lines.pos (ticket_of a) (suc ((g).lines.pos (ticket_of a)))) ∙ came_more (ticket_of a) ((g).lines.pos (ticket_of a)) ∙ ap (λ i. came_to (ticket_of a) ((g).lines.pos (ticket_of a)) + one_if kind.system i) f.stale) (going Coming a Deeds.Goes_on refl su u u' sp (st Coming (set_at (g).lines.stage (ticket_of a) Coming)) (λ q r z. z)) bal
         where
           sums : (x x' p v p' v' m m' c c' : ℕ) → p ≡ 0 → v ≡ 1 → p' ≡ 0 → v' ≡ 1 → m' ≡ suc m → c' ≡ c + 0 → x' ≡ suc x → x + p ≡ v + m + c → x' + p' ≡ v' + m' + c'
           sums x x' p v p' v' m m' c c' h0 h1 h2 h3 h4 h5 h6 h7 = omega (arith, h0, h1, h2, h3, h4, h5, h6, h7)
       own a (Deeds.Goes_in s₁ r₁) su f u u' sp st off bal = sums _ _ _ _ _ _ _ _ _ _ (ap pend f.stopped.stage) (ap live f.stopped.stage) (ap pend (set_at (g).lines.stage (ticket_of a) Entering)) (ap live (set_at (g).lines.stage (ticket_of a) Entering)) (set_at (g).lines.pos (ticket_of a) _)
-          (ap (came_to (ticket_of a)) (set_at (g).lines.pos (ticket_of a) (suc ((g).lines.pos (ticket_of a)))) ∙ came_more (ticket_of a) ((g).lines.pos (ticket_of a)) ∙ ap (λ i. came_to (ticket_of a) ((g).lines.pos (ticket_of a)) + one_if sys i) f.fresh) (going Entering a (Deeds.Goes_in s₁ r₁) refl su u u' sp (st Entering (set_at (g).lines.stage (ticket_of a) Entering)) (λ q r z. z)) bal
+          (ap (came_to (ticket_of a)) (set_at (g).lines.pos (ticket_of a) (suc ((g).lines.pos (ticket_of a)))) ∙ came_more (ticket_of a) ((g).lines.pos (ticket_of a)) ∙ ap (λ i. came_to (ticket_of a) ((g).lines.pos (ticket_of a)) + one_if kind.system i) f.fresh) (going Entering a (Deeds.Goes_in s₁ r₁) refl su u u' sp (st Entering (set_at (g).lines.stage (ticket_of a) Entering)) (λ q r z. z)) bal
         where
           sums : (x x' p v p' v' m m' c c' : ℕ) → p ≡ 0 → v ≡ 1 → p' ≡ 1 → v' ≡ 1 → m' ≡ suc m → c' ≡ c + 1 → x' ≡ suc x → x + p ≡ v + m + c → x' + p' ≡ v' + m' + c'
           sums x x' p v p' v' m m' c c' h0 h1 h2 h3 h4 h5 h6 h7 = omega (arith, h0, h1, h2, h3, h4, h5, h6, h7)
@@ -442,10 +443,10 @@ module _ {A F R J : Type 0} (sys : Actors A F R J) (hosts : ℕ) (fits : Path �
         pub event : (u' : Event A) → (after.cells (ticket_of a)).event ≡ Some u' → ((u'.sent ≡ 1) × (u'.held ≡ []) × ((t : ℕ) × (a ≡ Admit t))) ⊎ ((u : Event A) × ((s.cells (ticket_of a)).event ≡ Some u) × Spends a u u')
         pub single : Single after
 
-      local_whole : (a : Act) → is_local a ≡ true → step_by sys s l.worker l.host a ≡ Some s' → Whole a s'
-      local_whole a z e = by (map_some _ _ s' (sym (local_step sys s l.worker l.host a z) ∙ e))
+      local_whole : (a : Act) → is_local a ≡ true → step_by kind.system s l.worker l.host a ≡ Some s' → Whole a s'
+      local_whole a z e = by (map_some _ _ s' (sym (local_step kind.system s l.worker l.host a z) ∙ e))
         where
-          by : (y : Bench A F R) × (act_bench sys a l.host (part_of sys s (ticket_of a) (path_of a)) (s.hands l.worker) ≡ Some y) × (s' ≡ with_bench sys s (ticket_of a) (path_of a) l.worker y) → Whole a s'
+          by : (y : Bench A F R) × (act_bench kind.system a l.host (part_of kind.system s (ticket_of a) (path_of a)) (s.hands l.worker) ≡ Some y) × (s' ≡ with_bench kind.system s (ticket_of a) (path_of a) l.worker y) → Whole a s'
           by y = subst (Whole a) (sym y.2) (record {
             others = λ u d. set_there nat_eq s.cells (ticket_of a) (y.0).part.cell u d;
             event = λ u' j. inr (lv.event u' (sym (ap (λ (c : Cell A F R). c.event) (set_at s.cells (ticket_of a) (y.0).part.cell)) ∙ j));
@@ -455,7 +456,7 @@ module _ {A F R J : Type 0} (sys : Actors A F R J) (hosts : ℕ) (fits : Path �
               lv : Leaves s k a y.0
               lv = local s k l.worker l.host a y.0 (s.hands l.worker) refl z y.1
 
-              single_by : (p : Path) (en : Entry F) → HasEntry sys b batches (with_bench sys s (ticket_of a) (path_of a) l.worker y.0) p en → OnceIn en.holders
+              single_by : (p : Path) (en : Entry F) → HasEntry (with_bench kind.system s (ticket_of a) (path_of a) l.worker y.0) p en → OnceIn en.holders
               single_by p en (inl i) = elim (path_cases (path_of a) p) [
                 | inr d ↦ h.single p en (inl (i.0, sym (ap (λ (c : Column F). c.store i.0) (set_there path_eq s.columns (path_of a) (y.0).part.column p d)) ∙ i.1))
                 | inl d ↦ elim ((lv).store h.single i.0 en (sym (ap (λ (c : Column F). c.store i.0) (set_at_path s.columns (path_of a) (y.0).part.column)) ∙ ap (λ q. (set path_eq s.columns (path_of a) (y.0).part.column q).store i.0) d ∙ i.1)) [
@@ -471,28 +472,28 @@ module _ {A F R J : Type 0} (sys : Actors A F R J) (hosts : ℕ) (fits : Path �
                 ]
               ]
 
-      whole : (a : Act) → step_by sys s l.worker l.host a ≡ Some s' → Whole a s'
-      whole (Admit t) e = (let j = then_some (λ j. only_if ((l.host == 0) && (t == next_ticket sys s)) (admitted sys s t j)) (slice_get s.head.known s.admitted) s' (if_some _ _ s' e).1 in
-          subst (Whole (Admit t)) (only_some ((l.host == 0) && (t == next_ticket sys s)) (admitted sys s t j.0) s' j.2).1 (record {
+      whole : (a : Act) → step_by kind.system s l.worker l.host a ≡ Some s' → Whole a s'
+      whole (Admit t) e = (let j = then_some (λ j. only_if ((l.host == 0) && (t == next_ticket kind.system s)) (admitted kind.system s t j)) (slice_get s.head.known s.admitted) s' (if_some _ _ s' e).1 in
+          subst (Whole (Admit t)) (only_some ((l.host == 0) && (t == next_ticket kind.system s)) (admitted kind.system s t j.0) s' j.2).1 (record {
             others = λ u d. set_there nat_eq s.cells t _ u d;
             event = λ u' i. inl (first t j.0 u' i);
             single = λ p en i. single_by t j.0 p en i;
           }))
         where
-          first : (t : ℕ) (j : J) (u' : Event A) → ((admitted sys s t j).cells t).event ≡ Some u' → (u'.sent ≡ 1) × (u'.held ≡ []) × ((i : ℕ) × (Admit t ≡ Admit i))
-          first t j u' i = (let z = some_same _ u' (sym (ap (λ (c : Cell A F R). c.event) (set_at s.cells t (Rattle.wave_states.specs.Steps.new_cell sys (sys.make j t) t))) ∙ i) in (ap (λ (v : Event A). v.sent) (sym z), ap (λ (v : Event A). v.held) (sym z), (t, refl)))
+          first : (t : ℕ) (j : J) (u' : Event A) → ((admitted kind.system s t j).cells t).event ≡ Some u' → (u'.sent ≡ 1) × (u'.held ≡ []) × ((i : ℕ) × (Admit t ≡ Admit i))
+          first t j u' i = (let z = some_same _ u' (sym (ap (λ (c : Cell A F R). c.event) (set_at s.cells t (Rattle.wave_states.specs.Steps.new_cell kind.system (kind.system.make j t) t))) ∙ i) in (ap (λ (v : Event A). v.sent) (sym z), ap (λ (v : Event A). v.held) (sym z), (t, refl)))
 
-          single_by : (t : ℕ) (j : J) (p : Path) (en : Entry F) → HasEntry sys b batches (admitted sys s t j) p en → OnceIn en.holders
+          single_by : (t : ℕ) (j : J) (p : Path) (en : Entry F) → HasEntry (admitted kind.system s t j) p en → OnceIn en.holders
           single_by t j p en (inl i) = h.single p en (inl i)
           single_by t j p en (inr i) = elim (number_cases t i.0) [
             | inr d ↦ h.single p en (inr (i.0, i.1, i.2, sym (ap (λ (c : Cell A F R). c.mails i.1) (set_there nat_eq s.cells t _ i.0 d)) ∙ i.3))
-            | inl d ↦ absurd (none_new i.1 (sym (ap (λ (c : Cell A F R). c.mails i.1) (set_at s.cells t (Rattle.wave_states.specs.Steps.new_cell sys (sys.make j t) t))) ∙ ap (λ q. (set nat_eq s.cells t (Rattle.wave_states.specs.Steps.new_cell sys (sys.make j t) t) q).mails i.1) d ∙ i.3))
+            | inl d ↦ absurd (none_new i.1 (sym (ap (λ (c : Cell A F R). c.mails i.1) (set_at s.cells t (Rattle.wave_states.specs.Steps.new_cell kind.system (kind.system.make j t) t))) ∙ ap (λ q. (set nat_eq s.cells t (Rattle.wave_states.specs.Steps.new_cell kind.system (kind.system.make j t) t) q).mails i.1) d ∙ i.3))
           ]
             where
-              none_new : (n : ℕ) {c : ℕ} → (Rattle.wave_states.specs.Steps.new_cell sys (sys.make j t) t).mails n ≡ Some (record { host = c; path = p; letter = Transfer en }) → ⊥
-              none_new n e = none_not (not_passed s k (λ i. None) 1 (record { host = 0; path = []; letter = Enter (record { number = t; followed = 0; peek = sys.peeks (sys.make j t) }) }) (record { number = t; followed = 0; peek = sys.peeks (sys.make j t) }) refl n _ en e refl)
-      whole (Commit t) e = (let r = then_some (λ r. only_if ((l.host == 0) && (t == suc (s.before + s.head.done))) (committed sys s r)) (s.cells t).result s' (if_some _ _ s' e).1 in
-          subst (Whole (Commit t)) (only_some ((l.host == 0) && (t == suc (s.before + s.head.done))) (committed sys s r.0) s' r.2).1 (record {
+              none_new : (n : ℕ) {c : ℕ} → (Rattle.wave_states.specs.Steps.new_cell kind.system (kind.system.make j t) t).mails n ≡ Some (record { host = c; path = p; letter = Transfer en }) → ⊥
+              none_new n e = none_not (not_passed s k (λ i. None) 1 (record { host = 0; path = []; letter = Enter (record { number = t; followed = 0; peek = kind.system.peeks (kind.system.make j t) }) }) (record { number = t; followed = 0; peek = kind.system.peeks (kind.system.make j t) }) refl n _ en e refl)
+      whole (Commit t) e = (let r = then_some (λ r. only_if ((l.host == 0) && (t == suc (s.before + s.head.done))) (committed kind.system s r)) (s.cells t).result s' (if_some _ _ s' e).1 in
+          subst (Whole (Commit t)) (only_some ((l.host == 0) && (t == suc (s.before + s.head.done))) (committed kind.system s r.0) s' r.2).1 (record {
             others = λ u d. refl;
             event = λ u' i. inr (u', i, refl);
             single = λ p en i. h.single p en i;
@@ -535,8 +536,8 @@ module _ {A F R J : Type 0} (sys : Actors A F R J) (hosts : ℕ) (fits : Path �
       }
         where
           other : (t : ℕ) → nat_eq (ticket_of l.act) t ≡ false → b.before < t → t ≤ (g').lines.admitted → (u : Event A) → (s'.cells t).event ≡ Some u → Balance u t ((o').stage t) ((o').pos t)
-          other t d lt la u i = (let z = Deeds.stays_off sys w course b.before Is_real s k.ghost (n.good).ghost (ticket_of l.act) (path_of l.act) (n.turn).deed (n.turn).fits t d in
-              subst (λ v. Balance u t v ((o').pos t)) (sym z.0) (subst (λ m. Balance u t ((g).lines.stage t) m) (sym z.1) (h.balance t lt (known (Deeds.how_many sys w course b.before Is_real s k.ghost (n.good).ghost (ticket_of l.act) (path_of l.act) (n.turn).deed (n.turn).fits)) u (sym (ap (λ (c : Cell A F R). c.event) ((wh).others t d)) ∙ i))))
+          other t d lt la u i = (let z = Deeds.stays_off kind.system w course b.before Is_real s k.ghost (n.good).ghost (ticket_of l.act) (path_of l.act) (n.turn).deed (n.turn).fits t d in
+              subst (λ v. Balance u t v ((o').pos t)) (sym z.0) (subst (λ m. Balance u t ((g).lines.stage t) m) (sym z.1) (h.balance t lt (known (Deeds.how_many kind.system w course b.before Is_real s k.ghost (n.good).ghost (ticket_of l.act) (path_of l.act) (n.turn).deed (n.turn).fits)) u (sym (ap (λ (c : Cell A F R). c.event) ((wh).others t d)) ∙ i))))
             where
               below : (t m : ℕ) → t ≤ suc m → (suc m ≡ t → ⊥) → t ≤ m
               below t m l f = grind arith
@@ -563,12 +564,12 @@ module _ {A F R J : Type 0} (sys : Actors A F R J) (hosts : ℕ) (fits : Path �
           mine : b.before < ticket_of l.act → ticket_of l.act ≤ (g').lines.admitted → (u : Event A) → (s'.cells (ticket_of l.act)).event ≡ Some u →
               ((u.sent ≡ 1) × (u.held ≡ []) × ((t : ℕ) × (l.act ≡ Admit t))) ⊎ ((v : Event A) × ((s.cells (ticket_of l.act)).event ≡ Some v) × Spends l.act v u) → Balance u (ticket_of l.act) ((o').stage (ticket_of l.act)) ((o').pos (ticket_of l.act))
           mine lt la u i (inl z) = (let d = admits_is (n.turn).deed z.2 (n.turn).suits in
-              let m : ticket_of l.act ≡ suc (g).lines.admitted = (subst (λ e. Deeds.Fits sys w course b.before Is_real s k.ghost (n.good).ghost (ticket_of l.act) (path_of l.act) e) d (n.turn).fits).0 in
+              let m : ticket_of l.act ≡ suc (g).lines.admitted = (subst (λ e. Deeds.Fits kind.system w course b.before Is_real s k.ghost (n.good).ghost (ticket_of l.act) (path_of l.act) e) d (n.turn).fits).0 in
               subst (λ e. Balance u (ticket_of l.act) ((done_by w o (ticket_of l.act) (path_of l.act) e).stage (ticket_of l.act)) ((done_by w o (ticket_of l.act) (path_of l.act) e).pos (ticket_of l.act))) (sym d)
               (subst (λ t. Balance u t (set nat_eq (g).lines.stage (suc (g).lines.admitted) Entering t) (set nat_eq (g).lines.pos (suc (g).lines.admitted) 0 t)) (sym m) (begins_so (suc (g).lines.admitted) z.0 z.1)))
             where
               begins_so : (t : ℕ) → u.sent ≡ 1 → u.held ≡ [] → Balance u t (set nat_eq (g).lines.stage t Entering t) (set nat_eq (g).lines.pos t 0 t)
-              begins_so t a c = sums _ _ _ _ _ _ a (ap length c) (ap pend (set_at (g).lines.stage t Entering)) (ap live (set_at (g).lines.stage t Entering)) (set_at (g).lines.pos t 0) (ap (came_to t) (set_at (g).lines.pos t 0) ∙ sum_more 0 (λ i. one_if sys (w.fresh t i)) ∙ ap₂ (λ i j. i + j) (sum_zero (λ i. one_if sys (w.fresh t i))) (ap (one_if sys) (law.first_fresh t)))
+              begins_so t a c = sums _ _ _ _ _ _ a (ap length c) (ap pend (set_at (g).lines.stage t Entering)) (ap live (set_at (g).lines.stage t Entering)) (set_at (g).lines.pos t 0) (ap (came_to t) (set_at (g).lines.pos t 0) ∙ sum_more 0 (λ i. one_if kind.system (w.fresh t i)) ∙ ap₂ (λ i j. i + j) (sum_zero (λ i. one_if kind.system (w.fresh t i))) (ap (one_if kind.system) (law.first_fresh t)))
                 where
                   sums : (x y p v m c : ℕ) → x ≡ 1 → y ≡ 0 → p ≡ 1 → v ≡ 1 → m ≡ 0 → c ≡ 0 + 1 → x + y + p ≡ v + m + c
                   sums x y p v m c h0 h1 h2 h3 h4 h5 = omega (arith, h0, h1, h2, h3, h4, h5)
@@ -577,7 +578,7 @@ module _ {A F R J : Type 0} (sys : Actors A F R J) (hosts : ℕ) (fits : Path �
             where
               -- a ticket that is admitted has no cell before
               fresh_cell : (n.turn).deed ≡ Deeds.Admits → (s.cells (ticket_of l.act)).event ≡ None
-              fresh_cell d = (let m = (subst (λ e. Deeds.Fits sys w course b.before Is_real s k.ghost (n.good).ghost (ticket_of l.act) (path_of l.act) e) d (n.turn).fits).0 in ap (λ (c : Cell A F R). c.event) (k.shows.no_cells (ticket_of l.act) (λ x y. past _ _ m y)))
+              fresh_cell d = (let m = (subst (λ e. Deeds.Fits kind.system w course b.before Is_real s k.ghost (n.good).ghost (ticket_of l.act) (path_of l.act) e) d (n.turn).fits).0 in ap (λ (c : Cell A F R). c.event) (k.shows.no_cells (ticket_of l.act) (λ x y. past _ _ m y)))
                 where
                   past : (t a : ℕ) → t ≡ suc a → t ≤ a → ⊥
                   past t a e l = omega (arith, e, l)
@@ -586,22 +587,22 @@ module _ {A F R J : Type 0} (sys : Actors A F R J) (hosts : ℕ) (fits : Path �
               options_of d = tt
 
               known : Unit {0} → ticket_of l.act ≤ (g).lines.admitted
-              known y = (Reached.known sys hosts fits is_job fine owes b batches begins jobs s k.ghost k.shows (ticket_of l.act) (λ q. none_not (sym (ap (λ (c : Cell A F R). c.event) q) ∙ z.1))).1
+              known y = (Reached.known kind owes b batches begins jobs s k.ghost k.shows (ticket_of l.act) (λ q. none_not (sym (ap (λ (c : Cell A F R). c.event) q) ∙ z.1))).1
 
     pub record Spending (s : State A F R J) : Type 0 where
-      pub good : Good_state sys hosts fits is_job fine owes b batches begins jobs s
+      pub good : Good_state kind owes b batches begins jobs s
       pub kept : Kept s good.ghost
 
-    pub spending : (ls : List Label) (s : State A F R J) → run sys workers (start_state b batches) ls ≡ Some s → Spending s
-    spending ls s e = by (Along.along sys hosts fits is_job fine owes b batches begins jobs some_host workers KeptBy next first ls s e)
+    pub spending : (ls : List Label) (s : State A F R J) → run kind.system workers (start_state b batches) ls ≡ Some s → Spending s
+    spending ls s e = by (Along.along kind owes b batches begins jobs some_host workers KeptBy next first ls s e)
       where
-        next : (ls : List Label) (s s' : State A F R J) (k : Good_state sys hosts fits is_job fine owes b batches begins jobs s) (l : Label) → Along.from_start sys hosts fits is_job fine owes b batches begins jobs some_host workers ls s → KeptBy ls s k → step sys workers s l ≡ Some s' → (n : Along.Follows sys hosts fits is_job fine owes b batches begins jobs some_host workers s s' k l) → KeptBy (ls ++ l ∷ []) s' n.good
+        next : (ls : List Label) (s s' : State A F R J) (k : Good_state kind owes b batches begins jobs s) (l : Label) → Along.from_start kind owes b batches begins jobs some_host workers ls s → KeptBy ls s k → step kind.system workers s l ≡ Some s' → (n : Along.Follows kind owes b batches begins jobs some_host workers s s' k l) → KeptBy (ls ++ l ∷ []) s' n.good
         next ls s s' k l r h e n = kept_next s s' k l h e n
 
-        first : KeptBy [] (start_state b batches) (Along.first sys hosts fits is_job fine owes b batches begins jobs some_host workers)
+        first : KeptBy [] (start_state b batches) (Along.first kind owes b batches begins jobs some_host workers)
         first = record { single = λ p en i. single_first p en i; balance = λ t lt la u i. absurd (none_not i) }
           where
-            single_first : (p : Path) (en : Entry F) → HasEntry sys b batches (start_state b batches) p en → OnceIn en.holders
+            single_first : (p : Path) (en : Entry F) → HasEntry {A = A} {F = F} {R = R} {J = J} (start_state b batches) p en → OnceIn en.holders
             single_first p en (inr i) = absurd (none_not i.3)
             single_first p en (inl i) = by (there b.tree p) refl
               where
@@ -612,5 +613,5 @@ module _ {A F R J : Type 0} (sys : Actors A F R J) (hosts : ℕ) (fits : Path �
                 ]
                 by false j = absurd (none_not (sym (ap (λ q. (if q then set nat_eq (λ h. None) (b.places.fields p) (Some (entry_at_start b p)) else (λ h. None)) i.0) j) ∙ i.1))
 
-        by : Along.Along sys hosts fits is_job fine owes b batches begins jobs some_host workers KeptBy next (ls) s → Spending s
+        by : Along.Along kind owes b batches begins jobs some_host workers KeptBy next (ls) s → Spending s
         by a = record { good = a.good; kept = a.holds }

@@ -1,12 +1,13 @@
 -- What an event holds, and who holds a context.
 use Rattle.std.specs.Prelude.{◌≡◌, ◌⊎◌, ◌+◌, ℕ, suc, Bool, true, false, nat_eq, if◌then◌else◌, List, [], ◌∷◌, Option, Some, is_some}
 use Rattle.wave_base.specs.declared.path.Path.{Path}
-use Rattle.wave_states.specs.Actors.{Actors}
+use Rattle.wave_states.specs.Kinds.{Kind}
 use Rattle.wave_states.specs.States.{State, Claim, Entry, Event, Hand, Hold, Mail, Ask, Enter, Release, Transfer, Waiting, Running, hold_at}
 use Rattle.wave_states.specs.Labels.{Act, Label, Stop}
 use Rattle.wave_states.specs.Alone.{Alone, has, first_alone, after_segments, fold_alone, job_after}
 use Rattle.wave_states.specs.Begins.{Begin}
-use Rattle.wave_theory.specs.States.{HasEntry, IsIn}
+use Rattle.wave_theory.specs.Numbers.{HasEntry}
+use Rattle.wave_theory.specs.Listed.{IsIn}
 
 -- how many segments of the ticket came to their end
 abbrev pub is_stop_of : ℕ → Act → Bool
@@ -47,16 +48,16 @@ module _ {A F R J : Type 0} where
     pub is_hold : hold_at event.held p ≡ Some hold
     pub peek : hold.peek ≡ claim.peek
 
-module _ {A F R J : Type 0} (sys : Actors A F R J) where
+module _ {A F R J : Type 0} (kind : Kind A F R J) where
   -- the event of a ticket alone, after so many segments
   abbrev pub alone_after : Begin F → List (List J) → ℕ → J → ℕ → Alone A F R
-  alone_after b batches index job n = after_segments sys n (first_alone sys job (suc b.before + index) (fold_alone sys b batches index).tree)
+  alone_after b batches index job n = after_segments kind.system n (first_alone kind.system job (suc b.before + index) (fold_alone kind.system b batches index).tree)
 
   -- an event is as it is alone after as many segments: its actor, at home or in a hand with the fields that it finds; its result;
   -- and what it holds, but for what it still waits for
   pub record IsAsAlone (b : Begin F) (batches : List (List J)) (labels : List Label) (s : State A F R J) (index : ℕ) (event : Event A) : Type 0 where
     pub job : J
-    pub job_is : job_after sys b batches index ≡ Some job
+    pub job_is : job_after kind.system b batches index ≡ Some job
     pub actor : ((p : Path) → event.status ≡ Running p → ⊥) → event.actor ≡ Some (alone_after b batches index job (stops (suc b.before + index) labels)).actor
     pub out : (worker : ℕ) (hand : Hand A F) → s.hands worker ≡ Some hand → hand.ticket ≡ suc b.before + index →
         (hand.actor ≡ (alone_after b batches index job (stops (suc b.before + index) labels)).actor) × (hand.body.fields ≡ (alone_after b batches index job (stops (suc b.before + index) labels)).tree.fields hand.path)
@@ -71,6 +72,6 @@ module _ {A F R J : Type 0} (sys : Actors A F R J) where
   -- Holders. Whoever holds a context has it among what its event holds, or gave it up; and what an event holds is held by it, and is
   -- where it says.
   pub record Holders (b : Begin F) (batches : List (List J)) (s : State A F R J) : Type 0 where
-    pub known : (p : Path) (en : Entry F) (c : Claim) → HasEntry sys b batches s p en → IsIn en.holders c → IsHeld s p c ⊎ IsParting s c.ticket p
+    pub known : (p : Path) (en : Entry F) (c : Claim) → HasEntry s p en → IsIn en.holders c → IsHeld s p c ⊎ IsParting s c.ticket p
     pub there : (t : ℕ) (event : Event A) (p : Path) (hold : Hold) → (s.cells t).event ≡ Some event → hold_at event.held p ≡ Some hold →
         (en : Entry F) × ((s.columns p).store hold.host ≡ Some en) × IsIn en.holders (record { ticket = t; peek = hold.peek })

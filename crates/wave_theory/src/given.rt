@@ -1,36 +1,36 @@
 ghost use Rattle.wave_theory.specs.Agree.{Agree};
+ghost use Rattle.wave_theory.specs.Always.{Always, AlwaysBy, AlwaysOf};
 ghost use Rattle.wave_theory.specs.Hands.{HandsStayOver, MayRun, Stoppable};
 ghost use Rattle.wave_theory.specs.Holding.{Holders, Holding};
-ghost use Rattle.wave_theory.specs.States.{Always, AlwaysBy, AlwaysOf};
 
 use crate::acting::Acting;
 
 /// A segment that is out can be stopped.
 pub fn stoppable<T: Acting>()
-    ensures { (c : T.Code) → AlwaysBy (T.system c) (T.hosts c) (T.fits c) (T.is_job c) (T.fine c) (Stoppable (T.system c)) }
+    ensures { (c : T.Code) → AlwaysBy (T.kind c) Stoppable }
 {}
 
 /// What is in a hand may run: the actor may run a segment there, and the fields fit.
 pub fn may_run<T: Acting>()
-    ensures { (c : T.Code) → Always (T.system c) (T.hosts c) (T.fits c) (T.is_job c) (T.fine c) (MayRun (T.system c) (T.fits c) (T.fine c)) }
+    ensures { (c : T.Code) → Always (T.kind c) MayRun }
 {}
 
 /// What is in a worker's hand stays there until that worker takes a label.
 pub fn hands_stay_over<T: Acting>()
-    ensures { (c : T.Code) → HandsStayOver (T.system c) }
+    ensures { (c : T.Code) → HandsStayOver (T.kind c).system }
 {}
 
 /// Each event is as it is alone, and holds what it holds alone but for what it waits for.
 pub fn holding<T: Acting>()
-    ensures { (c : T.Code) → AlwaysOf (T.system c) (T.hosts c) (T.fits c) (T.is_job c) (T.fine c) (Holding (T.system c)) }
+    ensures { (c : T.Code) → AlwaysOf (T.kind c) Holding }
 {}
 
 /// What an event holds is held by it, and nothing else is but what it has just given up.
 pub fn holders<T: Acting>()
-    ensures { (c : T.Code) → Always (T.system c) (T.hosts c) (T.fits c) (T.is_job c) (T.fine c) (Holders (T.system c)) }
+    ensures { (c : T.Code) → Always (T.kind c) Holders }
 {}
 
 /// The parts of a state agree: mails with the entries that they go to, results with events, records with who holds them.
 pub fn agree<T: Acting>()
-    ensures { (c : T.Code) → Always (T.system c) (T.hosts c) (T.fits c) (T.is_job c) (T.fine c) (Agree (T.system c)) }
+    ensures { (c : T.Code) → Always (T.kind c) Agree }
 {}

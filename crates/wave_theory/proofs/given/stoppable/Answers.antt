@@ -5,5 +5,5 @@ use Rattle.wave_theory.proofs.Reached
 
 pub returns : goal.returns
 returns g c = λ code workers b batches begins plan labels s e v hd i. let a = g.T.Acting in
-    InHand.can_stop (a.system code) (a.hosts code) (a.fits code) (a.is_job code) (a.fine code) (a.owed code) b batches begins plan.jobs s (Reached.reached (a.system code) (a.hosts code) (a.fits code) (a.is_job code) (a.fine code) (a.owed code) b batches begins plan.jobs plan.some_host workers s labels e) v hd i workers
-    (InHand.below_workers workers s v hd i (Noted.bounds (a.system code) (a.hosts code) (a.fits code) (a.is_job code) (a.fine code) (a.owed code) b batches begins plan.jobs plan.some_host workers labels s e).hands)
+    InHand.can_stop (a.kind code) (a.owed code) b batches begins plan.jobs s (Reached.reached (a.kind code) (a.owed code) b batches begins plan.jobs plan.some_host workers s labels e) v hd i workers
+    (InHand.below_workers workers s v hd i (Noted.bounds (a.kind code) (a.owed code) b batches begins plan.jobs plan.some_host workers labels s e).hands)
