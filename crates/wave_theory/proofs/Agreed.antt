@@ -40,7 +40,7 @@ one_claim (d ∷ []) c o (inr e) f = absurd e
 one_claim (d ∷ e ∷ hs) c o i f = absurd (clash _ (ap (λ j. j || Shows.holds_claim hs d.ticket) (subst (λ n. nat_eq e.ticket n ≡ true) (f e (inr (inl refl)) ∙ sym (f d (inl refl))) (number_self e.ticket))) o.0)
 
 -- the end of an event and its status
-ended_done : (st : Status) (v : Stage) (o : Bool) (p : Path) → Shows.StatusShows st v o p → st ≡ Ended → v ≡ Done
+pub ended_done : (st : Status) (v : Stage) (o : Bool) (p : Path) → Shows.StatusShows st v o p → st ≡ Ended → v ≡ Done
 ended_done Ended Done o p z e = refl
 ended_done Ended Entering o p z e = absurd z
 ended_done Ended Lined o p z e = absurd z
@@ -63,7 +63,7 @@ ended_done (Running q) v o p z e = absurd (not_ended e)
     not_ended : Running q ≡ Ended → ⊥
     not_ended e = grind arith
 
-done_ended : (st : Status) (v : Stage) (o : Bool) (p : Path) → Shows.StatusShows st v o p → v ≡ Done → st ≡ Ended
+pub done_ended : (st : Status) (v : Stage) (o : Bool) (p : Path) → Shows.StatusShows st v o p → v ≡ Done → st ≡ Ended
 done_ended st Done o p z e = by st z
   where
     by : (st : Status) → Shows.StatusShows st Done o p → st ≡ Ended
@@ -89,7 +89,7 @@ done_ended st There o p z e = absurd (not_done e)
     not_done : There ≡ Done → ⊥
     not_done e = grind arith
 
-stage_cases : (v : Stage) → (v ≡ Done) ⊎ (v ≡ Done → ⊥)
+pub stage_cases : (v : Stage) → (v ≡ Done) ⊎ (v ≡ Done → ⊥)
 stage_cases Done = inl refl
 stage_cases Entering = inr not_done
   where

@@ -12,6 +12,7 @@ pub mod Commute
 pub mod Courses
 pub mod Deeds
 pub mod Desks
+pub mod Few
 pub mod Folds
 pub mod Forms
 pub mod Found
@@ -25,6 +26,7 @@ pub mod Homes
 pub mod Hosts
 pub mod Leaves
 pub mod Live
+pub mod Mailed
 pub mod Maps
 pub mod Noted
 pub mod Often
@@ -44,6 +46,7 @@ pub mod Settled
 pub mod Shows
 pub mod Sites
 pub mod Sizes
+pub mod Small
 pub mod Spent
 pub mod Starting
 pub mod Stopping

@@ -362,11 +362,11 @@ module _ {A F R J : Type 0} (kind : Kind A F R J) (owes : Owes kind) (b : Begin 
   abbrev pub Balance : Event A → ℕ → Stage → ℕ → Type 0
   Balance e t v n = e.sent + length e.held + pend v ≡ live v + n + came_to t n
 
-  came_more : (t n : ℕ) → came_to t (suc n) ≡ came_to t n + one_if kind.system (w.fresh t (suc n))
+  pub came_more : (t n : ℕ) → came_to t (suc n) ≡ came_to t n + one_if kind.system (w.fresh t (suc n))
   came_more t n = sum_more (suc n) (λ i. one_if kind.system (w.fresh t i))
 
   -- nothing is entered after the last segment
-  none_after : (t : ℕ) → Is_real t → w.fresh t (suc (w.last t)) ≡ false
+  pub none_after : (t : ℕ) → Is_real t → w.fresh t (suc (w.last t)) ≡ false
   none_after t r = subst (λ (v : View A F R). v.one.fresh (suc v.one.last) ≡ false) (sym (ap (view kind owes b batches begins jobs) r.ticket_is ∙ view_real kind owes b batches begins jobs r.index r.job r.job_is))
       (last_stale kind.system (first_of kind owes b batches begins jobs r.index r.job) (last_of kind owes b batches begins jobs r.index r.job) (counts kind owes b batches begins jobs r.index r.job r.job_is) refl refl)
 

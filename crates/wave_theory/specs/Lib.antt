@@ -4,6 +4,7 @@ pub mod Bounds
 pub mod Came
 pub mod Complete
 pub mod Counted
+pub mod Finals
 pub mod Hands
 pub mod Holding
 pub mod Independent
@@ -15,4 +16,5 @@ pub mod OneHost
 pub mod Owners
 pub mod Records
 pub mod Results
+pub mod Sent
 pub mod Trails

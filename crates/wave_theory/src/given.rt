@@ -2,6 +2,7 @@ ghost use Rattle.wave_theory.specs.Agree.{Agree};
 ghost use Rattle.wave_theory.specs.Always.{Always, AlwaysBy, AlwaysOf};
 ghost use Rattle.wave_theory.specs.Hands.{HandsStayOver, MayRun, Stoppable};
 ghost use Rattle.wave_theory.specs.Holding.{Holders, Holding};
+ghost use Rattle.wave_theory.specs.Sent.{Sent, Within};
 
 use crate::acting::Acting;
 
@@ -33,4 +34,14 @@ pub fn holders<T: Acting>()
 /// The parts of a state agree: mails with the entries that they go to, results with events, records with who holds them.
 pub fn agree<T: Acting>()
     ensures { (c : T.Code) → Always (T.kind c) Agree }
+{}
+
+/// How many mails an event sends.
+pub fn sent<T: Acting>()
+    ensures { (c : T.Code) → Always (T.kind c) Sent }
+{}
+
+/// How large the numbers of a state are at most.
+pub fn within<T: Acting>()
+    ensures { (c : T.Code) → Always (T.kind c) Within }
 {}
