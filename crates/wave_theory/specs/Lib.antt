@@ -1,9 +1,12 @@
+pub mod Agree
 pub mod Always
 pub mod Bounds
 pub mod Came
 pub mod Complete
 pub mod Counted
+pub mod Finals
 pub mod Hands
+pub mod Holding
 pub mod Independent
 pub mod Listed
 pub mod Movers
@@ -13,4 +16,5 @@ pub mod OneHost
 pub mod Owners
 pub mod Records
 pub mod Results
+pub mod Sent
 pub mod Trails

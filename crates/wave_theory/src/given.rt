@@ -1,5 +1,8 @@
+ghost use Rattle.wave_theory.specs.Agree.{Agree};
+ghost use Rattle.wave_theory.specs.Always.{Always, AlwaysBy, AlwaysOf};
 ghost use Rattle.wave_theory.specs.Hands.{HandsStayOver, MayRun, Stoppable};
-ghost use Rattle.wave_theory.specs.Always.{Always, AlwaysBy};
+ghost use Rattle.wave_theory.specs.Holding.{Holders, Holding};
+ghost use Rattle.wave_theory.specs.Sent.{Sent, Within};
 
 use crate::acting::Acting;
 
@@ -16,4 +19,29 @@ pub fn may_run<T: Acting>()
 /// What is in a worker's hand stays there until that worker takes a label.
 pub fn hands_stay_over<T: Acting>()
     ensures { (c : T.Code) → HandsStayOver (T.kind c).system }
+{}
+
+/// Each event is as it is alone, and holds what it holds alone but for what it waits for.
+pub fn holding<T: Acting>()
+    ensures { (c : T.Code) → AlwaysOf (T.kind c) Holding }
+{}
+
+/// What an event holds is held by it, and nothing else is but what it has just given up.
+pub fn holders<T: Acting>()
+    ensures { (c : T.Code) → Always (T.kind c) Holders }
+{}
+
+/// The parts of a state agree: mails with the entries that they go to, results with events, records with who holds them.
+pub fn agree<T: Acting>()
+    ensures { (c : T.Code) → Always (T.kind c) Agree }
+{}
+
+/// How many mails an event sends.
+pub fn sent<T: Acting>()
+    ensures { (c : T.Code) → Always (T.kind c) Sent }
+{}
+
+/// How large the numbers of a state are at most.
+pub fn within<T: Acting>()
+    ensures { (c : T.Code) → Always (T.kind c) Within }
 {}
