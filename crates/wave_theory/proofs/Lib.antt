@@ -54,6 +54,7 @@ pub mod Stops
 pub mod Stuck
 pub mod Tallies
 pub mod Told
+pub mod Totals
 pub mod Tracks
 pub mod Turns
 pub mod Ways

@@ -1,5 +1,6 @@
 ghost use Rattle.wave_theory.specs.Agree.{Agree};
 ghost use Rattle.wave_theory.specs.Always.{Always, AlwaysBy, AlwaysOf};
+ghost use Rattle.wave_theory.specs.Finals.{AllMoves, Loads};
 ghost use Rattle.wave_theory.specs.Hands.{HandsStayOver, MayRun, Stoppable};
 ghost use Rattle.wave_theory.specs.Holding.{Holders, Holding};
 ghost use Rattle.wave_theory.specs.Sent.{Sent, Within};
@@ -44,4 +45,14 @@ pub fn sent<T: Acting>()
 /// How large the numbers of a state are at most.
 pub fn within<T: Acting>()
     ensures { (c : T.Code) → Always (T.kind c) Within }
+{}
+
+/// In a finished state each context has served what the fold's jobs entered it.
+pub fn loads<T: Acting>()
+    ensures { (c : T.Code) → AlwaysBy (T.kind c) Loads }
+{}
+
+/// In a finished state the contexts have moved as often as the jobs moved one.
+pub fn all_moves<T: Acting>()
+    ensures { (c : T.Code) → AlwaysBy (T.kind c) AllMoves }
 {}
