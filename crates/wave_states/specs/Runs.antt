@@ -9,7 +9,7 @@ use Rattle.wave_states.specs.Canonical.{enabled}
 
 module _ {A F R J : Type 0} (sys : Actors A F R J) (workers : ℕ) where
   -- the state that a list of labels leads to, where each is enabled
-  abbrev pub run : State A F R J → List Label → Option (State A F R J)
+  unfoldable pub run : State A F R J → List Label → Option (State A F R J)
   run s [] = Some s
   run s (l ∷ ls) = option_and_then (λ v. run v ls) (step sys workers s l)
 
@@ -77,7 +77,7 @@ mail_last x s ls = (x, or_else (first_of (filter (λ l. not (takes_mail l.act)) 
 
 module _ {X A F R J : Type 0} (sys : Actors A F R J) (workers hosts : ℕ) (rule : Rule X A F R J) where
   -- the labels that the rule picks, until the canonical list is empty
-  abbrev pub IsDrive : X → State A F R J → List Label → Type 0
+  unfoldable pub IsDrive : X → State A F R J → List Label → Type 0
   IsDrive x s [] = enabled sys workers hosts s ≡ []
   IsDrive x s (l ∷ ls) =
       ((rule x s (enabled sys workers hosts s)).1 ≡ Some l)
@@ -93,6 +93,6 @@ module _ {X A F R J : Type 0} (sys : Actors A F R J) (workers hosts : ℕ) (rule
   picked more s (x, None) = []
   picked more s (x, Some l) = keep_on more x l (step sys workers s l)
 
-  abbrev pub drive : ℕ → X → State A F R J → List Label
+  unfoldable pub drive : ℕ → X → State A F R J → List Label
   drive zero x s = []
   drive (suc n) x s = picked (λ y v. drive n y v) s (rule x s (enabled sys workers hosts s))

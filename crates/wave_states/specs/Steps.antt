@@ -412,5 +412,5 @@ module _ {A F R J : Type 0} (sys : Actors A F R J) where
   step_by s w host a = option_map (λ y. with_bench s (ticket_of a) (path_of a) w y) (act_bench a host (part_of s (ticket_of a) (path_of a)) (s.hands w))
 
   -- the state after a label, where it is enabled; the workers are those below `workers`
-  abbrev pub step : ℕ → State A F R J → Label → Option (State A F R J)
+  unfoldable pub step : ℕ → State A F R J → Label → Option (State A F R J)
   step workers s l = if nat_lt l.worker workers then step_by s l.worker l.host l.act else None

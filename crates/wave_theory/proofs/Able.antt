@@ -1,4 +1,5 @@
 -- When a label is enabled.
+use Rattle.wave_states.specs.Steps.{step}
 use Rattle.std.proofs.Common.{◌≡◌, ℕ, suc, ◌+◌, ◌==◌, ◌&&◌, nat_eq, nat_lt, Bool, true, false, Option, Some, None, is_some, [], refl, sym, ◌∙◌, ap, subst, arith}
 use Rattle.std.specs.Prelude.{if◌then◌else◌, cond, slice_get}
 use Rattle.std.specs.List.{list_any, AllByRecursion, filter}
@@ -112,6 +113,7 @@ module _ {A F R J : Type 0} (sys : Actors A F R J) where
 
   module _ (workers : ℕ) (s : State A F R J) (v : ℕ) (less : nat_lt v workers ≡ true) (idle : s.hands v ≡ None) where
     pub can_take : (t h : ℕ) (act : Act) → ticket_of act ≡ t → is_some (step_by sys s v h act) ≡ true → CanTake sys workers s v t
+    unfolding step
     can_take t h act e k = record { host = h; act = act; of_ticket = e; enabled = if_can (nat_lt v workers) _ less k }
 
     on_bench : (act : Act) (h : ℕ) (f : Bench A F R → State A F R J) → is_some (act_bench sys act h (part_of sys s (ticket_of act) (path_of act)) None) ≡ true → is_some (option_map f (act_bench sys act h (part_of sys s (ticket_of act) (path_of act)) (s.hands v))) ≡ true

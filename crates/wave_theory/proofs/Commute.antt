@@ -1,4 +1,5 @@
 -- Labels but Admit and Commit change one cell, one column and one hand, so they commute.
+use Rattle.wave_states.specs.Steps.{step}
 use Rattle.std.proofs.Common.{◌≡◌, ◌≢◌, ◌⊎◌, ◌&&◌, inl, inr, ℕ, ◌==◌, nat_eq, nat_lt, Bool, true, false, Option, Some, None, List, [], ◌∷◌, refl, sym, ◌∙◌, ap, ap₂, subst}
 use Rattle.std.specs.Prelude.{if◌then◌else◌, option_map, option_and_then}
 use Rattle.std.specs.List.{filter}
@@ -347,6 +348,7 @@ module _ {A F R J : Type 0} (sys : Actors A F R J) where
   if_true b o o' e k = rw e k
 
   pub independent : Independent sys
+  unfolding step
   independent workers s s₁ s₂ l l' lo lo' nt free where_ e e' =
       let q = if_some (nat_lt l.worker workers) _ s₁ e in
       let q' = if_some (nat_lt l'.worker workers) _ s₂ e' in

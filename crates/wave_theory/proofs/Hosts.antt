@@ -1,4 +1,5 @@
 -- By which host each label is taken.
+use Rattle.wave_states.specs.Steps.{step}
 use Rattle.std.proofs.Common.{◌≡◌, ℕ, ◌<◌, ◌≤◌, inl, inr, true, Option, Some, None, List, refl, sym, ◌∙◌, ap, subst, arith, is_some, nat_lt, not, ◌&&◌, ◌==◌, ap₂}
 use Rattle.wave_base.specs.declared.path.Path.{Path}
 use Rattle.wave_base.specs.Paths.{path_eq}
@@ -124,4 +125,5 @@ module _ {A F R J : Type 0} (kind : Kind A F R J) (owes : Owes kind) (b : Begin 
     by_act s' v h (Land t n p) e = (let y = map_some _ _ s' e in local s' v h (Land t n p) y.0 (s.hands v) refl y.1 y.2)
 
     pub by_owners : (workers : ℕ) → ByOwners kind workers b batches s
+    unfolding step
     by_owners workers l s' e = by_act s' l.worker l.host l.act (if_some (nat_lt l.worker workers) (step_by kind.system s l.worker l.host l.act) s' e).1

@@ -29,7 +29,7 @@ use Rattle.wave_theory.proofs.Courses.{View, view, view_real}
 use Rattle.wave_theory.proofs.Courses
 use Rattle.wave_theory.proofs.Shows
 use Rattle.wave_theory.proofs.Reached.{Good_state}
-use Rattle.wave_theory.specs.Hands.{CanStop, HandsStayOver}
+use Rattle.wave_theory.specs.Hands.{CanStop, HandsStay, HandsStayOver}
 
 there_done : There ≡ Done → ⊥
 there_done e = grind arith
@@ -125,6 +125,7 @@ module _ {A F R J : Type 0} (kind : Kind A F R J) (owes : Owes kind) (b : Begin 
         by true e = (let z = over (sym peek_is ∙ e) in subst (λ u. is_some (looked (part_of kind.system s t p) (owner ((k.ghost).trail p)) (desk_back (s.cells t) (c).event (segment_of kind.system hd).actor) ((k.ghost).entry p) u) ≡ true) (sym z.1) refl)
 
     pub can_stop : (workers : ℕ) → nat_lt v workers ≡ true → CanStop kind.system workers s v hd
+    unfolding step
     can_stop workers less = record {
       event = (c).event;
       is_event = c.event_is;
@@ -185,7 +186,12 @@ module _ {A F R J : Type 0} (sys : Actors A F R J) where
           ap (λ (i : State A F R J). i.hands u) (sym (only_some _ (committed sys s r.0) s' r.2).1))
       rest a z e = absurd (clash _ refl z)
 
+  pub hands_stay : HandsStay sys
+  unfolding step
+  hands_stay workers s v l u e n = off_hand s v l.worker l.host l.act u (if_some (nat_lt l.worker workers) (step_by sys s l.worker l.host l.act) v e).1 (differ l.worker u (λ z. n (sym z)))
+
   pub hands_stay_over : HandsStayOver sys
+  unfolding run step
   hands_stay_over workers s v ls u e n = along ls s e (recursion_from_All (λ (l : Label). u ≢ l.worker) ls n)
     where
       along : (ls : List Label) (s : State A F R J) → run sys workers s ls ≡ Some v → AllByRecursion (λ (l : Label). u ≢ l.worker) ls → v.hands u ≡ s.hands u

@@ -86,6 +86,7 @@ hosts_sent r to = upto_more (set nat_eq r.at (suc r.last) to) (suc r.last) 0 ∙
 
 module _ {A F R J : Type 0} (sys : Actors A F R J) (workers : ℕ) where
   pub senders_more : (p : Path) (ls : List Label) (s₀ s s' : State A F R J) (l : Label) → run sys workers s₀ ls ≡ Some s → step sys workers s l ≡ Some s' → senders_from sys workers p (Some s₀) (ls ++ l ∷ []) ≡ senders_from sys workers p (Some s₀) ls ++ sender_by p (ticket_of l.act) s (Some s')
+  unfolding run
   senders_more p [] s₀ s s' l e f = (let z : s₀ ≡ s = some_same s₀ s e in
       subst (λ u. sender_by p (ticket_of l.act) u (step sys workers u l) ++ senders_from sys workers p (step sys workers u l) [] ≡ sender_by p (ticket_of l.act) s (Some s')) (sym z)
       (subst (λ o. sender_by p (ticket_of l.act) s o ++ senders_from sys workers p o [] ≡ sender_by p (ticket_of l.act) s (Some s')) (sym f) (append-nil (sender_by p (ticket_of l.act) s (Some s')))))
@@ -95,6 +96,7 @@ module _ {A F R J : Type 0} (sys : Actors A F R J) (workers : ℕ) where
       (ap (λ ts. sender_by p (ticket_of m.act) s₀ (Some u.0) ++ ts) (senders_more p ls u.0 s s' l u.2 f) ∙ sym (append_assoc (sender_by p (ticket_of m.act) s₀ (Some u.0)) (senders_from sys workers p (Some u.0) ls) (sender_by p (ticket_of l.act) s (Some s'))))
 
   pub trail_more : (p : Path) (trail : List ℕ) (ls : List Label) (s₀ s s' : State A F R J) (l : Label) → run sys workers s₀ ls ≡ Some s → step sys workers s l ≡ Some s' → trail_from sys workers p trail (Some s₀) (ls ++ l ∷ []) ≡ trail_step sys workers p (trail_from sys workers p trail (Some s₀) ls) l (Some s')
+  unfolding run
   trail_more p trail [] s₀ s s' l e f = (let z : s₀ ≡ s = some_same s₀ s e in
       subst (λ u. trail_from sys workers p (trail_step sys workers p trail l (step sys workers u l)) (step sys workers u l) [] ≡ trail_step sys workers p trail l (Some s')) (sym z)
       (subst (λ o. trail_from sys workers p (trail_step sys workers p trail l o) o [] ≡ trail_step sys workers p trail l (Some s')) (sym f) refl))
@@ -172,6 +174,7 @@ module _ {A F R J : Type 0} (kind : Kind A F R J) (owes : Owes kind) (b : Begin 
       o = outline k.ghost
 
       by_it : step_by kind.system s l.worker l.host l.act ≡ Some s'
+      unfolding step
       by_it = (if_some (nat_lt l.worker workers) (step_by kind.system s l.worker l.host l.act) s' e).1
 
       known_by : (t : ℕ) → (g).lines.stage t ≢ Done → (b.before < t) × (t ≤ (g).lines.admitted)
@@ -515,6 +518,7 @@ module _ {A F R J : Type 0} (kind : Kind A F R J) (owes : Owes kind) (b : Begin 
       hands_off v host (Land t i p) q u d = (let y = map_some _ _ s' q in ap (λ (z : State A F R J). z.hands u) y.2 ∙ set_there nat_eq s.hands v _ u d)
 
       idle_next : (v : ℕ) → workers ≤ v → s'.hands v ≡ None
+      unfolding step
       idle_next v q = hands_off l.worker l.host l.act by_it v (differ l.worker v (λ z. past _ _ _ (less l.worker workers (if_some (nat_lt l.worker workers) (step_by kind.system s l.worker l.host l.act) s' e).0) q z)) ∙ h.idle v q
         where
           less : (a c : ℕ) → nat_lt a c ≡ true → a < c

@@ -322,6 +322,7 @@ module _ {A F R J : Type 0} (kind : Kind A F R J) (owes : Owes kind) (b : Begin 
               Reached.known kind owes b batches begins jobs s (k.ghost) k.shows t (λ n. none_not (sym (ap (λ (u : Cell A F R). u.mails i) n) ∙ q.letter_at.mail_is)))
 
       pub next : (ls : List Label) (s s' : State A F R J) (k : Good s) (l : Label) → Along.from_start kind owes b batches begins jobs some_host workers ls s → Passed ls s k → step kind.system workers s l ≡ Some s' → (n : Along.Follows kind owes b batches begins jobs some_host workers s s' k l) → Passed (ls ++ l ∷ []) s' n.good
+      unfolding step
       next ls s s' k l r h e n = record {
         homes = Homes.homes_next kind owes b batches begins jobs s k.ghost (n.good).ghost l.act k.shows n.turn h.homes;
         tally = told (is_pass l.act) h.tally (ticket_of l.act);

@@ -402,6 +402,7 @@ module _ {A F R J : Type 0} (kind : Kind A F R J) (owes : Owes kind) (b : Begin 
 
   -- every state that a list of labels leads to
   pub run_good : (workers : ℕ) (s s' : State A F R J) (ls : List Label) (k : Good_state s) → run kind.system workers s ls ≡ Some s' → Goes s' (taken ls + total s k.tally)
+  unfolding run step
   run_good workers s s' [] k e = subst (λ u. Goes u (0 + total s k.tally)) (some_same s s' e) (record { good = k; counts = (let z : (n : ℕ) → n ≡ 0 + n = λ n. omega arith in z (total s k.tally)) })
   run_good workers s s' (l ∷ ls) k e =
       let v = then_some (λ v. run kind.system workers v ls) (step kind.system workers s l) s' e in

@@ -386,6 +386,7 @@ module _ {A F R J : Type 0} (kind : Kind A F R J) (owes : Owes kind) (b : Begin 
       o = outline k.ghost
 
       by_it : step_by kind.system s l.worker l.host l.act ≡ Some s'
+      unfolding step
       by_it = (if_some (nat_lt l.worker workers) (step_by kind.system s l.worker l.host l.act) s' e).1
 
       there_done : There ≡ Done → ⊥

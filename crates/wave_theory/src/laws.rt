@@ -5,7 +5,7 @@ ghost use Rattle.wave_theory.specs.Complete.{Complete};
 ghost use Rattle.wave_theory.specs.Counted.{Bounded, Counted};
 ghost use Rattle.wave_theory.specs.Hands.{HandsStay};
 ghost use Rattle.wave_theory.specs.Independent.{Independent};
-ghost use Rattle.wave_theory.specs.Listed.{Listed, Sorted};
+ghost use Rattle.wave_theory.specs.Listed.{EmptyAtEnd, Listed, ListedFor, Sorted};
 ghost use Rattle.wave_theory.specs.NeverStuck.{NeverStuck};
 ghost use Rattle.wave_theory.specs.Numbers.{Numbers};
 ghost use Rattle.wave_theory.specs.OneHost.{OneHost};
@@ -79,6 +79,16 @@ pub fn by_owners<T: Acting>()
 /// The canonical list has exactly what is enabled, by the lowest idle worker.
 pub fn listed<T: Acting>()
     ensures { (c : T.Code) → AlwaysBy (T.kind c) Listed }
+{}
+
+/// The list of a worker has exactly what it can take.
+pub fn listed_for<T: Acting>()
+    ensures { (c : T.Code) → AlwaysBy (T.kind c) ListedFor }
+{}
+
+/// The canonical list is empty exactly in a finished state.
+pub fn empty_at_end<T: Acting>()
+    ensures { (c : T.Code) → AlwaysBy (T.kind c) EmptyAtEnd }
 {}
 
 /// On one host nothing is passed on, and nothing lands.
