@@ -35,6 +35,7 @@ module _ {A F R J : Type 0} (sys : Actors A F R J) where
       same_part p q = λ i. record { cell = p i; column = q i }
 
   step_local : (workers : ℕ) (s : State A F R J) (l : Label) → is_local l.act ≡ true → step sys workers s l ≡ (if nat_lt l.worker workers then option_map (λ y. with_bench sys s (ticket_of l.act) (path_of l.act) l.worker y) (bench_at s l) else None)
+  unfolding step
   step_local workers s l z = ap (λ o. if nat_lt l.worker workers then o else None) (local_step sys s l.worker l.host l.act z)
 
   local_refused : (workers : ℕ) (s v : State A F R J) (l : Label) → SameFor l s v → is_local l.act ≡ true → step sys workers s l ≡ None → step sys workers v l ≡ None
@@ -111,10 +112,12 @@ module _ {A F R J : Type 0} (sys : Actors A F R J) where
 
   admit_is : (workers : ℕ) (s v : State A F R J) (w host t : ℕ) → v.head ≡ s.head → v.before ≡ s.before → v.admitted ≡ s.admitted →
       step sys workers v (record { worker = w; host = host; act = Admit t }) ≡ (if nat_lt w workers then (if is_none (v.hands w) then option_map (λ j. admitted sys v t j) (admit_at s host t) else None) else None)
+  unfolding step
   admit_is workers s v w host t h e a = ap (λ o. if nat_lt w workers then (if is_none (v.hands w) then o else None) else None) (sym (admit_same s v host t h e a))
 
   commit_is : (workers : ℕ) (s v : State A F R J) (w host t : ℕ) → v.head ≡ s.head → v.before ≡ s.before → v.cells t ≡ s.cells t →
       step sys workers v (record { worker = w; host = host; act = Commit t }) ≡ (if nat_lt w workers then (if is_none (v.hands w) then option_map (λ r. committed sys v r) (commit_at s host t) else None) else None)
+  unfolding step
   commit_is workers s v w host t h e c = ap (λ o. if nat_lt w workers then (if is_none (v.hands w) then o else None) else None) (sym (commit_same s v host t h e c))
 
   refused : (workers : ℕ) (s v : State A F R J) (w host : ℕ) (a : Act) → SameFor (record { worker = w; host = host; act = a }) s v → step sys workers s (record { worker = w; host = host; act = a }) ≡ None → step sys workers v (record { worker = w; host = host; act = a }) ≡ None
