@@ -12,6 +12,7 @@ pub mod Commute
 pub mod Courses
 pub mod Deeds
 pub mod Desks
+pub mod Ending
 pub mod Few
 pub mod Folds
 pub mod Forms
@@ -41,6 +42,7 @@ pub mod Plans
 pub mod Queueing
 pub mod Ranks
 pub mod Reached
+pub mod Reading
 pub mod Rising
 pub mod Settled
 pub mod Shows
@@ -54,6 +56,7 @@ pub mod Stops
 pub mod Stuck
 pub mod Tallies
 pub mod Told
+pub mod Totals
 pub mod Tracks
 pub mod Turns
 pub mod Ways

@@ -4,6 +4,7 @@ pub mod Bounds
 pub mod Came
 pub mod Complete
 pub mod Counted
+pub mod Ends
 pub mod Finals
 pub mod Hands
 pub mod Holding
@@ -14,6 +15,7 @@ pub mod NeverStuck
 pub mod Numbers
 pub mod OneHost
 pub mod Owners
+pub mod Reads
 pub mod Records
 pub mod Results
 pub mod Sent

@@ -1,7 +1,10 @@
 ghost use Rattle.wave_theory.specs.Agree.{Agree};
 ghost use Rattle.wave_theory.specs.Always.{Always, AlwaysBy, AlwaysOf};
+ghost use Rattle.wave_theory.specs.Ends.{Ends, Measured};
+ghost use Rattle.wave_theory.specs.Finals.{AllMoves, Loads};
 ghost use Rattle.wave_theory.specs.Hands.{HandsStayOver, MayRun, Stoppable};
 ghost use Rattle.wave_theory.specs.Holding.{Holders, Holding};
+ghost use Rattle.wave_theory.specs.Reads.{Changes, Reads};
 ghost use Rattle.wave_theory.specs.Sent.{Sent, Within};
 
 use crate::acting::Acting;
@@ -44,4 +47,34 @@ pub fn sent<T: Acting>()
 /// How large the numbers of a state are at most.
 pub fn within<T: Acting>()
     ensures { (c : T.Code) → Always (T.kind c) Within }
+{}
+
+/// In a finished state each context has served what the fold's jobs entered it.
+pub fn loads<T: Acting>()
+    ensures { (c : T.Code) → AlwaysBy (T.kind c) Loads }
+{}
+
+/// In a finished state the contexts have moved as often as the jobs moved one.
+pub fn all_moves<T: Acting>()
+    ensures { (c : T.Code) → AlwaysBy (T.kind c) AllMoves }
+{}
+
+/// The fold ends, after as many jobs as may come of the batches.
+pub fn ends<T: Acting>()
+    ensures { (c : T.Code) → Ends (T.kind c) }
+{}
+
+/// How many labels a run takes at most, by what may come of the batches.
+pub fn measured<T: Acting>()
+    ensures { (c : T.Code) → AlwaysOf (T.kind c) Measured }
+{}
+
+/// A label reads its ticket's cell, its context's column and its worker's hand alone.
+pub fn reads<T: Acting>()
+    ensures { (c : T.Code) → Reads (T.kind c).system }
+{}
+
+/// A label changes nothing else.
+pub fn changes<T: Acting>()
+    ensures { (c : T.Code) → Changes (T.kind c).system }
 {}

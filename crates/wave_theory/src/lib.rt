@@ -9,7 +9,10 @@ mod movers;
 
 pub use acting::Acting;
 pub use counter::{Counter, at_movers_and_walkers, at_the_counter};
-pub use given::{agree, hands_stay_over, holders, holding, may_run, sent, stoppable, within};
+pub use given::{
+    agree, all_moves, changes, ends, hands_stay_over, holders, holding, loads, may_run, measured,
+    reads, sent, stoppable, within,
+};
 pub use laws::{
     bounded, bounds, by_owners, came, complete, counted, empty_at_end, hands_stay, independent,
     listed, listed_for, never_stuck, numbers, one_host, one_owner, records, results, sorted,
