@@ -14,8 +14,8 @@ pub use given::{
     reads, sent, stoppable, within,
 };
 pub use laws::{
-    bounded, bounds, by_owners, came, complete, counted, empty_at_end, hands_stay, independent,
-    listed, listed_for, never_stuck, numbers, one_host, one_owner, records, results, sorted,
-    tickets, traced, trails,
+    bounded, bounds, by_owners, came, complete, counted, driven, empty_at_end, hands_stay,
+    independent, listed, listed_for, never_stuck, numbers, one_host, one_owner, records, results,
+    rules_pick, sorted, tickets, traced, trails,
 };
 pub use movers::{Movers, Walkers};
