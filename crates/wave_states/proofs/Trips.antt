@@ -107,7 +107,7 @@ entry_seen o = option_map (λ e. (e.served, e.moves)) o
 abbrev pub passes : List Label → ℕ
 passes ls = count_by (λ l. is_pass l.act) ls
 
-abbrev pub summary : {X : Type 0} → Rule X Trip ℕ Told Trip → X → ℕ → List (List Trip) → Option (ℕ × ℕ × ℕ × Option (ℕ × ℕ) × List ℕ)
+abbrev pub summary : Rule Trip ℕ Told Trip → ℕ → ℕ → List (List Trip) → Option (ℕ × ℕ × ℕ × Option (ℕ × ℕ) × List ℕ)
 summary rule x workers batches =
     let ls : List Label = drive trips workers 2 rule 200 x (start_state begin batches) in
     option_map (λ s. (
@@ -127,19 +127,19 @@ seed_7 : summary seed 7 4 moves ≡ Some (49, 1, 0, Some (4, 2), 0 ∷ 1 ∷ 0 �
 unfolding step run enabled drive
 seed_7 = refl
 
-oldest_first : summary oldest tt 4 moves ≡ Some (50, 2, 0, Some (4, 2), 0 ∷ 1 ∷ 0 ∷ [])
+oldest_first : summary oldest 0 4 moves ≡ Some (50, 2, 0, Some (4, 2), 0 ∷ 1 ∷ 0 ∷ [])
 unfolding step run enabled drive
 oldest_first = refl
 
-newest_first : summary newest tt 4 moves ≡ Some (48, 0, 0, Some (4, 2), 0 ∷ 1 ∷ 0 ∷ [])
+newest_first : summary newest 0 4 moves ≡ Some (48, 0, 0, Some (4, 2), 0 ∷ 1 ∷ 0 ∷ [])
 unfolding step run enabled drive
 newest_first = refl
 
-movers_first : summary (movers is_move) tt 4 moves ≡ Some (49, 1, 0, Some (4, 2), 0 ∷ 1 ∷ 0 ∷ [])
+movers_first : summary (movers is_move) 0 4 moves ≡ Some (49, 1, 0, Some (4, 2), 0 ∷ 1 ∷ 0 ∷ [])
 unfolding step run enabled drive
 movers_first = refl
 
-mails_last : summary mail_last tt 4 moves ≡ Some (48, 0, 0, Some (4, 2), 0 ∷ 1 ∷ 0 ∷ [])
+mails_last : summary mail_last 0 4 moves ≡ Some (48, 0, 0, Some (4, 2), 0 ∷ 1 ∷ 0 ∷ [])
 unfolding step run enabled drive
 mails_last = refl
 
@@ -204,12 +204,12 @@ at_zero acts = map (λ a. record { worker = 0; host = 0; act = a }) acts
 abbrev alone_down : List (List Trip)
 alone_down = (trip (hall ∷ []) Adds ∷ []) ∷ []
 
-oldest_takes_first : drive trips 1 1 oldest 40 tt (start_state begin alone_down)
+oldest_takes_first : drive trips 1 1 oldest 40 0 (start_state begin alone_down)
     ≡ at_zero (Admit 1 ∷ Queue 1 1 [] ∷ Grant 1 [] ∷ Start 1 [] ∷ Stop 1 [] ∷ Queue 1 2 (hall ∷ []) ∷ Grant 1 (hall ∷ []) ∷ Start 1 (hall ∷ []) ∷ Stop 1 (hall ∷ []) ∷ Free 1 3 [] ∷ Free 1 4 (hall ∷ []) ∷ Commit 1 ∷ [])
 unfolding step enabled drive
 oldest_takes_first = refl
 
-newest_takes_last : drive trips 1 1 newest 40 tt (start_state begin alone_down)
+newest_takes_last : drive trips 1 1 newest 40 0 (start_state begin alone_down)
     ≡ at_zero (Admit 1 ∷ Queue 1 1 [] ∷ Grant 1 [] ∷ Start 1 [] ∷ Stop 1 [] ∷ Free 1 3 [] ∷ Queue 1 2 (hall ∷ []) ∷ Grant 1 (hall ∷ []) ∷ Start 1 (hall ∷ []) ∷ Stop 1 (hall ∷ []) ∷ Commit 1 ∷ Free 1 4 (hall ∷ []) ∷ [])
 unfolding step enabled drive
 newest_takes_last = refl
@@ -218,12 +218,12 @@ newest_takes_last = refl
 abbrev two_down : List (List Trip)
 two_down = (trip (hall ∷ []) Adds ∷ trip (hall ∷ []) Adds ∷ []) ∷ []
 
-oldest_takes_least : drive trips 1 1 oldest 9 tt (start_state begin two_down)
+oldest_takes_least : drive trips 1 1 oldest 9 0 (start_state begin two_down)
     ≡ at_zero (Admit 1 ∷ Queue 1 1 [] ∷ Grant 1 [] ∷ Start 1 [] ∷ Stop 1 [] ∷ Queue 1 2 (hall ∷ []) ∷ Grant 1 (hall ∷ []) ∷ Start 1 (hall ∷ []) ∷ Stop 1 (hall ∷ []) ∷ [])
 unfolding step enabled drive
 oldest_takes_least = refl
 
-newest_takes_greatest : drive trips 1 1 newest 12 tt (start_state begin two_down)
+newest_takes_greatest : drive trips 1 1 newest 12 0 (start_state begin two_down)
     ≡ at_zero (Admit 1 ∷ Admit 2 ∷ Queue 2 1 [] ∷ Queue 1 1 [] ∷ Grant 1 [] ∷ Start 1 [] ∷ Stop 1 [] ∷ Free 1 3 [] ∷ Grant 2 [] ∷ Start 2 [] ∷ Stop 2 [] ∷ Free 2 3 [] ∷ [])
 unfolding step enabled drive
 newest_takes_greatest = refl
