@@ -169,6 +169,8 @@ module _ {A F R J : Type 0} (kind : Kind A F R J) (owes : Owes kind) (b : Begin 
     as_alone labels h index event e = record {
       job = r.job;
       job_is = job_is;
+      alone = after_segments kind.system (stops (suc b.before + index) labels) x₀;
+      alone_is = refl;
       actor = λ off. (ap (λ (u : Event A). u.actor) (same t event e) ∙ (c t event e).actor (not_out off) ∙ ap (λ (u : View A F R). u.actor ((k.ghost).lines.pos t)) view_is ∙ ap (λ n. Some (after_segments kind.system n (x₀)).actor) pos_is);
       out = λ v hd i z. (let hs = x.hands v hd i in (
         some_same _ _ (hs.actor ∙ ap (λ u. course.actor u ((k.ghost).lines.pos u)) z ∙ ap (λ (u : View A F R). u.actor ((k.ghost).lines.pos t)) view_is ∙ ap (λ n. Some (after_segments kind.system n (x₀)).actor) pos_is),

@@ -402,7 +402,7 @@ module _ {A F R J : Type 0} (kind : Kind A F R J) (owes : Owes kind) (b : Begin 
       ]
         where
           by : (t : ℕ) × (p : Path) × (l.act ≡ Stop t p) → trail_by tr l.act l.host (s'.columns (path_of l.act)) ≡ tr
-          by a = (let own : IsOwner s a.1 l.host = subst (λ u. OwnerTakes kind s s' u l.host) a.2 takes in
+          by a = (let own : IsOwner s a.1 l.host = (subst (λ u. OwnerTakes kind s s' u l.host) a.2 takes).0 in
               let at : l.host ≡ owner ((g).trail (path_of l.act)) = Told.owner_is kind owes b batches begins jobs s k a.1 l.host own ∙ ap (λ u. owner ((g).trail (path_of u))) (sym a.2) in
               let some : is_some ((s'.columns (path_of l.act)).store l.host) ≡ true = ap (λ i. is_some ((s'.columns (path_of l.act)).store i)) (at ∙ ap owner (sym same)) ∙ (column_now (path_of l.act) bo).track.stored_is (ap (λ (u : Trail). u.stored) same ∙ f.stored) in
               subst (λ u. trail_by tr u l.host (s'.columns (path_of l.act)) ≡ tr) (sym a.2) (store_some (s'.columns (path_of l.act)) l.host tr a.0 a.1 some))
@@ -493,7 +493,7 @@ module _ {A F R J : Type 0} (kind : Kind A F R J) (owes : Owes kind) (b : Begin 
               latest a c l n = grind arith
 
           by : (t : ℕ) × (p : Path) × (l.act ≡ Stop t p) → trail_by (list_at (path_of l.act)) l.act l.host (s'.columns (path_of l.act)) ≡ list_at (path_of l.act) ++ to ∷ []
-          by a = (let own : IsOwner s a.1 l.host = subst (λ u. OwnerTakes kind s s' u l.host) a.2 takes in
+          by a = (let own : IsOwner s a.1 l.host = (subst (λ u. OwnerTakes kind s s' u l.host) a.2 takes).0 in
               let at : l.host ≡ owner ((g).trail (path_of l.act)) = Told.owner_is kind owes b batches begins jobs s k a.1 l.host own ∙ ap (λ u. owner ((g).trail (path_of u))) (sym a.2) in
               let m = marked l.host at in
               ap (λ u. trail_by (list_at (path_of l.act)) u l.host (s'.columns (path_of l.act))) a.2 ∙ store_none (s'.columns (path_of l.act)) l.host (list_at (path_of l.act)) a.0 a.1 m.0 (no_store l.host) m.1 ∙ ap (λ i. list_at (path_of l.act) ++ i ∷ []) m.2)
@@ -645,9 +645,8 @@ module _ {A F R J : Type 0} (kind : Kind A F R J) (owes : Owes kind) (b : Begin 
         granted_first = λ p. firsts_are p _ _ (h.came p);
         served = λ p en q. ap (λ (u : Entry F). u.served) (Told.entry_same kind owes b batches begins jobs s k p en q) ∙ (k.shows.entries p).served ∙ (h.came p).many;
         sent_first = λ p. firsts_are p _ _ (h.sent p);
-        given = λ p st host en r se be.
-            let f = found kind.system w course b.before Is_real k.ghost p (s.columns p) host en (k.shows.columns p) se in
-            let same : r ≡ (k.ghost).body p = (k.shows.entries p).body r (ap (λ (u : Entry F). u.body) (sym f.entry_is) ∙ be) in
+        given = λ p st en r se be.
+            let same : r ≡ (k.ghost).body p = (k.shows.entries p).body r (ap (λ (u : Entry F). u.body) (sym (Told.entry_same kind owes b batches begins jobs s k p en se)) ∙ be) in
             ap (λ (u : Record F). Shows.given_of u st) same ∙ (k.shows.entries p).given st ∙ (h.sent (p ++ st ∷ [])).many ∙ ap (λ i. (if i then b.before else 0) + length (senders_from kind.system workers (p ++ st ∷ []) (Some (start_state b batches)) ls)) (not_root p st) ∙ none_before (length (senders_from kind.system workers (p ++ st ∷ []) (Some (start_state b batches)) ls));
         at_root = same _ _ _ _ _ (h.sent []).many h.root k.shows.admitted;
       })

@@ -329,7 +329,7 @@ module _ {A F R J : Type 0} (kind : Kind A F R J) (owes : Owes kind) (b : Begin 
             (subst (λ (u : Event A). Shows.Once u.held) (sym (Stopping.same kind.system w law course b.before Is_real courses s k.ghost x g v h i z.0 q)) (Stopping.c kind.system w law course b.before Is_real courses s k.ghost x g v h i z.0 q).once)
             (Stopping.held_is kind.system w law course b.before Is_real courses s k.ghost x g v h i z.0 q g.path ∙ Stopping.held_p kind.system w law course b.before Is_real courses s k.ghost x g v h i z.0 q))))
           where
-            by : (z : Part A F R) (q : Opened.Stopping kind.system g.ticket g.path h g (part_of kind.system s g.ticket g.path) z) → Outcome (part_of kind.system s g.ticket g.path) q.event q.entry h z → Leaves (Stop g.ticket g.path) (record { part = z; hand = None })
+            by : (z : Part A F R) (q : Opened.Stopping kind.system g.ticket g.path h g (part_of kind.system s g.ticket g.path) z) → Outcome g.path (part_of kind.system s g.ticket g.path) q.event q.entry h z → Leaves (Stop g.ticket g.path) (record { part = z; hand = None })
             by z q o = record {
               mails = λ c j m u r d. elim (o.mails j m r) [ inl a ↦ inl a | inr a ↦ inr (subst OnceIn (sym (a u d)) (c g.path q.entry (inl (h, q.entry_is)))) ];
               store = λ c j u r. elim (o.store j u r) [ inl a ↦ inl a | inr a ↦ inr (subst OnceIn (sym a) (c g.path q.entry (inl (h, q.entry_is)))) ];

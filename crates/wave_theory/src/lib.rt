@@ -6,6 +6,7 @@ mod counter;
 mod given;
 mod laws;
 mod movers;
+mod shown;
 
 pub use acting::Acting;
 pub use counter::{Counter, at_movers_and_walkers, at_the_counter};
@@ -19,3 +20,4 @@ pub use laws::{
     rules_pick, sorted, tickets, traced, trails,
 };
 pub use movers::{Movers, Walkers};
+pub use shown::{given_at_movers, given_at_the_counter, given_at_walkers, moves_end};
