@@ -97,13 +97,13 @@ module _ {A F R J : Type 0} (kind : Kind A F R J) (owes : Owes kind) (b : Begin 
       ap (λ m. m ∷ ls) z ∙ ap (λ ms. k ∷ ms) (only (rule x s (list s)).0 e.1 ls ks (subst (λ u. Drives (rule x s (list s)).0 u ls) y d.3) e.3)
 
   -- and it is what is picked
-  picked_none : (more : ℕ → State A F R J → List Label) (s : State A F R J) (p : ℕ × Option Label) → p.1 ≡ None → picked kind.system workers kind.hosts rule more s p ≡ []
+  picked_none : (more : ℕ → State A F R J → List Label) (s : State A F R J) (p : ℕ × Option Label) → p.1 ≡ None → picked kind.system workers more s p ≡ []
   picked_none more s (x, None) e = refl
   picked_none more s (x, Some l) e = absurd (none_not (sym e))
 
-  picked_some : (more : ℕ → State A F R J → List Label) (s v : State A F R J) (p : ℕ × Option Label) (l : Label) → p.1 ≡ Some l → step kind.system workers s l ≡ Some v → picked kind.system workers kind.hosts rule more s p ≡ l ∷ more p.0 v
+  picked_some : (more : ℕ → State A F R J → List Label) (s v : State A F R J) (p : ℕ × Option Label) (l : Label) → p.1 ≡ Some l → step kind.system workers s l ≡ Some v → picked kind.system workers more s p ≡ l ∷ more p.0 v
   picked_some more s v (x, None) l e f = absurd (none_not e)
-  picked_some more s v (x, Some m) l e f = (let z : m ≡ l = some_same m l e in ap (keep_on kind.system workers kind.hosts rule more x m) (ap (step kind.system workers s) z ∙ f) ∙ ap (λ k. k ∷ more x v) z)
+  picked_some more s v (x, Some m) l e f = (let z : m ≡ l = some_same m l e in ap (keep_on kind.system workers more x m) (ap (step kind.system workers s) z ∙ f) ∙ ap (λ k. k ∷ more x v) z)
 
   computed : (x : ℕ) (s : State A F R J) (ls : List Label) → Drives x s ls → (i : ℕ) → length ls ≤ i → drive kind.system workers kind.hosts rule i x s ≡ ls
   unfolding IsDrive drive
