@@ -14,6 +14,7 @@ pub mod Deeds
 pub mod Desks
 pub mod Driving
 pub mod Ending
+pub mod Generations
 pub mod Few
 pub mod Folds
 pub mod Forms

@@ -7,6 +7,7 @@ pub mod Counted
 pub mod Drives
 pub mod Ends
 pub mod Finals
+pub mod Generations
 pub mod Hands
 pub mod Holding
 pub mod Independent
