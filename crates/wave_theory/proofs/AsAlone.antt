@@ -1,10 +1,9 @@
 -- Each event is as it is alone, and who holds a context.
-use Rattle.std.proofs.Common.{◌≡◌, ◌≢◌, ℕ, suc, ◌+◌, ◌<◌, ◌≤◌, ◌⊎◌, ◌==◌, ◌&&◌, ◌||◌, not, inl, inr, nat_eq, Bool, true, false, Option, Some, None, is_some, List, [], ◌∷◌, refl, sym, ◌∙◌, ap, ap₂, subst, arith}
+use Rattle.std.proofs.Common.{◌≡◌, ℕ, suc, ◌+◌, ◌<◌, ◌≤◌, ◌⊎◌, ◌&&◌, ◌||◌, not, inl, inr, nat_eq, Bool, true, false, Some, is_some, List, [], ◌∷◌, refl, sym, ◌∙◌, ap, ap₂, subst, arith}
 use Rattle.std.specs.Prelude.{All}
-use Rattle.std.specs.List.{list_any, AllByRecursion}
+use Rattle.std.specs.List.{AllByRecursion}
 use Rattle.wave_base.specs.declared.path.Path.{Path}
 use Rattle.wave_base.specs.Paths.{path_eq}
-use Rattle.wave_states.specs.Actors.{Actors}
 use Rattle.wave_states.specs.States.{State, Cell, Claim, Entry, Event, Hand, Hold, Mail, Record, Status, Waiting, Running, Letter, Enter, Release, Transfer, hold_at}
 use Rattle.wave_states.specs.States
 use Rattle.wave_states.specs.Alone.{Alone, has, after_segments, job_after}
@@ -16,7 +15,6 @@ use Rattle.wave_theory.proofs.Order.{Way, IsWay, Stage, Entering, Lined, Coming,
 use Rattle.wave_theory.proofs.Leaves.{Course}
 use Rattle.wave_theory.proofs.Tracks.{owner}
 use Rattle.wave_theory.proofs.Frames.{option_some, holds_of, not_is}
-use Rattle.wave_theory.proofs.Alive
 use Rattle.wave_theory.proofs.Plans
 use Rattle.wave_theory.proofs.Courses.{View, view, view_real}
 use Rattle.wave_theory.proofs.Courses
@@ -26,9 +24,8 @@ use Rattle.wave_theory.proofs.Halts
 use Rattle.wave_theory.proofs.InHand.{running_is}
 use Rattle.wave_theory.proofs.Reached.{Good_state}
 use Rattle.wave_theory.proofs.Reached
-use Rattle.wave_theory.specs.Numbers.{HasEntry}
 use Rattle.wave_theory.specs.Listed.{IsIn}
-use Rattle.wave_theory.specs.Holding.{stops, IsEntering, WaitsFor, IsParting, IsHeld, IsAsAlone, Holders, alone_after}
+use Rattle.wave_theory.specs.Holding.{stops, WaitsFor, IsParting, IsHeld, IsAsAlone, Holders}
 use Rattle.wave_states.specs.Labels.{Label}
 
 -- a claim that is among these

@@ -98,10 +98,12 @@ module _ {A F R J : Type 0} (kind : Kind A F R J) (owes : Owes kind) (b : Begin 
 
     -- who owns the context before and after a Stop
     stop_takes : (s' : State A F R J) (v h : ℕ) (hd : Hand A F) → s.hands v ≡ Some hd → (y : Bench A F R) → with_hand kind.system None (stop kind.system hd.path h hd (part_of kind.system s hd.ticket hd.path)) ≡ Some y → s' ≡ with_bench kind.system s hd.ticket hd.path v y → OwnerTakes kind s s' (Stop hd.ticket hd.path) h
-    stop_takes s' v h hd i y e f = (let z = calm_is _ y e in let q = stopping kind.system hd.ticket hd.path h hd (part_of kind.system s hd.ticket hd.path) z.0 z.1 in
-        (inl (ap is_some q.entry_is), by z.0 z.2 (outcome kind.system hd.ticket hd.path h hd (part_of kind.system s hd.ticket hd.path) z.0 q
-        (subst (λ (u : Event A). Shows.Once u.held) (sym (Stopping.same kind.system w law course b.before Is_real courses s k.ghost x hd v h i z.0 q)) (Stopping.c kind.system w law course b.before Is_real courses s k.ghost x hd v h i z.0 q).once)
-        (Stopping.held_is kind.system w law course b.before Is_real courses s k.ghost x hd v h i z.0 q hd.path ∙ Stopping.held_p kind.system w law course b.before Is_real courses s k.ghost x hd v h i z.0 q)).owner))
+    stop_takes s' v h hd i y e f = (let z = calm_is _ y e in let q = stopping kind.system hd.ticket hd.path h hd (part_of kind.system s hd.ticket hd.path) z.0 z.1 in (
+      inl (ap is_some q.entry_is),
+      by z.0 z.2 (outcome kind.system hd.ticket hd.path h hd (part_of kind.system s hd.ticket hd.path) z.0 q
+          (subst (λ (u : Event A). Shows.Once u.held) (sym (Stopping.same kind.system w law course b.before Is_real courses s k.ghost x hd v h i z.0 q)) (Stopping.c kind.system w law course b.before Is_real courses s k.ghost x hd v h i z.0 q).once)
+          (Stopping.held_is kind.system w law course b.before Is_real courses s k.ghost x hd v h i z.0 q hd.path ∙ Stopping.held_p kind.system w law course b.before Is_real courses s k.ghost x hd v h i z.0 q)).owner,
+    ))
       where
         by : (z : Part A F R) → y ≡ record { part = z; hand = None } → (is_some (z.column.store h) ≡ true) ⊎ ((to number : ℕ) × (u : Entry F) × (z.cell.mails number ≡ Some (record { host = to; path = hd.path; letter = Transfer u })) × (to ≢ h)) → IsOwner s' hd.path h ⊎ SendsOff s' hd.ticket hd.path h
         by z d (inl o) = inl (owner_now s' hd.ticket hd.path v h y f (ap (λ (u : Bench A F R). is_some (u.part.column.store h)) d ∙ o))

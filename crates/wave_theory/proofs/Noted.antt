@@ -39,7 +39,6 @@ use Rattle.wave_theory.proofs.Reached.{Good_state, Next}
 use Rattle.wave_theory.proofs.Reached
 use Rattle.wave_theory.proofs.Along
 use Rattle.std.proofs.lemmas.Bool.Decides.{nat_tests}
-use Rattle.wave_theory.proofs.Found.{found}
 use Rattle.wave_theory.proofs.Settled
 use Rattle.wave_theory.proofs.Sites
 use Rattle.wave_theory.specs.Came.{AreFirst, Came, granted, granted_by, is_enter_to, sent_by, sender_by, senders_from}

@@ -1,15 +1,14 @@
 -- What a label leaves of the entries, and what a Stop leaves of its event: how many mails were sent, and how much it holds.
-use Rattle.std.proofs.Common.{◌≡◌, ◌≢◌, ℕ, zero, suc, ◌+◌, ◌<◌, ◌≤◌, ◌⊎◌, ◌==◌, ◌&&◌, ◌||◌, not, inl, inr, nat_eq, Bool, true, false, Option, Some, None, is_some, List, [], ◌∷◌, ◌++◌, length, refl, sym, ◌∙◌, ap, ap₂, subst, arith}
-use Rattle.std.specs.Prelude.{if◌then◌else◌, cond, option_and_then}
-use Rattle.std.specs.List.{filter}
+use Rattle.std.proofs.Common.{◌≡◌, ◌≢◌, ℕ, suc, ◌+◌, ◌≤◌, ◌⊎◌, ◌==◌, inl, inr, nat_eq, Bool, true, false, Option, Some, None, is_some, List, [], ◌∷◌, ◌++◌, length, refl, sym, ◌∙◌, ap, ap₂, subst, arith}
+use Rattle.std.specs.Prelude.{if◌then◌else◌, cond}
 use Rattle.wave_base.specs.declared.path.Step.{Step}
 use Rattle.wave_base.specs.declared.path.Path.{Path}
 use Rattle.wave_base.specs.declared.children.Child.{Child}
 use Rattle.wave_base.specs.Paths.{path_eq, is_above, parent_of}
-use Rattle.wave_states.specs.Actors.{Actors, Left, Pause, Go, Down, Over}
-use Rattle.wave_states.specs.States.{State, Cell, Column, Claim, Entry, Event, Hand, Hold, Record, Letter, Enter, Visit, Release, Transfer, Mail, Ask, Travelling, Ended, Status, set, hold_at, holds_as_peek}
-use Rattle.wave_states.specs.Steps.{Part, Desk, send, release, give_up, keep_below, into_child, ended, kept_of, left_of, nothing_kept, not_at, with_held, with_status, with_body, with_entry, put_back, over_here, over_there, over_by, paused, stopped, looked, desk_back, child_or_new, host_or, departed, moved_on, cell_of, segment_of, part_of}
-use Rattle.wave_theory.proofs.Basics.{clash, some_same, none_not, bool_cases, number_cases, path_cases, set_at, set_there, path_is, not_same}
+use Rattle.wave_states.specs.Actors.{Actors, Pause, Go, Down, Over}
+use Rattle.wave_states.specs.States.{Claim, Entry, Event, Hand, Hold, Letter, Enter, Visit, Release, Transfer, Mail, Ask, Travelling, Ended, set, hold_at, holds_as_peek}
+use Rattle.wave_states.specs.Steps.{Part, Desk, send, release, give_up, keep_below, into_child, ended, kept_of, left_of, nothing_kept, not_at, with_held, with_status, with_body, with_entry, put_back, over_here, over_there, over_by, paused, stopped, looked, desk_back, host_or, moved_on, segment_of}
+use Rattle.wave_theory.proofs.Basics.{clash, some_same, none_not, bool_cases, number_cases, set_at, set_there, path_is, not_same}
 use Rattle.wave_theory.proofs.Opened.{Stopping}
 use Rattle.wave_theory.proofs.Held.{hold_cons, none_some}
 use Rattle.wave_theory.proofs.Desks.{keep_release}

@@ -1,14 +1,13 @@
 -- A label reads its ticket's cell, its context's column and its worker's hand alone, and changes nothing else.
-use Rattle.std.proofs.Common.{◌≡◌, ◌≢◌, ℕ, suc, ◌+◌, ◌==◌, ◌&&◌, nat_eq, nat_lt, inl, inr, Bool, true, false, Option, Some, None, refl, sym, ◌∙◌, ap, ap₂, subst}
+use Rattle.std.proofs.Common.{◌≡◌, ℕ, suc, ◌+◌, ◌==◌, ◌&&◌, nat_eq, nat_lt, inl, inr, Bool, true, false, Option, Some, None, refl, sym, ◌∙◌, ap, ap₂, subst}
 use Rattle.std.specs.Prelude.{if◌then◌else◌, is_none, option_map, option_and_then, slice_get}
-use Rattle.wave_base.specs.declared.path.Path.{Path}
 use Rattle.wave_base.specs.Paths.{path_eq}
 use Rattle.wave_base.specs.Fold.{Head}
 use Rattle.wave_states.specs.Actors.{Actors}
-use Rattle.wave_states.specs.States.{State, Cell, Column, Hand, set}
+use Rattle.wave_states.specs.States.{State, Cell, Column, Hand}
 use Rattle.wave_states.specs.Labels.{Act, Label, Admit, Commit, Queue, Grant, Start, Stop, Free, Pass, Land, ticket_of, path_of, is_local}
 use Rattle.wave_states.specs.Labels
-use Rattle.wave_states.specs.Steps.{Part, Bench, step, step_by, act_bench, part_of, with_bench, admit, admitted, commit, committed, only_if, next_ticket, new_cell}
+use Rattle.wave_states.specs.Steps.{Part, Bench, step, act_bench, part_of, with_bench, admit, admitted, commit, committed, only_if, next_ticket}
 use Rattle.wave_theory.proofs.Basics.{clash, none_not, some_same, bool_cases, options, then_some, map_some, only_some, if_some, set_at, set_at_path, set_there, differ, path_cases, number_cases}
 use Rattle.wave_theory.proofs.Commute.{local_step}
 use Rattle.wave_theory.specs.Reads.{SameFor, SameElse, Reads, Changes}

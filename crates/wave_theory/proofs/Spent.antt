@@ -1,7 +1,6 @@
 -- No ticket holds a context twice; and how many mails each event sent, by what it holds and the segments that are over.
-use Rattle.std.proofs.Common.{◌≡◌, ◌≢◌, ℕ, zero, suc, ◌+◌, ◌<◌, ◌≤◌, ◌⊎◌, ◌==◌, ◌&&◌, ◌||◌, not, inl, inr, nat_eq, nat_lt, Bool, true, false, Option, Some, None, is_some, List, [], ◌∷◌, ◌++◌, length, refl, sym, ◌∙◌, ap, ap₂, subst, arith}
+use Rattle.std.proofs.Common.{◌≡◌, ◌≢◌, ℕ, suc, ◌+◌, ◌<◌, ◌≤◌, ◌⊎◌, ◌==◌, ◌&&◌, ◌||◌, not, inl, inr, nat_eq, nat_lt, Bool, true, false, Option, Some, None, is_some, List, [], ◌∷◌, ◌++◌, length, refl, sym, ◌∙◌, ap, ap₂, subst, arith}
 use Rattle.std.specs.Prelude.{if◌then◌else◌, cond, All, slice_get}
-use Rattle.std.specs.List.{filter}
 use Rattle.std.specs.BTreeMap.{insert_entry}
 use Rattle.std.specs.Ordering.{match_ordering}
 use Rattle.std.specs.declared.cmp.Ordering.TheVariants.{Less, Equal, Greater}
@@ -9,8 +8,7 @@ use Rattle.wave_base.specs.declared.path.Path.{Path}
 use Rattle.wave_base.specs.Paths.{path_eq, path_cmp}
 use Rattle.std.proofs.Common.{is_eq}
 use Rattle.wave_base.specs.PathLaws.{path_eq_ties}
-use Rattle.wave_states.specs.Actors.{Actors}
-use Rattle.wave_states.specs.States.{State, Cell, Column, Claim, Entry, Event, Hand, Hold, Record, Letter, Enter, Release, Transfer, Mail, Ask, Travelling, Ended, Status, set, hold_at}
+use Rattle.wave_states.specs.States.{State, Cell, Column, Claim, Entry, Event, Hand, Hold, Letter, Enter, Transfer, Mail, Ask, Travelling, Ended, set, hold_at}
 use Rattle.wave_states.specs.Labels.{Act, Label, Admit, Queue, Grant, Start, Stop, Free, Pass, Land, Commit, ticket_of, path_of, is_local}
 use Rattle.wave_states.specs.Labels
 use Rattle.wave_states.specs.Steps.{Part, Bench, Route, Deliver, Born, Wait, Forward, step, step_by, act_bench, with_hand, stop, with_bench, part_of, others, with_entry, entry_for, new_entry, route, only_if, next_ticket, admitted, committed}
@@ -23,7 +21,6 @@ use Rattle.wave_theory.proofs.Basics.{clash, some_same, none_not, some_not, bool
 use Rattle.wave_theory.proofs.Commute.{local_step}
 use Rattle.wave_theory.proofs.Order.{Way, IsWay, Stage, Entering, Lined, Coming, There, Done, is_pending, here}
 use Rattle.wave_theory.proofs.Leaves.{Course, IsCourse}
-use Rattle.wave_theory.proofs.Frames.{option_some}
 use Rattle.wave_theory.proofs.Found.{found}
 use Rattle.wave_theory.proofs.Opened.{queues, grants, starts, frees, passes, lands, stopping, LetterIs}
 use Rattle.wave_theory.proofs.Opened
@@ -40,7 +37,6 @@ use Rattle.wave_theory.proofs.Plans.{first_of, last_of, counts}
 use Rattle.wave_theory.proofs.Courses.{View, view, view_real}
 use Rattle.wave_theory.proofs.Courses
 use Rattle.wave_theory.proofs.Shows
-use Rattle.wave_theory.proofs.Told
 use Rattle.wave_theory.proofs.Reached.{Good_state}
 use Rattle.wave_theory.proofs.Reached
 use Rattle.wave_theory.proofs.Along
@@ -524,8 +520,11 @@ module _ {A F R J : Type 0} (kind : Kind A F R J) (owes : Owes kind) (b : Begin 
       pos_is t = ap (λ (u : Outline). u.pos t) (n.turn).is
 
       status_of : (t : ℕ) → b.before < t → t ≤ (g').lines.admitted → (u : Event A) → (s'.cells t).event ≡ Some u → (v : Stage) → (o').stage t ≡ v → (q : Bool) × (r : Path) × Shows.StatusShows u.status v q r
-      status_of t lt la u i v z = (let c = (n.good).shows.cells t lt la in ((g').out t, here w (g').lines t,
-          subst (λ j. Shows.StatusShows u.status j ((g').out t) (here w (g').lines t)) (stage_is t ∙ z) (subst (λ (d : Event A). Shows.StatusShows d.status ((g').lines.stage t) ((g').out t) (here w (g').lines t)) (some_same _ u (sym c.event_is ∙ i)) c.status)))
+      status_of t lt la u i v z = (let c = (n.good).shows.cells t lt la in (
+        (g').out t,
+        here w (g').lines t,
+        subst (λ j. Shows.StatusShows u.status j ((g').out t) (here w (g').lines t)) (stage_is t ∙ z) (subst (λ (d : Event A). Shows.StatusShows d.status ((g').lines.stage t) ((g').out t) (here w (g').lines t)) (some_same _ u (sym c.event_is ∙ i)) c.status),
+      ))
 
       pub kept_next : Kept s' g'
       kept_next = record {
