@@ -51,7 +51,7 @@ let_in_first t number p s = do
   e ← (s.cells t).event
   en ← (s.columns p).store 0
   c ← en.waiting number
-  Some (with_bench trips s t p 0 (record { part = granted p 0 (part_of trips s t p) e en c; hand = None }))
+  Some (with_bench s t p 0 (record { part = granted p 0 (part_of s t p) e en c; hand = None }))
 
 abbrev by_arrival : Option S
 by_arrival = then_run (option_and_then (let_in_first 2 2 (hall ∷ [])) (run trips 1 (start_state begin both_down) (through_root ++ at_zero (Queue 2 2 (hall ∷ []) ∷ [])))) (at_zero (Start 2 (hall ∷ []) ∷ Stop 2 (hall ∷ []) ∷ []))
@@ -220,8 +220,8 @@ go_and_keep s = do
   g ← s.hands 0
   e ← (s.cells 1).event
   en ← (s.columns []).store 0
-  Some (with_bench trips s 1 [] 0 (record {
-    part = put_back (part_of trips s 1 []) 0 (into_child [] 0 (desk_back (s.cells 1) e (segment_of trips g).actor) en (segment_of trips g).fields g.body.children hall false None);
+  Some (with_bench s 1 [] 0 (record {
+    part = put_back (part_of s 1 []) 0 (into_child [] 0 (desk_back (s.cells 1) e (segment_of trips g).actor) en (segment_of trips g).fields g.body.children hall false None);
     hand = None;
   }))
 
@@ -280,7 +280,7 @@ over_and_ended = refl
 
 -- The highest idle worker takes all but the Stops: then a label is in the list whose lower worker has no segment out.
 abbrev idle_backwards : S → List Label
-idle_backwards s = taken_by trips 2 1 s (idle_in s.hands (reverse (below 2))) (early trips s 1)
+idle_backwards s = taken_by trips 2 s (idle_in s.hands (reverse (below 2))) (early s 1)
 
 by_the_highest : idle_backwards (start_state begin stays_here) ≡ record { worker = 1; host = 0; act = Admit 1 } ∷ []
 unfolding step
@@ -326,7 +326,7 @@ over_backwards s = do
   g ← s.hands 0
   e ← (s.cells 1).event
   en ← (s.columns []).store 0
-  Some (with_bench (walkers (λ p. 0)) s 1 [] 0 (record {
+  Some (with_bench s 1 [] 0 (record {
     part = record {
       cell = cell_of (release (reverse e.held) (record { event = with_held (with_status e Ended) []; mails = (s.cells 1).mails })) (Some g.actor.copied);
       column = with_entry (s.columns []) 0 (Some (with_body en (Some g.body)));

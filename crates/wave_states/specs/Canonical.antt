@@ -48,61 +48,63 @@ abbrev pub runs_it : {A F : Type 0} → Option (Hand A F) → ℕ → Path → B
 runs_it None t p = false
 runs_it (Some g) t p = (g.ticket == t) && path_eq g.path p
 
-module _ {A F R J : Type 0} (s : State A F R J) (hosts : ℕ) where
+-- what a mail may be taken by
+abbrev pub mail_act : {F : Type 0} → (ℕ → ℕ → Path → Act) → ℕ → ℕ → Mail F → List Choice
+mail_act f t k m = record { host = m.host; act = f t k m.path } ∷ []
+
+module _ {A F R J : Type 0} (s : State A F R J) where
   -- the tickets admitted in this run
   abbrev pub tickets : List ℕ
   tickets = tickets_from (suc s.before) s.admitted
-
-  -- where a context is
-  abbrev pub place : Path → Option ℕ
-  place p = host_in (s.columns p) (below hosts)
 
   -- by ticket, what its status asks for
   abbrev pub by_status : (ℕ → Status → List Choice) → List Choice
   by_status f = flat_map (λ t. by_event (s.cells t).event (λ e. f t e.status)) tickets
 
-  abbrev pub grants_of : ℕ → Status → List Choice
-  grants_of t (Waiting p) = at_host (place p) (Grant t p)
-  grants_of t _ = []
-
-  abbrev pub starts_of : ℕ → Status → List Choice
-  starts_of t (Ready p) = at_host (place p) (Start t p)
-  starts_of t _ = []
-
-  abbrev pub stops_of : ℕ → Status → List Choice
-  stops_of t (Running p) = at_host (place p) (Stop t p)
-  stops_of t _ = []
-
-  -- by ticket and then by number, the mails
+  -- by ticket and then by number, what the mails ask for
   abbrev pub by_mails : (ℕ → ℕ → Mail F → List Choice) → List Choice
   by_mails f = flat_map (λ t. by_event (s.cells t).event (λ e. flat_map (λ k. by_mail ((s.cells t).mails k) (f t k)) (tickets_from 1 e.sent))) tickets
 
-  abbrev pub mail_act : (ℕ → ℕ → Path → Act) → ℕ → ℕ → Mail F → List Choice
-  mail_act f t k m = record { host = m.host; act = f t k m.path } ∷ []
-
+  -- a Pass goes to the host of the mark
   abbrev pub passes_of : ℕ → ℕ → Mail F → List Choice
   passes_of t k m = to_mark ((s.columns m.path).gone m.host) (λ g. Pass t k m.path g) m.host
 
-  abbrev pub stops : List Choice
-  stops = by_status stops_of
+  module _ (hosts : ℕ) where
+    -- where a context is
+    abbrev pub place : Path → Option ℕ
+    place p = host_in (s.columns p) (below hosts)
 
-module _ {A F R J : Type 0} (sys : Actors A F R J) (s : State A F R J) (hosts : ℕ) where
-  -- what the next ticket, the states of events and the mails ask for: the kinds before the Stops, in their order
-  abbrev pub early : List Choice
-  early = record { host = 0; act = Admit (next_ticket sys s) } ∷
-      by_mails s hosts (mail_act s hosts (λ t k p. Queue t k p))
-      ++ by_status s hosts (grants_of s hosts)
-      ++ by_mails s hosts (mail_act s hosts (λ t k p. Visit t k p))
-      ++ by_status s hosts (starts_of s hosts)
+    abbrev pub grants_of : ℕ → Status → List Choice
+    grants_of t (Waiting p) = at_host (place p) (Grant t p)
+    grants_of t _ = []
+
+    abbrev pub starts_of : ℕ → Status → List Choice
+    starts_of t (Ready p) = at_host (place p) (Start t p)
+    starts_of t _ = []
+
+    abbrev pub stops_of : ℕ → Status → List Choice
+    stops_of t (Running p) = at_host (place p) (Stop t p)
+    stops_of t _ = []
+
+    -- all that is asked for: the kinds before the Stops, in their order
+    abbrev pub early : List Choice
+    early = record { host = 0; act = Admit (next_ticket s) } ∷
+        by_mails (mail_act (λ t k p. Queue t k p))
+        ++ by_status grants_of
+        ++ by_mails (mail_act (λ t k p. Visit t k p))
+        ++ by_status starts_of
+
+    abbrev pub stops : List Choice
+    stops = by_status stops_of
 
   -- and those behind them
   abbrev pub late : List Choice
-  late = by_mails s hosts (mail_act s hosts (λ t k p. Free t k p))
-      ++ by_mails s hosts (passes_of s hosts)
-      ++ by_mails s hosts (mail_act s hosts (λ t k p. Land t k p))
+  late = by_mails (mail_act (λ t k p. Free t k p))
+      ++ by_mails passes_of
+      ++ by_mails (mail_act (λ t k p. Land t k p))
       ++ record { host = 0; act = Commit (suc (s.before + s.head.done)) } ∷ []
 
-module _ {A F R J : Type 0} (sys : Actors A F R J) (workers hosts : ℕ) (s : State A F R J) where
+module _ {A F R J : Type 0} (sys : Actors A F R J) (workers : ℕ) (s : State A F R J) where
   -- of these, what a worker can take
   abbrev pub takes : ℕ → List Choice → List Label
   takes w cs = filter (λ l. is_some (step sys workers s l)) (map (taken_as w) cs)
@@ -115,12 +117,13 @@ module _ {A F R J : Type 0} (sys : Actors A F R J) (workers hosts : ℕ) (s : St
   abbrev pub stop_by : Choice → List Label
   stop_by c = filter (λ l. is_some (step sys workers s l)) (map (λ w. taken_as w c) (filter (λ w. runs_it (s.hands w) (ticket_of c.act) (path_of c.act)) (below workers)))
 
+module _ {A F R J : Type 0} (sys : Actors A F R J) (workers hosts : ℕ) (s : State A F R J) where
   -- The canonical list. All but the Stops are the lowest idle worker's; without an idle worker there are Stops alone.
   unfoldable pub enabled : List Label
-  enabled = taken_by (idle_in s.hands (below workers)) (early sys s hosts)
-      ++ flat_map stop_by (stops s hosts)
-      ++ taken_by (idle_in s.hands (below workers)) (late sys s hosts)
+  enabled = taken_by sys workers s (idle_in s.hands (below workers)) (early s hosts)
+      ++ flat_map (stop_by sys workers s) (stops s hosts)
+      ++ taken_by sys workers s (idle_in s.hands (below workers)) (late s)
 
   -- what one worker can take, in the same order
   unfoldable pub enabled_for : ℕ → List Label
-  enabled_for w = takes w (early sys s hosts ++ stops s hosts ++ late sys s hosts)
+  enabled_for w = takes sys workers s w (early s hosts ++ stops s hosts ++ late s)

@@ -75,8 +75,18 @@ movers is_move x s ls = (x, or_else (first_of (filter (λ l. job_is is_move (sli
 abbrev pub mail_last : {A F R J : Type 0} → Rule A F R J
 mail_last x s ls = (x, or_else (first_of (filter (λ l. not (takes_mail l.act)) ls)) (last_of ls))
 
+module _ {A F R J : Type 0} (sys : Actors A F R J) (workers : ℕ) where
+  abbrev pub keep_on : (ℕ → State A F R J → List Label) → ℕ → Label → Option (State A F R J) → List Label
+  keep_on more x l None = []
+  keep_on more x l (Some v) = l ∷ more x v
+
+  -- what is picked, and what more is picked after it
+  abbrev pub picked : (ℕ → State A F R J → List Label) → State A F R J → ℕ × Option Label → List Label
+  picked more s (x, None) = []
+  picked more s (x, Some l) = keep_on more x l (step sys workers s l)
+
 module _ {A F R J : Type 0} (sys : Actors A F R J) (workers hosts : ℕ) (rule : Rule A F R J) where
-  -- the labels that the rule picks, until the canonical list is empty
+  -- The drive of a rule: the labels that it picks, until the canonical list is empty.
   unfoldable pub IsDrive : ℕ → State A F R J → List Label → Type 0
   IsDrive x s [] = enabled sys workers hosts s ≡ []
   IsDrive x s (l ∷ ls) =
@@ -84,15 +94,7 @@ module _ {A F R J : Type 0} (sys : Actors A F R J) (workers hosts : ℕ) (rule :
       × (v : State A F R J) × (step sys workers s l ≡ Some v)
       × IsDrive (rule x s (enabled sys workers hosts s)).0 v ls
 
-  -- the first n of them
-  abbrev pub keep_on : (ℕ → State A F R J → List Label) → ℕ → Label → Option (State A F R J) → List Label
-  keep_on more x l None = []
-  keep_on more x l (Some v) = l ∷ more x v
-
-  abbrev pub picked : (ℕ → State A F R J → List Label) → State A F R J → ℕ × Option Label → List Label
-  picked more s (x, None) = []
-  picked more s (x, Some l) = keep_on more x l (step sys workers s l)
-
+  -- the first n of them, computed
   unfoldable pub drive : ℕ → ℕ → State A F R J → List Label
   drive zero x s = []
-  drive (suc n) x s = picked (λ y v. drive n y v) s (rule x s (enabled sys workers hosts s))
+  drive (suc n) x s = picked sys workers (λ y v. drive n y v) s (rule x s (enabled sys workers hosts s))

@@ -80,9 +80,9 @@ module _ {A F R J : Type 0} (kind : Kind A F R J) (owes : Owes kind) (b : Begin 
     g = k.ghost
 
     -- an act of one context that an idle worker can take
-    by_bench : (host : ℕ) (a : Act) → is_local a ≡ true → is_some (act_bench kind.system a host (part_of kind.system s (ticket_of a) (path_of a)) None) ≡ true → CanDo kind workers s host a
+    by_bench : (host : ℕ) (a : Act) → is_local a ≡ true → is_some (act_bench kind.system a host (part_of s (ticket_of a) (path_of a)) None) ≡ true → CanDo kind workers s host a
     by_bench host a l e v less idle = ap is_some (step_local kind.system workers s (record { worker = v; host = host; act = a }) l)
-        ∙ if_can (nat_lt v workers) _ (less_is v workers less) (map_can (λ y. with_bench kind.system s (ticket_of a) (path_of a) v y) _ (subst (λ o. is_some (act_bench kind.system a host (part_of kind.system s (ticket_of a) (path_of a)) o) ≡ true) (sym idle) e))
+        ∙ if_can (nat_lt v workers) _ (less_is v workers less) (map_can (λ y. with_bench s (ticket_of a) (path_of a) v y) _ (subst (λ o. is_some (act_bench kind.system a host (part_of s (ticket_of a) (path_of a)) o) ≡ true) (sym idle) e))
 
     mail_known : (t i : ℕ) (m : Mail F) → (s.cells t).mails i ≡ Some m → (b.before < t) × (t ≤ (g).lines.admitted)
     mail_known t i m e = Reached.known kind owes b batches begins jobs s k.ghost x t (λ q. none_not (sym (ap (λ (u : Cell A F R). u.mails i) q) ∙ e))
@@ -94,10 +94,10 @@ module _ {A F R J : Type 0} (kind : Kind A F R J) (owes : Owes kind) (b : Begin 
     letter t i m e = letter_there (s.cells t) i m e
 
     visiting : (t i : ℕ) (m : Mail F) → (s.cells t).mails i ≡ Some m → is_coming m.letter ≡ true → CanDo kind workers s m.host (Visit t i m.path)
-    visiting t i m e c = (let n = event_of t (mail_known t i m e) in by_bench m.host (Visit t i m.path) refl (map_can _ _ (visit_can (part_of kind.system s t m.path) i m.path m.host n.0 m.letter n.1 (letter t i m e) c)))
+    visiting t i m e c = (let n = event_of t (mail_known t i m e) in by_bench m.host (Visit t i m.path) refl (map_can _ _ (visit_can (part_of s t m.path) i m.path m.host n.0 m.letter n.1 (letter t i m e) c)))
 
     queueing : (t i : ℕ) (m : Mail F) (a : Ask) → (s.cells t).mails i ≡ Some m → m.letter ≡ Enter a → (en : Entry F) → entry_for kind.system m.path m.host (s.columns m.path) (route (s.columns m.path) m.host a.followed) ≡ Some en → CanDo kind workers s m.host (Queue t i m.path)
-    queueing t i m a e l en r = (let n = event_of t (mail_known t i m e) in by_bench m.host (Queue t i m.path) refl (map_can _ _ (queue_can kind.system (part_of kind.system s t m.path) t i m.path m.host n.0 m.letter a en n.1 (letter t i m e) (ap ask_in l) r)))
+    queueing t i m a e l en r = (let n = event_of t (mail_known t i m e) in by_bench m.host (Queue t i m.path) refl (map_can _ _ (queue_can kind.system (part_of s t m.path) t i m.path m.host n.0 m.letter a en n.1 (letter t i m e) (ap ask_in l) r)))
 
     delivered : (p : Path) (host f : ℕ) → route (s.columns p) host f ≡ Deliver → (en : Entry F) × ((s.columns p).store host ≡ Some en)
     delivered p host f e = elim (bool_cases (is_some ((s.columns p).store host))) [
@@ -106,7 +106,7 @@ module _ {A F R J : Type 0} (kind : Kind A F R J) (owes : Owes kind) (b : Begin 
     ]
 
     starting : (t : ℕ) (event : Event A) (p : Path) → (s.cells t).event ≡ Some event → event.status ≡ Ready p → (host : ℕ) × (is_some ((s.columns p).store host) ≡ true) × CanDo kind workers s host (Start t p)
-    starting t event p e r = (owner ((g).trail p), ap is_some entry_there, by_bench (owner ((g).trail p)) (Start t p) refl (start_can (part_of kind.system s t p) t p (owner ((g).trail p)) event ((g).entry p) (seg).actor (record_there).0 e entry_there actor_is (record_there).1 r))
+    starting t event p e r = (owner ((g).trail p), ap is_some entry_there, by_bench (owner ((g).trail p)) (Start t p) refl (start_can (part_of s t p) t p (owner ((g).trail p)) event ((g).entry p) (seg).actor (record_there).0 e entry_there actor_is (record_there).1 r))
       where
         n : (b.before < t) × (t ≤ (g).lines.admitted)
         n = Reached.known kind owes b batches begins jobs s k.ghost x t (λ q. none_not (sym (ap (λ (u : Cell A F R). u.event) q) ∙ e))
@@ -169,14 +169,14 @@ module _ {A F R J : Type 0} (kind : Kind A F R J) (owes : Owes kind) (b : Begin 
     pub doable : Doable kind workers b batches s
     doable = record {
       visits = λ t i m e l. elim l [ inl z ↦ visiting t i m e (ap is_coming z) | inr z ↦ visiting t i m e (ap is_coming z) ];
-      frees = λ t i m e l. (let y = Agreed.releases kind owes b batches begins jobs s k t i m e l in by_bench m.host (Free t i m.path) refl (map_can _ _ (free_can (part_of kind.system s t m.path) t i m.path m.host y.0 m.letter y.1 (letter t i m e) (ap is_release l))));
-      lands = λ t i m en e l. by_bench m.host (Land t i m.path) refl (map_can _ _ (land_can (part_of kind.system s t m.path) i m.path m.host m.letter en (letter t i m e) (ap entry_in l)));
+      frees = λ t i m e l. (let y = Agreed.releases kind owes b batches begins jobs s k t i m e l in by_bench m.host (Free t i m.path) refl (map_can _ _ (free_can (part_of s t m.path) t i m.path m.host y.0 m.letter y.1 (letter t i m e) (ap is_release l))));
+      lands = λ t i m en e l. by_bench m.host (Land t i m.path) refl (map_can _ _ (land_can (part_of s t m.path) i m.path m.host m.letter en (letter t i m e) (ap entry_in l)));
       queues = λ t i m a e l r. elim r [
         | inl z ↦ (let d = delivered m.path m.host a.followed z in queueing t i m a e l d.0 (ap (entry_for kind.system m.path m.host (s.columns m.path)) z ∙ d.1))
         | inr z ↦ queueing t i m a e l (new_entry kind.system m.path) (ap (entry_for kind.system m.path m.host (s.columns m.path)) z)
       ];
       passes = λ t i m a to e l z. (let d = option_some ((s.columns m.path).gone m.host) (forward_mark (s.columns m.path) m.host a.followed to z) in
-          by_bench m.host (Pass t i m.path to) refl (map_can _ _ (pass_can (part_of kind.system s t m.path) i m.path to m.host m.letter a d.0 (letter t i m e) (ap ask_in l) d.1 z)));
+          by_bench m.host (Pass t i m.path to) refl (map_can _ _ (pass_can (part_of s t m.path) i m.path to m.host m.letter a d.0 (letter t i m e) (ap ask_in l) d.1 z)));
       starts = starting;
       grants = granting;
     }

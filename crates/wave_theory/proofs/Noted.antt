@@ -241,9 +241,9 @@ module _ {A F R J : Type 0} (kind : Kind A F R J) (owes : Owes kind) (b : Begin 
       pass_keeps : (t j : ℕ) (p : Path) (to : ℕ) → step_by kind.system s l.worker l.host (Pass t j p to) ≡ Some s' → (i : ℕ) (y : Mail F) → sent_by (s.cells t).event < i → (s'.cells t).mails i ≡ Some y → (s.cells t).mails i ≡ Some y
       pass_keeps t j p to q i y m z = (let u = map_some _ _ s' q in by (s.hands l.worker) u.0 u.1 u.2)
         where
-          by : (hd : Option (Hand A F)) (u : Bench A F R) → act_bench kind.system (Pass t j p to) l.host (part_of kind.system s t p) hd ≡ Some u → s' ≡ with_bench kind.system s t p l.worker u → (s.cells t).mails i ≡ Some y
+          by : (hd : Option (Hand A F)) (u : Bench A F R) → act_bench kind.system (Pass t j p to) l.host (part_of s t p) hd ≡ Some u → s' ≡ with_bench s t p l.worker u → (s.cells t).mails i ≡ Some y
           by (Some hd) u q d = absurd (none_not q)
-          by None u q d = (let c = map_some (λ (x : Part A F R). record { part = x; hand = None }) _ u q in let f = passes j to p l.host (part_of kind.system s t p) c.0 c.1 in
+          by None u q d = (let c = map_some (λ (x : Part A F R). record { part = x; hand = None }) _ u q in let f = passes j to p l.host (part_of s t p) c.0 c.1 in
               elim (number_cases j i) [
                 | inl x ↦ absurd (past_sent t j f.letter_at.mail (subst (λ a. sent_by (s.cells t).event < a) (sym x) m) f.letter_at.mail_is)
                 | inr x ↦ sym (set_there nat_eq (s.cells t).mails j _ i x) ∙ ap (λ (a : Part A F R). a.cell.mails i) f.gives ∙ ap (λ (a : Bench A F R). a.part.cell.mails i) (sym c.2) ∙ sym (ap (λ (a : State A F R J). (a.cells t).mails i) d ∙ ap (λ (a : Cell A F R). a.mails i) (set_at s.cells t u.part.cell)) ∙ z
@@ -319,8 +319,8 @@ module _ {A F R J : Type 0} (kind : Kind A F R J) (owes : Owes kind) (b : Begin 
           mail_new : (t : ℕ) → l.act ≡ Admit t → (c : Ask) × ((s'.cells (ticket_of l.act)).mails 1 ≡ Some (record { host = 0; path = []; letter = Enter c }))
           mail_new t z =
               let i = (Reached.idle_of kind owes b batches begins jobs (s.hands l.worker) _ s' (subst (λ a. step_by kind.system s l.worker l.host a ≡ Some s') z by_it)).1 in
-              let j = then_some (λ j. only_if ((l.host == 0) && (t == next_ticket kind.system s)) (admitted kind.system s t j)) (slice_get s.head.known s.admitted) s' i in
-              let u = only_some ((l.host == 0) && (t == next_ticket kind.system s)) (admitted kind.system s t j.0) s' j.2 in (
+              let j = then_some (λ j. only_if ((l.host == 0) && (t == next_ticket s)) (admitted kind.system s t j)) (slice_get s.head.known s.admitted) s' i in
+              let u = only_some ((l.host == 0) && (t == next_ticket s)) (admitted kind.system s t j.0) s' j.2 in (
                 record { number = t; followed = 0; peek = kind.system.peeks (kind.system.make j.0 t) },
                 ap (λ a. (s'.cells (ticket_of a)).mails 1) z ∙ ap (λ (a : State A F R J). (a.cells t).mails 1) (sym u.1) ∙ ap (λ (a : Cell A F R). a.mails 1) (set_at s.cells t (new_cell kind.system (kind.system.make j.0 t) t)) ∙ set_at (λ i. None) 1 (Some (record { host = 0; path = []; letter = Enter (record { number = t; followed = 0; peek = kind.system.peeks (kind.system.make j.0 t) }) })),
               )
@@ -502,8 +502,8 @@ module _ {A F R J : Type 0} (kind : Kind A F R J) (owes : Owes kind) (b : Begin 
 
       hands_off : (v host : ℕ) (a : Act) → step_by kind.system s v host a ≡ Some s' → (u : ℕ) → nat_eq v u ≡ false → s'.hands u ≡ s.hands u
       hands_off v host (Admit t) q u d =
-          let j = then_some (λ j. only_if ((host == 0) && (t == next_ticket kind.system s)) (admitted kind.system s t j)) (slice_get s.head.known s.admitted) s' (Reached.idle_of kind owes b batches begins jobs (s.hands v) _ s' q).1 in
-          let z = only_some ((host == 0) && (t == next_ticket kind.system s)) (admitted kind.system s t j.0) s' j.2 in ap (λ (y : State A F R J). y.hands u) (sym z.1)
+          let j = then_some (λ j. only_if ((host == 0) && (t == next_ticket s)) (admitted kind.system s t j)) (slice_get s.head.known s.admitted) s' (Reached.idle_of kind owes b batches begins jobs (s.hands v) _ s' q).1 in
+          let z = only_some ((host == 0) && (t == next_ticket s)) (admitted kind.system s t j.0) s' j.2 in ap (λ (y : State A F R J). y.hands u) (sym z.1)
       hands_off v host (Commit t) q u d =
           let j = then_some (λ c. only_if ((host == 0) && (t == suc (s.before + s.head.done))) (committed kind.system s c)) (s.cells t).result s' (Reached.idle_of kind owes b batches begins jobs (s.hands v) _ s' q).1 in
           let z = only_some ((host == 0) && (t == suc (s.before + s.head.done))) (committed kind.system s j.0) s' j.2 in ap (λ (y : State A F R J). y.hands u) (sym z.1)

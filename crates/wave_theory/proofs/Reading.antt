@@ -25,7 +25,7 @@ none_again f o e = ap (option_map f) e
 module _ {A F R J : Type 0} (sys : Actors A F R J) where
   -- what a label of one context finds
   abbrev bench_at : State A F R J → Label → Option (Bench A F R)
-  bench_at s l = act_bench sys l.act l.host (part_of sys s (ticket_of l.act) (path_of l.act)) (s.hands l.worker)
+  bench_at s l = act_bench sys l.act l.host (part_of s (ticket_of l.act) (path_of l.act)) (s.hands l.worker)
 
   bench_same : (s v : State A F R J) (l : Label) → SameFor l s v → is_local l.act ≡ true → bench_at v l ≡ bench_at s l
   bench_same s v l h z = ap₂ (λ (x : Part A F R) o. act_bench sys l.act l.host x o) (same_part h.cell (h.column z)) h.hand
@@ -33,14 +33,14 @@ module _ {A F R J : Type 0} (sys : Actors A F R J) where
       same_part : {c d : Cell A F R} {e f : Column F} → d ≡ c → f ≡ e → ◌≡◌ {A = Part A F R} (record { cell = d; column = f }) (record { cell = c; column = e })
       same_part p q = λ i. record { cell = p i; column = q i }
 
-  pub step_local : (workers : ℕ) (s : State A F R J) (l : Label) → is_local l.act ≡ true → step sys workers s l ≡ (if nat_lt l.worker workers then option_map (λ y. with_bench sys s (ticket_of l.act) (path_of l.act) l.worker y) (bench_at s l) else None)
+  pub step_local : (workers : ℕ) (s : State A F R J) (l : Label) → is_local l.act ≡ true → step sys workers s l ≡ (if nat_lt l.worker workers then option_map (λ y. with_bench s (ticket_of l.act) (path_of l.act) l.worker y) (bench_at s l) else None)
   unfolding step
   step_local workers s l z = ap (λ o. if nat_lt l.worker workers then o else None) (local_step sys s l.worker l.host l.act z)
 
   local_refused : (workers : ℕ) (s v : State A F R J) (l : Label) → SameFor l s v → is_local l.act ≡ true → step sys workers s l ≡ None → step sys workers v l ≡ None
   local_refused workers s v l h z e = step_local workers v l z ∙ by (nat_lt l.worker workers) (sym (step_local workers s l z) ∙ e)
     where
-      by : (i : Bool) → (if i then option_map (λ y. with_bench sys s (ticket_of l.act) (path_of l.act) l.worker y) (bench_at s l) else None) ≡ None → (if i then option_map (λ y. with_bench sys v (ticket_of l.act) (path_of l.act) l.worker y) (bench_at v l) else None) ≡ None
+      by : (i : Bool) → (if i then option_map (λ y. with_bench s (ticket_of l.act) (path_of l.act) l.worker y) (bench_at s l) else None) ≡ None → (if i then option_map (λ y. with_bench v (ticket_of l.act) (path_of l.act) l.worker y) (bench_at v l) else None) ≡ None
       by false e = refl
       by true e = none_again _ (bench_at v l) (bench_same s v l h z ∙ none_map _ (bench_at s l) e)
 
@@ -48,9 +48,9 @@ module _ {A F R J : Type 0} (sys : Actors A F R J) where
   local_taken workers s s' v l h z e =
       let i = if_some (nat_lt l.worker workers) _ s' (sym (step_local workers s l z) ∙ e) in
       let y = map_some _ (bench_at s l) s' i.1 in (
-        with_bench sys v (ticket_of l.act) (path_of l.act) l.worker y.0,
-        step_local workers v l z ∙ ap (λ j. if j then option_map (λ y. with_bench sys v (ticket_of l.act) (path_of l.act) l.worker y) (bench_at v l) else None) i.0 ∙ some_map _ (bench_at v l) y.0 (bench_same s v l h z ∙ y.1),
-        subst (λ (u : State A F R J). SameFor l u (with_bench sys v (ticket_of l.act) (path_of l.act) l.worker y.0)) (sym y.2) (record {
+        with_bench v (ticket_of l.act) (path_of l.act) l.worker y.0,
+        step_local workers v l z ∙ ap (λ j. if j then option_map (λ y. with_bench v (ticket_of l.act) (path_of l.act) l.worker y) (bench_at v l) else None) i.0 ∙ some_map _ (bench_at v l) y.0 (bench_same s v l h z ∙ y.1),
+        subst (λ (u : State A F R J). SameFor l u (with_bench v (ticket_of l.act) (path_of l.act) l.worker y.0)) (sym y.2) (record {
           cell = set_at v.cells (ticket_of l.act) _ ∙ sym (set_at s.cells (ticket_of l.act) _);
           hand = set_at v.hands l.worker _ ∙ sym (set_at s.hands l.worker _);
           column = λ n. set_at_path v.columns (path_of l.act) _ ∙ sym (set_at_path s.columns (path_of l.act) _);
@@ -60,19 +60,19 @@ module _ {A F R J : Type 0} (sys : Actors A F R J) where
       )
 
   -- an Admit
-  admit_same : (s v : State A F R J) (host t : ℕ) → v.head ≡ s.head → v.before ≡ s.before → v.admitted ≡ s.admitted → option_map (λ j. admitted sys v t j) (option_and_then (λ j. only_if ((host == 0) && (t == next_ticket sys s)) j) (slice_get s.head.known s.admitted)) ≡ admit sys v host t
+  admit_same : (s v : State A F R J) (host t : ℕ) → v.head ≡ s.head → v.before ≡ s.before → v.admitted ≡ s.admitted → option_map (λ j. admitted sys v t j) (option_and_then (λ j. only_if ((host == 0) && (t == next_ticket s)) j) (slice_get s.head.known s.admitted)) ≡ admit sys v host t
   admit_same s v host t h e a = by (slice_get s.head.known s.admitted) ∙ ap₂ (λ o n. option_and_then (λ j. only_if ((host == 0) && (t == n)) (admitted sys v t j)) o) (ap₂ (λ (u : Head J) n. slice_get u.known n) (sym h) (sym a)) (ap₂ (λ m n. suc (m + n)) (sym e) (sym a))
     where
-      by : (o : Option J) → option_map (λ j. admitted sys v t j) (option_and_then (λ j. only_if ((host == 0) && (t == next_ticket sys s)) j) o) ≡ option_and_then (λ j. only_if ((host == 0) && (t == next_ticket sys s)) (admitted sys v t j)) o
+      by : (o : Option J) → option_map (λ j. admitted sys v t j) (option_and_then (λ j. only_if ((host == 0) && (t == next_ticket s)) j) o) ≡ option_and_then (λ j. only_if ((host == 0) && (t == next_ticket s)) (admitted sys v t j)) o
       by None = refl
-      by (Some j) = test ((host == 0) && (t == next_ticket sys s))
+      by (Some j) = test ((host == 0) && (t == next_ticket s))
         where
           test : (i : Bool) → option_map (λ j. admitted sys v t j) (only_if i j) ≡ only_if i (admitted sys v t j)
           test true = refl
           test false = refl
 
   abbrev admit_at : State A F R J → ℕ → ℕ → Option J
-  admit_at s host t = option_and_then (λ j. only_if ((host == 0) && (t == next_ticket sys s)) j) (slice_get s.head.known s.admitted)
+  admit_at s host t = option_and_then (λ j. only_if ((host == 0) && (t == next_ticket s)) j) (slice_get s.head.known s.admitted)
 
   commit_same : (s v : State A F R J) (host t : ℕ) → v.head ≡ s.head → v.before ≡ s.before → v.cells t ≡ s.cells t → option_map (λ r. committed sys v r) (option_and_then (λ r. only_if ((host == 0) && (t == suc (s.before + s.head.done))) r) (s.cells t).result) ≡ commit sys v host t
   commit_same s v host t h e c = by (s.cells t).result ∙ ap₂ (λ o n. option_and_then (λ r. only_if ((host == 0) && (t == n)) (committed sys v r)) o) (ap (λ (u : Cell A F R). u.result) (sym c)) (ap₂ (λ m (u : Head J). suc (m + u.done)) (sym e) (sym h))

@@ -5,6 +5,7 @@ pub mod Came
 pub mod Complete
 pub mod Counted
 pub mod Doable
+pub mod Drives
 pub mod Ends
 pub mod Finals
 pub mod Hands
