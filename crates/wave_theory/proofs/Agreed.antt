@@ -206,6 +206,9 @@ module _ {A F R J : Type 0} (kind : Kind A F R J) (owes : Owes kind) (b : Begin 
         held : (o : _) × (hold_at (c).event.held m.path ≡ Some o)
         held = option_some (hold_at (c).event.held m.path) (c.held m.path ∙ ap₂ (λ i j. i && not (is_pending j && path_eq (here w (g).lines t) m.path)) (subst (λ r. w.held t ((g).lines.pos t) r ≡ true) (sym y.place) (law.at_held t ((g).lines.pos t) (x.good.going t n.1 (λ d. coming_done (sym y.stage ∙ d))))) y.stage)
 
+    pub releases : (t i : ℕ) (m : Mail F) → (s.cells t).mails i ≡ Some m → m.letter ≡ Release → (en : Entry F) × ((s.columns m.path).store m.host ≡ Some en) × IsHolder en t
+    releases t i m e l = (let y = shown t i m e Release l in in_store m.path t m.host y.0.holds y.1 y.0.host_is)
+
     -- where a record is away
     away : (p : Path) → ((g).entry p).body ≡ None → (v : ℕ) × (h : Hand A F) × (s.hands v ≡ Some h) × (h.path ≡ p) × ((g).lines.holds p h.ticket ≡ true) × (w.looks h.ticket p ≡ false) × ((g).lines.stage h.ticket ≡ There) × (h.ticket ≤ (g).lines.admitted)
     away p e = (let a = (x.entries p).away e in let o = (k.alive).out a.ticket a.out in let hs = x.hands ((g).worker a.ticket) o.hand o.there in (
@@ -308,7 +311,7 @@ module _ {A F R J : Type 0} (kind : Kind A F R J) (owes : Owes kind) (b : Begin 
       agree = record {
         enters = enters;
         comings = λ t i m e l. elim l [ inl z ↦ coming t i m e (shown t i m e Visit z) | inr z ↦ coming t i m e (shown t i m e Back z) ];
-        releases = λ t i m e l. (let y = shown t i m e Release l in in_store m.path t m.host y.0.holds y.1 y.0.host_is);
+        releases = releases;
         transfers = moving;
         ended = ended;
         away = away_is;

@@ -12,6 +12,7 @@ pub mod Commute
 pub mod Courses
 pub mod Deeds
 pub mod Desks
+pub mod Doing
 pub mod Driving
 pub mod Ending
 pub mod Generations

@@ -33,7 +33,7 @@ module _ {A F R J : Type 0} (sys : Actors A F R J) where
       same_part : {c d : Cell A F R} {e f : Column F} → d ≡ c → f ≡ e → ◌≡◌ {A = Part A F R} (record { cell = d; column = f }) (record { cell = c; column = e })
       same_part p q = λ i. record { cell = p i; column = q i }
 
-  step_local : (workers : ℕ) (s : State A F R J) (l : Label) → is_local l.act ≡ true → step sys workers s l ≡ (if nat_lt l.worker workers then option_map (λ y. with_bench s (ticket_of l.act) (path_of l.act) l.worker y) (bench_at s l) else None)
+  pub step_local : (workers : ℕ) (s : State A F R J) (l : Label) → is_local l.act ≡ true → step sys workers s l ≡ (if nat_lt l.worker workers then option_map (λ y. with_bench s (ticket_of l.act) (path_of l.act) l.worker y) (bench_at s l) else None)
   unfolding step
   step_local workers s l z = ap (λ o. if nat_lt l.worker workers then o else None) (local_step sys s l.worker l.host l.act z)
 

@@ -1,5 +1,6 @@
 ghost use Rattle.wave_theory.specs.Agree.{Agree};
 ghost use Rattle.wave_theory.specs.Always.{Always, AlwaysBy, AlwaysOf};
+ghost use Rattle.wave_theory.specs.Doable.{Doable};
 ghost use Rattle.wave_theory.specs.Ends.{Ends, Measured};
 ghost use Rattle.wave_theory.specs.Finals.{AllMoves, Loads};
 ghost use Rattle.wave_theory.specs.Hands.{HandsStayOver, MayRun, Stoppable};
@@ -77,4 +78,9 @@ pub fn reads<T: Acting>()
 /// A label changes nothing else.
 pub fn changes<T: Acting>()
     ensures { (c : T.Code) → Changes (T.kind c).system }
+{}
+
+/// What is there to do can be done by any idle worker.
+pub fn doable<T: Acting>()
+    ensures { (c : T.Code) → AlwaysBy (T.kind c) Doable }
 {}

@@ -11,7 +11,7 @@ mod shown;
 pub use acting::Acting;
 pub use counter::{Counter, at_movers_and_walkers, at_the_counter};
 pub use given::{
-    agree, all_moves, changes, ends, hands_stay_over, holders, holding, loads, may_run, measured,
+    agree, all_moves, changes, doable, ends, hands_stay_over, holders, holding, loads, may_run, measured,
     reads, sent, stoppable, within,
 };
 pub use laws::{

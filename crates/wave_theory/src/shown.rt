@@ -8,7 +8,7 @@ ghost use Rattle.wave_theory.specs.Movers.{Setting, movers_in};
 
 use crate::counter::Counter;
 use crate::given::{
-    agree, all_moves, changes, ends, hands_stay_over, holders, holding, loads, may_run, measured,
+    agree, all_moves, changes, doable, ends, hands_stay_over, holders, holding, loads, may_run, measured,
     reads, sent, stoppable, within,
 };
 use crate::movers::{Movers, Walkers};
@@ -29,6 +29,7 @@ pub fn given_at_the_counter() {
     measured::<Counter>();
     reads::<Counter>();
     changes::<Counter>();
+    doable::<Counter>();
 }
 
 /// What the machine's code is given, at movers.
@@ -47,6 +48,7 @@ pub fn given_at_movers() {
     measured::<Movers>();
     reads::<Movers>();
     changes::<Movers>();
+    doable::<Movers>();
 }
 
 /// What the machine's code is given, at walkers.
@@ -65,6 +67,7 @@ pub fn given_at_walkers() {
     measured::<Walkers>();
     reads::<Walkers>();
     changes::<Walkers>();
+    doable::<Walkers>();
 }
 
 /// A plan of moves ends after as many moves as it lists.
