@@ -1,17 +1,17 @@
 -- What is there to do can be done.
-use Rattle.std.proofs.Common.{◌≡◌, ◌≢◌, ℕ, suc, ◌<◌, ◌≤◌, ◌⊎◌, ◌&&◌, ◌==◌, not, inl, inr, nat_eq, nat_lt, Bool, true, false, Option, Some, None, is_some, List, [], ◌∷◌, refl, sym, ◌∙◌, ap, ap₂, subst, arith}
-use Rattle.std.specs.Prelude.{All, if◌then◌else◌, option_map}
+use Rattle.std.proofs.Common.{◌≡◌, ℕ, suc, ◌<◌, ◌≤◌, ◌&&◌, ◌==◌, not, inl, inr, nat_lt, Bool, true, false, Some, None, is_some, List, refl, sym, ◌∙◌, ap, ap₂, subst, arith}
+use Rattle.std.specs.Prelude.{All}
 use Rattle.std.proofs.lemmas.Bool.Decides.{nat_tests}
 use Rattle.wave_base.specs.declared.path.Path.{Path}
 use Rattle.wave_base.specs.Paths.{path_eq}
 use Rattle.wave_states.specs.Kinds.{Kind}
 use Rattle.wave_states.specs.States.{State, Ask, Cell, Claim, Entry, Event, Mail, Mark, Record, Status, Ready, Letter, Enter, Release, Transfer, hold_at, ask_in, is_coming, is_release, entry_in}
 use Rattle.wave_states.specs.States
-use Rattle.wave_states.specs.Labels.{Act, Queue, Grant, Visit, Start, Free, Pass, Land, ticket_of, path_of, is_local, is_stop}
-use Rattle.wave_states.specs.Steps.{Part, Bench, Deliver, Born, Forward, step, act_bench, with_hand, calm, part_of, with_bench, visit, grant, start, free, pass, land, queue, entry_for, new_entry, route, may_join, letter_at, only_if}
+use Rattle.wave_states.specs.Labels.{Act, Queue, Grant, Visit, Start, Free, Pass, Land, ticket_of, path_of, is_local}
+use Rattle.wave_states.specs.Steps.{Deliver, act_bench, part_of, with_bench, entry_for, new_entry, route, may_join, letter_at}
 use Rattle.wave_states.specs.Begins.{Begin}
 use Rattle.wave_states.specs.Owes.{Owes, IsBegin}
-use Rattle.wave_theory.proofs.Basics.{clash, some_same, none_not, bool_cases, options, number_self, path_self, and_both}
+use Rattle.wave_theory.proofs.Basics.{clash, some_same, none_not, bool_cases, options, number_self, and_both}
 use Rattle.wave_theory.proofs.Order.{Way, IsWay, Stage, Entering, Lined, Coming, There, Done, is_pending, here}
 use Rattle.wave_theory.proofs.Leaves.{Course, IsCourse, Segment}
 use Rattle.wave_theory.proofs.Tracks.{owner}

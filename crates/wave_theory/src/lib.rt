@@ -11,8 +11,8 @@ mod shown;
 pub use acting::Acting;
 pub use counter::{Counter, at_movers_and_walkers, at_the_counter};
 pub use given::{
-    agree, all_moves, changes, doable, ends, hands_stay_over, holders, holding, loads, may_run, measured,
-    reads, sent, stoppable, within,
+    agree, all_moves, changes, doable, ends, hands_stay_over, holders, holding, loads, may_run,
+    measured, reads, sent, stoppable, within,
 };
 pub use laws::{
     bounded, bounds, by_owners, came, complete, counted, driven, empty_at_end, hands_stay,

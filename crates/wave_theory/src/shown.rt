@@ -8,8 +8,8 @@ ghost use Rattle.wave_theory.specs.Movers.{Setting, movers_in};
 
 use crate::counter::Counter;
 use crate::given::{
-    agree, all_moves, changes, doable, ends, hands_stay_over, holders, holding, loads, may_run, measured,
-    reads, sent, stoppable, within,
+    agree, all_moves, changes, doable, ends, hands_stay_over, holders, holding, loads, may_run,
+    measured, reads, sent, stoppable, within,
 };
 use crate::movers::{Movers, Walkers};
 
