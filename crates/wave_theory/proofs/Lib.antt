@@ -15,6 +15,7 @@ pub mod Desks
 pub mod Doing
 pub mod Driving
 pub mod Ending
+pub mod Generations
 pub mod Few
 pub mod Folds
 pub mod Forms

@@ -8,6 +8,7 @@ pub mod Doable
 pub mod Drives
 pub mod Ends
 pub mod Finals
+pub mod Generations
 pub mod Hands
 pub mod Holding
 pub mod Independent

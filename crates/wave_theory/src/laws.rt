@@ -4,6 +4,7 @@ ghost use Rattle.wave_theory.specs.Came.{Came};
 ghost use Rattle.wave_theory.specs.Complete.{Complete};
 ghost use Rattle.wave_theory.specs.Counted.{Bounded, Counted};
 ghost use Rattle.wave_theory.specs.Drives.{Driven, RulesPick};
+ghost use Rattle.wave_theory.specs.Generations.{Families};
 ghost use Rattle.wave_theory.specs.Hands.{HandsStay};
 ghost use Rattle.wave_theory.specs.Independent.{Independent};
 ghost use Rattle.wave_theory.specs.Listed.{EmptyAtEnd, Listed, ListedFor, Sorted};
@@ -130,4 +131,9 @@ pub fn rules_pick<T: Acting>()
 /// Each rule that picks has one drive; it is a run, and ends in a finished state.
 pub fn driven<T: Acting>()
     ensures { (c : T.Code) → Driven (T.kind c) }
+{}
+
+/// Of each job a known number of jobs may come, where a job creates few, and each of them has fewer generations to come.
+pub fn families<T: Acting>()
+    ensures { (c : T.Code) → Families (T.kind c) }
 {}

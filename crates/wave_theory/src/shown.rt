@@ -11,7 +11,96 @@ use crate::given::{
     agree, all_moves, changes, doable, ends, hands_stay_over, holders, holding, loads, may_run,
     measured, reads, sent, stoppable, within,
 };
+use crate::laws::{
+    bounded, bounds, by_owners, came, complete, counted, driven, empty_at_end, families,
+    hands_stay, independent, listed, listed_for, never_stuck, numbers, one_host, one_owner,
+    records, results, rules_pick, sorted, tickets, traced, trails,
+};
 use crate::movers::{Movers, Walkers};
+
+/// The laws, at the counter.
+pub fn at_the_counter() {
+    hands_stay::<Counter>();
+    independent::<Counter>();
+    results::<Counter>();
+    tickets::<Counter>();
+    numbers::<Counter>();
+    records::<Counter>();
+    one_owner::<Counter>();
+    trails::<Counter>();
+    traced::<Counter>();
+    came::<Counter>();
+    bounds::<Counter>();
+    never_stuck::<Counter>();
+    complete::<Counter>();
+    by_owners::<Counter>();
+    counted::<Counter>();
+    bounded::<Counter>();
+    listed::<Counter>();
+    sorted::<Counter>();
+    listed_for::<Counter>();
+    empty_at_end::<Counter>();
+    rules_pick::<Counter>();
+    driven::<Counter>();
+    families::<Counter>();
+    one_host::<Counter>();
+}
+
+/// The laws, at movers.
+pub fn at_movers() {
+    hands_stay::<Movers>();
+    independent::<Movers>();
+    results::<Movers>();
+    tickets::<Movers>();
+    numbers::<Movers>();
+    records::<Movers>();
+    one_owner::<Movers>();
+    trails::<Movers>();
+    traced::<Movers>();
+    came::<Movers>();
+    bounds::<Movers>();
+    never_stuck::<Movers>();
+    complete::<Movers>();
+    by_owners::<Movers>();
+    counted::<Movers>();
+    bounded::<Movers>();
+    listed::<Movers>();
+    sorted::<Movers>();
+    listed_for::<Movers>();
+    empty_at_end::<Movers>();
+    rules_pick::<Movers>();
+    driven::<Movers>();
+    families::<Movers>();
+    one_host::<Movers>();
+}
+
+/// The laws, at walkers.
+pub fn at_walkers() {
+    hands_stay::<Walkers>();
+    independent::<Walkers>();
+    results::<Walkers>();
+    tickets::<Walkers>();
+    numbers::<Walkers>();
+    records::<Walkers>();
+    one_owner::<Walkers>();
+    trails::<Walkers>();
+    traced::<Walkers>();
+    came::<Walkers>();
+    bounds::<Walkers>();
+    never_stuck::<Walkers>();
+    complete::<Walkers>();
+    by_owners::<Walkers>();
+    counted::<Walkers>();
+    bounded::<Walkers>();
+    listed::<Walkers>();
+    sorted::<Walkers>();
+    listed_for::<Walkers>();
+    empty_at_end::<Walkers>();
+    rules_pick::<Walkers>();
+    driven::<Walkers>();
+    families::<Walkers>();
+    one_host::<Walkers>();
+}
 
 /// What the machine's code is given, at the counter.
 pub fn given_at_the_counter() {
