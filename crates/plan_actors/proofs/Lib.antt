@@ -1,0 +1,5 @@
+pub mod Images
+pub mod Moving
+pub mod Order
+pub mod Spawning
+pub mod Walking

@@ -1,0 +1,3 @@
+pub mod PlanActors
+pub mod Plans
+pub mod Renamed
