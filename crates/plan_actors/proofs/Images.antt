@@ -9,7 +9,7 @@ use Rattle.wave_base.specs.Paths.{is_above, parent_of}
 use Rattle.wave_base.specs.Tree.{Tree, enter}
 use Rattle.wave_states.specs.Actors.{Actors, Left, Pause, Go, Down, Back, Over}
 use Rattle.wave_states.specs.Alone.{Alone, has, into, goes_on, segment_alone, segment_if, next_alone, first_alone, after_segments, ended_alone, run_alone, count_from, segments_of}
-use Rattle.wave_states.specs.Owes.{Keeps, MovesOnly}
+use Rattle.wave_states.specs.Owes.{Keeps, Looks, MovesOnly}
 use Rattle.wave_states.proofs.Segments.{after_first, after_none, after_over}
 use Rattle.wave_theory.proofs.Basics.{options, none_not}
 use Rattle.plan_actors.specs.Renamed.{pause_as, left_as}
@@ -108,3 +108,13 @@ module _ {A B F R S J K : Type 0} (small : Actors A F R J) (big : Actors B F S K
     keeps_same a p (suc n) Back k = fine_same a (parent_of p) n k
     keeps_same a p zero (Over r) k = over_same p r k
     keeps_same a p (suc n) (Over r) k = over_same p r k
+
+    -- and looks as it did
+    pub looks_same : (a : A) (f : F) (cs : List Step) → ((r : R) → small.moved r ≡ None → big.moved (say r) ≡ None) → Looks small hosts fits is_job fine a f cs → Looks big hosts fits big_job big_fine (wrap a) f cs
+    looks_same a f cs moved l = record {
+      same = ap (λ (x : Left B F S). x.fields) (segments a f cs) ∙ l.same;
+      blind = segments a f cs ∙ ap (left_as wrap say) l.blind ∙ sym (segments a f []);
+      result = say l.result;
+      over = ap (λ (x : Left B F S). x.pause) (segments a f cs) ∙ ap (pause_as say) l.over;
+      stays = moved l.result l.stays;
+    }

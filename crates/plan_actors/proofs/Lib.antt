@@ -1,5 +1,11 @@
+pub mod Coded
+pub mod Counting
+pub mod Folding
 pub mod Images
+pub mod Jobs
+pub mod Joining
 pub mod Moving
 pub mod Order
+pub mod Owing
 pub mod Spawning
 pub mod Walking

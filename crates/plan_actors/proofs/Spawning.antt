@@ -156,7 +156,7 @@ module _ (g : ℕ) where
     keeps Pop = top_keeps f.stack (λ x rest. runs program levels b below (next_with f rest) fields) (λ x rest. same)
     keeps Require = truth_keeps f.stack (λ x rest. if x then runs program levels b below (next_with f rest) fields else trapped trap.Require at b fields) (λ c rest. if_keeps c (runs program levels b below (next_with f rest) fields) (trapped trap.Require at b fields) same (trap_keeps trap.Require))
     keeps (Send t) = some_keeps (slice_get program.texts t) (λ label. on_top f.stack (λ x rest. sent program levels b below (next_with f rest) fields at (record { label = label; value = x }))) (λ label. top_keeps f.stack (λ x rest. sent program levels b below (next_with f rest) fields at (record { label = label; value = x })) (λ x rest. if_keeps (nat_lt (length b.kept.messages) MESSAGES) _ (trapped trap.Sends at b fields) same (trap_keeps trap.Sends)))
-    keeps (Spawn e) = some_keeps (slice_get program.shape.events e) (λ event. with_some (taken (length event.params) [] f.stack) (λ t. created program levels b below (next_with f t.1) fields at (record { event = e; args = t.0; generation = suc b.generation }))) (λ event. some_keeps (taken (length event.params) [] f.stack) (λ t. created program levels b below (next_with f t.1) fields at (record { event = e; args = t.0; generation = suc b.generation })) (λ t. if_keeps (b.generation == GENERATION) (trapped trap.Generation at b fields) _ (trap_keeps trap.Generation) (room_keeps (runs program levels (record b { kept = with_call b.kept (record { event = e; args = t.0; generation = suc b.generation }) }) below (next_with f t.1) fields) (trapped trap.Spawns at b fields) (λ few. one_more (record { event = e; args = t.0; generation = suc b.generation }) refl few) (trap_keeps trap.Spawns)))
+    keeps (Spawn e) = some_keeps (slice_get program.shape.events e) (λ event. with_some (taken (length event.params) [] f.stack) (λ t. created program levels b below (next_with f t.1) fields at (record { event = e; args = t.0; generation = suc b.generation }))) (λ event. some_keeps (taken (length event.params) [] f.stack) (λ t. created program levels b below (next_with f t.1) fields at (record { event = e; args = t.0; generation = suc b.generation })) (λ t. if_keeps (b.generation == GENERATION) (trapped trap.Generation at b fields) _ (trap_keeps trap.Generation) (room_keeps (runs program levels (record b { kept = with_call b.kept (record { event = e; args = t.0; generation = suc b.generation }) }) below (next_with f t.1) fields) (trapped trap.Spawns at b fields) (λ few. one_more (record { event = e; args = t.0; generation = suc b.generation }) refl few) (trap_keeps trap.Spawns))))
     keeps (Go c) = int_keeps f.stack _ (λ key rest. enter_keeps (b.path ++ step_to program levels c.0 key ∷ []) b (λ b'. Paused (record b' { frames = next_with f rest ∷ below; path = b.path ++ step_to program levels c.0 key ∷ []; held = filter (is_above (b.path ++ step_to program levels c.0 key ∷ [])) b'.held }) fields (pause.Go (step_to program levels c.0 key))) (trapped trap.Reach at b fields) (λ more entered. same) (trap_keeps trap.Reach))
     keeps Reply = top_keeps f.stack (λ x rest. finished (Replied x) b fields) (λ x rest. (record { own = refl; spawned = so_far }))
     keeps End = (record { own = refl; spawned = so_far })

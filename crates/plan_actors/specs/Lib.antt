@@ -1,3 +1,4 @@
+pub mod Calls
 pub mod PlanActors
 pub mod Plans
 pub mod Renamed
