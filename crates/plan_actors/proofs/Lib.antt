@@ -4,6 +4,7 @@ pub mod Folding
 pub mod Images
 pub mod Jobs
 pub mod Joining
+pub mod Meeting
 pub mod Moving
 pub mod Order
 pub mod Owing

@@ -31,24 +31,24 @@ use Rattle.code_actor.specs.CodeActors as code
 use Rattle.code_actor.specs.CodeActors.{Fields, code_actors}
 use Rattle.code_actor.proofs.Segmented.{initial_has}
 use Rattle.code_actor.proofs.Whole as coded
-use Rattle.plan_actors.specs.PlanActors.{Actor, Serves, Moves, Walks, end_of, shots_of, same, move_to, moving, walking, plan_actors, IsJob, IsFine, Fits}
+use Rattle.plan_actors.specs.PlanActors.{Actor, Serves, Moves, Walks, end_of, shots_of, same, move_to, moving, walking, plan_actors, IsJob, IsFine, HasKinds}
 use Rattle.plan_actors.proofs.Images.{keeps_same, looks_same, ends_same}
 
 module _ (program : Program) (fit : IsFit program) (verified : IsVerified program) (hosts : ℕ) where
-  pub initial : (p : Path) → Fits program p (initial_fields program.shape p)
+  pub initial : (p : Path) → HasKinds program p (initial_fields program.shape p)
   initial = initial_has program.shape fit.shape
 
-  pub events : Owes (code_actors program) hosts (Fits program) (code.IsJob program) (code.IsFine program)
+  pub events : Owes (code_actors program) hosts (HasKinds program) (code.IsJob program) (code.IsFine program)
   events = coded.owes program fit verified hosts
 
-  pub movers : Owes (moving program) hosts (Fits program) (moves.IsJob (initial_fields program.shape) hosts (Fits program) initial) (IsMover hosts)
-  movers = moves.movers_owe (initial_fields program.shape) hosts (Fits program) initial
+  pub movers : Owes (moving program) hosts (HasKinds program) (moves.IsJob (initial_fields program.shape) hosts (HasKinds program) initial) (IsMover hosts)
+  movers = moves.movers_owe (initial_fields program.shape) hosts (HasKinds program) initial
 
-  pub walkers : Owes (walking program) hosts (Fits program) (walks.IsJob (initial_fields program.shape) hosts (Fits program) initial) IsWalker
-  walkers = walks.walkers_owe (initial_fields program.shape) hosts (Fits program) initial
+  pub walkers : Owes (walking program) hosts (HasKinds program) (walks.IsJob (initial_fields program.shape) hosts (HasKinds program) initial) IsWalker
+  walkers = walks.walkers_owe (initial_fields program.shape) hosts (HasKinds program) initial
 
   abbrev Kept : Actor → Path → ℕ → Fields → List Step → Type 0
-  Kept a p n f cs = Keeps (plan_actors program) hosts (Fits program) (IsJob program hosts) (IsFine program hosts) ((plan_actors program).segment a f cs).actor p n ((plan_actors program).segment a f cs).pause
+  Kept a p n f cs = Keeps (plan_actors program) hosts (HasKinds program) (IsJob program hosts) (IsFine program hosts) ((plan_actors program).segment a f cs).actor p n ((plan_actors program).segment a f cs).pause
 
   no_more : {R : Type 0} (r : R) → All (IsJob program hosts) []
   no_more r = All-nil (IsJob program hosts)
@@ -65,24 +65,24 @@ module _ (program : Program) (fit : IsFit program) (verified : IsVerified progra
   first (Move p h) t job = movers.first (move_to p h) t job.1
   first Snapshot t job = walkers.first tt t tt
 
-  stays_fit : (a : Actor) (p : Path) (n : ℕ) (f : Fields) (cs : List Step) → IsFine program hosts a p n → Fits program p f → Fits program p ((plan_actors program).segment a f cs).fields
+  stays_fit : (a : Actor) (p : Path) (n : ℕ) (f : Fields) (cs : List Step) → IsFine program hosts a p n → HasKinds program p f → HasKinds program p ((plan_actors program).segment a f cs).fields
   stays_fit (Serves e) p n f cs h k = events.kept e p n f cs h k
   stays_fit (Moves a) p n f cs h k = movers.kept a p n f cs h k
   stays_fit (Walks a) p n f cs h k = walkers.kept a p n f cs h k
 
-  keeps : (a : Actor) (p : Path) (n : ℕ) (f : Fields) (cs : List Step) → IsFine program hosts a p n → Fits program p f → Kept a p n f cs
-  keeps (Serves e) p n f cs h k = keeps_same (code_actors program) (plan_actors program) Serves same (λ a f cs. refl) (λ a. refl) hosts (Fits program) (code.IsJob program) (IsJob program hosts) (code.IsFine program) (IsFine program hosts)
+  keeps : (a : Actor) (p : Path) (n : ℕ) (f : Fields) (cs : List Step) → IsFine program hosts a p n → HasKinds program p f → Kept a p n f cs
+  keeps (Serves e) p n f cs h k = keeps_same (code_actors program) (plan_actors program) Serves same (λ a f cs. refl) (λ a. refl) hosts (HasKinds program) (code.IsJob program) (IsJob program hosts) (code.IsFine program) (IsFine program hosts)
       (λ a p n e. e) event_over ((code_actors program).segment e f cs).actor p n ((code_actors program).segment e f cs).pause (events.keeps e p n f cs h k)
-  keeps (Moves a) p n f cs h k = keeps_same (moving program) (plan_actors program) Moves end_of (λ a f cs. refl) (λ a. refl) hosts (Fits program) (moves.IsJob (initial_fields program.shape) hosts (Fits program) initial) (IsJob program hosts) (IsMover hosts) (IsFine program hosts)
-      (λ a p n e. e) (mover_over (moves.IsJob (initial_fields program.shape) hosts (Fits program) initial)) ((moving program).segment a f cs).actor p n ((moving program).segment a f cs).pause (movers.keeps a p n f cs h k)
-  keeps (Walks a) p n f cs h k = keeps_same (walking program) (plan_actors program) Walks shots_of (λ a f cs. refl) (λ a. refl) hosts (Fits program) (walks.IsJob (initial_fields program.shape) hosts (Fits program) initial) (IsJob program hosts) IsWalker (IsFine program hosts)
+  keeps (Moves a) p n f cs h k = keeps_same (moving program) (plan_actors program) Moves end_of (λ a f cs. refl) (λ a. refl) hosts (HasKinds program) (moves.IsJob (initial_fields program.shape) hosts (HasKinds program) initial) (IsJob program hosts) (IsMover hosts) (IsFine program hosts)
+      (λ a p n e. e) (mover_over (moves.IsJob (initial_fields program.shape) hosts (HasKinds program) initial)) ((moving program).segment a f cs).actor p n ((moving program).segment a f cs).pause (movers.keeps a p n f cs h k)
+  keeps (Walks a) p n f cs h k = keeps_same (walking program) (plan_actors program) Walks shots_of (λ a f cs. refl) (λ a. refl) hosts (HasKinds program) (walks.IsJob (initial_fields program.shape) hosts (HasKinds program) initial) (IsJob program hosts) IsWalker (IsFine program hosts)
       (λ a p n e. e) (λ p r e. (All-nil (IsJob program hosts), tt)) ((walking program).segment a f cs).actor p n ((walking program).segment a f cs).pause (walkers.keeps a p n f cs h k)
 
   abbrev Looking : Actor → Fields → List Step → Type 0
-  Looking a f cs = Looks (plan_actors program) hosts (Fits program) (IsJob program hosts) (IsFine program hosts) a f cs
+  Looking a f cs = Looks (plan_actors program) hosts (HasKinds program) (IsJob program hosts) (IsFine program hosts) a f cs
 
-  looks : (a : Actor) (p : Path) (n : ℕ) (f : Fields) (cs : List Step) → IsFine program hosts a p n → Fits program p f → (plan_actors program).peeks a ≡ true → Looking a f cs
-  looks (Serves e) p n f cs h k is = looks_same (code_actors program) (plan_actors program) Serves same (λ a f cs. refl) (λ a. refl) hosts (Fits program) (code.IsJob program) (IsJob program hosts) (code.IsFine program) (IsFine program hosts)
+  looks : (a : Actor) (p : Path) (n : ℕ) (f : Fields) (cs : List Step) → IsFine program hosts a p n → HasKinds program p f → (plan_actors program).peeks a ≡ true → Looking a f cs
+  looks (Serves e) p n f cs h k is = looks_same (code_actors program) (plan_actors program) Serves same (λ a f cs. refl) (λ a. refl) hosts (HasKinds program) (code.IsJob program) (IsJob program hosts) (code.IsFine program) (IsFine program hosts)
       (λ a p n e. e) event_over e f cs (λ r m. m) (events.looks e p n f cs h k is)
   looks (Moves a) p n f cs h k is = absurd (true≢false (sym is))
   looks (Walks a) p n f cs h k is = absurd (true≢false (sym is))
@@ -90,7 +90,7 @@ module _ (program : Program) (fit : IsFit program) (verified : IsVerified progra
   abbrev Ends : Line → ℕ → Tree Fields → Type 0
   Ends j t tree = (r : EventResult) × ((ended_alone (plan_actors program) t tree j).result ≡ Some r)
 
-  ends : (j : Line) (t : ℕ) (tree : Tree Fields) → IsJob program hosts j → ((p : Path) → Fits program p (tree.fields p)) → IsStrictlySortedBy path_cmp tree.paths → Ends j t tree
+  ends : (j : Line) (t : ℕ) (tree : Tree Fields) → IsJob program hosts j → ((p : Path) → HasKinds program p (tree.fields p)) → IsStrictlySortedBy path_cmp tree.paths → Ends j t tree
   ends (Request call) t tree job has ordered = let e = events.ends call t tree job has ordered in
       (e.0, ends_same (code_actors program) (plan_actors program) Serves same (λ a f cs. refl) (λ a. refl) call (Request call) t tree refl refl e.0 e.1)
   ends (Move p h) t tree job has ordered = let e = movers.ends (move_to p h) t tree job.1 has ordered in
@@ -98,5 +98,5 @@ module _ (program : Program) (fit : IsFit program) (verified : IsVerified progra
   ends Snapshot t tree job has ordered = let e = walkers.ends tt t tree tt has ordered in
       (shots_of e.0, ends_same (walking program) (plan_actors program) Walks shots_of (λ a f cs. refl) (λ a. refl) tt Snapshot t tree refl refl e.0 e.1)
 
-  pub owes : Owes (plan_actors program) hosts (Fits program) (IsJob program hosts) (IsFine program hosts)
+  pub owes : Owes (plan_actors program) hosts (HasKinds program) (IsJob program hosts) (IsFine program hosts)
   owes = record { initial = initial; first = first; kept = stays_fit; keeps = keeps; looks = looks; ends = ends }

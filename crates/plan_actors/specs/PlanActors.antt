@@ -98,5 +98,5 @@ module _ (program : Program) where
   IsFine hosts (Walks a) p n = IsWalker a p n
 
   -- the fields that a context may have
-  abbrev pub Fits : Path → Fields → Type 0
-  Fits = HasFields program.shape
+  abbrev pub HasKinds : Path → Fields → Type 0
+  HasKinds = HasFields program.shape
