@@ -1,8 +1,8 @@
--- One counter at the root: each event adds one and replies. What its runs are, computed.
-use Rattle.std.proofs.Common.{◌≡◌, refl, ℕ, zero, suc, List, [], ◌∷◌, Option, Some, None, Bool, true, false, length, map}
+-- What runs of the counter are, computed.
+use Rattle.std.proofs.Common.{◌≡◌, refl, ℕ, List, [], ◌∷◌, Option, Some, Bool, true, length, map}
 use Rattle.std.specs.Prelude.{option_map}
 use Rattle.wave_base.specs.Tree.{bare}
-use Rattle.wave_states.specs.Actors.{Actors, Over}
+use Rattle.wave_states.specs.Counter.{counter}
 use Rattle.wave_states.specs.States.{State}
 use Rattle.wave_states.specs.Labels.{Label, Act, Admit, Queue, Grant, Start, Stop, Free, Commit}
 use Rattle.wave_states.specs.Begins.{first_begin, start_state}
@@ -10,23 +10,6 @@ use Rattle.wave_states.specs.Canonical.{enabled, is_finished}
 use Rattle.wave_states.specs.Runs.{run, drive, seed}
 use Rattle.wave_states.specs.Alone.{fold_alone, after_segments}
 use Rattle.wave_states.specs.Work.{work_after}
-
--- a job of n creates n jobs of 0
-abbrev pub zeros : ℕ → List ℕ
-zeros zero = []
-zeros (suc n) = 0 ∷ zeros n
-
-abbrev pub counter : Actors ℕ ℕ (ℕ × ℕ) ℕ
-counter = record {
-  make = λ j t. j;
-  segment = λ a f cs. record { actor = a; fields = suc f; pause = Over (suc f, a) };
-  peeks = λ a. false;
-  initial = λ p. 0;
-  created = λ r. zeros r.1;
-  moved = λ r. None;
-  enough = λ j t tree. 1;
-  unended = (0, 0);
-}
 
 abbrev pub start : List (List ℕ) → State ℕ ℕ (ℕ × ℕ) ℕ
 start batches = start_state (first_begin (λ p. 0)) batches

@@ -12,9 +12,10 @@ use Rattle.wave_base.specs.PathLaws.{path_eq_decides}
 use Rattle.wave_base.specs.Tree.{Tree, there, enter, children_of}
 use Rattle.wave_base.proofs.Trees.{put_same, enter_there, enter_sorted}
 use Rattle.wave_states.specs.Actors.{Left}
+use Rattle.wave_states.specs.Kinds.{Kind}
 use Rattle.wave_states.specs.Alone.{Alone, into, has, goes_on, next_alone, segment_if, after_segments, first_alone, tree_with}
 use Rattle.wave_states.specs.Owes.{Owes, Keeps}
-use Rattle.wave_states.specs.Walkers.{Walker, steps_left, first_of, last_step, copied_now, leave, walk_on, walkers, visit, with_children, depth_of, IsWalker}
+use Rattle.wave_states.specs.Walkers.{Walker, steps_left, first_of, last_step, copied_now, leave, walk_on, walkers, visit, with_children, depth_of, walker_kind}
 use Rattle.wave_states.proofs.Children.{kids_in, kids_sorted, left_after}
 use Rattle.wave_states.proofs.Segments.{after_first, after_none, after_both}
 
@@ -44,15 +45,15 @@ no_deeper p (x ∷ ps) e = by (path_eq p x) refl e (no_deeper p ps)
         more a b c l = omega (arith, l)
 
 module _ {F : Type 0} (initial : Path → F) (hosts : ℕ) (fits : Path → F → Type 0) (initial_fits : (p : Path) → fits p (initial p)) where
-  abbrev pub IsJob : Unit {0} → Type 0
-  IsJob j = Unit {0}
+  abbrev kind : Kind (Walker F) F (List (Path × F)) (Unit {0})
+  kind = walker_kind initial hosts fits
 
   abbrev End : Path → ℕ → Left (Walker F) F (List (Path × F)) → Type 0
-  End p n l = Keeps (walkers initial) hosts fits IsJob IsWalker l.actor p n l.pause
+  End p n l = Keeps kind l.actor p n l.pause
 
   -- it goes back only from a child, and then a call is open
   leaves : (p : Path) (n : ℕ) (from : Option Step) (f : F) (copied : List (Path × F)) → n ≡ length p → End p n (leave p from f copied (last_step p))
-  leaves [] n from f copied e = (All-nil IsJob, tt)
+  leaves [] n from f copied e = (All-nil kind.is_job, tt)
   leaves (s ∷ p) n from f copied e = by (last_step (s ∷ p)) n e
     where
       shorter : (s : Step) (p : Path) → length p ≡ length (parent_of (s ∷ p))
@@ -63,7 +64,7 @@ module _ {F : Type 0} (initial : Path → F) (hosts : ℕ) (fits : Path → F �
       less a b e = omega (arith, e)
 
       by : (o : Option Step) (n : ℕ) → n ≡ suc (length p) → End (s ∷ p) n (leave (s ∷ p) from f copied o)
-      by None n e = (All-nil IsJob, tt)
+      by None n e = (All-nil kind.is_job, tt)
       by (Some u) zero e = absurd (omega (arith, e))
       by (Some u) (suc n) e = record { at = refl; open_calls = less n (length p) e ∙ shorter s p }
 
@@ -212,7 +213,7 @@ module _ {F : Type 0} (initial : Path → F) (hosts : ℕ) (fits : Path → F �
         below : (m : ℕ) → m ≤ suc d → m ≤ 1 + d
         below m l = omega (arith, l)
 
-  pub walkers_owe : Owes (walkers initial) hosts fits IsJob IsWalker
+  pub walkers_owe : Owes kind
   walkers_owe = record {
     initial = initial_fits;
     first = λ j t l. record { at = refl; open_calls = refl };

@@ -7,6 +7,7 @@ use Rattle.wave_base.specs.declared.path.Path.{Path}
 use Rattle.wave_base.specs.Paths.{step_cmp, parent_of}
 use Rattle.wave_base.specs.Tree.{Tree, enter, children_of}
 use Rattle.wave_states.specs.Actors.{Actors, Left, Down, Back, Over}
+use Rattle.wave_states.specs.Kinds.{Kind}
 
 -- where it is; the child that it came back from, which is none at its first visit there; and what it copied
 pub record Walker (F : Type 0) : Type 0 where
@@ -78,3 +79,7 @@ module _ {F : Type 0} where
   pub record IsWalker (a : Walker F) (p : Path) (calls : ℕ) : Type 0 where
     pub at : a.at ≡ p
     pub open_calls : calls ≡ length p
+
+  -- walkers, over contexts that may have the fields that fit
+  abbrev pub walker_kind : (Path → F) → ℕ → (Path → F → Type 0) → Kind (Walker F) F (List (Path × F)) (Unit {0})
+  walker_kind initial hosts fits = record { system = walkers initial; hosts = hosts; fits = fits; is_job = λ j. Unit {0}; may_run = IsWalker }

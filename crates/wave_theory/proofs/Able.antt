@@ -13,7 +13,7 @@ use Rattle.wave_states.specs.Steps.{Bench, Part, Forward, start, free, land, pas
 use Rattle.wave_theory.proofs.Basics.{clash, number_self, path_self, and_both}
 use Rattle.wave_states.specs.Labels.{Act, Label, Admit, Queue, Grant, Start, Stop, Free, Pass, Land, Commit, ticket_of, path_of}
 use Rattle.wave_states.specs.Labels
-use Rattle.wave_theory.specs.States.{CanTake}
+use Rattle.wave_theory.specs.NeverStuck.{CanTake}
 use Rattle.wave_states.specs.States.{ask_in, is_coming, is_release, entry_in}
 use Rattle.wave_states.specs.Steps.{step_by, act_bench, only_if, next_ticket, mail_for, letter_at, visit, grant, queue, entry_for, passed_on, may_join, ready_at, Deliver, Born, Wait, route_by}
 use Rattle.std.specs.Prelude.{option_map, option_and_then}

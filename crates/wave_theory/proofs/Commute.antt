@@ -8,7 +8,7 @@ use Rattle.wave_states.specs.Actors.{Actors, Pause, Go, Down, Back, Over}
 use Rattle.wave_states.specs.States.{State, Column, Claim, Entry, Event, Hand, Record, Letter, set, holds_as_peek, is_release}
 use Rattle.wave_states.specs.Labels.{Label, Act, Admit, Commit, Queue, Grant, Start, Stop, Free, Visit, Land, Pass, ticket_of, path_of, is_local, is_start}
 use Rattle.wave_states.specs.Steps.{Part, Bench, step_by, act_bench, part_of, with_bench, with_hand, calm, stop, stopped, looked, free, only_if, with_entry, with_body, with_holders, others, left_by, started, ready_at, letter_at, without_mail, segment_of, desk_back, over_here}
-use Rattle.wave_theory.specs.Laws.{Independent, Peeks, IsLight}
+use Rattle.wave_theory.specs.Independent.{Independent, Peeks, IsLight}
 use Rattle.wave_theory.proofs.Basics.{bool_cases, clash, some_same, none_not, then_some, map_some, only_some, if_some, and_first, number_is, number_self, number_cases, not_same, path_is, path_self, path_cases, set_set, set_apart, set_noop, set_twice, set_twice_path, set_here, set_there, set_at_path}
 
 -- what a label has in the hand

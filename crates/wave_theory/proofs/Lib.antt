@@ -17,6 +17,7 @@ pub mod Frames
 pub mod Freeing
 pub mod Granting
 pub mod Held
+pub mod InHand
 pub mod Homes
 pub mod Hosts
 pub mod Leaves

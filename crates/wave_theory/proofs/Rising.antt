@@ -9,12 +9,13 @@ use Rattle.wave_states.specs.States.{State, Event, Mail, Mark, Hand, Status, Tra
 use Rattle.wave_states.specs.Labels.{Act, Choice, Label, Admit, Queue, Grant, Start, Stop, Free, Pass, Land, Commit, ticket_of, path_of}
 use Rattle.wave_states.specs.Labels
 use Rattle.wave_states.specs.Begins.{Begin}
+use Rattle.wave_states.specs.Kinds.{Kind}
 use Rattle.wave_states.specs.Owes.{Owes, IsBegin}
 use Rattle.wave_states.specs.Steps.{step, next_ticket}
 use Rattle.wave_states.specs.Canonical.{below, at_host, by_event, by_mail, to_mark, runs_it, place, by_status, grants_of, starts_of, stops_of, by_mails, mail_act, passes_of, may_take, able, front, rear, idle_in, taken_by, stop_by, enabled}
 use Rattle.wave_theory.proofs.Basics.{bool_cases, clash, number_is, and_first}
 use Rattle.wave_theory.proofs.Reached.{Good_state}
-use Rattle.wave_theory.specs.Orders.{kind_of, mail_of, Before, Rising, Sorted}
+use Rattle.wave_theory.specs.Listed.{kind_of, mail_of, Before, Rising, Sorted}
 
 all_append : {X : Type 0} (P : X → Type 0) (xs ys : List X) → AllByRecursion P xs → AllByRecursion P ys → AllByRecursion P (xs ++ ys)
 all_append P [] ys h k = k
@@ -328,9 +329,9 @@ module _ {A F R J : Type 0} (sys : Actors A F R J) (s : State A F R J) (hosts : 
           each = all_flat (OfKind 5) (LabelSpan 5 5) (stop_by sys workers hosts s) (by_status s hosts (stops_of s hosts)) part.each (λ c e. all_with (λ (x : Label). x.act ≡ c.act) (LabelSpan 5 5) (stop_by sys workers hosts s c) (λ x f. (subst (λ i. 5 ≤ i) (sym (ap kind_of f ∙ e)) (omega arith), subst (λ i. i ≤ 5) (sym (ap kind_of f ∙ e)) (omega arith))) (stop_acts c));
         }
 
-module _ {A F R J : Type 0} (sys : Actors A F R J) (hosts : ℕ) (fits : Path → F → Type 0) (is_job : J → Type 0) (fine : A → Path → ℕ → Type 0) (owes : Owes sys hosts fits is_job fine) (b : Begin F) (batches : List (List J)) (begins : IsBegin sys hosts fits is_job fine b) (jobs : All (All is_job) batches) where
-  pub in_order : (s : State A F R J) → Good_state sys hosts fits is_job fine owes b batches begins jobs s → (workers : ℕ) → Sorted sys hosts workers b batches s
-  in_order s k workers = sorted sys s hosts workers (λ t v u p e f. by t v u p (s.hands v) (s.hands u) refl refl e f)
+module _ {A F R J : Type 0} (kind : Kind A F R J) (owes : Owes kind) (b : Begin F) (batches : List (List J)) (begins : IsBegin kind b) (jobs : All (All kind.is_job) batches) where
+  pub in_order : (s : State A F R J) → Good_state kind owes b batches begins jobs s → (workers : ℕ) → Sorted kind workers b batches s
+  in_order s k workers = sorted kind.system s kind.hosts workers (λ t v u p e f. by t v u p (s.hands v) (s.hands u) refl refl e f)
     where
       by : (t v u : ℕ) (p : Path) (o q : Option (Hand A F)) → s.hands v ≡ o → s.hands u ≡ q → runs_it o t p ≡ true → runs_it q t p ≡ true → v ≡ u
       by t v u p None q x y e f = absurd (clash false e refl)

@@ -15,7 +15,7 @@ use Rattle.wave_theory.proofs.Frames.{entered_spot, holds_spot, visits_of, optio
 use Rattle.wave_theory.proofs.Shows
 use Rattle.wave_states.specs.States.{ask_in, is_coming, is_release, entry_in}
 use Rattle.wave_states.specs.Steps.{entry_for, Deliver, Born, Wait, route_by, letter_at}
-use Rattle.wave_theory.specs.States.{CanTake, IsOut}
+use Rattle.wave_theory.specs.NeverStuck.{CanTake, IsOut}
 use Rattle.wave_theory.proofs.Ranks.{rank_every}
 use Rattle.wave_theory.proofs.Tracks.{routed}
 use Rattle.wave_theory.proofs.Leaves.{Follows}

@@ -1,5 +1,6 @@
 ghost use Rattle.std.specs.Prelude.{ℕ};
-ghost use Rattle.wave_theory.specs.Counter.{counter, Fits, IsJob, Fine, owes};
+ghost use Rattle.wave_states.proofs.Counting.{counter_owes};
+ghost use Rattle.wave_states.specs.Counter.{counter_kind};
 
 use crate::acting::Acting;
 use crate::laws::{
@@ -18,21 +19,13 @@ impl Acting for Counter {
 
     ghost Fields = { ℕ };
 
-    ghost Outcome = { ℕ };
+    ghost Outcome = { ℕ × ℕ };
 
     ghost Job = { ℕ };
 
-    ghost system = { λ c. counter };
+    ghost kind = { λ c. counter_kind };
 
-    ghost hosts = { λ c. 1 };
-
-    ghost fits = { λ c. Fits };
-
-    ghost is_job = { λ c. IsJob };
-
-    ghost fine = { λ c. Fine };
-
-    ghost owed = { λ c. owes };
+    ghost owed = { λ c. counter_owes };
 }
 
 /// The laws, at the counter.

@@ -3,11 +3,13 @@
 
 mod acting;
 mod counter;
+mod given;
 mod laws;
 mod movers;
 
 pub use acting::Acting;
 pub use counter::{Counter, at_movers_and_walkers, at_the_counter};
+pub use given::{hands_stay_over, may_run, stoppable};
 pub use laws::{
     bounded, bounds, by_owners, came, complete, counted, hands_stay, independent, listed,
     never_stuck, numbers, one_host, one_owner, records, results, sorted, tickets, traced, trails,

@@ -1,16 +1,12 @@
--- The laws.
+-- Two labels that can be taken in either order.
 use Rattle.std.specs.Prelude.{◌≡◌, ◌≢◌, ◌⊎◌, ℕ, true, false, Some}
 use Rattle.wave_base.specs.declared.path.Path.{Path}
 use Rattle.wave_states.specs.Actors.{Actors}
-use Rattle.wave_states.specs.States.{State, holds_as_peek, Event}
+use Rattle.wave_states.specs.States.{State, Event, holds_as_peek}
 use Rattle.wave_states.specs.Labels.{Act, Label, Start, Stop, Free, ticket_of, path_of, is_local, is_start}
 use Rattle.wave_states.specs.Steps.{step}
 
 module _ {A F R J : Type 0} (sys : Actors A F R J) where
-  -- A label leaves the hands of all other workers.
-  abbrev pub HandsStay : Type 0
-  HandsStay = (workers : ℕ) (s v : State A F R J) (l : Label) (w : ℕ) → step sys workers s l ≡ Some v → w ≢ l.worker → v.hands w ≡ s.hands w
-
   -- both orders are runs, and give one state
   pub record Both (workers : ℕ) (s s₁ s₂ : State A F R J) (l l' : Label) : Type 0 where
     pub state : State A F R J
