@@ -23,13 +23,12 @@ use Rattle.service_verify.specs.Points.{IsVerified}
 use Rattle.service_verify.specs.Standing.{HasFields, HasTree}
 use Rattle.service_verify.specs.Tours.{code_tour}
 use Rattle.wave_states.specs.Alone.{Alone, has, first_alone, ended_alone, run_alone, after_segments}
-use Rattle.wave_states.specs.Owes.{Owes}
 use Rattle.wave_theory.proofs.Alone.{Fine, first_fine}
 use Rattle.wave_theory.proofs.Plans.{RanOk, ran_ok, fine_after}
 use Rattle.wave_theory.proofs.Basics.{bool_cases, clash, path_is}
 use Rattle.wave_theory.proofs.Paths.{or_is, or_left, or_right}
 use Rattle.code_actor.specs.CodeActors as code
-use Rattle.code_actor.specs.CodeActors.{Fields, no_result, code_actors}
+use Rattle.code_actor.specs.CodeActors.{Fields, no_result, code_actors, code_kind}
 use Rattle.code_actor.specs.Follows.{IsWhole}
 use Rattle.code_actor.proofs.Segmented.{initial_has}
 use Rattle.code_actor.proofs.Whole.{whole, owes}
@@ -78,12 +77,12 @@ module _ (program : Program) (fit : IsFit program) (verified : IsVerified progra
     pub joined : (p : Path) → there (code_ran program tree call).tree p ≡ (there tree p || list_any (path_eq p) (code_ran program tree call).entered)
     joined p = subst (λ (x : Ran Fields EventResult). there x.tree p ≡ (there tree p || list_any (path_eq p) x.entered)) same (after_joined (code_actors program) tree call 0 (code.enough_segments program) p)
 
-    ok : RanOk (code_actors program) 1 (HasFields program.shape) (code.IsJob program) (code.IsFine program) (owes program fit verified 1) (run_alone (code_actors program) 0 tree call)
-    ok = ran_ok (code_actors program) 1 (HasFields program.shape) (code.IsJob program) (code.IsFine program) (owes program fit verified 1) 0 tree call job is.fields is.ordered
+    ok : RanOk (code_kind program 1) (owes program fit verified 1) (run_alone (code_actors program) 0 tree call)
+    ok = ran_ok (code_kind program 1) (owes program fit verified 1) 0 tree call job is.fields is.ordered
 
     closed : (p : Path) → list_any (path_eq p) (run_alone (code_actors program) 0 tree call).entered ≡ true → (p ≡ [] → ⊥) → list_any (path_eq (parent_of p)) (run_alone (code_actors program) 0 tree call).entered ≡ true
-    closed p e n = (fine_after (code_actors program) 1 (HasFields program.shape) (code.IsJob program) (code.IsFine program) (owes program fit verified 1) (first_alone (code_actors program) call 0 tree)
-        (first_fine (code_actors program) 1 (HasFields program.shape) (code.IsJob program) (code.IsFine program) (owes program fit verified 1) call 0 tree job is.fields) (code.enough_segments program)).closed p e n
+    closed p e n = (fine_after (code_kind program 1) (owes program fit verified 1) (first_alone (code_actors program) call 0 tree)
+        (first_fine (code_kind program 1) (owes program fit verified 1) call 0 tree job is.fields) (code.enough_segments program)).closed p e n
 
     pub kept : IsTree program (code_ran program tree call).tree
     kept = record {

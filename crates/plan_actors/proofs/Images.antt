@@ -9,6 +9,7 @@ use Rattle.wave_base.specs.Paths.{is_above, parent_of}
 use Rattle.wave_base.specs.Tree.{Tree, enter}
 use Rattle.wave_states.specs.Actors.{Actors, Left, Pause, Go, Down, Back, Over}
 use Rattle.wave_states.specs.Alone.{Alone, has, into, goes_on, segment_alone, segment_if, next_alone, first_alone, after_segments, ended_alone, run_alone, count_from, segments_of}
+use Rattle.wave_states.specs.Kinds.{Kind}
 use Rattle.wave_states.specs.Owes.{Keeps, Looks, MovesOnly}
 use Rattle.wave_states.proofs.Segments.{after_first, after_none, after_over}
 use Rattle.wave_theory.proofs.Basics.{options, none_not}
@@ -97,24 +98,25 @@ module _ {A B F R S J K : Type 0} (small : Actors A F R J) (big : Actors B F S K
     pub segments_same : segments_of big t tree k ≡ segments_of small t tree j
     segments_same = ap₂ (λ n x. count_from big n x) enough first_same ∙ count_same (small.enough j t tree) (first_alone small j t tree)
 
-  -- it keeps the protocol under other names too
-  module _ (hosts : ℕ) (fits : Path → F → Type 0) (is_job : J → Type 0) (big_job : K → Type 0) (fine : A → Path → ℕ → Type 0) (big_fine : B → Path → ℕ → Type 0)
-      (fine_same : (a : A) (p : Path) (n : ℕ) → fine a p n → big_fine (wrap a) p n)
-      (over_same : (p : Path) (r : R) → All is_job (small.created r) × MovesOnly hosts p (small.moved r) → All big_job (big.created (say r)) × MovesOnly hosts p (big.moved (say r))) where
-    pub keeps_same : (a : A) (p : Path) (n : ℕ) (why : Pause R) → Keeps small hosts fits is_job fine a p n why → Keeps big hosts fits big_job big_fine (wrap a) p n (pause_as say why)
-    keeps_same a p n (Go s) k = (k.0, fine_same a (p ++ s ∷ []) 0 k.1)
-    keeps_same a p n (Down s) k = fine_same a (p ++ s ∷ []) (suc n) k
-    keeps_same a p zero Back k = k
-    keeps_same a p (suc n) Back k = fine_same a (parent_of p) n k
-    keeps_same a p zero (Over r) k = over_same p r k
-    keeps_same a p (suc n) (Over r) k = over_same p r k
+-- it keeps the protocol under other names too
+module _ {A B F R S J K : Type 0} (small : Kind A F R J) (big : Kind B F S K) (wrap : A → B) (say : R → S)
+    (segments : (a : A) (f : F) (cs : List Step) → big.system.segment (wrap a) f cs ≡ left_as wrap say (small.system.segment a f cs))
+    (may_run : (a : A) (p : Path) (n : ℕ) → small.may_run a p n → big.may_run (wrap a) p n)
+    (over : (p : Path) (r : R) → All small.is_job (small.system.created r) × MovesOnly small.hosts p (small.system.moved r) → All big.is_job (big.system.created (say r)) × MovesOnly big.hosts p (big.system.moved (say r))) where
+  pub keeps_same : (a : A) (p : Path) (n : ℕ) (why : Pause R) → Keeps small a p n why → Keeps big (wrap a) p n (pause_as say why)
+  keeps_same a p n (Go s) k = (k.0, may_run a (p ++ s ∷ []) 0 k.1)
+  keeps_same a p n (Down s) k = may_run a (p ++ s ∷ []) (suc n) k
+  keeps_same a p zero Back k = k
+  keeps_same a p (suc n) Back k = may_run a (parent_of p) n k
+  keeps_same a p zero (Over r) k = over p r k
+  keeps_same a p (suc n) (Over r) k = over p r k
 
-    -- and looks as it did
-    pub looks_same : (a : A) (f : F) (cs : List Step) → ((r : R) → small.moved r ≡ None → big.moved (say r) ≡ None) → Looks small hosts fits is_job fine a f cs → Looks big hosts fits big_job big_fine (wrap a) f cs
-    looks_same a f cs moved l = record {
-      same = ap (λ (x : Left B F S). x.fields) (segments a f cs) ∙ l.same;
-      blind = segments a f cs ∙ ap (left_as wrap say) l.blind ∙ sym (segments a f []);
-      result = say l.result;
-      over = ap (λ (x : Left B F S). x.pause) (segments a f cs) ∙ ap (pause_as say) l.over;
-      stays = moved l.result l.stays;
-    }
+  -- and looks as it did
+  pub looks_same : (a : A) (f : F) (cs : List Step) → ((r : R) → small.system.moved r ≡ None → big.system.moved (say r) ≡ None) → Looks small a f cs → Looks big (wrap a) f cs
+  looks_same a f cs moved l = record {
+    same = ap (λ (x : Left B F S). x.fields) (segments a f cs) ∙ l.same;
+    blind = segments a f cs ∙ ap (left_as wrap say) l.blind ∙ sym (segments a f []);
+    result = say l.result;
+    over = ap (λ (x : Left B F S). x.pause) (segments a f cs) ∙ ap (pause_as say) l.over;
+    stays = moved l.result l.stays;
+  }

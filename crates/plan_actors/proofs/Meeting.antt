@@ -22,7 +22,7 @@ use Rattle.code_actor.specs.CodeActors as code
 use Rattle.code_actor.specs.CodeActors.{Fields}
 use Rattle.code_actor.proofs.Segmented.{initial_has}
 use Rattle.plan_actors.specs.Calls.{code_ran, IsTree}
-use Rattle.plan_actors.specs.PlanActors.{plan_actors, IsJob, IsFine, HasKinds}
+use Rattle.plan_actors.specs.PlanActors.{plan_actors, IsJob, plan_kind}
 use Rattle.plan_actors.specs.Plans.{Plan, Fits, FitsStart, begin_in}
 use Rattle.plan_actors.proofs.Coded.{code_owes}
 use Rattle.plan_actors.proofs.Folding.{folds_alike, over_whole}
@@ -38,7 +38,7 @@ module _ (plan : Plan) (fits : Fits plan) where
   line_job (Move p to) h = h
   line_job Snapshot h = h
 
-  pub plan_fits : IsPlan (plan_actors plan.program) plan.script.hosts (HasKinds plan.program) (IsJob plan.program plan.script.hosts) (IsFine plan.program plan.script.hosts) plan.workers plan.script.batches
+  pub plan_fits : IsPlan (plan_kind plan.program plan.script.hosts) plan.workers plan.script.batches
   plan_fits = record {
     some_host = fits.script.some_host;
     some_worker = fits.some_worker;
@@ -46,8 +46,8 @@ module _ (plan : Plan) (fits : Fits plan) where
   }
 
   module _ (start : Start) (begins : FitsStart plan start) where
-    pub begin_fits : IsBegin (plan_actors plan.program) plan.script.hosts (HasKinds plan.program) (IsJob plan.program plan.script.hosts) (IsFine plan.program plan.script.hosts) (begin_in plan start)
-    begin_fits = start_fits (plan_actors plan.program) (HasKinds plan.program) (IsJob plan.program plan.script.hosts) (IsFine plan.program plan.script.hosts) plan.program.shape (λ p. refl) (initial_has plan.program.shape fits.fit.shape) (λ p f is kinds. kinds) plan.script.hosts start begins
+    pub begin_fits : IsBegin (plan_kind plan.program plan.script.hosts) (begin_in plan start)
+    begin_fits = start_fits (plan_kind plan.program plan.script.hosts) plan.program.shape (λ p. refl) (initial_has plan.program.shape fits.fit.shape) (λ p f is kinds. kinds) start begins
 
     pub good : (n : ℕ) → IsGood plan.program.shape (code_ran plan.program) (IsTree plan.program) (code.IsJob plan.program) (code_owes plan.program fits.fit fits.verified) start plan.script (after_jobs (code_ran plan.program) plan.program.shape start plan.script n)
     good n = good_after plan.program.shape (code_ran plan.program) (IsTree plan.program) (code.IsJob plan.program) (code_owes plan.program fits.fit fits.verified) start plan.script fits.script begins n

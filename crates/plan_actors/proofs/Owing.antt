@@ -22,33 +22,33 @@ use Rattle.service_verify.specs.Segments.{Event}
 use Rattle.wave_states.specs.Actors.{Actors, Left}
 use Rattle.wave_states.specs.Alone.{ended_alone}
 use Rattle.wave_states.specs.Movers as mover
-use Rattle.wave_states.specs.Movers.{Mover, MoveEnd, IsMover, sent_to}
+use Rattle.wave_states.specs.Movers.{MoveEnd, IsMove, sent_to, mover_kind}
 use Rattle.wave_states.specs.Owes.{Owes, Keeps, Looks, MovesOnly}
-use Rattle.wave_states.specs.Walkers.{Walker, IsWalker}
+use Rattle.wave_states.specs.Walkers.{walker_kind}
 use Rattle.wave_states.proofs.Moving as moves
 use Rattle.wave_states.proofs.Walking as walks
 use Rattle.code_actor.specs.CodeActors as code
-use Rattle.code_actor.specs.CodeActors.{Fields, code_actors}
+use Rattle.code_actor.specs.CodeActors.{Fields, code_actors, code_kind}
 use Rattle.code_actor.proofs.Segmented.{initial_has}
 use Rattle.code_actor.proofs.Whole as coded
-use Rattle.plan_actors.specs.PlanActors.{Actor, Serves, Moves, Walks, end_of, shots_of, same, move_to, moving, walking, plan_actors, IsJob, IsFine, HasKinds}
+use Rattle.plan_actors.specs.PlanActors.{Actor, Serves, Moves, Walks, end_of, shots_of, same, move_to, moving, walking, plan_actors, IsJob, IsFine, HasKinds, plan_kind}
 use Rattle.plan_actors.proofs.Images.{keeps_same, looks_same, ends_same}
 
 module _ (program : Program) (fit : IsFit program) (verified : IsVerified program) (hosts : ℕ) where
   pub initial : (p : Path) → HasKinds program p (initial_fields program.shape p)
   initial = initial_has program.shape fit.shape
 
-  pub events : Owes (code_actors program) hosts (HasKinds program) (code.IsJob program) (code.IsFine program)
+  pub events : Owes (code_kind program hosts)
   events = coded.owes program fit verified hosts
 
-  pub movers : Owes (moving program) hosts (HasKinds program) (moves.IsJob (initial_fields program.shape) hosts (HasKinds program) initial) (IsMover hosts)
+  pub movers : Owes (mover_kind (initial_fields program.shape) hosts (HasKinds program))
   movers = moves.movers_owe (initial_fields program.shape) hosts (HasKinds program) initial
 
-  pub walkers : Owes (walking program) hosts (HasKinds program) (walks.IsJob (initial_fields program.shape) hosts (HasKinds program) initial) IsWalker
+  pub walkers : Owes (walker_kind (initial_fields program.shape) hosts (HasKinds program))
   walkers = walks.walkers_owe (initial_fields program.shape) hosts (HasKinds program) initial
 
   abbrev Kept : Actor → Path → ℕ → Fields → List Step → Type 0
-  Kept a p n f cs = Keeps (plan_actors program) hosts (HasKinds program) (IsJob program hosts) (IsFine program hosts) ((plan_actors program).segment a f cs).actor p n ((plan_actors program).segment a f cs).pause
+  Kept a p n f cs = Keeps (plan_kind program hosts) ((plan_actors program).segment a f cs).actor p n ((plan_actors program).segment a f cs).pause
 
   no_more : {R : Type 0} (r : R) → All (IsJob program hosts) []
   no_more r = All-nil (IsJob program hosts)
@@ -71,18 +71,18 @@ module _ (program : Program) (fit : IsFit program) (verified : IsVerified progra
   stays_fit (Walks a) p n f cs h k = walkers.kept a p n f cs h k
 
   keeps : (a : Actor) (p : Path) (n : ℕ) (f : Fields) (cs : List Step) → IsFine program hosts a p n → HasKinds program p f → Kept a p n f cs
-  keeps (Serves e) p n f cs h k = keeps_same (code_actors program) (plan_actors program) Serves same (λ a f cs. refl) (λ a. refl) hosts (HasKinds program) (code.IsJob program) (IsJob program hosts) (code.IsFine program) (IsFine program hosts)
+  keeps (Serves e) p n f cs h k = keeps_same (code_kind program hosts) (plan_kind program hosts) Serves same (λ a f cs. refl)
       (λ a p n e. e) event_over ((code_actors program).segment e f cs).actor p n ((code_actors program).segment e f cs).pause (events.keeps e p n f cs h k)
-  keeps (Moves a) p n f cs h k = keeps_same (moving program) (plan_actors program) Moves end_of (λ a f cs. refl) (λ a. refl) hosts (HasKinds program) (moves.IsJob (initial_fields program.shape) hosts (HasKinds program) initial) (IsJob program hosts) (IsMover hosts) (IsFine program hosts)
-      (λ a p n e. e) (mover_over (moves.IsJob (initial_fields program.shape) hosts (HasKinds program) initial)) ((moving program).segment a f cs).actor p n ((moving program).segment a f cs).pause (movers.keeps a p n f cs h k)
-  keeps (Walks a) p n f cs h k = keeps_same (walking program) (plan_actors program) Walks shots_of (λ a f cs. refl) (λ a. refl) hosts (HasKinds program) (walks.IsJob (initial_fields program.shape) hosts (HasKinds program) initial) (IsJob program hosts) IsWalker (IsFine program hosts)
+  keeps (Moves a) p n f cs h k = keeps_same (mover_kind (initial_fields program.shape) hosts (HasKinds program)) (plan_kind program hosts) Moves end_of (λ a f cs. refl)
+      (λ a p n e. e) (mover_over (IsMove hosts)) ((moving program).segment a f cs).actor p n ((moving program).segment a f cs).pause (movers.keeps a p n f cs h k)
+  keeps (Walks a) p n f cs h k = keeps_same (walker_kind (initial_fields program.shape) hosts (HasKinds program)) (plan_kind program hosts) Walks shots_of (λ a f cs. refl)
       (λ a p n e. e) (λ p r e. (All-nil (IsJob program hosts), tt)) ((walking program).segment a f cs).actor p n ((walking program).segment a f cs).pause (walkers.keeps a p n f cs h k)
 
   abbrev Looking : Actor → Fields → List Step → Type 0
-  Looking a f cs = Looks (plan_actors program) hosts (HasKinds program) (IsJob program hosts) (IsFine program hosts) a f cs
+  Looking a f cs = Looks (plan_kind program hosts) a f cs
 
   looks : (a : Actor) (p : Path) (n : ℕ) (f : Fields) (cs : List Step) → IsFine program hosts a p n → HasKinds program p f → (plan_actors program).peeks a ≡ true → Looking a f cs
-  looks (Serves e) p n f cs h k is = looks_same (code_actors program) (plan_actors program) Serves same (λ a f cs. refl) (λ a. refl) hosts (HasKinds program) (code.IsJob program) (IsJob program hosts) (code.IsFine program) (IsFine program hosts)
+  looks (Serves e) p n f cs h k is = looks_same (code_kind program hosts) (plan_kind program hosts) Serves same (λ a f cs. refl)
       (λ a p n e. e) event_over e f cs (λ r m. m) (events.looks e p n f cs h k is)
   looks (Moves a) p n f cs h k is = absurd (true≢false (sym is))
   looks (Walks a) p n f cs h k is = absurd (true≢false (sym is))
@@ -98,5 +98,5 @@ module _ (program : Program) (fit : IsFit program) (verified : IsVerified progra
   ends Snapshot t tree job has ordered = let e = walkers.ends tt t tree tt has ordered in
       (shots_of e.0, ends_same (walking program) (plan_actors program) Walks shots_of (λ a f cs. refl) (λ a. refl) tt Snapshot t tree refl refl e.0 e.1)
 
-  pub owes : Owes (plan_actors program) hosts (HasKinds program) (IsJob program hosts) (IsFine program hosts)
+  pub owes : Owes (plan_kind program hosts)
   owes = record { initial = initial; first = first; kept = stays_fit; keeps = keeps; looks = looks; ends = ends }

@@ -16,6 +16,7 @@ use Rattle.service_code.specs.declared.program.Program.{Program}
 use Rattle.service_verify.specs.Segments.{Event}
 use Rattle.service_verify.specs.Standing.{HasFields}
 use Rattle.wave_states.specs.Actors.{Actors, Left}
+use Rattle.wave_states.specs.Kinds.{Kind}
 use Rattle.wave_states.specs.Movers as mover
 use Rattle.wave_states.specs.Movers.{Mover, MoveEnd, movers, IsMover}
 use Rattle.wave_states.specs.Walkers.{Walker, walkers, IsWalker}
@@ -99,4 +100,8 @@ module _ (program : Program) where
 
   -- the fields that a context may have
   abbrev pub HasKinds : Path → Fields → Type 0
-  HasKinds = HasFields program.shape
+  HasKinds p fields = HasFields program.shape p fields
+
+  -- as a kind of actors
+  abbrev pub plan_kind : ℕ → Kind Actor Fields EventResult Line
+  plan_kind hosts = record { system = plan_actors; hosts = hosts; fits = HasKinds; is_job = IsJob hosts; may_run = IsFine hosts }
