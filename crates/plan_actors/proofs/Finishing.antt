@@ -1,0 +1,192 @@
+-- What a finished state tells is what the script's fold by code gives.
+use Rattle.std.proofs.Common.{◌≡◌, ◌≤◌, ◌<◌, ℕ, zero, suc, ◌+◌, ◌-◌, ◌⊎◌, inl, inr, Bool, true, false, List, [], ◌∷◌, length, map, Option, Some, None, zip, slice_get, refl, sym, ◌∙◌, ap, ap₂, subst, arith}
+use Rattle.std.specs.Prelude.{All, is_some}
+use Rattle.std.specs.List.{list_any, AllByRecursion}
+use Rattle.std.proofs.lemmas.List.Elements.{recursion_from_All}
+use Rattle.std.proofs.lemmas.Option.{slice_get_within}
+use Rattle.wave_base.specs.declared.finished.Finished.{Finished}
+use Rattle.wave_base.specs.declared.finished.Place.{Place}
+use Rattle.wave_base.specs.declared.numbers.Host.{Host}
+use Rattle.wave_base.specs.declared.outcome.EventResult.{EventResult}
+use Rattle.wave_base.specs.declared.path.Path.{Path}
+use Rattle.wave_base.specs.declared.script.Line.{Line}
+use Rattle.wave_base.specs.declared.shot.Shot.{Shot}
+use Rattle.wave_base.specs.declared.start.Start.{Start}
+use Rattle.wave_base.specs.declared.value.Value.{Value}
+use Rattle.wave_base.specs.Fold.{Head, Progress, first_head, next_job, with_job, made, created_lines}
+use Rattle.std.specs.List.Sorted.{IsStrictlySortedBy}
+use Rattle.wave_base.specs.Paths.{path_eq, path_cmp}
+use Rattle.wave_base.specs.Places.{places_after, move_of, load_of}
+use Rattle.wave_base.specs.Starts.{start_places}
+use Rattle.wave_base.specs.Tree.{Tree, there, shots}
+use Rattle.resolved_service.specs.Jobs.{shot_of}
+use Rattle.script_fold.specs.Lines.{name_of}
+use Rattle.script_fold.specs.Runs.{after_jobs, whole_run, hosts_after, ticket_of, place_of, finished_by, finished_of}
+use Rattle.wave_states.specs.Alone.{fold_alone, moves_in, places_alone, run_alone}
+use Rattle.wave_states.specs.States.{State, Entry, Record}
+use Rattle.wave_theory.specs.Complete.{IsComplete}
+use Rattle.wave_theory.specs.Results.{Results, Tickets}
+use Rattle.wave_theory.proofs.Basics.{options, none_not, some_same}
+use Rattle.wave_theory.proofs.Folds.{with_done_done}
+use Rattle.code_actor.specs.CodeActors.{Fields}
+use Rattle.plan_actors.specs.Calls.{code_ran}
+use Rattle.plan_actors.specs.Finishing.{path_of, path_shot, IsOn, IsShot, Tells}
+use Rattle.plan_actors.specs.PlanActors.{Actor, plan_actors, plan_kind}
+use Rattle.plan_actors.specs.Plans.{Plan, Fits, FitsStart, begin_in}
+use Rattle.plan_actors.proofs.Hosts.{hosts_there, hosts_paths}
+use Rattle.plan_actors.proofs.Meeting.{good, folds_meet, whole_meets}
+use Rattle.plan_actors.proofs.Order.{at_path, sorted_same}
+
+-- lists of one length that have the same at each place are the same
+lists_same : {X : Type 0} (xs ys : List X) → length xs ≡ length ys → ((i : ℕ) (x y : X) → slice_get xs i ≡ Some x → slice_get ys i ≡ Some y → x ≡ y) → xs ≡ ys
+lists_same [] [] e f = refl
+lists_same [] (y ∷ ys) e f = absurd (omega (arith, e))
+lists_same (x ∷ xs) [] e f = absurd (omega (arith, e))
+lists_same (x ∷ xs) (y ∷ ys) e f = ap₂ (λ a b. a ∷ b) (f 0 x y refl refl) (lists_same xs ys (omega (arith, e)) (λ i x y g h. f (suc i) x y g h))
+
+map_twice : {X Y Z : Type 0} (f : Y → Z) (g : X → Y) (xs : List X) → map f (map g xs) ≡ map (λ x. f (g x)) xs
+map_twice f g [] = refl
+map_twice f g (x ∷ xs) = ap (λ ys. f (g x) ∷ ys) (map_twice f g xs)
+
+-- a list whose items are known by their paths
+by_paths : {X : Type 0} (f : X → Path) (g : Path → X) (xs : List X) → AllByRecursion (λ x. x ≡ g (f x)) xs → xs ≡ map g (map f xs)
+by_paths f g [] h = refl
+by_paths f g (x ∷ xs) h = ap₂ (λ y ys. y ∷ ys) h.0 (by_paths f g xs h.1)
+
+all_in : {X : Type 0} (P Q : X → Type 0) → ((x : X) → P x → Q x) → (xs : List X) → AllByRecursion P xs → AllByRecursion Q xs
+all_in P Q f [] h = tt
+all_in P Q f (x ∷ xs) h = (f x h.0, all_in P Q f xs h.1)
+
+-- the same pairs
+moves_zip : (plan : Plan) (start : Start) (entered : List (List Path)) (rs : List EventResult) → moves_in (plan_actors plan.program) (begin_in plan start) plan.script.batches entered rs ≡ zip entered (map move_of rs)
+moves_zip plan start [] [] = refl
+moves_zip plan start [] (r ∷ rs) = refl
+moves_zip plan start (e ∷ es) [] = refl
+moves_zip plan start (e ∷ es) (r ∷ rs) = ap (λ xs. (e, move_of r) ∷ xs) (moves_zip plan start es rs)
+
+module _ (plan : Plan) (fits : Fits plan) (start : Start) (begins : FitsStart plan start) (s : State Actor Fields EventResult Line)
+    (complete : IsComplete (plan_kind plan.program plan.script.hosts) (begin_in plan start) plan.script.batches s)
+    (tickets : Tickets (plan_kind plan.program plan.script.hosts) (begin_in plan start) plan.script.batches s)
+    (results : Results (plan_kind plan.program plan.script.hosts) (begin_in plan start) plan.script.batches s) where
+  abbrev fold : ℕ → Progress Fields EventResult Line
+  fold n = fold_alone (plan_actors plan.program) (begin_in plan start) plan.script.batches n
+
+  abbrev at : ℕ → Progress Fields EventResult Line
+  at n = after_jobs (code_ran plan.program) plan.program.shape start plan.script n
+
+  abbrev pub whole : Progress Fields EventResult Line
+  whole = whole_run (code_ran plan.program) plan.program.shape start plan.script
+
+  done_is : (fold s.head.done).head.done ≡ s.head.done
+  done_is = ap (λ (h : Head Line). h.done) (sym tickets.head_is)
+
+  -- no job is left
+  pub none_left : next_job (fold s.head.done).head ≡ None
+  none_left = elim (options (next_job (fold s.head.done).head)) [
+    | inl z ↦ z
+    | inr z ↦ absurd (one_more s.head.done (fold s.head.done).head.done (fold (suc s.head.done)).head.done done_is (goes z.0 z.1) (complete.committed (suc s.head.done)))
+  ]
+    where
+      goes : (j : Line) → next_job (fold s.head.done).head ≡ Some j → (fold (suc s.head.done)).head.done ≡ suc (fold s.head.done).head.done
+      goes j e = ap (λ o. (with_job (suc (start.next.0 - 1)) (run_alone (plan_actors plan.program)) created_lines (fold s.head.done) o).head.done) e
+          ∙ with_done_done (fold s.head.done).head (created_lines (run_alone (plan_actors plan.program) (suc (start.next.0 - 1) + (fold s.head.done).head.done) (fold s.head.done).tree j).result)
+
+      one_more : (d e f : ℕ) → e ≡ d → f ≡ suc e → f ≤ d → ⊥
+      one_more d e f g h l = omega (arith, g, h, l)
+
+  pub fold_whole : fold s.head.done ≡ whole
+  fold_whole = whole_meets plan fits start begins s.head.done none_left
+
+  at_whole : at s.head.done ≡ whole
+  at_whole = sym (folds_meet plan fits start begins s.head.done) ∙ fold_whole
+
+  head_whole : s.head ≡ whole.head
+  head_whole = tickets.head_is ∙ ap (λ (w : Progress Fields EventResult Line). w.head) fold_whole
+
+  count_whole : length whole.results ≡ s.head.done
+  count_whole = ap (λ (w : Progress Fields EventResult Line). length w.results) (sym at_whole) ∙ (good plan fits start begins s.head.done).results
+      ∙ ap (λ (w : Progress Fields EventResult Line). w.head.done) (sym (folds_meet plan fits start begins s.head.done)) ∙ done_is
+
+  places_whole : places_alone (plan_actors plan.program) (begin_in plan start) plan.script.batches s.head.done ≡ hosts_after start whole
+  places_whole = ap (λ (w : Progress Fields EventResult Line). places_after (start_places start) (moves_in (plan_actors plan.program) (begin_in plan start) plan.script.batches w.entered w.results)) fold_whole
+      ∙ ap (places_after (start_places start)) (moves_zip plan start whole.entered whole.results)
+
+  paths_whole : (hosts_after start whole).paths ≡ whole.tree.paths
+  paths_whole = subst (λ (w : Progress Fields EventResult Line). (hosts_after start w).paths ≡ w.tree.paths) at_whole (hosts_paths plan fits start begins s.head.done)
+
+  tree_whole : (fold s.head.done).tree ≡ whole.tree
+  tree_whole = ap (λ (w : Progress Fields EventResult Line). w.tree) fold_whole
+
+  -- the host of a context, by the fold
+  on_host : (p : Path) (host : ℕ) → IsOn s p host → host ≡ (hosts_after start whole).fields p
+  on_host p host e = complete.places p host (inl e) ∙ ap (λ (t : Tree ℕ). t.fields p) places_whole
+
+  module _ (f : Finished) (t : Tells s start plan.script.batches f) where
+    results_are : f.results ≡ whole.results
+    results_are = lists_same f.results whole.results (t.count ∙ sym count_whole) one
+      where
+        firsts : suc (start.next.0 - 1) ≡ start.next.0
+        firsts = omega (arith, begins.first_next)
+
+        upto : (a : ℕ) → a ≤ a
+        upto a = omega arith
+
+        below : (i n d : ℕ) → i < n → n ≡ d → i < d
+        below i n d l e = omega (arith, l, e)
+
+        one : (i : ℕ) (x y : EventResult) → slice_get f.results i ≡ Some x → slice_get whole.results i ≡ Some y → x ≡ y
+        one i x y e g =
+            let r = results s.head.done i (upto s.head.done) (below i (length f.results) s.head.done (slice_get_within f.results i x e) t.count) in
+            some_same x r.0 (sym (t.results i x e) ∙ ap (λ n. (s.cells (n + i)).result) (sym firsts) ∙ r.1)
+            ∙ some_same r.0 y (sym r.2 ∙ ap (λ (w : Progress Fields EventResult Line). slice_get w.results i) fold_whole ∙ g)
+
+    made_are : f.made ≡ map (map ticket_of) (made start.next.0 (first_head plan.script.batches) (map created_lines whole.results))
+    made_are = t.made_is ∙ ap (λ rs. map (map ticket_of) (made start.next.0 (first_head plan.script.batches) (map created_lines rs))) results_are
+
+    names_are : f.names ≡ map name_of whole.head.known
+    names_are = t.names ∙ ap (λ (h : Head Line). map name_of h.known) head_whole
+
+    places_by : AllByRecursion (λ (x : Place). IsOn s x.path x.host.0) f.places
+    places_by = recursion_from_All (λ (x : Place). IsOn s x.path x.host.0) f.places t.places
+
+    paths_are : map path_of f.places ≡ whole.tree.paths
+    paths_are = sorted_same (map path_of f.places) whole.tree.paths t.ordered (subst (λ (w : Progress Fields EventResult Line). IsStrictlySortedBy path_cmp w.tree.paths) at_whole (good plan fits start begins s.head.done).tree.ordered) there_are are_told
+      where
+        there_are : (q : Path) → list_any (path_eq q) (map path_of f.places) ≡ true → list_any (path_eq q) whole.tree.paths ≡ true
+        there_are q e = ap (λ (t : Tree Fields). there t q) (sym tree_whole) ∙ at_path (λ q. there (fold s.head.done).tree q ≡ true) (map path_of f.places) (each f.places places_by) q e
+          where
+            each : (xs : List Place) → AllByRecursion (λ (x : Place). IsOn s x.path x.host.0) xs → AllByRecursion (λ q. there (fold s.head.done).tree q ≡ true) (map path_of xs)
+            each [] h = tt
+            each (x ∷ xs) h = (complete.no_others x.path x.host.0 h.0, each xs h.1)
+
+        are_told : (q : Path) → list_any (path_eq q) whole.tree.paths ≡ true → list_any (path_eq q) (map path_of f.places) ≡ true
+        are_told q e = let c = complete.contexts q (ap (λ (t : Tree Fields). there t q) tree_whole ∙ e) in t.all_there q c.0 (ap is_some c.3)
+
+    abbrev placed : Path → Place
+    placed p = place_of (p, (hosts_after start whole).fields p)
+
+    places_are : f.places ≡ map place_of (shots (hosts_after start whole))
+    places_are = by_paths path_of placed f.places (all_in (λ (x : Place). IsOn s x.path x.host.0) (λ x. x ≡ placed x.path) (λ x e i. record { path = x.path; host = record { 0 = on_host x.path x.host.0 e i } }) f.places places_by)
+        ∙ ap (map placed) (paths_are ∙ sym paths_whole) ∙ sym (map_twice place_of (λ p. (p, (hosts_after start whole).fields p)) (hosts_after start whole).paths)
+
+    abbrev shown : Path → Shot
+    shown p = shot_of (p, whole.tree.fields p)
+
+    -- the record of a context has the fields that the fold has
+    shot_is : (x : Shot) → IsShot s x → x ≡ shown x.path
+    shot_is x h =
+        let on : IsOn s x.path h.host = ap is_some h.stored in
+        let c = complete.contexts x.path (complete.no_others x.path h.host on) in
+        let same_host : c.0 ≡ h.host = on_host x.path c.0 (ap is_some c.3) ∙ sym (on_host x.path h.host on) in
+        let same_entry : c.1 ≡ h.entry = some_same c.1 h.entry (sym c.3 ∙ ap (λ host. (s.columns x.path).store host) same_host ∙ h.stored) in
+        let same_body : c.2 ≡ h.body = some_same c.2 h.body (sym c.4 ∙ ap (λ (en : Entry Fields). en.body) same_entry ∙ h.home) in
+        let fields : x.fields ≡ whole.tree.fields x.path = h.fields ∙ ap (λ (r : Record Fields). r.fields) (sym same_body) ∙ c.5 ∙ ap (λ (t : Tree Fields). t.fields x.path) tree_whole in
+        λ i. record { path = x.path; fields = fields i }
+
+    shots_are : f.shots ≡ map shot_of (shots whole.tree)
+    shots_are = by_paths path_shot shown f.shots (all_in (IsShot s) (λ x. x ≡ shown x.path) shot_is f.shots (recursion_from_All (IsShot s) f.shots t.shots))
+        ∙ ap (map shown) (t.same_paths ∙ paths_are) ∙ sym (map_twice shot_of (λ p. (p, whole.tree.fields p)) whole.tree.paths)
+
+    -- all but the loads
+    pub told : f.loads ≡ map (load_of whole.entered) (hosts_after start whole).paths → f ≡ finished_of (code_ran plan.program) plan.program.shape start plan.script
+    told loads = λ i. record { results = results_are i; made = made_are i; names = names_are i; places = places_are i; shots = shots_are i; loads = loads i }
