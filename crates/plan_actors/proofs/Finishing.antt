@@ -58,7 +58,7 @@ all_in P Q f [] h = tt
 all_in P Q f (x ∷ xs) h = (f x h.0, all_in P Q f xs h.1)
 
 -- the same pairs
-moves_zip : (plan : Plan) (start : Start) (entered : List (List Path)) (rs : List EventResult) → moves_in (plan_actors plan.program) (begin_in plan start) plan.script.batches entered rs ≡ zip entered (map move_of rs)
+pub moves_zip : (plan : Plan) (start : Start) (entered : List (List Path)) (rs : List EventResult) → moves_in (plan_actors plan.program) (begin_in plan start) plan.script.batches entered rs ≡ zip entered (map move_of rs)
 moves_zip plan start [] [] = refl
 moves_zip plan start [] (r ∷ rs) = refl
 moves_zip plan start (e ∷ es) [] = refl

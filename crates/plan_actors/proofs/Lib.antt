@@ -1,5 +1,6 @@
 pub mod Coded
 pub mod Counting
+pub mod Efforts
 pub mod Finishing
 pub mod Folding
 pub mod Hosts
@@ -11,4 +12,5 @@ pub mod Moving
 pub mod Order
 pub mod Owing
 pub mod Spawning
+pub mod Unended
 pub mod Walking

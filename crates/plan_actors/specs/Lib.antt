@@ -1,4 +1,5 @@
 pub mod Calls
+pub mod Efforts
 pub mod Finishing
 pub mod PlanActors
 pub mod Plans
