@@ -15,7 +15,7 @@ use Rattle.wave_base.specs.Starts.{start_places}
 use Rattle.wave_base.specs.Tree.{Tree, there}
 use Rattle.resolved_service.specs.Jobs.{only, move_ran}
 use Rattle.script_fold.specs.Lines.{FitsJob, line_by, most_jobs}
-use Rattle.script_fold.specs.Runs.{after_jobs, hosts_after}
+use Rattle.script_fold.specs.Runs.{after_jobs, whole_run, hosts_after}
 use Rattle.script_fold.proofs.FoldLemmas.{All-drop_head}
 use Rattle.script_fold.proofs.StepLemmas.{any_ticket}
 use Rattle.wave_states.specs.Alone.{run_alone, segments_of, fold_alone, job_after, moves_in, places_alone}
@@ -24,11 +24,12 @@ use Rattle.wave_theory.proofs.Sites.{old_same}
 use Rattle.code_actor.specs.CodeActors as code
 use Rattle.code_actor.specs.CodeActors.{Fields}
 use Rattle.plan_actors.specs.Calls.{code_ran, IsTree, segments_on}
-use Rattle.plan_actors.specs.Efforts.{work_with, work_of}
+use Rattle.plan_actors.specs.Efforts.{work_with, work_of, whole_work}
 use Rattle.plan_actors.specs.PlanActors.{plan_actors}
 use Rattle.plan_actors.specs.Plans.{Plan, Fits, FitsStart, begin_in}
 use Rattle.plan_actors.proofs.Coded.{code_owes}
 use Rattle.plan_actors.proofs.Finishing.{moves_zip}
+use Rattle.plan_actors.proofs.Folding.{stays_long, most_over}
 use Rattle.plan_actors.proofs.Hosts.{hosts_there}
 use Rattle.plan_actors.proofs.Jobs.{runs_line, counts_line}
 use Rattle.plan_actors.proofs.Meeting.{good, folds_meet}
@@ -79,20 +80,53 @@ module _ (plan : Plan) (fits : Fits plan) (start : Start) (begins : FitsStart pl
       ∙ ap (λ (w : Progress Fields EventResult Line). work_of_job (plan_actors plan.program) (begin_in plan start) plan.script.batches n (work_of plan start n) (next_job w.head)) (folds_meet plan fits start begins n)
       ∙ one_same n (work_of plan start n) (next_job (at n).head) refl
 
-  -- T is the number of results, and E that of all paths entered
-  pub tickets_are : (n : ℕ) → (work_of plan start n).tickets ≡ length (at n).results
-  tickets_are zero = refl
-  tickets_are (suc n) = by (next_job (at n).head) (tickets_are n)
-    where
-      by : (o : Option Line) → (work_of plan start n).tickets ≡ length (at n).results → (work_with plan start (at n) (work_of plan start n) o).tickets ≡ length (with_job start.next.0 (line_by (code_ran plan.program)) created_lines (at n) o).results
-      by None e = e
-      by (Some l) e = omega (arith, e, length-append (at n).results ((line_by (code_ran plan.program) (start.next.0 + (at n).head.done) (at n).tree l).result ∷ []))
+  work_long : (n d : ℕ) → next_job (at n).head ≡ None → work_of plan start (d + n) ≡ work_of plan start n
+  work_long n zero e = ap (work_of plan start) (let z : 0 + n ≡ n = omega arith in z)
+  work_long n (suc d) e =
+      let stays : at (d + n) ≡ at n = stays_long plan.program.shape (code_ran plan.program) (IsTree plan.program) (code.IsJob plan.program) (code_owes plan.program fits.fit fits.verified) start plan.script fits.script begins n d e in
+      ap (work_of plan start) (let z : suc d + n ≡ suc (d + n) = omega arith in z)
+      ∙ ap (work_with plan start (at (d + n)) (work_of plan start (d + n))) (ap (λ (w : Progress Fields EventResult Line). next_job w.head) stays ∙ e)
+      ∙ work_long n d e
 
-  pub entered_are : (n : ℕ) → (work_of plan start n).entered ≡ sum_by length (at n).entered
-  entered_are zero = refl
-  entered_are (suc n) = by (next_job (at n).head) (entered_are n)
+  -- once no job is left it is the work of all
+  pub work_over : (n : ℕ) → next_job (at n).head ≡ None → work_of plan start n ≡ whole_work plan start
+  unfolding whole_work
+  work_over n e = sym (work_long n (most_jobs plan.script.batches) e) ∙ ap (work_of plan start) (swap (most_jobs plan.script.batches) n)
+      ∙ work_long (most_jobs plan.script.batches) n (most_over plan.program.shape (code_ran plan.program) (IsTree plan.program) (code.IsJob plan.program) (code_owes plan.program fits.fit fits.verified) start plan.script fits.script begins)
     where
-      by : (o : Option Line) → (work_of plan start n).entered ≡ sum_by length (at n).entered → (work_with plan start (at n) (work_of plan start n) o).entered ≡ sum_by length (with_job start.next.0 (line_by (code_ran plan.program)) created_lines (at n) o).entered
+      swap : (a b : ℕ) → a + b ≡ b + a
+      swap a b = omega arith
+
+  pub whole_is : whole_work plan start ≡ work_of plan start (most_jobs plan.script.batches)
+  unfolding whole_work
+  whole_is = refl
+
+-- T is the number of results, and E that of all paths entered
+module _ (plan : Plan) (start : Start) where
+  abbrev now : ℕ → Progress Fields EventResult Line
+  now n = after_jobs (code_ran plan.program) plan.program.shape start plan.script n
+
+  tickets_are : (n : ℕ) → (work_of plan start n).tickets ≡ length (now n).results
+  tickets_are zero = refl
+  tickets_are (suc n) = by (next_job (now n).head) (tickets_are n)
+    where
+      by : (o : Option Line) → (work_of plan start n).tickets ≡ length (now n).results → (work_with plan start (now n) (work_of plan start n) o).tickets ≡ length (with_job start.next.0 (line_by (code_ran plan.program)) created_lines (now n) o).results
       by None e = e
-      by (Some l) e = let ps : List Path = (line_by (code_ran plan.program) (start.next.0 + (at n).head.done) (at n).tree l).entered in
-          omega (arith, e, sum_by-append (λ (p : List Path). length p) (at n).entered (ps ∷ []), sum_by-cons (λ (p : List Path). length p) ps [])
+      by (Some l) e = omega (arith, e, length-append (now n).results ((line_by (code_ran plan.program) (start.next.0 + (now n).head.done) (now n).tree l).result ∷ []))
+
+  entered_are : (n : ℕ) → (work_of plan start n).entered ≡ sum_by length (now n).entered
+  entered_are zero = refl
+  entered_are (suc n) = by (next_job (now n).head) (entered_are n)
+    where
+      by : (o : Option Line) → (work_of plan start n).entered ≡ sum_by length (now n).entered → (work_with plan start (now n) (work_of plan start n) o).entered ≡ sum_by length (with_job start.next.0 (line_by (code_ran plan.program)) created_lines (now n) o).entered
+      by None e = e
+      by (Some l) e = let ps : List Path = (line_by (code_ran plan.program) (start.next.0 + (now n).head.done) (now n).tree l).entered in
+          omega (arith, e, sum_by-append (λ (p : List Path). length p) (now n).entered (ps ∷ []), sum_by-cons (λ (p : List Path). length p) ps [])
+
+  pub whole_tickets : (whole_work plan start).tickets ≡ length (whole_run (code_ran plan.program) plan.program.shape start plan.script).results
+  unfolding whole_work whole_run
+  whole_tickets = tickets_are (most_jobs plan.script.batches)
+
+  pub whole_entered : (whole_work plan start).entered ≡ sum_by length (whole_run (code_ran plan.program) plan.program.shape start plan.script).entered
+  unfolding whole_work whole_run
+  whole_entered = entered_are (most_jobs plan.script.batches)

@@ -109,7 +109,7 @@ module _ (shape : Shape) (meaning : Meaning) (FitsTree : Tree (List Value) → T
   unfolding whole_run
   whole_at = refl
 
-  stays_long : (n d : ℕ) → next_job (at n).head ≡ None → at (d + n) ≡ at n
+  pub stays_long : (n d : ℕ) → next_job (at n).head ≡ None → at (d + n) ≡ at n
   stays_long n zero e = ap at (let z : 0 + n ≡ n = omega arith in z)
   stays_long n (suc d) e =
       let before : at (d + n) ≡ at n = stays_long n d e in

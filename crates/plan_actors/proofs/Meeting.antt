@@ -11,10 +11,10 @@ use Rattle.wave_base.specs.declared.start.Start.{Start}
 use Rattle.wave_base.specs.Fold.{Progress, first_progress, next_job, created_lines}
 use Rattle.wave_base.specs.Scripts.{FitsLine}
 use Rattle.wave_base.specs.Starts.{start_tree}
-use Rattle.script_fold.specs.Lines.{FitsJob, line_by}
+use Rattle.script_fold.specs.Lines.{FitsJob, line_by, most_jobs}
 use Rattle.script_fold.specs.Runs.{after_jobs, whole_run}
 use Rattle.script_fold.proofs.FoldLemmas.{IsGood, good_after, All-drop_head}
-use Rattle.wave_states.specs.Alone.{fold_alone, run_alone}
+use Rattle.wave_states.specs.Alone.{fold_alone, job_after, run_alone}
 use Rattle.wave_states.specs.Begins.{begin_of}
 use Rattle.wave_states.specs.Owes.{IsBegin, IsPlan}
 use Rattle.wave_states.proofs.Starts.{start_fits}
@@ -25,7 +25,7 @@ use Rattle.plan_actors.specs.Calls.{code_ran, IsTree}
 use Rattle.plan_actors.specs.PlanActors.{plan_actors, IsJob, plan_kind}
 use Rattle.plan_actors.specs.Plans.{Plan, Fits, FitsStart, begin_in}
 use Rattle.plan_actors.proofs.Coded.{code_owes}
-use Rattle.plan_actors.proofs.Folding.{folds_alike, over_whole}
+use Rattle.plan_actors.proofs.Folding.{folds_alike, over_whole, most_over}
 use Rattle.plan_actors.proofs.Jobs.{runs_line}
 
 module _ (plan : Plan) (fits : Fits plan) where
@@ -68,3 +68,8 @@ module _ (plan : Plan) (fits : Fits plan) where
     pub whole_meets : (n : ℕ) → next_job (fold_alone (plan_actors plan.program) (begin_in plan start) plan.script.batches n).head ≡ None → fold_alone (plan_actors plan.program) (begin_in plan start) plan.script.batches n ≡ whole_run (code_ran plan.program) plan.program.shape start plan.script
     whole_meets n e = folds_meet n ∙ over_whole plan.program.shape (code_ran plan.program) (IsTree plan.program) (code.IsJob plan.program) (code_owes plan.program fits.fit fits.verified) start plan.script fits.script begins n
         (ap (λ (w : Progress Fields EventResult Line). next_job w.head) (sym (folds_meet n)) ∙ e)
+
+    -- none is left after as many as the lines may make
+    pub none_after : job_after (plan_actors plan.program) (begin_in plan start) plan.script.batches (most_jobs plan.script.batches) ≡ None
+    none_after = ap (λ (w : Progress Fields EventResult Line). next_job w.head) (folds_meet (most_jobs plan.script.batches))
+        ∙ most_over plan.program.shape (code_ran plan.program) (IsTree plan.program) (code.IsJob plan.program) (code_owes plan.program fits.fit fits.verified) start plan.script fits.script begins

@@ -32,6 +32,7 @@ use Rattle.code_actor.specs.CodeActors.{Fields, code_actors, code_kind}
 use Rattle.code_actor.proofs.Segmented.{initial_has}
 use Rattle.code_actor.proofs.Whole as coded
 use Rattle.plan_actors.specs.PlanActors.{Actor, Serves, Moves, Walks, end_of, shots_of, same, move_to, moving, walking, plan_actors, IsJob, IsFine, HasKinds, plan_kind}
+use Rattle.plan_actors.specs.Plans.{Setting}
 use Rattle.plan_actors.proofs.Images.{keeps_same, looks_same, ends_same}
 
 module _ (program : Program) (fit : IsFit program) (verified : IsVerified program) (hosts : ℕ) where
@@ -100,3 +101,6 @@ module _ (program : Program) (fit : IsFit program) (verified : IsVerified progra
 
   pub owes : Owes (plan_kind program hosts)
   owes = record { initial = initial; first = first; kept = stays_fit; keeps = keeps; looks = looks; ends = ends }
+
+  abbrev pub setting_of : Setting
+  setting_of = record { program = program; hosts = hosts; owed = owes }

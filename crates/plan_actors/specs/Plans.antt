@@ -1,6 +1,5 @@
 -- Plans: what the machine is to run; and that a plan fits.
-use Rattle.std.specs.Prelude.{◌≤◌, ◌-◌, ℕ, List}
-use Rattle.wave_base.specs.declared.script.Line.{Line}
+use Rattle.std.specs.Prelude.{◌≤◌, ℕ}
 use Rattle.wave_base.specs.declared.script.Script.{Script}
 use Rattle.wave_base.specs.declared.start.Start.{Start}
 use Rattle.wave_base.specs.Scripts.{IsScript}
@@ -8,8 +7,10 @@ use Rattle.wave_base.specs.Starts.{IsStart}
 use Rattle.service_code.specs.declared.program.Program.{Program}
 use Rattle.service_verify.specs.Fit.{IsFit}
 use Rattle.service_verify.specs.Points.{IsVerified}
-use Rattle.code_actor.specs.CodeActors.{Fields}
 use Rattle.wave_states.specs.Begins.{Begin, begin_of}
+use Rattle.wave_states.specs.Owes.{Owes}
+use Rattle.code_actor.specs.CodeActors.{Fields}
+use Rattle.plan_actors.specs.PlanActors.{plan_kind}
 
 -- a program, a script for its shape, and how many workers there are
 pub record Plan : Type 0 where
@@ -33,12 +34,8 @@ FitsStart plan start = IsStart plan.program.shape plan.script.hosts start
 abbrev pub begin_in : Plan → Start → Begin Fields
 begin_in plan start = begin_of plan.program.shape start
 
--- a program that is fit and verified, and how many hosts the jobs may name: all that the actors of a plan know of it
+-- what the actors of plans run on: a program and a number of hosts, with which they owe what the machine asks
 pub record Setting : Type 0 where
   pub program : Program
   pub hosts : ℕ
-  pub fit : IsFit program
-  pub verified : IsVerified program
-
-abbrev pub setting_of : (plan : Plan) → Fits plan → Setting
-setting_of plan f = record { program = plan.program; hosts = plan.script.hosts; fit = f.fit; verified = f.verified }
+  pub owed : Owes (plan_kind program hosts)

@@ -1,6 +1,12 @@
-//! The actors of a plan: its events, moves and snapshots run by the machine; and that the machine's fold of them is the script's.
+//! The actors of a plan: events, moves and snapshots as one kind of actors of the machine; and that the machine's fold of them is
+//! the fold of the script, where calls are run by their code.
 #![tactic(auto)]
 
-ghost use Rattle.std.specs.Prelude.{◌≡◌};
+mod actors;
+mod laws;
 
-pub fn nothing() {}
+pub use actors::PlanActors;
+pub use laws::{
+    actors_owe, code_owes, finished_states_tell, folds_end, folds_meet, jobs_are_lines,
+    jobs_have_results, plans_begin, runs_are_short, work_is,
+};
