@@ -1,6 +1,7 @@
 pub mod Coded
 pub mod Counting
 pub mod Efforts
+pub mod Examples
 pub mod Finishing
 pub mod Folding
 pub mod Hosts
