@@ -35,14 +35,14 @@ there_done : There ≡ Done → ⊥
 there_done e = grind arith
 
 -- the status of a ticket whose segment is out
-running_is : (st : Status) (v : Stage) (o : Bool) (p : Path) → Shows.StatusShows st v o p → v ≡ There → o ≡ true → st ≡ Running p
-running_is States.Status.Travelling Entering o p z e f = absurd (clash _ f z)
-running_is States.Status.Travelling Coming o p z e f = absurd (clash _ f z)
-running_is (States.Status.Waiting q) Lined o p z e f = absurd (clash _ f z.1)
-running_is (States.Status.Ready q) There o p z e f = absurd (clash _ f z.1)
-running_is (Running q) There o p z e f = ap Running z.0
-running_is States.Status.Ended Done o p z e f = absurd (clash _ f z)
-running_is st v o p z e f = absurd z
+pub running_is : (st : Status) (v : Stage) (o : Bool) (p : Path) → Shows.StatusShows st v o p → o ≡ true → st ≡ Running p
+running_is States.Status.Travelling Entering o p z f = absurd (clash _ f z)
+running_is States.Status.Travelling Coming o p z f = absurd (clash _ f z)
+running_is (States.Status.Waiting q) Lined o p z f = absurd (clash _ f z.1)
+running_is (States.Status.Ready q) There o p z f = absurd (clash _ f z.1)
+running_is (Running q) There o p z f = ap Running z.0
+running_is States.Status.Ended Done o p z f = absurd (clash _ f z)
+running_is st v o p z f = absurd z
 
 module _ {A F R J : Type 0} (kind : Kind A F R J) (owes : Owes kind) (b : Begin F) (batches : List (List J)) (begins : IsBegin kind b) (jobs : All (All kind.is_job) batches) where
   abbrev w : Way
@@ -128,7 +128,7 @@ module _ {A F R J : Type 0} (kind : Kind A F R J) (owes : Owes kind) (b : Begin 
     can_stop workers less = record {
       event = (c).event;
       is_event = c.event_is;
-      running = running_is (c).event.status _ _ _ c.status hs.stage hs.out ∙ ap Running (sym hs.place);
+      running = running_is (c).event.status _ _ _ c.status hs.out ∙ ap Running (sym hs.place);
       only = λ u h e f. (let y = x.hands u h e in y.worker ∙ ap (k.ghost).worker f ∙ sym hs.worker);
       host = owner ((k.ghost).trail p);
       here = ap is_some entry_there;

@@ -271,7 +271,7 @@ module _ {A F R J : Type 0} (kind : Kind A F R J) (owes : Owes kind) (b : Begin 
         by Pause.Back f = absurd (past (w.last t) f.more)
         by (Over r) f = (f.moves q h (ap kind.system.moved (sym (result_is (w.last t) r (omega arith) f.result_is)) ∙ m)).0
 
-    comes_last : visits w t (w.place t (w.last t)) ≡ true
+    pub comes_last : visits w t (w.place t (w.last t)) ≡ true
     comes_last = Rattle.wave_theory.proofs.Ranks.comes law t (w.last t) (w.place t (w.last t)) (omega arith) (law.held_entered t (w.last t) (w.place t (w.last t)) (law.at_held t (w.last t) (omega arith)))
 
     -- elsewhere its end changes nothing

@@ -116,7 +116,7 @@ module _ {A F R J : Type 0} (sys : Actors A F R J) where
         by true z s s' a a' e d u = (let d' : s' ≡ s + 5 = d ∙ ap (λ i. s + full_part i) z in let u' : a' ≡ a + 1 = u ∙ ap (λ i. a + one_if i) z in omega (arith, e, d', u'))
         by false z s s' a a' e d u = (let d' : s' ≡ s + 3 = d ∙ ap (λ i. s + full_part i) z in let u' : a' ≡ a + 0 = u ∙ ap (λ i. a + one_if i) z in omega (arith, e, d', u'))
 
-    last_stale : (after_segments sys (suc n) y).fresh ≡ false
+    pub last_stale : (after_segments sys (suc n) y).fresh ≡ false
     last_stale = ap (λ (z : Alone A F R). z.fresh) (next_is sys n y) ∙ over_stale (after_segments sys n y) c.result (c.under n (omega arith)) (sym (ap (λ (z : Alone A F R). z.result) (next_is sys n y)) ∙ c.ends)
 
     none_more : (n : ℕ) → n + 0 ≡ n
@@ -193,7 +193,7 @@ module _ {A F R J : Type 0} (kind : Kind A F R J) (owes : Owes kind) (b : Begin 
           by None = omega arith
           by (Some j) = subst (λ m. (at n).head.done ≤ m) (sym (Folds.with_done_done (at n).head _)) (omega arith)
 
-  all_below : (n m : ℕ) → job_after kind.system b batches n ≡ None → (at m).head.done ≤ (at n).head.done
+  pub all_below : (n m : ℕ) → job_after kind.system b batches n ≡ None → (at m).head.done ≤ (at n).head.done
   all_below n m e = elim (either m n) [
     | inl i ↦ subst (λ u. (at m).head.done ≤ (at u).head.done) (sym i.1) (done_up i.0 m)
     | inr i ↦ subst (λ u. (at u).head.done ≤ (at n).head.done) (sym i.1) (subst (λ (v : Progress F R J). v.head.done ≤ (at n).head.done) (sym (Live.over_stays kind owes b batches begins jobs n i.0 e)) (omega arith))

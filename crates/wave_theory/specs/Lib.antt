@@ -1,9 +1,13 @@
+pub mod Agree
 pub mod Always
 pub mod Bounds
 pub mod Came
 pub mod Complete
 pub mod Counted
+pub mod Ends
+pub mod Finals
 pub mod Hands
+pub mod Holding
 pub mod Independent
 pub mod Listed
 pub mod Movers
@@ -11,6 +15,8 @@ pub mod NeverStuck
 pub mod Numbers
 pub mod OneHost
 pub mod Owners
+pub mod Reads
 pub mod Records
 pub mod Results
+pub mod Sent
 pub mod Trails

@@ -9,7 +9,10 @@ mod movers;
 
 pub use acting::Acting;
 pub use counter::{Counter, at_movers_and_walkers, at_the_counter};
-pub use given::{hands_stay_over, may_run, stoppable};
+pub use given::{
+    agree, all_moves, changes, ends, hands_stay_over, holders, holding, loads, may_run, measured,
+    reads, sent, stoppable, within,
+};
 pub use laws::{
     bounded, bounds, by_owners, came, complete, counted, hands_stay, independent, listed,
     never_stuck, numbers, one_host, one_owner, records, results, sorted, tickets, traced, trails,
