@@ -1,5 +1,5 @@
 -- What a finished state tells is what the script's fold by code gives.
-use Rattle.std.proofs.Common.{◌≡◌, ◌≤◌, ◌<◌, ℕ, zero, suc, ◌+◌, ◌-◌, ◌⊎◌, inl, inr, Bool, true, false, List, [], ◌∷◌, length, map, Option, Some, None, zip, slice_get, refl, sym, ◌∙◌, ap, ap₂, subst, arith}
+use Rattle.std.proofs.Common.{◌≡◌, ◌≤◌, ◌<◌, ℕ, zero, suc, ◌+◌, ◌-◌, ◌⊎◌, inl, inr, Bool, true, false, if◌then◌else◌, List, [], ◌∷◌, length, map, Option, Some, None, zip, slice_get, refl, sym, ◌∙◌, ap, ap₂, subst, arith}
 use Rattle.std.specs.Prelude.{All, is_some}
 use Rattle.std.specs.List.{list_any, AllByRecursion}
 use Rattle.std.proofs.lemmas.List.Elements.{recursion_from_All}
@@ -22,15 +22,18 @@ use Rattle.wave_base.specs.Tree.{Tree, there, shots}
 use Rattle.resolved_service.specs.Jobs.{shot_of}
 use Rattle.script_fold.specs.Lines.{name_of}
 use Rattle.script_fold.specs.Runs.{after_jobs, whole_run, hosts_after, ticket_of, place_of, finished_by, finished_of}
+use Rattle.wave_states.specs.Begins.{is_root}
 use Rattle.wave_states.specs.Alone.{fold_alone, moves_in, places_alone, run_alone}
 use Rattle.wave_states.specs.States.{State, Entry, Record}
+use Rattle.wave_theory.specs.Always.{served_before}
 use Rattle.wave_theory.specs.Complete.{IsComplete}
+use Rattle.wave_theory.specs.Numbers.{HasEntry}
 use Rattle.wave_theory.specs.Results.{Results, Tickets}
 use Rattle.wave_theory.proofs.Basics.{options, none_not, some_same}
 use Rattle.wave_theory.proofs.Folds.{with_done_done}
 use Rattle.code_actor.specs.CodeActors.{Fields}
 use Rattle.plan_actors.specs.Calls.{code_ran}
-use Rattle.plan_actors.specs.Finishing.{path_of, path_shot, IsOn, IsShot, Tells}
+use Rattle.plan_actors.specs.Finishing.{path_of, path_shot, IsOn, IsShot, IsLoad, Tells}
 use Rattle.plan_actors.specs.PlanActors.{Actor, plan_actors, plan_kind}
 use Rattle.plan_actors.specs.Plans.{Plan, Fits, FitsStart, begin_in}
 use Rattle.plan_actors.proofs.Hosts.{hosts_there, hosts_paths}
@@ -67,7 +70,8 @@ moves_zip plan start (e ∷ es) (r ∷ rs) = ap (λ xs. (e, move_of r) ∷ xs) (
 module _ (plan : Plan) (fits : Fits plan) (start : Start) (begins : FitsStart plan start) (s : State Actor Fields EventResult Line)
     (complete : IsComplete (plan_kind plan.program plan.script.hosts) (begin_in plan start) plan.script.batches s)
     (tickets : Tickets (plan_kind plan.program plan.script.hosts) (begin_in plan start) plan.script.batches s)
-    (results : Results (plan_kind plan.program plan.script.hosts) (begin_in plan start) plan.script.batches s) where
+    (results : Results (plan_kind plan.program plan.script.hosts) (begin_in plan start) plan.script.batches s)
+    (loads : (p : Path) (en : Entry Fields) → HasEntry s p en → en.served ≡ served_before (plan_kind plan.program plan.script.hosts) (begin_in plan start) plan.script.batches p + load_of (fold_alone (plan_actors plan.program) (begin_in plan start) plan.script.batches s.head.done).entered p) where
   abbrev fold : ℕ → Progress Fields EventResult Line
   fold n = fold_alone (plan_actors plan.program) (begin_in plan start) plan.script.batches n
 
@@ -187,6 +191,21 @@ module _ (plan : Plan) (fits : Fits plan) (start : Start) (begins : FitsStart pl
     shots_are = by_paths path_shot shown f.shots (all_in (IsShot s) (λ x. x ≡ shown x.path) shot_is f.shots (recursion_from_All (IsShot s) f.shots t.shots))
         ∙ ap (map shown) (t.same_paths ∙ paths_are) ∙ sym (map_twice shot_of (λ p. (p, whole.tree.fields p)) whole.tree.paths)
 
-    -- all but the loads
-    pub told : f.loads ≡ map (load_of whole.entered) (hosts_after start whole).paths → f ≡ finished_of (code_ran plan.program) plan.program.shape start plan.script
-    told loads = λ i. record { results = results_are i; made = made_are i; names = names_are i; places = places_are i; shots = shots_are i; loads = loads i }
+    load_is : (x : Place) (n : ℕ) → IsLoad s start x.path n → n ≡ load_of whole.entered x.path
+    load_is x n h = same (if is_root x.path then start.next.0 - 1 else 0) n (load_of whole.entered x.path) h.entry.served h.served
+        (loads x.path h.entry (inl (h.host, h.stored)) ∙ ap (λ (w : Progress Fields EventResult Line). (if is_root x.path then start.next.0 - 1 else 0) + load_of w.entered x.path) fold_whole)
+      where
+        same : (a n m v : ℕ) → v ≡ a + n → v ≡ a + m → n ≡ m
+        same a n m v e g = omega (arith, e, g)
+
+    loads_are : f.loads ≡ map (load_of whole.entered) (hosts_after start whole).paths
+    loads_are = each f.places f.loads t.as_many (λ i x n e g. load_is x n (t.loads i x n e g)) ∙ sym (map_twice (load_of whole.entered) path_of f.places) ∙ ap (map (load_of whole.entered)) (paths_are ∙ sym paths_whole)
+      where
+        each : (xs : List Place) (ns : List ℕ) → length ns ≡ length xs → ((i : ℕ) (x : Place) (n : ℕ) → slice_get xs i ≡ Some x → slice_get ns i ≡ Some n → n ≡ load_of whole.entered x.path) → ns ≡ map (λ x. load_of whole.entered x.path) xs
+        each [] [] e h = refl
+        each [] (n ∷ ns) e h = absurd (omega (arith, e))
+        each (x ∷ xs) [] e h = absurd (omega (arith, e))
+        each (x ∷ xs) (n ∷ ns) e h = ap₂ (λ a b. a ∷ b) (h 0 x n refl refl) (each xs ns (omega (arith, e)) (λ i y m g k. h (suc i) y m g k))
+
+    pub told : f ≡ finished_of (code_ran plan.program) plan.program.shape start plan.script
+    told = λ i. record { results = results_are i; made = made_are i; names = names_are i; places = places_are i; shots = shots_are i; loads = loads_are i }

@@ -1,5 +1,5 @@
 -- What a finished state of a plan has to tell.
-use Rattle.std.specs.Prelude.{◌≡◌, ◌+◌, ℕ, true, List, length, map, Some, is_some, slice_get, All}
+use Rattle.std.specs.Prelude.{◌≡◌, ◌+◌, ◌-◌, ℕ, if◌then◌else◌, true, List, length, map, Some, is_some, slice_get, All}
 use Rattle.std.specs.List.{list_any}
 use Rattle.std.specs.List.Sorted.{IsStrictlySortedBy}
 use Rattle.wave_base.specs.declared.finished.Finished.{Finished}
@@ -13,6 +13,7 @@ use Rattle.wave_base.specs.Fold.{first_head, made, created_lines}
 use Rattle.wave_base.specs.Paths.{path_eq, path_cmp}
 use Rattle.script_fold.specs.Lines.{name_of}
 use Rattle.script_fold.specs.Runs.{ticket_of}
+use Rattle.wave_states.specs.Begins.{is_root}
 use Rattle.wave_states.specs.States.{State, Entry, Record}
 use Rattle.code_actor.specs.CodeActors.{Fields}
 use Rattle.plan_actors.specs.PlanActors.{Actor}
@@ -37,8 +38,15 @@ module _ (s : State Actor Fields EventResult Line) where
     pub home : entry.body ≡ Some body
     pub fields : x.fields ≡ body.fields
 
+  -- a load of a context that is there: what was served since the Start, before which the tickets up to then count at the root
+  pub record IsLoad (start : Start) (p : Path) (load : ℕ) : Type 0 where
+    pub host : ℕ
+    pub entry : Entry Fields
+    pub stored : (s.columns p).store host ≡ Some entry
+    pub served : entry.served ≡ (if is_root p then start.next.0 - 1 else 0) + load
+
   -- Of a run from a Start with these batches: the results of the committed tickets, in order; the tickets of what they created; the
-  -- numbers of the events; in path order the contexts that are there, each with the host that has it, and with its fields.
+  -- numbers of the events; in path order the contexts that are there, each with the host that has it, with its fields, and with its load.
   pub record Tells (start : Start) (batches : List (List Line)) (f : Finished) : Type 0 where
     pub count : length f.results ≡ s.head.done
     pub results : (i : ℕ) (r : EventResult) → slice_get f.results i ≡ Some r → (s.cells (start.next.0 + i)).result ≡ Some r
@@ -49,3 +57,5 @@ module _ (s : State Actor Fields EventResult Line) where
     pub places : All (λ (x : Place). IsOn x.path x.host.0) f.places
     pub same_paths : map path_shot f.shots ≡ map path_of f.places
     pub shots : All IsShot f.shots
+    pub as_many : length f.loads ≡ length f.places
+    pub loads : (i : ℕ) (x : Place) (load : ℕ) → slice_get f.places i ≡ Some x → slice_get f.loads i ≡ Some load → IsLoad start x.path load

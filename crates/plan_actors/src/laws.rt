@@ -1,15 +1,14 @@
 //! Laws of the actors of a plan: each is the contract of a function that does nothing.
 
-ghost use Rattle.std.specs.Prelude.{◌≡◌, ◌≢◌, ◌≤◌, ◌+◌, ℕ, List, length, sum_by, map, Some, None};
+ghost use Rattle.std.specs.Prelude.{◌≡◌, ◌≢◌, ◌≤◌, ◌+◌, ℕ, List, length, sum_by, Some, None};
 ghost use Rattle.wave_base.specs.declared.finished.Finished.{Finished};
 ghost use Rattle.wave_base.specs.declared.outcome.EventResult.{EventResult};
 ghost use Rattle.wave_base.specs.declared.script.Line.{Line};
 ghost use Rattle.wave_base.specs.declared.start.Start.{Start};
-ghost use Rattle.wave_base.specs.Places.{load_of};
 ghost use Rattle.wave_base.specs.Tree.{Tree};
 ghost use Rattle.script_fold.specs.Lines.{FitsJob, line_by, most_jobs};
 ghost use Rattle.script_fold.specs.Owed.{Owed};
-ghost use Rattle.script_fold.specs.Runs.{after_jobs, whole_run, hosts_after, finished_of};
+ghost use Rattle.script_fold.specs.Runs.{after_jobs, whole_run, finished_of};
 ghost use Rattle.service_code.specs.declared.program.Program.{Program};
 ghost use Rattle.service_verify.specs.Fit.{IsFit};
 ghost use Rattle.service_verify.specs.Points.{IsVerified};
@@ -30,7 +29,7 @@ ghost use Rattle.plan_actors.specs.PlanActors.{Actor, plan_actors, plan_kind};
 ghost use Rattle.plan_actors.specs.Plans.{Plan, Fits, FitsStart, begin_in};
 
 use crate::actors::PlanActors;
-use wave_theory::{bounded, complete, results, tickets};
+use wave_theory::{bounded, complete, loads, results, tickets};
 
 /// A plan that fits is one that fits the machine, and a Start that fits it a beginning.
 pub fn plans_begin()
@@ -77,12 +76,13 @@ pub fn work_is()
     ensures entered { (plan : Plan) (start : Start) → (whole_work plan start).entered ≡ sum_by length (whole_run (code_ran plan.program) plan.program.shape start plan.script).entered }
 {}
 
-/// What a finished state tells is what the script gives with calls run by their code, but for the loads.
+/// What a finished state tells is what the script gives with calls run by their code: results, tickets of created calls, names,
+/// places, shots and loads.
 pub fn finished_states_tell()
-    ensures { (plan : Plan) (start : Start) → Fits plan → FitsStart plan start → (labels : List Label) (s : State Actor Fields EventResult Line) → runs.run (plan_actors plan.program) plan.workers (start_state (begin_in plan start) plan.script.batches) labels ≡ Some s → runs.Finished (plan_actors plan.program) plan.workers s →
-        (f : Finished) → Tells s start plan.script.batches f → f.loads ≡ map (load_of (whole_run (code_ran plan.program) plan.program.shape start plan.script).entered) (hosts_after start (whole_run (code_ran plan.program) plan.program.shape start plan.script)).paths → f ≡ finished_of (code_ran plan.program) plan.program.shape start plan.script }
+    ensures { (plan : Plan) (start : Start) → Fits plan → FitsStart plan start → (labels : List Label) (s : State Actor Fields EventResult Line) → runs.run (plan_actors plan.program) plan.workers (start_state (begin_in plan start) plan.script.batches) labels ≡ Some s → runs.Finished (plan_actors plan.program) plan.workers s → (f : Finished) → Tells s start plan.script.batches f → f ≡ finished_of (code_ran plan.program) plan.program.shape start plan.script }
 {
     complete::<PlanActors>();
+    loads::<PlanActors>();
     results::<PlanActors>();
     tickets::<PlanActors>();
 }
@@ -94,6 +94,7 @@ pub fn runs_are_short()
 {
     bounded::<PlanActors>();
     complete::<PlanActors>();
+    loads::<PlanActors>();
     results::<PlanActors>();
     tickets::<PlanActors>();
 }
