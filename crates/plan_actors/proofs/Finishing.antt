@@ -2,7 +2,7 @@
 use Rattle.std.proofs.Common.{◌≡◌, ◌≤◌, ◌<◌, ℕ, zero, suc, ◌+◌, ◌-◌, ◌⊎◌, inl, inr, Bool, true, false, if◌then◌else◌, List, [], ◌∷◌, length, map, Option, Some, None, zip, slice_get, refl, sym, ◌∙◌, ap, ap₂, subst, arith}
 use Rattle.std.specs.Prelude.{All, is_some}
 use Rattle.std.specs.List.{list_any, AllByRecursion}
-use Rattle.std.proofs.lemmas.List.Elements.{recursion_from_All}
+use Rattle.std.proofs.lemmas.List.Elements.{recursion_from_All, All-from_recursion}
 use Rattle.std.proofs.lemmas.Option.{slice_get_within}
 use Rattle.wave_base.specs.declared.finished.Finished.{Finished}
 use Rattle.wave_base.specs.declared.finished.Place.{Place}
@@ -29,7 +29,8 @@ use Rattle.wave_theory.specs.Always.{served_before}
 use Rattle.wave_theory.specs.Complete.{IsComplete}
 use Rattle.wave_theory.specs.Numbers.{HasEntry}
 use Rattle.wave_theory.specs.Results.{Results, Tickets}
-use Rattle.wave_theory.proofs.Basics.{options, none_not, some_same}
+use Rattle.wave_theory.proofs.Basics.{options, none_not, some_same, path_self}
+use Rattle.wave_theory.proofs.Paths.{or_left, or_right}
 use Rattle.wave_theory.proofs.Folds.{with_done_done}
 use Rattle.code_actor.specs.CodeActors.{Fields}
 use Rattle.plan_actors.specs.Calls.{code_ran}
@@ -209,3 +210,89 @@ module _ (plan : Plan) (fits : Fits plan) (start : Start) (begins : FitsStart pl
 
     pub told : f ≡ finished_of (code_ran plan.program) plan.program.shape start plan.script
     told = λ i. record { results = results_are i; made = made_are i; names = names_are i; places = places_are i; shots = shots_are i; loads = loads_are i }
+
+  -- ---- and the state tells it
+
+  abbrev pub given : Finished
+  given = finished_of (code_ran plan.program) plan.program.shape start plan.script
+
+  abbrev hosts : Tree ℕ
+  hosts = hosts_after start whole
+
+  -- a context of the tree is on its host, with its fields
+  on_its_host : (p : Path) → there whole.tree p ≡ true → IsOn s p (hosts.fields p)
+  on_its_host p e = let c = complete.contexts p (ap (λ (t : Tree Fields). there t p) tree_whole ∙ e) in
+      subst (IsOn s p) (on_host p c.0 (ap is_some c.3)) (ap is_some c.3)
+
+  its_shot : (p : Path) → there whole.tree p ≡ true → IsShot s (shot_of (p, whole.tree.fields p))
+  its_shot p e = let c = complete.contexts p (ap (λ (t : Tree Fields). there t p) tree_whole ∙ e) in
+      record { host = c.0; entry = c.1; body = c.2; stored = c.3; home = c.4; fields = ap (λ (t : Tree Fields). t.fields p) (sym tree_whole) ∙ sym c.5 }
+
+  its_load : (p : Path) → there whole.tree p ≡ true → IsLoad s start p (load_of whole.entered p)
+  its_load p e = let c = complete.contexts p (ap (λ (t : Tree Fields). there t p) tree_whole ∙ e) in
+      record { host = c.0; entry = c.1; stored = c.3; served = loads p c.1 (inl (c.0, c.3)) ∙ ap (λ (w : Progress Fields EventResult Line). (if is_root p then start.next.0 - 1 else 0) + load_of w.entered p) fold_whole }
+
+  each_there : AllByRecursion (λ p. there whole.tree p ≡ true) whole.tree.paths
+  each_there = self whole.tree.paths (λ q e. e)
+    where
+      self : (ps : List Path) → ((q : Path) → list_any (path_eq q) ps ≡ true → there whole.tree q ≡ true) → AllByRecursion (λ p. there whole.tree p ≡ true) ps
+      self [] h = tt
+      self (p ∷ ps) h = (h p (or_left (path_eq p p) (list_any (path_eq p) ps) (path_self p)), self ps (λ q e. h q (or_right (path_eq q p) (list_any (path_eq q) ps) e)))
+
+  -- what holds of each path holds of what is made from it
+  all_made : {X : Type 0} (P : X → Type 0) (g : Path → X) (ps : List Path) → AllByRecursion (λ p. P (g p)) ps → AllByRecursion P (map g ps)
+  all_made P g [] h = tt
+  all_made P g (p ∷ ps) h = (h.0, all_made P g ps h.1)
+
+  paths_again : {X : Type 0} (f : X → Path) (g : Path → X) (ps : List Path) → ((p : Path) → f (g p) ≡ p) → map f (map g ps) ≡ ps
+  paths_again f g [] h = refl
+  paths_again f g (p ∷ ps) h = ap₂ (λ q qs. q ∷ qs) (h p) (paths_again f g ps h)
+
+  places_made : given.places ≡ map (λ p. place_of (p, hosts.fields p)) whole.tree.paths
+  places_made = map_twice place_of (λ p. (p, hosts.fields p)) hosts.paths ∙ ap (map (λ p. place_of (p, hosts.fields p))) paths_whole
+
+  place_paths : map path_of given.places ≡ whole.tree.paths
+  place_paths = ap (map path_of) places_made ∙ paths_again path_of (λ p. place_of (p, hosts.fields p)) whole.tree.paths (λ p. refl)
+
+  shots_made : given.shots ≡ map (λ p. shot_of (p, whole.tree.fields p)) whole.tree.paths
+  shots_made = map_twice shot_of (λ p. (p, whole.tree.fields p)) whole.tree.paths
+
+  loads_made : given.loads ≡ map (load_of whole.entered) whole.tree.paths
+  loads_made = ap (map (load_of whole.entered)) paths_whole
+
+  each_load : (ps : List Path) → AllByRecursion (λ p. there whole.tree p ≡ true) ps → (i : ℕ) (x : Place) (n : ℕ) → slice_get (map (λ p. place_of (p, hosts.fields p)) ps) i ≡ Some x → slice_get (map (load_of whole.entered) ps) i ≡ Some n → IsLoad s start x.path n
+  each_load [] h i x n e g = absurd (none_not e)
+  each_load (p ∷ ps) h zero x n e g = subst (IsLoad s start x.path) (some_same (load_of whole.entered p) n g) (subst (λ (y : Place). IsLoad s start y.path (load_of whole.entered p)) (some_same (place_of (p, hosts.fields p)) x e) (its_load p h.0))
+  each_load (p ∷ ps) h (suc i) x n e g = each_load ps h.1 i x n e g
+
+  lengths : {X Y : Type 0} (f : Path → X) (g : Path → Y) (ps : List Path) → length (map f ps) ≡ length (map g ps)
+  lengths f g [] = refl
+  lengths f g (p ∷ ps) = ap suc (lengths f g ps)
+
+  pub tells : Tells s start plan.script.batches given
+  tells = record {
+    count = count_whole;
+    results = λ i r e.
+        let c = results s.head.done i (upto s.head.done) (below i (length whole.results) s.head.done (slice_get_within whole.results i r e) count_whole) in
+        ap (λ n. (s.cells (n + i)).result) (sym firsts) ∙ c.1 ∙ sym c.2 ∙ ap (λ (w : Progress Fields EventResult Line). slice_get w.results i) fold_whole ∙ e;
+    made_is = refl;
+    names = ap (λ (h : Head Line). map name_of h.known) (sym head_whole);
+    ordered = subst (IsStrictlySortedBy path_cmp) (sym place_paths) (subst (λ (w : Progress Fields EventResult Line). IsStrictlySortedBy path_cmp w.tree.paths) at_whole (good plan fits start begins s.head.done).tree.ordered);
+    all_there = λ p host e. ap (list_any (path_eq p)) place_paths ∙ ap (λ (t : Tree Fields). there t p) (sym tree_whole) ∙ complete.no_others p host e;
+    places = subst (All (λ (x : Place). IsOn s x.path x.host.0)) (sym places_made) (All-from_recursion (λ (x : Place). IsOn s x.path x.host.0) (map (λ p. place_of (p, hosts.fields p)) whole.tree.paths)
+        (all_made (λ (x : Place). IsOn s x.path x.host.0) (λ p. place_of (p, hosts.fields p)) whole.tree.paths (all_in (λ p. there whole.tree p ≡ true) (λ p. IsOn s p (hosts.fields p)) on_its_host whole.tree.paths each_there)));
+    same_paths = ap (map path_shot) shots_made ∙ paths_again path_shot (λ p. shot_of (p, whole.tree.fields p)) whole.tree.paths (λ p. refl) ∙ sym place_paths;
+    shots = subst (All (IsShot s)) (sym shots_made) (All-from_recursion (IsShot s) (map (λ p. shot_of (p, whole.tree.fields p)) whole.tree.paths)
+        (all_made (IsShot s) (λ p. shot_of (p, whole.tree.fields p)) whole.tree.paths (all_in (λ p. there whole.tree p ≡ true) (λ p. IsShot s (shot_of (p, whole.tree.fields p))) its_shot whole.tree.paths each_there)));
+    as_many = ap length loads_made ∙ lengths (load_of whole.entered) (λ p. place_of (p, hosts.fields p)) whole.tree.paths ∙ ap length (sym places_made);
+    loads = λ i x n e g. each_load whole.tree.paths each_there i x n (ap (λ xs. slice_get xs i) (sym places_made) ∙ e) (ap (λ ns. slice_get ns i) (sym loads_made) ∙ g);
+  }
+    where
+      firsts : suc (start.next.0 - 1) ≡ start.next.0
+      firsts = omega (arith, begins.first_next)
+
+      upto : (a : ℕ) → a ≤ a
+      upto a = omega arith
+
+      below : (i n d : ℕ) → i < n → n ≡ d → i < d
+      below i n d l e = omega (arith, l, e)

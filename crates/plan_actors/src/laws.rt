@@ -1,6 +1,6 @@
 //! Laws of the actors of a plan: each is the contract of a function that does nothing.
 
-ghost use Rattle.std.specs.Prelude.{◌≡◌, ◌≢◌, ◌≤◌, ◌+◌, ℕ, List, length, sum_by, Some, None};
+ghost use Rattle.std.specs.Prelude.{◌≡◌, ◌≢◌, ◌↔◌, ◌≤◌, ◌+◌, ℕ, List, length, sum_by, Some, None};
 ghost use Rattle.wave_base.specs.declared.finished.Finished.{Finished};
 ghost use Rattle.wave_base.specs.declared.outcome.EventResult.{EventResult};
 ghost use Rattle.wave_base.specs.declared.script.Line.{Line};
@@ -76,10 +76,10 @@ pub fn work_is()
     ensures entered { (plan : Plan) (start : Start) → (whole_work plan start).entered ≡ sum_by length (whole_run (code_ran plan.program) plan.program.shape start plan.script).entered }
 {}
 
-/// What a finished state tells is what the script gives with calls run by their code: results, tickets of created calls, names,
+/// What a finished state tells is exactly what the script gives with calls run by their code: results, tickets of created calls, names,
 /// places, shots and loads.
 pub fn finished_states_tell()
-    ensures { (plan : Plan) (start : Start) → Fits plan → FitsStart plan start → (labels : List Label) (s : State Actor Fields EventResult Line) → runs.run (plan_actors plan.program) plan.workers (start_state (begin_in plan start) plan.script.batches) labels ≡ Some s → runs.Finished (plan_actors plan.program) plan.workers s → (f : Finished) → Tells s start plan.script.batches f → f ≡ finished_of (code_ran plan.program) plan.program.shape start plan.script }
+    ensures { (plan : Plan) (start : Start) → Fits plan → FitsStart plan start → (labels : List Label) (s : State Actor Fields EventResult Line) → runs.run (plan_actors plan.program) plan.workers (start_state (begin_in plan start) plan.script.batches) labels ≡ Some s → runs.Finished (plan_actors plan.program) plan.workers s → (f : Finished) → Tells s start plan.script.batches f ↔ (f ≡ finished_of (code_ran plan.program) plan.program.shape start plan.script) }
 {
     complete::<PlanActors>();
     loads::<PlanActors>();
