@@ -91,9 +91,9 @@ module _ (program : Program) (fit : IsFit program) (verified : IsVerified progra
       parents = λ p e. elim (bool_cases (path_eq p [])) [
         | inl z ↦ subst (λ q. there (code_ran program tree call).tree (parent_of q) ≡ true) (sym (path_is p [] z)) (joined [] ∙ or_left _ _ is.root)
         | inr z ↦ joined (parent_of p) ∙ (elim (or_is _ _ (sym (joined p) ∙ e)) [
-            | inl u ↦ or_left _ _ (is.parents p u)
-            | inr u ↦ or_right (there tree (parent_of p)) _ (subst (λ (x : Ran Fields EventResult). list_any (path_eq p) x.entered ≡ true → list_any (path_eq (parent_of p)) x.entered ≡ true) same (λ v. closed p v (λ y. absurd (clash (path_eq p []) (ap (λ q. path_eq q []) y) z))) u)
-          ])
+          | inl u ↦ or_left _ _ (is.parents p u)
+          | inr u ↦ or_right (there tree (parent_of p)) _ (subst (λ (x : Ran Fields EventResult). list_any (path_eq p) x.entered ≡ true → list_any (path_eq (parent_of p)) x.entered ≡ true) same (λ v. closed p v (λ y. absurd (clash (path_eq p []) (ap (λ q. path_eq q []) y) z))) u)
+        ])
       ];
       fields = subst (λ (x : Ran Fields EventResult). HasTree program x.tree) same ok.fitting;
     }

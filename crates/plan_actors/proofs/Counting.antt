@@ -42,7 +42,7 @@ pub done_left : (h : Head Line) (j : Line) (created : List Line) → slice_get h
 done_left h j created is =
     let l : h.done < length h.known = slice_get_within h.known h.done j is in
     let rest : sum_by most_of (drop (suc h.done) (h.known ++ created)) ≡ sum_by most_of (drop (suc h.done) h.known) + sum_by most_of created =
-        ap (sum_by most_of) (drop-append-le (suc h.done) h.known created (omega (arith, l))) ∙ sum_by-append most_of (drop (suc h.done) h.known) created in
+    ap (sum_by most_of) (drop-append-le (suc h.done) h.known created (omega (arith, l))) ∙ sum_by-append most_of (drop (suc h.done) h.known) created in
     let old : sum_by most_of (drop h.done h.known) ≡ most_of j + sum_by most_of (drop (suc h.done) h.known) = ap (sum_by most_of) (next_is h.known h.done j is) ∙ sum_by-cons most_of j (drop (suc h.done) h.known) in
     let next : left_in (with_done h created) ≡ left_in (record { known = h.known ++ created; later = h.later; done = suc h.done }) = next_left (record { known = h.known ++ created; later = h.later; done = suc h.done }) (omega (arith, l, length-append h.known created)) in
     omega (arith, rest, old, next)

@@ -10,15 +10,14 @@ use Rattle.wave_base.specs.declared.script.Line.{Line}
 use Rattle.wave_base.specs.declared.script.Line.TheVariants.{Request, Move, Snapshot}
 use Rattle.wave_base.specs.declared.start.Start.{Start}
 use Rattle.wave_base.specs.Fold.{Ran, Progress, next_job, with_job, created_lines}
-use Rattle.wave_base.specs.Places.{with_contexts, places_after, move_of}
-use Rattle.wave_base.specs.Starts.{start_places}
+use Rattle.wave_base.specs.Places.{with_contexts, move_of}
 use Rattle.wave_base.specs.Tree.{Tree, there}
 use Rattle.resolved_service.specs.Jobs.{only, move_ran}
 use Rattle.script_fold.specs.Lines.{FitsJob, line_by, most_jobs}
 use Rattle.script_fold.specs.Runs.{after_jobs, whole_run, hosts_after}
 use Rattle.script_fold.proofs.FoldLemmas.{All-drop_head}
 use Rattle.script_fold.proofs.StepLemmas.{any_ticket}
-use Rattle.wave_states.specs.Alone.{run_alone, segments_of, fold_alone, job_after, moves_in, places_alone}
+use Rattle.wave_states.specs.Alone.{run_alone, segments_of, fold_alone, job_after, places_alone}
 use Rattle.wave_states.specs.Work.{Work, no_work, moves_away, work_after, work_of_job}
 use Rattle.wave_theory.proofs.Sites.{old_same}
 use Rattle.code_actor.specs.CodeActors as code
@@ -28,11 +27,10 @@ use Rattle.plan_actors.specs.Efforts.{work_with, work_of, whole_work}
 use Rattle.plan_actors.specs.PlanActors.{plan_actors}
 use Rattle.plan_actors.specs.Plans.{Plan, Fits, FitsStart, begin_in}
 use Rattle.plan_actors.proofs.Coded.{code_owes}
-use Rattle.plan_actors.proofs.Finishing.{moves_zip}
 use Rattle.plan_actors.proofs.Folding.{stays_long, most_over}
 use Rattle.plan_actors.proofs.Hosts.{hosts_there}
 use Rattle.plan_actors.proofs.Jobs.{runs_line, counts_line}
-use Rattle.plan_actors.proofs.Meeting.{good, folds_meet}
+use Rattle.plan_actors.proofs.Meeting.{good, folds_meet, places_meet}
 
 module _ (plan : Plan) (fits : Fits plan) (start : Start) (begins : FitsStart plan start) where
   abbrev at : ℕ → Progress Fields EventResult Line
@@ -59,17 +57,16 @@ module _ (plan : Plan) (fits : Fits plan) (start : Start) (begins : FitsStart pl
       let job : FitsJob (code.IsJob plan.program) l = All-drop_head (FitsJob (code.IsJob plan.program)) (at n).head.known (at n).head.done l e g.known in
       let tree : (fold_alone (plan_actors plan.program) (begin_in plan start) plan.script.batches n).tree ≡ (at n).tree = ap (λ (w : Progress Fields EventResult Line). w.tree) (folds_meet plan fits start begins n) in
       let ran : run_alone (plan_actors plan.program) t (fold_alone (plan_actors plan.program) (begin_in plan start) plan.script.batches n).tree l ≡ line_by (code_ran plan.program) (start.next.0 + (at n).head.done) (at n).tree l =
-          ap (λ v. run_alone (plan_actors plan.program) t v l) tree ∙ runs_line plan.program fits.fit fits.verified t (at n).tree g.tree l job ∙ any_ticket (code_ran plan.program) t (start.next.0 + (at n).head.done) (at n).tree l in
+      ap (λ v. run_alone (plan_actors plan.program) t v l) tree ∙ runs_line plan.program fits.fit fits.verified t (at n).tree g.tree l job ∙ any_ticket (code_ran plan.program) t (start.next.0 + (at n).head.done) (at n).tree l in
       let segments : segments_of (plan_actors plan.program) t (fold_alone (plan_actors plan.program) (begin_in plan start) plan.script.batches n).tree l ≡ segments_on plan.program (at n).tree l =
-          ap (λ v. segments_of (plan_actors plan.program) t v l) tree ∙ counts_line plan.program fits.fit fits.verified t (at n).tree g.tree l job in
+      ap (λ v. segments_of (plan_actors plan.program) t v l) tree ∙ counts_line plan.program fits.fit fits.verified t (at n).tree g.tree l job in
       let places : places_alone (plan_actors plan.program) (begin_in plan start) plan.script.batches n ≡ hosts_after start (at n) =
-          ap (λ (w : Progress Fields EventResult Line). places_after (start_places start) (moves_in (plan_actors plan.program) (begin_in plan start) plan.script.batches w.entered w.results)) (folds_meet plan fits start begins n)
-          ∙ ap (places_after (start_places start)) (moves_zip plan start (at n).entered (at n).results) in
+      places_meet plan fits start begins n in
       let moves : moves_away (with_contexts (places_alone (plan_actors plan.program) (begin_in plan start) plan.script.batches n) (run_alone (plan_actors plan.program) t (fold_alone (plan_actors plan.program) (begin_in plan start) plan.script.batches n).tree l).entered)
-              (move_of (run_alone (plan_actors plan.program) t (fold_alone (plan_actors plan.program) (begin_in plan start) plan.script.batches n).tree l).result)
-              ≡ moves_away (hosts_after start (at n)) (move_of (line_by (code_ran plan.program) (start.next.0 + (at n).head.done) (at n).tree l).result) =
-          ap₂ (λ (hosts : Tree ℕ) (r : Ran Fields EventResult). moves_away (with_contexts hosts r.entered) (move_of r.result)) places ran
-          ∙ moves_same (start.next.0 + (at n).head.done) (hosts_after start (at n)) (at n).tree (hosts_there plan fits start begins n) g.tree l job in
+      (move_of (run_alone (plan_actors plan.program) t (fold_alone (plan_actors plan.program) (begin_in plan start) plan.script.batches n).tree l).result)
+      ≡ moves_away (hosts_after start (at n)) (move_of (line_by (code_ran plan.program) (start.next.0 + (at n).head.done) (at n).tree l).result) =
+      ap₂ (λ (hosts : Tree ℕ) (r : Ran Fields EventResult). moves_away (with_contexts hosts r.entered) (move_of r.result)) places ran
+      ∙ moves_same (start.next.0 + (at n).head.done) (hosts_after start (at n)) (at n).tree (hosts_there plan fits start begins n) g.tree l job in
       λ i. record { tickets = suc x.tickets; segments = x.segments + segments i; entered = x.entered + length (ran i).entered; moves = x.moves + moves i }
 
   -- the machine's work numbers are the plan's

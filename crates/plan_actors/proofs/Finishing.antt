@@ -16,14 +16,13 @@ use Rattle.wave_base.specs.declared.value.Value.{Value}
 use Rattle.wave_base.specs.Fold.{Head, Progress, first_head, next_job, with_job, made, created_lines}
 use Rattle.std.specs.List.Sorted.{IsStrictlySortedBy}
 use Rattle.wave_base.specs.Paths.{path_eq, path_cmp}
-use Rattle.wave_base.specs.Places.{places_after, move_of, load_of}
-use Rattle.wave_base.specs.Starts.{start_places}
+use Rattle.wave_base.specs.Places.{load_of}
 use Rattle.wave_base.specs.Tree.{Tree, there, shots}
 use Rattle.resolved_service.specs.Jobs.{shot_of}
 use Rattle.script_fold.specs.Lines.{name_of}
 use Rattle.script_fold.specs.Runs.{after_jobs, whole_run, hosts_after, ticket_of, place_of, finished_by, finished_of}
 use Rattle.wave_states.specs.Begins.{is_root}
-use Rattle.wave_states.specs.Alone.{fold_alone, moves_in, places_alone, run_alone}
+use Rattle.wave_states.specs.Alone.{fold_alone, places_alone, run_alone}
 use Rattle.wave_states.specs.States.{State, Entry, Record}
 use Rattle.wave_theory.specs.Always.{served_before}
 use Rattle.wave_theory.specs.Complete.{IsComplete}
@@ -38,7 +37,7 @@ use Rattle.plan_actors.specs.Finishing.{path_of, path_shot, IsOn, IsShot, IsLoad
 use Rattle.plan_actors.specs.PlanActors.{Actor, plan_actors, plan_kind}
 use Rattle.plan_actors.specs.Plans.{Plan, Fits, FitsStart, begin_in}
 use Rattle.plan_actors.proofs.Hosts.{hosts_there, hosts_paths}
-use Rattle.plan_actors.proofs.Meeting.{good, folds_meet, whole_meets}
+use Rattle.plan_actors.proofs.Meeting.{good, folds_meet, places_meet, whole_meets}
 use Rattle.plan_actors.proofs.Order.{at_path, sorted_same}
 
 -- lists of one length that have the same at each place are the same
@@ -60,13 +59,6 @@ by_paths f g (x ∷ xs) h = ap₂ (λ y ys. y ∷ ys) h.0 (by_paths f g xs h.1)
 all_in : {X : Type 0} (P Q : X → Type 0) → ((x : X) → P x → Q x) → (xs : List X) → AllByRecursion P xs → AllByRecursion Q xs
 all_in P Q f [] h = tt
 all_in P Q f (x ∷ xs) h = (f x h.0, all_in P Q f xs h.1)
-
--- the same pairs
-pub moves_zip : (plan : Plan) (start : Start) (entered : List (List Path)) (rs : List EventResult) → moves_in (plan_actors plan.program) (begin_in plan start) plan.script.batches entered rs ≡ zip entered (map move_of rs)
-moves_zip plan start [] [] = refl
-moves_zip plan start [] (r ∷ rs) = refl
-moves_zip plan start (e ∷ es) [] = refl
-moves_zip plan start (e ∷ es) (r ∷ rs) = ap (λ xs. (e, move_of r) ∷ xs) (moves_zip plan start es rs)
 
 module _ (plan : Plan) (fits : Fits plan) (start : Start) (begins : FitsStart plan start) (s : State Actor Fields EventResult Line)
     (complete : IsComplete (plan_kind plan.program plan.script.hosts) (begin_in plan start) plan.script.batches s)
@@ -113,8 +105,7 @@ module _ (plan : Plan) (fits : Fits plan) (start : Start) (begins : FitsStart pl
       ∙ ap (λ (w : Progress Fields EventResult Line). w.head.done) (sym (folds_meet plan fits start begins s.head.done)) ∙ done_is
 
   places_whole : places_alone (plan_actors plan.program) (begin_in plan start) plan.script.batches s.head.done ≡ hosts_after start whole
-  places_whole = ap (λ (w : Progress Fields EventResult Line). places_after (start_places start) (moves_in (plan_actors plan.program) (begin_in plan start) plan.script.batches w.entered w.results)) fold_whole
-      ∙ ap (places_after (start_places start)) (moves_zip plan start whole.entered whole.results)
+  places_whole = places_meet plan fits start begins s.head.done ∙ ap (hosts_after start) at_whole
 
   paths_whole : (hosts_after start whole).paths ≡ whole.tree.paths
   paths_whole = subst (λ (w : Progress Fields EventResult Line). (hosts_after start w).paths ≡ w.tree.paths) at_whole (hosts_paths plan fits start begins s.head.done)

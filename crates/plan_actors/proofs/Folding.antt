@@ -56,9 +56,9 @@ module _ (shape : Shape) (meaning : Meaning) (FitsTree : Tree (List Value) → T
   over_or_done (suc n) = elim (options (next_job (at n).head)) [
     | inl z ↦ inl (ap (λ (w : Progress (List Value) EventResult Line). next_job w.head) (over_stays n z) ∙ z)
     | inr z ↦ (elim (over_or_done n) [
-        | inl y ↦ absurd (none_not (sym y ∙ z.1))
-        | inr y ↦ inr (goes_on n z.0 z.1 ∙ ap suc y)
-      ])
+      | inl y ↦ absurd (none_not (sym y ∙ z.1))
+      | inr y ↦ inr (goes_on n z.0 z.1 ∙ ap suc y)
+    ])
   ]
 
   -- the jobs that are done, and those that the others may make, are no more than the lines may make
@@ -97,9 +97,9 @@ module _ (shape : Shape) (meaning : Meaning) (FitsTree : Tree (List Value) → T
   most_over = elim (options (next_job (at (most_jobs script.batches)).head)) [
     | inl z ↦ z
     | inr z ↦ (elim (over_or_done (most_jobs script.batches)) [
-        | inl y ↦ y
-        | inr y ↦ absurd (never (most_jobs script.batches) (at (most_jobs script.batches)).head.done y (more_left (most_jobs script.batches) z.0 z.1))
-      ])
+      | inl y ↦ y
+      | inr y ↦ absurd (never (most_jobs script.batches) (at (most_jobs script.batches)).head.done y (more_left (most_jobs script.batches) z.0 z.1))
+    ])
   ]
     where
       never : (a b : ℕ) → b ≡ a → b < a → ⊥

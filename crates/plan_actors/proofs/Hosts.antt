@@ -78,7 +78,7 @@ module _ (plan : Plan) (fits : Fits plan) (start : Start) (begins : FitsStart pl
       let g = good plan fits start begins n in
       let x : Ran Fields EventResult = line_by (code_ran plan.program) (start.next.0 + (at n).head.done) (at n).tree j in
       let push : hosts_after start (with_result start.next.0 (line_by (code_ran plan.program)) created_lines (at n) x) ≡ after_job (hosts_after start (at n)) x.entered (move_of x.result) =
-          hosts_push plan.program.shape (code_ran plan.program) (IsTree plan.program) (code.IsJob plan.program) (code_owes plan.program fits.fit fits.verified) start plan.script (at n) x (g.entered ∙ sym g.results) in
+      hosts_push plan.program.shape (code_ran plan.program) (IsTree plan.program) (code.IsJob plan.program) (code_owes plan.program fits.fit fits.verified) start plan.script (at n) x (g.entered ∙ sym g.results) in
       let job : FitsJob (code.IsJob plan.program) j = All-drop_head (FitsJob (code.IsJob plan.program)) (at n).head.known (at n).head.done j e g.known in
       record {
         paths = λ p. ap (λ (t : Tree ℕ). there t p) push ∙ there_move (with_contexts (hosts_after start (at n)) x.entered) (move_of x.result) p ∙ all_there x.entered (hosts_after start (at n)) p

@@ -143,12 +143,18 @@ module _ {F : Type 0} (initial : Path → F) (tree : Tree F) (ordered : IsStrict
       there_now = ap (there tree) (g.path ∙ append-nil x.at) ∙ g.here
   goes (s ∷ ss) x g = elim (bool_cases (there tree (x.at ++ s ∷ []))) [
     | inl e ↦ (let y : One = entered_there x s ss in
-        let h : Goes y ss = record { rest = refl; path = g.path ∙ sym (append_assoc x.at (s ∷ []) ss); here = e;
-            same = ap (λ t. enter t (x.at ++ s ∷ [])) (put_same x.tree x.at ∙ g.same) ∙ enter_there tree (x.at ++ s ∷ []) ordered e; going = refl; held = refl } in
+        let h : Goes y ss = record {
+          rest = refl;
+          path = g.path ∙ sym (append_assoc x.at (s ∷ []) ss);
+          here = e;
+          same = ap (λ t. enter t (x.at ++ s ∷ [])) (put_same x.tree x.at ∙ g.same) ∙ enter_there tree (x.at ++ s ∷ []) ordered e;
+          going = refl;
+          held = refl;
+        } in
         let k : Gone y (after_segments (movers initial) (suc (length ss)) y) ss (count_from (movers initial) (suc (length ss)) y) = goes ss y h in
         let after : after_segments (movers initial) (suc (suc (length ss))) x ≡ after_segments (movers initial) (suc (length ss)) y = after_first (movers initial) (suc (length ss)) x ∙ ap (after_segments (movers initial) (suc (length ss))) (next_there x s ss g e) in
         let counted : count_from (movers initial) (suc (suc (length ss))) x ≡ suc (count_from (movers initial) (suc (length ss)) y) =
-            ap (λ v. if is_some v then 0 else suc (count_from (movers initial) (suc (length ss)) (next_alone (movers initial) x))) g.going ∙ ap (λ z. suc (count_from (movers initial) (suc (length ss)) z)) (next_there x s ss g e) in
+        ap (λ v. if is_some v then 0 else suc (count_from (movers initial) (suc (length ss)) (next_alone (movers initial) x))) g.going ∙ ap (λ z. suc (count_from (movers initial) (suc (length ss)) z)) (next_there x s ss g e) in
         let more : filter (there tree) (way x.at (s ∷ ss)) ≡ (x.at ++ s ∷ []) ∷ filter (there tree) (way (x.at ++ s ∷ []) ss) = ap (λ b. if b then (x.at ++ s ∷ []) ∷ filter (there tree) (way (x.at ++ s ∷ []) ss) else filter (there tree) (way (x.at ++ s ∷ []) ss)) e in
         record {
           same = ap (λ (z : One). z.tree) after ∙ k.same;

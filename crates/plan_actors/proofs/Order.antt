@@ -95,9 +95,9 @@ sorted_same (x ∷ xs) (y ∷ ys) a b f g = ap₂ (λ v vs. v ∷ vs) heads (sor
     heads = elim (or_is _ _ (f x (or_left (path_eq x x) _ (path_self x)))) [
       | inl z ↦ path_is x y z
       | inr z ↦ (elim (or_is _ _ (g y (or_left (path_eq y y) _ (path_self y)))) [
-          | inl w ↦ sym (path_is y x w)
-          | inr w ↦ absurd (never_both y x (at_path (λ r. path_cmp y r ≡ Less) ys b.0 x z) (at_path (λ r. path_cmp x r ≡ Less) xs a.0 y w))
-        ])
+        | inl w ↦ sym (path_is y x w)
+        | inr w ↦ absurd (never_both y x (at_path (λ r. path_cmp y r ≡ Less) ys b.0 x z) (at_path (λ r. path_cmp x r ≡ Less) xs a.0 y w))
+      ])
     ]
 
     drop : (q : Path) (ys : List Path) → (q ≡ y → ⊥) → (path_eq q y || list_any (path_eq q) ys) ≡ true → list_any (path_eq q) ys ≡ true
@@ -205,8 +205,10 @@ module _ {F : Type 0} (tree : Tree F) where
     subtree_sorted : (d : ℕ) (p : Path) → IsStrictlySortedBy path_cmp (subtree d p)
     unfolding subtree IsStrictlySortedBy
     subtree_sorted zero p = (tt, tt)
-    subtree_sorted (suc d) p = (all_map (λ q. (s : Step) × (r : Path) × (q ≡ p ++ s ∷ r)) (λ q. path_cmp p q ≡ Less) (λ q e. ap (path_cmp p) e.2 ∙ first_below p e.1 e.0) _ (deeper (children_of tree p)),
-        below_sorted (subtree d) p (λ s. subtree_under d (p ++ s ∷ [])) (λ s. subtree_sorted d (p ++ s ∷ [])) (children_of tree p) (kids_sorted p tree.paths ordered))
+    subtree_sorted (suc d) p = (
+      all_map (λ q. (s : Step) × (r : Path) × (q ≡ p ++ s ∷ r)) (λ q. path_cmp p q ≡ Less) (λ q e. ap (path_cmp p) e.2 ∙ first_below p e.1 e.0) _ (deeper (children_of tree p)),
+      below_sorted (subtree d) p (λ s. subtree_under d (p ++ s ∷ [])) (λ s. subtree_sorted d (p ++ s ∷ [])) (children_of tree p) (kids_sorted p tree.paths ordered),
+    )
       where
         deeper : (ss : List Step) → AllByRecursion (λ q. (s : Step) × (r : Path) × (q ≡ p ++ s ∷ r)) (below (subtree d) p ss)
         deeper [] = tt

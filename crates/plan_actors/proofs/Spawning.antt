@@ -127,10 +127,13 @@ module _ (g : ℕ) where
         by false is = f
 
     one_more : (c : Call) → c.generation ≡ suc b.generation → length b.kept.created < SPAWNS → (b.generation ≡ g) × Spawned g (b.kept.created ++ c ∷ [])
-    one_more c e few = (same.0, record {
-      few = omega (arith, few, length-append b.kept.created (c ∷ []));
-      later = All-append (λ (d : Call). d.generation ≡ suc g) b.kept.created (c ∷ []) so_far.later (All-cons (λ (d : Call). d.generation ≡ suc g) c [] (e ∙ ap suc same.0) (All-nil (λ (d : Call). d.generation ≡ suc g)));
-    })
+    one_more c e few = (
+      same.0,
+      record {
+        few = omega (arith, few, length-append b.kept.created (c ∷ []));
+        later = All-append (λ (d : Call). d.generation ≡ suc g) b.kept.created (c ∷ []) so_far.later (All-cons (λ (d : Call). d.generation ≡ suc g) c [] (e ∙ ap suc same.0) (All-nil (λ (d : Call). d.generation ≡ suc g)));
+      },
+    )
 
     keeps : (i : Instr) → K (acts program levels i at f below b fields)
     keeps (PushInt z) = same

@@ -76,15 +76,15 @@ module _ {F : Type 0} (initial : Path → F) (tree : Tree F) (ordered : IsStrict
   down : (x : One) (p : Path) (s : Step) (ss : List Step) (es : List Path) → Walks x p (s ∷ ss) es → there tree (p ++ s ∷ []) ≡ true → Before es (p ++ s ∷ []) → Walks (next_alone (walkers initial) x) (p ++ s ∷ []) (children_of tree (p ++ s ∷ [])) (es ++ (p ++ s ∷ []) ∷ [])
   down x p s ss es w e b = subst (λ y. Walks y (p ++ s ∷ []) (children_of tree (p ++ s ∷ [])) (es ++ (p ++ s ∷ []) ∷ [])) (sym (next_by x p (s ∷ ss) es w
       ∙ ap₂ (λ c q. into x (record { at = p ++ s ∷ []; from = None; copied = copies es }) (x.tree.fields x.at) q false x.held c) not_held (ap (λ q. q ++ s ∷ []) w.at))) (record {
-    at = refl;
-    stands = refl;
-    same = joined;
-    going = refl;
-    left = refl;
-    held = ap (λ hs. hs ++ (p ++ s ∷ []) ∷ []) w.held;
-    entered = ap (λ hs. hs ++ (p ++ s ∷ []) ∷ []) w.entered;
-    copied = ap (λ (t : Tree F). copies es ++ (p ++ s ∷ [], t.fields (p ++ s ∷ [])) ∷ []) joined ∙ one_copy es (p ++ s ∷ []);
-  })
+        at = refl;
+        stands = refl;
+        same = joined;
+        going = refl;
+        left = refl;
+        held = ap (λ hs. hs ++ (p ++ s ∷ []) ∷ []) w.held;
+        entered = ap (λ hs. hs ++ (p ++ s ∷ []) ∷ []) w.entered;
+        copied = ap (λ (t : Tree F). copies es ++ (p ++ s ∷ [], t.fields (p ++ s ∷ [])) ∷ []) joined ∙ one_copy es (p ++ s ∷ []);
+      })
     where
       not_held : has x.held (x.at ++ s ∷ []) ≡ false
       not_held = ap₂ (λ hs q. has hs (q ++ s ∷ [])) w.held w.at ∙ not_before es (p ++ s ∷ []) b
@@ -130,8 +130,11 @@ module _ {F : Type 0} (initial : Path → F) (tree : Tree F) (ordered : IsStrict
     where
       go : (ts : List Step) → AllByRecursion (λ t. step_cmp s t ≡ Less) ts → AllByRecursion (λ t. Before es (p ++ t ∷ [])) ts → AllByRecursion (λ t. Before (es ++ below_s) (p ++ t ∷ [])) ts
       go [] h k = tt
-      go (t ∷ ts) h k = (all_joined (λ y. path_cmp y (p ++ t ∷ []) ≡ Less) es below_s k.0
-          (all_map (λ q. (r : Path) × (q ≡ (p ++ s ∷ []) ++ r)) (λ y. path_cmp y (p ++ t ∷ []) ≡ Less) (λ y e. ap (λ z. path_cmp z (p ++ t ∷ [])) (e.1 ∙ append_assoc p (s ∷ []) e.0) ∙ sides p e.0 [] s t h.0) below_s u), go ts h.1 k.1)
+      go (t ∷ ts) h k = (
+        all_joined (λ y. path_cmp y (p ++ t ∷ []) ≡ Less) es below_s k.0
+            (all_map (λ q. (r : Path) × (q ≡ (p ++ s ∷ []) ++ r)) (λ y. path_cmp y (p ++ t ∷ []) ≡ Less) (λ y e. ap (λ z. path_cmp z (p ++ t ∷ [])) (e.1 ∙ append_assoc p (s ∷ []) e.0) ∙ sides p e.0 [] s t h.0) below_s u),
+        go ts h.1 k.1,
+      )
 
   -- all children of a context that was entered last
   all_ahead : (p : Path) (es : List Path) → Before es p → Ahead p (children_of tree p) (es ++ p ∷ [])

@@ -1,5 +1,6 @@
 -- Plans: what the machine is to run; and that a plan fits.
 use Rattle.std.specs.Prelude.{◌≤◌, ℕ}
+use Rattle.wave_base.specs.declared.limits.TheConstants.{WORKERS}
 use Rattle.wave_base.specs.declared.script.Script.{Script}
 use Rattle.wave_base.specs.declared.start.Start.{Start}
 use Rattle.wave_base.specs.Scripts.{IsScript}
@@ -24,7 +25,7 @@ pub record Fits (plan : Plan) : Type 0 where
   pub verified : IsVerified plan.program
   pub script : IsScript plan.program.shape plan.script
   pub some_worker : 1 ≤ plan.workers
-  pub few_workers : plan.workers ≤ 16
+  pub few_workers : plan.workers ≤ WORKERS
 
 -- a Start of its shape and its hosts
 abbrev pub FitsStart : Plan → Start → Type 0

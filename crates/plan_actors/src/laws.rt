@@ -1,6 +1,6 @@
 //! Laws of the actors of a plan: each is the contract of a function that does nothing.
 
-ghost use Rattle.std.specs.Prelude.{◌≡◌, ◌≢◌, ◌↔◌, ◌≤◌, ◌+◌, ℕ, List, length, sum_by, Some, None};
+ghost use Rattle.std.specs.Prelude.{◌≡◌, ◌≢◌, ◌↔◌, ◌≤◌, ◌+◌, ℕ, suc, List, length, sum_by, Some, None};
 ghost use Rattle.wave_base.specs.declared.finished.Finished.{Finished};
 ghost use Rattle.wave_base.specs.declared.outcome.EventResult.{EventResult};
 ghost use Rattle.wave_base.specs.declared.script.Line.{Line};
@@ -8,11 +8,11 @@ ghost use Rattle.wave_base.specs.declared.start.Start.{Start};
 ghost use Rattle.wave_base.specs.Tree.{Tree};
 ghost use Rattle.script_fold.specs.Lines.{FitsJob, line_by, most_jobs};
 ghost use Rattle.script_fold.specs.Owed.{Owed};
-ghost use Rattle.script_fold.specs.Runs.{after_jobs, whole_run, finished_of};
+ghost use Rattle.script_fold.specs.Runs.{after_jobs, whole_run, hosts_after, finished_of};
 ghost use Rattle.service_code.specs.declared.program.Program.{Program};
 ghost use Rattle.service_verify.specs.Fit.{IsFit};
 ghost use Rattle.service_verify.specs.Points.{IsVerified};
-ghost use Rattle.wave_states.specs.Alone.{run_alone, segments_of, fold_alone, job_after};
+ghost use Rattle.wave_states.specs.Alone.{run_alone, segments_of, fold_alone, job_after, places_alone};
 ghost use Rattle.wave_states.specs.Begins.{start_state};
 ghost use Rattle.wave_states.specs.Labels.{Label};
 ghost use Rattle.wave_states.specs.Owes.{Owes, IsBegin, IsPlan};
@@ -58,9 +58,12 @@ pub fn code_owes()
     ensures { (program : Program) → IsFit program → IsVerified program → Owed program.shape (code_ran program) (IsTree program) (code.IsJob program) }
 {}
 
-/// The machine's fold of a plan is the script's fold by code: results, created jobs, tickets, tree, and the contexts entered.
+/// The machine's fold of a plan is the script's fold by code: results, created jobs, tree, and the contexts entered; the tickets
+/// count on from the Start's, and each context is on the same host.
 pub fn folds_meet()
-    ensures { (plan : Plan) (start : Start) → Fits plan → FitsStart plan start → (n : ℕ) → fold_alone (plan_actors plan.program) (begin_in plan start) plan.script.batches n ≡ after_jobs (code_ran plan.program) plan.program.shape start plan.script n }
+    ensures fold { (plan : Plan) (start : Start) (n : ℕ) → Fits plan → FitsStart plan start → fold_alone (plan_actors plan.program) (begin_in plan start) plan.script.batches n ≡ after_jobs (code_ran plan.program) plan.program.shape start plan.script n }
+    ensures first { (plan : Plan) (start : Start) → FitsStart plan start → suc (begin_in plan start).before ≡ start.next.0 }
+    ensures places { (plan : Plan) (start : Start) (n : ℕ) → Fits plan → FitsStart plan start → places_alone (plan_actors plan.program) (begin_in plan start) plan.script.batches n ≡ hosts_after start (after_jobs (code_ran plan.program) plan.program.shape start plan.script n) }
 {}
 
 /// It is over after as many jobs as the lines may make at most; and where it is over it is the script's whole run.

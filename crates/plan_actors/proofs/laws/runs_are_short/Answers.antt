@@ -23,9 +23,9 @@ pub returns-clause-finished : goal.returns-clause-finished
 returns-clause-finished c = λ plan start fits begins labels s run finished.
     let k : Setting = setting_of plan.program fits.fit fits.verified plan.script.hosts in
     let none = none_left plan fits start begins s
-        (c.complete.ensures k plan.workers (begin_in plan start) plan.script.batches (begin_fits plan fits start begins) (plan_fits plan fits) labels s run finished)
-        (c.tickets.ensures k plan.workers (begin_in plan start) plan.script.batches (begin_fits plan fits start begins) (plan_fits plan fits) labels s run)
-        (c.results.ensures k plan.workers (begin_in plan start) plan.script.batches (begin_fits plan fits start begins) (plan_fits plan fits) labels s run)
+    (c.complete.ensures k plan.workers (begin_in plan start) plan.script.batches (begin_fits plan fits start begins) (plan_fits plan fits) labels s run finished)
+    (c.tickets.ensures k plan.workers (begin_in plan start) plan.script.batches (begin_fits plan fits start begins) (plan_fits plan fits) labels s run)
+    (c.results.ensures k plan.workers (begin_in plan start) plan.script.batches (begin_fits plan fits start begins) (plan_fits plan fits) labels s run)
     (c.loads.ensures k plan.workers (begin_in plan start) plan.script.batches (begin_fits plan fits start begins) (plan_fits plan fits) labels s run finished) in
     (c.bounded.ensures k plan.workers (begin_in plan start) plan.script.batches (begin_fits plan fits start begins) (plan_fits plan fits) labels s run).exactly finished
     ∙ ap (λ (x : Work). size x + passed labels) (work_same plan fits start begins s.head.done ∙ work_over plan fits start begins s.head.done (ap (λ (w : Progress Fields EventResult Line). next_job w.head) (sym (folds_meet plan fits start begins s.head.done)) ∙ none))
