@@ -1,23 +1,21 @@
 -- In what the parts of a state agree.
-use Rattle.std.proofs.Common.{◌≡◌, ◌≢◌, ℕ, suc, ◌+◌, ◌<◌, ◌≤◌, ◌⊎◌, ◌&&◌, ◌||◌, not, inl, inr, nat_eq, Bool, true, false, Option, Some, None, is_some, List, [], ◌∷◌, refl, sym, ◌∙◌, ap, ap₂, subst, arith}
+use Rattle.std.proofs.Common.{◌≡◌, ℕ, suc, ◌<◌, ◌≤◌, ◌⊎◌, ◌&&◌, ◌||◌, not, inl, inr, nat_eq, Bool, true, false, Some, None, is_some, List, [], ◌∷◌, refl, sym, ◌∙◌, ap, ap₂, subst, arith}
 use Rattle.std.specs.Prelude.{All}
 use Rattle.std.specs.List.{AllByRecursion}
 use Rattle.wave_base.specs.declared.path.Path.{Path}
 use Rattle.wave_base.specs.Paths.{path_eq}
-use Rattle.wave_states.specs.Actors.{Actors}
 use Rattle.wave_states.specs.States.{State, Ask, Cell, Claim, Entry, Event, Hand, Mail, Status, Travelling, Ended, Waiting, Ready, Running, Letter, Enter, Visit, Back, Release, Transfer, hold_at}
 use Rattle.wave_states.specs.Alone.{Alone, after_segments}
 use Rattle.wave_states.specs.Begins.{Begin}
 use Rattle.wave_states.specs.Kinds.{Kind}
 use Rattle.wave_states.specs.Owes.{Owes, IsBegin}
-use Rattle.wave_theory.proofs.Basics.{clash, some_same, none_not, bool_cases, options, number_self, path_self}
-use Rattle.wave_theory.proofs.Order.{Way, IsWay, visits, rank, Stage, Entering, Lined, Coming, There, Done, is_pending, here}
+use Rattle.wave_theory.proofs.Basics.{clash, some_same, none_not, bool_cases, options, number_self}
+use Rattle.wave_theory.proofs.Order.{Way, IsWay, visits, Stage, Entering, Lined, Coming, There, Done, is_pending, here}
 use Rattle.wave_theory.proofs.Ranks.{rank_same}
 use Rattle.wave_theory.proofs.Leaves.{Course}
 use Rattle.wave_theory.proofs.Tracks.{owner}
 use Rattle.wave_theory.proofs.Frames.{option_some, holds_spot, entered_spot, visits_of}
 use Rattle.wave_theory.proofs.Found.{found}
-use Rattle.wave_theory.proofs.Alive
 use Rattle.wave_theory.proofs.Plans
 use Rattle.wave_theory.proofs.Courses.{View, view, view_real}
 use Rattle.wave_theory.proofs.Courses
@@ -230,8 +228,12 @@ module _ {A F R J : Type 0} (kind : Kind A F R J) (owes : Owes kind) (b : Begin 
               (sym ((x.entries p).holders d.ticket) ∙ ap (λ (u : Entry F). Shows.holds_claim u.holders d.ticket) (sym (entry_is p en h)) ∙ z.0, z.1))
 
       moving : (t i : ℕ) (m : Mail F) (en : Entry F) → (s.cells t).mails i ≡ Some m → m.letter ≡ Transfer en → ((h : ℕ) → (s.columns m.path).store h ≡ None) × (is_some en.body ≡ true) × (en.holders ≡ record { ticket = t; peek = false } ∷ [])
-      moving t i m en e l = (no_store, has_body, subst (λ j. en.holders ≡ record { ticket = t; peek = j } ∷ []) y.3
-          (alone_in m.path en (record { ticket = t; peek = w.looks t m.path }) (inr (t, i, m.host, e ∙ ap Some (same_mail m l))) (subst (λ (u : Entry F). IsIn u.holders (record { ticket = t; peek = w.looks t m.path })) (sym y.2) (holder m.path t y.0.holds)) y.3))
+      moving t i m en e l = (
+        no_store,
+        has_body,
+        subst (λ j. en.holders ≡ record { ticket = t; peek = j } ∷ []) y.3
+            (alone_in m.path en (record { ticket = t; peek = w.looks t m.path }) (inr (t, i, m.host, e ∙ ap Some (same_mail m l))) (subst (λ (u : Entry F). IsIn u.holders (record { ticket = t; peek = w.looks t m.path })) (sym y.2) (holder m.path t y.0.holds)) y.3),
+      )
         where
           same_mail : (m : Mail F) {l : Letter F} → m.letter ≡ l → m ≡ record { host = m.host; path = m.path; letter = l }
           same_mail m k = λ i. record { host = m.host; path = m.path; letter = k i }
@@ -255,10 +257,13 @@ module _ {A F R J : Type 0} (kind : Kind A F R J) (owes : Owes kind) (b : Begin 
           ]
 
       ended : (t : ℕ) (event : Event A) → (s.cells t).event ≡ Some event → (is_some (s.cells t).result ≡ true → event.status ≡ Ended) × (event.status ≡ Ended → is_some (s.cells t).result ≡ true)
-      ended t event e = (λ z. elim (stage_cases ((g).lines.stage t)) [
-        | inl d ↦ done_ended event.status _ _ _ status d
-        | inr d ↦ absurd (clash false (sym (ap is_some (result_is ∙ (before d))) ∙ z) refl)
-      ], λ z. ap is_some (result_is ∙ ends (ended_done event.status _ _ _ status z)))
+      ended t event e = (
+        λ z. elim (stage_cases ((g).lines.stage t)) [
+          | inl d ↦ done_ended event.status _ _ _ status d
+          | inr d ↦ absurd (clash false (sym (ap is_some (result_is ∙ (before d))) ∙ z) refl)
+        ],
+        λ z. ap is_some (result_is ∙ ends (ended_done event.status _ _ _ status z)),
+      )
         where
           n : (b.before < t) × (t ≤ (g).lines.admitted)
           n = Reached.known kind owes b batches begins jobs s k.ghost x t (λ q. none_not (sym (ap (λ (u : Cell A F R). u.event) q) ∙ e))

@@ -28,12 +28,14 @@ module _ {A F R J : Type 0} (kind : Kind A F R J) (owes : Owes kind) (b : Begin 
 
   -- one label more
   pub run_more : (ls : List Label) (s v s' : State A F R J) (l : Label) → run kind.system workers s ls ≡ Some v → step kind.system workers v l ≡ Some s' → run kind.system workers s (ls ++ l ∷ []) ≡ Some s'
+  unfolding run
   run_more [] s v s' l e f = (let z : s ≡ v = some_same s v e in ap (λ u. option_and_then (λ x. run kind.system workers x []) (step kind.system workers u l)) z ∙ ap (option_and_then (λ x. run kind.system workers x [])) f)
   run_more (m ∷ ls) s v s' l e f =
       let u = then_some (λ u. run kind.system workers u ls) (step kind.system workers s m) v e in
       ap (option_and_then (λ x. run kind.system workers x (ls ++ l ∷ []))) u.1 ∙ run_more ls u.0 v s' l u.2 f
 
   pub step_follows : (s s' : State A F R J) (k : Good s) (l : Label) → step kind.system workers s l ≡ Some s' → Follows s s' k l
+  unfolding step
   step_follows s s' k l e = Reached.step_next kind owes b batches begins jobs s s' k.ghost k.shows k.heads k.alive k.tally k.tallied l.worker l.host l.act (if_some (nat_lt l.worker workers) (step_by kind.system s l.worker l.host l.act) s' e).1
 
   module _ (P : List Label → (s : State A F R J) → Good s → Type 0)
@@ -43,6 +45,7 @@ module _ {A F R J : Type 0} (kind : Kind A F R J) (owes : Owes kind) (b : Begin 
       pub holds : P ls s good
 
     along_by : (before ls : List Label) (s s' : State A F R J) (k : Good s) → from_start before s → P before s k → run kind.system workers s ls ≡ Some s' → Along (before ++ ls) s'
+    unfolding run
     along_by before [] s s' k r h e = subst (λ x. Along x s') (sym (append-nil before)) (subst (Along before) (some_same s s' e) (record { good = k; holds = h }))
     along_by before (l ∷ ls) s s' k r h e =
         let v = then_some (λ v. run kind.system workers v ls) (step kind.system workers s l) s' e in
@@ -50,4 +53,5 @@ module _ {A F R J : Type 0} (kind : Kind A F R J) (owes : Owes kind) (b : Begin 
         subst (λ x. Along x s') (append_assoc before (l ∷ []) ls) (along_by (before ++ l ∷ []) ls v.0 s' n.good (run_more before (start_state b batches) s v.0 l r v.1) (next before s v.0 k l r h v.1 n) v.2)
 
     pub along : P [] (start_state b batches) first → (ls : List Label) (s : State A F R J) → from_start ls s → Along ls s
+    unfolding run
     along h ls s e = along_by [] ls (start_state b batches) s first refl h e

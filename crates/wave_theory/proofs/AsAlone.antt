@@ -1,10 +1,9 @@
 -- Each event is as it is alone, and who holds a context.
-use Rattle.std.proofs.Common.{◌≡◌, ◌≢◌, ℕ, suc, ◌+◌, ◌<◌, ◌≤◌, ◌⊎◌, ◌==◌, ◌&&◌, ◌||◌, not, inl, inr, nat_eq, Bool, true, false, Option, Some, None, is_some, List, [], ◌∷◌, refl, sym, ◌∙◌, ap, ap₂, subst, arith}
+use Rattle.std.proofs.Common.{◌≡◌, ℕ, suc, ◌+◌, ◌<◌, ◌≤◌, ◌⊎◌, ◌&&◌, ◌||◌, not, inl, inr, nat_eq, Bool, true, false, Some, is_some, List, [], ◌∷◌, refl, sym, ◌∙◌, ap, ap₂, subst, arith}
 use Rattle.std.specs.Prelude.{All}
-use Rattle.std.specs.List.{list_any, AllByRecursion}
+use Rattle.std.specs.List.{AllByRecursion}
 use Rattle.wave_base.specs.declared.path.Path.{Path}
 use Rattle.wave_base.specs.Paths.{path_eq}
-use Rattle.wave_states.specs.Actors.{Actors}
 use Rattle.wave_states.specs.States.{State, Cell, Claim, Entry, Event, Hand, Hold, Mail, Record, Status, Waiting, Running, Letter, Enter, Release, Transfer, hold_at}
 use Rattle.wave_states.specs.States
 use Rattle.wave_states.specs.Alone.{Alone, has, after_segments, job_after}
@@ -16,7 +15,6 @@ use Rattle.wave_theory.proofs.Order.{Way, IsWay, Stage, Entering, Lined, Coming,
 use Rattle.wave_theory.proofs.Leaves.{Course}
 use Rattle.wave_theory.proofs.Tracks.{owner}
 use Rattle.wave_theory.proofs.Frames.{option_some, holds_of, not_is}
-use Rattle.wave_theory.proofs.Alive
 use Rattle.wave_theory.proofs.Plans
 use Rattle.wave_theory.proofs.Courses.{View, view, view_real}
 use Rattle.wave_theory.proofs.Courses
@@ -26,9 +24,8 @@ use Rattle.wave_theory.proofs.Halts
 use Rattle.wave_theory.proofs.InHand.{running_is}
 use Rattle.wave_theory.proofs.Reached.{Good_state}
 use Rattle.wave_theory.proofs.Reached
-use Rattle.wave_theory.specs.Numbers.{HasEntry}
 use Rattle.wave_theory.specs.Listed.{IsIn}
-use Rattle.wave_theory.specs.Holding.{stops, IsEntering, WaitsFor, IsParting, IsHeld, IsAsAlone, Holders, alone_after}
+use Rattle.wave_theory.specs.Holding.{stops, WaitsFor, IsParting, IsHeld, IsAsAlone, Holders}
 use Rattle.wave_states.specs.Labels.{Label}
 
 -- a claim that is among these
@@ -172,6 +169,8 @@ module _ {A F R J : Type 0} (kind : Kind A F R J) (owes : Owes kind) (b : Begin 
     as_alone labels h index event e = record {
       job = r.job;
       job_is = job_is;
+      alone = after_segments kind.system (stops (suc b.before + index) labels) x₀;
+      alone_is = refl;
       actor = λ off. (ap (λ (u : Event A). u.actor) (same t event e) ∙ (c t event e).actor (not_out off) ∙ ap (λ (u : View A F R). u.actor ((k.ghost).lines.pos t)) view_is ∙ ap (λ n. Some (after_segments kind.system n (x₀)).actor) pos_is);
       out = λ v hd i z. (let hs = x.hands v hd i in (
         some_same _ _ (hs.actor ∙ ap (λ u. course.actor u ((k.ghost).lines.pos u)) z ∙ ap (λ (u : View A F R). u.actor ((k.ghost).lines.pos t)) view_is ∙ ap (λ n. Some (after_segments kind.system n (x₀)).actor) pos_is),

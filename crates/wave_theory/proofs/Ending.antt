@@ -1,11 +1,11 @@
 -- The fold ends: each job leaves room for those that it creates.
-use Rattle.std.proofs.Common.{◌≡◌, ℕ, zero, suc, ◌+◌, ◌<◌, ◌≤◌, ◌⊎◌, inl, inr, nat_lt, Bool, true, false, Option, Some, None, List, [], ◌∷◌, ◌++◌, length, refl, sym, ◌∙◌, ap, ap₂, subst, arith}
+use Rattle.std.proofs.Common.{◌≡◌, ℕ, zero, suc, ◌+◌, ◌<◌, ◌≤◌, inl, inr, nat_lt, Bool, true, false, Some, None, List, [], ◌∷◌, ◌++◌, length, refl, sym, ◌∙◌, ap, ap₂, subst, arith}
 use Rattle.std.specs.Prelude.{All, if◌then◌else◌, slice_get}
 use Rattle.std.specs.List.{sum_by}
 use Rattle.std.proofs.lemmas.List.Sums.{sum_by-cons, sum_by-append}
 use Rattle.std.proofs.lemmas.Bool.Decides.{nat_tests}
 use Rattle.std.proofs.Common.{length-append}
-use Rattle.wave_base.specs.Fold.{Head, Progress, next_batch, begun, with_done, next_job}
+use Rattle.wave_base.specs.Fold.{Head, Progress, next_batch, begun, with_done}
 use Rattle.wave_states.specs.Kinds.{Kind}
 use Rattle.wave_states.specs.Alone.{fold_alone, job_after, run_alone}
 use Rattle.wave_states.specs.Begins.{Begin}
@@ -13,9 +13,9 @@ use Rattle.wave_states.specs.Owes.{Owes, IsBegin}
 use Rattle.wave_theory.proofs.Basics.{none_not, options, bool_cases}
 use Rattle.wave_theory.proofs.Folds
 use Rattle.wave_theory.proofs.Plans
-use Rattle.wave_theory.proofs.Courses.{done_at, done_or_over}
+use Rattle.wave_theory.proofs.Courses.{done_at}
 use Rattle.wave_theory.proofs.Told
-use Rattle.wave_theory.specs.Ends.{Ends, IsWorth, worth_of}
+use Rattle.wave_theory.specs.Ends.{IsWorth, worth_of}
 
 module _ {J : Type 0} where
   -- all but the first so many
@@ -60,7 +60,7 @@ module _ {J : Type 0} where
     begun_left h [] o l e = (refl, o)
     begun_left h (x ∷ bs) o l e = (
       ap (λ ys. sum_by worth ys + worth_of worth bs) (rest_more h.done h.known x o ∙ ap (λ ys. ys ++ x) (rest_all h.done h.known l))
-      ∙ sym (ap₂ (λ ys zs. sum_by worth ys + worth_of worth zs) (rest_all h.done h.known l) e ∙ ap (λ m. sum_by worth [] + m) (sum_by-cons (sum_by worth) x bs) ∙ none_first (sum_by worth x + worth_of worth bs)),
+          ∙ sym (ap₂ (λ ys zs. sum_by worth ys + worth_of worth zs) (rest_all h.done h.known l) e ∙ ap (λ m. sum_by worth [] + m) (sum_by-cons (sum_by worth) x bs) ∙ none_first (sum_by worth x + worth_of worth bs)),
       subst (λ m. h.done ≤ m) (sym (length-append h.known x)) (omega (arith, o)),
     )
       where

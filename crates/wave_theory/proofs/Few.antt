@@ -1,25 +1,24 @@
 -- No context is sent on more often than the jobs move one.
-use Rattle.std.proofs.Common.{◌≡◌, ◌≢◌, ℕ, zero, suc, ◌+◌, ◌<◌, ◌≤◌, ◌⊎◌, nat_eq, nat_lt, inl, inr, Bool, true, false, Option, Some, None, List, [], ◌∷◌, ◌++◌, length, refl, sym, ◌∙◌, ap, ap₂, subst, arith}
-use Rattle.std.specs.Prelude.{All, if◌then◌else◌, slice_get}
-use Rattle.wave_base.specs.declared.path.Step.{Step}
+use Rattle.std.proofs.Common.{◌≡◌, ℕ, zero, suc, ◌+◌, ◌<◌, ◌≤◌, ◌⊎◌, inl, inr, true, false, Some, None, List, [], ◌∷◌, ◌++◌, sym, ◌∙◌, ap, subst, arith}
+use Rattle.std.specs.Prelude.{All, if◌then◌else◌}
 use Rattle.wave_base.specs.declared.path.Path.{Path}
 use Rattle.wave_base.specs.Paths.{path_eq}
 use Rattle.wave_base.specs.Tree.{there}
 use Rattle.wave_base.specs.Fold.{Progress, next_job}
 use Rattle.wave_states.specs.Kinds.{Kind}
 use Rattle.wave_states.specs.States.{State, set}
-use Rattle.wave_states.specs.Labels.{Act, Label, ticket_of, path_of}
+use Rattle.wave_states.specs.Labels.{Label, ticket_of, path_of}
 use Rattle.wave_states.specs.Steps.{step}
 use Rattle.wave_states.specs.Runs.{run}
-use Rattle.wave_states.specs.Alone.{fold_alone, job_after}
+use Rattle.wave_states.specs.Alone.{job_after}
 use Rattle.wave_states.specs.Work.{work_after}
-use Rattle.wave_states.specs.Begins.{Begin, start_state, is_root, has_moved}
+use Rattle.wave_states.specs.Begins.{Begin, start_state, is_root}
 use Rattle.wave_states.specs.Owes.{Owes, IsBegin}
-use Rattle.wave_theory.proofs.Basics.{clash, none_not, bool_cases, path_cases, set_at, set_there, set_at_path}
+use Rattle.wave_theory.proofs.Basics.{clash, none_not, bool_cases, path_cases, set_there, set_at_path}
 use Rattle.wave_theory.proofs.Order.{Way, IsWay, visits, rank, Stage, There, Done, here}
 use Rattle.wave_theory.proofs.Ranks.{rank_less, rank_every, rank_up_to}
 use Rattle.wave_theory.proofs.Leaves.{Course}
-use Rattle.wave_theory.proofs.Tracks.{Trail, sent_on, arrived, born, unborn}
+use Rattle.wave_theory.proofs.Tracks.{Trail, arrived}
 use Rattle.wave_theory.proofs.Frames.{entered_spot, visits_of, holds_spot}
 use Rattle.wave_theory.proofs.Courses
 use Rattle.wave_theory.proofs.Shows

@@ -1,8 +1,7 @@
 -- How many segments of each ticket came to their end: as many as its Stops.
-use Rattle.std.proofs.Common.{◌≡◌, ◌≢◌, ℕ, suc, ◌+◌, ◌<◌, ◌≤◌, ◌⊎◌, nat_eq, inl, inr, Bool, true, false, Some, List, [], ◌∷◌, ◌++◌, refl, sym, ◌∙◌, ap, subst, arith}
+use Rattle.std.proofs.Common.{◌≡◌, ℕ, suc, ◌<◌, ◌≤◌, nat_eq, inl, inr, Bool, true, false, Some, List, [], ◌∷◌, ◌++◌, refl, sym, ◌∙◌, ap, subst, arith}
 use Rattle.std.specs.Prelude.{All, if◌then◌else◌}
 use Rattle.wave_base.specs.declared.path.Path.{Path}
-use Rattle.wave_states.specs.Actors.{Actors}
 use Rattle.wave_states.specs.States.{State, set}
 use Rattle.wave_states.specs.Labels.{Act, Label, Admit, Queue, Grant, Start, Stop, Free, Pass, Land, Commit, ticket_of, path_of}
 use Rattle.wave_states.specs.Labels
@@ -20,7 +19,6 @@ use Rattle.wave_theory.proofs.Deeds.{Outline, outline, Deed, done_by, Suits}
 use Rattle.wave_theory.proofs.Deeds
 use Rattle.wave_theory.proofs.Forms.{stop_form, admit_form}
 use Rattle.wave_theory.proofs.Homes
-use Rattle.wave_theory.proofs.Beginning
 use Rattle.wave_theory.proofs.Reached.{Good_state, Next}
 use Rattle.wave_theory.proofs.Reached
 use Rattle.wave_theory.proofs.Along

@@ -29,7 +29,7 @@ use Rattle.wave_theory.proofs.Courses.{View, view, view_real}
 use Rattle.wave_theory.proofs.Courses
 use Rattle.wave_theory.proofs.Shows
 use Rattle.wave_theory.proofs.Reached.{Good_state}
-use Rattle.wave_theory.specs.Hands.{CanStop, HandsStayOver}
+use Rattle.wave_theory.specs.Hands.{CanStop, HandsStay, HandsStayOver}
 
 there_done : There ≡ Done → ⊥
 there_done e = grind arith
@@ -104,7 +104,7 @@ module _ {A F R J : Type 0} (kind : Kind A F R J) (owes : Owes kind) (b : Begin 
         by (inl u) = (subst (λ i. Shows.ColumnShows kind.system w course b.before Is_real i k.ghost p (s.columns p)) u (x.columns p)).there (c.where_held p o.0 o.1).1
         by (inr u) = absurd (clash _ holds (sym ((x.entries p).holders t) ∙ ap (λ (y : Entry F). Shows.holds_claim y.holders t) ((x.entries p).unborn u)))
 
-    stop_can : is_some (stop kind.system p (owner ((k.ghost).trail p)) hd (part_of kind.system s t p)) ≡ true
+    stop_can : is_some (stop kind.system p (owner ((k.ghost).trail p)) hd (part_of s t p)) ≡ true
     stop_can = then_can _ (s.cells t).event (c).event c.event_is (then_can _ ((s.columns p).store (owner ((k.ghost).trail p))) ((k.ghost).entry p) entry_there (by (holds_as_peek (c).event.held p) refl))
       where
         o : (y : _) × (hold_at (c).event.held p ≡ Some y)
@@ -120,11 +120,12 @@ module _ {A F R J : Type 0} (kind : Kind A F R J) (owes : Owes kind) (b : Begin 
             same = ap₂ (λ a f. kind.system.segment a f (steps_of hd.body.children)) (some_same _ _ (hs.actor ∙ seg.actor_is)) (hs.fields ∙ like.fields ∙ ap (λ q. (course.leaf t n q).0) hs.place)
                 ∙ ap (λ cs. kind.system.segment (seg).actor (course.leaf t n (w.place t n)).0 (steps_of cs)) (hs.bare e) ∙ sym (seg.blind (subst (λ q. w.looks t q ≡ true) hs.place e))
 
-        by : (i : Bool) → holds_as_peek (c).event.held p ≡ i → is_some (stopped kind.system p (owner ((k.ghost).trail p)) (part_of kind.system s t p) (desk_back (s.cells t) (c).event (segment_of kind.system hd).actor) ((k.ghost).entry p) hd.body.children (segment_of kind.system hd) i) ≡ true
+        by : (i : Bool) → holds_as_peek (c).event.held p ≡ i → is_some (stopped kind.system p (owner ((k.ghost).trail p)) (part_of s t p) (desk_back (s.cells t) (c).event (segment_of kind.system hd).actor) ((k.ghost).entry p) hd.body.children (segment_of kind.system hd) i) ≡ true
         by false e = refl
-        by true e = (let z = over (sym peek_is ∙ e) in subst (λ u. is_some (looked (part_of kind.system s t p) (owner ((k.ghost).trail p)) (desk_back (s.cells t) (c).event (segment_of kind.system hd).actor) ((k.ghost).entry p) u) ≡ true) (sym z.1) refl)
+        by true e = (let z = over (sym peek_is ∙ e) in subst (λ u. is_some (looked (part_of s t p) (owner ((k.ghost).trail p)) (desk_back (s.cells t) (c).event (segment_of kind.system hd).actor) ((k.ghost).entry p) u) ≡ true) (sym z.1) refl)
 
     pub can_stop : (workers : ℕ) → nat_lt v workers ≡ true → CanStop kind.system workers s v hd
+    unfolding step
     can_stop workers less = record {
       event = (c).event;
       is_event = c.event_is;
@@ -132,7 +133,7 @@ module _ {A F R J : Type 0} (kind : Kind A F R J) (owes : Owes kind) (b : Begin 
       only = λ u h e f. (let y = x.hands u h e in y.worker ∙ ap (k.ghost).worker f ∙ sym hs.worker);
       host = owner ((k.ghost).trail p);
       here = ap is_some entry_there;
-      enabled = if_can (nat_lt v workers) _ less (map_can (λ y. with_bench kind.system s t p v y) _ (subst (λ o. is_some (act_bench kind.system (Stop t p) (owner ((k.ghost).trail p)) (part_of kind.system s t p) o) ≡ true) (sym hand_is)
+      enabled = if_can (nat_lt v workers) _ less (map_can (λ y. with_bench s t p v y) _ (subst (λ o. is_some (act_bench kind.system (Stop t p) (owner ((k.ghost).trail p)) (part_of s t p) o) ≡ true) (sym hand_is)
           (if_can ((t == t) && path_eq p p) _ (and_both (t == t) (path_eq p p) (number_self t) (path_self p)) (map_can _ _ stop_can))));
     }
 
@@ -179,13 +180,18 @@ module _ {A F R J : Type 0} (sys : Actors A F R J) where
   ]
     where
       rest : (a : Act) → is_local a ≡ false → step_by sys s v host a ≡ Some s' → s'.hands u ≡ s.hands u
-      rest (Admit t) z e = (let j = then_some (λ j. only_if ((host == 0) && (t == next_ticket sys s)) (admitted sys s t j)) (slice_get s.head.known s.admitted) s' (idle_of _ _ s' e) in
+      rest (Admit t) z e = (let j = then_some (λ j. only_if ((host == 0) && (t == next_ticket s)) (admitted sys s t j)) (slice_get s.head.known s.admitted) s' (idle_of _ _ s' e) in
           ap (λ (i : State A F R J). i.hands u) (sym (only_some _ (admitted sys s t j.0) s' j.2).1))
       rest (Commit t) z e = (let r = then_some (λ r. only_if ((host == 0) && (t == suc (s.before + s.head.done))) (committed sys s r)) (s.cells t).result s' (idle_of _ _ s' e) in
           ap (λ (i : State A F R J). i.hands u) (sym (only_some _ (committed sys s r.0) s' r.2).1))
       rest a z e = absurd (clash _ refl z)
 
+  pub hands_stay : HandsStay sys
+  unfolding step
+  hands_stay workers s v l u e n = off_hand s v l.worker l.host l.act u (if_some (nat_lt l.worker workers) (step_by sys s l.worker l.host l.act) v e).1 (differ l.worker u (λ z. n (sym z)))
+
   pub hands_stay_over : HandsStayOver sys
+  unfolding run step
   hands_stay_over workers s v ls u e n = along ls s e (recursion_from_All (λ (l : Label). u ≢ l.worker) ls n)
     where
       along : (ls : List Label) (s : State A F R J) → run sys workers s ls ≡ Some v → AllByRecursion (λ (l : Label). u ≢ l.worker) ls → v.hands u ≡ s.hands u

@@ -1,5 +1,5 @@
-pub mod Admitting
 pub mod Able
+pub mod Admitting
 pub mod Agreed
 pub mod Alive
 pub mod Alone
@@ -12,6 +12,7 @@ pub mod Commute
 pub mod Courses
 pub mod Deeds
 pub mod Desks
+pub mod Driving
 pub mod Ending
 pub mod Few
 pub mod Folds
@@ -22,9 +23,9 @@ pub mod Freeing
 pub mod Granting
 pub mod Halts
 pub mod Held
-pub mod InHand
 pub mod Homes
 pub mod Hosts
+pub mod InHand
 pub mod Leaves
 pub mod Live
 pub mod Mailed
@@ -44,6 +45,7 @@ pub mod Ranks
 pub mod Reached
 pub mod Reading
 pub mod Rising
+pub mod Rules
 pub mod Settled
 pub mod Shows
 pub mod Sites

@@ -1,14 +1,14 @@
 -- How many mails an event sends.
-use Rattle.std.proofs.Common.{◌≡◌, ℕ, suc, ◌+◌, ◌<◌, ◌≤◌, ◌⊎◌, ◌&&◌, not, inl, inr, Bool, true, false, Option, Some, None, is_some, List, [], ◌∷◌, length, refl, sym, ◌∙◌, ap, ap₂, subst, arith}
+use Rattle.std.proofs.Common.{◌≡◌, ℕ, suc, ◌+◌, ◌<◌, ◌≤◌, ◌&&◌, not, inl, inr, true, false, Some, is_some, List, [], ◌∷◌, length, refl, sym, ◌∙◌, ap, subst, arith}
 use Rattle.std.specs.Prelude.{All, cond}
 use Rattle.wave_base.specs.declared.path.Path.{Path}
 use Rattle.wave_base.specs.Paths.{path_eq}
 use Rattle.wave_states.specs.Kinds.{Kind}
-use Rattle.wave_states.specs.States.{State, Cell, Event, Hold, Ended, hold_at}
-use Rattle.wave_states.specs.Alone.{Alone, after_segments, fold_alone, job_after, run_alone, segments_of}
+use Rattle.wave_states.specs.States.{State, Cell, Event, Hold, hold_at}
+use Rattle.wave_states.specs.Alone.{fold_alone, job_after, run_alone, segments_of}
 use Rattle.wave_states.specs.Begins.{Begin}
 use Rattle.wave_states.specs.Owes.{Owes, IsBegin}
-use Rattle.wave_theory.proofs.Basics.{clash, some_same, none_not, some_not, path_self}
+use Rattle.wave_theory.proofs.Basics.{clash, some_same, none_not, path_self}
 use Rattle.wave_theory.proofs.Order.{Way, IsWay, Stage, Entering, Lined, Coming, There, Done, is_pending, here}
 use Rattle.wave_theory.proofs.Leaves.{Course}
 use Rattle.wave_theory.proofs.Held.{hold_cons}
@@ -22,7 +22,7 @@ use Rattle.wave_theory.proofs.Spent
 use Rattle.wave_theory.proofs.Shows
 use Rattle.wave_theory.proofs.Reached.{Good_state}
 use Rattle.wave_theory.proofs.Reached
-use Rattle.wave_theory.specs.Sent.{IsSent, Sent, shares}
+use Rattle.wave_theory.specs.Sent.{Sent, shares}
 
 -- nothing is held
 pub none_held : (held : List (Path × Hold)) → ((p : Path) → is_some (hold_at held p) ≡ false) → length held ≡ 0

@@ -86,6 +86,7 @@ hosts_sent r to = upto_more (set nat_eq r.at (suc r.last) to) (suc r.last) 0 ∙
 
 module _ {A F R J : Type 0} (sys : Actors A F R J) (workers : ℕ) where
   pub senders_more : (p : Path) (ls : List Label) (s₀ s s' : State A F R J) (l : Label) → run sys workers s₀ ls ≡ Some s → step sys workers s l ≡ Some s' → senders_from sys workers p (Some s₀) (ls ++ l ∷ []) ≡ senders_from sys workers p (Some s₀) ls ++ sender_by p (ticket_of l.act) s (Some s')
+  unfolding run
   senders_more p [] s₀ s s' l e f = (let z : s₀ ≡ s = some_same s₀ s e in
       subst (λ u. sender_by p (ticket_of l.act) u (step sys workers u l) ++ senders_from sys workers p (step sys workers u l) [] ≡ sender_by p (ticket_of l.act) s (Some s')) (sym z)
       (subst (λ o. sender_by p (ticket_of l.act) s o ++ senders_from sys workers p o [] ≡ sender_by p (ticket_of l.act) s (Some s')) (sym f) (append-nil (sender_by p (ticket_of l.act) s (Some s')))))
@@ -95,6 +96,7 @@ module _ {A F R J : Type 0} (sys : Actors A F R J) (workers : ℕ) where
       (ap (λ ts. sender_by p (ticket_of m.act) s₀ (Some u.0) ++ ts) (senders_more p ls u.0 s s' l u.2 f) ∙ sym (append_assoc (sender_by p (ticket_of m.act) s₀ (Some u.0)) (senders_from sys workers p (Some u.0) ls) (sender_by p (ticket_of l.act) s (Some s'))))
 
   pub trail_more : (p : Path) (trail : List ℕ) (ls : List Label) (s₀ s s' : State A F R J) (l : Label) → run sys workers s₀ ls ≡ Some s → step sys workers s l ≡ Some s' → trail_from sys workers p trail (Some s₀) (ls ++ l ∷ []) ≡ trail_step sys workers p (trail_from sys workers p trail (Some s₀) ls) l (Some s')
+  unfolding run
   trail_more p trail [] s₀ s s' l e f = (let z : s₀ ≡ s = some_same s₀ s e in
       subst (λ u. trail_from sys workers p (trail_step sys workers p trail l (step sys workers u l)) (step sys workers u l) [] ≡ trail_step sys workers p trail l (Some s')) (sym z)
       (subst (λ o. trail_from sys workers p (trail_step sys workers p trail l o) o [] ≡ trail_step sys workers p trail l (Some s')) (sym f) refl))
@@ -172,6 +174,7 @@ module _ {A F R J : Type 0} (kind : Kind A F R J) (owes : Owes kind) (b : Begin 
       o = outline k.ghost
 
       by_it : step_by kind.system s l.worker l.host l.act ≡ Some s'
+      unfolding step
       by_it = (if_some (nat_lt l.worker workers) (step_by kind.system s l.worker l.host l.act) s' e).1
 
       known_by : (t : ℕ) → (g).lines.stage t ≢ Done → (b.before < t) × (t ≤ (g).lines.admitted)
@@ -239,9 +242,9 @@ module _ {A F R J : Type 0} (kind : Kind A F R J) (owes : Owes kind) (b : Begin 
       pass_keeps : (t j : ℕ) (p : Path) (to : ℕ) → step_by kind.system s l.worker l.host (Pass t j p to) ≡ Some s' → (i : ℕ) (y : Mail F) → sent_by (s.cells t).event < i → (s'.cells t).mails i ≡ Some y → (s.cells t).mails i ≡ Some y
       pass_keeps t j p to q i y m z = (let u = map_some _ _ s' q in by (s.hands l.worker) u.0 u.1 u.2)
         where
-          by : (hd : Option (Hand A F)) (u : Bench A F R) → act_bench kind.system (Pass t j p to) l.host (part_of kind.system s t p) hd ≡ Some u → s' ≡ with_bench kind.system s t p l.worker u → (s.cells t).mails i ≡ Some y
+          by : (hd : Option (Hand A F)) (u : Bench A F R) → act_bench kind.system (Pass t j p to) l.host (part_of s t p) hd ≡ Some u → s' ≡ with_bench s t p l.worker u → (s.cells t).mails i ≡ Some y
           by (Some hd) u q d = absurd (none_not q)
-          by None u q d = (let c = map_some (λ (x : Part A F R). record { part = x; hand = None }) _ u q in let f = passes j to p l.host (part_of kind.system s t p) c.0 c.1 in
+          by None u q d = (let c = map_some (λ (x : Part A F R). record { part = x; hand = None }) _ u q in let f = passes j to p l.host (part_of s t p) c.0 c.1 in
               elim (number_cases j i) [
                 | inl x ↦ absurd (past_sent t j f.letter_at.mail (subst (λ a. sent_by (s.cells t).event < a) (sym x) m) f.letter_at.mail_is)
                 | inr x ↦ sym (set_there nat_eq (s.cells t).mails j _ i x) ∙ ap (λ (a : Part A F R). a.cell.mails i) f.gives ∙ ap (λ (a : Bench A F R). a.part.cell.mails i) (sym c.2) ∙ sym (ap (λ (a : State A F R J). (a.cells t).mails i) d ∙ ap (λ (a : Cell A F R). a.mails i) (set_at s.cells t u.part.cell)) ∙ z
@@ -317,8 +320,8 @@ module _ {A F R J : Type 0} (kind : Kind A F R J) (owes : Owes kind) (b : Begin 
           mail_new : (t : ℕ) → l.act ≡ Admit t → (c : Ask) × ((s'.cells (ticket_of l.act)).mails 1 ≡ Some (record { host = 0; path = []; letter = Enter c }))
           mail_new t z =
               let i = (Reached.idle_of kind owes b batches begins jobs (s.hands l.worker) _ s' (subst (λ a. step_by kind.system s l.worker l.host a ≡ Some s') z by_it)).1 in
-              let j = then_some (λ j. only_if ((l.host == 0) && (t == next_ticket kind.system s)) (admitted kind.system s t j)) (slice_get s.head.known s.admitted) s' i in
-              let u = only_some ((l.host == 0) && (t == next_ticket kind.system s)) (admitted kind.system s t j.0) s' j.2 in (
+              let j = then_some (λ j. only_if ((l.host == 0) && (t == next_ticket s)) (admitted kind.system s t j)) (slice_get s.head.known s.admitted) s' i in
+              let u = only_some ((l.host == 0) && (t == next_ticket s)) (admitted kind.system s t j.0) s' j.2 in (
                 record { number = t; followed = 0; peek = kind.system.peeks (kind.system.make j.0 t) },
                 ap (λ a. (s'.cells (ticket_of a)).mails 1) z ∙ ap (λ (a : State A F R J). (a.cells t).mails 1) (sym u.1) ∙ ap (λ (a : Cell A F R). a.mails 1) (set_at s.cells t (new_cell kind.system (kind.system.make j.0 t) t)) ∙ set_at (λ i. None) 1 (Some (record { host = 0; path = []; letter = Enter (record { number = t; followed = 0; peek = kind.system.peeks (kind.system.make j.0 t) }) })),
               )
@@ -399,7 +402,7 @@ module _ {A F R J : Type 0} (kind : Kind A F R J) (owes : Owes kind) (b : Begin 
       ]
         where
           by : (t : ℕ) × (p : Path) × (l.act ≡ Stop t p) → trail_by tr l.act l.host (s'.columns (path_of l.act)) ≡ tr
-          by a = (let own : IsOwner s a.1 l.host = subst (λ u. OwnerTakes kind s s' u l.host) a.2 takes in
+          by a = (let own : IsOwner s a.1 l.host = (subst (λ u. OwnerTakes kind s s' u l.host) a.2 takes).0 in
               let at : l.host ≡ owner ((g).trail (path_of l.act)) = Told.owner_is kind owes b batches begins jobs s k a.1 l.host own ∙ ap (λ u. owner ((g).trail (path_of u))) (sym a.2) in
               let some : is_some ((s'.columns (path_of l.act)).store l.host) ≡ true = ap (λ i. is_some ((s'.columns (path_of l.act)).store i)) (at ∙ ap owner (sym same)) ∙ (column_now (path_of l.act) bo).track.stored_is (ap (λ (u : Trail). u.stored) same ∙ f.stored) in
               subst (λ u. trail_by tr u l.host (s'.columns (path_of l.act)) ≡ tr) (sym a.2) (store_some (s'.columns (path_of l.act)) l.host tr a.0 a.1 some))
@@ -490,7 +493,7 @@ module _ {A F R J : Type 0} (kind : Kind A F R J) (owes : Owes kind) (b : Begin 
               latest a c l n = grind arith
 
           by : (t : ℕ) × (p : Path) × (l.act ≡ Stop t p) → trail_by (list_at (path_of l.act)) l.act l.host (s'.columns (path_of l.act)) ≡ list_at (path_of l.act) ++ to ∷ []
-          by a = (let own : IsOwner s a.1 l.host = subst (λ u. OwnerTakes kind s s' u l.host) a.2 takes in
+          by a = (let own : IsOwner s a.1 l.host = (subst (λ u. OwnerTakes kind s s' u l.host) a.2 takes).0 in
               let at : l.host ≡ owner ((g).trail (path_of l.act)) = Told.owner_is kind owes b batches begins jobs s k a.1 l.host own ∙ ap (λ u. owner ((g).trail (path_of u))) (sym a.2) in
               let m = marked l.host at in
               ap (λ u. trail_by (list_at (path_of l.act)) u l.host (s'.columns (path_of l.act))) a.2 ∙ store_none (s'.columns (path_of l.act)) l.host (list_at (path_of l.act)) a.0 a.1 m.0 (no_store l.host) m.1 ∙ ap (λ i. list_at (path_of l.act) ++ i ∷ []) m.2)
@@ -500,8 +503,8 @@ module _ {A F R J : Type 0} (kind : Kind A F R J) (owes : Owes kind) (b : Begin 
 
       hands_off : (v host : ℕ) (a : Act) → step_by kind.system s v host a ≡ Some s' → (u : ℕ) → nat_eq v u ≡ false → s'.hands u ≡ s.hands u
       hands_off v host (Admit t) q u d =
-          let j = then_some (λ j. only_if ((host == 0) && (t == next_ticket kind.system s)) (admitted kind.system s t j)) (slice_get s.head.known s.admitted) s' (Reached.idle_of kind owes b batches begins jobs (s.hands v) _ s' q).1 in
-          let z = only_some ((host == 0) && (t == next_ticket kind.system s)) (admitted kind.system s t j.0) s' j.2 in ap (λ (y : State A F R J). y.hands u) (sym z.1)
+          let j = then_some (λ j. only_if ((host == 0) && (t == next_ticket s)) (admitted kind.system s t j)) (slice_get s.head.known s.admitted) s' (Reached.idle_of kind owes b batches begins jobs (s.hands v) _ s' q).1 in
+          let z = only_some ((host == 0) && (t == next_ticket s)) (admitted kind.system s t j.0) s' j.2 in ap (λ (y : State A F R J). y.hands u) (sym z.1)
       hands_off v host (Commit t) q u d =
           let j = then_some (λ c. only_if ((host == 0) && (t == suc (s.before + s.head.done))) (committed kind.system s c)) (s.cells t).result s' (Reached.idle_of kind owes b batches begins jobs (s.hands v) _ s' q).1 in
           let z = only_some ((host == 0) && (t == suc (s.before + s.head.done))) (committed kind.system s j.0) s' j.2 in ap (λ (y : State A F R J). y.hands u) (sym z.1)
@@ -515,6 +518,7 @@ module _ {A F R J : Type 0} (kind : Kind A F R J) (owes : Owes kind) (b : Begin 
       hands_off v host (Land t i p) q u d = (let y = map_some _ _ s' q in ap (λ (z : State A F R J). z.hands u) y.2 ∙ set_there nat_eq s.hands v _ u d)
 
       idle_next : (v : ℕ) → workers ≤ v → s'.hands v ≡ None
+      unfolding step
       idle_next v q = hands_off l.worker l.host l.act by_it v (differ l.worker v (λ z. past _ _ _ (less l.worker workers (if_some (nat_lt l.worker workers) (step_by kind.system s l.worker l.host l.act) s' e).0) q z)) ∙ h.idle v q
         where
           less : (a c : ℕ) → nat_lt a c ≡ true → a < c
@@ -641,9 +645,8 @@ module _ {A F R J : Type 0} (kind : Kind A F R J) (owes : Owes kind) (b : Begin 
         granted_first = λ p. firsts_are p _ _ (h.came p);
         served = λ p en q. ap (λ (u : Entry F). u.served) (Told.entry_same kind owes b batches begins jobs s k p en q) ∙ (k.shows.entries p).served ∙ (h.came p).many;
         sent_first = λ p. firsts_are p _ _ (h.sent p);
-        given = λ p st host en r se be.
-            let f = found kind.system w course b.before Is_real k.ghost p (s.columns p) host en (k.shows.columns p) se in
-            let same : r ≡ (k.ghost).body p = (k.shows.entries p).body r (ap (λ (u : Entry F). u.body) (sym f.entry_is) ∙ be) in
+        given = λ p st en r se be.
+            let same : r ≡ (k.ghost).body p = (k.shows.entries p).body r (ap (λ (u : Entry F). u.body) (sym (Told.entry_same kind owes b batches begins jobs s k p en se)) ∙ be) in
             ap (λ (u : Record F). Shows.given_of u st) same ∙ (k.shows.entries p).given st ∙ (h.sent (p ++ st ∷ [])).many ∙ ap (λ i. (if i then b.before else 0) + length (senders_from kind.system workers (p ++ st ∷ []) (Some (start_state b batches)) ls)) (not_root p st) ∙ none_before (length (senders_from kind.system workers (p ++ st ∷ []) (Some (start_state b batches)) ls));
         at_root = same _ _ _ _ _ (h.sent []).many h.root k.shows.admitted;
       })

@@ -99,6 +99,7 @@ module _ {A F R J : Type 0} (kind : Kind A F R J) (owes : Owes kind) (b : Begin 
       is = (n.turn).is
 
       by_it : step_by kind.system s l.worker l.host l.act ≡ Some s'
+      unfolding step
       by_it = (if_some (nat_lt l.worker workers) (step_by kind.system s l.worker l.host l.act) s' e).1
 
       -- what was entered stays entered
@@ -282,10 +283,10 @@ module _ {A F R J : Type 0} (kind : Kind A F R J) (owes : Owes kind) (b : Begin 
         before_it : Before_it
         before_it = (let y = map_some _ _ s' (subst (λ a. step_by kind.system s l.worker l.host a ≡ Some s') a_is by_it) in by (s.hands l.worker) y.0 y.1 y.2)
           where
-            by : (hd : Option (Hand A F)) (y : Bench A F R) → act_bench kind.system (Pass t j p₀ to) l.host (part_of kind.system s t p₀) hd ≡ Some y → s' ≡ with_bench kind.system s t p₀ l.worker y → Before_it
+            by : (hd : Option (Hand A F)) (y : Bench A F R) → act_bench kind.system (Pass t j p₀ to) l.host (part_of s t p₀) hd ≡ Some y → s' ≡ with_bench s t p₀ l.worker y → Before_it
             by (Some hd) y q d = absurd (none_not q)
             by None y q d =
-                let z = map_some (λ (x : Part A F R). record { part = x; hand = None }) _ y q in let f = passes j to p₀ l.host (part_of kind.system s t p₀) z.0 z.1 in
+                let z = map_some (λ (x : Part A F R). record { part = x; hand = None }) _ y q in let f = passes j to p₀ l.host (part_of s t p₀) z.0 z.1 in
                 let kn = Reached.known kind owes b batches begins jobs s k.ghost k.shows t (λ x. none_not (sym (ap (λ (u : Cell A F R). u.mails j) x) ∙ f.letter_at.mail_is)) in
                 let ep : Shows.EnterShows kind.system w course b.before Is_real k.ghost t j l.host p₀ f.ask = shows_letter kind.system w course b.before Is_real k.ghost t j l.host p₀ (Enter f.ask) (s.cells t) (k.shows.cells t kn.0 kn.1) f.letter_at in
                 record {

@@ -9,9 +9,10 @@ use Rattle.wave_base.specs.Paths.{path_eq, is_above, parent_of}
 use Rattle.wave_states.specs.Actors.{Actors, Left, Pause, Go, Down, Over}
 use Rattle.wave_states.specs.States.{State, Cell, Column, Claim, Entry, Event, Hand, Hold, Record, Letter, Enter, Visit, Release, Transfer, Mail, Ask, Travelling, Ended, Status, set, hold_at, holds_as_peek}
 use Rattle.wave_states.specs.Steps.{Part, Desk, send, release, give_up, keep_below, into_child, ended, kept_of, left_of, nothing_kept, not_at, with_held, with_status, with_body, with_entry, put_back, over_here, over_there, over_by, paused, stopped, looked, desk_back, child_or_new, host_or, departed, moved_on, cell_of, segment_of, part_of}
-use Rattle.wave_theory.proofs.Basics.{clash, some_same, none_not, bool_cases, number_cases, path_cases, set_at, set_there, path_is}
+use Rattle.wave_theory.proofs.Basics.{clash, some_same, none_not, bool_cases, number_cases, path_cases, set_at, set_there, path_is, not_same}
 use Rattle.wave_theory.proofs.Opened.{Stopping}
 use Rattle.wave_theory.proofs.Held.{hold_cons, none_some}
+use Rattle.wave_theory.proofs.Desks.{keep_release}
 use Rattle.wave_theory.proofs.Shows.{Once}
 
 suc_plus : (a c : ℕ) → suc a + c ≡ suc (a + c)
@@ -101,13 +102,15 @@ module _ {A F : Type 0} where
   adds_give Q f keep d q a = adds_release Q f (left_of keep d.event.held) _ q a
 
 -- how a Stop leaves its event, and the entry
-pub record Outcome {A F R : Type 0} (x : Part A F R) (event : Event A) (en : Entry F) (h : ℕ) (y : Part A F R) : Type 0 where
+pub record Outcome {A F R : Type 0} (p : Path) (x : Part A F R) (event : Event A) (en : Entry F) (h : ℕ) (y : Part A F R) : Type 0 where
   pub after : Event A
   pub after_is : y.cell.event ≡ Some after
   -- it goes on with one mail more than it gives up; or it ends, and each mail gives something up
   pub goes : ((after.status ≡ Travelling) × (after.sent + length after.held ≡ suc (event.sent + length event.held))) ⊎ ((after.status ≡ Ended) × (after.sent + length after.held ≡ event.sent + length event.held))
   pub mails : (i : ℕ) (m : Mail F) → y.cell.mails i ≡ Some m → (x.cell.mails i ≡ Some m) ⊎ ((e : Entry F) → m.letter ≡ Transfer e → e.holders ≡ en.holders)
   pub store : (i : ℕ) (e : Entry F) → y.column.store i ≡ Some e → (x.column.store i ≡ Some e) ⊎ (e.holders ≡ en.holders)
+  -- the entry stays, or is under way to another host
+  pub owner : (is_some (y.column.store h) ≡ true) ⊎ ((to number : ℕ) × (e : Entry F) × (y.cell.mails number ≡ Some (record { host = to; path = p; letter = Transfer e })) × (to ≢ h))
 
 module _ {A F R J : Type 0} (sys : Actors A F R J) where
   module _ (p : Path) (x : Part A F R) (event : Event A) (en : Entry F) (h : ℕ) (f : F) (cs : List (Step × Child)) (a : A) (once : Once event.held) (held : is_some (hold_at event.held p) ≡ true) where
@@ -115,13 +118,16 @@ module _ {A F R J : Type 0} (sys : Actors A F R J) where
     d = desk_back x.cell event a
 
     abbrev Fine : Part A F R → Type 0
-    Fine y = Outcome x event en h y
+    Fine y = Outcome p x event en h y
 
     store_put : (e : Entry F) → e.holders ≡ en.holders → (i : ℕ) (u : Entry F) → (with_entry x.column h (Some e)).store i ≡ Some u → (x.column.store i ≡ Some u) ⊎ (u.holders ≡ en.holders)
     store_put e k i u z = elim (number_cases h i) [
       | inr n ↦ inl (sym (set_there nat_eq x.column.store h (Some e) i n) ∙ z)
       | inl n ↦ inr (ap (λ (v : Entry F). v.holders) (sym (some_same _ _ (sym (set_at x.column.store h (Some e)) ∙ subst (λ j. set nat_eq x.column.store h (Some e) j ≡ Some u) (sym n) z))) ∙ k)
     ]
+
+    put_there : (e : Entry F) → is_some ((with_entry x.column h (Some e)).store h) ≡ true
+    put_there e = ap is_some (set_at x.column.store h (Some e))
 
     no_change : Adds (Carries {F = F} en.holders) x.cell.mails (d).mails
     no_change i m e = inl e
@@ -142,6 +148,7 @@ module _ {A F R J : Type 0} (sys : Actors A F R J) where
       goes = inl (r.2, ap₂ (λ i j. i + length j) r.0 r.1 ∙ suc_plus event.sent (length event.held));
       mails = r.3;
       store = store_put _ r.4;
+      owner = inl (put_there _);
     })
 
     go : (s : Step) (peek : Bool) (o : Option Hold) → Fine (put_back x h (keep_below (p ++ s ∷ []) (into_child p h d en f cs s peek o)))
@@ -151,6 +158,7 @@ module _ {A F R J : Type 0} (sys : Actors A F R J) where
       goes = inl (g.1 ∙ r.2, g.0 ∙ ap₂ (λ i j. i + length j) r.0 r.1 ∙ suc_plus event.sent (length event.held));
       mails = adds_give (Carries {F = F} en.holders) x.cell.mails (is_above (p ++ s ∷ [])) _ free_of r.3;
       store = store_put _ r.4;
+      owner = inl (put_there _);
     })
 
     over : (e : Entry F) → e.holders ≡ en.holders → (r : R) → Fine (over_here x h d e r)
@@ -160,10 +168,11 @@ module _ {A F R J : Type 0} (sys : Actors A F R J) where
       goes = inr (g.1, g.0);
       mails = adds_give (Carries {F = F} en.holders) x.cell.mails nothing_kept (record { event = with_status (d).event Ended; mails = (d).mails }) free_of no_change;
       store = store_put e k;
+      owner = inl (put_there e);
     })
 
-    away : (e : Entry F) → e.holders ≡ en.holders → (r : R) (to : ℕ) → Fine (over_there p x h d e r to)
-    away e k r to = (let d' : Desk A F = send (record { event = with_held (d).event (kept_of (not_at p) event.held); mails = (d).mails }) (record { host = to; path = p; letter = Transfer (moved_on e) }) in
+    away : (e : Entry F) → e.holders ≡ en.holders → (r : R) (to : ℕ) → to ≢ h → Fine (over_there p x h d e r to)
+    away e k r to other = (let d' : Desk A F = send (record { event = with_held (d).event (kept_of (not_at p) event.held); mails = (d).mails }) (record { host = to; path = p; letter = Transfer (moved_on e) }) in
         let g = given_up nothing_kept (record { event = with_status d'.event Ended; mails = d'.mails }) in record {
           after = (ended d').event;
           after_is = refl;
@@ -173,18 +182,22 @@ module _ {A F R J : Type 0} (sys : Actors A F R J) where
             | inr n ↦ inl (sym (set_there nat_eq x.column.store h None i n) ∙ z)
             | inl n ↦ absurd (none_not (sym (set_at x.column.store h None) ∙ subst (λ j. set nat_eq x.column.store h None j ≡ Some u) (sym n) z))
           ];
+          owner = inr (to, suc event.sent, moved_on e, keep_release (left_of nothing_kept (kept_of (not_at p) event.held)) (record { event = with_held (with_status d'.event Ended) (kept_of nothing_kept (kept_of (not_at p) event.held)); mails = d'.mails }) (suc event.sent) (upto (suc event.sent)) ∙ set_at x.cell.mails (suc event.sent) _, other);
         })
       where
+        upto : (a : ℕ) → a ≤ a
+        upto a = omega arith
+
         plus : (a c t : ℕ) → suc c ≡ t → suc a + c ≡ a + t
         plus a c t e = omega (arith, e)
 
     over_one : (e : Entry F) → e.holders ≡ en.holders → (r : R) (m : Option (Path × ℕ)) → Fine (over_by p x h d e r m)
     over_one e k r None = over e k r
-    over_one e k r (Some m) = by (m.1 == h)
+    over_one e k r (Some m) = by (m.1 == h) refl
       where
-        by : (i : Bool) → Fine (if i then over_here x h d e r else over_there p x h d e r m.1)
-        by true = over e k r
-        by false = away e k r m.1
+        by : (i : Bool) → (m.1 == h) ≡ i → Fine (if i then over_here x h d e r else over_there p x h d e r m.1)
+        by true z = over e k r
+        by false z = away e k r m.1 (not_same m.1 h z)
 
     pauses : (peek : Bool) (u : Pause R) → Fine (paused sys p h x d en f cs peek u)
     pauses peek (Go s) = go s peek (hold_at event.held (p ++ s ∷ []))
@@ -195,6 +208,7 @@ module _ {A F R J : Type 0} (sys : Actors A F R J) where
       goes = inl (refl, suc_plus event.sent (length event.held));
       mails = adds_send (Carries {F = F} en.holders) x.cell.mails d _ (λ e z. absurd (back_not e z)) no_change;
       store = store_put _ refl;
+      owner = inl (put_there _);
     }
     pauses peek (Over r) = over_one (with_body en (Some (record { fields = f; children = cs }))) refl r (sys.moved r)
 
@@ -204,9 +218,9 @@ module _ {A F R J : Type 0} (sys : Actors A F R J) where
     looking (Down s) y e = absurd (none_not e)
     looking Pause.Back y e = absurd (none_not e)
 
-  pub outcome : (t : ℕ) (p : Path) (h : ℕ) (g : Hand A F) (x y : Part A F R) (q : Stopping sys t p h g x y) → Once q.event.held → is_some (hold_at q.event.held p) ≡ true → Outcome x q.event q.entry h y
+  pub outcome : (t : ℕ) (p : Path) (h : ℕ) (g : Hand A F) (x y : Part A F R) (q : Stopping sys t p h g x y) → Once q.event.held → is_some (hold_at q.event.held p) ≡ true → Outcome p x q.event q.entry h y
   outcome t p h g x y q once held = by (holds_as_peek q.event.held p) q.gives
     where
-      by : (i : Bool) → stopped sys p h x (desk_back x.cell q.event (segment_of sys g).actor) q.entry g.body.children (segment_of sys g) i ≡ Some y → Outcome x q.event q.entry h y
+      by : (i : Bool) → stopped sys p h x (desk_back x.cell q.event (segment_of sys g).actor) q.entry g.body.children (segment_of sys g) i ≡ Some y → Outcome p x q.event q.entry h y
       by true e = looking p x q.event q.entry h (segment_of sys g).fields g.body.children (segment_of sys g).actor once held (segment_of sys g).pause y e
-      by false e = subst (Outcome x q.event q.entry h) (some_same _ y e) (pauses p x q.event q.entry h (segment_of sys g).fields g.body.children (segment_of sys g).actor once held (sys.peeks (segment_of sys g).actor) (segment_of sys g).pause)
+      by false e = subst (Outcome p x q.event q.entry h) (some_same _ y e) (pauses p x q.event q.entry h (segment_of sys g).fields g.body.children (segment_of sys g).actor once held (sys.peeks (segment_of sys g).actor) (segment_of sys g).pause)

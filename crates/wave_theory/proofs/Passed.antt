@@ -112,8 +112,8 @@ module _ {A F R J : Type 0} (kind : Kind A F R J) (owes : Owes kind) (b : Begin 
     -- the cells of other tickets stay
     pub cells_off : (s s' : State A F R J) (v host : ℕ) (a : Act) → step_by kind.system s v host a ≡ Some s' → (u : ℕ) → nat_eq (ticket_of a) u ≡ false → s'.cells u ≡ s.cells u
     cells_off s s' v host (Admit t) e u n =
-        let j = then_some (λ j. only_if ((host == 0) && (t == next_ticket kind.system s)) (admitted kind.system s t j)) (Rattle.std.specs.Prelude.slice_get s.head.known s.admitted) s' (Reached.idle_of kind owes b batches begins jobs (s.hands v) _ s' e).1 in
-        let o = only_some ((host == 0) && (t == next_ticket kind.system s)) (admitted kind.system s t j.0) s' j.2 in
+        let j = then_some (λ j. only_if ((host == 0) && (t == next_ticket s)) (admitted kind.system s t j)) (Rattle.std.specs.Prelude.slice_get s.head.known s.admitted) s' (Reached.idle_of kind owes b batches begins jobs (s.hands v) _ s' e).1 in
+        let o = only_some ((host == 0) && (t == next_ticket s)) (admitted kind.system s t j.0) s' j.2 in
         ap (λ (y : State A F R J). y.cells u) (sym o.1) ∙ set_there nat_eq s.cells t _ u n
     cells_off s s' v host (Commit t) e u n =
         let r = then_some (λ r. only_if ((host == 0) && (t == suc (s.before + s.head.done))) (committed kind.system s r)) (s.cells t).result s' (Reached.idle_of kind owes b batches begins jobs (s.hands v) _ s' e).1 in
@@ -134,7 +134,7 @@ module _ {A F R J : Type 0} (kind : Kind A F R J) (owes : Owes kind) (b : Begin 
       | inl d ↦ absurd (none_not (sym (subst (λ j. set nat_eq mails k None j ≡ None) d (set_at mails k None)) ∙ e))
     ]
 
-    calm_is : (o : Option (Part A F R)) (y : Bench A F R) → with_hand kind.system None o ≡ Some y → (z : Part A F R) × (o ≡ Some z) × (y ≡ record { part = z; hand = None })
+    calm_is : (o : Option (Part A F R)) (y : Bench A F R) → with_hand None o ≡ Some y → (z : Part A F R) × (o ≡ Some z) × (y ≡ record { part = z; hand = None })
     calm_is o y e = map_some (λ (z : Part A F R). record { part = z; hand = None }) o y e
 
     -- what a label that leaves a ticket's Enter does to its mails
@@ -145,20 +145,20 @@ module _ {A F R J : Type 0} (kind : Kind A F R J) (owes : Owes kind) (b : Begin 
         ap (λ (y : State A F R J). (y.cells t).mails i) o.1 ∙ f
     mails_kept s s' v host (Start t p) e np r i m f = (let y = map_some _ _ s' e in by (s.hands v) y.0 y.1 y.2)
       where
-        by : (h : Option (Rattle.wave_states.specs.States.Hand A F)) (y : Bench A F R) → act_bench kind.system (Start t p) host (part_of kind.system s t p) h ≡ Some y → s' ≡ with_bench kind.system s t p v y → (s.cells t).mails i ≡ Some m
+        by : (h : Option (Rattle.wave_states.specs.States.Hand A F)) (y : Bench A F R) → act_bench kind.system (Start t p) host (part_of s t p) h ≡ Some y → s' ≡ with_bench s t p v y → (s.cells t).mails i ≡ Some m
         by (Some h) y e k = absurd (none_not e)
-        by None y e k = (let q = starts t p host (part_of kind.system s t p) y e in ap (λ (u : Bench A F R). u.part.cell.mails i) q.gives ∙ sym (ap (λ (u : State A F R J). (u.cells t).mails i) k ∙ ap (λ (u : Cell A F R). u.mails i) (set_at s.cells t y.part.cell)) ∙ f)
+        by None y e k = (let q = starts t p host (part_of s t p) y e in ap (λ (u : Bench A F R). u.part.cell.mails i) q.gives ∙ sym (ap (λ (u : State A F R J). (u.cells t).mails i) k ∙ ap (λ (u : Cell A F R). u.mails i) (set_at s.cells t y.part.cell)) ∙ f)
     mails_kept s s' v host (Free t k p) e np r i m f = (let y = map_some _ _ s' e in by (s.hands v) y.0 y.1 y.2)
       where
-        by : (h : Option (Rattle.wave_states.specs.States.Hand A F)) (y : Bench A F R) → act_bench kind.system (Free t k p) host (part_of kind.system s t p) h ≡ Some y → s' ≡ with_bench kind.system s t p v y → (s.cells t).mails i ≡ Some m
+        by : (h : Option (Rattle.wave_states.specs.States.Hand A F)) (y : Bench A F R) → act_bench kind.system (Free t k p) host (part_of s t p) h ≡ Some y → s' ≡ with_bench s t p v y → (s.cells t).mails i ≡ Some m
         by (Some h) y e k = absurd (none_not e)
-        by None y e d = (let z = calm_is _ y e in let q = frees t k p host (part_of kind.system s t p) z.0 z.1 in cut_kept (s.cells t).mails k i m
+        by None y e d = (let z = calm_is _ y e in let q = frees t k p host (part_of s t p) z.0 z.1 in cut_kept (s.cells t).mails k i m
             (ap (λ (u : Part A F R). u.cell.mails i) q.gives ∙ ap (λ (u : Bench A F R). u.part.cell.mails i) (sym z.2) ∙ sym (ap (λ (u : State A F R J). (u.cells t).mails i) d ∙ ap (λ (u : Cell A F R). u.mails i) (set_at s.cells t y.part.cell)) ∙ f))
     mails_kept s s' v host (Land t k p) e np r i m f = (let y = map_some _ _ s' e in by (s.hands v) y.0 y.1 y.2)
       where
-        by : (h : Option (Rattle.wave_states.specs.States.Hand A F)) (y : Bench A F R) → act_bench kind.system (Land t k p) host (part_of kind.system s t p) h ≡ Some y → s' ≡ with_bench kind.system s t p v y → (s.cells t).mails i ≡ Some m
+        by : (h : Option (Rattle.wave_states.specs.States.Hand A F)) (y : Bench A F R) → act_bench kind.system (Land t k p) host (part_of s t p) h ≡ Some y → s' ≡ with_bench s t p v y → (s.cells t).mails i ≡ Some m
         by (Some h) y e k = absurd (none_not e)
-        by None y e d = (let z = calm_is _ y e in let q = lands k p host (part_of kind.system s t p) z.0 z.1 in cut_kept (s.cells t).mails k i m
+        by None y e d = (let z = calm_is _ y e in let q = lands k p host (part_of s t p) z.0 z.1 in cut_kept (s.cells t).mails k i m
             (ap (λ (u : Part A F R). u.cell.mails i) q.gives ∙ ap (λ (u : Bench A F R). u.part.cell.mails i) (sym z.2) ∙ sym (ap (λ (u : State A F R J). (u.cells t).mails i) d ∙ ap (λ (u : Cell A F R). u.mails i) (set_at s.cells t y.part.cell)) ∙ f))
     mails_kept s s' v host (Pass t k p to) e np r i m f = absurd (clash true refl np)
     mails_kept s s' v host (Admit t) e np r i m f = elim r [ inl x ↦ absurd x | inr x ↦ absurd x ]
@@ -257,10 +257,10 @@ module _ {A F R J : Type 0} (kind : Kind A F R J) (owes : Owes kind) (b : Begin 
         own_pass : (s' : State A F R J) (v host t i : ℕ) (p : Path) (to : ℕ) → step_by kind.system s v host (Pass t i p to) ≡ Some s' → b.before < t → t ≤ (g).lines.admitted → Bound ((g).lines.stage t) t ((g).lines.pos t) (s'.cells t).mails (suc (h.tally t))
         own_pass s' v host t i p to e lt la = (let y = map_some _ _ s' e in by (s.hands v) y.0 y.1 y.2)
           where
-            by : (hd : Option (Rattle.wave_states.specs.States.Hand A F)) (y : Bench A F R) → act_bench kind.system (Pass t i p to) host (part_of kind.system s t p) hd ≡ Some y → s' ≡ with_bench kind.system s t p v y → Bound ((g).lines.stage t) t ((g).lines.pos t) (s'.cells t).mails (suc (h.tally t))
+            by : (hd : Option (Rattle.wave_states.specs.States.Hand A F)) (y : Bench A F R) → act_bench kind.system (Pass t i p to) host (part_of s t p) hd ≡ Some y → s' ≡ with_bench s t p v y → Bound ((g).lines.stage t) t ((g).lines.pos t) (s'.cells t).mails (suc (h.tally t))
             by (Some hd) y e d = absurd (none_not e)
             by None y e d =
-                let z = calm_is _ y e in let q = passes i to p host (part_of kind.system s t p) z.0 z.1 in
+                let z = calm_is _ y e in let q = passes i to p host (part_of s t p) z.0 z.1 in
                 let ep : Shows.EnterShows kind.system w course b.before Is_real (k.ghost) t i host p q.ask = Rattle.wave_theory.proofs.Own.shows_letter kind.system w course b.before Is_real (k.ghost) t i host p (Enter q.ask) (s.cells t) (k.shows.cells t lt la) q.letter_at in
                 let old : Bound Entering t ((g).lines.pos t) (s.cells t).mails (h.tally t) = subst (λ u. Bound u t ((g).lines.pos t) (s.cells t).mails (h.tally t)) ep.stage (h.bound t lt la) in
                 let before = old i q.letter_at.mail q.ask q.letter_at.mail_is q.letter_at.letter_is in
@@ -316,12 +316,13 @@ module _ {A F R J : Type 0} (kind : Kind A F R J) (owes : Owes kind) (b : Begin 
       pass_known : (s s' : State A F R J) (k : Good s) (v host t i : ℕ) (p : Path) (to : ℕ) → step_by kind.system s v host (Pass t i p to) ≡ Some s' → (b.before < t) × (t ≤ (k.ghost).lines.admitted)
       pass_known s s' k v host t i p to e = (let y = map_some _ _ s' e in by (s.hands v) y.0 y.1)
         where
-          by : (hd : Option (Rattle.wave_states.specs.States.Hand A F)) (y : Bench A F R) → act_bench kind.system (Pass t i p to) host (part_of kind.system s t p) hd ≡ Some y → (b.before < t) × (t ≤ (k.ghost).lines.admitted)
+          by : (hd : Option (Rattle.wave_states.specs.States.Hand A F)) (y : Bench A F R) → act_bench kind.system (Pass t i p to) host (part_of s t p) hd ≡ Some y → (b.before < t) × (t ≤ (k.ghost).lines.admitted)
           by (Some hd) y e = absurd (none_not e)
-          by None y e = (let z = calm_is _ y e in let q = passes i to p host (part_of kind.system s t p) z.0 z.1 in
+          by None y e = (let z = calm_is _ y e in let q = passes i to p host (part_of s t p) z.0 z.1 in
               Reached.known kind owes b batches begins jobs s (k.ghost) k.shows t (λ n. none_not (sym (ap (λ (u : Cell A F R). u.mails i) n) ∙ q.letter_at.mail_is)))
 
       pub next : (ls : List Label) (s s' : State A F R J) (k : Good s) (l : Label) → Along.from_start kind owes b batches begins jobs some_host workers ls s → Passed ls s k → step kind.system workers s l ≡ Some s' → (n : Along.Follows kind owes b batches begins jobs some_host workers s s' k l) → Passed (ls ++ l ∷ []) s' n.good
+      unfolding step
       next ls s s' k l r h e n = record {
         homes = Homes.homes_next kind owes b batches begins jobs s k.ghost (n.good).ghost l.act k.shows n.turn h.homes;
         tally = told (is_pass l.act) h.tally (ticket_of l.act);

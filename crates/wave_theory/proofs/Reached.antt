@@ -128,7 +128,7 @@ module _ {A F R J : Type 0} (kind : Kind A F R J) (owes : Owes kind) (b : Begin 
   result_there c r p q = none_not (sym (ap (λ (u : Cell A F R). u.result) q) ∙ p)
 
   -- a label of a ticket that leaves its result, or has none before
-  heads_after : (s : State A F R J) (t : ℕ) (p : Path) (v : ℕ) (y : Bench A F R) → Heads s → (is_some (s.cells t).result ≡ true → is_some y.part.cell.result ≡ true) → Heads (with_bench kind.system s t p v y)
+  heads_after : (s : State A F R J) (t : ℕ) (p : Path) (v : ℕ) (y : Bench A F R) → Heads s → (is_some (s.cells t).result ≡ true → is_some y.part.cell.result ≡ true) → Heads (with_bench s t p v y)
   heads_after s t p v y h k = record {
     head_is = h.head_is;
     few = h.few;
@@ -289,59 +289,59 @@ module _ {A F R J : Type 0} (kind : Kind A F R J) (owes : Owes kind) (b : Begin 
             same_index : (a i j : ℕ) → suc a + i ≡ suc a + j → i ≡ j
             same_index a i j e = omega (arith, e)
 
-    next_by : (a : Act) → is_pass a ≡ false → (t : ℕ) (p : Path) (y : Bench A F R) (g' : Shows.Ghost F) → Turned s g g' a → s' ≡ with_bench kind.system s t p v y → Shown (with_bench kind.system s t p v y) g' → Alive.Alive kind.system w course b.before Is_real (with_bench kind.system s t p v y) g' → (is_some (s.cells t).result ≡ true → is_some y.part.cell.result ≡ true) →
+    next_by : (a : Act) → is_pass a ≡ false → (t : ℕ) (p : Path) (y : Bench A F R) (g' : Shows.Ghost F) → Turned s g g' a → s' ≡ with_bench s t p v y → Shown (with_bench s t p v y) g' → Alive.Alive kind.system w course b.before Is_real (with_bench s t p v y) g' → (is_some (s.cells t).result ≡ true → is_some y.part.cell.result ≡ true) →
         (b.before < t) × (t ≤ g.lines.admitted) → Tallies.Tally kind.system w course b.before Is_real g' (set nat_eq c t (suc (c t))) → Then a
     next_by a ia t p y g' tn e k al' r kn tl = subst (λ u. Next s u g (total s c) a) (sym e) (record { good = record { ghost = g'; shows = k; heads = heads_after s t p v y h r; alive = al'; tally = set nat_eq c t (suc (c t)); tallied = tl }; counts = total_more t kn.0 kn.1 ∙ sym (ap (λ i. if i then total s c else suc (total s c)) ia); turn = tn })
 
-    next_same : (a : Act) → is_pass a ≡ true → (t : ℕ) (p : Path) (y : Bench A F R) (g' : Shows.Ghost F) → Turned s g g' a → s' ≡ with_bench kind.system s t p v y → Shown (with_bench kind.system s t p v y) g' → Alive.Alive kind.system w course b.before Is_real (with_bench kind.system s t p v y) g' → (is_some (s.cells t).result ≡ true → is_some y.part.cell.result ≡ true) →
+    next_same : (a : Act) → is_pass a ≡ true → (t : ℕ) (p : Path) (y : Bench A F R) (g' : Shows.Ghost F) → Turned s g g' a → s' ≡ with_bench s t p v y → Shown (with_bench s t p v y) g' → Alive.Alive kind.system w course b.before Is_real (with_bench s t p v y) g' → (is_some (s.cells t).result ≡ true → is_some y.part.cell.result ≡ true) →
         Tallies.Tally kind.system w course b.before Is_real g' c → Then a
     next_same a ia t p y g' tn e k al' r tl = subst (λ u. Next s u g (total s c) a) (sym e) (record { good = record { ghost = g'; shows = k; heads = heads_after s t p v y h r; alive = al'; tally = c; tallied = tl }; counts = sym (ap (λ i. if i then total s c else suc (total s c)) ia); turn = tn })
 
-    calm_is : (o : Option (Part A F R)) (y : Bench A F R) → with_hand kind.system None o ≡ Some y → (z : Part A F R) × (o ≡ Some z) × (y ≡ record { part = z; hand = None })
+    calm_is : (o : Option (Part A F R)) (y : Bench A F R) → with_hand None o ≡ Some y → (z : Part A F R) × (o ≡ Some z) × (y ≡ record { part = z; hand = None })
     calm_is o y e = map_some (λ (z : Part A F R). record { part = z; hand = None }) o y e
 
-    local : (a : Act) (y : Bench A F R) (hd : Option (Hand A F)) → s.hands v ≡ hd → Labels.is_local a ≡ true → act_bench kind.system a host (part_of kind.system s (ticket_of a) (path_of a)) hd ≡ Some y → s' ≡ with_bench kind.system s (ticket_of a) (path_of a) v y → Then a
+    local : (a : Act) (y : Bench A F R) (hd : Option (Hand A F)) → s.hands v ≡ hd → Labels.is_local a ≡ true → act_bench kind.system a host (part_of s (ticket_of a) (path_of a)) hd ≡ Some y → s' ≡ with_bench s (ticket_of a) (path_of a) v y → Then a
     local (Admit t) y hd k l e f = absurd (clash false l refl)
     local (Commit t) y hd k l e f = absurd (clash false l refl)
     local (Queue t n p) y (Some a) k l e f = absurd (none_not e)
-    local (Queue t n p) y None k l e f = (let z = calm_is _ y e in let q = queues kind.system t n p host (part_of kind.system s t p) z.0 z.1 in let kn = known s g x t (event_there (s.cells t) q.event q.event_is) in
-        next_by (Queue t n p) refl t p (record { part = z.0; hand = None }) _ (Queueing.queue_turn kind.system w law course b.before Is_real s g x t n p host v z.0 q kn.0 kn.1) (f ∙ ap (with_bench kind.system s t p v) z.2) (Queueing.queue_shows kind.system w law course b.before Is_real s g x t n p host v z.0 q kn.0 kn.1) (Queueing.queue_alive kind.system w law course b.before Is_real s g x t n p host v z.0 q kn.0 kn.1 al k) (λ r. subst (λ (u : Part A F R). is_some u.cell.result ≡ true) q.gives r) kn (Queueing.queue_tally kind.system w law course b.before Is_real s g x t n p host v z.0 q kn.0 kn.1 c tc))
+    local (Queue t n p) y None k l e f = (let z = calm_is _ y e in let q = queues kind.system t n p host (part_of s t p) z.0 z.1 in let kn = known s g x t (event_there (s.cells t) q.event q.event_is) in
+        next_by (Queue t n p) refl t p (record { part = z.0; hand = None }) _ (Queueing.queue_turn kind.system w law course b.before Is_real s g x t n p host v z.0 q kn.0 kn.1) (f ∙ ap (with_bench s t p v) z.2) (Queueing.queue_shows kind.system w law course b.before Is_real s g x t n p host v z.0 q kn.0 kn.1) (Queueing.queue_alive kind.system w law course b.before Is_real s g x t n p host v z.0 q kn.0 kn.1 al k) (λ r. subst (λ (u : Part A F R). is_some u.cell.result ≡ true) q.gives r) kn (Queueing.queue_tally kind.system w law course b.before Is_real s g x t n p host v z.0 q kn.0 kn.1 c tc))
     local (Grant t p) y (Some a) k l e f = absurd (none_not e)
-    local (Grant t p) y None k l e f = (let z = calm_is _ y e in let q = grants t p host (part_of kind.system s t p) z.0 z.1 in let kn = known s g x t (event_there (s.cells t) q.event q.event_is) in
-        next_by (Grant t p) refl t p (record { part = z.0; hand = None }) _ (Granting.grant_turn kind.system w law course b.before Is_real courses s g x t p host v z.0 q) (f ∙ ap (with_bench kind.system s t p v) z.2) (Granting.grant_shows kind.system w law course b.before Is_real courses s g x t p host v z.0 q) (Granting.grant_alive kind.system w law course b.before Is_real courses s g x t p host v z.0 q al k) (λ r. subst (λ (u : Part A F R). is_some u.cell.result ≡ true) q.gives r) kn (Granting.grant_tally kind.system w law course b.before Is_real courses s g x t p host v z.0 q c tc))
+    local (Grant t p) y None k l e f = (let z = calm_is _ y e in let q = grants t p host (part_of s t p) z.0 z.1 in let kn = known s g x t (event_there (s.cells t) q.event q.event_is) in
+        next_by (Grant t p) refl t p (record { part = z.0; hand = None }) _ (Granting.grant_turn kind.system w law course b.before Is_real courses s g x t p host v z.0 q) (f ∙ ap (with_bench s t p v) z.2) (Granting.grant_shows kind.system w law course b.before Is_real courses s g x t p host v z.0 q) (Granting.grant_alive kind.system w law course b.before Is_real courses s g x t p host v z.0 q al k) (λ r. subst (λ (u : Part A F R). is_some u.cell.result ≡ true) q.gives r) kn (Granting.grant_tally kind.system w law course b.before Is_real courses s g x t p host v z.0 q c tc))
     local (Labels.Visit t n p) y (Some a) k l e f = absurd (none_not e)
-    local (Labels.Visit t n p) y None k l e f = (let z = calm_is _ y e in let q = Opened.visits n p host (part_of kind.system s t p) z.0 z.1 in let kn = known s g x t (event_there (s.cells t) q.event q.event_is) in
-        next_by (Labels.Visit t n p) refl t p (record { part = z.0; hand = None }) _ (Granting.visit_turn kind.system w law course b.before Is_real courses s g x t n p host v z.0 q kn.0 kn.1) (f ∙ ap (with_bench kind.system s t p v) z.2) (Granting.visit_shows kind.system w law course b.before Is_real courses s g x t n p host v z.0 q kn.0 kn.1) (Granting.visit_alive kind.system w law course b.before Is_real courses s g x t n p host v z.0 q kn.0 kn.1 al k) (λ r. subst (λ (u : Part A F R). is_some u.cell.result ≡ true) q.gives r) kn (Granting.visit_tally kind.system w law course b.before Is_real courses s g x t n p host v z.0 q kn.0 kn.1 c tc))
+    local (Labels.Visit t n p) y None k l e f = (let z = calm_is _ y e in let q = Opened.visits n p host (part_of s t p) z.0 z.1 in let kn = known s g x t (event_there (s.cells t) q.event q.event_is) in
+        next_by (Labels.Visit t n p) refl t p (record { part = z.0; hand = None }) _ (Granting.visit_turn kind.system w law course b.before Is_real courses s g x t n p host v z.0 q kn.0 kn.1) (f ∙ ap (with_bench s t p v) z.2) (Granting.visit_shows kind.system w law course b.before Is_real courses s g x t n p host v z.0 q kn.0 kn.1) (Granting.visit_alive kind.system w law course b.before Is_real courses s g x t n p host v z.0 q kn.0 kn.1 al k) (λ r. subst (λ (u : Part A F R). is_some u.cell.result ≡ true) q.gives r) kn (Granting.visit_tally kind.system w law course b.before Is_real courses s g x t n p host v z.0 q kn.0 kn.1 c tc))
     local (Start t p) y (Some a) k l e f = absurd (none_not e)
-    local (Start t p) y None k l e f = (let q = starts t p host (part_of kind.system s t p) y e in let kn = known s g x t (event_there (s.cells t) q.event q.event_is) in
+    local (Start t p) y None k l e f = (let q = starts t p host (part_of s t p) y e in let kn = known s g x t (event_there (s.cells t) q.event q.event_is) in
         next_by (Start t p) refl t p y _ (Starting.start_turn kind.system w law course b.before Is_real courses s g x t p host v y q kn.0 kn.1) f (Starting.start_shows kind.system w law course b.before Is_real courses s g x t p host v y q kn.0 kn.1) (Starting.start_alive kind.system w law course b.before Is_real courses s g x t p host v y q kn.0 kn.1 al k) (λ r. subst (λ (u : Bench A F R). is_some u.part.cell.result ≡ true) q.gives r) kn (Starting.start_tally kind.system w law course b.before Is_real courses s g x t p host v y q kn.0 kn.1 c tc))
     local (Stop t p) y None k l e f = absurd (none_not e)
     local (Stop t p) y (Some hd) k l e f = (let i = if_some ((hd.ticket == t) && path_eq hd.path p) _ y e in
-        stop_next hd k y (with_hand_is t p hd i.1) (f ∙ ap₂ (λ a r. with_bench kind.system s a r v y) (sym (number_is hd.ticket t (and_first _ _ i.0))) (sym (path_is hd.path p (and_second (hd.ticket == t) _ i.0)))) (number_is hd.ticket t (and_first _ _ i.0)) (path_is hd.path p (and_second (hd.ticket == t) _ i.0)))
+        stop_next hd k y (with_hand_is t p hd i.1) (f ∙ ap₂ (λ a r. with_bench s a r v y) (sym (number_is hd.ticket t (and_first _ _ i.0))) (sym (path_is hd.path p (and_second (hd.ticket == t) _ i.0)))) (number_is hd.ticket t (and_first _ _ i.0)) (path_is hd.path p (and_second (hd.ticket == t) _ i.0)))
       where
-        with_hand_is : (t : ℕ) (p : Path) (hd : Hand A F) → with_hand kind.system None (stop kind.system p host hd (part_of kind.system s t p)) ≡ Some y → with_hand kind.system None (stop kind.system p host hd (part_of kind.system s t p)) ≡ Some y
+        with_hand_is : (t : ℕ) (p : Path) (hd : Hand A F) → with_hand None (stop kind.system p host hd (part_of s t p)) ≡ Some y → with_hand None (stop kind.system p host hd (part_of s t p)) ≡ Some y
         with_hand_is t p hd e = e
 
-        stop_next : (hd : Hand A F) → s.hands v ≡ Some hd → (y : Bench A F R) → with_hand kind.system None (stop kind.system p host hd (part_of kind.system s t p)) ≡ Some y → s' ≡ with_bench kind.system s hd.ticket hd.path v y → hd.ticket ≡ t → hd.path ≡ p → Then (Stop t p)
-        stop_next hd k y e f et ep = subst (λ a. Then (Stop a p)) et (subst (λ r. Then (Stop hd.ticket r)) ep (let e' : with_hand kind.system None (stop kind.system hd.path host hd (part_of kind.system s hd.ticket hd.path)) ≡ Some y = subst (λ r. with_hand kind.system None (stop kind.system r host hd (part_of kind.system s hd.ticket r)) ≡ Some y) (sym ep) (subst (λ a. with_hand kind.system None (stop kind.system p host hd (part_of kind.system s a p)) ≡ Some y) (sym et) e) in
-            let z = calm_is _ y e' in let q = stopping kind.system hd.ticket hd.path host hd (part_of kind.system s hd.ticket hd.path) z.0 z.1 in
+        stop_next : (hd : Hand A F) → s.hands v ≡ Some hd → (y : Bench A F R) → with_hand None (stop kind.system p host hd (part_of s t p)) ≡ Some y → s' ≡ with_bench s hd.ticket hd.path v y → hd.ticket ≡ t → hd.path ≡ p → Then (Stop t p)
+        stop_next hd k y e f et ep = subst (λ a. Then (Stop a p)) et (subst (λ r. Then (Stop hd.ticket r)) ep (let e' : with_hand None (stop kind.system hd.path host hd (part_of s hd.ticket hd.path)) ≡ Some y = subst (λ r. with_hand None (stop kind.system r host hd (part_of s hd.ticket r)) ≡ Some y) (sym ep) (subst (λ a. with_hand None (stop kind.system p host hd (part_of s a p)) ≡ Some y) (sym et) e) in
+            let z = calm_is _ y e' in let q = stopping kind.system hd.ticket hd.path host hd (part_of s hd.ticket hd.path) z.0 z.1 in
             let n = Paused.stop_keeps kind.system w law course b.before Is_real courses s g x hd v host k z.0 q in
-            next_by (Stop hd.ticket hd.path) refl hd.ticket hd.path (record { part = z.0; hand = None }) n.ghost n.turn (f ∙ ap (with_bench kind.system s hd.ticket hd.path v) z.2) n.shows (n.alive al) (λ r. absurd (clash _ r (ap is_some (Paused.no_result kind.system w law course b.before Is_real courses s g x hd v host k z.0 q)))) ((x.hands v hd k).later, (x.hands v hd k).known) (n.tally al c tc)))
+            next_by (Stop hd.ticket hd.path) refl hd.ticket hd.path (record { part = z.0; hand = None }) n.ghost n.turn (f ∙ ap (with_bench s hd.ticket hd.path v) z.2) n.shows (n.alive al) (λ r. absurd (clash _ r (ap is_some (Paused.no_result kind.system w law course b.before Is_real courses s g x hd v host k z.0 q)))) ((x.hands v hd k).later, (x.hands v hd k).known) (n.tally al c tc)))
     local (Free t n p) y (Some a) k l e f = absurd (none_not e)
-    local (Free t n p) y None k l e f = (let z = calm_is _ y e in let q = frees t n p host (part_of kind.system s t p) z.0 z.1 in let kn = known s g x t (mail_there (s.cells t) n q.letter_at.mail q.letter_at.mail_is) in
-        next_by (Free t n p) refl t p (record { part = z.0; hand = None }) _ (Freeing.free_turn kind.system w law course b.before Is_real courses s g x t n p host v z.0 q kn.0 kn.1) (f ∙ ap (with_bench kind.system s t p v) z.2) (Freeing.free_shows kind.system w law course b.before Is_real courses s g x t n p host v z.0 q kn.0 kn.1) (Freeing.free_alive kind.system w law course b.before Is_real courses s g x t n p host v z.0 q kn.0 kn.1 al k) (λ r. subst (λ (u : Part A F R). is_some u.cell.result ≡ true) q.gives r) kn (Freeing.free_tally kind.system w law course b.before Is_real courses s g x t n p host v z.0 q kn.0 kn.1 c tc))
+    local (Free t n p) y None k l e f = (let z = calm_is _ y e in let q = frees t n p host (part_of s t p) z.0 z.1 in let kn = known s g x t (mail_there (s.cells t) n q.letter_at.mail q.letter_at.mail_is) in
+        next_by (Free t n p) refl t p (record { part = z.0; hand = None }) _ (Freeing.free_turn kind.system w law course b.before Is_real courses s g x t n p host v z.0 q kn.0 kn.1) (f ∙ ap (with_bench s t p v) z.2) (Freeing.free_shows kind.system w law course b.before Is_real courses s g x t n p host v z.0 q kn.0 kn.1) (Freeing.free_alive kind.system w law course b.before Is_real courses s g x t n p host v z.0 q kn.0 kn.1 al k) (λ r. subst (λ (u : Part A F R). is_some u.cell.result ≡ true) q.gives r) kn (Freeing.free_tally kind.system w law course b.before Is_real courses s g x t n p host v z.0 q kn.0 kn.1 c tc))
     local (Pass t n p to) y (Some a) k l e f = absurd (none_not e)
-    local (Pass t n p to) y None k l e f = (let z = calm_is _ y e in let q = passes n to p host (part_of kind.system s t p) z.0 z.1 in let kn = known s g x t (mail_there (s.cells t) n q.letter_at.mail q.letter_at.mail_is) in
-        next_same (Pass t n p to) refl t p (record { part = z.0; hand = None }) _ (Freeing.pass_turn kind.system w law course b.before Is_real courses s g x t n to p host v z.0 q kn.0 kn.1) (f ∙ ap (with_bench kind.system s t p v) z.2) (Freeing.pass_shows kind.system w law course b.before Is_real courses s g x t n to p host v z.0 q kn.0 kn.1) (Freeing.pass_alive kind.system w law course b.before Is_real courses s g x t n to p host v z.0 q kn.0 kn.1 al k) (λ r. subst (λ (u : Part A F R). is_some u.cell.result ≡ true) q.gives r) tc)
+    local (Pass t n p to) y None k l e f = (let z = calm_is _ y e in let q = passes n to p host (part_of s t p) z.0 z.1 in let kn = known s g x t (mail_there (s.cells t) n q.letter_at.mail q.letter_at.mail_is) in
+        next_same (Pass t n p to) refl t p (record { part = z.0; hand = None }) _ (Freeing.pass_turn kind.system w law course b.before Is_real courses s g x t n to p host v z.0 q kn.0 kn.1) (f ∙ ap (with_bench s t p v) z.2) (Freeing.pass_shows kind.system w law course b.before Is_real courses s g x t n to p host v z.0 q kn.0 kn.1) (Freeing.pass_alive kind.system w law course b.before Is_real courses s g x t n to p host v z.0 q kn.0 kn.1 al k) (λ r. subst (λ (u : Part A F R). is_some u.cell.result ≡ true) q.gives r) tc)
     local (Land t n p) y (Some a) k l e f = absurd (none_not e)
-    local (Land t n p) y None k l e f = (let z = calm_is _ y e in let q = lands n p host (part_of kind.system s t p) z.0 z.1 in let kn = known s g x t (mail_there (s.cells t) n q.letter_at.mail q.letter_at.mail_is) in
-        next_by (Land t n p) refl t p (record { part = z.0; hand = None }) _ (Freeing.land_turn kind.system w law course b.before Is_real courses s g x t n p host v z.0 q kn.0 kn.1) (f ∙ ap (with_bench kind.system s t p v) z.2) (Freeing.land_shows kind.system w law course b.before Is_real courses s g x t n p host v z.0 q kn.0 kn.1) (Freeing.land_alive kind.system w law course b.before Is_real courses s g x t n p host v z.0 q kn.0 kn.1 al k) (λ r. subst (λ (u : Part A F R). is_some u.cell.result ≡ true) q.gives r) kn (Freeing.land_tally kind.system w law course b.before Is_real courses s g x t n p host v z.0 q kn.0 kn.1 c tc))
+    local (Land t n p) y None k l e f = (let z = calm_is _ y e in let q = lands n p host (part_of s t p) z.0 z.1 in let kn = known s g x t (mail_there (s.cells t) n q.letter_at.mail q.letter_at.mail_is) in
+        next_by (Land t n p) refl t p (record { part = z.0; hand = None }) _ (Freeing.land_turn kind.system w law course b.before Is_real courses s g x t n p host v z.0 q kn.0 kn.1) (f ∙ ap (with_bench s t p v) z.2) (Freeing.land_shows kind.system w law course b.before Is_real courses s g x t n p host v z.0 q kn.0 kn.1) (Freeing.land_alive kind.system w law course b.before Is_real courses s g x t n p host v z.0 q kn.0 kn.1 al k) (λ r. subst (λ (u : Part A F R). is_some u.cell.result ≡ true) q.gives r) kn (Freeing.land_tally kind.system w law course b.before Is_real courses s g x t n p host v z.0 q kn.0 kn.1 c tc))
 
     admit_next : (t : ℕ) → admit kind.system s host t ≡ Some s' → Then (Admit t)
     admit_next t e =
-        let j = then_some (λ j. only_if ((host == 0) && (t == next_ticket kind.system s)) (admitted kind.system s t j)) (slice_get s.head.known s.admitted) s' e in
-        let o = only_some ((host == 0) && (t == next_ticket kind.system s)) (admitted kind.system s t j.0) s' j.2 in
-        let n : t ≡ suc g.lines.admitted = number_is t (next_ticket kind.system s) (and_second (host == 0) _ o.0) ∙ ap (λ i. suc (i + s.admitted)) x.before ∙ ap suc (sym x.admitted) in
+        let j = then_some (λ j. only_if ((host == 0) && (t == next_ticket s)) (admitted kind.system s t j)) (slice_get s.head.known s.admitted) s' e in
+        let o = only_some ((host == 0) && (t == next_ticket s)) (admitted kind.system s t j.0) s' j.2 in
+        let n : t ≡ suc g.lines.admitted = number_is t (next_ticket s) (and_second (host == 0) _ o.0) ∙ ap (λ i. suc (i + s.admitted)) x.before ∙ ap suc (sym x.admitted) in
         subst (λ u. Next s u g (total s c) (Admit t)) o.1 (record {
           turn = Admitting.admit_turn kind.system w law course b.before Is_real courses s g x j.0 (first_is s g x h j.0 j.1) t n;
           good = record {
@@ -402,6 +402,7 @@ module _ {A F R J : Type 0} (kind : Kind A F R J) (owes : Owes kind) (b : Begin 
 
   -- every state that a list of labels leads to
   pub run_good : (workers : ℕ) (s s' : State A F R J) (ls : List Label) (k : Good_state s) → run kind.system workers s ls ≡ Some s' → Goes s' (taken ls + total s k.tally)
+  unfolding run step
   run_good workers s s' [] k e = subst (λ u. Goes u (0 + total s k.tally)) (some_same s s' e) (record { good = k; counts = (let z : (n : ℕ) → n ≡ 0 + n = λ n. omega arith in z (total s k.tally)) })
   run_good workers s s' (l ∷ ls) k e =
       let v = then_some (λ v. run kind.system workers v ls) (step kind.system workers s l) s' e in

@@ -1,14 +1,13 @@
 -- A label reads its ticket's cell, its context's column and its worker's hand alone, and changes nothing else.
-use Rattle.std.proofs.Common.{◌≡◌, ◌≢◌, ℕ, suc, ◌+◌, ◌==◌, ◌&&◌, nat_eq, nat_lt, inl, inr, Bool, true, false, Option, Some, None, refl, sym, ◌∙◌, ap, ap₂, subst}
+use Rattle.std.proofs.Common.{◌≡◌, ℕ, suc, ◌+◌, ◌==◌, ◌&&◌, nat_eq, nat_lt, inl, inr, Bool, true, false, Option, Some, None, refl, sym, ◌∙◌, ap, ap₂, subst}
 use Rattle.std.specs.Prelude.{if◌then◌else◌, is_none, option_map, option_and_then, slice_get}
-use Rattle.wave_base.specs.declared.path.Path.{Path}
 use Rattle.wave_base.specs.Paths.{path_eq}
 use Rattle.wave_base.specs.Fold.{Head}
 use Rattle.wave_states.specs.Actors.{Actors}
-use Rattle.wave_states.specs.States.{State, Cell, Column, Hand, set}
+use Rattle.wave_states.specs.States.{State, Cell, Column, Hand}
 use Rattle.wave_states.specs.Labels.{Act, Label, Admit, Commit, Queue, Grant, Start, Stop, Free, Pass, Land, ticket_of, path_of, is_local}
 use Rattle.wave_states.specs.Labels
-use Rattle.wave_states.specs.Steps.{Part, Bench, step, step_by, act_bench, part_of, with_bench, admit, admitted, commit, committed, only_if, next_ticket, new_cell}
+use Rattle.wave_states.specs.Steps.{Part, Bench, step, act_bench, part_of, with_bench, admit, admitted, commit, committed, only_if, next_ticket}
 use Rattle.wave_theory.proofs.Basics.{clash, none_not, some_same, bool_cases, options, then_some, map_some, only_some, if_some, set_at, set_at_path, set_there, differ, path_cases, number_cases}
 use Rattle.wave_theory.proofs.Commute.{local_step}
 use Rattle.wave_theory.specs.Reads.{SameFor, SameElse, Reads, Changes}
@@ -26,7 +25,7 @@ none_again f o e = ap (option_map f) e
 module _ {A F R J : Type 0} (sys : Actors A F R J) where
   -- what a label of one context finds
   abbrev bench_at : State A F R J → Label → Option (Bench A F R)
-  bench_at s l = act_bench sys l.act l.host (part_of sys s (ticket_of l.act) (path_of l.act)) (s.hands l.worker)
+  bench_at s l = act_bench sys l.act l.host (part_of s (ticket_of l.act) (path_of l.act)) (s.hands l.worker)
 
   bench_same : (s v : State A F R J) (l : Label) → SameFor l s v → is_local l.act ≡ true → bench_at v l ≡ bench_at s l
   bench_same s v l h z = ap₂ (λ (x : Part A F R) o. act_bench sys l.act l.host x o) (same_part h.cell (h.column z)) h.hand
@@ -34,13 +33,14 @@ module _ {A F R J : Type 0} (sys : Actors A F R J) where
       same_part : {c d : Cell A F R} {e f : Column F} → d ≡ c → f ≡ e → ◌≡◌ {A = Part A F R} (record { cell = d; column = f }) (record { cell = c; column = e })
       same_part p q = λ i. record { cell = p i; column = q i }
 
-  step_local : (workers : ℕ) (s : State A F R J) (l : Label) → is_local l.act ≡ true → step sys workers s l ≡ (if nat_lt l.worker workers then option_map (λ y. with_bench sys s (ticket_of l.act) (path_of l.act) l.worker y) (bench_at s l) else None)
+  step_local : (workers : ℕ) (s : State A F R J) (l : Label) → is_local l.act ≡ true → step sys workers s l ≡ (if nat_lt l.worker workers then option_map (λ y. with_bench s (ticket_of l.act) (path_of l.act) l.worker y) (bench_at s l) else None)
+  unfolding step
   step_local workers s l z = ap (λ o. if nat_lt l.worker workers then o else None) (local_step sys s l.worker l.host l.act z)
 
   local_refused : (workers : ℕ) (s v : State A F R J) (l : Label) → SameFor l s v → is_local l.act ≡ true → step sys workers s l ≡ None → step sys workers v l ≡ None
   local_refused workers s v l h z e = step_local workers v l z ∙ by (nat_lt l.worker workers) (sym (step_local workers s l z) ∙ e)
     where
-      by : (i : Bool) → (if i then option_map (λ y. with_bench sys s (ticket_of l.act) (path_of l.act) l.worker y) (bench_at s l) else None) ≡ None → (if i then option_map (λ y. with_bench sys v (ticket_of l.act) (path_of l.act) l.worker y) (bench_at v l) else None) ≡ None
+      by : (i : Bool) → (if i then option_map (λ y. with_bench s (ticket_of l.act) (path_of l.act) l.worker y) (bench_at s l) else None) ≡ None → (if i then option_map (λ y. with_bench v (ticket_of l.act) (path_of l.act) l.worker y) (bench_at v l) else None) ≡ None
       by false e = refl
       by true e = none_again _ (bench_at v l) (bench_same s v l h z ∙ none_map _ (bench_at s l) e)
 
@@ -48,9 +48,9 @@ module _ {A F R J : Type 0} (sys : Actors A F R J) where
   local_taken workers s s' v l h z e =
       let i = if_some (nat_lt l.worker workers) _ s' (sym (step_local workers s l z) ∙ e) in
       let y = map_some _ (bench_at s l) s' i.1 in (
-        with_bench sys v (ticket_of l.act) (path_of l.act) l.worker y.0,
-        step_local workers v l z ∙ ap (λ j. if j then option_map (λ y. with_bench sys v (ticket_of l.act) (path_of l.act) l.worker y) (bench_at v l) else None) i.0 ∙ some_map _ (bench_at v l) y.0 (bench_same s v l h z ∙ y.1),
-        subst (λ (u : State A F R J). SameFor l u (with_bench sys v (ticket_of l.act) (path_of l.act) l.worker y.0)) (sym y.2) (record {
+        with_bench v (ticket_of l.act) (path_of l.act) l.worker y.0,
+        step_local workers v l z ∙ ap (λ j. if j then option_map (λ y. with_bench v (ticket_of l.act) (path_of l.act) l.worker y) (bench_at v l) else None) i.0 ∙ some_map _ (bench_at v l) y.0 (bench_same s v l h z ∙ y.1),
+        subst (λ (u : State A F R J). SameFor l u (with_bench v (ticket_of l.act) (path_of l.act) l.worker y.0)) (sym y.2) (record {
           cell = set_at v.cells (ticket_of l.act) _ ∙ sym (set_at s.cells (ticket_of l.act) _);
           hand = set_at v.hands l.worker _ ∙ sym (set_at s.hands l.worker _);
           column = λ n. set_at_path v.columns (path_of l.act) _ ∙ sym (set_at_path s.columns (path_of l.act) _);
@@ -60,19 +60,19 @@ module _ {A F R J : Type 0} (sys : Actors A F R J) where
       )
 
   -- an Admit
-  admit_same : (s v : State A F R J) (host t : ℕ) → v.head ≡ s.head → v.before ≡ s.before → v.admitted ≡ s.admitted → option_map (λ j. admitted sys v t j) (option_and_then (λ j. only_if ((host == 0) && (t == next_ticket sys s)) j) (slice_get s.head.known s.admitted)) ≡ admit sys v host t
+  admit_same : (s v : State A F R J) (host t : ℕ) → v.head ≡ s.head → v.before ≡ s.before → v.admitted ≡ s.admitted → option_map (λ j. admitted sys v t j) (option_and_then (λ j. only_if ((host == 0) && (t == next_ticket s)) j) (slice_get s.head.known s.admitted)) ≡ admit sys v host t
   admit_same s v host t h e a = by (slice_get s.head.known s.admitted) ∙ ap₂ (λ o n. option_and_then (λ j. only_if ((host == 0) && (t == n)) (admitted sys v t j)) o) (ap₂ (λ (u : Head J) n. slice_get u.known n) (sym h) (sym a)) (ap₂ (λ m n. suc (m + n)) (sym e) (sym a))
     where
-      by : (o : Option J) → option_map (λ j. admitted sys v t j) (option_and_then (λ j. only_if ((host == 0) && (t == next_ticket sys s)) j) o) ≡ option_and_then (λ j. only_if ((host == 0) && (t == next_ticket sys s)) (admitted sys v t j)) o
+      by : (o : Option J) → option_map (λ j. admitted sys v t j) (option_and_then (λ j. only_if ((host == 0) && (t == next_ticket s)) j) o) ≡ option_and_then (λ j. only_if ((host == 0) && (t == next_ticket s)) (admitted sys v t j)) o
       by None = refl
-      by (Some j) = test ((host == 0) && (t == next_ticket sys s))
+      by (Some j) = test ((host == 0) && (t == next_ticket s))
         where
           test : (i : Bool) → option_map (λ j. admitted sys v t j) (only_if i j) ≡ only_if i (admitted sys v t j)
           test true = refl
           test false = refl
 
   abbrev admit_at : State A F R J → ℕ → ℕ → Option J
-  admit_at s host t = option_and_then (λ j. only_if ((host == 0) && (t == next_ticket sys s)) j) (slice_get s.head.known s.admitted)
+  admit_at s host t = option_and_then (λ j. only_if ((host == 0) && (t == next_ticket s)) j) (slice_get s.head.known s.admitted)
 
   commit_same : (s v : State A F R J) (host t : ℕ) → v.head ≡ s.head → v.before ≡ s.before → v.cells t ≡ s.cells t → option_map (λ r. committed sys v r) (option_and_then (λ r. only_if ((host == 0) && (t == suc (s.before + s.head.done))) r) (s.cells t).result) ≡ commit sys v host t
   commit_same s v host t h e c = by (s.cells t).result ∙ ap₂ (λ o n. option_and_then (λ r. only_if ((host == 0) && (t == n)) (committed sys v r)) o) (ap (λ (u : Cell A F R). u.result) (sym c)) (ap₂ (λ m (u : Head J). suc (m + u.done)) (sym e) (sym h))
@@ -111,10 +111,12 @@ module _ {A F R J : Type 0} (sys : Actors A F R J) where
 
   admit_is : (workers : ℕ) (s v : State A F R J) (w host t : ℕ) → v.head ≡ s.head → v.before ≡ s.before → v.admitted ≡ s.admitted →
       step sys workers v (record { worker = w; host = host; act = Admit t }) ≡ (if nat_lt w workers then (if is_none (v.hands w) then option_map (λ j. admitted sys v t j) (admit_at s host t) else None) else None)
+  unfolding step
   admit_is workers s v w host t h e a = ap (λ o. if nat_lt w workers then (if is_none (v.hands w) then o else None) else None) (sym (admit_same s v host t h e a))
 
   commit_is : (workers : ℕ) (s v : State A F R J) (w host t : ℕ) → v.head ≡ s.head → v.before ≡ s.before → v.cells t ≡ s.cells t →
       step sys workers v (record { worker = w; host = host; act = Commit t }) ≡ (if nat_lt w workers then (if is_none (v.hands w) then option_map (λ r. committed sys v r) (commit_at s host t) else None) else None)
+  unfolding step
   commit_is workers s v w host t h e c = ap (λ o. if nat_lt w workers then (if is_none (v.hands w) then o else None) else None) (sym (commit_same s v host t h e c))
 
   refused : (workers : ℕ) (s v : State A F R J) (w host : ℕ) (a : Act) → SameFor (record { worker = w; host = host; act = a }) s v → step sys workers s (record { worker = w; host = host; act = a }) ≡ None → step sys workers v (record { worker = w; host = host; act = a }) ≡ None

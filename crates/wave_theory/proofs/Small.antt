@@ -11,14 +11,13 @@ use Rattle.wave_states.specs.States.{State, Ask, Cell, Claim, Entry, Event, Mail
 use Rattle.wave_states.specs.Steps.{child_or_new}
 use Rattle.wave_states.specs.Labels.{Label}
 use Rattle.wave_states.specs.Runs.{run}
-use Rattle.wave_states.specs.Alone.{fold_alone, job_after, run_alone, segments_of}
+use Rattle.wave_states.specs.Alone.{fold_alone, job_after}
 use Rattle.wave_states.specs.Work.{Work, work_after, work_of_job}
 use Rattle.wave_states.specs.Begins.{Begin, start_state, is_root}
 use Rattle.wave_states.specs.Owes.{Owes, IsBegin}
-use Rattle.wave_theory.proofs.Basics.{clash, none_not, some_same, options, bool_cases}
-use Rattle.wave_theory.proofs.Order.{Way, IsWay, visits, rank}
+use Rattle.wave_theory.proofs.Basics.{none_not, options, bool_cases}
+use Rattle.wave_theory.proofs.Order.{Way, visits, rank}
 use Rattle.wave_theory.proofs.Leaves.{Course}
-use Rattle.wave_theory.proofs.Found.{found}
 use Rattle.wave_theory.proofs.Courses
 use Rattle.wave_theory.proofs.Courses.{done_at}
 use Rattle.wave_theory.proofs.Beginning
@@ -35,7 +34,7 @@ use Rattle.wave_theory.proofs.Reached.{Good_state}
 use Rattle.wave_theory.proofs.Reached
 use Rattle.wave_theory.specs.Numbers.{HasEntry}
 use Rattle.wave_theory.specs.Counted.{most_moves}
-use Rattle.wave_theory.specs.Sent.{IsSent, IsWithin, Within, shares}
+use Rattle.wave_theory.specs.Sent.{Within, shares}
 
 -- a rank is at most the ticket
 rank_least : (w : Way) (p : Path) (t : ℕ) → rank w p t ≤ t

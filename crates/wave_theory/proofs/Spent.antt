@@ -1,7 +1,6 @@
 -- No ticket holds a context twice; and how many mails each event sent, by what it holds and the segments that are over.
-use Rattle.std.proofs.Common.{◌≡◌, ◌≢◌, ℕ, zero, suc, ◌+◌, ◌<◌, ◌≤◌, ◌⊎◌, ◌==◌, ◌&&◌, ◌||◌, not, inl, inr, nat_eq, nat_lt, Bool, true, false, Option, Some, None, is_some, List, [], ◌∷◌, ◌++◌, length, refl, sym, ◌∙◌, ap, ap₂, subst, arith}
+use Rattle.std.proofs.Common.{◌≡◌, ◌≢◌, ℕ, suc, ◌+◌, ◌<◌, ◌≤◌, ◌⊎◌, ◌==◌, ◌&&◌, ◌||◌, not, inl, inr, nat_eq, nat_lt, Bool, true, false, Option, Some, None, is_some, List, [], ◌∷◌, ◌++◌, length, refl, sym, ◌∙◌, ap, ap₂, subst, arith}
 use Rattle.std.specs.Prelude.{if◌then◌else◌, cond, All, slice_get}
-use Rattle.std.specs.List.{filter}
 use Rattle.std.specs.BTreeMap.{insert_entry}
 use Rattle.std.specs.Ordering.{match_ordering}
 use Rattle.std.specs.declared.cmp.Ordering.TheVariants.{Less, Equal, Greater}
@@ -9,8 +8,7 @@ use Rattle.wave_base.specs.declared.path.Path.{Path}
 use Rattle.wave_base.specs.Paths.{path_eq, path_cmp}
 use Rattle.std.proofs.Common.{is_eq}
 use Rattle.wave_base.specs.PathLaws.{path_eq_ties}
-use Rattle.wave_states.specs.Actors.{Actors}
-use Rattle.wave_states.specs.States.{State, Cell, Column, Claim, Entry, Event, Hand, Hold, Record, Letter, Enter, Release, Transfer, Mail, Ask, Travelling, Ended, Status, set, hold_at}
+use Rattle.wave_states.specs.States.{State, Cell, Column, Claim, Entry, Event, Hand, Hold, Letter, Enter, Transfer, Mail, Ask, Travelling, Ended, set, hold_at}
 use Rattle.wave_states.specs.Labels.{Act, Label, Admit, Queue, Grant, Start, Stop, Free, Pass, Land, Commit, ticket_of, path_of, is_local}
 use Rattle.wave_states.specs.Labels
 use Rattle.wave_states.specs.Steps.{Part, Bench, Route, Deliver, Born, Wait, Forward, step, step_by, act_bench, with_hand, stop, with_bench, part_of, others, with_entry, entry_for, new_entry, route, only_if, next_ticket, admitted, committed}
@@ -23,7 +21,6 @@ use Rattle.wave_theory.proofs.Basics.{clash, some_same, none_not, some_not, bool
 use Rattle.wave_theory.proofs.Commute.{local_step}
 use Rattle.wave_theory.proofs.Order.{Way, IsWay, Stage, Entering, Lined, Coming, There, Done, is_pending, here}
 use Rattle.wave_theory.proofs.Leaves.{Course, IsCourse}
-use Rattle.wave_theory.proofs.Frames.{option_some}
 use Rattle.wave_theory.proofs.Found.{found}
 use Rattle.wave_theory.proofs.Opened.{queues, grants, starts, frees, passes, lands, stopping, LetterIs}
 use Rattle.wave_theory.proofs.Opened
@@ -40,7 +37,6 @@ use Rattle.wave_theory.proofs.Plans.{first_of, last_of, counts}
 use Rattle.wave_theory.proofs.Courses.{View, view, view_real}
 use Rattle.wave_theory.proofs.Courses
 use Rattle.wave_theory.proofs.Shows
-use Rattle.wave_theory.proofs.Told
 use Rattle.wave_theory.proofs.Reached.{Good_state}
 use Rattle.wave_theory.proofs.Reached
 use Rattle.wave_theory.proofs.Along
@@ -219,7 +215,7 @@ module _ {A F R J : Type 0} (kind : Kind A F R J) (owes : Owes kind) (b : Begin 
       | inl n ↦ absurd (none_not (sym (set_at mails j None) ∙ subst (λ u. set nat_eq mails j None u ≡ Some m) (sym n) z))
     ]
 
-    calm_is : (o : Option (Part A F R)) (y : Bench A F R) → with_hand kind.system None o ≡ Some y → (z : Part A F R) × (o ≡ Some z) × (y ≡ record { part = z; hand = None })
+    calm_is : (o : Option (Part A F R)) (y : Bench A F R) → with_hand None o ≡ Some y → (z : Part A F R) × (o ≡ Some z) × (y ≡ record { part = z; hand = None })
     calm_is o y e = map_some (λ (z : Part A F R). record { part = z; hand = None }) o y e
 
     no_transfer : (a : Ask) (en : Entry F) → ◌≡◌ {A = Letter F} (Enter a) (Transfer en) → ⊥
@@ -242,7 +238,7 @@ module _ {A F R J : Type 0} (kind : Kind A F R J) (owes : Owes kind) (b : Begin 
     no_sum a c = omega arith
 
     -- a ticket that is let in doesn't hold the context yet
-    module _ (t : ℕ) (p : Path) (h : ℕ) (z : Part A F R) (q : Opened.Grants t p h (part_of kind.system s t p) z) where
+    module _ (t : ℕ) (p : Path) (h : ℕ) (z : Part A F R) (q : Opened.Grants t p h (part_of s t p) z) where
       waits : Shows.WaitShows kind.system w course b.before Is_real k.ghost p (suc q.entry.served) q.claim
       waits = (x.entries p).waits (suc q.entry.served) q.claim (ap (λ (u : Entry F). u.waiting (suc q.entry.served)) (sym (found kind.system w course b.before Is_real k.ghost p (s.columns p) h q.entry (x.columns p) q.entry_is).entry_is) ∙ q.claim_is)
 
@@ -268,53 +264,53 @@ module _ {A F R J : Type 0} (kind : Kind A F R J) (owes : Owes kind) (b : Begin 
       not_held : hold_at q.event.held p ≡ None
       not_held = subst (λ (u : Event A). hold_at u.held p ≡ None) (some_same _ _ (sym c.event_is ∙ q.event_is)) (none_of _ off)
 
-    local : (v h : ℕ) (a : Act) (y : Bench A F R) (hd : Option (Hand A F)) → s.hands v ≡ hd → is_local a ≡ true → act_bench kind.system a h (part_of kind.system s (ticket_of a) (path_of a)) hd ≡ Some y → Leaves a y
+    local : (v h : ℕ) (a : Act) (y : Bench A F R) (hd : Option (Hand A F)) → s.hands v ≡ hd → is_local a ≡ true → act_bench kind.system a h (part_of s (ticket_of a) (path_of a)) hd ≡ Some y → Leaves a y
     local v h (Admit t) y hd i l e = absurd (clash false l refl)
     local v h (Commit t) y hd i l e = absurd (clash false l refl)
     local v h (Queue t n p) y (Some g) i l e = absurd (none_not e)
-    local v h (Queue t n p) y None i l e = (let z = calm_is _ y e in let q = queues kind.system t n p h (part_of kind.system s t p) z.0 z.1 in
+    local v h (Queue t n p) y None i l e = (let z = calm_is _ y e in let q = queues kind.system t n p h (part_of s t p) z.0 z.1 in
         subst (Leaves (Queue t n p)) (sym z.2) (subst (λ (u : Part A F R). Leaves (Queue t n p) (record { part = u; hand = None })) q.gives (record {
           mails = λ o j m u r g. inl (cut (s.cells t).mails n j m r);
           store = λ o. in_entry (s.columns p) h _ (entry_once o (s.columns p) p h q.entry refl (route (s.columns p) h q.ask.followed) q.entry_is);
           event = λ u r. (q.event, q.event_is, subst (λ (d : Event A). d.sent + length d.held ≡ q.event.sent + length q.event.held) (some_same _ u r) refl);
         })))
     local v h (Grant t p) y (Some g) i l e = absurd (none_not e)
-    local v h (Grant t p) y None i l e = (let z = calm_is _ y e in let q = grants t p h (part_of kind.system s t p) z.0 z.1 in
+    local v h (Grant t p) y None i l e = (let z = calm_is _ y e in let q = grants t p h (part_of s t p) z.0 z.1 in
         subst (Leaves (Grant t p)) (sym z.2) (subst (λ (u : Part A F R). Leaves (Grant t p) (record { part = u; hand = None })) q.gives (record {
           mails = λ o j m u r g. inl r;
           store = λ o. in_entry (s.columns p) h _ (once_more q.entry.holders q.claim (o p q.entry (inl (h, q.entry_is))) (not_holder t p h z.0 q));
           event = λ u r. (q.event, q.event_is, subst (λ (d : Event A). d.sent + length d.held ≡ suc (q.event.sent + length q.event.held)) (some_same _ u r) (ap (λ n. q.event.sent + n) (length_insert q.event.held p _ (not_held t p h z.0 q)) ∙ no_sum q.event.sent (length q.event.held)));
         })))
     local v h (Labels.Visit t n p) y (Some g) i l e = absurd (none_not e)
-    local v h (Labels.Visit t n p) y None i l e = (let z = calm_is _ y e in let q = Opened.visits n p h (part_of kind.system s t p) z.0 z.1 in
+    local v h (Labels.Visit t n p) y None i l e = (let z = calm_is _ y e in let q = Opened.visits n p h (part_of s t p) z.0 z.1 in
         subst (Leaves (Labels.Visit t n p)) (sym z.2) (subst (λ (u : Part A F R). Leaves (Labels.Visit t n p) (record { part = u; hand = None })) q.gives (record {
           mails = λ o j m u r g. inl (cut (s.cells t).mails n j m r);
           store = λ o j u r. inl r;
           event = λ u r. (q.event, q.event_is, subst (λ (d : Event A). d.sent + length d.held ≡ q.event.sent + length q.event.held) (some_same _ u r) refl);
         })))
     local v h (Start t p) y (Some g) i l e = absurd (none_not e)
-    local v h (Start t p) y None i l e = (let q = starts t p h (part_of kind.system s t p) y e in
+    local v h (Start t p) y None i l e = (let q = starts t p h (part_of s t p) y e in
         subst (Leaves (Start t p)) q.gives (record {
           mails = λ o j m u r g. inl r;
           store = λ o. in_entry (s.columns p) h _ (o p q.entry (inl (h, q.entry_is)));
           event = λ u r. (q.event, q.event_is, subst (λ (d : Event A). d.sent + length d.held ≡ q.event.sent + length q.event.held) (some_same _ u r) refl);
         }))
     local v h (Free t n p) y (Some g) i l e = absurd (none_not e)
-    local v h (Free t n p) y None i l e = (let z = calm_is _ y e in let q = frees t n p h (part_of kind.system s t p) z.0 z.1 in
+    local v h (Free t n p) y None i l e = (let z = calm_is _ y e in let q = frees t n p h (part_of s t p) z.0 z.1 in
         subst (Leaves (Free t n p)) (sym z.2) (subst (λ (u : Part A F R). Leaves (Free t n p) (record { part = u; hand = None })) q.gives (record {
           mails = λ o j m u r g. inl (cut (s.cells t).mails n j m r);
           store = λ o. in_entry (s.columns p) h _ (once_others t q.entry.holders (o p q.entry (inl (h, q.entry_is))));
           event = λ u r. (u, r, refl);
         })))
     local v h (Pass t n p to) y (Some g) i l e = absurd (none_not e)
-    local v h (Pass t n p to) y None i l e = (let z = calm_is _ y e in let q = passes n to p h (part_of kind.system s t p) z.0 z.1 in
+    local v h (Pass t n p to) y None i l e = (let z = calm_is _ y e in let q = passes n to p h (part_of s t p) z.0 z.1 in
         subst (Leaves (Pass t n p to)) (sym z.2) (subst (λ (u : Part A F R). Leaves (Pass t n p to) (record { part = u; hand = None })) q.gives (record {
           mails = λ o j m u r g. inl (not_passed (s.cells t).mails n (record { host = to; path = p; letter = Enter (record { number = q.ask.number; followed = q.mark.number; peek = q.ask.peek }) }) (record { number = q.ask.number; followed = q.mark.number; peek = q.ask.peek }) refl j m u r g);
           store = λ o j u r. inl r;
           event = λ u r. (u, r, refl);
         })))
     local v h (Land t n p) y (Some g) i l e = absurd (none_not e)
-    local v h (Land t n p) y None i l e = (let z = calm_is _ y e in let q = lands n p h (part_of kind.system s t p) z.0 z.1 in
+    local v h (Land t n p) y None i l e = (let z = calm_is _ y e in let q = lands n p h (part_of s t p) z.0 z.1 in
         subst (Leaves (Land t n p)) (sym z.2) (subst (λ (u : Part A F R). Leaves (Land t n p) (record { part = u; hand = None })) q.gives (record {
           mails = λ o j m u r g. inl (cut (s.cells t).mails n j m r);
           store = λ o. in_entry (s.columns p) h (Rattle.wave_states.specs.Steps.with_holders q.entry []) tt;
@@ -325,15 +321,15 @@ module _ {A F R J : Type 0} (kind : Kind A F R J) (owes : Owes kind) (b : Begin 
         let et : g.ticket ≡ t = number_is g.ticket t (and_first _ _ j.0) in
         let ep : g.path ≡ p = path_is g.path p (and_second (g.ticket == t) _ j.0) in
         subst (λ u. Leaves (Stop u p) y) et (subst (λ r. Leaves (Stop g.ticket r) y) ep (stop_leaves g i y
-        (subst (λ r. with_hand kind.system None (stop kind.system r h g (part_of kind.system s g.ticket r)) ≡ Some y) (sym ep) (subst (λ u. with_hand kind.system None (stop kind.system p h g (part_of kind.system s u p)) ≡ Some y) (sym et) j.1)))))
+        (subst (λ r. with_hand None (stop kind.system r h g (part_of s g.ticket r)) ≡ Some y) (sym ep) (subst (λ u. with_hand None (stop kind.system p h g (part_of s u p)) ≡ Some y) (sym et) j.1)))))
       where
-        stop_leaves : (g : Hand A F) → s.hands v ≡ Some g → (y : Bench A F R) → with_hand kind.system None (stop kind.system g.path h g (part_of kind.system s g.ticket g.path)) ≡ Some y → Leaves (Stop g.ticket g.path) y
-        stop_leaves g i y e = (let z = calm_is _ y e in let q = stopping kind.system g.ticket g.path h g (part_of kind.system s g.ticket g.path) z.0 z.1 in
-            subst (Leaves (Stop g.ticket g.path)) (sym z.2) (by z.0 q (outcome kind.system g.ticket g.path h g (part_of kind.system s g.ticket g.path) z.0 q
+        stop_leaves : (g : Hand A F) → s.hands v ≡ Some g → (y : Bench A F R) → with_hand None (stop kind.system g.path h g (part_of s g.ticket g.path)) ≡ Some y → Leaves (Stop g.ticket g.path) y
+        stop_leaves g i y e = (let z = calm_is _ y e in let q = stopping kind.system g.ticket g.path h g (part_of s g.ticket g.path) z.0 z.1 in
+            subst (Leaves (Stop g.ticket g.path)) (sym z.2) (by z.0 q (outcome kind.system g.ticket g.path h g (part_of s g.ticket g.path) z.0 q
             (subst (λ (u : Event A). Shows.Once u.held) (sym (Stopping.same kind.system w law course b.before Is_real courses s k.ghost x g v h i z.0 q)) (Stopping.c kind.system w law course b.before Is_real courses s k.ghost x g v h i z.0 q).once)
             (Stopping.held_is kind.system w law course b.before Is_real courses s k.ghost x g v h i z.0 q g.path ∙ Stopping.held_p kind.system w law course b.before Is_real courses s k.ghost x g v h i z.0 q))))
           where
-            by : (z : Part A F R) (q : Opened.Stopping kind.system g.ticket g.path h g (part_of kind.system s g.ticket g.path) z) → Outcome (part_of kind.system s g.ticket g.path) q.event q.entry h z → Leaves (Stop g.ticket g.path) (record { part = z; hand = None })
+            by : (z : Part A F R) (q : Opened.Stopping kind.system g.ticket g.path h g (part_of s g.ticket g.path) z) → Outcome g.path (part_of s g.ticket g.path) q.event q.entry h z → Leaves (Stop g.ticket g.path) (record { part = z; hand = None })
             by z q o = record {
               mails = λ c j m u r d. elim (o.mails j m r) [ inl a ↦ inl a | inr a ↦ inr (subst OnceIn (sym (a u d)) (c g.path q.entry (inl (h, q.entry_is)))) ];
               store = λ c j u r. elim (o.store j u r) [ inl a ↦ inl a | inr a ↦ inr (subst OnceIn (sym a) (c g.path q.entry (inl (h, q.entry_is)))) ];
@@ -386,6 +382,7 @@ module _ {A F R J : Type 0} (kind : Kind A F R J) (owes : Owes kind) (b : Begin 
       o = outline k.ghost
 
       by_it : step_by kind.system s l.worker l.host l.act ≡ Some s'
+      unfolding step
       by_it = (if_some (nat_lt l.worker workers) (step_by kind.system s l.worker l.host l.act) s' e).1
 
       there_done : There ≡ Done → ⊥
@@ -446,7 +443,7 @@ module _ {A F R J : Type 0} (kind : Kind A F R J) (owes : Owes kind) (b : Begin 
       local_whole : (a : Act) → is_local a ≡ true → step_by kind.system s l.worker l.host a ≡ Some s' → Whole a s'
       local_whole a z e = by (map_some _ _ s' (sym (local_step kind.system s l.worker l.host a z) ∙ e))
         where
-          by : (y : Bench A F R) × (act_bench kind.system a l.host (part_of kind.system s (ticket_of a) (path_of a)) (s.hands l.worker) ≡ Some y) × (s' ≡ with_bench kind.system s (ticket_of a) (path_of a) l.worker y) → Whole a s'
+          by : (y : Bench A F R) × (act_bench kind.system a l.host (part_of s (ticket_of a) (path_of a)) (s.hands l.worker) ≡ Some y) × (s' ≡ with_bench s (ticket_of a) (path_of a) l.worker y) → Whole a s'
           by y = subst (Whole a) (sym y.2) (record {
             others = λ u d. set_there nat_eq s.cells (ticket_of a) (y.0).part.cell u d;
             event = λ u' j. inr (lv.event u' (sym (ap (λ (c : Cell A F R). c.event) (set_at s.cells (ticket_of a) (y.0).part.cell)) ∙ j));
@@ -456,7 +453,7 @@ module _ {A F R J : Type 0} (kind : Kind A F R J) (owes : Owes kind) (b : Begin 
               lv : Leaves s k a y.0
               lv = local s k l.worker l.host a y.0 (s.hands l.worker) refl z y.1
 
-              single_by : (p : Path) (en : Entry F) → HasEntry (with_bench kind.system s (ticket_of a) (path_of a) l.worker y.0) p en → OnceIn en.holders
+              single_by : (p : Path) (en : Entry F) → HasEntry (with_bench s (ticket_of a) (path_of a) l.worker y.0) p en → OnceIn en.holders
               single_by p en (inl i) = elim (path_cases (path_of a) p) [
                 | inr d ↦ h.single p en (inl (i.0, sym (ap (λ (c : Column F). c.store i.0) (set_there path_eq s.columns (path_of a) (y.0).part.column p d)) ∙ i.1))
                 | inl d ↦ elim ((lv).store h.single i.0 en (sym (ap (λ (c : Column F). c.store i.0) (set_at_path s.columns (path_of a) (y.0).part.column)) ∙ ap (λ q. (set path_eq s.columns (path_of a) (y.0).part.column q).store i.0) d ∙ i.1)) [
@@ -473,8 +470,8 @@ module _ {A F R J : Type 0} (kind : Kind A F R J) (owes : Owes kind) (b : Begin 
               ]
 
       whole : (a : Act) → step_by kind.system s l.worker l.host a ≡ Some s' → Whole a s'
-      whole (Admit t) e = (let j = then_some (λ j. only_if ((l.host == 0) && (t == next_ticket kind.system s)) (admitted kind.system s t j)) (slice_get s.head.known s.admitted) s' (if_some _ _ s' e).1 in
-          subst (Whole (Admit t)) (only_some ((l.host == 0) && (t == next_ticket kind.system s)) (admitted kind.system s t j.0) s' j.2).1 (record {
+      whole (Admit t) e = (let j = then_some (λ j. only_if ((l.host == 0) && (t == next_ticket s)) (admitted kind.system s t j)) (slice_get s.head.known s.admitted) s' (if_some _ _ s' e).1 in
+          subst (Whole (Admit t)) (only_some ((l.host == 0) && (t == next_ticket s)) (admitted kind.system s t j.0) s' j.2).1 (record {
             others = λ u d. set_there nat_eq s.cells t _ u d;
             event = λ u' i. inl (first t j.0 u' i);
             single = λ p en i. single_by t j.0 p en i;
@@ -523,8 +520,11 @@ module _ {A F R J : Type 0} (kind : Kind A F R J) (owes : Owes kind) (b : Begin 
       pos_is t = ap (λ (u : Outline). u.pos t) (n.turn).is
 
       status_of : (t : ℕ) → b.before < t → t ≤ (g').lines.admitted → (u : Event A) → (s'.cells t).event ≡ Some u → (v : Stage) → (o').stage t ≡ v → (q : Bool) × (r : Path) × Shows.StatusShows u.status v q r
-      status_of t lt la u i v z = (let c = (n.good).shows.cells t lt la in ((g').out t, here w (g').lines t,
-          subst (λ j. Shows.StatusShows u.status j ((g').out t) (here w (g').lines t)) (stage_is t ∙ z) (subst (λ (d : Event A). Shows.StatusShows d.status ((g').lines.stage t) ((g').out t) (here w (g').lines t)) (some_same _ u (sym c.event_is ∙ i)) c.status)))
+      status_of t lt la u i v z = (let c = (n.good).shows.cells t lt la in (
+        (g').out t,
+        here w (g').lines t,
+        subst (λ j. Shows.StatusShows u.status j ((g').out t) (here w (g').lines t)) (stage_is t ∙ z) (subst (λ (d : Event A). Shows.StatusShows d.status ((g').lines.stage t) ((g').out t) (here w (g').lines t)) (some_same _ u (sym c.event_is ∙ i)) c.status),
+      ))
 
       pub kept_next : Kept s' g'
       kept_next = record {

@@ -181,15 +181,14 @@ module _ {A F R J : Type 0} (kind : Kind A F R J) (owes : Owes kind) (b : Begin 
     pub record Bounded_by : Type 0 where
       pub cells : (t : ℕ) → (s.before < t → t ≤ s.before + s.admitted → ⊥) → s.cells t ≡ record { event = None; mails = λ k. None; result = None }
       pub mails : (t i : ℕ) (e : Event A) → (s.cells t).event ≡ Some e → e.sent < i → (s.cells t).mails i ≡ None
-      pub children : (q : Path) (st : Step) (host : ℕ) (en : Entry F) (r : Record F) → (s.columns q).store host ≡ Some en → en.body ≡ Some r → child_at r.children st ≡ None → (h : ℕ) → NothingAt s (q ++ st ∷ []) h
+      pub children : (q : Path) (st : Step) (en : Entry F) (r : Record F) → HasEntry s q en → en.body ≡ Some r → child_at r.children st ≡ None → (h : ℕ) → NothingAt s (q ++ st ∷ []) h
 
     pub bounds : Bounded_by
     bounds = record {
       cells = λ t n. x.no_cells t (λ l m. n (subst (λ i. i < t) (sym x.before) l) (subst (λ i. t ≤ i) (x.admitted ∙ ap (λ i. i + s.admitted) (sym x.before)) m));
       mails = λ t i e p l. let n = Reached.known kind owes b batches begins jobs s k.ghost x t (λ q. none_not (sym (ap (λ (u : Cell A F R). u.event) q) ∙ p)) in
           let c = x.cells t n.0 n.1 in c.unused i (subst (λ (u : Event A). u.sent < i) (some_same e c.event (sym p ∙ c.event_is)) l);
-      children = λ q st h en r se be ce i. let f = found kind.system w course b.before Is_real k.ghost q (s.columns q) h en (x.columns q) se in
-          let same : r ≡ (k.ghost).body q = (x.entries q).body r (ap (λ (u : Entry F). u.body) (sym f.entry_is) ∙ be) in
+      children = λ q st en r se be ce i. let same : r ≡ (k.ghost).body q = (x.entries q).body r (ap (λ (u : Entry F). u.body) (sym (entry_same q en se)) ∙ be) in
           let c : Shows.Unborn kind.system w course b.before Is_real k.ghost (q ++ st ∷ []) (s.columns (q ++ st ∷ [])) = subst (λ o. Shows.ColumnShows kind.system w course b.before Is_real o k.ghost (q ++ st ∷ []) (s.columns (q ++ st ∷ []))) ((x.entries q).strangers st (ap (λ (u : Record F). child_at u.children st) (sym same) ∙ ce)) (x.columns (q ++ st ∷ [])) in
           (c.empty.no_entry i, c.empty.no_marks i);
     }
@@ -300,10 +299,9 @@ module _ {A F R J : Type 0} (kind : Kind A F R J) (owes : Owes kind) (b : Begin 
           mail = o.there ∙ ap Some (same_mail (o).mail (owner ((k.ghost).trail p)) p (Rattle.wave_states.specs.States.Letter.Transfer r.0) (y.0.host_is ∙ ap (λ i. owner ((k.ghost).trail i)) o.path_is) o.path_is r.1);
         }))
 
-    birth_is : (p q : Path) (st : Step) (h : ℕ) (en : Entry F) (r : Record F) (c : Child) → q ++ st ∷ [] ≡ p → (s.columns q).store h ≡ Some en → en.body ≡ Some r → child_at r.children st ≡ Some c → c.birth.0 ≡ ((k.ghost).trail p).at 0
-    birth_is p q st h en r c e se be ce =
-        let f = found kind.system w course b.before Is_real k.ghost q (s.columns q) h en (x.columns q) se in
-        let same : r ≡ (k.ghost).body q = (x.entries q).body r (ap (λ (u : Entry F). u.body) (sym f.entry_is) ∙ be) in
+    birth_is : (p q : Path) (st : Step) (en : Entry F) (r : Record F) (c : Child) → q ++ st ∷ [] ≡ p → HasEntry s q en → en.body ≡ Some r → child_at r.children st ≡ Some c → c.birth.0 ≡ ((k.ghost).trail p).at 0
+    birth_is p q st en r c e se be ce =
+        let same : r ≡ (k.ghost).body q = (x.entries q).body r (ap (λ (u : Entry F). u.body) (sym (entry_same q en se)) ∙ be) in
         (x.entries q).births st c (ap (λ (u : Record F). child_at u.children st) (sym same) ∙ ce) ∙ ap (λ i. ((k.ghost).trail i).at 0) e
 
     module _ (p : Path) (c : Shows.Stays kind.system w course b.before Is_real k.ghost p (s.columns p)) (t i : ℕ) (m : Mail F) (a : Ask) (e : (s.cells t).mails i ≡ Some m) (q : m.path ≡ p) (l : m.letter ≡ Rattle.wave_states.specs.States.Letter.Enter a) where
@@ -352,7 +350,7 @@ module _ {A F R J : Type 0} (kind : Kind A F R J) (owes : Owes kind) (b : Begin 
           no_mark = c.empty.no_marks;
           not_coming = λ h o. not_coming h o;
           birth = ((k.ghost).trail p).at 0;
-          birth_is = λ q st h en r kid e se be ce. birth_is p q st h en r kid e se be ce;
+          birth_is = λ q st en r kid e se be ce. birth_is p q st en r kid e se be ce;
           enters = λ t i m a e q l. let r = enters_lie p t i m a e q l in (subst (λ n. a.followed ≤ n) c.last r.0, r.1 ∙ ap ((k.ghost).trail p).at (let z : a.followed ≡ 0 = at_zero a.followed _ r.0 c.last in z));
         }
           where
@@ -372,7 +370,7 @@ module _ {A F R J : Type 0} (kind : Kind A F R J) (owes : Owes kind) (b : Begin 
           neighbours = c.track.neighbours;
           owned = elim (bool_cases ((k.ghost).trail p).stored) [ inl st ↦ inl (c.track.stored_is st) | inr st ↦ on_its_way p u st ];
           owner = owner_is p;
-          moves = λ h en e. (let f = found kind.system w course b.before Is_real k.ghost p (s.columns p) h en (x.columns p) e in ap (λ (u : Entry F). u.moves) f.entry_is ∙ (x.entries p).moves);
+          moves = λ en e. ap (λ (u : Entry F). u.moves) (entry_same p en e) ∙ (x.entries p).moves;
           marks = c.track.mark_is;
           unmarked = λ h e. elim (c.track.no_mark h e) [
             | inl z ↦ inl (ap (λ i. is_some ((s.columns p).store i)) z.1 ∙ c.track.stored_is z.0)
@@ -381,7 +379,7 @@ module _ {A F R J : Type 0} (kind : Kind A F R J) (owes : Owes kind) (b : Begin 
           here = λ h e. let z = c.track.store_is h e in ap (s.columns p).gone z.1 ∙ c.track.here_no_mark z.0;
           enters = enters_lie p;
           waits = λ t i m a e q l. (wait_to p u c t i m a e q l, wait_from p c t i m a e q l);
-          birth = λ q st h en r kid e se be ce. birth_is p q st h en r kid e se be ce;
+          birth = λ q st en r kid e se be ce. birth_is p q st en r kid e se be ce;
           from_zero = λ e. ap (λ r. ((k.ghost).trail r).at 0) e ∙ x.root_birth;
         }
 

@@ -1,5 +1,5 @@
 -- In a finished state the contexts have served the fold's load, and moved as often as the jobs moved one.
-use Rattle.std.proofs.Common.{◌≡◌, ◌≢◌, ℕ, zero, suc, ◌+◌, ◌<◌, ◌≤◌, ◌⊎◌, ◌&&◌, ◌||◌, not, nat_eq, inl, inr, Bool, true, false, Option, Some, None, List, [], ◌∷◌, refl, sym, ◌∙◌, ap, ap₂, subst, arith}
+use Rattle.std.proofs.Common.{◌≡◌, ℕ, zero, suc, ◌+◌, ◌<◌, ◌&&◌, ◌||◌, not, nat_eq, inl, inr, Bool, true, false, Option, Some, None, List, [], ◌∷◌, refl, sym, ◌∙◌, ap, ap₂, subst, arith}
 use Rattle.std.specs.Prelude.{All, if◌then◌else◌}
 use Rattle.std.specs.List.{sum_by, list_any, AllByRecursion}
 use Rattle.std.specs.List.Sorted.{IsStrictlySortedBy}
@@ -10,23 +10,19 @@ use Rattle.wave_base.specs.declared.path.Path.{Path}
 use Rattle.wave_base.specs.Paths.{path_eq, path_cmp}
 use Rattle.wave_base.specs.PathLaws.{path_eq_ties}
 use Rattle.wave_base.specs.Tree.{Tree, there}
-use Rattle.wave_base.specs.Places.{load_of}
-use Rattle.wave_base.specs.Fold.{Head, Progress}
+use Rattle.wave_base.specs.Fold.{Progress}
 use Rattle.wave_states.specs.Kinds.{Kind}
 use Rattle.wave_states.specs.States.{State, Entry}
 use Rattle.wave_states.specs.Alone.{fold_alone, job_after, places_alone}
 use Rattle.wave_states.specs.Work.{work_after, moves_away}
-use Rattle.wave_states.specs.Runs.{Finished}
 use Rattle.wave_states.specs.Begins.{Begin, has_moved}
 use Rattle.wave_states.specs.Owes.{Owes, IsBegin}
-use Rattle.wave_theory.proofs.Basics.{clash, none_not, options, bool_cases, path_cases, path_is, path_self}
+use Rattle.wave_theory.proofs.Basics.{clash, options, bool_cases, path_cases, path_is, path_self}
 use Rattle.wave_theory.proofs.Order.{Way, IsWay, rank}
-use Rattle.wave_theory.proofs.Leaves.{Course}
 use Rattle.wave_theory.proofs.Tallies.{sum_to, sum_zero, sum_more, sum_same}
 use Rattle.wave_theory.proofs.Homes.{spot_of}
 use Rattle.wave_theory.proofs.Homes
 use Rattle.wave_theory.proofs.Courses
-use Rattle.wave_theory.proofs.Shows
 use Rattle.wave_theory.proofs.Plans
 use Rattle.wave_theory.proofs.Sites.{shift_by}
 use Rattle.wave_theory.proofs.Sites

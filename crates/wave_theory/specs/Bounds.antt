@@ -24,7 +24,7 @@ module _ {A F R J : Type 0} (kind : Kind A F R J) where
     pub mails : (t k : ℕ) (e : Event A) → (s.cells t).event ≡ Some e → e.sent < k → (s.cells t).mails k ≡ None
     pub from_one : (t : ℕ) → (s.cells t).mails 0 ≡ None
     pub entered : (p : Path) → there (fold_alone kind.system b batches s.admitted).tree p ≡ false → (h : ℕ) → NothingAt s p h
-    pub children : (q : Path) (st : Step) (host : ℕ) (en : Entry F) (r : Record F) → (s.columns q).store host ≡ Some en → en.body ≡ Some r → child_at r.children st ≡ None → (h : ℕ) → NothingAt s (q ++ st ∷ []) h
+    pub children : (q : Path) (st : Step) (en : Entry F) (r : Record F) → HasEntry s q en → en.body ≡ Some r → child_at r.children st ≡ None → (h : ℕ) → NothingAt s (q ++ st ∷ []) h
     pub elsewhere : (p : Path) (h : ℕ) → kind.hosts ≤ h → NothingAt s p h
     pub waiting : (p : Path) (en : Entry F) (j : ℕ) → HasEntry s p en → j ≤ en.served → en.waiting j ≡ None
     pub hands : (v : ℕ) → workers ≤ v → s.hands v ≡ None

@@ -59,5 +59,5 @@ module _ {A F R J : Type 0} (kind : Kind A F R J) where
     pub granted_first : (p : Path) → AreFirst b batches p (granted p labels)
     pub served : (p : Path) (en : Entry F) → HasEntry s p en → en.served ≡ served_before kind b batches p + length (granted p labels)
     pub sent_first : (p : Path) → AreFirst b batches p (senders_from kind.system workers p (Some (start_state b batches)) labels)
-    pub given : (p : Path) (st : Step) (host : ℕ) (en : Entry F) (r : Record F) → (s.columns p).store host ≡ Some en → en.body ≡ Some r → given_of r st ≡ length (senders_from kind.system workers (p ++ st ∷ []) (Some (start_state b batches)) labels)
+    pub given : (p : Path) (st : Step) (en : Entry F) (r : Record F) → HasEntry s p en → en.body ≡ Some r → given_of r st ≡ length (senders_from kind.system workers (p ++ st ∷ []) (Some (start_state b batches)) labels)
     pub at_root : s.admitted ≡ length (senders_from kind.system workers [] (Some (start_state b batches)) labels)

@@ -1,5 +1,5 @@
 -- What an event holds, and who holds a context.
-use Rattle.std.specs.Prelude.{◌≡◌, ◌⊎◌, ◌+◌, ℕ, suc, Bool, true, false, nat_eq, if◌then◌else◌, List, [], ◌∷◌, Option, Some, is_some}
+use Rattle.std.specs.Prelude.{◌≡◌, ◌⊎◌, ◌+◌, ℕ, suc, Bool, true, false, nat_eq, if◌then◌else◌, List, [], ◌∷◌, Some, is_some}
 use Rattle.wave_base.specs.declared.path.Path.{Path}
 use Rattle.wave_states.specs.Kinds.{Kind}
 use Rattle.wave_states.specs.States.{State, Claim, Entry, Event, Hand, Hold, Mail, Ask, Enter, Release, Transfer, Waiting, Running, hold_at}
@@ -58,12 +58,13 @@ module _ {A F R J : Type 0} (kind : Kind A F R J) where
   pub record IsAsAlone (b : Begin F) (batches : List (List J)) (labels : List Label) (s : State A F R J) (index : ℕ) (event : Event A) : Type 0 where
     pub job : J
     pub job_is : job_after kind.system b batches index ≡ Some job
-    pub actor : ((p : Path) → event.status ≡ Running p → ⊥) → event.actor ≡ Some (alone_after b batches index job (stops (suc b.before + index) labels)).actor
-    pub out : (worker : ℕ) (hand : Hand A F) → s.hands worker ≡ Some hand → hand.ticket ≡ suc b.before + index →
-        (hand.actor ≡ (alone_after b batches index job (stops (suc b.before + index) labels)).actor) × (hand.body.fields ≡ (alone_after b batches index job (stops (suc b.before + index) labels)).tree.fields hand.path)
-    pub result : (s.cells (suc b.before + index)).result ≡ (alone_after b batches index job (stops (suc b.before + index) labels)).result
-    pub held : (p : Path) (hold : Hold) → hold_at event.held p ≡ Some hold → (has (alone_after b batches index job (stops (suc b.before + index) labels)).held p ≡ true) × (WaitsFor s (suc b.before + index) event p → ⊥)
-    pub holds : (p : Path) → has (alone_after b batches index job (stops (suc b.before + index) labels)).held p ≡ true → (is_some (hold_at event.held p) ≡ true) ⊎ WaitsFor s (suc b.before + index) event p
+    pub alone : Alone A F R
+    pub alone_is : alone ≡ alone_after b batches index job (stops (suc b.before + index) labels)
+    pub actor : ((p : Path) → event.status ≡ Running p → ⊥) → event.actor ≡ Some alone.actor
+    pub out : (worker : ℕ) (hand : Hand A F) → s.hands worker ≡ Some hand → hand.ticket ≡ suc b.before + index → (hand.actor ≡ alone.actor) × (hand.body.fields ≡ alone.tree.fields hand.path)
+    pub result : (s.cells (suc b.before + index)).result ≡ alone.result
+    pub held : (p : Path) (hold : Hold) → hold_at event.held p ≡ Some hold → (has alone.held p ≡ true) × (WaitsFor s (suc b.before + index) event p → ⊥)
+    pub holds : (p : Path) → has alone.held p ≡ true → (is_some (hold_at event.held p) ≡ true) ⊎ WaitsFor s (suc b.before + index) event p
 
   -- Holding. Each admitted event is as it is alone. So with a Go it gives up all that lies outside the child's subtree.
   abbrev pub Holding : ℕ → Begin F → List (List J) → List Label → State A F R J → Type 0

@@ -4,6 +4,7 @@ pub mod Bounds
 pub mod Came
 pub mod Complete
 pub mod Counted
+pub mod Drives
 pub mod Ends
 pub mod Finals
 pub mod Hands

@@ -11,6 +11,7 @@ use Rattle.wave_states.specs.Steps.{route, Wait}
 use Rattle.wave_states.specs.Canonical.{below}
 use Rattle.wave_states.specs.Begins.{Begin, start_state}
 use Rattle.wave_states.specs.Owners.{IsComing, IsOwner, first_trail, trail_from}
+use Rattle.wave_theory.specs.Numbers.{HasEntry}
 
 -- where a context was: hosts number 0, 1, .. up to the last
 pub record Trail : Type 0 where
@@ -28,7 +29,7 @@ module _ {A F R J : Type 0} where
     pub neighbours : (i : ℕ) → i < trail.last → trail.at i ≢ trail.at (suc i)
     pub owned : IsOwner s p (trail.at trail.last)
     pub owner : (h : ℕ) → IsOwner s p h → h ≡ trail.at trail.last
-    pub moves : (h : ℕ) (en : Entry F) → (s.columns p).store h ≡ Some en → en.moves ≡ trail.last
+    pub moves : (en : Entry F) → HasEntry s p en → en.moves ≡ trail.last
     -- a mark is that of the last time that the context left the host: it names the next member and its place
     pub marks : (h : ℕ) (m : Mark) → (s.columns p).gone h ≡ Some m → (n : ℕ) × (n < trail.last) × (trail.at n ≡ h) × (m.number ≡ suc n) × (m.to ≡ trail.at (suc n)) × ((i : ℕ) → n < i → i < trail.last → trail.at i ≢ h)
     -- a host without a mark has the entry, or the context never left it
@@ -39,7 +40,7 @@ module _ {A F R J : Type 0} where
     -- the route of an Enter is Wait exactly where a Transfer brings the entry to where the Enter lies, which has followed all moves
     pub waits : (t k : ℕ) (m : Mail F) (a : Ask) → (s.cells t).mails k ≡ Some m → m.path ≡ p → m.letter ≡ Enter a → (route (s.columns p) m.host a.followed ≡ Wait) ↔ (IsComing s p m.host × (a.followed ≡ trail.last))
     -- its first member is the birth host in its parent's record, and for the root host 0
-    pub birth : (q : Path) (st : Step) (h : ℕ) (en : Entry F) (r : Record F) (c : Child) → q ++ st ∷ [] ≡ p → (s.columns q).store h ≡ Some en → en.body ≡ Some r → child_at r.children st ≡ Some c → c.birth.0 ≡ trail.at 0
+    pub birth : (q : Path) (st : Step) (en : Entry F) (r : Record F) (c : Child) → q ++ st ∷ [] ≡ p → HasEntry s q en → en.body ≡ Some r → child_at r.children st ≡ Some c → c.birth.0 ≡ trail.at 0
     pub from_zero : p ≡ [] → trail.at 0 ≡ 0
 
   -- of one that has none: no store, no mark, and each Enter has followed none and lies where it will be born, as its parent's record has it
@@ -49,7 +50,7 @@ module _ {A F R J : Type 0} where
     pub not_coming : (h : ℕ) → IsOwner s p h → ⊥
     pub birth : ℕ
     pub enters : EntersLie s p (record { at = λ i. birth; last = 0 })
-    pub birth_is : (q : Path) (st : Step) (h : ℕ) (en : Entry F) (r : Record F) (c : Child) → q ++ st ∷ [] ≡ p → (s.columns q).store h ≡ Some en → en.body ≡ Some r → child_at r.children st ≡ Some c → c.birth.0 ≡ birth
+    pub birth_is : (q : Path) (st : Step) (en : Entry F) (r : Record F) (c : Child) → q ++ st ∷ [] ≡ p → HasEntry s q en → en.body ≡ Some r → child_at r.children st ≡ Some c → c.birth.0 ≡ birth
 
 -- the hosts of a trail, one after the other
 abbrev pub hosts_of : Trail → List ℕ

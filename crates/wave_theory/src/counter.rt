@@ -4,8 +4,9 @@ ghost use Rattle.wave_states.specs.Counter.{counter_kind};
 
 use crate::acting::Acting;
 use crate::laws::{
-    bounded, bounds, by_owners, came, complete, counted, hands_stay, independent, listed,
-    never_stuck, numbers, one_host, one_owner, records, results, sorted, tickets, traced, trails,
+    bounded, bounds, by_owners, came, complete, counted, driven, empty_at_end, hands_stay,
+    independent, listed, listed_for, never_stuck, numbers, one_host, one_owner, records, results,
+    rules_pick, sorted, tickets, traced, trails,
 };
 use crate::movers::{Movers, Walkers};
 
@@ -48,6 +49,10 @@ pub fn at_the_counter() {
     bounded::<Counter>();
     listed::<Counter>();
     sorted::<Counter>();
+    listed_for::<Counter>();
+    empty_at_end::<Counter>();
+    rules_pick::<Counter>();
+    driven::<Counter>();
     one_host::<Counter>();
 }
 

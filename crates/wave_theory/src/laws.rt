@@ -3,9 +3,10 @@ ghost use Rattle.wave_theory.specs.Bounds.{Bounds};
 ghost use Rattle.wave_theory.specs.Came.{Came};
 ghost use Rattle.wave_theory.specs.Complete.{Complete};
 ghost use Rattle.wave_theory.specs.Counted.{Bounded, Counted};
+ghost use Rattle.wave_theory.specs.Drives.{Driven, RulesPick};
 ghost use Rattle.wave_theory.specs.Hands.{HandsStay};
 ghost use Rattle.wave_theory.specs.Independent.{Independent};
-ghost use Rattle.wave_theory.specs.Listed.{Listed, Sorted};
+ghost use Rattle.wave_theory.specs.Listed.{EmptyAtEnd, Listed, ListedFor, Sorted};
 ghost use Rattle.wave_theory.specs.NeverStuck.{NeverStuck};
 ghost use Rattle.wave_theory.specs.Numbers.{Numbers};
 ghost use Rattle.wave_theory.specs.OneHost.{OneHost};
@@ -81,6 +82,16 @@ pub fn listed<T: Acting>()
     ensures { (c : T.Code) → AlwaysBy (T.kind c) Listed }
 {}
 
+/// The list of a worker has exactly what it can take.
+pub fn listed_for<T: Acting>()
+    ensures { (c : T.Code) → AlwaysBy (T.kind c) ListedFor }
+{}
+
+/// The canonical list is empty exactly in a finished state.
+pub fn empty_at_end<T: Acting>()
+    ensures { (c : T.Code) → AlwaysBy (T.kind c) EmptyAtEnd }
+{}
+
 /// On one host nothing is passed on, and nothing lands.
 pub fn one_host<T: Acting>()
     ensures { (c : T.Code) → AlwaysBy (T.kind c) OneHost }
@@ -109,4 +120,14 @@ pub fn traced<T: Acting>()
 /// The canonical list is in its order, and has no label twice.
 pub fn sorted<T: Acting>()
     ensures { (c : T.Code) → AlwaysBy (T.kind c) Sorted }
+{}
+
+/// The rules of the drives pick one label of each list that has some.
+pub fn rules_pick<T: Acting>()
+    ensures { RulesPick T.Actor T.Fields T.Outcome T.Job }
+{}
+
+/// Each rule that picks has one drive; it is a run, and ends in a finished state.
+pub fn driven<T: Acting>()
+    ensures { (c : T.Code) → Driven (T.kind c) }
 {}
