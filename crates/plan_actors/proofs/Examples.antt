@@ -32,10 +32,12 @@ use Rattle.wave_states.specs.Actors.{Actors, Left, Down, Back, Over}
 use Rattle.wave_states.specs.Actors as pause
 use Rattle.wave_states.specs.Alone.{run_alone, segments_of, fold_alone, places_alone, after_segments}
 use Rattle.wave_states.specs.Begins.{Begin, begin_of, start_state}
+use Rattle.wave_states.specs.Canonical.{enabled}
 use Rattle.wave_states.specs.Movers as mover
 use Rattle.wave_states.specs.Movers.{Mover, MoveEnd, advance_on}
 use Rattle.wave_states.specs.Runs.{run, drive, seed}
 use Rattle.wave_states.specs.States.{State}
+use Rattle.wave_states.specs.Steps as machine
 use Rattle.wave_states.specs.Walkers.{Walker, first_of, last_step, steps_left, visit, walkers}
 use Rattle.wave_states.specs.Work.{Work, work_after}
 use Rattle.code_actor.specs.CodeActors.{Fields}
@@ -129,11 +131,11 @@ abbrev all_results : State Actor Fields EventResult Line → List (Option EventR
 all_results s = (s.cells 8).result ∷ (s.cells 9).result ∷ (s.cells 10).result ∷ (s.cells 11).result ∷ (s.cells 12).result ∷ []
 
 driven_results : option_map all_results driven ≡ Some (map (λ r. Some r) results)
-unfolding segment steps enough weight one_step acted first_box takes_of gives_of apply_row operators
+unfolding machine.step run enabled drive segment steps enough weight one_step acted first_box takes_of gives_of apply_row operators
 driven_results = refl
 
 driven_jobs : option_map (λ s. s.head) driven ≡ Some (record { known = jobs; later = []; done = 5 })
-unfolding segment steps enough weight one_step acted first_box takes_of gives_of apply_row operators
+unfolding machine.step run enabled drive segment steps enough weight one_step acted first_box takes_of gives_of apply_row operators
 driven_jobs = refl
 
 -- ---- wrong actors
