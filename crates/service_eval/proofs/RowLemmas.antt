@@ -8,11 +8,10 @@ use Rattle.wave_base.specs.declared.value.Kind.{Kind}
 use Rattle.wave_base.specs.declared.value.Kind.TheVariants as k
 use Rattle.wave_base.specs.declared.value.Value.{Value}
 use Rattle.wave_base.specs.declared.value.Value.TheVariants as v
-use Rattle.wave_base.specs.Operators.{operator_names}
 use Rattle.wave_base.specs.Values.{kind_of}
 use Rattle.value_ops.specs.Kinds.{Answer, Of, From, answer_of, at_values}
 use Rattle.value_ops.specs.Operators.{Operator, no_operator, operators, operator_at, takes_of, apply_row}
-use Rattle.value_ops.specs.Rows.{Row, three, named, wave_rows}
+use Rattle.value_ops.specs.Rows.{three}
 use Rattle.service_eval.specs.Answers.{is_kind, are_kinds}
 
 and_left : (a b : Bool) → (a && b) ≡ true → a ≡ true
@@ -122,17 +121,6 @@ kinds_not (a ∷ b ∷ c ∷ []) f (x ∷ y ∷ z ∷ []) l e =
     absurd (true≢false (sym h'' ∙ and_not (is_kind (Some b) y) (is_kind (Some c) z) (and_not (is_kind (Some a) x) (is_kind (Some b) y && is_kind (Some c) z) e h) h')))))
 kinds_not (a ∷ b ∷ c ∷ []) f (x ∷ y ∷ z ∷ u ∷ vs) l e = at_one a (b ∷ c ∷ []) f x (y ∷ z ∷ u ∷ vs) (λ h g. at_one b (c ∷ []) g y (z ∷ u ∷ vs) (λ h' g'. at_one c [] g' z (u ∷ vs) (λ h'' g''. refl)))
 kinds_not (a ∷ b ∷ c ∷ d ∷ ks) f vs l e = absurd (omega arith)
-
--- the rows of the table
-row_takes : (names : List (List ℕ)) (os : List Operator) (i : ℕ) (r : Row) → slice_get (named names os) i ≡ Some r → r.takes ≡ three (get_or os i no_operator).takes
-row_takes [] os i r h = cc
-row_takes (name ∷ names) [] i r h = cc
-row_takes (name ∷ names) (o ∷ os) zero r h = cc
-row_takes (name ∷ names) (o ∷ os) (suc i) r h = row_takes names os i r h
-
-pub kinds_of_row : (row : ℕ) (r : Row) → slice_get wave_rows row ≡ Some r → r.takes ≡ three (takes_of row)
-unfolding wave_rows operators takes_of
-kinds_of_row row r h = row_takes operator_names operators row r h
 
 abbrev all_below : ℕ → (ℕ → Bool) → Bool
 all_below zero p = true
