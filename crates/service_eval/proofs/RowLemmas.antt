@@ -1,5 +1,5 @@
 -- Values that a row doesn't take.
-use Rattle.std.proofs.Common.{◌≡◌, ℕ, zero, suc, ◌<◌, ◌≤◌, Bool, true, false, ◌&&◌, ◌||◌, not, nat_le, IsTrue, List, [], ◌∷◌, length, map, Option, Some, None, is_none, get_or, slice_get, Ok, Err, refl, sym, ap, subst, ◌∙◌, arith}
+use Rattle.std.proofs.Common.{◌≡◌, ℕ, zero, suc, ◌<◌, ◌≤◌, Bool, true, false, ◌&&◌, ◌||◌, not, nat_le, IsTrue, List, [], ◌∷◌, length, map, Option, Some, None, is_none, get_or, Result, Ok, Err, refl, sym, ap, subst, ◌∙◌, arith}
 use mathlib.Core.Bool.{true≢false}
 use Rattle.std.proofs.lemmas.Bool.Decides.{nat_tests}
 use Rattle.std.proofs.lemmas.List.{get_or_past}
@@ -9,6 +9,8 @@ use Rattle.wave_base.specs.declared.value.Kind.TheVariants as k
 use Rattle.wave_base.specs.declared.value.Value.{Value}
 use Rattle.wave_base.specs.declared.value.Value.TheVariants as v
 use Rattle.wave_base.specs.Values.{kind_of}
+use Rattle.value_ops.specs.Answers.{Answers}
+use Rattle.value_ops.specs.declared.error.OpError.{OpError}
 use Rattle.value_ops.specs.Kinds.{Answer, Of, From, answer_of, at_values}
 use Rattle.value_ops.specs.Operators.{Operator, no_operator, operators, operator_at, takes_of, apply_row}
 use Rattle.value_ops.specs.Rows.{three}
@@ -156,3 +158,12 @@ past_rows row vs h = none_of (operator_at row) vs (get_or_past operators row no_
 pub not_taken : (row : ℕ) (vs : List Value) → row < 28 → are_kinds (three (takes_of row)) vs ≡ false → apply_row row vs ≡ Err Absent
 unfolding apply_row takes_of
 not_taken row vs h e = ap (answer_of (operator_at row).gives) (kinds_not (operator_at row).takes (operator_at row).does vs (few_kinds row h) e)
+
+-- an answer to values as they are named
+pub answers_two : (row : ℕ) (a b u v : Value) (r : Result Value OpError) → a ≡ u → b ≡ v → Answers (apply_row row (u ∷ v ∷ [])) r → Answers (apply_row row (a ∷ b ∷ [])) r
+answers_two row a b u v r e f h = subst (λ x. Answers (apply_row row (x ∷ b ∷ [])) r) (sym e) (subst (λ y. Answers (apply_row row (u ∷ y ∷ [])) r) (sym f) h)
+
+pub answers_three : (row n : ℕ) (a b c u v w : Value) (r : Result Value OpError) → row ≡ n → a ≡ u → b ≡ v → c ≡ w → Answers (apply_row n (u ∷ v ∷ w ∷ [])) r → Answers (apply_row row (a ∷ b ∷ c ∷ [])) r
+answers_three row n a b c u v w r k e f g h =
+    subst (λ i. Answers (apply_row i (a ∷ b ∷ c ∷ [])) r) (sym k)
+    (subst (λ x. Answers (apply_row n (x ∷ b ∷ c ∷ [])) r) (sym e) (subst (λ y. Answers (apply_row n (u ∷ y ∷ c ∷ [])) r) (sym f) (subst (λ z. Answers (apply_row n (u ∷ v ∷ z ∷ [])) r) (sym g) h)))

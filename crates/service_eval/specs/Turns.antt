@@ -25,11 +25,11 @@ IsNext code contexts m item = Ready code.shape.now code.methods.now (on_top item
 abbrev pub Goes : Code → Contexts → Machine → Item → Result (Unit {0}) Stop → Contexts → Machine → Type 0
 Goes code contexts m item result contexts' m' = Turned code.shape.now code.methods.now (on_top item (mach code contexts m)) result (mach code contexts' m')
 
--- a change of a map in place: the new value, or its trap at a place, which leaves it
+-- a change of a value in place: the new value; or its trap at a place, which leaves it, as want of memory does
 abbrev pub Alters : Answer Value → Span → Value → Result (Unit {0}) Stop → Value → Type 0
 Alters answer at before (Ok _) after = answer ≡ Ok after
 Alters answer at before (Err (stop.Trapped t)) after = (answer ≡ Err t.kind) × (t.at ≡ at) × (after ≡ before)
-Alters answer at before (Err stop.OutOfMemory) after = Unit {0}
+Alters answer at before (Err stop.OutOfMemory) after = after ≡ before
 
 -- all was done: nothing is left to do
 abbrev pub Ran : Code → Mach → Result (Unit {0}) Stop → Mach → Type 0

@@ -88,12 +88,13 @@ pub fn apply_two(alloc: Global, row: usize, a: &Value, b: &Value, at: Span) -> R
 pub fn apply_three(
     alloc: Global,
     row: usize,
-    values: [&Value; 3],
+    a: &Value,
+    b: &Value,
+    c: &Value,
     at: Span,
 ) -> Result<Value, Stop>
-    ensures { Gives (apply_row row (map (λ v. v.now) values.entry)) at result }
+    ensures { Gives (apply_row row (a.now ∷ b.now ∷ c.now ∷ [])) at result }
 {
-    let [a, b, c] = values;
     match (a, b, c) {
         (Value::Str(t), Value::Int(x), Value::Int(y)) if row == PART => {
             placed(part(alloc, t, *x, *y), at)
