@@ -130,7 +130,7 @@ module _ (shape : Shape) (meaning : Meaning) (FitsTree : Tree (List Value) → T
             by_move (Some m) e =
                 let moved : move_of ran.result ≡ Some m = ap move_of (sym result_ran) ∙ e in
                 let known : there ran.tree m.0 ≡ true = line_moved shape meaning FitsTree FitsCall owed (start.next.0 + here.head.done) here.tree good.tree line job_fits m moved in
-                let placed : there (hosts_after start further) m.0 ≡ true = good_further.covered m.0 known in
+                let placed : there (hosts_after start further) m.0 ≡ true = good_further.placed m.0 ∙ known in
                 ap (λ ps. there (with_contexts (hosts_after start here) ps) m.0) paths_ran ∙ sym (there_move (with_contexts (hosts_after start here) ran.entered) (move_of ran.result) m.0)
                 ∙ ap (λ (t : Tree ℕ). there t m.0) (sym hosts_further) ∙ placed
 
