@@ -77,7 +77,7 @@ batches_most (b ∷ bs) = omega (arith, lines_most b, batches_most bs, sum_by-co
 
 -- ---- heads
 
-pub left_in : Head Line → ℕ
+unfoldable pub left_in : Head Line → ℕ
 left_in h = sum_by most_of (drop h.done h.known) + most_jobs h.later
 
 pub record Next (F : Line → Type 0) (h n : Head Line) : Type 0 where

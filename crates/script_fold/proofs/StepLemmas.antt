@@ -22,8 +22,8 @@ use Rattle.script_fold.specs.declared.folding.Folding.{Folding}
 use Rattle.script_fold.specs.Lines.{Meaning, line_by, name_of, most_jobs, FitsJob}
 use Rattle.script_fold.specs.Owed.{Owed}
 use Rattle.script_fold.specs.Runs.{after_jobs, hosts_after, ticket_of}
-use Rattle.script_fold.specs.Standing.{IsWaiting, IsAdmitted, IsKept, Stands, Ended}
-use Rattle.script_fold.specs.Visiting.{Entries, IsVisited, IsMoveWithin}
+use Rattle.script_fold.specs.inner.Standing.{IsWaiting, IsAdmitted, IsKept, Stands, Ended}
+use Rattle.script_fold.specs.inner.Visiting.{Entries, IsVisited, IsMoveWithin}
 use Rattle.script_fold.proofs.FoldLemmas.{IsGood, good_after, good_ran, line_few, line_moved, hosts_push, there_move, All-drop_head, room_after}
 
 at_seam : (xs : List Line) (y : Line) (zs : List Line) → slice_get ((xs ++ y ∷ []) ++ zs) (length xs) ≡ Some y

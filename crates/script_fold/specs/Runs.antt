@@ -3,6 +3,7 @@ use Rattle.std.specs.Prelude.{◌≤◌, ◌+◌, ℕ, List, length, map}
 use Rattle.std.specs.List.{zip}
 use Rattle.wave_base.specs.declared.finished.Finished.{Finished}
 use Rattle.wave_base.specs.declared.finished.Place.{Place}
+use Rattle.wave_base.specs.declared.limits.TheConstants.{START_CONTEXTS, START_TICKET}
 use Rattle.wave_base.specs.declared.numbers.Ticket.{Ticket}
 use Rattle.wave_base.specs.declared.outcome.EventResult.{EventResult}
 use Rattle.wave_base.specs.declared.path.Path.{Path}
@@ -59,4 +60,4 @@ start_after start f = record { shots = f.shots; places = f.places; next = record
 
 -- its contexts and its next ticket are few enough for a start
 abbrev pub IsFew : Start → Type 0
-IsFew start = (length start.shots ≤ 1000000000) × (start.next.0 ≤ 2000000000)
+IsFew start = (length start.shots ≤ START_CONTEXTS) × (start.next.0 ≤ START_TICKET)

@@ -8,7 +8,7 @@ ghost use Rattle.wave_base.specs.Scripts.{IsScript};
 ghost use Rattle.wave_base.specs.Shapes.{IsShape};
 ghost use Rattle.wave_base.specs.Starts.{IsStart, first_start};
 ghost use Rattle.script_fold.specs.Runs.{finished_of, whole_run};
-ghost use Rattle.script_fold.specs.Standing.{Stands, Ended};
+ghost use Rattle.script_fold.specs.inner.Standing.{Stands, Ended};
 
 use crate::folding::Folding;
 use crate::runner::Runner;

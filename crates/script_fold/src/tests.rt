@@ -1,8 +1,8 @@
 //! A small script, run whole: what it gives was worked out by hand.
 
 ghost use Rattle.std.specs.Prelude.{◌≡◌, [], None, IfOk};
-ghost use Rattle.script_fold.specs.Greeting.{small_shape, small_script, again, greets, HasRoot, Greeted, greeting, hall};
-ghost use Rattle.script_fold.specs.Greets.{greets_owed};
+ghost use Rattle.script_fold.specs.inner.Greeting.{small_shape, small_script, again, greets, HasRoot, Greeted, greeting, hall};
+ghost use Rattle.script_fold.specs.inner.Greets.{greets_owed};
 
 use crate::runner::Runner;
 use crate::{moves_change_no_other_result, run_script, run_script_at, runs_go_on};

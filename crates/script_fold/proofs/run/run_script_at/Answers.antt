@@ -8,7 +8,7 @@ use Rattle.wave_base.specs.Scripts.{IsScript}
 use Rattle.script_fold.specs.declared.folding.Folding.{Folding}
 use Rattle.script_fold.specs.Lines.{Meaning, most_jobs}
 use Rattle.script_fold.specs.Runs.{finished_of}
-use Rattle.script_fold.specs.Standing.{Ended}
+use Rattle.script_fold.specs.inner.Standing.{Ended}
 use Rattle.script_fold.proofs.AgainLemmas.{run_places}
 use Rattle.script_fold.proofs.FoldLemmas.{whole_is, few_results}
 use Rattle.script_fold.proofs.run.run_script_at.Goals as goal

@@ -9,7 +9,7 @@ use Rattle.wave_base.specs.declared.value.Value.{Value}
 use Rattle.wave_base.specs.Paths.{path_eq}
 use Rattle.wave_base.specs.PathLaws.{path_eq_decides}
 use Rattle.wave_base.specs.Tree.{Tree, there}
-use Rattle.script_fold.specs.Greeting.{small_shape, call_at, greets, HasRoot, Greeted}
+use Rattle.script_fold.specs.inner.Greeting.{small_shape, call_at, greets, HasRoot, Greeted}
 use Rattle.script_fold.specs.Owed.{Owed}
 
 early : (g : ℕ) → g ≡ 0 → g ≤ GENERATION
