@@ -51,6 +51,10 @@ paren_none : (b : Bool) (ws : List Word) → (b ≡ true → ⊥) → length (in
 paren_none true ws h = absurd (h refl)
 paren_none false ws h = refl
 
+-- behind a list that is closed
+closed : (xs : List Word) (y : Word) (zs : List Word) → length ((xs ++ (y ∷ [])) ++ zs) ≡ length xs + suc (length zs)
+closed xs y zs = length-append (xs ++ (y ∷ [])) zs ∙ ap (λ n. n + length zs) (length-append xs (y ∷ [])) ∙ omega arith
+
 abbrev own_words : BinaryOp → ExprTree → ExprTree → List Word
 own_words o a b = expr_words a (left_level_of o) ++ (word.Sign (sign_of o) ∷ expr_words b (level_of o + 1))
 
@@ -262,7 +266,7 @@ module _ (u : Part ExprTree) (least : Least u (λ a. length (expr_words a 5))) w
       let (x2, f2, b2, e2, k2, r2) = r1 in
       let (x3, f3, b3, e3, k3, r3) = r2 in
       subst (λ a. 2 + length (whole_words a) ≤ length ts) (sym r3.0)
-      (omega (arith, length-append {A = Word}, length-append {A = Token}, ap length e1, ap length k1.1, ap length e2, expr_least x2 f2 k2, ap length e3, ap length k3.1, ap length r3.1))
+      (omega (arith, closed, length-append {A = Word}, length-append {A = Token}, ap length e1, ap length k1.1, ap length e2, expr_least x2 f2 k2, ap length e3, ap length k3.1, ap length r3.1))
 
   parenthesized_least : Least (g.parenthesized u) (λ a. length (expr_words a 5))
   parenthesized_least a ts h =
@@ -270,34 +274,34 @@ module _ (u : Part ExprTree) (least : Least u (λ a. length (expr_words a 5))) w
       let (x2, f2, b2, e2, k2, r2) = r1 in
       let (x3, f3, b3, e3, k3, r3) = r2 in
       subst (λ a. length (expr_words a 5) ≤ length ts) (sym r3.0)
-      (omega (arith, length-append {A = Word}, length-append {A = Token}, ap length e1, ap length k1.1, ap length e2, expr_least x2 f2 k2, ap length e3, ap length k3.1, ap length r3.1, loosened x2))
+      (omega (arith, closed, length-append {A = Word}, length-append {A = Token}, ap length e1, ap length k1.1, ap length e2, expr_least x2 f2 k2, ap length e3, ap length k3.1, ap length r3.1, loosened x2))
 
   read_least : Least (g.read u) (λ a. length (expr_words a 5))
   read_least a ts h =
       let (x1, f1, b1, e1, k1, r1) = h in
       subst (λ a. length (expr_words a 5) ≤ length ts) (sym r1.0)
-      (omega (arith, length-append {A = Word}, length-append {A = Token}, ap length e1, ap length k1.1, ap length r1.1))
+      (omega (arith, closed, length-append {A = Word}, length-append {A = Token}, ap length e1, ap length k1.1, ap length r1.1))
 
   above_least : Least (g.above u) (λ a. length (expr_words a 5))
   above_least a ts h =
       let (x1, f1, b1, e1, k1, r1) = h in
       let (x2, f2, b2, e2, k2, r2) = r1 in
       subst (λ a. length (expr_words a 5) ≤ length ts) (sym r2.0)
-      (omega (arith, length-append {A = Word}, length-append {A = Token}, ap length e1, ap length k1.1, ap length e2, field_least x2 f2 k2, ap length r2.1))
+      (omega (arith, closed, length-append {A = Word}, length-append {A = Token}, ap length e1, ap length k1.1, ap length e2, field_least x2 f2 k2, ap length r2.1))
 
   call_least : Least (g.call u) (λ a. length (expr_words a 5))
   call_least a ts h =
       let (x1, f1, b1, e1, k1, r1) = h in
       let (x2, f2, b2, e2, k2, r2) = r1 in
       subst (λ a. length (expr_words a 5) ≤ length ts) (sym r2.0)
-      (omega (arith, length-append {A = Word}, length-append {A = Token}, ap length e1, ap length k1.1, ap length e2, arguments_least x2 f2 k2, ap length r2.1, ap length (args_same x2)))
+      (omega (arith, closed, length-append {A = Word}, length-append {A = Token}, ap length e1, ap length k1.1, ap length e2, arguments_least x2 f2 k2, ap length r2.1, ap length (args_same x2)))
 
   index_least : Least (g.index u) (λ a. length (expr_words a 5))
   index_least a ts h =
       let (x1, f1, b1, e1, k1, r1) = h in
       let (x2, f2, b2, e2, k2, r2) = r1 in
       subst (λ a. length (expr_words a 5) ≤ length ts) (sym r2.0)
-      (omega (arith, length-append {A = Word}, length-append {A = Token}, ap length e1, ap length k1.1, ap length e2, bracketed_least x2 f2 k2, ap length r2.1))
+      (omega (arith, closed, length-append {A = Word}, length-append {A = Token}, ap length e1, ap length k1.1, ap length e2, bracketed_least x2 f2 k2, ap length r2.1))
 
   above_index_least : Least (g.above_index u) (λ a. length (expr_words a 5))
   above_index_least a ts h =
@@ -305,7 +309,7 @@ module _ (u : Part ExprTree) (least : Least u (λ a. length (expr_words a 5))) w
       let (x2, f2, b2, e2, k2, r2) = r1 in
       let (x3, f3, b3, e3, k3, r3) = r2 in
       subst (λ a. length (expr_words a 5) ≤ length ts) (sym r3.0)
-      (omega (arith, length-append {A = Word}, length-append {A = Token}, ap length e1, ap length k1.1, ap length e2, field_least x2 f2 k2, ap length e3, bracketed_least x3 f3 k3, ap length r3.1))
+      (omega (arith, closed, length-append {A = Word}, length-append {A = Token}, ap length e1, ap length k1.1, ap length e2, field_least x2 f2 k2, ap length e3, bracketed_least x3 f3 k3, ap length r3.1))
 
   child_call_least : Least (g.child_call u) (λ a. length (expr_words a 5))
   child_call_least a ts h =
@@ -314,14 +318,14 @@ module _ (u : Part ExprTree) (least : Least u (λ a. length (expr_words a 5))) w
       let (x3, f3, b3, e3, k3, r3) = r2 in
       let (x4, f4, b4, e4, k4, r4) = r3 in
       subst (λ a. length (expr_words a 5) ≤ length ts) (sym r4.0)
-      (omega (arith, length-append {A = Word}, length-append {A = Token}, ap length e1, ap length k1.1, ap length e2, bracketed_least x2 f2 k2, ap length e3, field_least x3 f3 k3, ap length e4, arguments_least x4 f4 k4, ap length r4.1, ap length (args_same x4)))
+      (omega (arith, closed, length-append {A = Word}, length-append {A = Token}, ap length e1, ap length k1.1, ap length e2, bracketed_least x2 f2 k2, ap length e3, field_least x3 f3 k3, ap length e4, arguments_least x4 f4 k4, ap length r4.1, ap length (args_same x4)))
 
   signed_least : Least (g.signed u) (λ a. length (expr_words a 5))
   signed_least a ts h =
       let (x1, f1, b1, e1, k1, r1) = h in
       let (x2, f2, b2, e2, k2, r2) = r1 in
       subst (λ a. length (expr_words a 5) ≤ length ts) (sym r2.0)
-      (omega (arith, length-append {A = Word}, length-append {A = Token}, ap length e1, ap length k1.1, ap length e2, least x2 f2 k2, ap length r2.1))
+      (omega (arith, closed, length-append {A = Word}, length-append {A = Token}, ap length e1, ap length k1.1, ap length e2, least x2 f2 k2, ap length r2.1))
 
   unary_or_primary : Least (g.signed_or_primary u) (λ a. length (expr_words a 5))
   unary_or_primary a ts (inl h) = signed_least a ts h
@@ -371,7 +375,7 @@ let_least a ts h =
     let (x4, f4, b4, e4, k4, r4) = r3 in
     let (x5, f5, b5, e5, k5, r5) = r4 in
     subst (λ a. length (c.stmt_words a) ≤ length ts) (sym r5.0)
-    (omega (arith, length-append {A = Word}, length-append {A = Token}, ap length e1, ap length k1.1, ap length e2, ap length k2.1, ap length e3, ap length k3.1, ap length e4, any_expr_least x4 f4 k4, ap length e5, ap length k5.1, ap length r5.1))
+    (omega (arith, closed, length-append {A = Word}, length-append {A = Token}, ap length e1, ap length k1.1, ap length e2, ap length k2.1, ap length e3, ap length k3.1, ap length e4, any_expr_least x4 f4 k4, ap length e5, ap length k5.1, ap length r5.1))
 
 require_least : Least g.require_stmt (λ a. length (c.stmt_words a))
 require_least a ts h =
@@ -379,7 +383,7 @@ require_least a ts h =
     let (x2, f2, b2, e2, k2, r2) = r1 in
     let (x3, f3, b3, e3, k3, r3) = r2 in
     subst (λ a. length (c.stmt_words a) ≤ length ts) (sym r3.0)
-    (omega (arith, length-append {A = Word}, length-append {A = Token}, ap length e1, ap length k1.1, ap length e2, any_expr_least x2 f2 k2, ap length e3, ap length k3.1, ap length r3.1))
+    (omega (arith, closed, length-append {A = Word}, length-append {A = Token}, ap length e1, ap length k1.1, ap length e2, any_expr_least x2 f2 k2, ap length e3, ap length k3.1, ap length r3.1))
 
 send_least : Least g.send_stmt (λ a. length (c.stmt_words a))
 send_least a ts h =
@@ -389,7 +393,7 @@ send_least a ts h =
     let (x4, f4, b4, e4, k4, r4) = r3 in
     let (x5, f5, b5, e5, k5, r5) = r4 in
     subst (λ a. length (c.stmt_words a) ≤ length ts) (sym r5.0)
-    (omega (arith, length-append {A = Word}, length-append {A = Token}, ap length e1, ap length k1.1, ap length e2, ap length k2.1, ap length e3, ap length k3.1, ap length e4, any_expr_least x4 f4 k4, ap length e5, ap length k5.1, ap length r5.1))
+    (omega (arith, closed, length-append {A = Word}, length-append {A = Token}, ap length e1, ap length k1.1, ap length e2, ap length k2.1, ap length e3, ap length k3.1, ap length e4, any_expr_least x4 f4 k4, ap length e5, ap length k5.1, ap length r5.1))
 
 spawn_least : Least g.spawn_stmt (λ a. length (c.stmt_words a))
 spawn_least a ts h =
@@ -398,7 +402,7 @@ spawn_least a ts h =
     let (x3, f3, b3, e3, k3, r3) = r2 in
     let (x4, f4, b4, e4, k4, r4) = r3 in
     subst (λ a. length (c.stmt_words a) ≤ length ts) (sym r4.0)
-    (omega (arith, length-append {A = Word}, length-append {A = Token}, ap length e1, ap length k1.1, ap length e2, ap length k2.1, ap length e3, any_arguments_least x3 f3 k3, ap length e4, ap length k4.1, ap length r4.1))
+    (omega (arith, closed, length-append {A = Word}, length-append {A = Token}, ap length e1, ap length k1.1, ap length e2, ap length k2.1, ap length e3, any_arguments_least x3 f3 k3, ap length e4, ap length k4.1, ap length r4.1, length-append (c.listed whole_words x3) (c.sign s.RightParen)))
 
 drop_least : Least g.drop_stmt (λ a. length (c.stmt_words a))
 drop_least a ts h =
@@ -408,7 +412,7 @@ drop_least a ts h =
     let (x4, f4, b4, e4, k4, r4) = r3 in
     let (x5, f5, b5, e5, k5, r5) = r4 in
     subst (λ a. length (c.stmt_words a) ≤ length ts) (sym r5.0)
-    (omega (arith, length-append {A = Word}, length-append {A = Token}, ap length e1, ap length k1.1, ap length e2, ap length k2.1, ap length e3, target_least x2 x3 f3 k3, ap length e4, any_key_least x4 f4 k4, ap length e5, ap length k5.1, ap length r5.1))
+    (omega (arith, closed, length-append {A = Word}, length-append {A = Token}, ap length e1, ap length k1.1, ap length e2, ap length k2.1, ap length e3, target_least x2 x3 f3 k3, ap length e4, any_key_least x4 f4 k4, ap length e5, ap length k5.1, ap length r5.1, length-append (whole_words x4) (c.sign s.RightBracket), length-append (c.index_words x4) (c.sign s.Semicolon), length-append (c.target_words (g.target x2 x3)) (c.index_words x4 ++ c.sign s.Semicolon)))
 
 set_least : Least g.set_stmt (λ a. length (c.stmt_words a))
 set_least a ts h =
@@ -419,7 +423,7 @@ set_least a ts h =
     let (x5, f5, b5, e5, k5, r5) = r4 in
     let (x6, f6, b6, e6, k6, r6) = r5 in
     subst (λ a. length (c.stmt_words a) ≤ length ts) (sym r6.0)
-    (omega (arith, length-append {A = Word}, length-append {A = Token}, ap length e1, ap length k1.1, ap length e2, target_least x1 x2 f2 k2, ap length e3, maybe_key_least x3 f3 k3, ap length e4, ap length k4.1, ap length e5, any_expr_least x5 f5 k5, ap length e6, ap length k6.1, ap length r6.1))
+    (omega (arith, closed, length-append {A = Word}, length-append {A = Token}, ap length e1, ap length k1.1, ap length e2, target_least x1 x2 f2 k2, ap length e3, maybe_key_least x3 f3 k3, ap length e4, ap length k4.1, ap length e5, any_expr_least x5 f5 k5, ap length e6, ap length k6.1, ap length r6.1))
 
 call_stmt_least : Least g.call_stmt (λ a. length (c.stmt_words a))
 call_stmt_least a ts h =
@@ -427,7 +431,7 @@ call_stmt_least a ts h =
     let (x2, f2, b2, e2, k2, r2) = r1 in
     let (x3, f3, b3, e3, k3, r3) = r2 in
     subst (λ a. length (c.stmt_words a) ≤ length ts) (sym r3.0)
-    (omega (arith, length-append {A = Word}, length-append {A = Token}, ap length e1, ap length k1.1, ap length e2, any_arguments_least x2 f2 k2, ap length e3, ap length k3.1, ap length r3.1))
+    (omega (arith, closed, length-append {A = Word}, length-append {A = Token}, ap length e1, ap length k1.1, ap length e2, any_arguments_least x2 f2 k2, ap length e3, ap length k3.1, ap length r3.1, length-append (c.listed whole_words x2) (c.sign s.RightParen)))
 
 child_call_stmt_least : Least g.child_call_stmt (λ a. length (c.stmt_words a))
 child_call_stmt_least a ts h =
@@ -437,7 +441,7 @@ child_call_stmt_least a ts h =
     let (x4, f4, b4, e4, k4, r4) = r3 in
     let (x5, f5, b5, e5, k5, r5) = r4 in
     subst (λ a. length (c.stmt_words a) ≤ length ts) (sym r5.0)
-    (omega (arith, length-append {A = Word}, length-append {A = Token}, ap length e1, ap length k1.1, ap length e2, any_key_least x2 f2 k2, ap length e3, field_least x3 f3 k3, ap length e4, any_arguments_least x4 f4 k4, ap length e5, ap length k5.1, ap length r5.1))
+    (omega (arith, closed, length-append {A = Word}, length-append {A = Token}, ap length e1, ap length k1.1, ap length e2, any_key_least x2 f2 k2, ap length e3, field_least x3 f3 k3, ap length e4, any_arguments_least x4 f4 k4, ap length e5, ap length k5.1, ap length r5.1, length-append (whole_words x2) (c.sign s.RightBracket), length-append (c.call_words x3.text x4) (c.sign s.Semicolon), length-append (c.listed whole_words x4) (c.sign s.RightParen)))
 
 stmts_same : (xs : List StmtTree) → c.stmts_words (stmts_of xs) ≡ c.body_words xs
 stmts_same [] = refl
@@ -453,7 +457,7 @@ module _ (stmt : Part StmtTree) (least : Least stmt (λ a. length (c.stmt_words 
       let (x2, f2, b2, e2, k2, r2) = r1 in
       let (x3, f3, b3, e3, k3, r3) = r2 in
       subst (λ a. 2 + length (c.body_words a) ≤ length ts) (sym r3.0)
-      (omega (arith, length-append {A = Word}, length-append {A = Token}, ap length e1, ap length k1.1, ap length e2, many_least x2 f2 k2, ap length e3, ap length k3.1, ap length r3.1))
+      (omega (arith, closed, length-append {A = Word}, length-append {A = Token}, ap length e1, ap length k1.1, ap length e2, many_least x2 f2 k2, ap length e3, ap length k3.1, ap length r3.1))
 
   else_least : (other : Option (List StmtTree)) (ts : List Token) → SpellsMaybe (w.key k.Else >> g.block stmt) other ts → length (c.else_words (else_of other)) ≤ length ts
   else_least None ts h = omega arith
@@ -468,7 +472,7 @@ module _ (stmt : Part StmtTree) (least : Least stmt (λ a. length (c.stmt_words 
       let (x3, f3, b3, e3, k3, r3) = r2 in
       let (x4, f4, b4, e4, k4, r4) = r3 in
       subst (λ a. length (c.stmt_words a) ≤ length ts) (sym r4.0)
-      (omega (arith, length-append {A = Word}, length-append {A = Token}, ap length e1, ap length k1.1, ap length e2, any_expr_least x2 f2 k2, ap length e3, block_least x3 f3 k3, ap length e4, else_least x4 f4 k4, ap length r4.1, ap length (stmts_same x3)))
+      (omega (arith, closed, length-append {A = Word}, length-append {A = Token}, ap length e1, ap length k1.1, ap length e2, any_expr_least x2 f2 k2, ap length e3, block_least x3 f3 k3, ap length e4, else_least x4 f4 k4, ap length r4.1, ap length (stmts_same x3)))
 
   while_least : Least (g.while_stmt stmt) (λ a. length (c.stmt_words a))
   while_least a ts h =
@@ -476,7 +480,7 @@ module _ (stmt : Part StmtTree) (least : Least stmt (λ a. length (c.stmt_words 
       let (x2, f2, b2, e2, k2, r2) = r1 in
       let (x3, f3, b3, e3, k3, r3) = r2 in
       subst (λ a. length (c.stmt_words a) ≤ length ts) (sym r3.0)
-      (omega (arith, length-append {A = Word}, length-append {A = Token}, ap length e1, ap length k1.1, ap length e2, any_expr_least x2 f2 k2, ap length e3, block_least x3 f3 k3, ap length r3.1, ap length (stmts_same x3)))
+      (omega (arith, closed, length-append {A = Word}, length-append {A = Token}, ap length e1, ap length k1.1, ap length e2, any_expr_least x2 f2 k2, ap length e3, block_least x3 f3 k3, ap length r3.1, ap length (stmts_same x3)))
 
   for_least : Least (g.for_stmt stmt) (λ a. length (c.stmt_words a))
   for_least a ts h =
@@ -488,7 +492,7 @@ module _ (stmt : Part StmtTree) (least : Least stmt (λ a. length (c.stmt_words 
       let (x6, f6, b6, e6, k6, r6) = r5 in
       let (x7, f7, b7, e7, k7, r7) = r6 in
       subst (λ a. length (c.stmt_words a) ≤ length ts) (sym r7.0)
-      (omega (arith, length-append {A = Word}, length-append {A = Token}, ap length e1, ap length k1.1, ap length e2, ap length k2.1, ap length e3, ap length k3.1, ap length e4, any_expr_least x4 f4 k4, ap length e5, ap length k5.1, ap length e6, any_expr_least x6 f6 k6, ap length e7, block_least x7 f7 k7, ap length r7.1, ap length (stmts_same x7)))
+      (omega (arith, closed, length-append {A = Word}, length-append {A = Token}, ap length e1, ap length k1.1, ap length e2, ap length k2.1, ap length e3, ap length k3.1, ap length e4, any_expr_least x4 f4 k4, ap length e5, ap length k5.1, ap length e6, any_expr_least x6 f6 k6, ap length e7, block_least x7 f7 k7, ap length r7.1, ap length (stmts_same x7)))
 
   any_stmt_least : Least (g.any_stmt stmt) (λ a. length (c.stmt_words a))
   any_stmt_least a ts (inl h) = let_least a ts h
@@ -502,6 +506,24 @@ module _ (stmt : Part StmtTree) (least : Least stmt (λ a. length (c.stmt_words 
   any_stmt_least a ts (inr (inr (inr (inr (inr (inr (inr (inr (inl h))))))))) = set_least a ts h
   any_stmt_least a ts (inr (inr (inr (inr (inr (inr (inr (inr (inr (inl h)))))))))) = call_stmt_least a ts h
   any_stmt_least a ts (inr (inr (inr (inr (inr (inr (inr (inr (inr (inr h)))))))))) = child_call_stmt_least a ts h
+
+nested_stmt_least : (n : ℕ) → Least (nested g.any_stmt n) (λ a. length (c.stmt_words a))
+nested_stmt_least zero a ts h = absurd h
+nested_stmt_least (suc n) a ts h = any_stmt_least (nested g.any_stmt n) (nested_stmt_least n) a ts h
+
+stmt_least : Least g.stmt (λ a. length (c.stmt_words a))
+stmt_least a ts h = nested_stmt_least h.0 a ts h.1
+
+stmts_least : Least g.stmts (λ xs. length (c.body_words xs))
+unfolding g.stmts
+stmts_least = many_least g.stmt stmt_least
+
+any_block_least : Least g.any_block (λ xs. 2 + length (c.body_words xs))
+unfolding g.any_block
+any_block_least = block_least g.stmt stmt_least
+
+-- ---- declarations
+
 abbrev initial_at : Span → Literal → Initial
 initial_at at v = record { at = at; value = v }
 
@@ -526,7 +548,7 @@ minus_least a ts h =
     let (x1, f1, b1, e1, k1, r1) = h in
     let (x2, f2, b2, e2, k2, r2) = r1 in
     subst (λ a. length (c.literal_words a.value) ≤ length ts) (sym r2.0)
-    (omega (arith, length-append {A = Word}, length-append {A = Token}, ap length e1, ap length k1.1, ap length e2, ap length k2.1, ap length r2.1))
+    (omega (arith, closed, length-append {A = Word}, length-append {A = Token}, ap length e1, ap length k1.1, ap length e2, ap length k2.1, ap length r2.1))
 
 initial_least : Least g.initial (λ a. length (c.literal_words a.value))
 initial_least a ts (inl h) = omega (arith, initial_one h.0.span h.0.word a h.2, ap length h.1)
@@ -542,7 +564,7 @@ var_least a ts h =
     let (x6, f6, b6, e6, k6, r6) = r5 in
     let (x7, f7, b7, e7, k7, r7) = r6 in
     subst (λ a. length (c.var_words a) ≤ length ts) (sym r7.0)
-    (omega (arith, length-append {A = Word}, length-append {A = Token}, ap length e1, ap length k1.1, ap length e2, ap length k2.1, ap length e3, ap length k3.1, ap length e4, ap length k4.1, ap length e5, ap length k5.1, ap length e6, initial_least x6 f6 k6, ap length e7, ap length k7.1, ap length r7.1))
+    (omega (arith, closed, length-append {A = Word}, length-append {A = Token}, ap length e1, ap length k1.1, ap length e2, ap length k2.1, ap length e3, ap length k3.1, ap length e4, ap length k4.1, ap length e5, ap length k5.1, ap length e6, initial_least x6 f6 k6, ap length e7, ap length k7.1, ap length r7.1))
 
 result_least : (kind : Option Kind) (ts : List Token) → SpellsMaybe (w.sign s.Colon >> w.type) kind ts → length (c.result_words kind) ≤ length ts
 result_least None ts h = omega arith
@@ -556,7 +578,7 @@ param_least a ts h =
     let (x2, f2, b2, e2, k2, r2) = r1 in
     let (x3, f3, b3, e3, k3, r3) = r2 in
     subst (λ a. length (c.param_words a) ≤ length ts) (sym r3.0)
-    (omega (arith, length-append {A = Word}, length-append {A = Token}, ap length e1, ap length k1.1, ap length e2, ap length k2.1, ap length e3, ap length k3.1, ap length r3.1))
+    (omega (arith, closed, length-append {A = Word}, length-append {A = Token}, ap length e1, ap length k1.1, ap length e2, ap length k2.1, ap length e3, ap length k3.1, ap length r3.1))
 
 params_least : Least g.params (λ ps. length (c.params_words ps))
 params_least ps ts h = omega (arith, parens_least g.param c.param_words param_least ps ts h, length-append {A = Word})
@@ -568,7 +590,7 @@ module _ (want : Keyword) where
       let (x2, f2, b2, e2, k2, r2) = r1 in
       let (x3, f3, b3, e3, k3, r3) = r2 in
       subst (λ a. length (c.last_words want (Some a)) ≤ length ts) (sym r3.0)
-      (omega (arith, length-append {A = Word}, length-append {A = Token}, ap length e1, ap length k1.1, ap length e2, any_expr_least x2 f2 k2, ap length e3, ap length k3.1, ap length r3.1))
+      (omega (arith, closed, length-append {A = Word}, length-append {A = Token}, ap length e1, ap length k1.1, ap length e2, any_expr_least x2 f2 k2, ap length e3, ap length k3.1, ap length r3.1))
 
   last_least : (end : Option LastTree) (ts : List Token) → SpellsMaybe (g.last (w.key want)) end ts → length (c.last_words want end) ≤ length ts
   last_least None ts h = omega arith
@@ -585,7 +607,7 @@ method_least a ts h =
     let (x7, f7, b7, e7, k7, r7) = r6 in
     let (x8, f8, b8, e8, k8, r8) = r7 in
     subst (λ a. length (c.method_words a) ≤ length ts) (sym r8.0)
-    (omega (arith, length-append {A = Word}, length-append {A = Token}, ap length e1, ap length k1.1, ap length e2, ap length k2.1, ap length e3, params_least x3 f3 k3, ap length e4, result_least x4 f4 k4, ap length e5, ap length k5.1, ap length e6, stmts_least x6 f6 k6, ap length e7, last_least k.Return x7 f7 k7, ap length e8, ap length k8.1, ap length r8.1))
+    (omega (arith, closed, length-append {A = Word}, length-append {A = Token}, ap length e1, ap length k1.1, ap length e2, ap length k2.1, ap length e3, params_least x3 f3 k3, ap length e4, result_least x4 f4 k4, ap length e5, ap length k5.1, ap length e6, stmts_least x6 f6 k6, ap length e7, last_least k.Return x7 f7 k7, ap length e8, ap length k8.1, ap length r8.1, length-append (c.listed c.param_words x3) (c.sign s.RightParen)))
 
 down_least : Least g.down (λ a. length (c.phase_words a))
 down_least a ts h =
@@ -594,7 +616,7 @@ down_least a ts h =
     let (x3, f3, b3, e3, k3, r3) = r2 in
     let (x4, f4, b4, e4, k4, r4) = r3 in
     subst (λ a. length (c.phase_words a) ≤ length ts) (sym r4.0)
-    (omega (arith, length-append {A = Word}, length-append {A = Token}, ap length e1, ap length k1.1, ap length e2, ap length k2.1, ap length e3, any_key_least x3 f3 k3, ap length e4, any_block_least x4 f4 k4, ap length r4.1))
+    (omega (arith, closed, length-append {A = Word}, length-append {A = Token}, ap length e1, ap length k1.1, ap length e2, ap length k2.1, ap length e3, any_key_least x3 f3 k3, ap length e4, any_block_least x4 f4 k4, ap length r4.1, length-append (whole_words x3) (c.sign s.RightBracket)))
 
 here_least : (here : Option (List StmtTree)) (ts : List Token) → SpellsMaybe (w.key k.Here >> g.any_block) here ts → length (c.here_words here) ≤ length ts
 here_least None ts h = omega arith
@@ -614,7 +636,7 @@ event_least a ts h =
     let (x8, f8, b8, e8, k8, r8) = r7 in
     let (x9, f9, b9, e9, k9, r9) = r8 in
     subst (λ a. length (c.event_words a) ≤ length ts) (sym r9.0)
-    (omega (arith, length-append {A = Word}, length-append {A = Token}, ap length e1, ap length k1.1, ap length e2, ap length k2.1, ap length e3, params_least x3 f3 k3, ap length e4, result_least x4 f4 k4, ap length e5, ap length k5.1, ap length e6, here_least x6 f6 k6, ap length e7, all_least g.down c.phase_words down_least x7 f7 k7, ap length e8, last_least k.Reply x8 f8 k8, ap length e9, ap length k9.1, ap length r9.1))
+    (omega (arith, closed, length-append {A = Word}, length-append {A = Token}, ap length e1, ap length k1.1, ap length e2, ap length k2.1, ap length e3, params_least x3 f3 k3, ap length e4, result_least x4 f4 k4, ap length e5, ap length k5.1, ap length e6, here_least x6 f6 k6, ap length e7, all_least g.down c.phase_words down_least x7 f7 k7, ap length e8, last_least k.Reply x8 f8 k8, ap length e9, ap length k9.1, ap length r9.1, length-append (c.listed c.param_words x3) (c.sign s.RightParen)))
 
 contexts_same : (xs : List ContextTree) → c.contexts_words (contexts_of xs) ≡ c.all_of c.context_words xs
 contexts_same [] = refl
@@ -634,7 +656,7 @@ module _ (context : Part ContextTree) (least : Least context (λ a. length (c.co
       let (x9, f9, b9, e9, k9, r9) = r8 in
       let (x10, f10, b10, e10, k10, r10) = r9 in
       subst (λ a. length (c.context_words a) ≤ length ts) (sym r10.0)
-      (omega (arith, length-append {A = Word}, length-append {A = Token}, ap length e1, ap length k1.1, ap length e2, ap length k2.1, ap length e3, ap length k3.1, ap length e4, ap length k4.1, ap length e5, ap length k5.1, ap length e6, ap length k6.1, ap length e7, all_least g.var c.var_words var_least x7 f7 k7, ap length e8, all_least context c.context_words least x8 f8 k8, ap length e9, all_least g.method c.method_words method_least x9 f9 k9, ap length e10, ap length k10.1, ap length r10.1, ap length (contexts_same x8)))
+      (omega (arith, closed, length-append {A = Word}, length-append {A = Token}, ap length e1, ap length k1.1, ap length e2, ap length k2.1, ap length e3, ap length k3.1, ap length e4, ap length k4.1, ap length e5, ap length k5.1, ap length e6, ap length k6.1, ap length e7, all_least g.var c.var_words var_least x7 f7 k7, ap length e8, all_least context c.context_words least x8 f8 k8, ap length e9, all_least g.method c.method_words method_least x9 f9 k9, ap length e10, ap length k10.1, ap length r10.1, ap length (contexts_same x8)))
 
 nested_context_least : (n : ℕ) → Least (nested g.one_context n) (λ a. length (c.context_words a))
 nested_context_least zero a ts h = absurd h
@@ -643,7 +665,7 @@ nested_context_least (suc n) a ts h = one_context_least (nested g.one_context n)
 context_least : Least g.context (λ a. length (c.context_words a))
 context_least a ts h = nested_context_least h.0 a ts h.1
 
-service_least : Least g.service (λ a. length (c.service_words a))
+pub service_least : Least g.service (λ a. length (c.service_words a))
 unfolding g.service c.service_words
 service_least a ts h =
     let (x1, f1, b1, e1, k1, r1) = h in
@@ -655,4 +677,4 @@ service_least a ts h =
     let (x7, f7, b7, e7, k7, r7) = r6 in
     let (x8, f8, b8, e8, k8, r8) = r7 in
     subst (λ a. length (c.service_words a) ≤ length ts) (sym r8.0)
-    (omega (arith, length-append {A = Word}, length-append {A = Token}, ap length e1, ap length k1.1, ap length e2, ap length k2.1, ap length e3, ap length k3.1, ap length e4, all_least g.var c.var_words var_least x4 f4 k4, ap length e5, all_least g.context c.context_words context_least x5 f5 k5, ap length e6, all_least g.method c.method_words method_least x6 f6 k6, ap length e7, all_least g.event c.event_words event_least x7 f7 k7, ap length e8, ap length k8.1, ap length r8.1))
+    (omega (arith, closed, length-append {A = Word}, length-append {A = Token}, ap length e1, ap length k1.1, ap length e2, ap length k2.1, ap length e3, ap length k3.1, ap length e4, all_least g.var c.var_words var_least x4 f4 k4, ap length e5, all_least g.context c.context_words context_least x5 f5 k5, ap length e6, all_least g.method c.method_words method_least x6 f6 k6, ap length e7, all_least g.event c.event_words event_least x7 f7 k7, ap length e8, ap length k8.1, ap length r8.1))
