@@ -7,7 +7,7 @@ use Rattle.script_reader.specs.declared.error.ScriptError.TheVariants.{OutOfMemo
 use Rattle.script_reader.specs.declared.progress.Progress.{Progress}
 use Rattle.script_reader.specs.declared.said.Said.{Said}
 use Rattle.script_reader.specs.declared.taken.Taken.{Taken}
-use Rattle.script_reader.specs.Progressed.{with_taken}
+use Rattle.script_reader.specs.inner.Progressed.{with_taken}
 use Rattle.script_reader.specs.Scripts.{IsOnlySaid, judged, refused}
 
 -- the line is taken

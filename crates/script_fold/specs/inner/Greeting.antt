@@ -1,5 +1,5 @@
 -- A small service for the tests: an event that greets, and where it was requested is created once more.
-use Rattle.std.specs.Prelude.{◌≤◌, ◌==◌, ℕ, pos, if◌then◌else◌, List, [], ◌∷◌, Some, None}
+use Rattle.std.specs.Prelude.{◌≡◌, ◌≤◌, ◌==◌, ℕ, pos, true, if◌then◌else◌, List, [], ◌∷◌, Some, None}
 use Rattle.wave_base.specs.declared.call.Call.{Call}
 use Rattle.wave_base.specs.declared.limits.TheConstants.{GENERATION}
 use Rattle.wave_base.specs.declared.outcome.Outcome.TheVariants as out
@@ -11,7 +11,7 @@ use Rattle.wave_base.specs.declared.shape.ClassInfo.{ClassInfo}
 use Rattle.wave_base.specs.declared.shape.EventInfo.{EventInfo}
 use Rattle.wave_base.specs.declared.shape.Shape.{Shape}
 use Rattle.wave_base.specs.declared.value.Value.{Value}
-use Rattle.wave_base.specs.Tree.{Tree}
+use Rattle.wave_base.specs.Tree.{Tree, there}
 use Rattle.script_fold.specs.Lines.{Meaning}
 
 abbrev pub root_class : ClassInfo
@@ -36,8 +36,8 @@ again event generation = if generation == 0 then call_at event 1 ∷ [] else []
 abbrev pub greets : Meaning
 greets t c = record { tree = t; result = record { outcome = out.Done; messages = []; created = again c.event c.generation }; entered = [] ∷ [] }
 
-abbrev pub AnyTree : Tree (List Value) → Type 0
-AnyTree t = Unit {0}
+abbrev pub HasRoot : Tree (List Value) → Type 0
+HasRoot t = there t [] ≡ true
 
 abbrev pub Greeted : Call → Type 0
 Greeted c = c.generation ≤ GENERATION

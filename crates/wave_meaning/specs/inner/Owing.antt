@@ -29,6 +29,7 @@ module _ (shape : Shape) (service : Resolved) (fit : IsFit shape service) where
     few = λ tree call holds early. (kept tree call holds early).few;
     later = λ tree call holds early. (kept tree call holds early).later;
     last = λ call early. early;
-    joined = λ tree call p holds early there. (kept tree call holds early).joined p there;
+    joined = λ tree call p holds early. (kept tree call holds early).joined p;
+    ordered = λ tree call holds early. (kept tree call holds early).ordered;
     unmoved = λ tree call holds early. (kept tree call holds early).unmoved;
   }

@@ -9,7 +9,6 @@ use Rattle.wave_base.specs.declared.outcome.Outcome.{Outcome}
 use Rattle.wave_base.specs.declared.path.Path.{Path}
 use Rattle.wave_base.specs.Paths.{path_eq, path_cmp, parent_of}
 use Rattle.wave_base.specs.Places.{load_of, with_contexts, move_in}
-use Rattle.wave_base.specs.Starts.{shown_host}
 use Rattle.wave_base.specs.Tree.{Tree, there}
 use Rattle.script_fold.specs.declared.visits.Visit.{Visit}
 
@@ -37,10 +36,6 @@ visit_of es job p None = record { host = (visit_at es (parent_of p)).host; load 
 -- a context as a job enters it: a new one is where its parent is
 abbrev pub visit_by : Entries → ℕ → Path → Visit
 visit_by es job p = visit_of es job p (found es p)
-
--- the tree of hosts that a run begins with
-abbrev pub hosts_of : List Place → Tree ℕ
-hosts_of places = record { paths = map (λ x. x.path) places; fields = shown_host places }
 
 abbrev pub place_in : Path × Visit → Place
 place_in e = record { path = e.0; host = e.1.host }

@@ -15,7 +15,7 @@ use Rattle.head_tickets.specs.Heads.{Heading, head_of}
 use Rattle.script_fold.specs.declared.folding.Folding.{Folding}
 use Rattle.script_fold.specs.Lines.{Meaning, name_of, most_jobs}
 use Rattle.script_fold.specs.Runs.{after_jobs, hosts_after}
-use Rattle.script_fold.specs.Visiting.{IsVisited}
+use Rattle.script_fold.specs.inner.Visiting.{IsVisited}
 
 -- these jobs were admitted and are done; the head is the fold's, but that the next batch begins when it is told to
 pub record IsWaiting (first : ℕ) (done : List Line) (w : Head Line) (h : Heading) : Type 0 where
