@@ -3,8 +3,10 @@ pub mod Boxes
 pub mod Copies
 pub mod Faults
 pub mod Fit
+pub mod Looks
 pub mod Nexts
 pub mod Points
+pub mod Reads
 pub mod Rules
 pub mod Segments
 pub mod Standing
