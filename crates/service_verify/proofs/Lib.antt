@@ -8,11 +8,13 @@ pub mod Ticking
 pub mod Touring
 pub mod Ways
 pub mod Acting
+pub mod Agreeing
 pub mod Classes
 pub mod Copying
 pub mod Ending
 pub mod Frames
 pub mod Judged
+pub mod Leveled
 pub mod Judging
 pub mod Lasting
 pub mod Lists
@@ -20,4 +22,5 @@ pub mod Locals
 pub mod Operands
 pub mod Pausing
 pub mod Rows
+pub mod Reading
 pub mod Samples
