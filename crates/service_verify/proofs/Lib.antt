@@ -19,8 +19,10 @@ pub mod Judging
 pub mod Lasting
 pub mod Lists
 pub mod Locals
+pub mod Meeting
 pub mod Operands
 pub mod Pausing
+pub mod Peeking
 pub mod Rows
 pub mod Reading
 pub mod Samples
