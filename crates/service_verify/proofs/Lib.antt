@@ -3,6 +3,7 @@ pub mod SameKinds
 pub mod Segmenting
 pub mod Stepping
 pub mod Tables
+pub mod Surveying
 pub mod Taking
 pub mod Ticking
 pub mod Touring

@@ -1,7 +1,8 @@
 -- Looking up and changing values of known kinds.
-use Rattle.std.proofs.Common.{◌≡◌, ℕ, zero, suc, ◌<◌, ◌≤◌, List, [], ◌∷◌, ◌++◌, length, Some, refl, ap, sym, ◌∙◌, drop, take, arith}
+use Rattle.std.proofs.Common.{◌≡◌, ℕ, zero, suc, ◌<◌, ◌≤◌, List, [], ◌∷◌, ◌++◌, length, Some, refl, ap, sym, ◌∙◌, drop, take, get_or, arith}
 use Rattle.std.specs.Prelude.{map, slice_get, slice_set}
 use Rattle.std.specs.Option.{option_map}
+use Rattle.std.proofs.lemmas.Option.{slice_get-get_or}
 
 module _ {A B : Type 0} (g : A → B) where
   -- what a list of images has at a place comes from what the list has there
@@ -63,3 +64,7 @@ pub map_get : {A B : Type 0} (g : A → B) (xs : List A) (n : ℕ) → slice_get
 map_get g [] n = refl
 map_get g (x ∷ xs) zero = refl
 map_get g (x ∷ xs) (suc n) = map_get g xs n
+
+-- an item of a list
+pub item_there : {A : Type 0} (xs ys : List A) (n : ℕ) (x : A) → x ≡ get_or xs n x → n < length xs → xs ≡ ys → slice_get ys n ≡ Some x
+item_there xs ys n x is lt same = ap (λ zs. slice_get zs n) (sym same) ∙ slice_get-get_or xs n x lt ∙ ap (λ y. Some y) (sym is)

@@ -3,6 +3,7 @@ pub mod Boxes
 pub mod Copies
 pub mod Faults
 pub mod Fit
+pub mod inner
 pub mod Lawful
 pub mod Looks
 pub mod Nexts

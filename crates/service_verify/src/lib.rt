@@ -6,8 +6,11 @@ mod error;
 mod judge;
 mod kinds;
 mod laws;
+mod looks;
+mod marks;
 mod point;
 mod stack;
+mod survey;
 mod verified;
 
 pub use error::{Rule, VerifyError};
