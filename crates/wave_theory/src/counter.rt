@@ -1,10 +1,12 @@
 ghost use Rattle.std.specs.Prelude.{ℕ};
-ghost use Rattle.wave_theory.specs.Counter.{counter, Fits, IsJob, Fine, owes};
+ghost use Rattle.wave_states.proofs.Counting.{counter_owes};
+ghost use Rattle.wave_states.specs.Counter.{counter_kind};
 
 use crate::acting::Acting;
 use crate::laws::{
-    bounded, bounds, by_owners, came, complete, counted, hands_stay, independent, listed,
-    never_stuck, numbers, one_host, one_owner, records, results, sorted, tickets, traced, trails,
+    bounded, bounds, by_owners, came, complete, counted, driven, empty_at_end, hands_stay,
+    independent, listed, listed_for, never_stuck, numbers, one_host, one_owner, records, results,
+    rules_pick, sorted, tickets, traced, trails,
 };
 use crate::movers::{Movers, Walkers};
 
@@ -18,21 +20,13 @@ impl Acting for Counter {
 
     ghost Fields = { ℕ };
 
-    ghost Outcome = { ℕ };
+    ghost Outcome = { ℕ × ℕ };
 
     ghost Job = { ℕ };
 
-    ghost system = { λ c. counter };
+    ghost kind = { λ c. counter_kind };
 
-    ghost hosts = { λ c. 1 };
-
-    ghost fits = { λ c. Fits };
-
-    ghost is_job = { λ c. IsJob };
-
-    ghost fine = { λ c. Fine };
-
-    ghost owed = { λ c. owes };
+    ghost owed = { λ c. counter_owes };
 }
 
 /// The laws, at the counter.
@@ -55,6 +49,10 @@ pub fn at_the_counter() {
     bounded::<Counter>();
     listed::<Counter>();
     sorted::<Counter>();
+    listed_for::<Counter>();
+    empty_at_end::<Counter>();
+    rules_pick::<Counter>();
+    driven::<Counter>();
     one_host::<Counter>();
 }
 
