@@ -9,6 +9,7 @@ use Rattle.wave_base.specs.declared.pause.Pause.{Pause as Halt}
 use Rattle.wave_base.specs.declared.pause.Pause.TheVariants as halt
 use Rattle.wave_base.specs.Paths.{is_above, parent_of}
 use Rattle.wave_base.specs.Tree.{Tree, enter, put}
+use Rattle.downgrade_views.specs.Levels.{Level}
 use Rattle.service_code.specs.declared.program.Program.{Program}
 use Rattle.service_verify.specs.Boxes.{Box, first_box}
 use Rattle.service_verify.specs.Copies.{Trip, tripped, trip_if, next_trip, trip_after, first_trip}
@@ -38,7 +39,7 @@ abbrev pub event_of : Trip → Event
 event_of t = record { box = t.tour.box; levels = t.levels }
 
 -- what a pause makes of a trip
-abbrev pub trip_to : Trip → Box → List Fields → Fields → Halt → Trip
+abbrev pub trip_to : Trip → Box → List Level → Fields → Halt → Trip
 trip_to t b levels f why = record { tour = halted t.tour b f why; levels = levels }
 
 -- each segment counts
@@ -90,7 +91,7 @@ module _ (program : Program) (fit : IsFit program) (verified : IsVerified progra
     held = f.held w.running
 
     -- into a child, for good or for a call
-    module _ (b : Box) (levels : List Fields) (left : Fields) (has_left : HasFields program.shape p left) where
+    module _ (b : Box) (levels : List Level) (left : Fields) (has_left : HasFields program.shape p left) where
       trees : tree_with x left ≡ tour.tree_with t.tour left
       trees i = put (f.tree i) (f.at i) left
 
