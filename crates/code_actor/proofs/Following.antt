@@ -14,6 +14,7 @@ use Rattle.service_code.specs.declared.program.Program.{Program}
 use Rattle.service_verify.specs.Boxes.{Box, first_box}
 use Rattle.service_verify.specs.Copies.{Trip, tripped, trip_if, next_trip, trip_after, first_trip}
 use Rattle.service_verify.specs.Fit.{IsFit}
+use Rattle.service_verify.specs.Looks.{is_peeking}
 use Rattle.service_verify.specs.Points.{IsVerified}
 use Rattle.service_verify.specs.Segments.{Event, event_segment}
 use Rattle.service_verify.specs.Standing.{HasFields, HasTree, Leaves, Stands}
@@ -135,7 +136,7 @@ module _ (program : Program) (fit : IsFit program) (verified : IsVerified progra
       same_held s g e = e ∙ ap (λ r. g (r ++ s ∷ [])) (sym f.at)
 
       by : (why : Halt) → Leaves program p n (record { box = b; levels = levels }) why → Holding.Pauses t.tour.box.path t.tour.box.held b why → Walked (goes_on actors x (record { box = b; levels = levels }) left (pause_of why)) (trip_to t b levels left why)
-      by (halt.Go s) l h = both s 0 l.1 false (filter (is_above (x.at ++ s ∷ [])) x.held)
+      by (halt.Go s) l h = both s 0 l.1 (is_peeking program b) (filter (is_above (x.at ++ s ∷ [])) x.held)
           (λ e r. go_held x.held t.tour.box.held held (x.at ++ s ∷ []) r e ∙ sym (holds r))
           (λ r. go_new x.held t.tour.box.held held (x.at ++ s ∷ []) r ∙ sym (holds r))
         where

@@ -1,14 +1,16 @@
 -- A segment of an event that stands, as the machine has it.
-use Rattle.std.proofs.Common.{◌≡◌, ℕ, zero, suc, List, [], ◌∷◌, Option, Some, None, refl, sym, subst}
+use Rattle.std.proofs.Common.{◌≡◌, ℕ, zero, suc, List, [], ◌∷◌, Option, Some, None, refl, ap, sym, subst, true}
 use Rattle.std.specs.Prelude.{All, map, slice_get}
 use Rattle.std.proofs.lemmas.List.Elements.{All-head, All-tail}
 use Rattle.std.proofs.lemmas.Option.{get_or_from_slice_get, slice_get_within}
 use Rattle.wave_base.specs.declared.path.Path.{Path}
+use Rattle.wave_base.specs.declared.path.Step.{Step}
 use Rattle.wave_base.specs.declared.pause.Pause.{Pause as Halt}
 use Rattle.wave_base.specs.declared.pause.Pause.TheVariants as halt
 use Rattle.wave_base.specs.declared.shape.ClassInfo.{ClassInfo}
 use Rattle.wave_base.specs.declared.shape.FieldInfo.{FieldInfo}
 use Rattle.wave_base.specs.declared.shape.Shape.{Shape}
+use Rattle.wave_base.specs.declared.outcome.EventResult.{EventResult}
 use Rattle.wave_base.specs.Shapes.{IsShape, HasInitials, class_of, fields_in, fields_of_class, initial_fields, kinds_of_class}
 use Rattle.wave_base.specs.Values.{kind_of}
 use Rattle.service_code.specs.declared.program.Program.{Program}
@@ -21,7 +23,8 @@ use Rattle.service_verify.specs.Segments.{Event, Left as Halted, segment, event_
 use Rattle.service_verify.specs.Standing.{HasFields, Leaves, Pauses, Stands}
 use Rattle.service_verify.proofs.Peeking.{only_looks_there}
 use Rattle.service_verify.proofs.Segmenting.{pauses}
-use Rattle.wave_states.specs.Owes.{Keeps, MovesOnly}
+use Rattle.wave_states.specs.Actors.{Left}
+use Rattle.wave_states.specs.Owes.{Keeps, Looks, MovesOnly}
 use Rattle.code_actor.specs.CodeActors.{code_kind, Fields, pause_of, left_of}
 use Rattle.code_actor.proofs.Holding
 use Rattle.code_actor.proofs.Holding.{segment_keeps, left_keeps_by}
