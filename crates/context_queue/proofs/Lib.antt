@@ -1,1 +1,3 @@
-
+pub mod MapLemmas
+mod QueueMaps
+mod Holding

@@ -30,7 +30,7 @@ pub struct Entry {
 }
 
 impl Entry {
-    ghost use Rattle.context_queue.specs.Entries.{StandsFor, SameButRooms, claim_of, next_in, with_next};
+    ghost use Rattle.context_queue.specs.Entries.{StandsFor, SameButRooms, claim_of, is_holder, next_in, with_next};
 
     /// The entry of a new context with this record.
     pub fn new(alloc: Global, body: Record) -> Entry
@@ -125,10 +125,20 @@ impl Entry {
         ensures waiting_room { self.new.waiting.room ≡ self.old.waiting.room }
         ensures peeks_room { self.old.peeks.room ≤ self.new.peeks.room }
     {
-        if self.holder == Some(ticket) {
+        if self.is_held_by(ticket) {
             self.holder = None;
         }
         self.peeks.leave(ticket);
+    }
+
+    // Whether a ticket holds the context alone.
+    fn is_held_by(&self, ticket: Ticket) -> bool
+        ensures { result ≡ is_holder self.now.holder ticket.0 }
+    {
+        match self.holder {
+            Some(holder) => holder.0 == ticket.0,
+            None => false,
+        }
     }
 
     /// Nobody holds the context any more.

@@ -45,7 +45,7 @@ impl Peeks {
     pub fn is_empty(&self) -> bool
         ensures { result ≡ is_nobody self.now.tickets }
     {
-        self.tickets.is_empty()
+        self.tickets.len() == 0
     }
 
     /// Makes room for so many more.

@@ -67,6 +67,9 @@ impl Waiting {
         ensures claim { result ≡ map.get self.now.claims (number + 1) }
         ensures counted { IfSome result (λ _. number + 1 < 2 ^ 64) }
     {
+        if self.claims.is_empty() {
+            return None;
+        }
         match number.checked_add(1) {
             Some(next) => self.get(next),
             None => None,
