@@ -1,3 +1,3 @@
 pub mod MapLemmas
 mod QueueMaps
-mod Holding
+pub mod Holding

@@ -1,5 +1,5 @@
 -- The store of a host, and what it stands for in the machine's theory.
-use Rattle.std.specs.Prelude.{◌≡◌, ℕ, List, Option, Some, None, option_map, if◌then◌else◌, refl}
+use Rattle.std.specs.Prelude.{◌≡◌, ℕ, Bool, List, Option, Some, None, option_map, if◌then◌else◌, refl}
 use Rattle.std.specs.Coded.{Coded, code_by, coded×, coded_ℕ}
 use Rattle.std.specs.FinMap as map
 use Rattle.wave_base.specs.declared.path.Path.{Path}
@@ -29,13 +29,17 @@ stores_code =
     (coded× (map.code path.the_row.coded entry.the_row.coded) (coded× (map.code path.the_row.coded mark.the_row.coded) (coded× coded_ℕ coded_ℕ)))
     (λ s. (s.store, (s.gone, (s.path_room, s.mark_room)))) (λ p. record { store = p.0; gone = p.1.0; path_room = p.1.1.0; mark_room = p.1.1.1 }) (λ _. refl)
 
+-- the store has the path
+abbrev pub has : Path → Stores → Bool
+has p s = map.contains_key s.store p
+
 -- here where the store has it, else gone where there is a mark
 abbrev pub found_by : Option Mark → Found
 found_by None = Unknown
 found_by (Some m) = Gone m
 
 abbrev pub find_in : Stores → Path → Found
-find_in s p = if map.contains_key s.store p then Here else found_by (map.get s.gone p)
+find_in s p = if has p s then Here else found_by (map.get s.gone p)
 
 -- the mark that the theory has
 abbrev pub mark_of : Mark → theory.Mark

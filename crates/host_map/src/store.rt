@@ -1,6 +1,6 @@
-ghost use Rattle.std.specs.Prelude.{◌≡◌, ◌≤◌, ◌+◌, OnOk, option_copied, option_map, position, length};
+ghost use Rattle.std.specs.Prelude.{◌≡◌, ◌≤◌, ◌+◌, OnOk, option_copied, option_map, position, length, IfSome, ◌<◌};
 ghost use Rattle.std.specs.FinMap as map;
-ghost use Rattle.host_map.specs.Stores.{find_in};
+ghost use Rattle.host_map.specs.Stores.{find_in, has};
 
 use context_queue::Entry;
 use indexmap::IndexMap;
@@ -64,15 +64,25 @@ impl HostStore {
         if self.has(path) {
             return Found::Here;
         }
-        match self.gone.get(path) {
-            Some(mark) => Found::Gone(*mark),
+        match self.departure(path) {
+            Some(mark) => Found::Gone(mark),
             None => Found::Unknown,
+        }
+    }
+
+    // The mark of a context.
+    fn departure(&self, path: &Path) -> Option<Mark>
+        ensures { result ≡ map.get self.now.gone path.now }
+    {
+        match self.gone.get(path) {
+            Some(mark) => Some(*mark),
+            None => None,
         }
     }
 
     /// Whether the entry of a context is here.
     pub fn has(&self, path: &Path) -> bool
-        ensures { result ≡ map.contains_key self.now.store path.now }
+        ensures { result ≡ has path.now self.now }
     {
         self.store.contains_key(path)
     }
@@ -145,12 +155,17 @@ impl HostStore {
 /// The first host whose store has the entry of a context.
 pub fn place_of(hosts: &[HostStore], path: &Path) -> Option<Host>
     requires { length hosts.now ≤ 8 }
-    ensures { option_map (λ h. h.0) result ≡ position (λ s. map.contains_key s.store path.now) hosts.now }
+    ensures { option_map (λ h. h.0) result ≡ position (has path.now) hosts.now }
 {
-    for (i, host) in hosts.iter().enumerate() {
-        if host.has(path) {
-            return Some(Host(i as u8));
-        }
+    match first_with(hosts, path) {
+        Some(i) => Some(Host(i as u8)),
+        None => None,
     }
-    None
+}
+
+fn first_with(hosts: &[HostStore], path: &Path) -> Option<usize>
+    ensures place { result ≡ position (has path.now) hosts.now }
+    ensures within { IfSome result (λ i. i < length hosts.now) }
+{
+    hosts.iter().position(|host| host.has(path))
 }
