@@ -33,6 +33,10 @@ stores_code =
 abbrev pub has : Path → Stores → Bool
 has p s = map.contains_key s.store p
 
+-- the store has another entry at a path
+abbrev pub with_entry : Stores → Path → Entry → Stores
+with_entry s p e = record { store = map.insert s.store p e; gone = s.gone; path_room = s.path_room; mark_room = s.mark_room }
+
 -- here where the store has it, else gone where there is a mark
 abbrev pub found_by : Option Mark → Found
 found_by None = Unknown

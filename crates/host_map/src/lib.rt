@@ -2,6 +2,7 @@
 #![tactic(auto)]
 
 mod laws;
+mod lends;
 mod store;
 
 pub use laws::stores_stand;

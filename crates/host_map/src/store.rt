@@ -29,7 +29,7 @@ pub enum Found {
 /// The entries of a host, and its departure marks.
 #[derive(Drop)]
 pub struct HostStore {
-    store: IndexMap<Path, Entry>,
+    pub(crate) store: IndexMap<Path, Entry>,
     gone: IndexMap<Path, Mark>,
 }
 

@@ -1,0 +1,45 @@
+ghost use Rattle.std.specs.Prelude.{ℕ, ◌≡◌, List, IsSome, IfSome};
+ghost use Rattle.host_map.specs.Stores.{IsAt};
+ghost use Rattle.migration_core.specs.Letters.{asked, route_of};
+ghost use Rattle.wave_base.specs.declared.value.Value.{Value};
+ghost use Rattle.wave_states.specs.States as theory;
+ghost use Rattle.wave_states.specs.Steps.{route};
+
+use crate::mail::{Letter, Mail};
+use host_map::{Found, HostStore};
+use wave_base::Host;
+
+/// Where an Enter goes.
+#[derive(Clone, Copy, Debug, PartialEq, Eq)]
+pub enum Route {
+    /// Into the line of the context, whose entry is here.
+    Deliver,
+    /// The context is born here.
+    Born,
+    /// On to the host to which the context went from here.
+    Forward(Host),
+    /// It stays until the context lands here.
+    Wait,
+}
+
+/// Where an Enter goes that lies at the host with this store.
+pub fn route(store: &HostStore, mail: &Mail) -> Route
+    requires { IsSome (asked mail.now.letter) }
+    ensures { (c : theory.Column (List Value)) (host : ℕ) → IsAt store.now mail.now.path c host → IfSome (asked mail.now.letter) (λ a. route_of result ≡ route c host a.followed) }
+{
+    match mail.letter {
+        Letter::Enter { followed, .. } => route_after(store.find(&mail.path), followed),
+        _ => unreachable!(),
+    }
+}
+
+// By what is here, and the mark that was followed.
+fn route_after(found: Found, followed: u64) -> Route {
+    match found {
+        Found::Here => Route::Deliver,
+        Found::Gone(mark) if followed < mark.number => Route::Forward(mark.to),
+        Found::Gone(_) => Route::Wait,
+        Found::Unknown if followed == 0 => Route::Born,
+        Found::Unknown => Route::Wait,
+    }
+}
