@@ -5,8 +5,8 @@ use Rattle.context_queue.specs.Entries.{StandsFor}
 use Rattle.migration_core.specs.declared.mail.Letter.{Letter}
 use Rattle.migration_core.specs.declared.mail.Letter.TheVariants.{Enter, Visit, Back, Release, Transfer}
 use Rattle.migration_core.specs.declared.mail.Mail.{Mail}
-use Rattle.migration_core.specs.declared.route.Route.{Route}
-use Rattle.migration_core.specs.declared.route.Route.TheVariants.{Deliver, Born, Forward, Wait}
+use Rattle.migration_core.specs.declared.mail.Route.{Route}
+use Rattle.migration_core.specs.declared.mail.Route.TheVariants.{Deliver, Born, Forward, Wait}
 use Rattle.wave_states.specs.States as theory
 use Rattle.wave_states.specs.Steps as steps
 
@@ -28,8 +28,8 @@ Says (Transfer e) (theory.Transfer en) = StandsFor e en
 Says (Transfer e) l = ⊥
 
 -- a mail to a host stands for one of the theory
-pub record IsMail (m : Mail) (host : ℕ) (mail : theory.Mail (List Value)) : Type 0 where
-  pub host : mail.host ≡ host
+pub record IsMail (m : Mail) (to : ℕ) (mail : theory.Mail (List Value)) : Type 0 where
+  pub host : mail.host ≡ to
   pub path : mail.path ≡ m.path
   pub letter : Says m.letter mail.letter
 

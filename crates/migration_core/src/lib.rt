@@ -5,12 +5,12 @@
 mod mail;
 mod mover;
 mod moves;
-mod route;
+mod ways;
 
-pub use mail::{Letter, Mail};
+pub use mail::{Letter, Mail, Route};
 pub use mover::{Mover, advance};
 pub use moves::{depart, land};
-pub use route::{Route, route};
+pub use ways::route;
 
 #[cfg(test)]
 mod tests;

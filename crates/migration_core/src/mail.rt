@@ -1,5 +1,5 @@
 use context_queue::Entry;
-use wave_base::Path;
+use wave_base::{Host, Path};
 use wave_labels::MailId;
 
 /// What a mail is for.
@@ -30,4 +30,17 @@ pub struct Mail {
     pub id: MailId,
     pub path: Path,
     pub letter: Letter,
+}
+
+/// Where an Enter goes.
+#[derive(Clone, Copy, Debug, PartialEq, Eq)]
+pub enum Route {
+    /// Into the line of the context, whose entry is here.
+    Deliver,
+    /// The context is born here.
+    Born,
+    /// On to the host to which the context went from here.
+    Forward(Host),
+    /// It stays until the context lands here.
+    Wait,
 }

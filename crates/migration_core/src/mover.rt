@@ -64,7 +64,7 @@ impl Mover {
     fn go_on(&mut self)
         requires { 0 < length self.old.mover.rest }
         ensures ticket { self.new.ticket ≡ self.old.ticket }
-        ensures move { self.new.mover.move ≡ self.old.mover.move }
+        ensures way { self.new.mover.move ≡ self.old.mover.move }
         ensures rest { self.new.mover.rest ≡ without_first self.old.mover.rest }
     {
         self.gone += 1;

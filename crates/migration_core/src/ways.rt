@@ -1,26 +1,13 @@
 ghost use Rattle.std.specs.Prelude.{ℕ, ◌≡◌, List, IsSome, IfSome};
 ghost use Rattle.host_map.specs.Stores.{IsAt};
 ghost use Rattle.migration_core.specs.Letters.{asked, route_of};
+ghost use Rattle.migration_core.specs.inner.Finds.{FoundAt};
 ghost use Rattle.wave_base.specs.declared.value.Value.{Value};
 ghost use Rattle.wave_states.specs.States as theory;
 ghost use Rattle.wave_states.specs.Steps.{route};
 
-use crate::mail::{Letter, Mail};
+use crate::mail::{Letter, Mail, Route};
 use host_map::{Found, HostStore};
-use wave_base::Host;
-
-/// Where an Enter goes.
-#[derive(Clone, Copy, Debug, PartialEq, Eq)]
-pub enum Route {
-    /// Into the line of the context, whose entry is here.
-    Deliver,
-    /// The context is born here.
-    Born,
-    /// On to the host to which the context went from here.
-    Forward(Host),
-    /// It stays until the context lands here.
-    Wait,
-}
 
 /// Where an Enter goes that lies at the host with this store.
 pub fn route(store: &HostStore, mail: &Mail) -> Route
@@ -34,7 +21,9 @@ pub fn route(store: &HostStore, mail: &Mail) -> Route
 }
 
 // By what is here, and the mark that was followed.
-fn route_after(found: Found, followed: u64) -> Route {
+fn route_after(found: Found, followed: u64) -> Route
+    ensures { (c : theory.Column (List Value)) (host : ℕ) → FoundAt found c host → route_of result ≡ route c host followed }
+{
     match found {
         Found::Here => Route::Deliver,
         Found::Gone(mark) if followed < mark.number => Route::Forward(mark.to),
