@@ -17,7 +17,9 @@ use Rattle.service_verify.specs.Steps.{acted, one_step}
 use Rattle.service_verify.proofs.Samples.{market}
 use Rattle.wave_states.specs.Alone.{Alone, after_segments, first_alone}
 use Rattle.wave_states.specs.Begins.{first_begin, start_state}
+use Rattle.wave_states.specs.Canonical.{enabled}
 use Rattle.wave_states.specs.Runs.{run, drive, seed}
+use Rattle.wave_states.specs.Steps as machine
 use Rattle.wave_states.specs.States.{State}
 use Rattle.code_actor.specs.CodeActors.{Fields, code_actors}
 
@@ -82,5 +84,5 @@ abbrev results : Option (State Event Fields EventResult Call) → Option (ℕ ×
 results o = option_map (λ s. (s.head.done, (s.cells 1).result, (s.cells 2).result)) o
 
 both_done : results driven ≡ Some (2, Some sold, Some (record { outcome = Replied (int 15); messages = []; created = [] }))
-unfolding segment steps enough weight one_step acted first_box takes_of gives_of apply_row operators
+unfolding machine.step run enabled drive segment steps enough weight one_step acted first_box takes_of gives_of apply_row operators
 both_done = refl

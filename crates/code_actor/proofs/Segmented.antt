@@ -18,7 +18,7 @@ use Rattle.service_verify.specs.Segments.{Event, Left as Halted, segment, event_
 use Rattle.service_verify.specs.Standing.{HasFields, Leaves, Pauses, Stands}
 use Rattle.service_verify.proofs.Segmenting.{pauses}
 use Rattle.wave_states.specs.Owes.{Keeps, MovesOnly}
-use Rattle.code_actor.specs.CodeActors.{Fields, pause_of, left_of, code_actors, IsJob, IsFine}
+use Rattle.code_actor.specs.CodeActors.{code_kind, Fields, pause_of, left_of}
 use Rattle.code_actor.proofs.Holding
 use Rattle.code_actor.proofs.Holding.{segment_keeps, left_keeps_by}
 
@@ -58,7 +58,7 @@ module _ (program : Program) (fit : IsFit program) (verified : IsVerified progra
 
   module _ (hosts : ℕ) where
     abbrev Protocol : Event → Path → ℕ → Halt → Type 0
-    Protocol e p n why = Keeps (code_actors program) hosts (HasFields program.shape) (IsJob program) (IsFine program) e p n (pause_of why)
+    Protocol e p n why = Keeps (code_kind program hosts) e p n (pause_of why)
 
     protocol : (e e' : Event) (p : Path) (n : ℕ) (why : Halt) → Leaves program p n e' why → Holding.Pauses e.box.path e.box.held e'.box why → Protocol e' p n why
     protocol e e' p n (halt.Go s) l h = l
@@ -67,7 +67,7 @@ module _ (program : Program) (fit : IsFit program) (verified : IsVerified progra
     protocol e e' p (suc n) halt.Back l h = l
     protocol e e' p n (halt.Over r) l h = (l, subst (MovesOnly hosts p) (sym h.2) tt)
 
-    pub segment_protocol : (p : Path) (n : ℕ) (e : Event) (fields : Fields) → Stands program p n e → HasFields program.shape p fields → Keeps (code_actors program) hosts (HasFields program.shape) (IsJob program) (IsFine program) (left_of e fields (event_segment program e fields)).actor p n (left_of e fields (event_segment program e fields)).pause
+    pub segment_protocol : (p : Path) (n : ℕ) (e : Event) (fields : Fields) → Stands program p n e → HasFields program.shape p fields → Keeps (code_kind program hosts) (left_of e fields (event_segment program e fields)).actor p n (left_of e fields (event_segment program e fields)).pause
     segment_protocol p n e fields stands has =
         let r = segment_runs p n e fields stands has in
-        subst (λ o. Keeps (code_actors program) hosts (HasFields program.shape) (IsJob program) (IsFine program) (left_of e fields o).actor p n (left_of e fields o).pause) (sym r.is_left) (protocol e r.left.event p n r.left.pause r.leaves r.holds)
+        subst (λ o. Keeps (code_kind program hosts) (left_of e fields o).actor p n (left_of e fields o).pause) (sym r.is_left) (protocol e r.left.event p n r.left.pause r.leaves r.holds)

@@ -14,9 +14,10 @@ use Rattle.wave_base.specs.Shapes.{initial_fields}
 use Rattle.service_code.specs.declared.program.Program.{Program}
 use Rattle.service_verify.specs.Boxes.{first_box}
 use Rattle.service_verify.specs.Segments.{Event, Left as Halted, event_segment}
-use Rattle.service_verify.specs.Standing.{Stands}
+use Rattle.service_verify.specs.Standing.{Stands, HasFields}
 use Rattle.service_verify.specs.Tours.{most_segments}
 use Rattle.wave_states.specs.Actors.{Actors, Left, Pause, Go, Down, Back, Over}
+use Rattle.wave_states.specs.Kinds.{Kind}
 
 -- the fields of a context
 abbrev pub Fields : Type 0
@@ -66,3 +67,7 @@ IsJob program call = IsCall program.shape call × (call.generation ≤ GENERATIO
 -- the event stands at a path, with so many calls open
 abbrev pub IsFine : Program → Event → Path → ℕ → Type 0
 IsFine program e p calls = Stands program p calls e
+
+-- as a kind of actors, however many hosts there are
+abbrev pub code_kind : Program → ℕ → Kind Event Fields EventResult Call
+code_kind program hosts = record { system = code_actors program; hosts = hosts; fits = HasFields program.shape; is_job = IsJob program; may_run = IsFine program }

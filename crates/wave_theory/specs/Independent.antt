@@ -1,22 +1,12 @@
--- The laws.
+-- Two labels that can be taken in either order.
 use Rattle.std.specs.Prelude.{◌≡◌, ◌≢◌, ◌⊎◌, ℕ, true, false, Some}
 use Rattle.wave_base.specs.declared.path.Path.{Path}
 use Rattle.wave_states.specs.Actors.{Actors}
-use Rattle.wave_states.specs.States.{State, holds_as_peek, Event}
+use Rattle.wave_states.specs.States.{State, Event, holds_as_peek}
 use Rattle.wave_states.specs.Labels.{Act, Label, Start, Stop, Free, ticket_of, path_of, is_local, is_start}
 use Rattle.wave_states.specs.Steps.{step}
 
-module _ {A F R J : Type 0} (sys : Actors A F R J) where
-  -- A label leaves the hands of all other workers.
-  abbrev pub HandsStay : Type 0
-  HandsStay = (workers : ℕ) (s v : State A F R J) (l : Label) (w : ℕ) → step sys workers s l ≡ Some v → w ≢ l.worker → v.hands w ≡ s.hands w
-
-  -- both orders are runs, and give one state
-  pub record Both (workers : ℕ) (s s₁ s₂ : State A F R J) (l l' : Label) : Type 0 where
-    pub state : State A F R J
-    pub there : step sys workers s₁ l' ≡ Some state
-    pub here : step sys workers s₂ l ≡ Some state
-
+module _ {A F R J : Type 0} where
   -- its event holds the path as a peek
   pub record Peeks (s : State A F R J) (t : ℕ) (p : Path) : Type 0 where
     pub event : Event A
@@ -30,6 +20,13 @@ module _ {A F R J : Type 0} (sys : Actors A F R J) where
   IsLight s (Stop t p) = Peeks s t p
   IsLight s (Free t k p) = Unit {0}
   IsLight s _ = ⊥
+
+module _ {A F R J : Type 0} (sys : Actors A F R J) where
+  -- both orders are runs, and give one state
+  pub record Both (workers : ℕ) (s s₁ s₂ : State A F R J) (l l' : Label) : Type 0 where
+    pub state : State A F R J
+    pub there : step sys workers s₁ l' ≡ Some state
+    pub here : step sys workers s₂ l ≡ Some state
 
   -- Two enabled labels, neither Admit nor Commit, of different tickets; by different workers, or neither a Start; on different
   -- contexts, or such as tickets among the peeks of one entry can do there.
