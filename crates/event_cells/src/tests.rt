@@ -1,0 +1,1 @@
+//! Cells, mail by mail.
