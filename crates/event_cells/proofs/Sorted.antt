@@ -21,11 +21,21 @@ when x y b h = ap (λ c. cond c x y) h
 unless : {X : Type 0} (x y : X) (b : Bool) → b ≡ false → cond b x y ≡ y
 unless x y b h = ap (λ c. cond c x y) h
 
-module _ {K X : Type 0} where
-  all_map : (P Q : K → Type 0) → ((y : K) → P y → Q y) → (ks : List K) → AllByRecursion P ks → AllByRecursion Q ks
-  all_map P Q f [] a = tt
-  all_map P Q f (k ∷ ks) a = (f k a.0, all_map P Q f ks a.1)
+all_map : {K : Type 0} (P Q : K → Type 0) → ((y : K) → P y → Q y) → (ks : List K) → AllByRecursion P ks → AllByRecursion Q ks
+all_map P Q f [] a = tt
+all_map P Q f (k ∷ ks) a = (f k a.0, all_map P Q f ks a.1)
 
+index_le : (r : Ordering) → ordering_index r ≤ 2
+index_le Less = omega arith
+index_le Equal = omega arith
+index_le Greater = omega arith
+
+-- no keys are in order
+pub sorted_none : {K : Type 0} (cmp : K → K → Ordering) → IsStrictlySortedBy cmp []
+unfolding IsStrictlySortedBy
+sorted_none cmp = tt
+
+module _ {K X : Type 0} where
   all_at : (P : K → Type 0) (es : List (K × X)) (i : ℕ) (d : K × X) → i < length es → AllByRecursion P (keys_of es) → P (get_or es i d).0
   all_at P [] i d l a = absurd (omega arith)
   all_at P (e ∷ es) zero d l a = a.0
@@ -41,6 +51,16 @@ module _ {K X : Type 0} where
   all_pushed P [] x a p = (p, tt)
   all_pushed P (e ∷ es) x a p = (a.0, all_pushed P es x a.1 p)
 
+module _ {K : Type 0} (cmp : K → K → Ordering) (total : IsTotalOrder cmp) (exact : (x y : K) → cmp x y ≡ Equal → x ≡ y) (k : K) where
+  flipped : (x : K) (r : Ordering) → cmp x k ≡ r → cmp k x ≡ ordering_reverse r
+  flipped x r h = total.antisymm k x ∙ ap ordering_reverse h
+
+  rises : (x y : K) → cmp x y ≡ Less → ordering_index (cmp x k) ≤ ordering_index (cmp y k)
+  rises x y h = by_ordering (cmp y k)
+      (λ a. let p : ordering_index (cmp x k) ≡ 0 = ap ordering_index (total.trans x y k h a) in omega (arith, p))
+      (λ a. let p : ordering_index (cmp x k) ≡ 0 = ap ordering_index (sym (ap (cmp x) (exact y k a)) ∙ h) in omega (arith, p))
+      (λ a. let p : ordering_index (cmp y k) ≡ 2 = ap ordering_index a in omega (arith, p, index_le (cmp x k)))
+
 module _ {K : Type 0} (cmp : K → K → Ordering) (total : IsTotalOrder cmp) (exact : (x y : K) → cmp x y ≡ Equal → x ≡ y) {X : Type 0} where
   module _ (k : K) where
     -- the key is above the first i keys
@@ -55,18 +75,15 @@ module _ {K : Type 0} (cmp : K → K → Ordering) (total : IsTotalOrder cmp) (e
     AnswersAt (e ∷ es) zero r = cmp k e.0 ≡ r
     AnswersAt (e ∷ es) (suc i) r = AnswersAt es i r
 
-    flipped : (x : K) (r : Ordering) → cmp x k ≡ r → cmp k x ≡ ordering_reverse r
-    flipped x r h = total.antisymm k x ∙ ap ordering_reverse h
-
     at : (es : List (K × X)) (i : ℕ) (r : Ordering) → ((d : K × X) → i < length es → cmp (get_or es i d).0 k ≡ r) → AnswersAt es i (ordering_reverse r)
     at [] i r h = tt
-    at (e ∷ es) zero r h = flipped e.0 r (h e (omega arith))
+    at (e ∷ es) zero r h = flipped cmp total exact k e.0 r (h e (omega arith))
     at (e ∷ es) (suc i) r h = at es i r (λ d l. h d (omega arith))
 
     above : (es : List (K × X)) (i : ℕ) → i ≤ length es → ((j : ℕ) (d : K × X) → j < i → cmp (get_or es j d).0 k ≡ Less) → AboveFirst es i
     above es zero l h = tt
     above [] (suc i) l h = absurd (omega arith)
-    above (e ∷ es) (suc i) l h = (flipped e.0 Less (h 0 e (omega arith)), above es i (omega arith) (λ j d m. h (suc j) d (omega arith)))
+    above (e ∷ es) (suc i) l h = (flipped cmp total exact k e.0 Less (h 0 e (omega arith)), above es i (omega arith) (λ j d m. h (suc j) d (omega arith)))
 
     above_hit : (es : List (K × X)) (i : ℕ) → IsStrictlySortedBy cmp (keys_of es) → i < length es → ((d : K × X) → cmp (get_or es i d).0 k ≡ Equal) → AboveFirst es i
     unfolding IsStrictlySortedBy
@@ -75,24 +92,13 @@ module _ {K : Type 0} (cmp : K → K → Ordering) (total : IsTotalOrder cmp) (e
     above_hit (e ∷ es) (suc i) s l h =
         let less : cmp e.0 (get_or es i e).0 ≡ Less = all_at (λ y. cmp e.0 y ≡ Less) es i e (omega arith) s.0 in
         let same : (get_or es i e).0 ≡ k = exact (get_or es i e).0 k (h e) in
-        (flipped e.0 Less (sym (ap (cmp e.0) same) ∙ less), above_hit es i s.1 (omega arith) h)
-
-    index_le : (r : Ordering) → ordering_index r ≤ 2
-    index_le Less = omega arith
-    index_le Equal = omega arith
-    index_le Greater = omega arith
-
-    rises : (x y : K) → cmp x y ≡ Less → ordering_index (cmp x k) ≤ ordering_index (cmp y k)
-    rises x y h = by_ordering (cmp y k)
-        (λ a. let p : ordering_index (cmp x k) ≡ 0 = ap ordering_index (total.trans x y k h a) in omega (arith, p))
-        (λ a. let p : ordering_index (cmp x k) ≡ 0 = ap ordering_index (sym (ap (cmp x) (exact y k a)) ∙ h) in omega (arith, p))
-        (λ a. let p : ordering_index (cmp y k) ≡ 2 = ap ordering_index a in omega (arith, p, index_le (cmp x k)))
+        (flipped cmp total exact k e.0 Less (sym (ap (cmp e.0) same) ∙ less), above_hit es i s.1 (omega arith) h)
 
     non_decreasing : (es : List (K × X)) → IsStrictlySortedBy cmp (keys_of es) → (i j : ℕ) (d : K × X) → i ≤ j → j < length es → ordering_index (cmp (get_or es i d).0 k) ≤ ordering_index (cmp (get_or es j d).0 k)
     unfolding IsStrictlySortedBy
     non_decreasing [] s i j d l m = absurd (omega arith)
     non_decreasing (e ∷ es) s zero zero d l m = omega arith
-    non_decreasing (e ∷ es) s zero (suc j) d l m = rises e.0 (get_or es j d).0 (all_at (λ y. cmp e.0 y ≡ Less) es j d (omega arith) s.0)
+    non_decreasing (e ∷ es) s zero (suc j) d l m = rises cmp total exact k e.0 (get_or es j d).0 (all_at (λ y. cmp e.0 y ≡ Less) es j d (omega arith) s.0)
     non_decreasing (e ∷ es) s (suc i) zero d l m = absurd (omega arith)
     non_decreasing (e ∷ es) s (suc i) (suc j) d l m = non_decreasing es s.1 i j d (omega arith) (omega arith)
 
@@ -192,11 +198,6 @@ module _ {K : Type 0} (cmp : K → K → Ordering) (total : IsTotalOrder cmp) (e
   sorted_removed [] (suc i) s = tt
   sorted_removed (e ∷ es) zero s = s.1
   sorted_removed (e ∷ es) (suc i) s = (all_removed (λ y. cmp e.0 y ≡ Less) es i s.0, sorted_removed es i s.1)
-
-  -- no pairs are in order
-  pub sorted_none : IsStrictlySortedBy cmp (keys_of {X = X} [])
-  unfolding IsStrictlySortedBy
-  sorted_none = tt
 
   kept_by : (P : List (K × X) → Type 0) (b : Bool) (x y : List (K × X)) → P x → P y → P (cond b x y)
   kept_by P true x y p q = p

@@ -1,4 +1,4 @@
-ghost use Rattle.std.specs.Prelude.{◌≡◌, ◌≤◌, ◌+◌, [], length, OnOk};
+ghost use Rattle.std.specs.Prelude.{◌≡◌, ◌≤◌, ◌+◌, [], OnOk};
 ghost use Rattle.std.specs.BTreeMap.{insert_entry};
 ghost use Rattle.std.specs.List.{filter};
 ghost use Rattle.std.specs.List.Sorted.{IsStrictlySortedBy};
@@ -113,7 +113,7 @@ impl Held {
         ensures holds { self.new.holds ≡ filter (λ x. not_at path.now x.0) self.old.holds }
         ensures room { self.old.room ≤ self.new.room }
     {
-        self.holds.retain(|hold| hold.0 != *path);
+        self.holds.retain(|hold| *path != hold.0);
     }
 
     /// Nothing is held any more.

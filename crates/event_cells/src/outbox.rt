@@ -1,4 +1,4 @@
-ghost use Rattle.std.specs.Prelude.{◌≡◌, ◌≤◌, ◌+◌, ◌<◌, ◌++◌, ◌∷◌, [], ℕ, OnOk, Some, option_copied, is_some, IsSome, IsTrue};
+ghost use Rattle.std.specs.Prelude.{◌≡◌, ◌≤◌, ◌+◌, [], ℕ, OnOk, Some, None, nat_eq, if◌then◌else◌, option_copied, IsSome};
 ghost use Rattle.std.specs.BTreeMap.{insert_entry};
 ghost use Rattle.std.specs.Ordering.{nat_cmp};
 ghost use Rattle.std.specs.List.Sorted.{IsStrictlySortedBy};
@@ -115,6 +115,7 @@ impl Outbox {
         ensures mail { result ≡ mail_in self.old.mails number }
         ensures sent { self.new.sent ≡ self.old.sent }
         ensures mails { self.new.mails ≡ without_in self.old.mails number }
+        ensures others { (k : ℕ) → mail_in self.new.mails k ≡ (if nat_eq number k then None else mail_in self.old.mails k) }
         ensures room { self.old.room ≤ self.new.room }
     {
         match self.place(number) {
@@ -126,16 +127,14 @@ impl Outbox {
         }
     }
 
-    /// Puts another mail in the place of one that is under way. Without it nothing is done.
+    /// Puts another mail in the place of one that is under way.
     pub fn replace(&mut self, number: u32, envelope: Envelope)
         requires { IsSome (mail_in self.old.mails number) }
         ensures sent { self.new.sent ≡ self.old.sent }
         ensures mails { self.new.mails ≡ insert_entry nat_cmp self.old.mails number envelope }
         ensures room { self.old.room ≤ self.new.room }
     {
-        match self.place(number) {
-            Ok(i) => self.mails[i] = (number, envelope),
-            Err(_) => {}
-        }
+        let i = self.place(number).unwrap();
+        self.mails[i] = (number, envelope);
     }
 }
