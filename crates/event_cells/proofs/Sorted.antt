@@ -21,7 +21,7 @@ when x y b h = ap (λ c. cond c x y) h
 unless : {X : Type 0} (x y : X) (b : Bool) → b ≡ false → cond b x y ≡ y
 unless x y b h = ap (λ c. cond c x y) h
 
-all_map : {K : Type 0} (P Q : K → Type 0) → ((y : K) → P y → Q y) → (ks : List K) → AllByRecursion P ks → AllByRecursion Q ks
+pub all_map : {K : Type 0} (P Q : K → Type 0) → ((y : K) → P y → Q y) → (ks : List K) → AllByRecursion P ks → AllByRecursion Q ks
 all_map P Q f [] a = tt
 all_map P Q f (k ∷ ks) a = (f k a.0, all_map P Q f ks a.1)
 
@@ -36,7 +36,7 @@ unfolding IsStrictlySortedBy
 sorted_none cmp = tt
 
 module _ {K X : Type 0} where
-  all_at : (P : K → Type 0) (es : List (K × X)) (i : ℕ) (d : K × X) → i < length es → AllByRecursion P (keys_of es) → P (get_or es i d).0
+  pub all_at : (P : K → Type 0) (es : List (K × X)) (i : ℕ) (d : K × X) → i < length es → AllByRecursion P (keys_of es) → P (get_or es i d).0
   all_at P [] i d l a = absurd (omega arith)
   all_at P (e ∷ es) zero d l a = a.0
   all_at P (e ∷ es) (suc i) d l a = all_at P es i d (omega arith) a.1
@@ -105,6 +105,9 @@ module _ {K : Type 0} (cmp : K → K → Ordering) (total : IsTotalOrder cmp) (e
     same_value : (e x : K × X) → Some e ≡ Some x → Some e.1 ≡ Some x.1
     same_value e x h = cc
 
+    same_key : (e x : K × X) → Some e ≡ Some x → e.0 ≡ x.0
+    same_key e x h = cc
+
     put_step : (v : X) (e : K × X) (es : List (K × X)) (r : Ordering) → cmp k e.0 ≡ r → match_ordering r ((k, v) ∷ e ∷ es) ((e.0, v) ∷ es) (e ∷ insert_entry cmp es k v) ≡ insert_entry cmp (e ∷ es) k v
     put_step v e es r h = sym (ap (λ o. match_ordering o ((k, v) ∷ e ∷ es) ((e.0, v) ∷ es) (e ∷ insert_entry cmp es k v)) h)
 
@@ -114,6 +117,7 @@ module _ {K : Type 0} (cmp : K → K → Ordering) (total : IsTotalOrder cmp) (e
         let y = ap is_eq b in
         record {
           within = l;
+          has_key = λ x h. sym (exact k e.0 b ∙ same_key e x h);
           found = λ x h. when _ _ _ y ∙ same_value e x h;
           sets = λ v. ap (λ x. (x, v) ∷ es) (exact k e.0 b) ∙ put_step v e es Equal b;
           removes = sym (when _ _ _ y);
@@ -123,6 +127,7 @@ module _ {K : Type 0} (cmp : K → K → Ordering) (total : IsTotalOrder cmp) (e
         let r = there es i (omega arith) a.1 b in
         record {
           within = l;
+          has_key = λ x h. r.has_key x h;
           found = λ x h. unless _ _ _ n ∙ r.found x h;
           sets = λ v. ap (λ l. e ∷ l) (r.sets v) ∙ put_step v e es Greater a.0;
           removes = ap (λ l. e ∷ l) r.removes ∙ sym (unless _ _ _ n);
@@ -166,7 +171,7 @@ module _ {K : Type 0} (cmp : K → K → Ordering) (total : IsTotalOrder cmp) (e
         gap es i s b (above es i b (λ j d m. q.0 j d (omega arith) m)) (at es i Greater (λ d m. q.1 i d (omega arith) m))
 
     module _ (v : X) where
-      all_put : (P : K → Type 0) (es : List (K × X)) → P k → AllByRecursion P (keys_of es) → AllByRecursion P (keys_of (insert_entry cmp es k v))
+      pub all_put : (P : K → Type 0) (es : List (K × X)) → P k → AllByRecursion P (keys_of es) → AllByRecursion P (keys_of (insert_entry cmp es k v))
       all_put P [] p a = (p, tt)
       all_put P (e ∷ es) p a =
           let Q : List (K × X) → Type 0 = λ l. AllByRecursion P (keys_of l) in

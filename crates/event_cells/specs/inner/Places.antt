@@ -9,6 +9,7 @@ module _ {K X : Type 0} (cmp : K → K → Ordering) (pairs : List (K × X)) (ke
   -- the pair at the place has the key
   pub record IsThere (i : ℕ) : Type 0 where
     pub within : i < length pairs
+    pub has_key : (x : K × X) → slice_get pairs i ≡ Some x → x.0 ≡ key
     pub found : (x : K × X) → slice_get pairs i ≡ Some x → lookup (is_at (cmp key)) pairs ≡ Some x.1
     pub sets : (value : X) → slice_set pairs i (key, value) ≡ insert_entry cmp pairs key value
     pub removes : remove pairs i ≡ remove_entry (is_at (cmp key)) pairs
