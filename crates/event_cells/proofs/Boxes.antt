@@ -17,6 +17,11 @@ use Rattle.std.proofs.lemmas.Option.{slice_get_read}
 use Rattle.event_cells.specs.inner.Places.{IsThere}
 use Rattle.event_cells.proofs.Sorted as s
 
+is_equal : (r : Ordering) → is_eq r ≡ true → r ≡ Equal
+is_equal Less e = cc
+is_equal Equal e = refl
+is_equal Greater e = cc
+
 module _ {X : Type 0} where
   -- mails in order, of which so many were sent at most
   pub record InOrder (es : List (ℕ × X)) (n : ℕ) : Type 0 where
@@ -45,11 +50,6 @@ module _ {X : Type 0} where
         rises = subst (λ (l : List (ℕ × X)). IsStrictlySortedBy nat_cmp (keys_of l)) (sym (at.sets v)) (s.sorted_put nat_cmp nat_cmp_total exact_unsigned k v es h.rises);
         below = subst (λ (l : List (ℕ × X)). AllByRecursion (λ j. j ≤ n) (keys_of l)) (sym (at.sets v)) (s.all_put nat_cmp nat_cmp_total exact_unsigned k v (λ j. j ≤ n) es le h.below);
       }
-
-  is_equal : (r : Ordering) → is_eq r ≡ true → r ≡ Equal
-  is_equal Less e = cc
-  is_equal Equal e = refl
-  is_equal Greater e = cc
 
   -- what is found without a number
   pub gone : (es : List (ℕ × X)) (n : ℕ) → IsStrictlySortedBy nat_cmp (keys_of es) → (k : ℕ) → lookup (is_at (nat_cmp k)) (remove_entry (is_at (nat_cmp n)) es) ≡ (if nat_eq n k then None else lookup (is_at (nat_cmp k)) es)

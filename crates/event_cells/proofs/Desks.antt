@@ -1,5 +1,5 @@
 -- What each call on a cell makes of the desk that it stands for.
-use Rattle.std.proofs.Common.{◌≡◌, ◌∙◌, ℕ, zero, suc, ◌+◌, ◌<◌, [], ◌∷◌, ◌++◌, List, map, Option, option_map, Bool, true, false, not, cond, length, take, get_or, None, Some, refl, sym, ap, subst, arith, true≢false, add-one, length-append}
+use Rattle.std.proofs.Common.{◌≡◌, ◌∙◌, ℕ, zero, suc, ◌+◌, ◌<◌, ◌≤◌, [], ◌∷◌, ◌++◌, List, map, Option, option_map, Bool, true, false, not, cond, length, take, get_or, None, Some, refl, sym, ap, subst, arith, true≢false, add-one, length-append}
 use Rattle.std.specs.Prelude.{nat_eq}
 use Rattle.std.specs.BTreeMap.{is_at, insert_entry}
 use Rattle.std.specs.Cmp.{IsTotalOrder, eq_by_cmp_equiv, unsigned_ties}
@@ -59,7 +59,7 @@ module _ {X : Type 0} (k : ℕ) (v : X) (q : ℕ) where
       (λ h. subst P (sym h) refl)
       (λ h. subst P (sym h) (twice (is_eq (nat_cmp q e.0)) (Some v) (Some e.1) (lookup (is_at (nat_cmp q)) es) ∙ ap (λ n. cond (is_eq (nat_cmp q n)) (Some v) (lookup (is_at (nat_cmp q)) (e ∷ es))) (sym (exact_unsigned k e.0 h))))
       (λ h. subst P (sym h) (ap (cond (is_eq (nat_cmp q e.0)) (Some e.1)) (found_put es) ∙ swapped (is_eq (nat_cmp q e.0)) (is_eq (nat_cmp q k)) (Some v) (Some e.1) (lookup (is_at (nat_cmp q)) es)
-          (λ y. ap is_eq (ap (λ n. nat_cmp n e.0) (exact_unsigned q k (is_equal (nat_cmp q k) y)) ∙ h))))
+      (λ y. ap is_eq (ap (λ n. nat_cmp n e.0) (exact_unsigned q k (is_equal (nat_cmp q k) y)) ∙ h))))
 
 at_number : (k q : ℕ) → nat_eq k q ≡ is_eq (nat_cmp q k)
 at_number k q = nat_eq_equiv.symm k q ∙ unsigned_ties q k
@@ -67,6 +67,9 @@ at_number k q = nat_eq_equiv.symm k q ∙ unsigned_ties q k
 -- each mail that is kept stands for the one that the theory has under its number
 abbrev pub AllCarried : List (ℕ × Envelope) → (ℕ → Option (theory.Mail (List Value))) → Type 0
 AllCarried es f = (k : ℕ) → Carries (mail_in es k) (f k)
+
+pub carried_in : (es fs : List (ℕ × Envelope)) (f : ℕ → Option (theory.Mail (List Value))) → es ≡ fs → AllCarried es f → AllCarried fs f
+carried_in es fs f e h k = subst (λ l. Carries (mail_in l k) (f k)) e (h k)
 
 carries_either : (b : Bool) (e g : Option Envelope) (m n : Option (theory.Mail (List Value))) → Carries e m → Carries g n → Carries (cond b e g) (cond b m n)
 carries_either true e g m n x y = x
@@ -111,6 +114,15 @@ held_filter test (e ∷ es) = at_key (test e.0) (held_filter test es)
     at_key true rest = ap (λ l. held_of e ∷ l) rest
     at_key false rest = rest
 
+-- not more than before
+pub length-filter_le : {X : Type 0} (test : X → Bool) (es : List X) → length (filter test es) ≤ length es
+length-filter_le test [] = omega arith
+length-filter_le {X = X} test (e ∷ es) = at_test (test e) (filter test es) (length-filter_le test es)
+  where
+    at_test : (b : Bool) (l : List X) → length l ≤ length es → length (cond b (e ∷ l) l) ≤ suc (length es)
+    at_test true l h = omega arith
+    at_test false l h = omega arith
+
 -- ---- Releases
 
 sent_push : (mails : List (ℕ × Envelope)) (n : ℕ) (es : List Envelope) (e : Envelope) → sent_on mails n (es ++ e ∷ []) ≡ insert_entry nat_cmp (sent_on mails n es) (suc (n + length es)) e
@@ -144,7 +156,7 @@ pub sends_kept : (keep : Path → Bool) (xs : List (Path × Hold)) (mails : List
     → Sends keep xs mails n i mails' n' → Sends keep xs mails n (i + 1) mails' n'
 sends_kept keep xs mails n i mails' n' x l e k h =
     let same : releases keep (take (i + 1) xs) ≡ releases keep (take i xs) =
-        ap (λ j. releases keep (take j xs)) (add-one i) ∙ releases_more keep xs i x l e ∙ ap (λ b. releases keep (take i xs) ++ cond b [] (release_of x ∷ [])) k ∙ append_nil (releases keep (take i xs)) in
+    ap (λ j. releases keep (take j xs)) (add-one i) ∙ releases_more keep xs i x l e ∙ ap (λ b. releases keep (take i xs) ++ cond b [] (release_of x ∷ [])) k ∙ append_nil (releases keep (take i xs)) in
     record { sent = h.sent ∙ ap (λ r. n + length r) (sym same); mails = h.mails ∙ ap (sent_on mails n) (sym same) }
   where
     append_nil : (es : List Envelope) → es ++ [] ≡ es
@@ -156,7 +168,7 @@ pub sends_more : (keep : Path → Bool) (xs : List (Path × Hold)) (mails : List
     → Sends keep xs mails n i mails' n' → Sends keep xs mails n (i + 1) mails'' n''
 sends_more keep xs mails n i mails' n' mails'' n'' x l e k s m h =
     let more : releases keep (take (i + 1) xs) ≡ releases keep (take i xs) ++ release_of x ∷ [] =
-        ap (λ j. releases keep (take j xs)) (add-one i) ∙ releases_more keep xs i x l e ∙ ap (λ b. releases keep (take i xs) ++ cond b [] (release_of x ∷ [])) k in
+    ap (λ j. releases keep (take j xs)) (add-one i) ∙ releases_more keep xs i x l e ∙ ap (λ b. releases keep (take i xs) ++ cond b [] (release_of x ∷ [])) k in
     let number : n' + 1 ≡ suc (n + length (releases keep (take i xs))) = add-one n' ∙ ap suc h.sent in
     record {
       sent = s ∙ number ∙ one_longer n (releases keep (take i xs)) ∙ ap (λ r. n + length r) (sym more);
@@ -183,7 +195,7 @@ module _ {A : Type 0} where
   released (x ∷ xs) mails n d s h =
       let m : theory.Mail (List Value) = record { host = x.1.host.0; path = x.0; letter = theory.Release } in
       let one : AllCarried (insert_entry nat_cmp mails (suc n) (release_of x)) (set nat_eq d.mails (suc d.event.sent) (Some m)) =
-          subst (λ j. AllCarried (insert_entry nat_cmp mails (suc n) (release_of x)) (set nat_eq d.mails (suc j) (Some m))) (sym s) (carried_put mails d.mails (suc n) (release_of x) m h (record { host = refl; path = refl; letter = refl })) in
+      subst (λ j. AllCarried (insert_entry nat_cmp mails (suc n) (release_of x)) (set nat_eq d.mails (suc j) (Some m))) (sym s) (carried_put mails d.mails (suc n) (release_of x) m h (record { host = refl; path = refl; letter = refl })) in
       let r = released xs (insert_entry nat_cmp mails (suc n) (release_of x)) (suc n) (send d m) (ap suc s) one in
       record { actor = r.actor; held = r.held; sent = r.sent ∙ longer n (length xs); status = r.status; mails = r.mails }
     where

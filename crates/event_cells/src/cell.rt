@@ -43,7 +43,7 @@ pub struct Cell<A> {
 }
 
 impl<A: Drop> Cell<A> {
-    ghost use Rattle.event_cells.specs.Cells.{StandsFor, SameButRooms, status_of, is_over, hold_of, with_actor, with_held, with_mail, first_desk, Carries};
+    ghost use Rattle.event_cells.specs.Cells.{StandsFor, SameButRooms, status_of, is_over, hold_of, with_actor, with_held, with_mail, first_desk, Carries, IsEnvelope};
 
     /// The cell of an event that was just admitted: an Enter goes to the root, under its ticket as its entry number.
     pub fn new(
@@ -105,7 +105,7 @@ impl<A: Drop> Cell<A> {
     /// A mail that is under way goes to another host, with another letter.
     pub fn redirect(&mut self, number: u32, envelope: Envelope)
         requires { IsSome (mail_in self.old.outbox.mails number) }
-        ensures desk { (d : Desk A (List Value)) (m : theory.Mail (List Value)) → StandsFor self.old d → Carries (Some envelope) (Some m) → StandsFor self.new (with_mail d number (Some m)) }
+        ensures desk { (d : Desk A (List Value)) (m : theory.Mail (List Value)) → StandsFor self.old d → IsEnvelope envelope m → StandsFor self.new (with_mail d number (Some m)) }
         ensures mails_room { self.old.outbox.room ≤ self.new.outbox.room }
         ensures status { self.new.status ≡ self.old.status }
         ensures held { self.new.held ≡ self.old.held }
@@ -173,7 +173,7 @@ impl<A: Drop> Cell<A> {
     /// Sends a mail to a host, for a context.
     pub fn send(&mut self, envelope: Envelope)
         requires { 1 ≤ self.old.outbox.room }
-        ensures desk { (d : Desk A (List Value)) (m : theory.Mail (List Value)) → StandsFor self.old d → Carries (Some envelope) (Some m) → StandsFor self.new (send d m) }
+        ensures desk { (d : Desk A (List Value)) (m : theory.Mail (List Value)) → StandsFor self.old d → IsEnvelope envelope m → StandsFor self.new (send d m) }
         ensures mails_room { self.old.outbox.room ≤ self.new.outbox.room + 1 }
         ensures actor { self.new.actor ≡ self.old.actor }
         ensures held { self.new.held ≡ self.old.held }
@@ -200,6 +200,7 @@ impl<A: Drop> Cell<A> {
         ensures desk { (d : Desk A (List Value)) → StandsFor self.old d → StandsFor self.new (give_up (is_above top.now) d) }
         ensures actor { self.new.actor ≡ self.old.actor }
         ensures status { self.new.status ≡ self.old.status }
+        ensures fewer { length self.new.held.holds ≤ length self.old.held.holds }
         ensures kind { self.new.kind ≡ self.old.kind }
     {
         release(self.held.as_slice(), &mut self.outbox, Some(top));
