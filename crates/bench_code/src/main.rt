@@ -1,6 +1,6 @@
 //! The script of an input, run by the code of its service. The one word is how often.
 //!
-//! Without a word it says how many results there are. With a word it prints a line for each run: its nanoseconds.
+//! Without a word it prints the listing. With a word it prints a line for each run: its nanoseconds.
 #![tactic(auto)]
 
 ghost use Rattle.std.specs.Prelude.{IfSome};
@@ -13,12 +13,13 @@ mod coded;
 use code_meaning::run_script;
 use coded::{Coded, coded};
 use input_parts::parts_of;
+use listing_out::write_listing;
 use script_reader::read_script;
 use std::alloc::Global;
 use std::time::{Clock, Instant};
 use std::{env, io};
 use wave_base::{INPUT_BYTES, SCRIPT_BYTES, Script};
-use wave_io::{StdSource, read_all};
+use wave_io::{Sink, StdSink, StdSource, read_all};
 
 // A word of the command line, as a number.
 fn number(word: Option<String>) -> Option<u32> {
@@ -39,17 +40,14 @@ fn script_of(alloc: Global, coded: &Coded, text: &[u8]) -> Option<Script>
     }
 }
 
-// Prints how many results there are.
-fn print_count<R: Print>(rt: &R, alloc: Global, coded: &Coded, script: &Script) -> io::Result<()>
+// Writes the listing.
+fn write_results<K: Sink>(alloc: Global, out: &mut K, coded: &Coded, script: &Script) -> bool
     requires code { IsCode coded.now.typed.resolved coded.now.program }
     requires script { IsScript coded.now.program.shape script.now }
 {
     match run_script(alloc, &coded.program, &coded.typed.resolved, script) {
-        Ok(finished) => {
-            let count = finished.results.len();
-            println!(rt; "results {count}")
-        }
-        Err(_) => println!(rt; "out of memory"),
+        Ok(done) => write_listing(alloc, out, &coded.typed.shape, &done, false).is_ok(),
+        Err(_) => false,
     }
 }
 
@@ -93,6 +91,12 @@ fn main(rt: HostRuntime) -> io::Result<()> {
     };
     match runs {
         Some(runs) => print_times(&rt, alloc, &coded, &script, runs),
-        None => print_count(&rt, alloc, &coded, &script),
+        None => {
+            let mut out = StdSink::new(rt.stdout());
+            if !write_results(alloc, &mut out, &coded, &script) {
+                return println!(rt; "no listing");
+            }
+            Ok(())
+        }
     }
 }
