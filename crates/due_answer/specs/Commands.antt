@@ -1,21 +1,18 @@
 -- The words of a command line.
-use Rattle.std.specs.Prelude.{ℕ, Bool, if◌then◌else◌, Option, Some, None, List, [], ◌∷◌, codes, nat_eq}
-use Rattle.std.specs.Cmp.Lexicographic.{pointwise}
+use Rattle.std.specs.Prelude.{ℕ, if◌then◌else◌, Option, Some, None, List, [], ◌∷◌, codes}
+use Rattle.wave_base.specs.Names.{same_bytes}
 use Rattle.due_answer.specs.declared.command.Command.{Command}
 use Rattle.due_answer.specs.declared.command.Command.TheVariants.{Run, Seq, Check, Print, Code}
 use Rattle.due_answer.specs.declared.command.Places.TheVariants.{Unlisted, Listed}
 
-abbrev pub same_word : List ℕ → List ℕ → Bool
-same_word = pointwise nat_eq
-
 -- a command by itself
 abbrev pub command_named : List ℕ → Option Command
 command_named w =
-    if same_word w (codes "run") then Some (Run Unlisted)
-    else if same_word w (codes "seq") then Some (Seq Unlisted)
-    else if same_word w (codes "check") then Some Check
-    else if same_word w (codes "print") then Some Print
-    else if same_word w (codes "code") then Some Code
+    if same_bytes w (codes "run") then Some (Run Unlisted)
+    else if same_bytes w (codes "seq") then Some (Seq Unlisted)
+    else if same_bytes w (codes "check") then Some Check
+    else if same_bytes w (codes "print") then Some Print
+    else if same_bytes w (codes "code") then Some Code
     else None
 
 -- one that lists the places of contexts too
@@ -28,5 +25,5 @@ with_places _ = None
 abbrev pub command_of : List (List ℕ) → Option Command
 command_of [] = None
 command_of (w ∷ []) = command_named w
-command_of (w ∷ v ∷ []) = if same_word v (codes "--map") then with_places (command_named w) else None
+command_of (w ∷ v ∷ []) = if same_bytes v (codes "--map") then with_places (command_named w) else None
 command_of (w ∷ v ∷ u ∷ words) = None

@@ -33,7 +33,7 @@ use Rattle.script_reader.specs.Judged.{nothing_earlier}
 use Rattle.script_reader.specs.Scripts.{IsRead}
 use Rattle.wave_text.specs.Lines.{lines_of}
 use Rattle.listing_out.specs.Listing.{listing}
-use Rattle.wave_meaning.specs.Meaning.{results_of}
+use Rattle.wave_meaning.specs.Meaning.{results_of, IsWhole}
 use Rattle.due_answer.specs.declared.answer.Answer.{Answer}
 use Rattle.due_answer.specs.declared.command.Command.{Command}
 use Rattle.due_answer.specs.declared.command.Command.TheVariants.{Run, Seq, Check, Print, Code}
@@ -119,10 +119,11 @@ any_trap rs = list_any (λ (r : EventResult). is_trap r.outcome) rs
 abbrev pub listed : Shape → Places → Finished → Answer
 listed shape places done = record { status = if any_trap done.results then 1 else 0; note = []; text = listing shape 1 done (is_listed places) }
 
--- of a script that was read: the listing of its fold on the service with each name resolved
+-- of a script that was read: the listing of its fold, to its end, on the service with each name resolved
 pub record IsDueFold (places : Places) (tree : ServiceTree) (script : Script) (due : Answer) : Type 0 where
   pub service : Resolved
   pub resolved : resolved_view service ≡ resolve_service tree
+  pub whole : IsWhole (shape_of tree) service script
   pub due_is : due ≡ listed (shape_of tree) places (results_of (shape_of tree) service script)
 
 abbrev pub is_request : Line → Bool

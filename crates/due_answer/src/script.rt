@@ -4,7 +4,7 @@ ghost use Rattle.wave_base.specs.declared.limits.TheConstants.{SCRIPT_BYTES};
 ghost use Rattle.wave_base.specs.Scripts.{IsScript};
 ghost use Rattle.wave_base.specs.Shapes.{IsShape};
 ghost use Rattle.resolved_service.specs.Fits.{FitsService};
-ghost use Rattle.wave_meaning.specs.Meaning.{results_of};
+ghost use Rattle.wave_meaning.specs.Meaning.{results_of, IsWhole};
 ghost use Rattle.mace_ast.specs.Decls.{ServiceTree};
 ghost use Rattle.fault_notes.specs.Notes.{script_note};
 ghost use Rattle.script_reader.specs.declared.error.ScriptError.{ScriptError};
@@ -83,7 +83,8 @@ fn listed(
     requires shape { IsShape typed.now.shape }
     requires service { FitsService typed.now.shape typed.now.resolved }
     requires script { IsScript typed.now.shape script.now }
-    ensures { IfOk result (λ a. a ≡ listed typed.now.shape places (results_of typed.now.shape typed.now.resolved script.now)) }
+    ensures value { IfOk result (λ a. a ≡ listed typed.now.shape places (results_of typed.now.shape typed.now.resolved script.now)) }
+    ensures whole { IfOk result (λ _. IsWhole typed.now.shape typed.now.resolved script.now) }
 {
     let done = run_script(alloc, &typed.shape, &typed.resolved, script)?;
     let text = listing(alloc, &typed.shape, Ticket(1), &done, is_listed(places))?;

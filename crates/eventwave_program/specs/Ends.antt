@@ -96,8 +96,8 @@ Ended words left old new NoMemory = ((c : Command) × (command_of words ≡ Some
 Ended words left old new WriteFault = SomeDue words left (λ due. Gave due old new WriteFault)
 Ended words left old new (Answered status note) = SomeDue words left (λ due. Gave due old new (Answered status note))
 
--- an answer that is given has read the input, and wrong words leave it
-abbrev pub ReadsDue : Option (List ℕ) → Option (List ℕ) → Ending → Type 0
-ReadsDue old new WordsRefused = Keeps old new
-ReadsDue old new (Answered status note) = ReadsAll old new
-ReadsDue old new ending = Unit {0}
+-- an answer that is given has read the input, and wrong words leave it and the count of its faults
+abbrev pub ReadsDue : ℕ → ℕ → Option (List ℕ) → Option (List ℕ) → Ending → Type 0
+ReadsDue before now old new WordsRefused = Keeps old new × (now ≡ before)
+ReadsDue before now old new (Answered status note) = ReadsAll old new
+ReadsDue before now old new ending = Unit {0}

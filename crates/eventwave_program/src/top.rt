@@ -64,7 +64,7 @@ fn give<K: Sink>(out: &mut K, answer: Answer) -> Ending
 /// Reads, judges and writes.
 fn respond<S: Source, K: Sink>(alloc: Global, words: &Words, input: &mut S, out: &mut K) -> Ending
     ensures ended { Ended words.now (S.left input.old) (K.written out.old) (K.written out.new) result }
-    ensures read { ReadsDue (S.left input.old) (S.left input.new) result }
+    ensures read { ReadsDue (S.faults input.old) (S.faults input.new) (S.left input.old) (S.left input.new) result }
     ensures read_fault { result ≡ Ending.ReadFault → Rose (S.faults input.old) (S.faults input.new) }
     ensures write_fault { result ≡ Ending.WriteFault → Rose (K.faults out.old) (K.faults out.new) }
 {
@@ -128,7 +128,7 @@ pub fn eventwave_alone<S: Source, K: Sink, N: Sink>(
 
     // Wrong words, and then nothing is read or written; a fault of the source or of `out`.
     ensures words { (result ≡ Some 2) ↔ (command_of words.now ≡ None) }
-    ensures unread { result ≡ Some 2 → Keeps (S.left input.old) (S.left input.new) }
+    ensures unread { result ≡ Some 2 → Keeps (S.left input.old) (S.left input.new) × (S.faults input.new ≡ S.faults input.old) }
     ensures read_fault { result ≡ Some 5 → Rose (S.faults input.old) (S.faults input.new) }
     ensures write_fault { result ≡ Some 6 → Rose (K.faults out.old) (K.faults out.new) }
 
@@ -167,7 +167,7 @@ pub fn eventwave<R: Threads + Wait + Sync, S: Source, K: Sink, N: Sink, G: Gate 
 ) -> u8
     // Wrong words, and then nothing is read or written; a fault of the source or of `out`.
     ensures words { (result ≡ 2) ↔ (command_of words.now ≡ None) }
-    ensures unread { result ≡ 2 → Keeps (S.left input.old) (S.left input.new) }
+    ensures unread { result ≡ 2 → Keeps (S.left input.old) (S.left input.new) × (S.faults input.new ≡ S.faults input.old) }
     ensures read_fault { result ≡ 5 → Rose (S.faults input.old) (S.faults input.new) }
     ensures write_fault { result ≡ 6 → Rose (K.faults out.old) (K.faults out.new) }
 
