@@ -8,13 +8,14 @@ use std::alloc::Global;
 use wave_base::OutOfMemory;
 use wave_text::{put_bytes, put_number};
 
-/// How many halls a load speaks of, how many stalls of one, how many hosts, and how much is bought at most.
+// How many halls a load speaks of, and how many stalls of one.
 const HALLS: u64 = 24;
 
 const STALLS: u64 = 25;
 
 const HOSTS: u64 = 4;
 
+// How much is bought at most.
 const MOST: u64 = 9;
 
 /// A line of a load's script.

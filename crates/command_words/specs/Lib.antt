@@ -1,0 +1,4 @@
+pub mod Values
+pub mod Choice
+pub mod Reading
+pub mod ByHand
