@@ -1,11 +1,11 @@
-ghost use Rattle.std.specs.Prelude.{◌≡◌, ◌≢◌, ◌↔◌, ◌∷◌, [], Ok, Err, OnOk, OnErr};
+ghost use Rattle.std.specs.Prelude.{◌≡◌, ◌≢◌, ◌↔◌, ◌∷◌, [], Ok, Err, None, OnOk, OnErr};
 ghost use Rattle.value_ops.specs.Answers.{Answers};
 ghost use Rattle.value_ops.specs.Kinds.{answer_of};
 ghost use Rattle.value_ops.specs.Meanings as meaning;
 ghost use Rattle.value_ops.specs.Meanings.{or_trap};
 ghost use Rattle.value_ops.specs.Operators.{takes_of, gives_of, apply_row};
 ghost use Rattle.wave_base.specs.declared.trap.TrapKind.{TrapKind};
-ghost use Rattle.wave_base.specs.Tables.{is_full};
+ghost use Rattle.wave_base.specs.Tables.{value_at, is_full};
 ghost use Rattle.wave_base.specs.declared.value.Kind.{Kind};
 ghost use Rattle.wave_base.specs.declared.value.Value.{Value};
 
@@ -87,11 +87,12 @@ fn is_full(map: &Table, key: i64) -> bool
     map.len() >= TABLE_PAIRS && map.get(key).is_none()
 }
 
-/// Puts a pair into a map, which stays as it is where that traps or memory is wanting.
+/// Puts a pair into a map, which stays as it is where that traps or memory is wanting. A key that is there wants none.
 pub fn put_pair(map: &mut Table, key: i64, value: i64) -> Result<(), OpError>
     ensures ok { OnOk result (apply_row 20 (Value.Map map.old ∷ Value.Int key ∷ Value.Int value ∷ []) ≡ Ok (Value.Map map.new)) }
     ensures trap { (trap : TrapKind) → (result ≡ Err (OpError.Trap trap)) ↔ (apply_row 20 (Value.Map map.old ∷ Value.Int key ∷ Value.Int value ∷ []) ≡ Err trap) }
     ensures err { OnErr result (map.new ≡ map.old) }
+    ensures memory { result ≡ Err OpError.OutOfMemory → value_at map.old key ≡ None }
 {
     match map.put(key, value) {
         Ok(()) => Ok(()),

@@ -36,6 +36,7 @@ pub fn apply_texts(alloc: Global, row: usize, s: &Txt, t: &Txt) -> Result<Value,
     }
 }
 
+// One text after the other, in one block of memory.
 fn cat(alloc: Global, s: &Txt, t: &Txt) -> Result<Value, OpError>
     ensures { Answers (apply_row 18 (Value.Str s.now ∷ Value.Str t.now ∷ [])) result }
 {
@@ -45,14 +46,14 @@ fn cat(alloc: Global, s: &Txt, t: &Txt) -> Result<Value, OpError>
     Ok(Value::Str(joined(alloc, s, t)?))
 }
 
-// One text after the other.
 fn joined(alloc: Global, s: &Txt, t: &Txt) -> Result<Txt, OutOfMemory>
     requires { length s.now + length t.now ≤ TEXT_BYTES }
     ensures { IfOk result (λ joined. joined ≡ s.now ++ t.now) }
 {
-    let mut bytes = Vec::from_slice(alloc, s.bytes())?;
+    let mut bytes = Vec::with_capacity(alloc, s.bytes().len() + t.bytes().len())?;
+    bytes.extend_from_slice(s.bytes())?;
     bytes.extend_from_slice(t.bytes())?;
-    Txt::from_bytes(alloc, bytes.as_slice())
+    Ok(Txt::from_vec(bytes))
 }
 
 /// Bytes `from` up to, not including, `to`.

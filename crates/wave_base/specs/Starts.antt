@@ -1,5 +1,6 @@
 -- What a run begins with.
 use Rattle.std.specs.Prelude.{◌≡◌, ◌≤◌, ◌<◌, ℕ, true, if◌then◌else◌, List, [], ◌∷◌, length, map, All}
+use Rattle.wave_base.specs.declared.limits.TheConstants.{START_CONTEXTS, START_TICKET}
 use Rattle.wave_base.specs.declared.path.Path.{Path}
 use Rattle.wave_base.specs.declared.finished.Place.{Place}
 use Rattle.wave_base.specs.declared.shape.Shape.{Shape}
@@ -42,6 +43,6 @@ pub record IsStart (shape : Shape) (count : ℕ) (start : Start) : Type 0 where
   pub root : there (start_tree shape start) [] ≡ true
   pub places : map (λ x. x.path) start.places ≡ map (λ s. s.path) start.shots
   pub hosts : All (λ (x : Place). x.host.0 < count) start.places
-  pub few : length start.shots ≤ 1000000000
+  pub few : length start.shots ≤ START_CONTEXTS
   pub first_next : 1 ≤ start.next.0
-  pub last_next : start.next.0 ≤ 2000000000
+  pub last_next : start.next.0 ≤ START_TICKET
