@@ -1,5 +1,5 @@
 -- The words that were read by hand before `clap` read them, and what they ask for.
-use Rattle.std.specs.Prelude.{◌≡◌, ℕ, List, [], ◌∷◌, codes, Some, None, All}
+use Rattle.std.specs.Prelude.{◌≡◌, ℕ, List, [], ◌∷◌, codes, Some, None}
 use Rattle.command_words.specs.declared.command.Command.{Command}
 use Rattle.command_words.specs.declared.command.Command.TheVariants.{Run, Seq, Check, Print, Code}
 use Rattle.command_words.specs.declared.command.Places.TheVariants.{Unlisted, Listed}
@@ -19,4 +19,5 @@ by_hand =
 
 -- each asks for the same still
 abbrev pub AreKept : List (List (List ℕ) × Command) → Type 0
-AreKept = All (λ p. command_of p.0 ≡ Some p.1)
+AreKept [] = Unit {0}
+AreKept (p ∷ ps) = (command_of p.0 ≡ Some p.1) × AreKept ps

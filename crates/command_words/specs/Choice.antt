@@ -1,5 +1,6 @@
 -- Which command a name asks for, and what may be given with it.
 use Rattle.std.specs.Prelude.{ℕ, if◌then◌else◌, List, codes, Option, Some, None, unwrap_or, option_map, option_and_then}
+use Rattle.wave_base.specs.Names.{same_bytes}
 use Rattle.command_words.specs.declared.choice.Verb.{Verb}
 use Rattle.command_words.specs.declared.choice.Verb.TheVariants as verb
 use Rattle.command_words.specs.declared.command.Command.{Command}
@@ -8,17 +9,17 @@ use Rattle.command_words.specs.declared.command.Crew.{Crew}
 use Rattle.command_words.specs.declared.command.Places.{Places}
 use Rattle.command_words.specs.declared.command.Places.TheVariants.{Unlisted, Listed}
 use Rattle.command_words.specs.declared.command.Schedule.{Schedule}
-use Rattle.command_words.specs.Values.{number_of, same_word, schedule_of, workers_of}
+use Rattle.command_words.specs.Values.{number_of, schedule_of, workers_of}
 
 abbrev pub verb_of : List ℕ → Option Verb
 verb_of word =
-    if same_word word (codes "run") then Some verb.Run
-    else if same_word word (codes "seq") then Some verb.Seq
-    else if same_word word (codes "check") then Some verb.Check
-    else if same_word word (codes "print") then Some verb.Print
-    else if same_word word (codes "code") then Some verb.Code
-    else if same_word word (codes "gen") then Some verb.Gen
-    else if same_word word (codes "load") then Some verb.Load
+    if same_bytes word (codes "run") then Some verb.Run
+    else if same_bytes word (codes "seq") then Some verb.Seq
+    else if same_bytes word (codes "check") then Some verb.Check
+    else if same_bytes word (codes "print") then Some verb.Print
+    else if same_bytes word (codes "code") then Some verb.Code
+    else if same_bytes word (codes "gen") then Some verb.Gen
+    else if same_bytes word (codes "load") then Some verb.Load
     else None
 
 -- four workers where none are given

@@ -1,5 +1,6 @@
 -- The words of a command line, as `clap` reads them.
 use Rattle.std.specs.Prelude.{ℕ, Bool, true, false, if◌then◌else◌, List, [], ◌∷◌, map, codes, Option, Some, None}
+use Rattle.wave_base.specs.Names.{same_bytes}
 use Rattle.clap.specs.Words.{App, Kinds, Row, Rule, Shape, fault_of, first_of, matches_of, new_app, new_rule, with_rule}
 use Rattle.clap.specs.Simple.{on_top}
 use Rattle.clap.specs.declared.builder.action.ArgAction.TheVariants.{SetTrue}
@@ -7,7 +8,6 @@ use Rattle.command_words.specs.declared.command.Command.{Command}
 use Rattle.command_words.specs.declared.command.Places.{Places}
 use Rattle.command_words.specs.declared.command.Places.TheVariants.{Unlisted, Listed}
 use Rattle.command_words.specs.Choice.{chosen}
-use Rattle.command_words.specs.Values.{same_word}
 
 -- ---- the command line
 
@@ -40,7 +40,7 @@ command_line = with_rule (with_rule (with_rule (with_rule (with_rule (on_top bar
 
 abbrev pub places_of : Option (List ℕ) → Places
 places_of None = Unlisted
-places_of (Some word) = if same_word word (codes "true") then Listed else Unlisted
+places_of (Some word) = if same_bytes word (codes "true") then Listed else Unlisted
 
 abbrev pub asked : Option (List ℕ) → Option (List ℕ) → Option (List ℕ) → Option (List ℕ) → Option (List ℕ) → Option Command
 asked None number workers schedule map = None

@@ -1,13 +1,11 @@
 -- What the words behind a command and its options stand for.
-use Rattle.std.specs.Prelude.{ℕ, ◌^◌, ◌&&◌, Bool, nat_le, nat_lt, nat_eq, if◌then◌else◌, List, length, codes, Option, Some, None, option_map}
-use Rattle.std.specs.Cmp.Lexicographic.{pointwise}
+use Rattle.std.specs.Prelude.{ℕ, ◌^◌, ◌&&◌, Bool, nat_le, nat_lt, if◌then◌else◌, List, length, codes, Option, Some, None, option_map}
 use Rattle.std.specs.Str.Parse.{digits_value}
+use Rattle.wave_base.specs.declared.limits.TheConstants.{WORKERS}
+use Rattle.wave_base.specs.Names.{same_bytes}
 use Rattle.wave_text.specs.Words.{is_digits}
 use Rattle.command_words.specs.declared.command.Schedule.{Schedule}
 use Rattle.command_words.specs.declared.command.Schedule.TheVariants.{Seed, Oldest, Newest, Movers, MailLast}
-
-abbrev pub same_word : List ℕ → List ℕ → Bool
-same_word = pointwise nat_eq
 
 -- digits alone, at most 20 of them, that stand for a number of 64 bits; there may be zeros before
 abbrev pub is_number : List ℕ → Bool
@@ -17,7 +15,7 @@ abbrev pub number_of : List ℕ → Option ℕ
 number_of word = if is_number word then Some (digits_value 10 word) else None
 
 abbrev pub among_workers : ℕ → Option ℕ
-among_workers n = if nat_le 1 n && nat_le n 16 then Some n else None
+among_workers n = if nat_le 1 n && nat_le n WORKERS then Some n else None
 
 abbrev pub workers_in : Option ℕ → Option ℕ
 workers_in None = None
@@ -30,8 +28,8 @@ workers_of word = workers_in (number_of word)
 -- a rule of picking by its name, or a seed
 abbrev pub schedule_of : List ℕ → Option Schedule
 schedule_of word =
-    if same_word word (codes "oldest") then Some Oldest
-    else if same_word word (codes "newest") then Some Newest
-    else if same_word word (codes "movers") then Some Movers
-    else if same_word word (codes "maillast") then Some MailLast
+    if same_bytes word (codes "oldest") then Some Oldest
+    else if same_bytes word (codes "newest") then Some Newest
+    else if same_bytes word (codes "movers") then Some Movers
+    else if same_bytes word (codes "maillast") then Some MailLast
     else option_map Seed (number_of word)

@@ -6,7 +6,7 @@ use crate::command::{Command, Crew, Places, Schedule};
 use crate::values::{number_of, schedule_of, workers_of};
 
 /// How many workers there are where the words don't say.
-const WORKERS: u64 = 4;
+const DEFAULT_WORKERS: u8 = 4;
 
 /// A command by its name.
 #[derive(Clone, Copy)]
@@ -42,11 +42,11 @@ fn verb_of(word: &str) -> Option<Verb>
     }
 }
 
-fn crew_of(workers: Option<u64>, schedule: Option<Schedule>) -> Crew
+fn crew_of(workers: Option<u8>, schedule: Option<Schedule>) -> Crew
     ensures { result ≡ crew_of workers schedule }
 {
     Crew {
-        workers: workers.unwrap_or(WORKERS),
+        workers: workers.unwrap_or(DEFAULT_WORKERS),
         schedule,
     }
 }
@@ -55,7 +55,7 @@ fn crew_of(workers: Option<u64>, schedule: Option<Schedule>) -> Crew
 fn command_with(
     verb: Verb,
     number: Option<u64>,
-    workers: Option<u64>,
+    workers: Option<u8>,
     schedule: Option<Schedule>,
     places: Places,
 ) -> Option<Command>
@@ -84,7 +84,7 @@ fn given_number(word: Option<&str>) -> Option<Option<u64>>
     }
 }
 
-fn given_workers(word: Option<&str>) -> Option<Option<u64>>
+fn given_workers(word: Option<&str>) -> Option<Option<u8>>
     ensures { result ≡ given workers_of (option_map (λ w. w.now) word.entry) }
 {
     match word {

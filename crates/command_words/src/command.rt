@@ -24,7 +24,7 @@ pub enum Schedule {
 #[derive(Clone, Copy, Debug, PartialEq, Eq)]
 pub struct Crew {
     /// 1 to 16.
-    pub workers: u64,
+    pub workers: u8,
     /// Where there is one, no threads run it.
     pub schedule: Option<Schedule>,
 }

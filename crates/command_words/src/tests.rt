@@ -11,66 +11,13 @@ fn words(alloc: Global, text: &str) -> Result<Words, OutOfMemory> {
     Ok(words)
 }
 
-const FOUR: Crew = Crew {
-    workers: 4,
-    schedule: None,
-};
-
-const fn crew(workers: u64, schedule: Option<Schedule>) -> Crew {
+fn crew(workers: u8, schedule: Option<Schedule>) -> Crew {
     Crew { workers, schedule }
 }
 
-/// Words that ask for a command.
-const ACCEPTED: [(&str, Command); 24] = [
-    ("run", Command::Run(Places::Unlisted, FOUR)),
-    ("seq", Command::Seq(Places::Unlisted)),
-    ("--map seq", Command::Seq(Places::Listed)),
-    ("check", Command::Check),
-    ("print", Command::Print),
-    ("code", Command::Code),
-    ("gen 7", Command::Gen(7)),
-    ("gen -- 7", Command::Gen(7)),
-    ("gen 00000000000000000007", Command::Gen(7)),
-    ("gen 18446744073709551615", Command::Gen(u64::MAX)),
-    ("load 7", Command::Load(7, FOUR)),
-    ("load --workers 16 7", Command::Load(7, crew(16, None))),
-    ("run --workers=4", Command::Run(Places::Unlisted, FOUR)),
-    (
-        "--workers 1 run",
-        Command::Run(Places::Unlisted, crew(1, None)),
-    ),
-    (
-        "--map run --workers=16",
-        Command::Run(Places::Listed, crew(16, None)),
-    ),
-    ("run --workers 004", Command::Run(Places::Unlisted, FOUR)),
-    ("-- run", Command::Run(Places::Unlisted, FOUR)),
-    ("run --", Command::Run(Places::Unlisted, FOUR)),
-    (
-        "--workers=2 -- run",
-        Command::Run(Places::Unlisted, crew(2, None)),
-    ),
-    (
-        "run --schedule=0 --workers 1",
-        Command::Run(Places::Unlisted, crew(1, Some(Schedule::Seed(0)))),
-    ),
-    (
-        "run --schedule oldest",
-        Command::Run(Places::Unlisted, crew(4, Some(Schedule::Oldest))),
-    ),
-    (
-        "run --schedule newest",
-        Command::Run(Places::Unlisted, crew(4, Some(Schedule::Newest))),
-    ),
-    (
-        "run --schedule movers",
-        Command::Run(Places::Unlisted, crew(4, Some(Schedule::Movers))),
-    ),
-    (
-        "run --schedule maillast",
-        Command::Run(Places::Unlisted, crew(4, Some(Schedule::MailLast))),
-    ),
-];
+fn run(workers: u8, schedule: Option<Schedule>) -> Command {
+    Command::Run(Places::Unlisted, crew(workers, schedule))
+}
 
 /// Words that ask for none; an empty text is one empty word.
 const REFUSED: [&str; 40] = [
@@ -119,7 +66,39 @@ const REFUSED: [&str; 40] = [
 #[test]
 fn words_are_read(rt: HostRuntime) -> Result<(), Fail> {
     let alloc = rt.alloc();
-    for (text, command) in &ACCEPTED {
+    let accepted = [
+        ("run", run(4, None)),
+        ("seq", Command::Seq(Places::Unlisted)),
+        ("--map seq", Command::Seq(Places::Listed)),
+        ("check", Command::Check),
+        ("print", Command::Print),
+        ("code", Command::Code),
+        ("gen 7", Command::Gen(7)),
+        ("gen -- 7", Command::Gen(7)),
+        ("gen 00000000000000000007", Command::Gen(7)),
+        ("gen 18446744073709551615", Command::Gen(u64::MAX)),
+        ("load 7", Command::Load(7, crew(4, None))),
+        ("load --workers 16 7", Command::Load(7, crew(16, None))),
+        ("run --workers=4", run(4, None)),
+        ("--workers 1 run", run(1, None)),
+        (
+            "--map run --workers=16",
+            Command::Run(Places::Listed, crew(16, None)),
+        ),
+        ("run --workers 004", run(4, None)),
+        ("-- run", run(4, None)),
+        ("run --", run(4, None)),
+        ("--workers=2 -- run", run(2, None)),
+        (
+            "run --schedule=0 --workers 1",
+            run(1, Some(Schedule::Seed(0))),
+        ),
+        ("run --schedule oldest", run(4, Some(Schedule::Oldest))),
+        ("run --schedule newest", run(4, Some(Schedule::Newest))),
+        ("run --schedule movers", run(4, Some(Schedule::Movers))),
+        ("run --schedule maillast", run(4, Some(Schedule::MailLast))),
+    ];
+    for (text, command) in &accepted {
         assert_eq!(rt;
             command_of(alloc, &words(alloc, text)?)?,
             Some(*command),

@@ -2,6 +2,7 @@ ghost use Rattle.std.specs.Prelude.{◌≡◌};
 ghost use Rattle.command_words.specs.Values.{number_of, schedule_of, workers_of};
 
 use crate::command::Schedule;
+use wave_base::WORKERS;
 use wave_text::is_digits;
 
 /// How many digits a number has at most.
@@ -19,11 +20,11 @@ pub fn number_of(word: &str) -> Option<u64>
 }
 
 /// The number of workers that a word stands for.
-pub fn workers_of(word: &str) -> Option<u64>
+pub fn workers_of(word: &str) -> Option<u8>
     ensures { result ≡ workers_of word.now }
 {
     match number_of(word) {
-        Some(n) if 1 <= n && n <= 16 => Some(n),
+        Some(n) if 1 <= n && n <= u64::from(WORKERS) => Some(n as u8),
         _ => None,
     }
 }

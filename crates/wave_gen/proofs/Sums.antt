@@ -1,5 +1,5 @@
 -- A running sum of whole numbers of 64 bits: the sum of what is behind, beside what is to come, and how large it can be.
-use Rattle.std.proofs.Common.{◌≡◌, ℕ, ◌+◌, ◌*◌, ◌^◌, ◌<◌, ℤ, pos, ◌+ℤ◌, ◌≤ℤ◌, neg_ℤ, List, ◌∷◌, drop, drop-cons, length, get_or, add-one, suc, refl, sym, ap, ◌∙◌, arith}
+use Rattle.std.proofs.Common.{◌≡◌, ℕ, ◌+◌, ◌*◌, ◌^◌, ◌<◌, ℤ, pos, ◌+ℤ◌, ◌≤ℤ◌, neg_ℤ, List, drop, drop-cons, length, get_or, add-one, suc, sym, ap, ◌∙◌, arith}
 use Rattle.std.proofs.lemmas.Int.{ints}
 use Rattle.wave_base.specs.declared.outcome.EventResult.{EventResult}
 use Rattle.wave_gen.specs.Summary.{total, worth}
