@@ -2,3 +2,4 @@ pub mod Values
 pub mod Choice
 pub mod Reading
 pub mod ByHand
+pub mod Inputs

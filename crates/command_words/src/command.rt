@@ -1,3 +1,6 @@
+ghost use Rattle.std.specs.Prelude.{◌≡◌};
+ghost use Rattle.command_words.specs.Inputs.{reads_input};
+
 /// Whether the listing ends with the hosts of the contexts.
 #[derive(Clone, Copy, Debug, PartialEq, Eq)]
 pub enum Places {
@@ -46,4 +49,20 @@ pub enum Command {
     Gen(u64),
     /// Runs the generated load of a number, and sums it up. The crew has no schedule.
     Load(u64, Crew),
+}
+
+impl Command {
+    /// Whether it reads standard input.
+    pub fn reads_input(&self) -> bool
+        ensures { result ≡ reads_input self.now }
+    {
+        match self {
+            Command::Run(_, _)
+            | Command::Seq(_)
+            | Command::Check
+            | Command::Print
+            | Command::Code => true,
+            Command::Gen(_) | Command::Load(_, _) => false,
+        }
+    }
 }

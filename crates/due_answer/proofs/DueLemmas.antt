@@ -19,7 +19,7 @@ use Rattle.command_words.specs.declared.command.Command.{Command}
 use Rattle.due_answer.specs.declared.report.Engine.{Engine}
 use Rattle.due_answer.specs.declared.report.Report.{Report}
 use Rattle.input_parts.specs.Parts.{service_of}
-use Rattle.command_words.specs.Choice.{reads_input}
+use Rattle.command_words.specs.Inputs.{reads_input}
 use Rattle.command_words.specs.declared.command.Command.TheVariants.{Run, Seq, Check, Print, Code, Gen, Load}
 use Rattle.due_answer.specs.declared.report.Engine.TheVariants.{Workers, Evaluator}
 use Rattle.due_answer.specs.declared.report.Report.TheVariants.{Listing}

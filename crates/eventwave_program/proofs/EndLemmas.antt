@@ -4,7 +4,7 @@ use Rattle.std.specs.Io.KnownBytes.{Consumes}
 use Rattle.wave_base.specs.declared.limits.TheConstants.{INPUT_BYTES}
 use Rattle.due_answer.specs.declared.answer.Answer.{Answer}
 use Rattle.command_words.specs.declared.command.Command.{Command}
-use Rattle.command_words.specs.Choice.{reads_input}
+use Rattle.command_words.specs.Inputs.{reads_input}
 use Rattle.due_answer.specs.Due.{IsOnlyDue, too_large_input}
 use Rattle.eventwave_program.specs.Ends.{SomeInputDue, IsInput, IsInputWhere, IsLeft, IsLong}
 use Rattle.due_answer.proofs.DueLemmas.{only_too_large}

@@ -8,7 +8,7 @@ use Rattle.due_answer.specs.declared.answer.Answer.{Answer}
 use Rattle.eventwave_program.specs.declared.ending.Ending.{Ending}
 use Rattle.eventwave_program.specs.declared.ending.Ending.TheVariants.{WordsRefused, ReadFault, WriteFault, NoMemory, Answered}
 use Rattle.command_words.specs.declared.command.Command.{Command}
-use Rattle.command_words.specs.Choice.{reads_input}
+use Rattle.command_words.specs.Inputs.{reads_input}
 use Rattle.command_words.specs.Reading.{command_of}
 use Rattle.due_answer.specs.Due.{IsOnlyDue}
 

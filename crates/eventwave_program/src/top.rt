@@ -3,7 +3,7 @@ ghost use Rattle.std.specs.Io.KnownBytes.{Appends, Keeps};
 ghost use Rattle.wave_io.specs.Causes.{Rose};
 ghost use Rattle.due_answer.specs.declared.answer.Answer.{Answer};
 ghost use Rattle.command_words.specs.declared.command.Command.{Command};
-ghost use Rattle.command_words.specs.Choice.{reads_input};
+ghost use Rattle.command_words.specs.Inputs.{reads_input};
 ghost use Rattle.command_words.specs.Reading.{command_of};
 ghost use Rattle.due_answer.specs.Due.{IsDue};
 ghost use Rattle.eventwave_program.specs.Ends.{note_for, is_given, read_by, IsTold, SomeInputDue, SomeDue, Told, ReadsAll, Unread, WritesFront, status_of, note_of, Gave, Ended, ReadsDue, is_read_fault};
