@@ -1,4 +1,4 @@
-ghost use Rattle.std.specs.Prelude.{◌≡◌, ◌⊎◌, List, ℕ, Option, true, false, Some, None, IsSome, IfSome, IfOk, IsErrOf};
+ghost use Rattle.std.specs.Prelude.{◌≡◌, ◌⊎◌, List, ℕ, Option, true, false, Some, None, IsSome, IfSome, IfOk, IfErr, IsErrOf};
 ghost use Rattle.std.specs.Io.KnownBytes.{Appends, Keeps};
 ghost use Rattle.wave_io.specs.Causes.{Rose};
 ghost use Rattle.due_answer.specs.declared.answer.Answer.{Answer};
@@ -77,11 +77,7 @@ fn give<K: Sink>(out: &mut K, answer: Answer) -> Ending
 }
 
 /// Finds what is due for a command.
-fn find_due<S: Source>(
-    alloc: Global,
-    command: Command,
-    input: &mut S,
-) -> Result<Answer, InputError>
+fn find_due<S: Source>(alloc: Global, command: Command, input: &mut S) -> Result<Answer, InputError>
     ensures found { IfOk result (SomeInputDue command (S.left input.old)) }
     ensures end { reads_input command ≡ true → IfOk result (λ _. ReadsAll (S.left input.old) (S.left input.new)) }
     ensures fault { IsErrOf result InputError.ReadFault → Rose (S.faults input.old) (S.faults input.new) }
@@ -252,5 +248,27 @@ pub fn eventwave<R: Threads + Wait + Sync, S: Source, K: Sink, N: Sink, G: Gate 
     match eventwave_alone(alloc, words, input, out, notes) {
         Some(status) => status,
         None => unreachable!(),
+    }
+}
+
+/// The same for words that may have found no memory, and then that is the status.
+pub fn start<R: Threads + Wait + Sync, S: Source, K: Sink, N: Sink, G: Gate + Sync>(
+    rt: &R,
+    alloc: Global,
+    words: Result<Words, OutOfMemory>,
+    input: &mut S,
+    out: &mut K,
+    notes: &mut N,
+    gate: &G,
+) -> u8
+    ensures no_memory { IfErr words (λ _. (result ≡ 7) × Keeps (S.left input.old) (S.left input.new) × Keeps (K.written out.old) (K.written out.new)) }
+    ensures words { IfOk words (λ w. result ≡ 2 → command_of w ≡ None) }
+    ensures given { IfOk words (λ w. is_given result ≡ true → SomeDue w (S.left input.old) (λ due. (result ≡ due.status)
+        × Appends (K.written out.old) (K.written out.new) due.text
+        × Told (N.faults notes.old) (N.faults notes.new) (N.written notes.old) (N.written notes.new) due.note)) }
+{
+    match words {
+        Ok(words) => eventwave(rt, alloc, &words, input, out, notes, gate),
+        Err(OutOfMemory) => status_of(&Ending::NoMemory),
     }
 }
