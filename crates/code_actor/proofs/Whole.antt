@@ -10,17 +10,17 @@ use Rattle.service_verify.specs.Copies.{Trip, next_trip, trip_after, first_trip}
 use Rattle.service_verify.specs.Fit.{IsFit}
 use Rattle.service_verify.specs.Points.{IsVerified}
 use Rattle.service_verify.specs.Segments.{Event}
-use Rattle.service_verify.specs.Standing.{HasFields, HasTree}
+use Rattle.service_verify.specs.Standing.{HasTree}
 use Rattle.service_verify.specs.Tours.{Tour, most_segments, code_tour}
 use Rattle.service_verify.proofs.Copying.{copies_same}
 use Rattle.service_verify.proofs.Locals.{begins}
 use Rattle.service_verify.proofs.Touring.{code_ends}
 use Rattle.wave_states.specs.Alone.{Alone, next_alone, after_segments, first_alone, run_alone, count_from, segments_of}
 use Rattle.wave_states.specs.Owes.{Owes}
-use Rattle.code_actor.specs.CodeActors.{Fields, no_result, enough_segments, code_actors, IsJob, IsFine}
+use Rattle.code_actor.specs.CodeActors.{code_kind, Fields, no_result, enough_segments, code_actors, IsJob}
 use Rattle.code_actor.specs.Follows.{Follows, IsWhole}
 use Rattle.code_actor.proofs.Following.{Walked, done, going, followed, walks_on, counts, trip_stays, first_walked, all_walked}
-use Rattle.code_actor.proofs.Segmented.{initial_has, segment_kept, segment_protocol}
+use Rattle.code_actor.proofs.Segmented.{initial_has, segment_kept, segment_looks, segment_protocol}
 
 module _ (program : Program) (fit : IsFit program) (verified : IsVerified program) where
   -- the first segment first
@@ -79,12 +79,12 @@ module _ (program : Program) (fit : IsFit program) (verified : IsVerified progra
         counted : count_from (code_actors program) (enough_segments program) (first_alone (code_actors program) call ticket tree) ≡ (trip_after program (enough_segments program) (first_trip program call tree)).tour.segments
         counted = plus_none _ ∙ all_counted (enough_segments program) (first_alone (code_actors program) call ticket tree) (first_trip program call tree) (first_walked program fit verified call ticket tree is_job has)
 
-  pub owes : (hosts : ℕ) → Owes (code_actors program) hosts (HasFields program.shape) (IsJob program) (IsFine program)
+  pub owes : (hosts : ℕ) → Owes (code_kind program hosts)
   owes hosts = record {
     initial = initial_has program.shape fit.shape;
     first = λ call ticket is_job. begins program fit verified call is_job.0 is_job.1;
     kept = λ e p n fields children stands has. segment_kept program fit verified p n e fields stands has;
     keeps = λ e p n fields children stands has. segment_protocol program fit verified hosts p n e fields stands has;
-    looks = λ e p n fields children stands has looks. absurd (true≢false (sym looks));
+    looks = λ e p n fields children stands has looks. segment_looks program fit verified hosts p n e fields children stands has looks;
     ends = λ call ticket tree is_job has ordered. ends call ticket tree is_job has;
   }

@@ -13,10 +13,12 @@ use Rattle.wave_base.specs.Scripts.{IsCall}
 use Rattle.wave_base.specs.Shapes.{initial_fields}
 use Rattle.service_code.specs.declared.program.Program.{Program}
 use Rattle.service_verify.specs.Boxes.{first_box}
+use Rattle.service_verify.specs.Looks.{is_peeking}
 use Rattle.service_verify.specs.Segments.{Event, Left as Halted, event_segment}
-use Rattle.service_verify.specs.Standing.{Stands}
+use Rattle.service_verify.specs.Standing.{Stands, HasFields}
 use Rattle.service_verify.specs.Tours.{most_segments}
 use Rattle.wave_states.specs.Actors.{Actors, Left, Pause, Go, Down, Back, Over}
+use Rattle.wave_states.specs.Kinds.{Kind}
 
 -- the fields of a context
 abbrev pub Fields : Type 0
@@ -46,12 +48,12 @@ first_event program call = record { box = first_box program call; levels = [] }
 unfoldable pub enough_segments : Program → ℕ
 enough_segments program = most_segments program
 
--- code never asks which children there are; none of it only looks; and it moves no context
+-- code never asks which children there are, and moves no context; an event that peeks only looks
 abbrev pub code_actors : Program → Actors Event Fields EventResult Call
 code_actors program = record {
   make = λ call ticket. first_event program call;
   segment = λ e fields children. left_of e fields (event_segment program e fields);
-  peeks = λ e. false;
+  peeks = λ e. is_peeking program e.box;
   initial = initial_fields program.shape;
   created = λ r. r.created;
   moved = move_of;
@@ -66,3 +68,7 @@ IsJob program call = IsCall program.shape call × (call.generation ≤ GENERATIO
 -- the event stands at a path, with so many calls open
 abbrev pub IsFine : Program → Event → Path → ℕ → Type 0
 IsFine program e p calls = Stands program p calls e
+
+-- as a kind of actors, however many hosts there are
+abbrev pub code_kind : Program → ℕ → Kind Event Fields EventResult Call
+code_kind program hosts = record { system = code_actors program; hosts = hosts; fits = HasFields program.shape; is_job = IsJob program; may_run = IsFine program }

@@ -11,13 +11,13 @@ ghost use Rattle.service_verify.specs.Standing.{HasFields, HasTree};
 ghost use Rattle.service_verify.specs.Tours.{tour_after, first_tour, code_tour};
 ghost use Rattle.wave_states.specs.Alone.{after_segments, first_alone, run_alone, segments_of};
 ghost use Rattle.wave_states.specs.Owes.{Owes};
-ghost use Rattle.code_actor.specs.CodeActors.{Fields, code_actors, IsJob, IsFine};
+ghost use Rattle.code_actor.specs.CodeActors.{code_kind, Fields, code_actors, IsJob, IsFine};
 ghost use Rattle.code_actor.specs.Follows.{Follows, IsWhole};
 ghost use Rattle.code_actor.specs.Locks.{Locks};
 
 /// Events keep the tree protocol: they owe all that the machine asks of an actor, however many hosts there are.
 pub fn events_owe()
-    ensures { (program : Program) (hosts : ℕ) → IsFit program → IsVerified program → Owes (code_actors program) hosts (HasFields program.shape) (IsJob program) (IsFine program) }
+    ensures { (program : Program) (hosts : ℕ) → IsFit program → IsVerified program → Owes (code_kind program hosts) }
 {}
 
 /// An event enters a context only while it holds the one above, and none twice; and what it gave up it never holds again.

@@ -1,13 +1,15 @@
-// A library with one function.
+//! What a host keeps of a context: its record, the tickets that hold it, and the line of those that wait to get in.
 #![tactic(auto)]
 
-ghost use Rattle.std.specs.Prelude.{◌≡◌};
-ghost use Rattle.context_queue.specs.Echo.{echo_of};
+mod entry;
+mod laws;
+mod peeks;
+mod waiting;
 
-// The `ensures` clause is the contract: what `echo` returns is `echo_of` of its argument, a definition
-// in `specs/Echo.antt`, which a caller's clause can cite too.
-pub fn echo(x: usize) -> usize
-    ensures { result ≡ echo_of x }
-{
-    x
-}
+pub use entry::Entry;
+pub use laws::entries_stand;
+pub use peeks::Peeks;
+pub use waiting::{Claim, Waiting};
+
+#[cfg(test)]
+mod tests;

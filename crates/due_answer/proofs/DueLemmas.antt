@@ -10,7 +10,7 @@ use Rattle.type_rules.specs.Known.{shape_of}
 use Rattle.type_rules.specs.Views.{resolved_view}
 use Rattle.meaning_views.proofs.SameMeaning.{same_calls}
 use Rattle.script_fold.specs.Runs.{finished_of}
-use Rattle.wave_meaning.specs.Meaning.{results_of}
+use Rattle.wave_meaning.specs.Meaning.{results_of, IsWhole}
 use Rattle.context_types.specs.declared.Typed.{Typed}
 use Rattle.service_reader.specs.declared.fault.TextFault.{TextFault}
 use Rattle.service_reader.specs.Parsing.{IsOnlyParse}
@@ -81,23 +81,23 @@ only_same x = record { is_due = refl; only = λ other h. h }
 same_results : (shape : Shape) (a b : Resolved) (script : Script) → resolved_view a ≡ resolved_view b → results_of shape a script ≡ results_of shape b script
 same_results shape a b script e = ap (λ calls. finished_of (λ tree call. (calls tree call).ran) shape (first_start shape) script) (same_calls a b e)
 
-only_fold : (report : Report) (tree : ServiceTree) (typed : Typed) (script : Script) → IsTypedTree tree typed →
+only_fold : (report : Report) (tree : ServiceTree) (typed : Typed) (script : Script) → IsTypedTree tree typed → IsWhole typed.shape typed.resolved script →
     Only (IsDueFold report tree script) (reported typed.shape report (results_of typed.shape typed.resolved script))
-only_fold report tree typed script t = record {
-  is_due = record { service = typed.resolved; resolved = t.resolved_is; due_is = ap (λ s. reported s report (results_of s typed.resolved script)) t.shape_is };
+only_fold report tree typed script t whole = record {
+  is_due = record { service = typed.resolved; resolved = t.resolved_is; whole = subst (λ s. IsWhole s typed.resolved script) t.shape_is whole; due_is = ap (λ s. reported s report (results_of s typed.resolved script)) t.shape_is };
   only = λ other h. h.due_is ∙ ap (reported (shape_of tree) report) (same_results (shape_of tree) h.service typed.resolved script (h.resolved ∙ sym t.resolved_is))
       ∙ ap (λ s. reported s report (results_of s typed.resolved script)) (sym t.shape_is);
 }
 
-only_built : (engine : Engine) (report : Report) (tree : ServiceTree) (typed : Typed) (script : Script) → is_unbuilt engine script ≡ false → IsTypedTree tree typed →
+only_built : (engine : Engine) (report : Report) (tree : ServiceTree) (typed : Typed) (script : Script) → is_unbuilt engine script ≡ false → IsTypedTree tree typed → IsWhole typed.shape typed.resolved script →
     Only (IsDueRun engine report tree script) (reported typed.shape report (results_of typed.shape typed.resolved script))
-only_built engine report tree typed script h t = subst (λ w. Only (IsDueWhere report tree script w) (reported typed.shape report (results_of typed.shape typed.resolved script))) (sym h) (only_fold report tree typed script t)
+only_built engine report tree typed script h t whole = subst (λ w. Only (IsDueWhere report tree script w) (reported typed.shape report (results_of typed.shape typed.resolved script))) (sym h) (only_fold report tree typed script t whole)
 
 -- the listing of a script that wants no machine
-pub built_if : {E : Type 0} (engine : Engine) (report : Report) (tree : ServiceTree) (typed : Typed) (script : Script) (r : Result Answer E) → is_unbuilt engine script ≡ false → IsTypedTree tree typed →
+pub built_if : {E : Type 0} (engine : Engine) (report : Report) (tree : ServiceTree) (typed : Typed) (script : Script) (r : Result Answer E) → is_unbuilt engine script ≡ false → IsTypedTree tree typed → IfOk r (λ _. IsWhole typed.shape typed.resolved script) →
     IfOk r (λ a. a ≡ reported typed.shape report (results_of typed.shape typed.resolved script)) → IfOk r (Only (IsDueRun engine report tree script))
-built_if engine report tree typed script (Ok a) h t e = subst (Only (IsDueRun engine report tree script)) (sym e) (only_built engine report tree typed script h t)
-built_if engine report tree typed script (Err e) h t is = tt
+built_if engine report tree typed script (Ok a) h t whole e = subst (Only (IsDueRun engine report tree script)) (sym e) (only_built engine report tree typed script h t whole)
+built_if engine report tree typed script (Err e) h t whole is = tt
 
 only_short : (P : ServiceTree → Script → Answer → Type 0) (text : List ℕ) (tree : ServiceTree) (shape : Shape) (due : Answer) → length text ≤ SCRIPT_BYTES → shape ≡ shape_of tree →
     Only (IsDueLines (P tree) shape text) due → Only (IsDueScript P text tree) due

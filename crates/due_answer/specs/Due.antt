@@ -33,7 +33,7 @@ use Rattle.script_reader.specs.Judged.{nothing_earlier}
 use Rattle.script_reader.specs.Scripts.{IsRead}
 use Rattle.wave_text.specs.Lines.{lines_of}
 use Rattle.listing_out.specs.Listing.{listing}
-use Rattle.wave_meaning.specs.Meaning.{results_of}
+use Rattle.wave_meaning.specs.Meaning.{results_of, IsWhole}
 use Rattle.due_answer.specs.declared.answer.Answer.{Answer}
 use Rattle.command_words.specs.declared.command.Command.{Command}
 use Rattle.command_words.specs.declared.command.Command.TheVariants.{Run, Seq, Check, Print, Code, Gen, Load}
@@ -128,10 +128,11 @@ report_text shape Summary done = summary_text done.results
 abbrev pub reported : Shape → Report → Finished → Answer
 reported shape report done = record { status = if any_trap done.results then 1 else 0; note = []; text = report_text shape report done }
 
--- of a script that was read: what its fold on the service with each name resolved has done
+-- of a script that was read: what its fold, to its end, on the service with each name resolved has done
 pub record IsDueFold (report : Report) (tree : ServiceTree) (script : Script) (due : Answer) : Type 0 where
   pub service : Resolved
   pub resolved : resolved_view service ≡ resolve_service tree
+  pub whole : IsWhole (shape_of tree) service script
   pub due_is : due ≡ reported (shape_of tree) report (results_of (shape_of tree) service script)
 
 abbrev pub is_request : Line → Bool

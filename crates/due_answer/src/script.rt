@@ -4,7 +4,7 @@ ghost use Rattle.wave_base.specs.declared.limits.TheConstants.{SCRIPT_BYTES};
 ghost use Rattle.wave_base.specs.Scripts.{IsScript};
 ghost use Rattle.wave_base.specs.Shapes.{IsShape};
 ghost use Rattle.resolved_service.specs.Fits.{FitsService};
-ghost use Rattle.wave_meaning.specs.Meaning.{results_of};
+ghost use Rattle.wave_meaning.specs.Meaning.{results_of, IsWhole};
 ghost use Rattle.mace_ast.specs.Decls.{ServiceTree};
 ghost use Rattle.fault_notes.specs.Notes.{script_note};
 ghost use Rattle.script_reader.specs.declared.error.ScriptError.{ScriptError};
@@ -100,7 +100,8 @@ fn reported(
     requires shape { IsShape typed.now.shape }
     requires service { FitsService typed.now.shape typed.now.resolved }
     requires script { IsScript typed.now.shape script.now }
-    ensures { IfOk result (λ a. a ≡ reported typed.now.shape report (results_of typed.now.shape typed.now.resolved script.now)) }
+    ensures value { IfOk result (λ a. a ≡ reported typed.now.shape report (results_of typed.now.shape typed.now.resolved script.now)) }
+    ensures whole { IfOk result (λ _. IsWhole typed.now.shape typed.now.resolved script.now) }
 {
     let done = run_script(alloc, &typed.shape, &typed.resolved, script)?;
     let text = report_text(alloc, report, &typed.shape, &done)?;

@@ -1,13 +1,12 @@
-// A library with one function.
+//! What a host keeps: the entries of the contexts that are here, and a mark for each context that went from here to another host.
 #![tactic(auto)]
 
-ghost use Rattle.std.specs.Prelude.{◌≡◌};
-ghost use Rattle.host_map.specs.Echo.{echo_of};
+mod laws;
+mod lends;
+mod store;
 
-// The `ensures` clause is the contract: what `echo` returns is `echo_of` of its argument, a definition
-// in `specs/Echo.antt`, which a caller's clause can cite too.
-pub fn echo(x: usize) -> usize
-    ensures { result ≡ echo_of x }
-{
-    x
-}
+pub use laws::stores_stand;
+pub use store::{Found, HostStore, Mark, place_of};
+
+#[cfg(test)]
+mod tests;

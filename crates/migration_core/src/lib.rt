@@ -1,13 +1,16 @@
-// A library with one function.
+//! Mail of the machine and the ways that it takes: how an Enter finds a context that moves, how a context departs and lands, and
+//! the movers that send one.
 #![tactic(auto)]
 
-ghost use Rattle.std.specs.Prelude.{◌≡◌};
-ghost use Rattle.migration_core.specs.Echo.{echo_of};
+mod mail;
+mod mover;
+mod moves;
+mod ways;
 
-// The `ensures` clause is the contract: what `echo` returns is `echo_of` of its argument, a definition
-// in `specs/Echo.antt`, which a caller's clause can cite too.
-pub fn echo(x: usize) -> usize
-    ensures { result ≡ echo_of x }
-{
-    x
-}
+pub use mail::{Letter, Mail, Route};
+pub use mover::{Mover, advance};
+pub use moves::{depart, land};
+pub use ways::route;
+
+#[cfg(test)]
+mod tests;

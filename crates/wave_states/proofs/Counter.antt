@@ -1,32 +1,16 @@
--- One counter at the root: each event adds one and replies. What its runs are, computed.
-use Rattle.std.proofs.Common.{◌≡◌, refl, ℕ, zero, suc, List, [], ◌∷◌, Option, Some, None, Bool, true, false, length, map}
+-- What runs of the counter are, computed.
+use Rattle.std.proofs.Common.{◌≡◌, refl, ℕ, List, [], ◌∷◌, Option, Some, length, map}
 use Rattle.std.specs.Prelude.{option_map}
 use Rattle.wave_base.specs.Tree.{bare}
-use Rattle.wave_states.specs.Actors.{Actors, Over}
+use Rattle.wave_states.specs.Counter.{counter}
 use Rattle.wave_states.specs.States.{State}
 use Rattle.wave_states.specs.Labels.{Label, Act, Admit, Queue, Grant, Start, Stop, Free, Commit}
 use Rattle.wave_states.specs.Begins.{first_begin, start_state}
-use Rattle.wave_states.specs.Canonical.{enabled, is_finished}
+use Rattle.wave_states.specs.Canonical.{enabled}
+use Rattle.wave_states.specs.Steps.{step}
 use Rattle.wave_states.specs.Runs.{run, drive, seed}
 use Rattle.wave_states.specs.Alone.{fold_alone, after_segments}
 use Rattle.wave_states.specs.Work.{work_after}
-
--- a job of n creates n jobs of 0
-abbrev pub zeros : ℕ → List ℕ
-zeros zero = []
-zeros (suc n) = 0 ∷ zeros n
-
-abbrev pub counter : Actors ℕ ℕ (ℕ × ℕ) ℕ
-counter = record {
-  make = λ j t. j;
-  segment = λ a f cs. record { actor = a; fields = suc f; pause = Over (suc f, a) };
-  peeks = λ a. false;
-  initial = λ p. 0;
-  created = λ r. zeros r.1;
-  moved = λ r. None;
-  enough = λ j t tree. 1;
-  unended = (0, 0);
-}
 
 abbrev pub start : List (List ℕ) → State ℕ ℕ (ℕ × ℕ) ℕ
 start batches = start_state (first_begin (λ p. 0)) batches
@@ -40,19 +24,22 @@ by_worker w acts = map (λ a. record { worker = w; host = 0; act = a }) acts
 abbrev pub journal : List Label
 journal = by_worker 0 (Admit 1 ∷ Queue 1 1 [] ∷ Grant 1 [] ∷ Start 1 [] ∷ Stop 1 [] ∷ Commit 1 ∷ Free 1 2 [] ∷ [])
 
-abbrev pub seen : Option (State ℕ ℕ (ℕ × ℕ) ℕ) → Option (ℕ × Option (ℕ × ℕ) × Bool)
-seen o = option_map (λ s. (s.head.done, (s.cells 1).result, is_finished counter 4 1 s)) o
+abbrev pub seen : Option (State ℕ ℕ (ℕ × ℕ) ℕ) → Option (ℕ × Option (ℕ × ℕ) × ℕ)
+seen o = option_map (λ s. (s.head.done, (s.cells 1).result, length (enabled counter 4 1 s))) o
 
 -- the seven labels of one event are a run, after which all is done
-run_is : seen (run counter 4 (start one) journal) ≡ Some (1, Some (1, 0), true)
+run_is : seen (run counter 4 (start one) journal) ≡ Some (1, Some (1, 0), 0)
+unfolding step run enabled
 run_is = refl
 
 -- and they are the drive from seed 0
 drive_is : drive counter 4 1 seed 20 0 (start one) ≡ journal
+unfolding step enabled drive
 drive_is = refl
 
 -- before them, only an Admit is enabled
 begins_with : enabled counter 4 1 (start one) ≡ by_worker 0 (Admit 1 ∷ [])
+unfolding step enabled
 begins_with = refl
 
 -- ticket 8 comes after seven others: its entry number at the root is 8
@@ -63,6 +50,7 @@ abbrev pub eighth : Option (State ℕ ℕ (ℕ × ℕ) ℕ) → Option (ℕ × O
 eighth o = option_map (λ s. (s.head.done, (s.cells 8).result)) o
 
 later_is : eighth (run counter 4 later (by_worker 0 (Admit 8 ∷ Queue 8 1 [] ∷ Grant 8 [] ∷ Start 8 [] ∷ Stop 8 [] ∷ Commit 8 ∷ Free 8 2 [] ∷ []))) ≡ Some (1, Some (4, 0))
+unfolding step run
 later_is = refl
 
 -- two batches: the first line creates two jobs, for which the second batch waits, so its line has ticket 4
@@ -76,6 +64,7 @@ abbrev pub known_then : Option (State ℕ ℕ (ℕ × ℕ) ℕ) → Option (List
 known_then o = option_map (λ s. (s.head.known, s.head.done, (s.cells 4).result)) o
 
 waits_for_created : known_then (run counter 2 (start two) waits) ≡ Some (2 ∷ 0 ∷ 0 ∷ 0 ∷ [], 4, Some (4, 0))
+unfolding step run enabled drive
 waits_for_created = refl
 
 -- the fold gives the same results
@@ -89,4 +78,5 @@ unfolding after_segments
 work_is = refl
 
 so_many : length waits ≡ 28
+unfolding step enabled drive
 so_many = refl

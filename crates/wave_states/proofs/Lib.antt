@@ -1,4 +1,6 @@
+pub mod Children
 pub mod Counter
+pub mod Counting
 pub mod Moving
 pub mod Segments
 pub mod Starts

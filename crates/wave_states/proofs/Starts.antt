@@ -16,8 +16,8 @@ use Rattle.wave_base.specs.Shapes.{is_path, initial_fields, fields_of_class}
 use Rattle.wave_base.specs.Tree.{there}
 use Rattle.wave_base.specs.Trees.{HasKinds}
 use Rattle.wave_base.specs.Starts.{IsStart, first_start, start_tree, shown_host}
-use Rattle.wave_states.specs.Actors.{Actors}
 use Rattle.wave_states.specs.Begins.{begin_of, first_begin}
+use Rattle.wave_states.specs.Kinds.{Kind}
 use Rattle.wave_states.specs.Owes.{IsBegin}
 
 bool_swap : (p q : Path) → path_eq p q ≡ true → path_eq q p ≡ true
@@ -48,23 +48,23 @@ host_within count (x ∷ xs) h q e = by (path_eq x.path q) refl (host_within cou
     by true z f = h.0
     by false z f = f (off (path_eq q x.path) (not_other (path_eq q x.path) refl z) e)
 
-module _ {A R J : Type 0} (sys : Actors A (List Value) R J) (fits : Path → List Value → Type 0) (is_job : J → Type 0) (fine : A → Path → ℕ → Type 0) (shape : Shape) (initial : (p : Path) → sys.initial p ≡ initial_fields shape p) (begins : (p : Path) → fits p (sys.initial p))
-    (kinds : (p : Path) (f : List Value) → is_path shape p ≡ true → HasKinds shape p f → fits p f) where
-  pub start_fits : (count : ℕ) (start : Start) → IsStart shape count start → IsBegin sys count fits is_job fine (begin_of shape start)
-  start_fits count start s = record {
+module _ {A R J : Type 0} (kind : Kind A (List Value) R J) (shape : Shape) (initial : (p : Path) → kind.system.initial p ≡ initial_fields shape p) (begins : (p : Path) → kind.fits p (kind.system.initial p))
+    (kinds : (p : Path) (f : List Value) → is_path shape p ≡ true → HasKinds shape p f → kind.fits p f) where
+  pub start_fits : (start : Start) → IsStart shape kind.hosts start → IsBegin kind (begin_of shape start)
+  start_fits start s = record {
     ordered = s.tree.ordered;
     root = s.root;
     parents = λ p e. at_path (λ p. there (start_tree shape start) (parent_of p) ≡ true) (start_tree shape start).paths (recursion_from_All (λ p. there (start_tree shape start) (parent_of p) ≡ true) (start_tree shape start).paths s.tree.parents) p e;
     fields = λ p. by p (there (start_tree shape start) p) refl;
     absent = λ p e. s.tree.absent p e ∙ sym (initial p);
     places = s.places;
-    within = λ p e. host_within count start.places (recursion_from_All (λ (x : Place). x.host.0 < count) start.places s.hosts) p (ap (λ ps. list_any (path_eq p) ps) s.places ∙ e);
+    within = λ p e. host_within kind.hosts start.places (recursion_from_All (λ (x : Place). x.host.0 < kind.hosts) start.places s.hosts) p (ap (λ ps. list_any (path_eq p) ps) s.places ∙ e);
   }
     where
-      by : (p : Path) (i : Bool) → there (start_tree shape start) p ≡ i → fits p ((start_tree shape start).fields p)
+      by : (p : Path) (i : Bool) → there (start_tree shape start) p ≡ i → kind.fits p ((start_tree shape start).fields p)
       by p true e = kinds p ((start_tree shape start).fields p) (at_path (λ p. is_path shape p ≡ true) (start_tree shape start).paths (recursion_from_All (λ p. is_path shape p ≡ true) (start_tree shape start).paths s.tree.paths) p e)
           (at_path (λ p. HasKinds shape p ((start_tree shape start).fields p)) (start_tree shape start).paths (recursion_from_All (λ p. HasKinds shape p ((start_tree shape start).fields p)) (start_tree shape start).paths s.tree.kinds) p e)
-      by p false e = subst (fits p) (initial p ∙ sym (s.tree.absent p e)) (begins p)
+      by p false e = subst (kind.fits p) (initial p ∙ sym (s.tree.absent p e)) (begins p)
 
 -- the first Start is the first beginning
 pub first_is : (shape : Shape) → begin_of shape (first_start shape) ≡ first_begin (initial_fields shape)

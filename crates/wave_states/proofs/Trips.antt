@@ -1,6 +1,6 @@
 -- Events that go down one child after another, and moves, over two hosts: what the drives give.
 use Rattle.std.proofs.Common.{◌≡◌, refl, ℕ, suc, List, [], ◌∷◌, ◌++◌, Option, Some, None, Bool, true, false, length, pos}
-use Rattle.std.specs.Prelude.{option_map, count_by, if◌then◌else◌}
+use Rattle.std.specs.Prelude.{option_map, count_by, map, if◌then◌else◌}
 use Rattle.wave_base.specs.declared.path.Step.{Step}
 use Rattle.wave_base.specs.declared.path.Path.{Path}
 use Rattle.std.specs.List.{list_any}
@@ -8,16 +8,17 @@ use Rattle.wave_base.specs.Paths.{step_eq}
 use Rattle.wave_base.specs.Tree.{shots}
 use Rattle.wave_states.specs.Actors.{Actors, Left, Go, Over}
 use Rattle.wave_states.specs.States.{State, Entry}
-use Rattle.wave_states.specs.Labels.{Label, is_pass}
+use Rattle.wave_states.specs.Labels.{Act, Label, Admit, Queue, Grant, Start, Stop, Free, Commit, is_pass}
 use Rattle.wave_states.specs.Begins.{Begin, first_begin, start_state}
-use Rattle.wave_states.specs.Canonical.{is_finished}
+use Rattle.wave_states.specs.Canonical.{enabled}
+use Rattle.wave_states.specs.Steps.{step}
 use Rattle.wave_states.specs.Runs.{run, drive, seed, oldest, newest, movers, mail_last, Rule}
 use Rattle.wave_states.specs.Alone.{fold_alone, places_alone, after_segments}
 use Rattle.wave_states.specs.Work.{work_after}
 use Rattle.wave_states.specs.Owners.{trail_from, first_trail}
 
 -- a way down with an end: it adds one to each context and tells the last sum; it only looks at the last one and tells its sum;
--- or it moves the last one to a host. A call goes down one step and back, adding one there
+-- or it moves the last one to a host
 pub data Way : Type 0 where
   Adds Looks : Way
   Moves_to : ℕ → Way
@@ -106,34 +107,40 @@ entry_seen o = option_map (λ e. (e.served, e.moves)) o
 abbrev pub passes : List Label → ℕ
 passes ls = count_by (λ l. is_pass l.act) ls
 
-abbrev pub summary : {X : Type 0} → Rule X Trip ℕ Told Trip → X → ℕ → List (List Trip) → Option (ℕ × ℕ × Bool × Option (ℕ × ℕ) × List ℕ)
+abbrev pub summary : Rule Trip ℕ Told Trip → ℕ → ℕ → List (List Trip) → Option (ℕ × ℕ × ℕ × Option (ℕ × ℕ) × List ℕ)
 summary rule x workers batches =
     let ls : List Label = drive trips workers 2 rule 200 x (start_state begin batches) in
     option_map (λ s. (
       length ls,
       passes ls,
-      is_finished trips workers 2 s,
+      length (enabled trips workers 2 s),
       entry_seen ((s.columns (hall ∷ [])).store 0),
       trail_from trips workers (hall ∷ []) (first_trail begin (hall ∷ [])) (Some (start_state begin batches)) ls,
     )) (run trips workers (start_state begin batches) ls)
 
 -- four tickets, eight segments, eight paths entered, two moves: 8 + 24 + 16 labels, besides the Passes
-seed_0 : summary seed 0 1 moves ≡ Some (50, 2, true, Some (4, 2), 0 ∷ 1 ∷ 0 ∷ [])
+seed_0 : summary seed 0 1 moves ≡ Some (50, 2, 0, Some (4, 2), 0 ∷ 1 ∷ 0 ∷ [])
+unfolding step run enabled drive
 seed_0 = refl
 
-seed_7 : summary seed 7 4 moves ≡ Some (49, 1, true, Some (4, 2), 0 ∷ 1 ∷ 0 ∷ [])
+seed_7 : summary seed 7 4 moves ≡ Some (49, 1, 0, Some (4, 2), 0 ∷ 1 ∷ 0 ∷ [])
+unfolding step run enabled drive
 seed_7 = refl
 
-oldest_first : summary oldest tt 4 moves ≡ Some (50, 2, true, Some (4, 2), 0 ∷ 1 ∷ 0 ∷ [])
+oldest_first : summary oldest 0 4 moves ≡ Some (50, 2, 0, Some (4, 2), 0 ∷ 1 ∷ 0 ∷ [])
+unfolding step run enabled drive
 oldest_first = refl
 
-newest_first : summary newest tt 4 moves ≡ Some (48, 0, true, Some (4, 2), 0 ∷ 1 ∷ 0 ∷ [])
+newest_first : summary newest 0 4 moves ≡ Some (48, 0, 0, Some (4, 2), 0 ∷ 1 ∷ 0 ∷ [])
+unfolding step run enabled drive
 newest_first = refl
 
-movers_first : summary (movers is_move) tt 4 moves ≡ Some (49, 1, true, Some (4, 2), 0 ∷ 1 ∷ 0 ∷ [])
+movers_first : summary (movers is_move) 0 4 moves ≡ Some (49, 1, 0, Some (4, 2), 0 ∷ 1 ∷ 0 ∷ [])
+unfolding step run enabled drive
 movers_first = refl
 
-mails_last : summary mail_last tt 4 moves ≡ Some (48, 0, true, Some (4, 2), 0 ∷ 1 ∷ 0 ∷ [])
+mails_last : summary mail_last 0 4 moves ≡ Some (48, 0, 0, Some (4, 2), 0 ∷ 1 ∷ 0 ∷ [])
+unfolding step run enabled drive
 mails_last = refl
 
 fold_is : (fold_alone trips begin moves 4).results ≡ Sum 1 ∷ Moved (hall ∷ []) 1 ∷ Sum 2 ∷ Moved (hall ∷ []) 0 ∷ []
@@ -156,7 +163,8 @@ looks_fold : (fold_alone trips begin looks 4).results ≡ Sum 1 ∷ Sum 1 ∷ Su
 unfolding after_segments
 looks_fold = refl
 
-looks_seed : summary seed 5 2 looks ≡ Some (48, 0, true, Some (4, 0), 0 ∷ [])
+looks_seed : summary seed 5 2 looks ≡ Some (48, 0, 0, Some (4, 0), 0 ∷ [])
+unfolding step run enabled drive
 looks_seed = refl
 
 -- From a later Start: the root and the child are on host 1, so host 0 has the root's mark, and an Enter to the root is passed on once.
@@ -177,10 +185,45 @@ abbrev pub later_drive : List Label
 later_drive = drive trips 1 2 seed 40 0 later
 
 from_later : later_seen (run trips 1 later later_drive) ≡ Some (Some (Sum 5), Some (8, 1), Some (1, 0))
+unfolding step run enabled drive
 from_later = refl
 
 so_many : length later_drive ≡ 13
+unfolding step enabled drive
 so_many = refl
 
 passed_once : passes later_drive ≡ 1
+unfolding step enabled drive
 passed_once = refl
+
+-- Ties. After its first Stop an event has two labels, the Queue of its Enter and the Free of its Release: the oldest rule takes the first
+-- label of a ticket, the newest rule the last one.
+abbrev at_zero : List Act → List Label
+at_zero acts = map (λ a. record { worker = 0; host = 0; act = a }) acts
+
+abbrev alone_down : List (List Trip)
+alone_down = (trip (hall ∷ []) Adds ∷ []) ∷ []
+
+oldest_takes_first : drive trips 1 1 oldest 40 0 (start_state begin alone_down)
+    ≡ at_zero (Admit 1 ∷ Queue 1 1 [] ∷ Grant 1 [] ∷ Start 1 [] ∷ Stop 1 [] ∷ Queue 1 2 (hall ∷ []) ∷ Grant 1 (hall ∷ []) ∷ Start 1 (hall ∷ []) ∷ Stop 1 (hall ∷ []) ∷ Free 1 3 [] ∷ Free 1 4 (hall ∷ []) ∷ Commit 1 ∷ [])
+unfolding step enabled drive
+oldest_takes_first = refl
+
+newest_takes_last : drive trips 1 1 newest 40 0 (start_state begin alone_down)
+    ≡ at_zero (Admit 1 ∷ Queue 1 1 [] ∷ Grant 1 [] ∷ Start 1 [] ∷ Stop 1 [] ∷ Free 1 3 [] ∷ Queue 1 2 (hall ∷ []) ∷ Grant 1 (hall ∷ []) ∷ Start 1 (hall ∷ []) ∷ Stop 1 (hall ∷ []) ∷ Commit 1 ∷ Free 1 4 (hall ∷ []) ∷ [])
+unfolding step enabled drive
+newest_takes_last = refl
+
+-- of two tickets the oldest rule goes on with the lower one, the newest rule with the higher one where it can
+abbrev two_down : List (List Trip)
+two_down = (trip (hall ∷ []) Adds ∷ trip (hall ∷ []) Adds ∷ []) ∷ []
+
+oldest_takes_least : drive trips 1 1 oldest 9 0 (start_state begin two_down)
+    ≡ at_zero (Admit 1 ∷ Queue 1 1 [] ∷ Grant 1 [] ∷ Start 1 [] ∷ Stop 1 [] ∷ Queue 1 2 (hall ∷ []) ∷ Grant 1 (hall ∷ []) ∷ Start 1 (hall ∷ []) ∷ Stop 1 (hall ∷ []) ∷ [])
+unfolding step enabled drive
+oldest_takes_least = refl
+
+newest_takes_greatest : drive trips 1 1 newest 12 0 (start_state begin two_down)
+    ≡ at_zero (Admit 1 ∷ Admit 2 ∷ Queue 2 1 [] ∷ Queue 1 1 [] ∷ Grant 1 [] ∷ Start 1 [] ∷ Stop 1 [] ∷ Free 1 3 [] ∷ Grant 2 [] ∷ Start 2 [] ∷ Stop 2 [] ∷ Free 2 3 [] ∷ [])
+unfolding step enabled drive
+newest_takes_greatest = refl

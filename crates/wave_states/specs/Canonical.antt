@@ -1,13 +1,13 @@
 -- The canonical list: what can be done in a state, in one fixed order.
-use Rattle.std.specs.Prelude.{ℕ, suc, ◌+◌, Bool, true, false, ◌&&◌, ◌==◌, if◌then◌else◌, List, [], ◌∷◌, ◌++◌, flat_map, map, Option, Some, None, is_some, is_none}
-use Rattle.std.specs.List.{list_all, filter}
+use Rattle.std.specs.Prelude.{ℕ, suc, ◌+◌, Bool, false, ◌&&◌, ◌==◌, if◌then◌else◌, List, [], ◌∷◌, ◌++◌, flat_map, map, Option, Some, None, is_some, is_none}
+use Rattle.std.specs.List.{filter}
 use Rattle.wave_base.specs.declared.path.Path.{Path}
 use Rattle.wave_base.specs.Paths.{path_eq}
 use Rattle.wave_base.specs.Fold.{tickets_from}
 use Rattle.wave_states.specs.Actors.{Actors}
 use Rattle.wave_states.specs.States.{Mark, Mail, Status, Waiting, Ready, Running, Event, Column, Hand, State}
 use Rattle.wave_states.specs.Labels.{Act, Choice, Label, Admit, Queue, Grant, Visit, Start, Stop, Free, Pass, Land, Commit, ticket_of, path_of}
-use Rattle.wave_states.specs.Steps.{admit, commit, act_bench, part_of, next_ticket, step}
+use Rattle.wave_states.specs.Steps.{next_ticket, step}
 
 -- 0, 1, .. below n
 abbrev pub below : ℕ → List ℕ
@@ -34,97 +34,96 @@ abbrev pub to_mark : Option Mark → (ℕ → Act) → ℕ → List Choice
 to_mark None f h = []
 to_mark (Some m) f h = record { host = h; act = f m.to } ∷ []
 
+-- what a worker takes
+abbrev pub taken_as : ℕ → Choice → Label
+taken_as w c = record { worker = w; host = c.host; act = c.act }
+
+-- the first of these workers that is idle
+abbrev pub idle_in : {A F : Type 0} → (ℕ → Option (Hand A F)) → List ℕ → Option ℕ
+idle_in hands [] = None
+idle_in hands (w ∷ ws) = if is_none (hands w) then Some w else idle_in hands ws
+
 -- does this worker run the ticket at the path
 abbrev pub runs_it : {A F : Type 0} → Option (Hand A F) → ℕ → Path → Bool
 runs_it None t p = false
 runs_it (Some g) t p = (g.ticket == t) && path_eq g.path p
 
-module _ {A F R J : Type 0} (s : State A F R J) (hosts : ℕ) where
+-- what a mail may be taken by
+abbrev pub mail_act : {F : Type 0} → (ℕ → ℕ → Path → Act) → ℕ → ℕ → Mail F → List Choice
+mail_act f t k m = record { host = m.host; act = f t k m.path } ∷ []
+
+module _ {A F R J : Type 0} (s : State A F R J) where
   -- the tickets admitted in this run
   abbrev pub tickets : List ℕ
   tickets = tickets_from (suc s.before) s.admitted
-
-  -- where a context is
-  abbrev pub place : Path → Option ℕ
-  place p = host_in (s.columns p) (below hosts)
 
   -- by ticket, what its status asks for
   abbrev pub by_status : (ℕ → Status → List Choice) → List Choice
   by_status f = flat_map (λ t. by_event (s.cells t).event (λ e. f t e.status)) tickets
 
-  abbrev pub grants_of : ℕ → Status → List Choice
-  grants_of t (Waiting p) = at_host (place p) (Grant t p)
-  grants_of t _ = []
-
-  abbrev pub starts_of : ℕ → Status → List Choice
-  starts_of t (Ready p) = at_host (place p) (Start t p)
-  starts_of t _ = []
-
-  abbrev pub stops_of : ℕ → Status → List Choice
-  stops_of t (Running p) = at_host (place p) (Stop t p)
-  stops_of t _ = []
-
-  -- by ticket and then by number, the mails
+  -- by ticket and then by number, what the mails ask for
   abbrev pub by_mails : (ℕ → ℕ → Mail F → List Choice) → List Choice
   by_mails f = flat_map (λ t. by_event (s.cells t).event (λ e. flat_map (λ k. by_mail ((s.cells t).mails k) (f t k)) (tickets_from 1 e.sent))) tickets
 
-  abbrev pub mail_act : (ℕ → ℕ → Path → Act) → ℕ → ℕ → Mail F → List Choice
-  mail_act f t k m = record { host = m.host; act = f t k m.path } ∷ []
-
+  -- a Pass goes to the host of the mark
   abbrev pub passes_of : ℕ → ℕ → Mail F → List Choice
   passes_of t k m = to_mark ((s.columns m.path).gone m.host) (λ g. Pass t k m.path g) m.host
 
-module _ {A F R J : Type 0} (sys : Actors A F R J) (s : State A F R J) (hosts : ℕ) where
-  -- whether an idle worker may take it, or could if there were one
-  abbrev pub may_take : ℕ → Act → Bool
-  may_take host (Admit t) = is_some (admit sys s host t)
-  may_take host (Commit t) = is_some (commit sys s host t)
-  may_take host a = is_some (act_bench sys a host (part_of sys s (ticket_of a) (path_of a)) None)
+  module _ (hosts : ℕ) where
+    -- where a context is
+    abbrev pub place : Path → Option ℕ
+    place p = host_in (s.columns p) (below hosts)
 
-  abbrev pub able : List Choice → List Choice
-  able cs = filter (λ c. may_take c.host c.act) cs
+    abbrev pub grants_of : ℕ → Status → List Choice
+    grants_of t (Waiting p) = at_host (place p) (Grant t p)
+    grants_of t _ = []
 
-  -- the kinds before the Stops, in their order, and those behind them
-  abbrev pub front : List Choice
-  front = able (record { host = 0; act = Admit (next_ticket sys s) } ∷
-      by_mails s hosts (mail_act s hosts (λ t k p. Queue t k p))
-      ++ by_status s hosts (grants_of s hosts)
-      ++ by_mails s hosts (mail_act s hosts (λ t k p. Visit t k p))
-      ++ by_status s hosts (starts_of s hosts))
+    abbrev pub starts_of : ℕ → Status → List Choice
+    starts_of t (Ready p) = at_host (place p) (Start t p)
+    starts_of t _ = []
 
-  abbrev pub rear : List Choice
-  rear = able (by_mails s hosts (mail_act s hosts (λ t k p. Free t k p))
-      ++ by_mails s hosts (passes_of s hosts)
-      ++ by_mails s hosts (mail_act s hosts (λ t k p. Land t k p))
-      ++ record { host = 0; act = Commit (suc (s.before + s.head.done)) } ∷ [])
+    abbrev pub stops_of : ℕ → Status → List Choice
+    stops_of t (Running p) = at_host (place p) (Stop t p)
+    stops_of t _ = []
 
-  -- all but the Stops
-  abbrev pub index : List Choice
-  index = front ++ rear
+    -- all that is asked for: the kinds before the Stops, in their order
+    abbrev pub early : List Choice
+    early = record { host = 0; act = Admit (next_ticket s) } ∷
+        by_mails (mail_act (λ t k p. Queue t k p))
+        ++ by_status grants_of
+        ++ by_mails (mail_act (λ t k p. Visit t k p))
+        ++ by_status starts_of
 
-module _ {A F R J : Type 0} (sys : Actors A F R J) (workers hosts : ℕ) (s : State A F R J) where
-  abbrev pub idle_in : List ℕ → Option ℕ
-  idle_in [] = None
-  idle_in (w ∷ ws) = if is_none (s.hands w) then Some w else idle_in ws
+    abbrev pub stops : List Choice
+    stops = by_status stops_of
+
+  -- and those behind them
+  abbrev pub late : List Choice
+  late = by_mails (mail_act (λ t k p. Free t k p))
+      ++ by_mails passes_of
+      ++ by_mails (mail_act (λ t k p. Land t k p))
+      ++ record { host = 0; act = Commit (suc (s.before + s.head.done)) } ∷ []
+
+module _ {A F R J : Type 0} (sys : Actors A F R J) (workers : ℕ) (s : State A F R J) where
+  -- of these, what a worker can take
+  abbrev pub takes : ℕ → List Choice → List Label
+  takes w cs = filter (λ l. is_some (step sys workers s l)) (map (taken_as w) cs)
 
   abbrev pub taken_by : Option ℕ → List Choice → List Label
   taken_by None cs = []
-  taken_by (Some w) cs = map (λ c. record { worker = w; host = c.host; act = c.act }) cs
+  taken_by (Some w) cs = takes w cs
 
   -- a Stop is its running worker's
   abbrev pub stop_by : Choice → List Label
-  stop_by c = filter (λ l. is_some (step sys workers s l)) (map (λ w. record { worker = w; host = c.host; act = c.act }) (filter (λ w. runs_it (s.hands w) (ticket_of c.act) (path_of c.act)) (below workers)))
+  stop_by c = filter (λ l. is_some (step sys workers s l)) (map (λ w. taken_as w c) (filter (λ w. runs_it (s.hands w) (ticket_of c.act) (path_of c.act)) (below workers)))
 
-  -- all other labels are the lowest idle worker's; without one there are Stops alone
-  abbrev pub enabled : List Label
-  enabled = taken_by (idle_in (below workers)) (front sys s hosts)
-      ++ flat_map stop_by (by_status s hosts (stops_of s hosts))
-      ++ taken_by (idle_in (below workers)) (rear sys s hosts)
+module _ {A F R J : Type 0} (sys : Actors A F R J) (workers hosts : ℕ) (s : State A F R J) where
+  -- The canonical list. All but the Stops are the lowest idle worker's; without an idle worker there are Stops alone.
+  unfoldable pub enabled : List Label
+  enabled = taken_by sys workers s (idle_in s.hands (below workers)) (early s hosts)
+      ++ flat_map (stop_by sys workers s) (stops s hosts)
+      ++ taken_by sys workers s (idle_in s.hands (below workers)) (late s)
 
-  abbrev pub no_label : List Label → Bool
-  no_label [] = true
-  no_label (l ∷ ls) = false
-
-  -- no label is enabled and no segment is out
-  abbrev pub is_finished : Bool
-  is_finished = no_label enabled && list_all (λ w. is_none (s.hands w)) (below workers)
+  -- what one worker can take, in the same order
+  unfoldable pub enabled_for : ℕ → List Label
+  enabled_for w = takes sys workers s w (early s hosts ++ stops s hosts ++ late s)

@@ -2,6 +2,8 @@ pub mod Actors
 pub mod Alone
 pub mod Begins
 pub mod Canonical
+pub mod Counter
+pub mod Kinds
 pub mod Labels
 pub mod Movers
 pub mod Owes

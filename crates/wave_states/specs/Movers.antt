@@ -5,6 +5,7 @@ use Rattle.wave_base.specs.declared.path.Step.{Step}
 use Rattle.wave_base.specs.declared.path.Path.{Path}
 use Rattle.wave_base.specs.Paths.{step_eq}
 use Rattle.wave_states.specs.Actors.{Actors, Left, Go, Over}
+use Rattle.wave_states.specs.Kinds.{Kind}
 
 -- the context, and where to
 pub record Move : Type 0 where
@@ -52,3 +53,11 @@ pub record IsMover (hosts : ℕ) (a : Mover) (p : Path) (calls : ℕ) : Type 0 w
   pub none : calls ≡ 0
   pub way : a.move.path ≡ p ++ a.rest
   pub within : a.move.to < hosts
+
+-- a move to one of them
+abbrev pub IsMove : ℕ → Move → Type 0
+IsMove hosts j = j.to < hosts
+
+-- movers, over contexts that may have the fields that fit
+abbrev pub mover_kind : {F : Type 0} → (Path → F) → ℕ → (Path → F → Type 0) → Kind Mover F MoveEnd Move
+mover_kind initial hosts fits = record { system = movers initial; hosts = hosts; fits = fits; is_job = IsMove hosts; may_run = IsMover hosts }

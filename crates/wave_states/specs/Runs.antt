@@ -9,7 +9,7 @@ use Rattle.wave_states.specs.Canonical.{enabled}
 
 module _ {A F R J : Type 0} (sys : Actors A F R J) (workers : ℕ) where
   -- the state that a list of labels leads to, where each is enabled
-  abbrev pub run : State A F R J → List Label → Option (State A F R J)
+  unfoldable pub run : State A F R J → List Label → Option (State A F R J)
   run s [] = Some s
   run s (l ∷ ls) = option_and_then (λ v. run v ls) (step sys workers s l)
 
@@ -18,9 +18,9 @@ module _ {A F R J : Type 0} (sys : Actors A F R J) (workers : ℕ) where
     pub none : (l : Label) → step sys workers s l ≡ None
     pub idle : (w : ℕ) → s.hands w ≡ None
 
--- a rule picks from the canonical list, and may keep something from one pick to the next
-abbrev pub Rule : (X A F R J : Type 0) → Type 0
-Rule X A F R J = X → State A F R J → List Label → X × Option Label
+-- a rule picks from the canonical list, and may keep a number from one pick to the next
+abbrev pub Rule : (A F R J : Type 0) → Type 0
+Rule A F R J = ℕ → State A F R J → List Label → ℕ × Option Label
 
 abbrev pub first_of : List Label → Option Label
 first_of [] = None
@@ -40,7 +40,7 @@ abbrev pub next_draw : ℕ → ℕ
 next_draw x = (6364136223846793005 * x + 1442695040888963407) % 2 ^ 64
 
 -- of two labels and more, by a draw; with one there is no draw
-abbrev pub seed : {A F R J : Type 0} → Rule ℕ A F R J
+abbrev pub seed : {A F R J : Type 0} → Rule A F R J
 seed x s [] = (x, None)
 seed x s (l ∷ []) = (x, Some l)
 seed x s (l ∷ m ∷ ls) = (next_draw x, slice_get (l ∷ m ∷ ls) ((next_draw x / 2 ^ 33) % length (l ∷ m ∷ ls)))
@@ -54,12 +54,12 @@ greatest l [] = l
 greatest l (m ∷ ls) = if nat_le (ticket_of l.act) (ticket_of m.act) then greatest m ls else greatest l ls
 
 -- the first label of the least ticket
-abbrev pub oldest : {A F R J : Type 0} → Rule (Unit {0}) A F R J
+abbrev pub oldest : {A F R J : Type 0} → Rule A F R J
 oldest x s [] = (x, None)
 oldest x s (l ∷ ls) = (x, Some (least l ls))
 
 -- the last label of the greatest ticket
-abbrev pub newest : {A F R J : Type 0} → Rule (Unit {0}) A F R J
+abbrev pub newest : {A F R J : Type 0} → Rule A F R J
 newest x s [] = (x, None)
 newest x s (l ∷ ls) = (x, Some (greatest l ls))
 
@@ -68,31 +68,33 @@ job_is f None = false
 job_is f (Some j) = f j
 
 -- the first label whose ticket's job is a move, else the first
-abbrev pub movers : {A F R J : Type 0} → (J → Bool) → Rule (Unit {0}) A F R J
+abbrev pub movers : {A F R J : Type 0} → (J → Bool) → Rule A F R J
 movers is_move x s ls = (x, or_else (first_of (filter (λ l. job_is is_move (slice_get s.head.known (ticket_of l.act - suc s.before))) ls)) (first_of ls))
 
 -- the first label that takes no mail, else the last
-abbrev pub mail_last : {A F R J : Type 0} → Rule (Unit {0}) A F R J
+abbrev pub mail_last : {A F R J : Type 0} → Rule A F R J
 mail_last x s ls = (x, or_else (first_of (filter (λ l. not (takes_mail l.act)) ls)) (last_of ls))
 
-module _ {X A F R J : Type 0} (sys : Actors A F R J) (workers hosts : ℕ) (rule : Rule X A F R J) where
-  -- the labels that the rule picks, until the canonical list is empty
-  abbrev pub IsDrive : X → State A F R J → List Label → Type 0
+module _ {A F R J : Type 0} (sys : Actors A F R J) (workers : ℕ) where
+  abbrev pub keep_on : (ℕ → State A F R J → List Label) → ℕ → Label → Option (State A F R J) → List Label
+  keep_on more x l None = []
+  keep_on more x l (Some v) = l ∷ more x v
+
+  -- what is picked, and what more is picked after it
+  abbrev pub picked : (ℕ → State A F R J → List Label) → State A F R J → ℕ × Option Label → List Label
+  picked more s (x, None) = []
+  picked more s (x, Some l) = keep_on more x l (step sys workers s l)
+
+module _ {A F R J : Type 0} (sys : Actors A F R J) (workers hosts : ℕ) (rule : Rule A F R J) where
+  -- The drive of a rule: the labels that it picks, until the canonical list is empty.
+  unfoldable pub IsDrive : ℕ → State A F R J → List Label → Type 0
   IsDrive x s [] = enabled sys workers hosts s ≡ []
   IsDrive x s (l ∷ ls) =
       ((rule x s (enabled sys workers hosts s)).1 ≡ Some l)
       × (v : State A F R J) × (step sys workers s l ≡ Some v)
       × IsDrive (rule x s (enabled sys workers hosts s)).0 v ls
 
-  -- the first n of them
-  abbrev pub keep_on : (X → State A F R J → List Label) → X → Label → Option (State A F R J) → List Label
-  keep_on more x l None = []
-  keep_on more x l (Some v) = l ∷ more x v
-
-  abbrev pub picked : (X → State A F R J → List Label) → State A F R J → X × Option Label → List Label
-  picked more s (x, None) = []
-  picked more s (x, Some l) = keep_on more x l (step sys workers s l)
-
-  abbrev pub drive : ℕ → X → State A F R J → List Label
+  -- the first n of them, computed
+  unfoldable pub drive : ℕ → ℕ → State A F R J → List Label
   drive zero x s = []
-  drive (suc n) x s = picked (λ y v. drive n y v) s (rule x s (enabled sys workers hosts s))
+  drive (suc n) x s = picked sys workers (λ y v. drive n y v) s (rule x s (enabled sys workers hosts s))

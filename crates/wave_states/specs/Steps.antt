@@ -288,6 +288,32 @@ module _ {A F R : Type 0} where
   abbrev pub desk_back : Cell A F R → Event A → A → Desk A F
   desk_back c e a = record { event = record { actor = Some a; held = e.held; sent = e.sent; status = Travelling }; mails = c.mails }
 
+  abbrev pub queued : ℕ → ℕ → Path → ℕ → Part A F R → Event A → Ask → Entry F → Part A F R
+  queued t k p host x e a en = record {
+    cell = with_event (without_mail x.cell k) (with_status e (Waiting p));
+    column = with_entry x.column host (Some (in_line en a.number (record { ticket = t; peek = a.peek })));
+  }
+
+  abbrev pub with_hand : Option (Hand A F) → Option (Part A F R) → Option (Bench A F R)
+  with_hand g o = option_map (λ x. record { part = x; hand = g }) o
+
+module _ {A F R J : Type 0} where
+  abbrev pub part_of : State A F R J → ℕ → Path → Part A F R
+  part_of s t p = record { cell = s.cells t; column = s.columns p }
+
+  abbrev pub with_bench : State A F R J → ℕ → Path → ℕ → Bench A F R → State A F R J
+  with_bench s t p w y = record {
+    before = s.before;
+    head = s.head;
+    admitted = s.admitted;
+    cells = set nat_eq s.cells t y.part.cell;
+    columns = set path_eq s.columns p y.part.column;
+    hands = set nat_eq s.hands w y.hand;
+  }
+
+  abbrev pub next_ticket : State A F R J → ℕ
+  next_ticket s = suc (s.before + s.admitted)
+
 module _ {A F R J : Type 0} (sys : Actors A F R J) where
   abbrev pub new_entry : Path → Entry F
   new_entry p = record { body = Some (record { fields = sys.initial p; children = [] }); holders = []; served = 0; waiting = λ j. None; moves = 0 }
@@ -299,12 +325,6 @@ module _ {A F R J : Type 0} (sys : Actors A F R J) where
   entry_for p host c Born = Some (new_entry p)
   entry_for p host c Wait = None
   entry_for p host c (Forward g) = None
-
-  abbrev pub queued : ℕ → ℕ → Path → ℕ → Part A F R → Event A → Ask → Entry F → Part A F R
-  queued t k p host x e a en = record {
-    cell = with_event (without_mail x.cell k) (with_status e (Waiting p));
-    column = with_entry x.column host (Some (in_line en a.number (record { ticket = t; peek = a.peek })));
-  }
 
   abbrev pub queue : ℕ → ℕ → Path → ℕ → Part A F R → Option (Part A F R)
   queue t k p host x = do
@@ -343,9 +363,6 @@ module _ {A F R J : Type 0} (sys : Actors A F R J) where
   calm (Land t k p) host x = land k p host x
   calm _ host x = None
 
-  abbrev pub with_hand : Option (Hand A F) → Option (Part A F R) → Option (Bench A F R)
-  with_hand g o = option_map (λ x. record { part = x; hand = g }) o
-
   -- a worker is idle where its hand is empty, and each label but Stop wants an idle one
   abbrev pub act_bench : Act → ℕ → Part A F R → Option (Hand A F) → Option (Bench A F R)
   act_bench (Stop t p) host x (Some g) = if (g.ticket == t) && path_eq g.path p then with_hand None (stop p host g x) else None
@@ -355,24 +372,8 @@ module _ {A F R J : Type 0} (sys : Actors A F R J) where
   act_bench a host x None = with_hand None (calm a host x)
   act_bench a host x (Some g) = None
 
-  abbrev pub part_of : State A F R J → ℕ → Path → Part A F R
-  part_of s t p = record { cell = s.cells t; column = s.columns p }
-
-  abbrev pub with_bench : State A F R J → ℕ → Path → ℕ → Bench A F R → State A F R J
-  with_bench s t p w y = record {
-    before = s.before;
-    head = s.head;
-    admitted = s.admitted;
-    cells = set nat_eq s.cells t y.part.cell;
-    columns = set path_eq s.columns p y.part.column;
-    hands = set nat_eq s.hands w y.hand;
-  }
-
   -- Admit t, on host 0. t is the next ticket and its job is known: the actor is made, travelling; an Enter to the root with
   -- entry number t goes to host 0, as a peek where the actor only looks.
-  abbrev pub next_ticket : State A F R J → ℕ
-  next_ticket s = suc (s.before + s.admitted)
-
   abbrev pub new_cell : A → ℕ → Cell A F R
   new_cell a t = record {
     event = Some (record { actor = Some a; held = []; sent = 1; status = Travelling });
@@ -412,5 +413,5 @@ module _ {A F R J : Type 0} (sys : Actors A F R J) where
   step_by s w host a = option_map (λ y. with_bench s (ticket_of a) (path_of a) w y) (act_bench a host (part_of s (ticket_of a) (path_of a)) (s.hands w))
 
   -- the state after a label, where it is enabled; the workers are those below `workers`
-  abbrev pub step : ℕ → State A F R J → Label → Option (State A F R J)
+  unfoldable pub step : ℕ → State A F R J → Label → Option (State A F R J)
   step workers s l = if nat_lt l.worker workers then step_by s l.worker l.host l.act else None

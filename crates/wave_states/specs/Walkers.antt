@@ -1,23 +1,34 @@
 -- Walkers: each goes through all contexts and copies them, in path order.
-use Rattle.std.specs.Prelude.{◌≡◌, ℕ, zero, suc, ◌+◌, Bool, true, false, if◌then◌else◌, List, [], ◌∷◌, ◌++◌, length, None}
+use Rattle.std.specs.Prelude.{◌≡◌, ℕ, zero, suc, ◌+◌, false, if◌then◌else◌, List, [], ◌∷◌, ◌++◌, length, Option, Some, None, is_none}
+use Rattle.std.specs.List.{filter}
+use Rattle.std.specs.Ordering.{is_lt}
 use Rattle.wave_base.specs.declared.path.Step.{Step}
 use Rattle.wave_base.specs.declared.path.Path.{Path}
-use Rattle.wave_base.specs.Paths.{parent_of}
+use Rattle.wave_base.specs.Paths.{step_cmp, parent_of}
 use Rattle.wave_base.specs.Tree.{Tree, enter, children_of}
 use Rattle.wave_states.specs.Actors.{Actors, Left, Down, Back, Over}
+use Rattle.wave_states.specs.Kinds.{Kind}
 
--- where it is, and whether for the first time; of the contexts on the way down to it, from below, the children that are left; and
--- what it copied
+-- where it is; the child that it came back from, which is none at its first visit there; and what it copied
 pub record Walker (F : Type 0) : Type 0 where
   pub at : Path
-  pub fresh : Bool
-  pub left : List (List Step)
+  pub from : Option Step
   pub copied : List (Path × F)
 
--- at its first visit all children of the context are left
-abbrev pub left_with : Bool → List Step → List (List Step) → List (List Step)
-left_with true cs left = cs ∷ left
-left_with false cs left = left
+-- the children that are left: those above the one that it came back from, or all at its first visit
+abbrev pub steps_left : List Step → Option Step → List Step
+steps_left cs None = cs
+steps_left cs (Some s) = filter (λ c. is_lt (step_cmp s c)) cs
+
+abbrev pub first_of : List Step → Option Step
+first_of [] = None
+first_of (s ∷ ss) = Some s
+
+-- the last step of a path; the root has none
+abbrev pub last_step : Path → Option Step
+last_step [] = None
+last_step (s ∷ []) = Some s
+last_step (s ∷ t ∷ p) = last_step (t ∷ p)
 
 -- how many segments a visit has: one and then, for each child, its own and one more
 abbrev pub with_children : (Path → ℕ) → Path → List Step → ℕ
@@ -29,28 +40,23 @@ abbrev pub depth_of : List Path → ℕ
 depth_of [] = 0
 depth_of (p ∷ ps) = length p + depth_of ps
 
--- for each open call a list of children, and one for the context itself once it was visited
-abbrev pub lists_of : Bool → ℕ → ℕ
-lists_of true calls = calls
-lists_of false calls = suc calls
-
 module _ {F : Type 0} where
-  abbrev pub left_now : Walker F → List Step → List (List Step)
-  left_now a cs = left_with a.fresh cs a.left
-
-  -- and the context is copied
+  -- at its first visit the context is copied
   abbrev pub copied_now : Walker F → F → List (Path × F)
-  copied_now a f = if a.fresh then a.copied ++ (a.at, f) ∷ [] else a.copied
+  copied_now a f = if is_none a.from then a.copied ++ (a.at, f) ∷ [] else a.copied
 
-  -- down to the next child, else back, else over
-  abbrev pub walk_on : Path → F → List (List Step) → List (Path × F) → Left (Walker F) F (List (Path × F))
-  walk_on p f ((s ∷ ss) ∷ ls) copied = record { actor = record { at = p ++ s ∷ []; fresh = true; left = ss ∷ ls; copied = copied }; fields = f; pause = Down s }
-  walk_on p f ([] ∷ l ∷ ls) copied = record { actor = record { at = parent_of p; fresh = false; left = l ∷ ls; copied = copied }; fields = f; pause = Back }
-  walk_on p f ([] ∷ []) copied = record { actor = record { at = p; fresh = false; left = []; copied = copied }; fields = f; pause = Over copied }
-  walk_on p f [] copied = record { actor = record { at = p; fresh = false; left = []; copied = copied }; fields = f; pause = Over copied }
+  -- back from a child; at the root it is over, and what it copied is the result
+  abbrev pub leave : Path → Option Step → F → List (Path × F) → Option Step → Left (Walker F) F (List (Path × F))
+  leave p from f copied (Some s) = record { actor = record { at = parent_of p; from = Some s; copied = copied }; fields = f; pause = Back }
+  leave p from f copied None = record { actor = record { at = p; from = from; copied = [] }; fields = f; pause = Over copied }
+
+  -- down to the next child that is left, else it leaves
+  abbrev pub walk_on : Path → Option Step → F → List (Path × F) → Option Step → Left (Walker F) F (List (Path × F))
+  walk_on p from f copied (Some s) = record { actor = record { at = p ++ s ∷ []; from = None; copied = copied }; fields = f; pause = Down s }
+  walk_on p from f copied None = leave p from f copied (last_step p)
 
   abbrev pub walk : Walker F → F → List Step → Left (Walker F) F (List (Path × F))
-  walk a f cs = walk_on a.at f (left_now a cs) (copied_now a f)
+  walk a f cs = walk_on a.at a.from f (copied_now a f) (first_of (steps_left cs a.from))
 
   unfoldable pub visit : Tree F → ℕ → Path → ℕ
   visit tree zero p = 1
@@ -59,7 +65,7 @@ module _ {F : Type 0} where
   -- the job is the same each time
   abbrev pub walkers : (Path → F) → Actors (Walker F) F (List (Path × F)) (Unit {0})
   walkers initial = record {
-    make = λ j t. record { at = []; fresh = true; left = []; copied = [] };
+    make = λ j t. record { at = []; from = None; copied = [] };
     segment = walk;
     peeks = λ a. false;
     initial = initial;
@@ -69,5 +75,11 @@ module _ {F : Type 0} where
     unended = [];
   }
 
-  abbrev pub IsWalker : Walker F → Path → ℕ → Type 0
-  IsWalker a p calls = length a.left ≡ lists_of a.fresh calls
+  -- a walker stands where it says, and as many calls are open as its path has steps
+  pub record IsWalker (a : Walker F) (p : Path) (calls : ℕ) : Type 0 where
+    pub at : a.at ≡ p
+    pub open_calls : calls ≡ length p
+
+  -- walkers, over contexts that may have the fields that fit
+  abbrev pub walker_kind : (Path → F) → ℕ → (Path → F → Type 0) → Kind (Walker F) F (List (Path × F)) (Unit {0})
+  walker_kind initial hosts fits = record { system = walkers initial; hosts = hosts; fits = fits; is_job = λ j. Unit {0}; may_run = IsWalker }

@@ -1,4 +1,5 @@
 -- When a label is enabled.
+use Rattle.wave_states.specs.Steps.{step}
 use Rattle.std.proofs.Common.{◌≡◌, ℕ, suc, ◌+◌, ◌==◌, ◌&&◌, nat_eq, nat_lt, Bool, true, false, Option, Some, None, is_some, [], refl, sym, ◌∙◌, ap, subst, arith}
 use Rattle.std.specs.Prelude.{if◌then◌else◌, cond, slice_get}
 use Rattle.std.specs.List.{list_any, AllByRecursion, filter}
@@ -13,7 +14,7 @@ use Rattle.wave_states.specs.Steps.{Bench, Part, Forward, start, free, land, pas
 use Rattle.wave_theory.proofs.Basics.{clash, number_self, path_self, and_both}
 use Rattle.wave_states.specs.Labels.{Act, Label, Admit, Queue, Grant, Start, Stop, Free, Pass, Land, Commit, ticket_of, path_of}
 use Rattle.wave_states.specs.Labels
-use Rattle.wave_theory.specs.States.{CanTake}
+use Rattle.wave_theory.specs.NeverStuck.{CanTake}
 use Rattle.wave_states.specs.States.{ask_in, is_coming, is_release, entry_in}
 use Rattle.wave_states.specs.Steps.{step_by, act_bench, only_if, next_ticket, mail_for, letter_at, visit, grant, queue, entry_for, passed_on, may_join, ready_at, Deliver, Born, Wait, route_by}
 use Rattle.std.specs.Prelude.{option_map, option_and_then}
@@ -112,34 +113,35 @@ module _ {A F R J : Type 0} (sys : Actors A F R J) where
 
   module _ (workers : ℕ) (s : State A F R J) (v : ℕ) (less : nat_lt v workers ≡ true) (idle : s.hands v ≡ None) where
     pub can_take : (t h : ℕ) (act : Act) → ticket_of act ≡ t → is_some (step_by sys s v h act) ≡ true → CanTake sys workers s v t
+    unfolding step
     can_take t h act e k = record { host = h; act = act; of_ticket = e; enabled = if_can (nat_lt v workers) _ less k }
 
-    on_bench : (act : Act) (h : ℕ) (f : Bench A F R → State A F R J) → is_some (act_bench sys act h (part_of sys s (ticket_of act) (path_of act)) None) ≡ true → is_some (option_map f (act_bench sys act h (part_of sys s (ticket_of act) (path_of act)) (s.hands v))) ≡ true
-    on_bench act h f k = map_can f _ (subst (λ o. is_some (act_bench sys act h (part_of sys s (ticket_of act) (path_of act)) o) ≡ true) (sym idle) k)
+    on_bench : (act : Act) (h : ℕ) (f : Bench A F R → State A F R J) → is_some (act_bench sys act h (part_of s (ticket_of act) (path_of act)) None) ≡ true → is_some (option_map f (act_bench sys act h (part_of s (ticket_of act) (path_of act)) (s.hands v))) ≡ true
+    on_bench act h f k = map_can f _ (subst (λ o. is_some (act_bench sys act h (part_of s (ticket_of act) (path_of act)) o) ≡ true) (sym idle) k)
 
-    pub take_visit : (t k : ℕ) (p : Path) (h : ℕ) → is_some (visit k p h (part_of sys s t p)) ≡ true → CanTake sys workers s v t
+    pub take_visit : (t k : ℕ) (p : Path) (h : ℕ) → is_some (visit k p h (part_of s t p)) ≡ true → CanTake sys workers s v t
     take_visit t k p h e = can_take t h (Labels.Visit t k p) refl (on_bench (Labels.Visit t k p) h _ (map_can _ _ e))
 
-    pub take_grant : (t : ℕ) (p : Path) (h : ℕ) → is_some (grant t p h (part_of sys s t p)) ≡ true → CanTake sys workers s v t
+    pub take_grant : (t : ℕ) (p : Path) (h : ℕ) → is_some (grant t p h (part_of s t p)) ≡ true → CanTake sys workers s v t
     take_grant t p h e = can_take t h (Grant t p) refl (on_bench (Grant t p) h _ (map_can _ _ e))
 
-    pub take_start : (t : ℕ) (p : Path) (h : ℕ) → is_some (start t p h (part_of sys s t p)) ≡ true → CanTake sys workers s v t
+    pub take_start : (t : ℕ) (p : Path) (h : ℕ) → is_some (start t p h (part_of s t p)) ≡ true → CanTake sys workers s v t
     take_start t p h e = can_take t h (Start t p) refl (on_bench (Start t p) h _ e)
 
-    pub take_free : (t k : ℕ) (p : Path) (h : ℕ) → is_some (free t k p h (part_of sys s t p)) ≡ true → CanTake sys workers s v t
+    pub take_free : (t k : ℕ) (p : Path) (h : ℕ) → is_some (free t k p h (part_of s t p)) ≡ true → CanTake sys workers s v t
     take_free t k p h e = can_take t h (Free t k p) refl (on_bench (Free t k p) h _ (map_can _ _ e))
 
-    pub take_land : (t k : ℕ) (p : Path) (h : ℕ) → is_some (land k p h (part_of sys s t p)) ≡ true → CanTake sys workers s v t
+    pub take_land : (t k : ℕ) (p : Path) (h : ℕ) → is_some (land k p h (part_of s t p)) ≡ true → CanTake sys workers s v t
     take_land t k p h e = can_take t h (Land t k p) refl (on_bench (Land t k p) h _ (map_can _ _ e))
 
-    pub take_pass : (t k : ℕ) (p : Path) (g h : ℕ) → is_some (pass k p g h (part_of sys s t p)) ≡ true → CanTake sys workers s v t
+    pub take_pass : (t k : ℕ) (p : Path) (g h : ℕ) → is_some (pass k p g h (part_of s t p)) ≡ true → CanTake sys workers s v t
     take_pass t k p g h e = can_take t h (Pass t k p g) refl (on_bench (Pass t k p g) h _ (map_can _ _ e))
 
-    pub take_queue : (t k : ℕ) (p : Path) (h : ℕ) → is_some (queue sys t k p h (part_of sys s t p)) ≡ true → CanTake sys workers s v t
+    pub take_queue : (t k : ℕ) (p : Path) (h : ℕ) → is_some (queue sys t k p h (part_of s t p)) ≡ true → CanTake sys workers s v t
     take_queue t k p h e = can_take t h (Queue t k p) refl (on_bench (Queue t k p) h _ (map_can _ _ e))
 
     pub take_commit : (t : ℕ) (r : R) → (s.cells t).result ≡ Some r → t ≡ suc (s.before + s.head.done) → CanTake sys workers s v t
     take_commit t r e n = can_take t 0 (Commit t) refl (subst (λ o. is_some (if Rattle.std.specs.Prelude.is_none o then commit sys s 0 t else None) ≡ true) (sym idle) (then_can _ (s.cells t).result r e (only_can ((0 == 0) && (t == suc (s.before + s.head.done))) _ (subst (λ i. nat_eq t i ≡ true) n (number_self t)))))
 
-    pub take_admit : (t : ℕ) (j : J) → slice_get s.head.known s.admitted ≡ Some j → t ≡ next_ticket sys s → CanTake sys workers s v t
-    take_admit t j e n = can_take t 0 (Admit t) refl (subst (λ o. is_some (if Rattle.std.specs.Prelude.is_none o then admit sys s 0 t else None) ≡ true) (sym idle) (then_can _ (slice_get s.head.known s.admitted) j e (only_can ((0 == 0) && (t == next_ticket sys s)) _ (subst (λ i. nat_eq t i ≡ true) n (number_self t)))))
+    pub take_admit : (t : ℕ) (j : J) → slice_get s.head.known s.admitted ≡ Some j → t ≡ next_ticket s → CanTake sys workers s v t
+    take_admit t j e n = can_take t 0 (Admit t) refl (subst (λ o. is_some (if Rattle.std.specs.Prelude.is_none o then admit sys s 0 t else None) ≡ true) (sym idle) (then_can _ (slice_get s.head.known s.admitted) j e (only_can ((0 == 0) && (t == next_ticket s)) _ (subst (λ i. nat_eq t i ≡ true) n (number_self t)))))

@@ -90,7 +90,7 @@ module _ {A F R J : Type 0} (sys : Actors A F R J) (w : Way) (course : Course sy
       ((h : Hand A F) → s.hands v ≡ Some h → h.ticket ≡ t) → AliveOne g' t y.part.cell.mails → (g'.out t ≡ true → HandThere (set nat_eq s.hands v y.hand) (g'.worker t) t) →
       ((r : Path) → path_eq p r ≡ false → g.lines.holds r t ≡ true → w.held t (g.lines.pos t) r ≡ false → w.held t (g'.lines.pos t) r ≡ false) → (g'.born p ≡ true → (g'.trail p).stored ≡ false → AwayBy g' p) →
       g'.lines.served p ≤ rank w p g.lines.admitted → (g.born p ≡ true → g'.born p ≡ true) → Kids g' p →
-      ((r : Path) (i : ℕ) → i ≤ (g'.trail r).last → (g'.trail r).at i < course.hosts) → y.part.cell.mails 0 ≡ None → (law : IsWay w) → Alive (with_bench sys s t p v y) g'
+      ((r : Path) (i : ℕ) → i ≤ (g'.trail r).last → (g'.trail r).at i < course.hosts) → y.part.cell.mails 0 ≡ None → (law : IsWay w) → Alive (with_bench s t p v y) g'
   alive_update s g g' t p v y x f same la lt a wait mine one own later at_p few_p grows kids_p housed' zero_p law = record {
     one = λ b lb l. elim (number_cases t b) [
       | inl z ↦ subst (λ i. AliveOne g' i (set nat_eq s.cells t y.part.cell i).mails) z (subst (λ (c : Cell A F R). AliveOne g' t c.mails) (sym (set_at s.cells t y.part.cell)) one)

@@ -4,8 +4,9 @@ use Rattle.wave_base.specs.declared.path.Step.{Step}
 use Rattle.wave_base.specs.declared.path.Path.{Path}
 use Rattle.wave_base.specs.Paths.{path_eq, is_above, parent_of}
 use Rattle.wave_base.specs.Tree.{Tree, children_of}
-use Rattle.wave_states.specs.Actors.{Actors, Left, Pause, Go, Down, Back, Over}
+use Rattle.wave_states.specs.Actors.{Left, Pause, Go, Down, Back, Over}
 use Rattle.wave_states.specs.Alone.{Alone, has, tree_with, into, back, goes_on, segment_alone, segment_if, next_alone, first_alone}
+use Rattle.wave_states.specs.Kinds.{Kind}
 use Rattle.wave_states.specs.Owes.{Owes, Keeps, Looks}
 use Rattle.wave_theory.proofs.Basics.{bool_cases, clash, none_not, path_is, path_self, and_first, and_second, and_both}
 use Rattle.wave_theory.proofs.Paths.{or_is, or_false, or_left, or_right, and_false, above_self, above_more, above_through, above_both, parent_child, above_child, child_not_root, has_append, has_filter, snoc}
@@ -17,12 +18,12 @@ root_is (x ∷ p) u = absurd (clash false u refl)
 longer : (d : Path) (s : Step) → length (d ++ s ∷ []) ≡ suc (length d)
 longer d s = omega (arith, length-append d (s ∷ []))
 
-module _ {A F R J : Type 0} (sys : Actors A F R J) (hosts : ℕ) (fits : Path → F → Type 0) (is_job : J → Type 0) (fine : A → Path → ℕ → Type 0) (owes : Owes sys hosts fits is_job fine) where
+module _ {A F R J : Type 0} (kind : Kind A F R J) (owes : Owes kind) where
   -- what holds of an event under way; `base` is the context of its last downgrade
   pub record Stands (x : Alone A F R) (base : Path) : Type 0 where
     pub below : Path
     pub at_is : x.at ≡ base ++ below
-    pub ready : fine x.actor x.at (length below)
+    pub ready : kind.may_run x.actor x.at (length below)
     pub held_entered : (p : Path) → has x.held p ≡ true → has x.entered p ≡ true
     pub held_below : (p : Path) → has x.held p ≡ true → is_above base p ≡ true
     pub given_up : (p : Path) → has x.entered p ≡ true → has x.held p ≡ false → is_above base p ≡ false
@@ -44,12 +45,12 @@ module _ {A F R J : Type 0} (sys : Actors A F R J) (hosts : ℕ) (fits : Path �
   ]
 
   -- a child call
-  down_alone : (x : Alone A F R) (base : Path) (a : A) (f : F) (s : Step) (was : Bool) (h : Stands x base) → fine a (x.at ++ s ∷ []) (suc (length h.below)) →
+  down_alone : (x : Alone A F R) (base : Path) (a : A) (f : F) (s : Step) (was : Bool) (h : Stands x base) → kind.may_run a (x.at ++ s ∷ []) (suc (length h.below)) →
       has x.held (x.at ++ s ∷ []) ≡ was → Stands (into x a f (x.at ++ s ∷ []) false x.held was) base
   down_alone x base a f s true h c e = record {
     below = h.below ++ s ∷ [];
     at_is = ap (λ p. p ++ s ∷ []) h.at_is ∙ append_assoc base h.below (s ∷ []);
-    ready = subst (fine a (x.at ++ s ∷ [])) (sym (longer h.below s)) c;
+    ready = subst (kind.may_run a (x.at ++ s ∷ [])) (sym (longer h.below s)) c;
     held_entered = h.held_entered;
     held_below = h.held_below;
     given_up = h.given_up;
@@ -59,7 +60,7 @@ module _ {A F R J : Type 0} (sys : Actors A F R J) (hosts : ℕ) (fits : Path �
   down_alone x base a f s false h c e = record {
     below = h.below ++ s ∷ [];
     at_is = ap (λ p. p ++ s ∷ []) h.at_is ∙ append_assoc base h.below (s ∷ []);
-    ready = subst (fine a (x.at ++ s ∷ [])) (sym (longer h.below s)) c;
+    ready = subst (kind.may_run a (x.at ++ s ∷ [])) (sym (longer h.below s)) c;
     held_entered = λ p u. has_append x.entered q p ∙ (elim (or_is (has x.held p) (path_eq p q) (sym (has_append x.held q p) ∙ u)) [ inl z ↦ or_left _ _ (h.held_entered p z) | inr z ↦ or_right (has x.entered p) _ z ]);
     held_below = λ p u. elim (or_is (has x.held p) (path_eq p q) (sym (has_append x.held q p) ∙ u)) [
       | inr z ↦ subst (λ r. is_above base r ≡ true) (sym (path_is p q z)) (above_through base x.at q (base_above x base h) (above_more x.at (s ∷ [])))
@@ -83,7 +84,7 @@ module _ {A F R J : Type 0} (sys : Actors A F R J) (hosts : ℕ) (fits : Path �
       q = x.at ++ s ∷ []
 
   -- a downgrade
-  go_alone : (x : Alone A F R) (base : Path) (a : A) (f : F) (s : Step) (peek was : Bool) → Stands x base → fine a (x.at ++ s ∷ []) 0 →
+  go_alone : (x : Alone A F R) (base : Path) (a : A) (f : F) (s : Step) (peek was : Bool) → Stands x base → kind.may_run a (x.at ++ s ∷ []) 0 →
       has x.held (x.at ++ s ∷ []) ≡ was → Stands (into x a f (x.at ++ s ∷ []) peek (filter (is_above (x.at ++ s ∷ [])) x.held) was) (x.at ++ s ∷ [])
   go_alone x base a f s peek true h c e = record {
     below = [];
@@ -132,11 +133,11 @@ module _ {A F R J : Type 0} (sys : Actors A F R J) (hosts : ℕ) (fits : Path �
       kept = filter (is_above q) x.held
 
   -- back from a call
-  back_alone : (x : Alone A F R) (base : Path) (a : A) (f : F) (n : ℕ) (h : Stands x base) → length h.below ≡ suc n → fine a (parent_of x.at) n → Stands (back x a f) base
+  back_alone : (x : Alone A F R) (base : Path) (a : A) (f : F) (n : ℕ) (h : Stands x base) → length h.below ≡ suc n → kind.may_run a (parent_of x.at) n → Stands (back x a f) base
   back_alone x base a f n h c k = record {
     below = r.0;
     at_is = up;
-    ready = subst (fine a (parent_of x.at)) (one_less n _ (sym c ∙ ap length r.2 ∙ length-append r.0 (r.1 ∷ []))) k;
+    ready = subst (kind.may_run a (parent_of x.at)) (one_less n _ (sym c ∙ ap length r.2 ∙ length-append r.0 (r.1 ∷ []))) k;
     held_entered = h.held_entered;
     held_below = h.held_below;
     given_up = h.given_up;
@@ -160,11 +161,11 @@ module _ {A F R J : Type 0} (sys : Actors A F R J) (hosts : ℕ) (fits : Path �
   pub record Fine (x : Alone A F R) : Type 0 where
     pub held_entered : (p : Path) → has x.held p ≡ true → has x.entered p ≡ true
     pub closed : (p : Path) → has x.entered p ≡ true → p ≢ [] → has x.entered (parent_of p) ≡ true
-    pub fitting : (p : Path) → fits p (x.tree.fields p)
-    pub peeking : x.peek ≡ true → (x.fresh ≡ true) × (sys.peeks x.actor ≡ true)
+    pub fitting : (p : Path) → kind.fits p (x.tree.fields p)
+    pub peeking : x.peek ≡ true → (x.fresh ≡ true) × (kind.system.peeks x.actor ≡ true)
     pub phase : ((x.result ≡ None) × (base : Path) × Stands x base) ⊎ ((r : R) × (x.result ≡ Some r) × (x.held ≡ []))
 
-  under_way : (x : Alone A F R) (base : Path) → x.result ≡ None → Stands x base → ((p : Path) → fits p (x.tree.fields p)) → (x.peek ≡ true → (x.fresh ≡ true) × (sys.peeks x.actor ≡ true)) → Fine x
+  under_way : (x : Alone A F R) (base : Path) → x.result ≡ None → Stands x base → ((p : Path) → kind.fits p (x.tree.fields p)) → (x.peek ≡ true → (x.fresh ≡ true) × (kind.system.peeks x.actor ≡ true)) → Fine x
   under_way x base e h f k = record { held_entered = h.held_entered; closed = h.closed; fitting = f; peeking = k; phase = inl (e, base, h) }
 
   -- what one segment does
@@ -203,30 +204,30 @@ module _ {A F R J : Type 0} (sys : Actors A F R J) (hosts : ℕ) (fits : Path �
   into_none x a f q peek true kept = refl
   into_none x a f q peek false kept = refl
 
-  into_peek : (x : Alone A F R) (a : A) (f : F) (q : Path) (peek was : Bool) (kept : List Path) → (peek ≡ true → sys.peeks a ≡ true) → (into x a f q peek kept was).peek ≡ true →
-      ((into x a f q peek kept was).fresh ≡ true) × (sys.peeks (into x a f q peek kept was).actor ≡ true)
+  into_peek : (x : Alone A F R) (a : A) (f : F) (q : Path) (peek was : Bool) (kept : List Path) → (peek ≡ true → kind.system.peeks a ≡ true) → (into x a f q peek kept was).peek ≡ true →
+      ((into x a f q peek kept was).fresh ≡ true) × (kind.system.peeks (into x a f q peek kept was).actor ≡ true)
   into_peek x a f q peek true kept k e = absurd (clash false e refl)
   into_peek x a f q peek false kept k e = (refl, k e)
 
   -- the fields that a segment leaves fit
-  put_fits : (x : Alone A F R) (f : F) → ((p : Path) → fits p (x.tree.fields p)) → fits x.at f → (p : Path) → fits p ((tree_with x f).fields p)
+  put_fits : (x : Alone A F R) (f : F) → ((p : Path) → kind.fits p (x.tree.fields p)) → kind.fits x.at f → (p : Path) → kind.fits p ((tree_with x f).fields p)
   put_fits x f h k p = elim (bool_cases (path_eq x.at p)) [
-    | inl e ↦ rw e (subst (λ q. fits q f) (path_is x.at p e) k)
+    | inl e ↦ rw e (subst (λ q. kind.fits q f) (path_is x.at p e) k)
     | inr e ↦ rw e (h p)
   ]
 
-  into_fits : (x : Alone A F R) (a : A) (f : F) (q : Path) (peek was : Bool) (kept : List Path) → ((p : Path) → fits p ((tree_with x f).fields p)) → (p : Path) → fits p ((into x a f q peek kept was).tree.fields p)
+  into_fits : (x : Alone A F R) (a : A) (f : F) (q : Path) (peek was : Bool) (kept : List Path) → ((p : Path) → kind.fits p ((tree_with x f).fields p)) → (p : Path) → kind.fits p ((into x a f q peek kept was).tree.fields p)
   into_fits x a f q peek true kept h p = h p
   into_fits x a f q peek false kept h p = h p
 
-  pub step_moved : (x : Alone A F R) → Fine x → x.result ≡ None → Moved x (next_alone sys x)
+  pub step_moved : (x : Alone A F R) → Fine x → x.result ≡ None → Moved x (next_alone kind.system x)
   step_moved x fin none = elim fin.phase [
     | inr z ↦ absurd (none_not (sym none ∙ z.1))
-    | inl z ↦ subst (λ r. Moved x (segment_if sys x r)) (sym none) (go L.pause refl z.1 z.2)
+    | inl z ↦ subst (λ r. Moved x (segment_if kind.system x r)) (sym none) (go L.pause refl z.1 z.2)
   ]
     where
       L : Left A F R
-      L = segment_alone sys x
+      L = segment_alone kind.system x
 
       a : A
       a = L.actor
@@ -234,18 +235,18 @@ module _ {A F R J : Type 0} (sys : Actors A F R J) (hosts : ℕ) (fits : Path �
       f : F
       f = L.fields
 
-      fitted : (base : Path) → Stands x base → (p : Path) → fits p ((tree_with x f).fields p)
+      fitted : (base : Path) → Stands x base → (p : Path) → kind.fits p ((tree_with x f).fields p)
       fitted base h = put_fits x f fin.fitting (owes.kept x.actor x.at (length h.below) (x.tree.fields x.at) (children_of x.tree x.at) h.ready (fin.fitting x.at))
 
-      keeps : (y : Pause R) → (segment_alone sys x).pause ≡ y → (base : Path) (h : Stands x base) → Keeps sys hosts fits is_job fine (segment_alone sys x).actor x.at (length h.below) y
-      keeps y e base h = subst (Keeps sys hosts fits is_job fine (segment_alone sys x).actor x.at (length h.below)) e (owes.keeps x.actor x.at (length h.below) (x.tree.fields x.at) (children_of x.tree x.at) h.ready (fin.fitting x.at))
+      keeps : (y : Pause R) → (segment_alone kind.system x).pause ≡ y → (base : Path) (h : Stands x base) → Keeps kind (segment_alone kind.system x).actor x.at (length h.below) y
+      keeps y e base h = subst (Keeps kind (segment_alone kind.system x).actor x.at (length h.below)) e (owes.keeps x.actor x.at (length h.below) (x.tree.fields x.at) (children_of x.tree x.at) h.ready (fin.fitting x.at))
 
-      up : (n : ℕ) → Keeps sys hosts fits is_job fine a x.at n Back → (m : ℕ) × (n ≡ suc m) × fine a (parent_of x.at) m
+      up : (n : ℕ) → Keeps kind a x.at n Back → (m : ℕ) × (n ≡ suc m) × kind.may_run a (parent_of x.at) m
       up zero k = absurd k
       up (suc m) k = (m, refl, k)
 
-      go : (y : Pause R) → (segment_alone sys x).pause ≡ y → (base : Path) → Stands x base → Moved x (goes_on sys x (segment_alone sys x).actor (segment_alone sys x).fields y)
-      go (Go s) e base h = into_moved x base a f s (sys.peeks a) (has x.held (x.at ++ s ∷ [])) (filter (is_above (x.at ++ s ∷ [])) x.held) h refl
+      go : (y : Pause R) → (segment_alone kind.system x).pause ≡ y → (base : Path) → Stands x base → Moved x (goes_on kind.system x (segment_alone kind.system x).actor (segment_alone kind.system x).fields y)
+      go (Go s) e base h = into_moved x base a f s (kind.system.peeks a) (has x.held (x.at ++ s ∷ [])) (filter (is_above (x.at ++ s ∷ [])) x.held) h refl
           (λ p u. and_second (is_above (x.at ++ s ∷ []) p) _ (rw has_filter at u))
           (under_way _ (x.at ++ s ∷ []) (into_none x a f _ _ _ _) (go_alone x base a f s _ _ h (keeps (Go s) e base h).1 refl) (into_fits x a f _ _ _ _ (fitted base h)) (into_peek x a f _ _ _ _ (λ u. u)))
       go (Down s) e base h = into_moved x base a f s false (has x.held (x.at ++ s ∷ [])) x.held h refl (λ p u. u)
@@ -270,8 +271,8 @@ module _ {A F R J : Type 0} (sys : Actors A F R J) (hosts : ℕ) (fits : Path �
       }
 
   -- the first one
-  pub first_fine : (j : J) (t : ℕ) (tree : Tree F) → is_job j → ((p : Path) → fits p (tree.fields p)) → Fine (first_alone sys j t tree)
-  first_fine j t tree k f = under_way (first_alone sys j t tree) [] refl (record {
+  pub first_fine : (j : J) (t : ℕ) (tree : Tree F) → kind.is_job j → ((p : Path) → kind.fits p (tree.fields p)) → Fine (first_alone kind.system j t tree)
+  first_fine j t tree k f = under_way (first_alone kind.system j t tree) [] refl (record {
     below = [];
     at_is = refl;
     ready = owes.first j t k;
@@ -286,13 +287,13 @@ module _ {A F R J : Type 0} (sys : Actors A F R J) (hosts : ℕ) (fits : Path �
       at_root [] u = refl
       at_root (s ∷ p) u = absurd (clash false u refl)
 
-  pub root_only : (j : J) (t : ℕ) (tree : Tree F) (p : Path) → has (first_alone sys j t tree).entered p ≡ true → p ≡ []
+  pub root_only : (j : J) (t : ℕ) (tree : Tree F) (p : Path) → has (first_alone kind.system j t tree).entered p ≡ true → p ≡ []
   root_only j t tree p u = sym (root_is p u)
 
   -- what only looks is over after its segment, and leaves its context
-  pub look_ends : (x : Alone A F R) → Fine x → x.result ≡ None → x.peek ≡ true → (r : R) × (segment_alone sys x).pause ≡ Over r × ((segment_alone sys x).fields ≡ x.tree.fields x.at) × (sys.moved r ≡ None)
+  pub look_ends : (x : Alone A F R) → Fine x → x.result ≡ None → x.peek ≡ true → (r : R) × (segment_alone kind.system x).pause ≡ Over r × ((segment_alone kind.system x).fields ≡ x.tree.fields x.at) × (kind.system.moved r ≡ None)
   look_ends x fin none e = elim fin.phase [
     | inr z ↦ absurd (none_not (sym none ∙ z.1))
-    | inl z ↦ (let l : Looks sys hosts fits is_job fine x.actor (x.tree.fields x.at) (children_of x.tree x.at) = owes.looks x.actor x.at (length (z.2).below) (x.tree.fields x.at) (children_of x.tree x.at) (z.2).ready (fin.fitting x.at) (fin.peeking e).1 in
+    | inl z ↦ (let l : Looks kind x.actor (x.tree.fields x.at) (children_of x.tree x.at) = owes.looks x.actor x.at (length (z.2).below) (x.tree.fields x.at) (children_of x.tree x.at) (z.2).ready (fin.fitting x.at) (fin.peeking e).1 in
         (l.result, l.over, l.same, l.stays))
   ]

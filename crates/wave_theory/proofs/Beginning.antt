@@ -7,7 +7,6 @@ use Rattle.wave_base.specs.declared.path.Path.{Path}
 use Rattle.wave_base.specs.declared.children.Child.{Child}
 use Rattle.wave_base.specs.Paths.{path_eq}
 use Rattle.wave_base.specs.Kids.{child_at}
-use Rattle.wave_states.specs.Actors.{Actors}
 use Rattle.wave_states.specs.States.{Entry, Record, Mark, set}
 use Rattle.wave_states.specs.Steps.{child_or_new, new_entry}
 use Rattle.wave_theory.proofs.Basics.{bool_cases, clash, some_same, none_not, some_not, number_is, number_cases, not_same, path_is, set_at, set_there, and_second, and_both, differ}
@@ -22,26 +21,27 @@ use Rattle.wave_theory.proofs.Shows
 use Rattle.std.specs.Prelude.{All, map, ◌↔◌}
 use Rattle.wave_base.specs.Tree.{there, children_of}
 use Rattle.wave_states.specs.Begins.{Begin, start_state, column_at_start, entry_at_start, child_at_start, has_moved, is_root}
+use Rattle.wave_states.specs.Kinds.{Kind}
 use Rattle.wave_states.specs.Owes.{Owes, IsBegin}
 use Rattle.wave_theory.proofs.Maps.{any_child, none_any, child_listed, steps_listed}
 use Rattle.wave_theory.proofs.Courses.{Real, leaf_of, leaf_first, view_early, view_later, view, View}
 use Rattle.wave_theory.proofs.Courses
 
-module _ {A F R J : Type 0} (sys : Actors A F R J) (hosts : ℕ) (fits : Path → F → Type 0) (is_job : J → Type 0) (fine : A → Path → ℕ → Type 0) (owes : Owes sys hosts fits is_job fine) (b : Begin F) (batches : List (List J)) (begins : IsBegin sys hosts fits is_job fine b) (jobs : All (All is_job) batches) where
+module _ {A F R J : Type 0} (kind : Kind A F R J) (owes : Owes kind) (b : Begin F) (batches : List (List J)) (begins : IsBegin kind b) (jobs : All (All kind.is_job) batches) where
   abbrev w : Way
-  w = Courses.w sys hosts fits is_job fine owes b batches begins jobs
+  w = Courses.w kind owes b batches begins jobs
 
-  abbrev course : Course sys
-  course = Courses.course sys hosts fits is_job fine owes b batches begins jobs
+  abbrev course : Course kind.system
+  course = Courses.course kind owes b batches begins jobs
 
   law : IsWay w
-  law = Courses.law sys hosts fits is_job fine owes b batches begins jobs
+  law = Courses.law kind owes b batches begins jobs
 
   abbrev Is_real : ℕ → Type 0
-  Is_real = Courses.Real sys hosts fits is_job fine owes b batches begins jobs
+  Is_real = Courses.Real kind owes b batches begins jobs
 
-  courses : IsCourse sys w course b.before Is_real
-  courses = Courses.courses sys hosts fits is_job fine owes b batches begins jobs
+  courses : IsCourse kind.system w course b.before Is_real
+  courses = Courses.courses kind owes b batches begins jobs
 
   abbrev pub at_root : Path → ℕ
   at_root p = if is_root p then b.before else 0
@@ -50,7 +50,7 @@ module _ {A F R J : Type 0} (sys : Actors A F R J) (hosts : ℕ) (fits : Path �
   lines₀ = record { admitted = b.before; pos = λ t. suc (w.last t); stage = λ t. Done; served = at_root; given = at_root; holds = λ p t. false }
 
   abbrev new_record : Path → Record F
-  new_record p = record { fields = sys.initial p; children = [] }
+  new_record p = record { fields = kind.system.initial p; children = [] }
 
   abbrev old_record : Path → Record F
   old_record p = record { fields = b.tree.fields p; children = map (child_at_start b p) (children_of b.tree p) }
@@ -66,7 +66,7 @@ module _ {A F R J : Type 0} (sys : Actors A F R J) (hosts : ℕ) (fits : Path �
     worker = λ t. 0;
     main = λ t. 0;
     parting = λ t p. 0;
-    entry = λ p. if there b.tree p then entry_at_start b p else new_entry sys p;
+    entry = λ p. if there b.tree p then entry_at_start b p else new_entry kind.system p;
     body = λ p. if there b.tree p then old_record p else new_record p;
     born = λ p. there b.tree p;
     trail = λ p. if there b.tree p then moved_trail (has_moved b p) p else unborn 0;
@@ -82,7 +82,7 @@ module _ {A F R J : Type 0} (sys : Actors A F R J) (hosts : ℕ) (fits : Path �
 
   -- a ticket of before entered the root alone
   early_entered : (t k : ℕ) (p : Path) → t ≤ b.before → w.entered t k p ≡ path_eq [] p
-  early_entered t k p l = ap (λ (v : View A F R). v.one.entered k p) (view_early sys hosts fits is_job fine owes b batches begins jobs t l)
+  early_entered t k p l = ap (λ (v : View A F R). v.one.entered k p) (view_early kind owes b batches begins jobs t l)
 
   rank_early : (p : Path) (t : ℕ) → t ≤ b.before → is_root p ≡ false → rank w p t ≡ 0
   unfolding rank
@@ -129,10 +129,10 @@ module _ {A F R J : Type 0} (sys : Actors A F R J) (hosts : ℕ) (fits : Path �
     | inl i ↦ absurd (clash _ (subst (λ r. there b.tree r ≡ true) (parent_child p s) (begins.parents (p ++ s ∷ []) i)) e)
   ]))
 
-  like₀ : (p : Path) → Shows.Like sys w course b.before Is_real ((ghost₀).body p) (leaf_of b.tree p)
+  like₀ : (p : Path) → Shows.Like kind.system w course b.before Is_real ((ghost₀).body p) (leaf_of b.tree p)
   like₀ p = by (there b.tree p) refl
     where
-      by : (i : Bool) → there b.tree p ≡ i → Shows.Like sys w course b.before Is_real (if i then old_record p else new_record p) (leaf_of b.tree p)
+      by : (i : Bool) → there b.tree p ≡ i → Shows.Like kind.system w course b.before Is_real (if i then old_record p else new_record p) (leaf_of b.tree p)
       by true e = record { fields = refl; steps = steps_listed (first_kid p) (children_of b.tree p) }
       by false e = record { fields = sym (begins.absent p e); steps = sym (no_kids p e) }
 
@@ -143,10 +143,10 @@ module _ {A F R J : Type 0} (sys : Actors A F R J) (hosts : ℕ) (fits : Path �
       by true e = subst (λ r. rank w r b.before ≡ b.before) (root_is p e) (root_number law b.before)
       by false e = rank_early p b.before (omega arith) e
 
-  kept₀ : Shows.Kept sys w course b.before Is_real ghost₀
+  kept₀ : Shows.Kept kind.system w course b.before Is_real ghost₀
   kept₀ = record {
     held = λ p t e. absurd (clash false e refl);
-    calm = λ p m c e l. subst (Shows.Like sys w course b.before Is_real ((ghost₀).body p)) (sym (path p m e l)) (like₀ p);
+    calm = λ p m c e l. subst (Shows.Like kind.system w course b.before Is_real ((ghost₀).body p)) (sym (path p m e l)) (like₀ p);
   }
     where
       rank_before : (p : Path) → rank w p b.before ≡ at_root p
@@ -157,10 +157,10 @@ module _ {A F R J : Type 0} (sys : Actors A F R J) (hosts : ℕ) (fits : Path �
           by false e = rank_early p b.before (omega arith) e
 
       path : (p : Path) (m : ℕ) → rank w p m ≡ at_root p → b.before ≤ m → course.leaf (suc m) 0 p ≡ leaf_of b.tree p
-      path p m e l = frames sys law courses b.before m p l (rank_before p ∙ sym e)
+      path p m e l = frames kind.system law courses b.before m p l (rank_before p ∙ sym e)
           ∙ ap (λ i. course.leaf i 0 p) (let z : suc b.before ≡ suc b.before + 0 = omega arith in z)
-          ∙ ap (λ (v : View A F R). v.leaf 0 p) (view_later sys hosts fits is_job fine owes b batches begins jobs 0)
-          ∙ leaf_first sys hosts fits is_job fine owes b batches begins jobs 0 (Rattle.wave_states.specs.Alone.job_after sys b batches 0) p
+          ∙ ap (λ (v : View A F R). v.leaf 0 p) (view_later kind owes b batches begins jobs 0)
+          ∙ leaf_first kind owes b batches begins jobs 0 (Rattle.wave_states.specs.Alone.job_after kind.system b batches 0) p
 
   kid_given : (p : Path) (s : Step) (i : Bool) → child_at (if i then old_record p else new_record p).children s ≡ cond (i && there b.tree (p ++ s ∷ [])) (Some (first_kid p s)) None
   kid_given p s true = kids_at p s
@@ -181,7 +181,7 @@ module _ {A F R J : Type 0} (sys : Actors A F R J) (hosts : ℕ) (fits : Path �
   root_there : (p : Path) → there b.tree p ≡ false → is_root p ≡ false
   root_there p e = elim (bool_cases (is_root p)) [ inr i ↦ i | inl i ↦ absurd (clash _ (subst (λ r. there b.tree r ≡ true) (root_is p i) begins.root) e) ]
 
-  entry₀ : (p : Path) → Shows.EntryShows sys w course b.before Is_real ghost₀ p
+  entry₀ : (p : Path) → Shows.EntryShows kind.system w course b.before Is_real ghost₀ p
   entry₀ p = record {
     served = by_served (there b.tree p) refl;
     holders = λ t. ap (λ (u : Entry F). Shows.holds_claim u.holders t) (same (there b.tree p)) ∙ none_hold (there b.tree p) t;
@@ -193,30 +193,30 @@ module _ {A F R J : Type 0} (sys : Actors A F R J) (hosts : ℕ) (fits : Path �
     given = λ s. ap (λ o. (child_or_new o 0).given) (kid_given p s (there b.tree p)) ∙ given₀ (there b.tree p && there b.tree (p ++ s ∷ [])) p s ∙ sym (ap (λ i. if i then b.before else 0) (child_no_root p s));
     births = λ s c e. births s c (there b.tree p && there b.tree (p ++ s ∷ [])) refl (sym (kid_given p s (there b.tree p)) ∙ e);
     strangers = λ s e. strangers s (there b.tree (p ++ s ∷ [])) refl (sym (kid_given p s (there b.tree p)) ∙ e);
-    unborn = λ e. ap (λ i. if i then entry_at_start b p else new_entry sys p) e;
+    unborn = λ e. ap (λ i. if i then entry_at_start b p else new_entry kind.system p) e;
     moves = moves_now (there b.tree p) (has_moved b p) refl;
   }
     where
-      same : (i : Bool) → (if i then entry_at_start b p else new_entry sys p) ≡ (if i then entry_at_start b p else new_entry sys p)
+      same : (i : Bool) → (if i then entry_at_start b p else new_entry kind.system p) ≡ (if i then entry_at_start b p else new_entry kind.system p)
       same i = refl
 
-      by_served : (i : Bool) → there b.tree p ≡ i → (if i then entry_at_start b p else new_entry sys p).served ≡ at_root p
+      by_served : (i : Bool) → there b.tree p ≡ i → (if i then entry_at_start b p else new_entry kind.system p).served ≡ at_root p
       by_served true e = refl
       by_served false e = sym (ap (λ j. if j then b.before else 0) (root_there p e))
 
-      none_hold : (i : Bool) (t : ℕ) → Shows.holds_claim (if i then entry_at_start b p else new_entry sys p).holders t ≡ false
+      none_hold : (i : Bool) (t : ℕ) → Shows.holds_claim (if i then entry_at_start b p else new_entry kind.system p).holders t ≡ false
       none_hold true t = refl
       none_hold false t = refl
 
-      none_peek : (i : Bool) → AllByRecursion (λ c. c.peek ≡ w.looks c.ticket p) (if i then entry_at_start b p else new_entry sys p).holders
+      none_peek : (i : Bool) → AllByRecursion (λ c. c.peek ≡ w.looks c.ticket p) (if i then entry_at_start b p else new_entry kind.system p).holders
       none_peek true = tt
       none_peek false = tt
 
-      none_wait : (i : Bool) (j : ℕ) → (if i then entry_at_start b p else new_entry sys p).waiting j ≡ None
+      none_wait : (i : Bool) (j : ℕ) → (if i then entry_at_start b p else new_entry kind.system p).waiting j ≡ None
       none_wait true j = refl
       none_wait false j = refl
 
-      there_body : (i : Bool) → (if i then entry_at_start b p else new_entry sys p).body ≡ Some (if i then old_record p else new_record p)
+      there_body : (i : Bool) → (if i then entry_at_start b p else new_entry kind.system p).body ≡ Some (if i then old_record p else new_record p)
       there_body true = refl
       there_body false = refl
 
@@ -228,7 +228,7 @@ module _ {A F R J : Type 0} (sys : Actors A F R J) (hosts : ℕ) (fits : Path �
       strangers s false n e = n
       strangers s true n e = absurd (some_not (sym (ap (λ j. cond j (Some (first_kid p s)) None) (and_both _ _ (subst (λ r. there b.tree r ≡ true) (parent_child p s) (begins.parents (p ++ s ∷ []) n)) n)) ∙ e))
 
-      moves_now : (i j : Bool) → has_moved b p ≡ j → (if i then entry_at_start b p else new_entry sys p).moves ≡ (if i then moved_trail (has_moved b p) p else unborn 0).last
+      moves_now : (i j : Bool) → has_moved b p ≡ j → (if i then entry_at_start b p else new_entry kind.system p).moves ≡ (if i then moved_trail (has_moved b p) p else unborn 0).last
       moves_now false j e = refl
       moves_now true true e = ap (λ u. if u then 1 else 0) e ∙ sym (ap (λ u. (moved_trail u p).last) e)
       moves_now true false e = ap (λ u. if u then 1 else 0) e ∙ sym (ap (λ u. (moved_trail u p).last) e)
@@ -239,7 +239,7 @@ module _ {A F R J : Type 0} (sys : Actors A F R J) (hosts : ℕ) (fits : Path �
   one_store : (h : ℕ) (en : Entry F) (a : ℕ) → is_some (set nat_eq (λ i. None) h (Some en) a) ≡ true → a ≡ h
   one_store h en a e = elim (number_cases h a) [ inl z ↦ sym z | inr z ↦ absurd (clash false (sym (ap is_some (set_there nat_eq (λ i. None) h (Some en) a z)) ∙ e) refl) ]
 
-  column₀ : (p : Path) → Shows.ColumnShows sys w course b.before Is_real (there b.tree p) ghost₀ p (column_at_start b p)
+  column₀ : (p : Path) → Shows.ColumnShows kind.system w course b.before Is_real (there b.tree p) ghost₀ p (column_at_start b p)
   column₀ p = by (there b.tree p) refl (has_moved b p) refl
     where
       trail_is : (j : Bool) → there b.tree p ≡ true → has_moved b p ≡ j → (ghost₀).trail p ≡ moved_trail j p
@@ -249,12 +249,12 @@ module _ {A F R J : Type 0} (sys : Actors A F R J) (hosts : ℕ) (fits : Path �
       store_is e = ap (λ i. if i then set nat_eq (λ h. None) (b.places.fields p) (Some (entry_at_start b p)) else (λ h. None)) e
 
       entry_is : there b.tree p ≡ true → (ghost₀).entry p ≡ entry_at_start b p
-      entry_is e = ap (λ i. if i then entry_at_start b p else new_entry sys p) e
+      entry_is e = ap (λ i. if i then entry_at_start b p else new_entry kind.system p) e
 
       away_from : has_moved b p ≡ true → nat_eq (b.places.fields p) 0 ≡ false
       away_from m = not_is _ (and_second (is_root p) _ m)
 
-      by : (i : Bool) → there b.tree p ≡ i → (j : Bool) → has_moved b p ≡ j → Shows.ColumnShows sys w course b.before Is_real i ghost₀ p (column_at_start b p)
+      by : (i : Bool) → there b.tree p ≡ i → (j : Bool) → has_moved b p ≡ j → Shows.ColumnShows kind.system w course b.before Is_real i ghost₀ p (column_at_start b p)
       by false e j m = record {
         empty = record {
           no_entry = λ h. ap (λ i. (if i then set nat_eq (λ h. None) (b.places.fields p) (Some (entry_at_start b p)) else (λ h. None)) h) e;
@@ -310,7 +310,7 @@ module _ {A F R J : Type 0} (sys : Actors A F R J) (hosts : ℕ) (fits : Path �
       by true e = number_is (b.places.fields []) 0 e
       by false e = set_at (λ i. b.places.fields []) 0 0
 
-  pub start_shows : Shows.Shows sys w course b.before Is_real (start_state b batches) ghost₀
+  pub start_shows : Shows.Shows kind.system w course b.before Is_real (start_state b batches) ghost₀
   start_shows = record {
     good = good₀;
     kept = kept₀;
@@ -327,16 +327,16 @@ module _ {A F R J : Type 0} (sys : Actors A F R J) (hosts : ℕ) (fits : Path �
   }
 
   -- every host of a trail is one of the hosts
-  pub housed₀ : 0 < hosts → (p : Path) (i : ℕ) → i ≤ ((ghost₀).trail p).last → ((ghost₀).trail p).at i < hosts
+  pub housed₀ : 0 < kind.hosts → (p : Path) (i : ℕ) → i ≤ ((ghost₀).trail p).last → ((ghost₀).trail p).at i < kind.hosts
   housed₀ some p i = by (there b.tree p) refl
     where
-      moved : there b.tree p ≡ true → (j : Bool) → (i : ℕ) → i ≤ (moved_trail j p).last → (moved_trail j p).at i < hosts
+      moved : there b.tree p ≡ true → (j : Bool) → (i : ℕ) → i ≤ (moved_trail j p).last → (moved_trail j p).at i < kind.hosts
       moved u false i l = begins.within p u
       moved u true i l = elim (number_cases 0 i) [
-        | inl e ↦ subst (λ a. set nat_eq (λ n. b.places.fields p) 0 0 a < hosts) e some
-        | inr e ↦ subst (λ a. a < hosts) (sym (set_there nat_eq (λ n. b.places.fields p) 0 0 i e)) (begins.within p u)
+        | inl e ↦ subst (λ a. set nat_eq (λ n. b.places.fields p) 0 0 a < kind.hosts) e some
+        | inr e ↦ subst (λ a. a < kind.hosts) (sym (set_there nat_eq (λ n. b.places.fields p) 0 0 i e)) (begins.within p u)
       ]
 
-      by : (j : Bool) → there b.tree p ≡ j → i ≤ (if j then moved_trail (has_moved b p) p else unborn 0).last → (if j then moved_trail (has_moved b p) p else unborn 0).at i < hosts
+      by : (j : Bool) → there b.tree p ≡ j → i ≤ (if j then moved_trail (has_moved b p) p else unborn 0).last → (if j then moved_trail (has_moved b p) p else unborn 0).at i < kind.hosts
       by false u l = some
       by true u l = moved u (has_moved b p) i l

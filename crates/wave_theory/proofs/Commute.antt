@@ -1,4 +1,5 @@
 -- Labels but Admit and Commit change one cell, one column and one hand, so they commute.
+use Rattle.wave_states.specs.Steps.{step}
 use Rattle.std.proofs.Common.{◌≡◌, ◌≢◌, ◌⊎◌, ◌&&◌, inl, inr, ℕ, ◌==◌, nat_eq, nat_lt, Bool, true, false, Option, Some, None, List, [], ◌∷◌, refl, sym, ◌∙◌, ap, ap₂, subst}
 use Rattle.std.specs.Prelude.{if◌then◌else◌, option_map, option_and_then}
 use Rattle.std.specs.List.{filter}
@@ -8,7 +9,7 @@ use Rattle.wave_states.specs.Actors.{Actors, Pause, Go, Down, Back, Over}
 use Rattle.wave_states.specs.States.{State, Column, Claim, Entry, Event, Hand, Record, Letter, set, holds_as_peek, is_release}
 use Rattle.wave_states.specs.Labels.{Label, Act, Admit, Commit, Queue, Grant, Start, Stop, Free, Visit, Land, Pass, ticket_of, path_of, is_local, is_start}
 use Rattle.wave_states.specs.Steps.{Part, Bench, step_by, act_bench, part_of, with_bench, with_hand, calm, stop, stopped, looked, free, only_if, with_entry, with_body, with_holders, others, left_by, started, ready_at, letter_at, without_mail, segment_of, desk_back, over_here}
-use Rattle.wave_theory.specs.Laws.{Independent, Peeks, IsLight}
+use Rattle.wave_theory.specs.Independent.{Independent, Peeks, IsLight}
 use Rattle.wave_theory.proofs.Basics.{bool_cases, clash, some_same, none_not, then_some, map_some, only_some, if_some, and_first, number_is, number_self, number_cases, not_same, path_is, path_self, path_cases, set_set, set_apart, set_noop, set_twice, set_twice_path, set_here, set_there, set_at_path}
 
 -- what a label has in the hand
@@ -31,7 +32,7 @@ filter_swap f g (x ∷ xs) = elim (bool_cases (f x)) [
 ]
 
 module _ {A F R J : Type 0} (sys : Actors A F R J) where
-  calm_case : (o : Option (Part A F R)) (t : ℕ) (u : Bool) (y : Bench A F R) → with_hand sys None o ≡ Some y → Hands t u None y
+  calm_case : (o : Option (Part A F R)) (t : ℕ) (u : Bool) (y : Bench A F R) → with_hand None o ≡ Some y → Hands t u None y
   calm_case o t u y e = let r = map_some (λ x. record { part = x; hand = None }) o y e in Calm refl (ap (λ z. z.hand) r.2)
 
   hands : (a : Act) (h : ℕ) (x : Part A F R) (g : Option (Hand A F)) (y : Bench A F R) → act_bench sys a h x g ≡ Some y → Hands (ticket_of a) (is_start a) g y
@@ -55,7 +56,7 @@ module _ {A F R J : Type 0} (sys : Actors A F R J) where
   hands (Pass t k p q) h x (Some g) y e = absurd (none_not e)
   hands (Land t k p) h x (Some g) y e = absurd (none_not e)
 
-  pub local_step : (s : State A F R J) (w h : ℕ) (a : Act) → is_local a ≡ true → step_by sys s w h a ≡ option_map (λ x. with_bench sys s (ticket_of a) (path_of a) w x) (act_bench sys a h (part_of sys s (ticket_of a) (path_of a)) (s.hands w))
+  pub local_step : (s : State A F R J) (w h : ℕ) (a : Act) → is_local a ≡ true → step_by sys s w h a ≡ option_map (λ x. with_bench s (ticket_of a) (path_of a) w x) (act_bench sys a h (part_of s (ticket_of a) (path_of a)) (s.hands w))
   local_step s w h (Admit t) u = absurd (clash false u refl)
   local_step s w h (Commit t) u = absurd (clash false u refl)
   local_step s w h (Queue t k p) u = refl
@@ -93,16 +94,16 @@ module _ {A F R J : Type 0} (sys : Actors A F R J) where
       ticket_of l.act ≢ ticket_of l'.act → (y y' : Bench A F R) →
       Apart s l.act l'.act l.host l'.host (s.hands l.worker) (s.hands l'.worker) y y' →
       (l.worker ≢ l'.worker) ⊎ ((l.worker ≡ l'.worker) × (s.hands l.worker ≡ None) × (y.hand ≡ None) × (y'.hand ≡ None)) →
-      s₁ ≡ with_bench sys s (ticket_of l.act) (path_of l.act) l.worker y →
-      s₂ ≡ with_bench sys s (ticket_of l'.act) (path_of l'.act) l'.worker y' →
+      s₁ ≡ with_bench s (ticket_of l.act) (path_of l.act) l.worker y →
+      s₂ ≡ with_bench s (ticket_of l'.act) (path_of l'.act) l'.worker y' →
       (v : State A F R J) × (step_by sys s₁ l'.worker l'.host l'.act ≡ Some v) × (step_by sys s₂ l.worker l.host l.act ≡ Some v)
   independent_by s s₁ s₂ l l' lo lo' nt y y' ap' apart k k' = (
-    with_bench sys (with_bench sys s t p w y) t' p' w' ap'.second,
-    subst (λ z. step_by sys z w' l'.host l'.act ≡ Some (with_bench sys (with_bench sys s t p w y) t' p' w' ap'.second)) (sym k)
-        (local_step (with_bench sys s t p w y) w' l'.host l'.act lo' ∙ ap (option_map (λ x. with_bench sys (with_bench sys s t p w y) t' p' w' x))
+    with_bench (with_bench s t p w y) t' p' w' ap'.second,
+    subst (λ z. step_by sys z w' l'.host l'.act ≡ Some (with_bench (with_bench s t p w y) t' p' w' ap'.second)) (sym k)
+        (local_step (with_bench s t p w y) w' l'.host l'.act lo' ∙ ap (option_map (λ x. with_bench (with_bench s t p w y) t' p' w' x))
         (ap₂ (act_bench sys l'.act l'.host) (λ i. record { cell = set_apart nat_eq s.cells t t' y.part.cell number_is nt i; column = set path_eq s.columns p y.part.column p' }) there_same ∙ ap'.second_is)),
-    subst (λ z. step_by sys z w l.host l.act ≡ Some (with_bench sys (with_bench sys s t p w y) t' p' w' ap'.second)) (sym k')
-        (local_step (with_bench sys s t' p' w' y') w l.host l.act lo ∙ ap (option_map (λ x. with_bench sys (with_bench sys s t' p' w' y') t p w x))
+    subst (λ z. step_by sys z w l.host l.act ≡ Some (with_bench (with_bench s t p w y) t' p' w' ap'.second)) (sym k')
+        (local_step (with_bench s t' p' w' y') w l.host l.act lo ∙ ap (option_map (λ x. with_bench (with_bench s t' p' w' y') t p w x))
         (ap₂ (act_bench sys l.act l.host) (λ i. record { cell = set_apart nat_eq s.cells t' t y'.part.cell number_is (λ z. nt (sym z)) i; column = set path_eq s.columns p' y'.part.column p }) here_same ∙ ap'.first_is)
         ∙ ap Some (λ i. record { before = s.before; head = s.head; admitted = s.admitted; cells = cells_same i; columns = ap'.columns i; hands = hands_same i })),
   )
@@ -148,7 +149,7 @@ module _ {A F R J : Type 0} (sys : Actors A F R J) where
 
   -- on different contexts
   apart_paths : (s : State A F R J) (a a' : Act) (h h' : ℕ) (g g' : Option (Hand A F)) (y y' : Bench A F R) → path_of a ≢ path_of a' →
-      act_bench sys a h (part_of sys s (ticket_of a) (path_of a)) g ≡ Some y → act_bench sys a' h' (part_of sys s (ticket_of a') (path_of a')) g' ≡ Some y' → Apart s a a' h h' g g' y y'
+      act_bench sys a h (part_of s (ticket_of a) (path_of a)) g ≡ Some y → act_bench sys a' h' (part_of s (ticket_of a') (path_of a')) g' ≡ Some y' → Apart s a a' h h' g g' y y'
   apart_paths s a a' h h' g g' y y' np e e' = record {
     first = y;
     second = y';
@@ -192,10 +193,10 @@ module _ {A F R J : Type 0} (sys : Actors A F R J) where
         again = λ c en' st same. rw st (rw e2 (rw e3 (ap Some (λ i. record { part = record { cell = (ap (λ (v : Part A F R). v.cell) e4 ∙ ap (λ (v : Bench A F R). v.part.cell) (sym e5)) i; column = with_entry c h (Some (with_holders en' (others t en'.holders))) }; hand = (sym e5 i).hand }))));
       }
 
-  light_start : (s : State A F R J) (t : ℕ) (p : Path) (h : ℕ) (g : Option (Hand A F)) (y : Bench A F R) → Peeks sys s t p → act_bench sys (Start t p) h (part_of sys s t p) g ≡ Some y → Light t (Start t p) h (part_of sys s t p) g y
+  light_start : (s : State A F R J) (t : ℕ) (p : Path) (h : ℕ) (g : Option (Hand A F)) (y : Bench A F R) → Peeks s t p → act_bench sys (Start t p) h (part_of s t p) g ≡ Some y → Light t (Start t p) h (part_of s t p) g y
   light_start s t p h (Some g) y k e = absurd (none_not e)
   light_start s t p h None y k e =
-      let x : Part A F R = part_of sys s t p in
+      let x : Part A F R = part_of s t p in
       let last : Event A → Entry F → A → Record F → Option (Bench A F R) = λ ev en a b. only_if (ready_at ev.status p) (started t p h x ev en a b) in
       let r1 = then_some (λ ev. option_and_then (λ en. option_and_then (λ a. option_and_then (λ b. last ev en a b) en.body) ev.actor) (x.column.store h)) x.cell.event y e in
       let r2 = then_some (λ en. option_and_then (λ a. option_and_then (λ b. last r1.0 en a b) en.body) (r1.0).actor) (x.column.store h) y r1.2 in
@@ -206,7 +207,7 @@ module _ {A F R J : Type 0} (sys : Actors A F R J) where
       light_start_by s t p h y r1.0 r2.0 r3.0 r4.0 r1.1 r2.1 r3.1 r4.1 o.0 o.1 peek
     where
       light_start_by : (s : State A F R J) (t : ℕ) (p : Path) (h : ℕ) (y : Bench A F R) (ev : Event A) (en : Entry F) (a : A) (b : Record F) → (s.cells t).event ≡ Some ev → (s.columns p).store h ≡ Some en → ev.actor ≡ Some a → en.body ≡ Some b →
-          ready_at ev.status p ≡ true → started t p h (part_of sys s t p) ev en a b ≡ y → holds_as_peek ev.held p ≡ true → Light t (Start t p) h (part_of sys s t p) None y
+          ready_at ev.status p ≡ true → started t p h (part_of s t p) ev en a b ≡ y → holds_as_peek ev.held p ≡ true → Light t (Start t p) h (part_of s t p) None y
       light_start_by s t p h y ev en a b e1 e2 e3 e4 e5 e6 peek = record {
         entry = en;
         store_is = e2;
@@ -216,24 +217,24 @@ module _ {A F R J : Type 0} (sys : Actors A F R J) where
             ap Some (λ i. record { part = record { cell = (e6 i).part.cell; column = with_entry c h (Some (with_body en' (ap (λ v. left_by v b) peek i))) }; hand = (e6 i).hand }))))));
       }
 
-  light_stop : (s : State A F R J) (t : ℕ) (p : Path) (h : ℕ) (g : Option (Hand A F)) (y : Bench A F R) → Peeks sys s t p → act_bench sys (Stop t p) h (part_of sys s t p) g ≡ Some y → Light t (Stop t p) h (part_of sys s t p) g y
+  light_stop : (s : State A F R J) (t : ℕ) (p : Path) (h : ℕ) (g : Option (Hand A F)) (y : Bench A F R) → Peeks s t p → act_bench sys (Stop t p) h (part_of s t p) g ≡ Some y → Light t (Stop t p) h (part_of s t p) g y
   light_stop s t p h None y k e = absurd (none_not e)
   light_stop s t p h (Some g) y k e =
       let i = if_some ((g.ticket == t) && path_eq g.path p) _ y e in
-      let r = map_some (λ (z : Part A F R). record { part = z; hand = None }) (stop sys p h g (part_of sys s t p)) y i.1 in
-      let r1 = then_some (λ ev. option_and_then (λ en. stopped sys p h (part_of sys s t p) (desk_back (s.cells t) ev (segment_of sys g).actor) en g.body.children (segment_of sys g) (holds_as_peek ev.held p)) ((s.columns p).store h)) (s.cells t).event r.0 r.1 in
-      let r2 = then_some (λ en. stopped sys p h (part_of sys s t p) (desk_back (s.cells t) r1.0 (segment_of sys g).actor) en g.body.children (segment_of sys g) (holds_as_peek (r1.0).held p)) ((s.columns p).store h) r.0 r1.2 in
+      let r = map_some (λ (z : Part A F R). record { part = z; hand = None }) (stop sys p h g (part_of s t p)) y i.1 in
+      let r1 = then_some (λ ev. option_and_then (λ en. stopped sys p h (part_of s t p) (desk_back (s.cells t) ev (segment_of sys g).actor) en g.body.children (segment_of sys g) (holds_as_peek ev.held p)) ((s.columns p).store h)) (s.cells t).event r.0 r.1 in
+      let r2 = then_some (λ en. stopped sys p h (part_of s t p) (desk_back (s.cells t) r1.0 (segment_of sys g).actor) en g.body.children (segment_of sys g) (holds_as_peek (r1.0).held p)) ((s.columns p).store h) r.0 r1.2 in
       let peek : holds_as_peek (r1.0).held p ≡ true = subst (λ (v : Event A). holds_as_peek v.held p ≡ true) (some_same k.event r1.0 (sym k.is_event ∙ r1.1)) k.peek in
       by_pause (segment_of sys g).pause refl i.0 r1.0 r2.0 r1.1 r2.1 peek r.0
-      (subst (λ v. stopped sys p h (part_of sys s t p) (desk_back (s.cells t) r1.0 (segment_of sys g).actor) r2.0 g.body.children (segment_of sys g) v ≡ Some r.0) peek r2.2) r.2
+      (subst (λ v. stopped sys p h (part_of s t p) (desk_back (s.cells t) r1.0 (segment_of sys g).actor) r2.0 g.body.children (segment_of sys g) v ≡ Some r.0) peek r2.2) r.2
     where
       by_pause : (v : Pause R) → (segment_of sys g).pause ≡ v → ((g.ticket == t) && path_eq g.path p) ≡ true → (ev : Event A) (en : Entry F) → (s.cells t).event ≡ Some ev → (s.columns p).store h ≡ Some en → holds_as_peek ev.held p ≡ true →
-          (z : Part A F R) → looked (part_of sys s t p) h (desk_back (s.cells t) ev (segment_of sys g).actor) en (segment_of sys g).pause ≡ Some z → y ≡ record { part = z; hand = None } → Light t (Stop t p) h (part_of sys s t p) (Some g) y
-      by_pause (Go q) v i ev en e1 e2 peek z l f = absurd (none_not (subst (λ u. looked (part_of sys s t p) h (desk_back (s.cells t) ev (segment_of sys g).actor) en u ≡ Some z) v l))
-      by_pause (Down q) v i ev en e1 e2 peek z l f = absurd (none_not (subst (λ u. looked (part_of sys s t p) h (desk_back (s.cells t) ev (segment_of sys g).actor) en u ≡ Some z) v l))
-      by_pause Back v i ev en e1 e2 peek z l f = absurd (none_not (subst (λ u. looked (part_of sys s t p) h (desk_back (s.cells t) ev (segment_of sys g).actor) en u ≡ Some z) v l))
+          (z : Part A F R) → looked (part_of s t p) h (desk_back (s.cells t) ev (segment_of sys g).actor) en (segment_of sys g).pause ≡ Some z → y ≡ record { part = z; hand = None } → Light t (Stop t p) h (part_of s t p) (Some g) y
+      by_pause (Go q) v i ev en e1 e2 peek z l f = absurd (none_not (subst (λ u. looked (part_of s t p) h (desk_back (s.cells t) ev (segment_of sys g).actor) en u ≡ Some z) v l))
+      by_pause (Down q) v i ev en e1 e2 peek z l f = absurd (none_not (subst (λ u. looked (part_of s t p) h (desk_back (s.cells t) ev (segment_of sys g).actor) en u ≡ Some z) v l))
+      by_pause Back v i ev en e1 e2 peek z l f = absurd (none_not (subst (λ u. looked (part_of s t p) h (desk_back (s.cells t) ev (segment_of sys g).actor) en u ≡ Some z) v l))
       by_pause (Over r) v i ev en e1 e2 peek z l f =
-          let k : over_here (part_of sys s t p) h (desk_back (s.cells t) ev (segment_of sys g).actor) en r ≡ z = some_same _ z (subst (λ u. looked (part_of sys s t p) h (desk_back (s.cells t) ev (segment_of sys g).actor) en u ≡ Some z) v l) in
+          let k : over_here (part_of s t p) h (desk_back (s.cells t) ev (segment_of sys g).actor) en r ≡ z = some_same _ z (subst (λ u. looked (part_of s t p) h (desk_back (s.cells t) ev (segment_of sys g).actor) en u ≡ Some z) v l) in
           record {
             entry = en;
             store_is = e2;
@@ -242,7 +243,7 @@ module _ {A F R J : Type 0} (sys : Actors A F R J) where
             again = λ c en' st same. rw i (rw e1 (rw st (rw peek (rw v (ap Some (λ j. record { part = record { cell = ((ap (λ (b : Part A F R). b.cell) k ∙ ap (λ (b : Bench A F R). b.part.cell) (sym f)) j); column = with_entry c h (Some en') }; hand = (sym f j).hand }))))));
           }
 
-  light : (s : State A F R J) (a : Act) (h : ℕ) (g : Option (Hand A F)) (y : Bench A F R) → IsLight sys s a → act_bench sys a h (part_of sys s (ticket_of a) (path_of a)) g ≡ Some y → Light (ticket_of a) a h (part_of sys s (ticket_of a) (path_of a)) g y
+  light : (s : State A F R J) (a : Act) (h : ℕ) (g : Option (Hand A F)) (y : Bench A F R) → IsLight s a → act_bench sys a h (part_of s (ticket_of a) (path_of a)) g ≡ Some y → Light (ticket_of a) a h (part_of s (ticket_of a) (path_of a)) g y
   light s (Start t p) h g y k e = light_start s t p h g y k e
   light s (Stop t p) h g y k e = light_stop s t p h g y k e
   light s (Free t k p) h g y u e = light_free t k p h _ g y e
@@ -300,7 +301,7 @@ module _ {A F R J : Type 0} (sys : Actors A F R J) where
       }
 
   apart_light : (s : State A F R J) (a a' : Act) (h h' : ℕ) (g g' : Option (Hand A F)) (y y' : Bench A F R) → path_of a ≡ path_of a' →
-      Light (ticket_of a) a h (part_of sys s (ticket_of a) (path_of a)) g y → Light (ticket_of a') a' h' (part_of sys s (ticket_of a') (path_of a')) g' y' → Apart s a a' h h' g g' y y'
+      Light (ticket_of a) a h (part_of s (ticket_of a) (path_of a)) g y → Light (ticket_of a') a' h' (part_of s (ticket_of a') (path_of a')) g' y' → Apart s a a' h h' g g' y y'
   apart_light s a a' h h' g g' y y' same k k' = record {
     first = record { part = record { cell = y.part.cell; column = drop_at (drop_at c h' k'.entry t' k'.drops) h there.0 t k.drops }; hand = y.hand };
     second = record { part = record { cell = y'.part.cell; column = drop_at (drop_at c h k.entry t k.drops) h' here.0 t' k'.drops }; hand = y'.hand };
@@ -347,11 +348,12 @@ module _ {A F R J : Type 0} (sys : Actors A F R J) where
   if_true b o o' e k = rw e k
 
   pub independent : Independent sys
+  unfolding step
   independent workers s s₁ s₂ l l' lo lo' nt free where_ e e' =
       let q = if_some (nat_lt l.worker workers) _ s₁ e in
       let q' = if_some (nat_lt l'.worker workers) _ s₂ e' in
-      let y = map_some (λ x. with_bench sys s (ticket_of l.act) (path_of l.act) l.worker x) (act_bench sys l.act l.host (part_of sys s (ticket_of l.act) (path_of l.act)) (s.hands l.worker)) s₁ (sym (local_step s l.worker l.host l.act lo) ∙ q.1) in
-      let y' = map_some (λ x. with_bench sys s (ticket_of l'.act) (path_of l'.act) l'.worker x) (act_bench sys l'.act l'.host (part_of sys s (ticket_of l'.act) (path_of l'.act)) (s.hands l'.worker)) s₂ (sym (local_step s l'.worker l'.host l'.act lo') ∙ q'.1) in
+      let y = map_some (λ x. with_bench s (ticket_of l.act) (path_of l.act) l.worker x) (act_bench sys l.act l.host (part_of s (ticket_of l.act) (path_of l.act)) (s.hands l.worker)) s₁ (sym (local_step s l.worker l.host l.act lo) ∙ q.1) in
+      let y' = map_some (λ x. with_bench s (ticket_of l'.act) (path_of l'.act) l'.worker x) (act_bench sys l'.act l'.host (part_of s (ticket_of l'.act) (path_of l'.act)) (s.hands l'.worker)) s₂ (sym (local_step s l'.worker l'.host l'.act lo') ∙ q'.1) in
       let r = independent_by s s₁ s₂ l l' lo lo' nt y.0 y'.0 (ways y.0 y'.0 y.1 y'.1)
       (elim (number_cases l.worker l'.worker) [
         | inr d ↦ inl (not_same _ _ d)
@@ -365,7 +367,7 @@ module _ {A F R J : Type 0} (sys : Actors A F R J) where
       y.2 y'.2 in
       record { state = r.0; there = if_true _ _ _ q'.0 r.1; here = if_true _ _ _ q.0 r.2 }
     where
-      ways : (y y' : Bench A F R) → act_bench sys l.act l.host (part_of sys s (ticket_of l.act) (path_of l.act)) (s.hands l.worker) ≡ Some y → act_bench sys l'.act l'.host (part_of sys s (ticket_of l'.act) (path_of l'.act)) (s.hands l'.worker) ≡ Some y' →
+      ways : (y y' : Bench A F R) → act_bench sys l.act l.host (part_of s (ticket_of l.act) (path_of l.act)) (s.hands l.worker) ≡ Some y → act_bench sys l'.act l'.host (part_of s (ticket_of l'.act) (path_of l'.act)) (s.hands l'.worker) ≡ Some y' →
           Apart s l.act l'.act l.host l'.host (s.hands l.worker) (s.hands l'.worker) y y'
       ways y y' e e' = elim where_ [
         | inl np ↦ apart_paths s l.act l'.act l.host l'.host _ _ y y' np e e'

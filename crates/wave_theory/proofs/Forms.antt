@@ -8,7 +8,7 @@ use Rattle.wave_states.specs.Owners.{trail_by}
 use Rattle.wave_theory.proofs.Basics.{clash}
 use Rattle.wave_theory.proofs.Deeds.{Deed, Suits}
 use Rattle.wave_theory.proofs.Deeds
-use Rattle.wave_theory.specs.Orders.{granted_by}
+use Rattle.wave_theory.specs.Came.{granted_by}
 
 pub queue_form : (a : Act) → Suits a Deeds.Lines_up → (t k : ℕ) × (p : Path) × (a ≡ Queue t k p)
 queue_form (Queue t k p) s = (t, k, p, refl)

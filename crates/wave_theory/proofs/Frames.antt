@@ -271,7 +271,7 @@ module _ {A F R J : Type 0} (sys : Actors A F R J) (w : Way) (law : IsWay w) (co
   pub update : (s : State A F R J) (g g' : Shows.Ghost F) (t : ℕ) (p : Path) (v : ℕ) (y : Bench A F R) → Shows.Shows sys w course low is_real s g → Shows.Frame sys w course low is_real g g' t p v →
       Good w g'.lines → Shows.Kept sys w course low is_real g' → g'.lines.admitted ≡ g.lines.admitted → low < t → t ≤ g.lines.admitted → Cells g' t y.part.cell → Entries g' p → Columns (g'.born p) g' p y.part.column →
       ((h : Hand A F) → y.hand ≡ Some h → Shows.HandShows sys w course low is_real g' v h) → g'.born [] ≡ true →
-      Shows.Shows sys w course low is_real (with_bench sys s t p v y) g'
+      Shows.Shows sys w course low is_real (with_bench s t p v y) g'
   update s g g' t p v y x f good kept same lt la c e col hd root = record {
     good = good;
     kept = kept;

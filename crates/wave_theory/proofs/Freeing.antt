@@ -208,7 +208,7 @@ module _ {A F R J : Type 0} (sys : Actors A F R J) (w : Way) (law : IsWay w) (co
             there_done : There ≡ Done → ⊥
             there_done e = grind arith
 
-    pub leaves_shows : Shows.ColumnShows sys w course low is_real (g.born p) gf p col → Shows.Shows sys w course low is_real (with_bench sys s t p v (record { part = record { cell = without_mail (s.cells t) k; column = col }; hand = None })) gf
+    pub leaves_shows : Shows.ColumnShows sys w course low is_real (g.born p) gf p col → Shows.Shows sys w course low is_real (with_bench s t p v (record { part = record { cell = without_mail (s.cells t) k; column = col }; hand = None })) gf
     leaves_shows k = update sys w law course low is_real s g gf t p v (record { part = record { cell = without_mail (s.cells t) _; column = col }; hand = None }) x frame good kept refl lt la cell entry k (λ hd z. absurd (none_not z)) x.root
 
     pub leaves_tally : (n : ℕ → ℕ) → Tallies.Tally sys w course low is_real g n → Tallies.Tally sys w course low is_real gf (set nat_eq n t (suc (n t)))
@@ -216,7 +216,7 @@ module _ {A F R J : Type 0} (sys : Actors A F R J) (w : Way) (law : IsWay w) (co
         (Tallies.free_more sys w course low is_real law g gf t p refl refl refl (x.good.within t la) (x.good.let_in t p q.leaving.holds).entered q.leaving.not_held q.leaving.holds (holds_now t ∙ set_at (g.lines.holds p) t false) (λ a d. ap (λ f. f t) (set_there path_eq g.lines.holds p _ a d)))
         (λ z. y.stale t lt la z)
 
-    pub leaves_alive : r.stored ≡ true → Alive.Alive sys w course low is_real s g → s.hands v ≡ None → Alive.Alive sys w course low is_real (with_bench sys s t p v (record { part = record { cell = without_mail (s.cells t) k; column = col }; hand = None })) gf
+    pub leaves_alive : r.stored ≡ true → Alive.Alive sys w course low is_real s g → s.hands v ≡ None → Alive.Alive sys w course low is_real (with_bench s t p v (record { part = record { cell = without_mail (s.cells t) k; column = col }; hand = None })) gf
     leaves_alive st a idle = Alive.alive_update sys w course low is_real s g gf t p v (record { part = record { cell = without_mail (s.cells t) k; column = col }; hand = None }) x frame refl la lt a
         (λ b cl n z vb. ap (λ (u : Entry F). u.waiting (rank w p b)) entry_now ∙ z)
         (λ hd z. absurd (none_not (sym idle ∙ z)))
@@ -253,7 +253,7 @@ module _ {A F R J : Type 0} (sys : Actors A F R J) (w : Way) (law : IsWay w) (co
         ]
 
   -- Free
-  module _ (s : State A F R J) (g : Shows.Ghost F) (x : Shows.Shows sys w course low is_real s g) (t k : ℕ) (p : Path) (h v : ℕ) (y : Part A F R) (q : Frees t k p h (part_of sys s t p) y) (lt : low < t) (la : t ≤ g.lines.admitted) where
+  module _ (s : State A F R J) (g : Shows.Ghost F) (x : Shows.Shows sys w course low is_real s g) (t k : ℕ) (p : Path) (h v : ℕ) (y : Part A F R) (q : Frees t k p h (part_of s t p) y) (lt : low < t) (la : t ≤ g.lines.admitted) where
     f : Found sys w course low is_real g p (s.columns p) h q.entry
     f = found sys w course low is_real g p (s.columns p) h q.entry (x.columns p) q.entry_is
 
@@ -278,8 +278,8 @@ module _ {A F R J : Type 0} (sys : Actors A F R J) (w : Way) (law : IsWay w) (co
     abbrev pub free_ghost : Shows.Ghost F
     free_ghost = freed_now g t p (others t (g.entry p).holders) (g.trail p)
 
-    pub free_shows : Shows.Shows sys w course low is_real (with_bench sys s t p v (record { part = y; hand = None })) free_ghost
-    free_shows = subst (λ z. Shows.Shows sys w course low is_real (with_bench sys s t p v (record { part = z; hand = None })) free_ghost) q.gives
+    pub free_shows : Shows.Shows sys w course low is_real (with_bench s t p v (record { part = y; hand = None })) free_ghost
+    free_shows = subst (λ z. Shows.Shows sys w course low is_real (with_bench s t p v (record { part = z; hand = None })) free_ghost) q.gives
         (leaves_shows s g x t k p h v (others t (g.entry p).holders) (g.trail p) leaves_f (with_entry (s.columns p) h (Some (with_holders q.entry (others t q.entry.holders)))) lt la (λ e. none_not (sym e ∙ q.letter_at.mail_is)) (inl q.letter_at)
         (changed sys w course low is_real g free_ghost p (s.columns p) h q.entry (with_holders q.entry (others t q.entry.holders)) f refl (set_at_path g.trail p (g.trail p)) (set_at_path g.entry p _ ∙ ap (λ (z : Entry F). with_holders z (others t z.holders)) (sym f.entry_is))))
 
@@ -289,12 +289,12 @@ module _ {A F R J : Type 0} (sys : Actors A F R J) (w : Way) (law : IsWay w) (co
     pub free_tally : (n : ℕ → ℕ) → Tallies.Tally sys w course low is_real g n → Tallies.Tally sys w course low is_real free_ghost (set nat_eq n t (suc (n t)))
     free_tally n y = leaves_tally s g x t k p h v (others t (g.entry p).holders) (g.trail p) leaves_f (with_entry (s.columns p) h (Some (with_holders q.entry (others t q.entry.holders)))) lt la (λ e. none_not (sym e ∙ q.letter_at.mail_is)) (inl q.letter_at) n y
 
-    pub free_alive : Alive.Alive sys w course low is_real s g → s.hands v ≡ None → Alive.Alive sys w course low is_real (with_bench sys s t p v (record { part = y; hand = None })) free_ghost
-    free_alive a idle = subst (λ z. Alive.Alive sys w course low is_real (with_bench sys s t p v (record { part = z; hand = None })) free_ghost) q.gives
+    pub free_alive : Alive.Alive sys w course low is_real s g → s.hands v ≡ None → Alive.Alive sys w course low is_real (with_bench s t p v (record { part = y; hand = None })) free_ghost
+    free_alive a idle = subst (λ z. Alive.Alive sys w course low is_real (with_bench s t p v (record { part = z; hand = None })) free_ghost) q.gives
         (leaves_alive s g x t k p h v (others t (g.entry p).holders) (g.trail p) leaves_f (with_entry (s.columns p) h (Some (with_holders q.entry (others t q.entry.holders)))) lt la (λ e. none_not (sym e ∙ q.letter_at.mail_is)) (inl q.letter_at) f.stored a idle)
 
   -- Land
-  module _ (s : State A F R J) (g : Shows.Ghost F) (x : Shows.Shows sys w course low is_real s g) (t k : ℕ) (p : Path) (h v : ℕ) (y : Part A F R) (q : Lands k p h (part_of sys s t p) y) (lt : low < t) (la : t ≤ g.lines.admitted) where
+  module _ (s : State A F R J) (g : Shows.Ghost F) (x : Shows.Shows sys w course low is_real s g) (t k : ℕ) (p : Path) (h v : ℕ) (y : Part A F R) (q : Lands k p h (part_of s t p) y) (lt : low < t) (la : t ≤ g.lines.admitted) where
     ll : Shows.Leaving sys w course low is_real g t k h p × ((g.trail p).stored ≡ false) × (q.entry ≡ g.entry p) × (w.looks t p ≡ false)
     ll = shows_letter sys w course low is_real g t k h p (Transfer q.entry) (s.cells t) (x.cells t lt la) q.letter_at
 
@@ -325,8 +325,8 @@ module _ {A F R J : Type 0} (sys : Actors A F R J) (w : Way) (law : IsWay w) (co
     abbrev pub land_ghost : Shows.Ghost F
     land_ghost = freed_now g t p [] (arrived (g.trail p))
 
-    pub land_shows : Shows.Shows sys w course low is_real (with_bench sys s t p v (record { part = y; hand = None })) land_ghost
-    land_shows = subst (λ z. Shows.Shows sys w course low is_real (with_bench sys s t p v (record { part = z; hand = None })) land_ghost) q.gives
+    pub land_shows : Shows.Shows sys w course low is_real (with_bench s t p v (record { part = y; hand = None })) land_ghost
+    land_shows = subst (λ z. Shows.Shows sys w course low is_real (with_bench s t p v (record { part = z; hand = None })) land_ghost) q.gives
         (leaves_shows s g x t k p h v [] (arrived (g.trail p)) leaves_l (landed (s.columns p) h (with_holders q.entry [])) lt la (λ e. none_not (sym e ∙ q.letter_at.mail_is)) (inr (q.entry, q.letter_at))
         (subst (λ i. Shows.ColumnShows sys w course low is_real i land_ghost p (landed (s.columns p) h (with_holders q.entry []))) (sym born_l) (record {
           track = subst (λ r. Track (landed (s.columns p) h (with_holders q.entry [])) r) (sym (set_at_path g.trail p (arrived (g.trail p)))) (subst (λ i. Track (landed (s.columns p) i (with_holders q.entry [])) (arrived (g.trail p))) (sym ll.0.host_is) (land_track (s.columns p) (g.trail p) (with_holders q.entry []) stays_l.track ll.1));
@@ -340,12 +340,12 @@ module _ {A F R J : Type 0} (sys : Actors A F R J) (w : Way) (law : IsWay w) (co
     pub land_tally : (n : ℕ → ℕ) → Tallies.Tally sys w course low is_real g n → Tallies.Tally sys w course low is_real land_ghost (set nat_eq n t (suc (n t)))
     land_tally n y = leaves_tally s g x t k p h v [] (arrived (g.trail p)) leaves_l (landed (s.columns p) h (with_holders q.entry [])) lt la (λ e. none_not (sym e ∙ q.letter_at.mail_is)) (inr (q.entry, q.letter_at)) n y
 
-    pub land_alive : Alive.Alive sys w course low is_real s g → s.hands v ≡ None → Alive.Alive sys w course low is_real (with_bench sys s t p v (record { part = y; hand = None })) land_ghost
-    land_alive a idle = subst (λ z. Alive.Alive sys w course low is_real (with_bench sys s t p v (record { part = z; hand = None })) land_ghost) q.gives
+    pub land_alive : Alive.Alive sys w course low is_real s g → s.hands v ≡ None → Alive.Alive sys w course low is_real (with_bench s t p v (record { part = y; hand = None })) land_ghost
+    land_alive a idle = subst (λ z. Alive.Alive sys w course low is_real (with_bench s t p v (record { part = z; hand = None })) land_ghost) q.gives
         (leaves_alive s g x t k p h v [] (arrived (g.trail p)) leaves_l (landed (s.columns p) h (with_holders q.entry [])) lt la (λ e. none_not (sym e ∙ q.letter_at.mail_is)) (inr (q.entry, q.letter_at)) refl a idle)
 
   -- Pass: nothing changes but where the Enter lies
-  module _ (s : State A F R J) (g : Shows.Ghost F) (x : Shows.Shows sys w course low is_real s g) (t k to : ℕ) (p : Path) (h v : ℕ) (y : Part A F R) (q : Passes k to p h (part_of sys s t p) y) (lt : low < t) (la : t ≤ g.lines.admitted) where
+  module _ (s : State A F R J) (g : Shows.Ghost F) (x : Shows.Shows sys w course low is_real s g) (t k to : ℕ) (p : Path) (h v : ℕ) (y : Part A F R) (q : Passes k to p h (part_of s t p) y) (lt : low < t) (la : t ≤ g.lines.admitted) where
     cp : Shows.CellShows sys w course low is_real g t (s.cells t)
     cp = x.cells t lt la
 
@@ -436,7 +436,7 @@ module _ {A F R J : Type 0} (sys : Actors A F R J) (w : Way) (law : IsWay w) (co
       ];
     }
 
-    pub pass_shows : Shows.Shows sys w course low is_real (with_bench sys s t p v (record { part = y; hand = None })) g
+    pub pass_shows : Shows.Shows sys w course low is_real (with_bench s t p v (record { part = y; hand = None })) g
     pass_shows = update sys w law course low is_real s g g t p v (record { part = y; hand = None }) x frame_p x.good x.kept refl lt la
         (subst (λ (z : Part A F R). Shows.CellShows sys w course low is_real g t z.cell) q.gives cell_p) (x.entries p)
         (subst (λ (z : Part A F R). Shows.ColumnShows sys w course low is_real (g.born p) g p z.column) q.gives (x.columns p)) (λ hd z. absurd (none_not z)) x.root
@@ -444,7 +444,7 @@ module _ {A F R J : Type 0} (sys : Actors A F R J) (w : Way) (law : IsWay w) (co
     pub pass_turn : Deeds.Turn sys w course low is_real s g g (Labels.Pass t k p to)
     pass_turn = record { deed = Deeds.Rests; suits = tt; is = refl; fits = tt; kids = λ r i a z. inl z }
 
-    pub pass_alive : Alive.Alive sys w course low is_real s g → s.hands v ≡ None → Alive.Alive sys w course low is_real (with_bench sys s t p v (record { part = y; hand = None })) g
+    pub pass_alive : Alive.Alive sys w course low is_real s g → s.hands v ≡ None → Alive.Alive sys w course low is_real (with_bench s t p v (record { part = y; hand = None })) g
     pass_alive a idle = Alive.alive_update sys w course low is_real s g g t p v (record { part = y; hand = None }) x frame_p refl la lt a
         (λ b cl n z vb. z)
         (λ hd z. absurd (none_not (sym idle ∙ z)))

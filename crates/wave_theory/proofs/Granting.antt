@@ -70,7 +70,7 @@ module _ {A F R J : Type 0} (sys : Actors A F R J) (w : Way) (law : IsWay w) (co
   still_lined : (f : ℕ → Stage) (t b : ℕ) (v : Stage) → f b ≡ Lined → (f t ≡ Lined → ⊥) → set nat_eq f t v b ≡ Lined
   still_lined f t b v e n = elim (number_cases t b) [ inr z ↦ set_there nat_eq f t v b z ∙ e | inl z ↦ absurd (n (ap f z ∙ e)) ]
 
-  module _ (s : State A F R J) (g : Shows.Ghost F) (x : Shows.Shows sys w course low is_real s g) (t k : ℕ) (p : Path) (h v : ℕ) (y : Part A F R) (q : Visits k p h (part_of sys s t p) y) (lt : low < t) (la : t ≤ g.lines.admitted) where
+  module _ (s : State A F R J) (g : Shows.Ghost F) (x : Shows.Shows sys w course low is_real s g) (t k : ℕ) (p : Path) (h v : ℕ) (y : Part A F R) (q : Visits k p h (part_of s t p) y) (lt : low < t) (la : t ≤ g.lines.admitted) where
     abbrev gv : Shows.Ghost F
     gv = arrived g t
 
@@ -158,7 +158,7 @@ module _ {A F R J : Type 0} (sys : Actors A F R J) (w : Way) (law : IsWay w) (co
     column_same true col u = record { track = u.track; there = u.there }
     column_same false col u = record { empty = u.empty; last = u.last }
 
-    pub visit_shows : Shows.Shows sys w course low is_real (with_bench sys s t p v (record { part = y; hand = None })) gv
+    pub visit_shows : Shows.Shows sys w course low is_real (with_bench s t p v (record { part = y; hand = None })) gv
     visit_shows = update sys w law course low is_real s g gv t p v (record { part = y; hand = None }) x frame_v (arrive_good law g.lines t x.good ev.stage) (record { held = x.kept.held; calm = x.kept.calm }) refl lt la
         (subst (λ (z : Part A F R). Shows.CellShows sys w course low is_real gv t z.cell) q.gives cell_v) entry_v
         (subst (λ (z : Part A F R). Shows.ColumnShows sys w course low is_real (g.born p) gv p z.column) q.gives (column_same (g.born p) (s.columns p) (x.columns p))) (λ hd z. absurd (none_not z)) x.root
@@ -171,7 +171,7 @@ module _ {A F R J : Type 0} (sys : Actors A F R J) (w : Way) (law : IsWay w) (co
         (Tallies.stage_more sys w course low is_real g gv t refl (λ i l. refl) (ap₂ (λ u o. Tallies.stage_part (w.fresh t (g.lines.pos t)) u o) stage_v out_v ∙ ap (λ f. Tallies.stage_part f There false) (y.stale t lt la ev.stage) ∙ sym (ap (λ u. suc (Tallies.stage_part (w.fresh t (g.lines.pos t)) u (g.out t))) ev.stage)))
         (λ z. absurd (there_coming (sym stage_v ∙ z)))
 
-    pub visit_alive : Alive.Alive sys w course low is_real s g → s.hands v ≡ None → Alive.Alive sys w course low is_real (with_bench sys s t p v (record { part = y; hand = None })) gv
+    pub visit_alive : Alive.Alive sys w course low is_real s g → s.hands v ≡ None → Alive.Alive sys w course low is_real (with_bench s t p v (record { part = y; hand = None })) gv
     visit_alive a idle = Alive.alive_update sys w course low is_real s g gv t p v (record { part = y; hand = None }) x frame_v refl la lt a
         (λ b cl n z vb. z)
         (λ hd z. absurd (none_not (sym idle ∙ z)))
@@ -187,7 +187,7 @@ module _ {A F R J : Type 0} (sys : Actors A F R J) (w : Way) (law : IsWay w) (co
   abbrev let_in_now : Shows.Ghost F → ℕ → Path → Claim → Shows.Ghost F
   let_in_now g t p c = record { lines = let_at w g.lines t; out = g.out; worker = g.worker; main = g.main; parting = g.parting; entry = set path_eq g.entry p (let_in (g.entry p) c); body = g.body; born = g.born; trail = g.trail }
 
-  module _ (s : State A F R J) (g : Shows.Ghost F) (x : Shows.Shows sys w course low is_real s g) (t : ℕ) (p : Path) (h v : ℕ) (y : Part A F R) (q : Grants t p h (part_of sys s t p) y) where
+  module _ (s : State A F R J) (g : Shows.Ghost F) (x : Shows.Shows sys w course low is_real s g) (t : ℕ) (p : Path) (h v : ℕ) (y : Part A F R) (q : Grants t p h (part_of s t p) y) where
     fg : Found sys w course low is_real g p (s.columns p) h q.entry
     fg = found sys w course low is_real g p (s.columns p) h q.entry (x.columns p) q.entry_is
 
@@ -380,7 +380,7 @@ module _ {A F R J : Type 0} (sys : Actors A F R J) (w : Way) (law : IsWay w) (co
               })
         ]
 
-    cell_g : Shows.CellShows sys w course low is_real gg t (granted p h (part_of sys s t p) q.event q.entry q.claim).cell
+    cell_g : Shows.CellShows sys w course low is_real gg t (granted p h (part_of s t p) q.event q.entry q.claim).cell
     cell_g = record {
       event = record { actor = q.event.actor; held = insert_entry path_cmp q.event.held p (record { host = h; peek = q.claim.peek }); sent = q.event.sent; status = Ready p };
       event_is = refl;
@@ -430,13 +430,13 @@ module _ {A F R J : Type 0} (sys : Actors A F R J) (w : Way) (law : IsWay w) (co
             (subst (λ (a : Hold). (a.host ≡ owner (g.trail p)) × ((g.trail p).stored ≡ true) × (a.peek ≡ w.looks t p)) (some_same _ i z) (fg.host_is, fg.stored, now.peek))
         where_now r i false e z = cg.where_held r i (ap (λ a. hold_at a.held r) (sym same) ∙ z)
 
-    column_g : Shows.ColumnShows sys w course low is_real (g.born p) gg p (granted p h (part_of sys s t p) q.event q.entry q.claim).column
+    column_g : Shows.ColumnShows sys w course low is_real (g.born p) gg p (granted p h (part_of s t p) q.event q.entry q.claim).column
     column_g = changed sys w course low is_real g gg p (s.columns p) h q.entry (let_in q.entry q.claim) fg refl refl (entry_now_g ∙ ap (λ z. let_in z q.claim) (sym fg.entry_is))
 
     pub grant_known : (low < t) × (t ≤ g.lines.admitted)
     grant_known = (now.later, now.known)
 
-    pub grant_shows : Shows.Shows sys w course low is_real (with_bench sys s t p v (record { part = y; hand = None })) gg
+    pub grant_shows : Shows.Shows sys w course low is_real (with_bench s t p v (record { part = y; hand = None })) gg
     grant_shows = update sys w law course low is_real s g gg t p v (record { part = y; hand = None }) x frame_g
         (grant_good law g.lines t x.good (omega (arith, now.later)) now.known now.stage (ap (λ r. rank w r t) now.place ∙ rank_is ∙ ap (λ r. suc (g.lines.served r)) (sym now.place)) (subst (Joins law g.lines t) (sym now.place) joins)) kept_g refl now.later now.known
         (subst (λ (z : Part A F R). Shows.CellShows sys w course low is_real gg t z.cell) q.gives cell_g) entry_g
@@ -457,7 +457,7 @@ module _ {A F R J : Type 0} (sys : Actors A F R J) (w : Way) (law : IsWay w) (co
         fresh_now : w.fresh t (g.lines.pos t) ≡ true
         fresh_now = x.good.is_fresh t now.known (ap is_pending now.stage)
 
-    pub grant_alive : Alive.Alive sys w course low is_real s g → s.hands v ≡ None → Alive.Alive sys w course low is_real (with_bench sys s t p v (record { part = y; hand = None })) gg
+    pub grant_alive : Alive.Alive sys w course low is_real s g → s.hands v ≡ None → Alive.Alive sys w course low is_real (with_bench s t p v (record { part = y; hand = None })) gg
     grant_alive a idle = Alive.alive_update sys w course low is_real s g gg t p v (record { part = y; hand = None }) x frame_g refl now.known now.later a
         (λ b cl n z vb. ap (λ (u : Entry F). u.waiting (rank w p b)) entry_now_g ∙ set_there nat_eq (g.entry p).waiting (suc (g.entry p).served) None (rank w p b) (elim (number_cases (suc (g.entry p).served) (rank w p b)) [
           | inr i ↦ i

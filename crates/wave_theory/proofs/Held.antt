@@ -18,7 +18,7 @@ use Rattle.wave_theory.proofs.Shows.{Once}
 pub hold_cons : (x : Path × Hold) (xs : List (Path × Hold)) (q : Path) → hold_at (x ∷ xs) q ≡ cond (path_eq q x.0) (Some x.1) (hold_at xs q)
 hold_cons x xs q = ap (λ b. cond b (Some x.1) (hold_at xs q)) (sym (path_eq_ties q x.0))
 
-none_some : {X : Type 0} (b : Bool) (v : X) (o : Option X) → cond b (Some v) o ≡ None → (b ≡ false) × (o ≡ None)
+pub none_some : {X : Type 0} (b : Bool) (v : X) (o : Option X) → cond b (Some v) o ≡ None → (b ≡ false) × (o ≡ None)
 none_some true v o e = absurd (some_not e)
 none_some false v o e = (refl, e)
 

@@ -8,10 +8,10 @@ use Rattle.wave_base.specs.Paths.{path_eq}
 use Rattle.wave_base.specs.Kids.{child_at}
 use Rattle.wave_base.specs.Tree.{Tree, there}
 use Rattle.std.specs.List.{list_any}
-use Rattle.wave_states.specs.Actors.{Actors}
 use Rattle.wave_states.specs.States.{State, set}
 use Rattle.wave_states.specs.Labels.{Act, ticket_of, path_of}
 use Rattle.wave_states.specs.Begins.{Begin, is_root, has_moved}
+use Rattle.wave_states.specs.Kinds.{Kind}
 use Rattle.wave_states.specs.Owes.{Owes, IsBegin}
 use Rattle.wave_states.specs.Alone.{job_after}
 use Rattle.wave_states.specs.Steps.{child_or_new}
@@ -52,36 +52,36 @@ done_set f t v e u = elim (number_cases t u) [
   | inl d ↦ subst (λ i. is_done (set nat_eq f t v i) ≡ is_done (f i)) d (ap is_done (set_at f t v) ∙ e)
 ]
 
-module _ {A F R J : Type 0} (sys : Actors A F R J) (hosts : ℕ) (fits : Path → F → Type 0) (is_job : J → Type 0) (fine : A → Path → ℕ → Type 0) (owes : Owes sys hosts fits is_job fine) (b : Begin F) (batches : List (List J)) (begins : IsBegin sys hosts fits is_job fine b) (jobs : All (All is_job) batches) where
+module _ {A F R J : Type 0} (kind : Kind A F R J) (owes : Owes kind) (b : Begin F) (batches : List (List J)) (begins : IsBegin kind b) (jobs : All (All kind.is_job) batches) where
   abbrev w : Way
-  w = Courses.w sys hosts fits is_job fine owes b batches begins jobs
+  w = Courses.w kind owes b batches begins jobs
 
-  abbrev course : Course sys
-  course = Courses.course sys hosts fits is_job fine owes b batches begins jobs
+  abbrev course : Course kind.system
+  course = Courses.course kind owes b batches begins jobs
 
   law : IsWay w
-  law = Courses.law sys hosts fits is_job fine owes b batches begins jobs
+  law = Courses.law kind owes b batches begins jobs
 
   abbrev Is_real : ℕ → Type 0
-  Is_real = Courses.Real sys hosts fits is_job fine owes b batches begins jobs
+  Is_real = Courses.Real kind owes b batches begins jobs
 
   abbrev Job : ℕ → J → Type 0
-  Job i j = job_after sys b batches i ≡ Some j
+  Job i j = job_after kind.system b batches i ≡ Some j
 
   abbrev places : ℕ → Tree ℕ
-  places i = Sites.places sys hosts fits is_job fine owes b batches begins jobs i
+  places i = Sites.places kind owes b batches begins jobs i
 
   abbrev grown : ℕ → Tree ℕ
-  grown i = Sites.grown sys hosts fits is_job fine owes b batches begins jobs i
+  grown i = Sites.grown kind owes b batches begins jobs i
 
   abbrev shifts : Path → ℕ → ℕ
-  shifts p i = Sites.shifts sys hosts fits is_job fine owes b batches begins jobs p i
+  shifts p i = Sites.shifts kind owes b batches begins jobs p i
 
   abbrev pub Sits : ℕ × ℕ → ℕ → Path → Type 0
-  Sits x i p = Sites.Sits sys hosts fits is_job fine owes b batches begins jobs x i p
+  Sits x i p = Sites.Sits kind owes b batches begins jobs x i p
 
   abbrev pub Stands : ℕ × ℕ → ℕ → Path → Type 0
-  Stands x i p = Sites.Stands sys hosts fits is_job fine owes b batches begins jobs x i p
+  Stands x i p = Sites.Stands kind owes b batches begins jobs x i p
 
   abbrev pub At : Bool → ℕ × ℕ → ℕ → Path → Type 0
   At true x i p = Sits x (suc i) p
@@ -92,7 +92,7 @@ module _ {A F R J : Type 0} (sys : Actors A F R J) (hosts : ℕ) (fits : Path �
   early p = if is_root p then b.before else 0
 
   rank_early : (p : Path) → rank w p b.before ≡ early p
-  rank_early p = Beginning.rank_start sys hosts fits is_job fine owes b batches begins jobs p
+  rank_early p = Beginning.rank_start kind owes b batches begins jobs p
 
   -- the Enter of the ticket to the context was sent
   abbrev SentTo : Outline → ℕ → Path → Type 0
@@ -139,7 +139,7 @@ module _ {A F R J : Type 0} (sys : Actors A F R J) (hosts : ℕ) (fits : Path �
   not_child_root (u ∷ p) st = refl
 
   -- a ticket that is under way
-  pub known_by_shows : (s : State A F R J) (g : Shows.Ghost F) → Shows.Shows sys w course b.before Is_real s g → (t : ℕ) → g.lines.stage t ≢ Done → (b.before < t) × (t ≤ g.lines.admitted)
+  pub known_by_shows : (s : State A F R J) (g : Shows.Ghost F) → Shows.Shows kind.system w course b.before Is_real s g → (t : ℕ) → g.lines.stage t ≢ Done → (b.before < t) × (t ≤ g.lines.admitted)
   known_by_shows s g x t n = elim (below_or b.before t) [
     | inr l ↦ absurd (n (x.idle t (λ i m. absurd (omega (arith, i, l)))).0)
     | inl l ↦ elim (below_or g.lines.admitted t) [
@@ -151,14 +151,14 @@ module _ {A F R J : Type 0} (sys : Actors A F R J) (hosts : ℕ) (fits : Path �
       below_or : (a c : ℕ) → (a < c) ⊎ (c ≤ a)
       below_or a c = grind arith
 
-  module _ (s : State A F R J) (g : Shows.Ghost F) (x : Shows.Shows sys w course b.before Is_real s g) (h : HomesOf (outline g)) where
+  module _ (s : State A F R J) (g : Shows.Ghost F) (x : Shows.Shows kind.system w course b.before Is_real s g) (h : HomesOf (outline g)) where
     abbrev o : Outline
     o = outline g
 
     pub known_by : (t : ℕ) → g.lines.stage t ≢ Done → (b.before < t) × (t ≤ g.lines.admitted)
     known_by t n = known_by_shows s g x t n
 
-    real_of : (t : ℕ) → b.before < t → t ≤ g.lines.admitted → Courses.Real sys hosts fits is_job fine owes b batches begins jobs t
+    real_of : (t : ℕ) → b.before < t → t ≤ g.lines.admitted → Courses.Real kind owes b batches begins jobs t
     real_of t l m = (x.cells t l m).real
 
     -- a ticket that was let in was sent
@@ -186,15 +186,15 @@ module _ {A F R J : Type 0} (sys : Actors A F R J) (hosts : ℕ) (fits : Path �
     ]
 
     -- the ticket that ends
-    module _ (t : ℕ) (p : Path) (stopped : Deeds.Stopped sys w course b.before Is_real g t p) where
+    module _ (t : ℕ) (p : Path) (stopped : Deeds.Stopped kind.system w course b.before Is_real g t p) where
       known_t : (b.before < t) × (t ≤ g.lines.admitted)
       known_t = known_by t (λ e. there_not (sym stopped.stage ∙ e))
 
-      real_t : Courses.Real sys hosts fits is_job fine owes b batches begins jobs t
+      real_t : Courses.Real kind owes b batches begins jobs t
       real_t = real_of t known_t.0 known_t.1
 
       visits_t : visits w t p ≡ true
-      visits_t = subst (λ r. visits w t r ≡ true) stopped.place (visits_of sys w law course b.before Is_real g x.good t (here w g.lines t) known_t.1 (entered_spot sys w law course b.before Is_real g x.good t known_t.1 (λ e. there_not (sym stopped.stage ∙ e))))
+      visits_t = subst (λ r. visits w t r ≡ true) stopped.place (visits_of kind.system w law course b.before Is_real g x.good t (here w g.lines t) known_t.1 (entered_spot kind.system w law course b.before Is_real g x.good t known_t.1 (λ e. there_not (sym stopped.stage ∙ e))))
 
       -- where it is
       stands_t : rank w p t ≡ g.lines.served p → Stands (spot_of (g.trail p)) real_t.index p
@@ -202,7 +202,7 @@ module _ {A F R J : Type 0} (sys : Actors A F R J) (hosts : ℕ) (fits : Path �
           (h.last p real_t.index real_t.job real_t.job_is (subst (λ i. visits w i p ≡ true) real_t.ticket_is visits_t) (sym (ap (rank w p) real_t.ticket_is) ∙ e))
 
     -- a ticket that was let in last, and is not over or leaves the context where it is, as the next one finds it
-    calm_sits : (p : Path) (i : ℕ) (j : J) → Job i j → visits w (suc b.before + i) p ≡ true → rank w p (suc b.before + i) ≡ g.lines.served p → Shows.IsCalm sys w course b.before Is_real g.lines p → suc b.before + i ≤ g.lines.admitted → Sits (spot_of (g.trail p)) (suc i) p
+    calm_sits : (p : Path) (i : ℕ) (j : J) → Job i j → visits w (suc b.before + i) p ≡ true → rank w p (suc b.before + i) ≡ g.lines.served p → Shows.IsCalm kind.system w course b.before Is_real g.lines p → suc b.before + i ≤ g.lines.admitted → Sits (spot_of (g.trail p)) (suc i) p
     calm_sits p i j e v n calm la = by (bool_cases (is_done (g.lines.stage (suc b.before + i))))
       where
         t : ℕ
@@ -214,15 +214,15 @@ module _ {A F R J : Type 0} (sys : Actors A F R J) (hosts : ℕ) (fits : Path �
         done_is : (v : Stage) → v ≡ Done → is_done v ≡ true
         done_is v e = ap is_done e
 
-        stays : is_done (g.lines.stage (suc b.before + i)) ≡ false → (u : ℕ) → sys.moved (Sites.ran sys hosts fits is_job fine owes b batches begins jobs i j).result ≡ Some (p, u) → ⊥
+        stays : is_done (g.lines.stage (suc b.before + i)) ≡ false → (u : ℕ) → kind.system.moved (Sites.ran kind owes b batches begins jobs i j).result ≡ Some (p, u) → ⊥
         stays f u m = elim (bool_cases (g.lines.holds p (suc b.before + i))) [
-          | inl hd ↦ none_not (sym (Sites.looking_stays sys hosts fits is_job fine owes b batches begins jobs i j e (subst (λ r. w.looks (suc b.before + i) r ≡ true) place (calm (suc b.before + i) hd))) ∙ m)
+          | inl hd ↦ none_not (sym (Sites.looking_stays kind owes b batches begins jobs i j e (subst (λ r. w.looks (suc b.before + i) r ≡ true) place (calm (suc b.before + i) hd))) ∙ m)
           | inr hd ↦ clash _ (subst (λ r. w.held (suc b.before + i) (w.last (suc b.before + i)) r ≡ true) (sym place) (law.at_held (suc b.before + i) (w.last (suc b.before + i)) (omega arith)))
-              (after_exit sys law (Courses.courses sys hosts fits is_job fine owes b batches begins jobs) (suc b.before + i) (g.lines.pos (suc b.before + i)) (w.last (suc b.before + i)) p going (omega arith) granted.entered (not_held hd)).1
+              (after_exit kind.system law (Courses.courses kind owes b batches begins jobs) (suc b.before + i) (g.lines.pos (suc b.before + i)) (w.last (suc b.before + i)) p going (omega arith) granted.entered (not_held hd)).1
         ]
           where
             place : p ≡ w.place (suc b.before + i) (w.last (suc b.before + i))
-            place = Sites.moves_last sys hosts fits is_job fine owes b batches begins jobs i j e p u m
+            place = Sites.moves_last kind owes b batches begins jobs i j e p u m
 
             going : g.lines.pos (suc b.before + i) ≤ w.last (suc b.before + i)
             going = x.good.going (suc b.before + i) la (λ z. clash _ (done_is (g.lines.stage (suc b.before + i)) z) f)
@@ -236,14 +236,14 @@ module _ {A F R J : Type 0} (sys : Actors A F R J) (hosts : ℕ) (fits : Path �
         by : (is_done (g.lines.stage (suc b.before + i)) ≡ true) ⊎ (is_done (g.lines.stage (suc b.before + i)) ≡ false) → Sits (spot_of (g.trail p)) (suc i) p
         by (inl d) = subst (λ u. At u (spot_of (g.trail p)) i p) d a
         by (inr d) = (let y : Stands (spot_of (g.trail p)) i p = subst (λ u. At u (spot_of (g.trail p)) i p) d a in
-            let z = Sites.elsewhere sys hosts fits is_job fine owes b batches begins jobs i j e p (stays d) in
-            (y.0 ∙ sym z.0, y.1 ∙ none_more _ _ _ (Sites.shifts_next sys hosts fits is_job fine owes b batches begins jobs i p) z.1))
+            let z = Sites.elsewhere kind owes b batches begins jobs i j e p (stays d) in
+            (y.0 ∙ sym z.0, y.1 ∙ none_more _ _ _ (Sites.shifts_next kind owes b batches begins jobs i p) z.1))
           where
             none_more : (n m k : ℕ) → m ≡ n + k → k ≡ 0 → n ≡ m
             none_more n m k e f = omega (arith, e, f)
 
     -- who is let in finds the context there
-    let_in_stands : (t : ℕ) (p : Path) → Deeds.LetsIn sys w course b.before Is_real g t p → (i : ℕ) (j : J) → Job i j → t ≡ suc b.before + i → t ≤ g.lines.admitted → visits w t p ≡ true → w.entered t (g.lines.pos t) p ≡ true → Stands (spot_of (g.trail p)) i p
+    let_in_stands : (t : ℕ) (p : Path) → Deeds.LetsIn kind.system w course b.before Is_real g t p → (i : ℕ) (j : J) → Job i j → t ≡ suc b.before + i → t ≤ g.lines.admitted → visits w t p ≡ true → w.entered t (g.lines.pos t) p ≡ true → Stands (spot_of (g.trail p)) i p
     let_in_stands t p f i j e ti la v en = by (equal_or (early p) (g.lines.served p) (h.from p))
       where
         equal_or : (a c : ℕ) → a ≤ c → (c ≡ a) ⊎ (a < c)
@@ -259,9 +259,9 @@ module _ {A F R J : Type 0} (sys : Actors A F R J) (hosts : ℕ) (fits : Path �
             less_one a c e = omega (arith, e)
 
         settle : (a d : ℕ) → i ≡ d + a → rank w p (b.before + a) ≡ g.lines.served p → Sits (spot_of (g.trail p)) a p → there (places a) p ≡ true → Stands (spot_of (g.trail p)) i p
-        settle a d ia r y th = (let z = Sites.between sys hosts fits is_job fine owes b batches begins jobs d a p (ap (λ n. rank w p (b.before + n)) (sym ia) ∙ before_t ∙ sym r) in
+        settle a d ia r y th = (let z = Sites.between kind owes b batches begins jobs d a p (ap (λ n. rank w p (b.before + n)) (sym ia) ∙ before_t ∙ sym r) in
             let th' : there (places i) p ≡ true = ap (λ n. there (places n) p) ia ∙ z.2 ∙ th in
-            (y.0 ∙ sym z.0 ∙ ap (λ n. (places n).fields p) (sym ia) ∙ sym (Sites.grown_old sys hosts fits is_job fine owes b batches begins jobs i p th'), y.1 ∙ sym z.1 ∙ ap (shifts p) (sym ia)))
+            (y.0 ∙ sym z.0 ∙ ap (λ n. (places n).fields p) (sym ia) ∙ sym (Sites.grown_old kind owes b batches begins jobs i p th'), y.1 ∙ sym z.1 ∙ ap (shifts p) (sym ia)))
 
         by : (g.lines.served p ≡ early p) ⊎ (early p < g.lines.served p) → Stands (spot_of (g.trail p)) i p
         by (inl z) = elim (bool_cases (there b.places p)) [
@@ -277,7 +277,7 @@ module _ {A F R J : Type 0} (sys : Actors A F R J) (hosts : ℕ) (fits : Path �
             let d = difference (suc r.index) i (earlier a.0 r.index r.ticket_is a.2 (λ q. not_itself a.0 q a.4)) in
             settle (suc r.index) d.0 d.1 (ap (rank w p) (let q : b.before + suc r.index ≡ suc b.before + r.index = omega arith in q) ∙ nr)
             (calm_sits p r.index r.job r.job_is vr nr f.calm (subst (λ u. u ≤ g.lines.admitted) r.ticket_is la'))
-            (Sites.there_entered sys hosts fits is_job fine owes b batches begins jobs r.index r.job p r.job_is vr))
+            (Sites.there_entered kind owes b batches begins jobs r.index r.job p r.job_is vr))
           where
             positive : (a c : ℕ) → a < c → 1 ≤ c
             positive a c l = omega (arith, l)
@@ -315,12 +315,12 @@ module _ {A F R J : Type 0} (sys : Actors A F R J) (hosts : ℕ) (fits : Path �
             difference (suc a) (suc n) l = (let r = difference a n (omega (arith, l)) in (r.0, omega (arith, r.1)))
 
     -- at an end that leaves its context where it is, and at one that sends it on
-    module _ (t : ℕ) (p : Path) (stopped : Deeds.Stopped sys w course b.before Is_real g t p) (last : g.lines.pos t ≡ w.last t) (result : R) (result_is : course.result t (suc (g.lines.pos t)) ≡ Some result) where
-      abbrev rt : Courses.Real sys hosts fits is_job fine owes b batches begins jobs t
+    module _ (t : ℕ) (p : Path) (stopped : Deeds.Stopped kind.system w course b.before Is_real g t p) (last : g.lines.pos t ≡ w.last t) (result : R) (result_is : course.result t (suc (g.lines.pos t)) ≡ Some result) where
+      abbrev rt : Courses.Real kind owes b batches begins jobs t
       rt = real_t t p stopped
 
-      same_result : (Sites.ran sys hosts fits is_job fine owes b batches begins jobs (rt).index (rt).job).result ≡ result
-      same_result = Sites.result_is sys hosts fits is_job fine owes b batches begins jobs (rt).index (rt).job (rt).job_is (g.lines.pos t) result (subst (λ u. g.lines.pos t ≤ w.last u) (rt).ticket_is (subst (λ n. g.lines.pos t ≤ n) last (omega arith))) (ap (λ u. course.result u (suc (g.lines.pos t))) (sym (rt).ticket_is) ∙ result_is)
+      same_result : (Sites.ran kind owes b batches begins jobs (rt).index (rt).job).result ≡ result
+      same_result = Sites.result_is kind owes b batches begins jobs (rt).index (rt).job (rt).job_is (g.lines.pos t) result (subst (λ u. g.lines.pos t ≤ w.last u) (rt).ticket_is (subst (λ n. g.lines.pos t ≤ n) last (omega arith))) (ap (λ u. course.result u (suc (g.lines.pos t))) (sym (rt).ticket_is) ∙ result_is)
 
       stage_is : g.lines.stage (suc b.before + (rt).index) ≡ There
       stage_is = ap g.lines.stage (sym (rt).ticket_is) ∙ stopped.stage
@@ -332,26 +332,26 @@ module _ {A F R J : Type 0} (sys : Actors A F R J) (hosts : ℕ) (fits : Path �
           past a c l e = omega (arith, l, e)
 
       -- elsewhere
-      ends_off : (q : Path) → ((u : ℕ) → sys.moved result ≡ Some (q, u) → ⊥) → Stands (spot_of (g.trail q)) (rt).index q → Sits (spot_of (g.trail q)) (suc (rt).index) q
-      ends_off q n y = (let z = Sites.elsewhere sys hosts fits is_job fine owes b batches begins jobs (rt).index (rt).job (rt).job_is q (λ u m. n u (ap sys.moved (sym same_result) ∙ m)) in
-          (y.0 ∙ sym z.0, y.1 ∙ none_more _ _ _ (Sites.shifts_next sys hosts fits is_job fine owes b batches begins jobs (rt).index q) z.1))
+      ends_off : (q : Path) → ((u : ℕ) → kind.system.moved result ≡ Some (q, u) → ⊥) → Stands (spot_of (g.trail q)) (rt).index q → Sits (spot_of (g.trail q)) (suc (rt).index) q
+      ends_off q n y = (let z = Sites.elsewhere kind owes b batches begins jobs (rt).index (rt).job (rt).job_is q (λ u m. n u (ap kind.system.moved (sym same_result) ∙ m)) in
+          (y.0 ∙ sym z.0, y.1 ∙ none_more _ _ _ (Sites.shifts_next kind owes b batches begins jobs (rt).index q) z.1))
         where
           none_more : (n m k : ℕ) → m ≡ n + k → k ≡ 0 → n ≡ m
           none_more n m k e f = omega (arith, e, f)
 
       -- where it stays
-      ends_here : sys.moved result ≡ Some (p, owner (g.trail p)) → Stands (spot_of (g.trail p)) (rt).index p → Sits (spot_of (g.trail p)) (suc (rt).index) p
-      ends_here m y = (let z = Sites.moved_there sys hosts fits is_job fine owes b batches begins jobs (rt).index (rt).job (rt).job_is p (owner (g.trail p)) (ap sys.moved same_result ∙ m) in
-          (sym z.0, y.1 ∙ none_more _ _ _ (Sites.shifts_next sys hosts fits is_job fine owes b batches begins jobs (rt).index p) (z.1 ∙ ap (λ u. if u then 0 else 1) (subst (λ n. nat_eq n (owner (g.trail p)) ≡ true) y.0 (Rattle.wave_theory.proofs.Basics.number_self (owner (g.trail p)))))))
+      ends_here : kind.system.moved result ≡ Some (p, owner (g.trail p)) → Stands (spot_of (g.trail p)) (rt).index p → Sits (spot_of (g.trail p)) (suc (rt).index) p
+      ends_here m y = (let z = Sites.moved_there kind owes b batches begins jobs (rt).index (rt).job (rt).job_is p (owner (g.trail p)) (ap kind.system.moved same_result ∙ m) in
+          (sym z.0, y.1 ∙ none_more _ _ _ (Sites.shifts_next kind owes b batches begins jobs (rt).index p) (z.1 ∙ ap (λ u. if u then 0 else 1) (subst (λ n. nat_eq n (owner (g.trail p)) ≡ true) y.0 (Rattle.wave_theory.proofs.Basics.number_self (owner (g.trail p)))))))
         where
           none_more : (n m k : ℕ) → m ≡ n + k → k ≡ 0 → n ≡ m
           none_more n m k e f = omega (arith, e, f)
 
       -- where it is sent on
-      ends_there : (to : ℕ) → sys.moved result ≡ Some (p, to) → to ≢ owner (g.trail p) → Stands (spot_of (g.trail p)) (rt).index p → Sits (spot_of (sent_on (g.trail p) to)) (suc (rt).index) p
-      ends_there to m other y = (let z = Sites.moved_there sys hosts fits is_job fine owes b batches begins jobs (rt).index (rt).job (rt).job_is p to (ap sys.moved same_result ∙ m) in (
+      ends_there : (to : ℕ) → kind.system.moved result ≡ Some (p, to) → to ≢ owner (g.trail p) → Stands (spot_of (g.trail p)) (rt).index p → Sits (spot_of (sent_on (g.trail p) to)) (suc (rt).index) p
+      ends_there to m other y = (let z = Sites.moved_there kind owes b batches begins jobs (rt).index (rt).job (rt).job_is p to (ap kind.system.moved same_result ∙ m) in (
         set_at (g.trail p).at (suc (g.trail p).last) to ∙ sym z.0,
-        one_more _ _ _ _ (Sites.shifts_next sys hosts fits is_job fine owes b batches begins jobs (rt).index p) (z.1 ∙ ap (λ u. if u then 0 else 1) (subst (λ n. nat_eq n to ≡ false) y.0 (differ (owner (g.trail p)) to (λ e. other (sym e))))) y.1,
+        one_more _ _ _ _ (Sites.shifts_next kind owes b batches begins jobs (rt).index p) (z.1 ∙ ap (λ u. if u then 0 else 1) (subst (λ n. nat_eq n to ≡ false) y.0 (differ (owner (g.trail p)) to (λ e. other (sym e))))) y.1,
       ))
         where
           one_more : (l n m k : ℕ) → m ≡ n + k → k ≡ 1 → l ≡ n → suc l ≡ m
@@ -374,7 +374,7 @@ module _ {A F R J : Type 0} (sys : Actors A F R J) (hosts : ℕ) (fits : Path �
       own_stands : (i : ℕ) (j : J) (q : Path) → Job i j → visits w (suc b.before + i) q ≡ true → rank w q (suc b.before + i) ≡ g.lines.served q → t ≡ suc b.before + i → Stands (spot_of (g.trail q)) i q
       own_stands i j q e v n d = subst (λ u. At u (spot_of (g.trail q)) i q) (not_done (g.lines.stage (suc b.before + i)) (ap g.lines.stage (sym d) ∙ stopped.stage)) (h.last q i j e v n)
 
-      ends_homes : Deeds.Stays sys w course b.before Is_real g t p result → HomesOf (Deeds.with_segment o t Done g.lines.given g.trail)
+      ends_homes : Deeds.Stays kind.system w course b.before Is_real g t p result → HomesOf (Deeds.with_segment o t Done g.lines.given g.trail)
       ends_homes move = record {
         old = h.old;
         from = h.from;
@@ -392,7 +392,7 @@ module _ {A F R J : Type 0} (sys : Actors A F R J) (hosts : ℕ) (fits : Path �
             ]
           ]
 
-      moves_homes : (to : ℕ) → Deeds.Sends sys w course b.before Is_real g t p to result → HomesOf (Deeds.with_segment o t Done g.lines.given (set path_eq g.trail p (sent_on (g.trail p) to)))
+      moves_homes : (to : ℕ) → Deeds.Sends kind.system w course b.before Is_real g t p to result → HomesOf (Deeds.with_segment o t Done g.lines.given (set path_eq g.trail p (sent_on (g.trail p) to)))
       moves_homes to m = record {
         old = h.old;
         from = h.from;
@@ -424,11 +424,11 @@ module _ {A F R J : Type 0} (sys : Actors A F R J) (hosts : ℕ) (fits : Path �
           ]
 
     -- a segment's end that enters a new child
-    module _ (t : ℕ) (p : Path) (g' : Shows.Ghost F) (st : Step) (r : Trail) (f : Deeds.GoesIn sys w course b.before Is_real s g g' t p st r) (kids : (q : Path) (u : Step) (c : Child) → child_at (g.body q).children u ≡ Some c → (there b.tree (q ++ u ∷ []) ≡ true) ⊎ (0 < c.given)) where
+    module _ (t : ℕ) (p : Path) (g' : Shows.Ghost F) (st : Step) (r : Trail) (f : Deeds.GoesIn kind.system w course b.before Is_real s g g' t p st r) (kids : (q : Path) (u : Step) (c : Child) → child_at (g.body q).children u ≡ Some c → (there b.tree (q ++ u ∷ []) ≡ true) ⊎ (0 < c.given)) where
       abbrev q₀ : Path
       q₀ = p ++ st ∷ []
 
-      abbrev r₀ : Courses.Real sys hosts fits is_job fine owes b batches begins jobs t
+      abbrev r₀ : Courses.Real kind owes b batches begins jobs t
       r₀ = real_t t p f.stopped
 
       now_t : (b.before < t) × (t ≤ g.lines.admitted)
@@ -464,9 +464,9 @@ module _ {A F R J : Type 0} (sys : Actors A F R J) (hosts : ℕ) (fits : Path �
           | inr z ↦ given_not k.0 k.1 z
         ])
         | inr k ↦ (
-          ap (λ (u : ℕ × ℕ). u.0) (ap spot_of k.0) ∙ (stands_t t p f.stopped f.latest).0 ∙ ap (λ a. (grown a).fields p) same ∙ ap (λ a. (grown i).fields a) (sym (parent_child p st)) ∙ sym (Sites.made_beside sys hosts fits is_job fine owes b batches begins jobs i j e (g.lines.pos t) (p ++ st ∷ [])
+          ap (λ (u : ℕ × ℕ). u.0) (ap spot_of k.0) ∙ (stands_t t p f.stopped f.latest).0 ∙ ap (λ a. (grown a).fields p) same ∙ ap (λ a. (grown i).fields a) (sym (parent_child p st)) ∙ sym (Sites.made_beside kind owes b batches begins jobs i j e (g.lines.pos t) (p ++ st ∷ [])
               (subst (λ u. suc (g.lines.pos t) ≤ w.last u) d f.more) (subst (λ u. w.fresh u (suc (g.lines.pos t)) ≡ true) d f.fresh) (subst (λ u. w.place u (suc (g.lines.pos t)) ≡ p ++ st ∷ []) d f.next) none_there),
-          ap (λ (u : ℕ × ℕ). u.1) (ap spot_of k.0) ∙ sym (Sites.unmoved sys hosts fits is_job fine owes b batches begins jobs i (p ++ st ∷ []) (child_not_root p st) none_there),
+          ap (λ (u : ℕ × ℕ). u.1) (ap spot_of k.0) ∙ sym (Sites.unmoved kind owes b batches begins jobs i (p ++ st ∷ []) (child_not_root p st) none_there),
         )
       ]
         where
@@ -486,7 +486,7 @@ module _ {A F R J : Type 0} (sys : Actors A F R J) (hosts : ℕ) (fits : Path �
               none_of c v s e y n m k z = omega (arith, y, n, m, k, z)
 
           none_there : there (places i) (p ++ st ∷ []) ≡ false
-          none_there = ap (λ a. there (places a) (p ++ st ∷ [])) (let z : i ≡ i + 0 = omega arith in z) ∙ (Sites.between sys hosts fits is_job fine owes b batches begins jobs i 0 (p ++ st ∷ []) ranks).2 ∙ none
+          none_there = ap (λ a. there (places a) (p ++ st ∷ [])) (let z : i ≡ i + 0 = omega arith in z) ∙ (Sites.between kind owes b batches begins jobs i 0 (p ++ st ∷ []) ranks).2 ∙ none
             where
               up : b.before + (i + 0) ≡ b.before + i
               up = omega arith
@@ -556,7 +556,7 @@ module _ {A F R J : Type 0} (sys : Actors A F R J) (hosts : ℕ) (fits : Path �
               none a c l m e = omega (arith, l, m, e)
 
     -- who is let in
-    lets_in_homes : (t : ℕ) (p : Path) → Deeds.LetsIn sys w course b.before Is_real g t p → HomesOf (done_by w o t p Deeds.Lets_in)
+    lets_in_homes : (t : ℕ) (p : Path) → Deeds.LetsIn kind.system w course b.before Is_real g t p → HomesOf (done_by w o t p Deeds.Lets_in)
     lets_in_homes t p f = record {
       old = h.old;
       from = λ q. elim (path_cases (here w g.lines t) q) [
@@ -587,10 +587,10 @@ module _ {A F R J : Type 0} (sys : Actors A F R J) (hosts : ℕ) (fits : Path �
         known = known_by t (λ e. lined_done (sym f.stage ∙ e))
 
         entered : w.entered t (g.lines.pos t) p ≡ true
-        entered = subst (λ r. w.entered t (g.lines.pos t) r ≡ true) f.place (entered_spot sys w law course b.before Is_real g x.good t known.1 (λ e. lined_done (sym f.stage ∙ e)))
+        entered = subst (λ r. w.entered t (g.lines.pos t) r ≡ true) f.place (entered_spot kind.system w law course b.before Is_real g x.good t known.1 (λ e. lined_done (sym f.stage ∙ e)))
 
         visits_now : visits w t p ≡ true
-        visits_now = visits_of sys w law course b.before Is_real g x.good t p known.1 entered
+        visits_now = visits_of kind.system w law course b.before Is_real g x.good t p known.1 entered
 
         stage_now : (u : ℕ) → is_done (set nat_eq g.lines.stage t There u) ≡ is_done (g.lines.stage u)
         stage_now u = done_set g.lines.stage t There (sym (ap is_done f.stage)) u
@@ -612,7 +612,7 @@ module _ {A F R J : Type 0} (sys : Actors A F R J) (hosts : ℕ) (fits : Path �
             same = rank_same w p t (suc b.before + i) visits_now (subst (λ r. visits w (suc b.before + i) r ≡ true) (sym pq) v) (f.number ∙ ap (λ r. suc (g.lines.served r)) (sym f.place) ∙ sym n ∙ ap (λ r. rank w r (suc b.before + i)) (sym pq))
 
     -- each deed
-    by_deed : (g' : Shows.Ghost F) (t : ℕ) (p : Path) (d : Deed) → Deeds.Fits sys w course b.before Is_real s g g' t p d → ((q : Path) (u : Step) (c : Child) → child_at (g.body q).children u ≡ Some c → (there b.tree (q ++ u ∷ []) ≡ true) ⊎ (0 < c.given)) → HomesOf (done_by w o t p d)
+    by_deed : (g' : Shows.Ghost F) (t : ℕ) (p : Path) (d : Deed) → Deeds.Fits kind.system w course b.before Is_real s g g' t p d → ((q : Path) (u : Step) (c : Child) → child_at (g.body q).children u ≡ Some c → (there b.tree (q ++ u ∷ []) ≡ true) ⊎ (0 < c.given)) → HomesOf (done_by w o t p d)
     by_deed g' t p Deeds.Admits f kids = homes_by o (done_by w o t p Deeds.Admits) h (λ q e. e) (λ q. refl) (λ q. refl)
         (λ u q l v n. ap is_done (set_there nat_eq g.lines.stage (suc g.lines.admitted) Entering u (differ (suc g.lines.admitted) u (λ z. past _ _ (granted_sent u q l v (subst (λ k. rank w q u ≤ k) n (upto _))).1 z))))
         (λ u q th k. elim (number_cases (suc g.lines.admitted) u) [
@@ -658,11 +658,11 @@ module _ {A F R J : Type 0} (sys : Actors A F R J) (hosts : ℕ) (fits : Path �
         equal_or : (a c : ℕ) → a ≤ c → (c ≡ a) ⊎ (a < c)
         equal_or a c l = grind arith
 
-        rt : Courses.Real sys hosts fits is_job fine owes b batches begins jobs t
+        rt : Courses.Real kind owes b batches begins jobs t
         rt = real_of t lt la
 
         v : visits w t p ≡ true
-        v = visits_of sys w law course b.before Is_real g x.good t p la en
+        v = visits_of kind.system w law course b.before Is_real g x.good t p la en
 
         upto : (a : ℕ) → a ≤ a
         upto a = omega arith
@@ -719,13 +719,13 @@ module _ {A F R J : Type 0} (sys : Actors A F R J) (hosts : ℕ) (fits : Path �
             positive : (a c : ℕ) → a < c → 1 ≤ c
             positive a c l = omega (arith, l)
 
-  pub homes_next : (s : State A F R J) (g g' : Shows.Ghost F) (a : Act) → Shows.Shows sys w course b.before Is_real s g → Deeds.Turn sys w course b.before Is_real s g g' a → Homes g → Homes g'
+  pub homes_next : (s : State A F R J) (g g' : Shows.Ghost F) (a : Act) → Shows.Shows kind.system w course b.before Is_real s g → Deeds.Turn kind.system w course b.before Is_real s g g' a → Homes g → Homes g'
   homes_next s g g' a x t h = record {
     of = subst HomesOf (sym t.is) (by_deed s g x h.of g' (ticket_of a) (path_of a) t.deed t.fits h.kids);
     kids = λ q st c e. elim (t.kids q st c e) [ inl k ↦ h.kids q st c k | inr k ↦ inr k ];
   }
 
-  pub homes_first : Homes (Beginning.ghost₀ sys hosts fits is_job fine owes b batches begins jobs)
+  pub homes_first : Homes (Beginning.ghost₀ kind owes b batches begins jobs)
   homes_first = record {
     of = record {
       old = λ p e. e;
@@ -734,7 +734,7 @@ module _ {A F R J : Type 0} (sys : Actors A F R J) (hosts : ℕ) (fits : Path �
       begun = λ p n e. at_begin p (sym (there_same p) ∙ e) (has_moved b p) refl;
       new = λ p i j e v n m f k. absurd (not_yet i k.0);
     };
-    kids = λ q st c e. inl (Beginning.kid_there sys hosts fits is_job fine owes b batches begins jobs q st c e);
+    kids = λ q st c e. inl (Beginning.kid_there kind owes b batches begins jobs q st c e);
   }
     where
       upto : (a : ℕ) → a ≤ a
@@ -746,9 +746,9 @@ module _ {A F R J : Type 0} (sys : Actors A F R J) (hosts : ℕ) (fits : Path �
       not_yet : (i : ℕ) → suc b.before + i ≤ b.before → ⊥
       not_yet i l = omega (arith, l)
 
-      moved_sits : (p : Path) (i : Bool) → has_moved b p ≡ i → Sits (spot_of (Beginning.moved_trail sys hosts fits is_job fine owes b batches begins jobs i p)) 0 p
-      moved_sits p true m = (refl, sym (ap (λ i. (if i then 1 else 0) + sum_to 0 (Sites.shift sys hosts fits is_job fine owes b batches begins jobs p)) m ∙ ap (λ n. 1 + n) (sum_zero _)))
-      moved_sits p false m = (refl, sym (ap (λ i. (if i then 1 else 0) + sum_to 0 (Sites.shift sys hosts fits is_job fine owes b batches begins jobs p)) m ∙ ap (λ n. 0 + n) (sum_zero _)))
+      moved_sits : (p : Path) (i : Bool) → has_moved b p ≡ i → Sits (spot_of (Beginning.moved_trail kind owes b batches begins jobs i p)) 0 p
+      moved_sits p true m = (refl, sym (ap (λ i. (if i then 1 else 0) + sum_to 0 (Sites.shift kind owes b batches begins jobs p)) m ∙ ap (λ n. 1 + n) (sum_zero _)))
+      moved_sits p false m = (refl, sym (ap (λ i. (if i then 1 else 0) + sum_to 0 (Sites.shift kind owes b batches begins jobs p)) m ∙ ap (λ n. 0 + n) (sum_zero _)))
 
-      at_begin : (p : Path) → there b.tree p ≡ true → (i : Bool) → has_moved b p ≡ i → Sits (spot_of ((Beginning.ghost₀ sys hosts fits is_job fine owes b batches begins jobs).trail p)) 0 p
-      at_begin p e i m = subst (λ (r : Trail). Sits (spot_of r) 0 p) (sym (ap (λ u. if u then Beginning.moved_trail sys hosts fits is_job fine owes b batches begins jobs (has_moved b p) p else unborn 0) e ∙ ap (λ u. Beginning.moved_trail sys hosts fits is_job fine owes b batches begins jobs u p) m)) (moved_sits p i m)
+      at_begin : (p : Path) → there b.tree p ≡ true → (i : Bool) → has_moved b p ≡ i → Sits (spot_of ((Beginning.ghost₀ kind owes b batches begins jobs).trail p)) 0 p
+      at_begin p e i m = subst (λ (r : Trail). Sits (spot_of r) 0 p) (sym (ap (λ u. if u then Beginning.moved_trail kind owes b batches begins jobs (has_moved b p) p else unborn 0) e ∙ ap (λ u. Beginning.moved_trail kind owes b batches begins jobs u p) m)) (moved_sits p i m)

@@ -14,7 +14,7 @@ use Rattle.std.specs.List.{list_any}
 use Rattle.wave_base.specs.declared.path.Step.{Step}
 use Rattle.wave_base.specs.declared.path.Path.{Path}
 use Rattle.wave_base.specs.Paths.{path_eq, step_eq}
-use Rattle.wave_states.specs.Actors.{Actors, Pause, Go, Down, Over}
+use Rattle.wave_states.specs.Actors.{Pause, Go, Down, Over}
 use Rattle.wave_states.specs.States.{State, Cell, Claim, Entry, Record, Mail, steps_of, Letter, Enter, Visit, Back, Release, Transfer}
 use Rattle.wave_theory.proofs.Basics.{clash, none_not, options, bool_cases, number_self}
 use Rattle.wave_theory.proofs.Order.{Way, IsWay, rank, Entering, Lined, Done, is_pending}
@@ -26,6 +26,7 @@ use Rattle.wave_theory.proofs.Shows
 use Rattle.std.specs.Prelude.{All}
 use Rattle.wave_base.specs.Fold.{Head, Progress, next_job, with_job}
 use Rattle.wave_states.specs.Begins.{Begin}
+use Rattle.wave_states.specs.Kinds.{Kind}
 use Rattle.wave_states.specs.Owes.{Owes, IsBegin}
 use Rattle.wave_states.specs.Owners.{IsOwner}
 use Rattle.wave_states.specs.Alone.{places_alone, fold_alone, job_after, run_alone, Alone, into, tree_with, has, next_alone, segment_alone, segment_if, after_segments}
@@ -34,12 +35,12 @@ use Rattle.wave_theory.proofs.Courses
 use Rattle.wave_theory.proofs.Folds
 use Rattle.wave_theory.proofs.Reached.{Heads, Good_state, ResultIs, result_of}
 use Rattle.wave_theory.proofs.Reached
-use Rattle.wave_theory.specs.States.{IsComplete}
+use Rattle.wave_theory.specs.Complete.{IsComplete}
 use Rattle.std.proofs.Common.{nat_lt}
 use Rattle.std.proofs.lemmas.Bool.Decides.{nat_tests}
 use Rattle.wave_base.specs.Fold.{next_job}
 use Rattle.wave_theory.proofs.Order.{Stage, Coming, There}
-use Rattle.wave_theory.specs.States.{CanTake, NeverStuck}
+use Rattle.wave_theory.specs.NeverStuck.{CanTake, NeverStuck}
 use Rattle.wave_theory.proofs.Able
 use Rattle.wave_theory.proofs.Stuck
 use Rattle.wave_theory.proofs.Told
@@ -47,27 +48,27 @@ use Rattle.wave_theory.proofs.Told
 pub less_is : (a c : ℕ) → a < c → nat_lt a c ≡ true
 less_is a c l = grind (arith, nat_tests)
 
-module _ {A F R J : Type 0} (sys : Actors A F R J) (hosts : ℕ) (fits : Path → F → Type 0) (is_job : J → Type 0) (fine : A → Path → ℕ → Type 0) (owes : Owes sys hosts fits is_job fine) (b : Begin F) (batches : List (List J)) (begins : IsBegin sys hosts fits is_job fine b) (jobs : All (All is_job) batches) where
+module _ {A F R J : Type 0} (kind : Kind A F R J) (owes : Owes kind) (b : Begin F) (batches : List (List J)) (begins : IsBegin kind b) (jobs : All (All kind.is_job) batches) where
   abbrev w : Way
-  w = Courses.w sys hosts fits is_job fine owes b batches begins jobs
+  w = Courses.w kind owes b batches begins jobs
 
-  abbrev course : Course sys
-  course = Courses.course sys hosts fits is_job fine owes b batches begins jobs
+  abbrev course : Course kind.system
+  course = Courses.course kind owes b batches begins jobs
 
   abbrev Is_real : ℕ → Type 0
-  Is_real = Courses.Real sys hosts fits is_job fine owes b batches begins jobs
+  Is_real = Courses.Real kind owes b batches begins jobs
 
   law : IsWay w
-  law = Courses.law sys hosts fits is_job fine owes b batches begins jobs
+  law = Courses.law kind owes b batches begins jobs
 
   abbrev at : ℕ → Progress F R J
-  at n = fold_alone sys b batches n
+  at n = fold_alone kind.system b batches n
 
   pub done_below : (n : ℕ) → (at n).head.done ≤ n
-  done_below zero = subst (λ i. i ≤ 0) (sym (Folds.zero_done sys b batches)) (omega arith)
+  done_below zero = subst (λ i. i ≤ 0) (sym (Folds.zero_done kind.system b batches)) (omega arith)
   done_below (suc n) = by (next_job (at n).head) refl (done_below n)
     where
-      by : (o : Option J) → next_job (at n).head ≡ o → (at n).head.done ≤ n → (with_job (suc b.before) (run_alone sys) sys.created (at n) o).head.done ≤ suc n
+      by : (o : Option J) → next_job (at n).head ≡ o → (at n).head.done ≤ n → (with_job (suc b.before) (run_alone kind.system) kind.system.created (at n) o).head.done ≤ suc n
       by None e l = omega arith
       by (Some j) e l = subst (λ i. i ≤ suc n) (sym (Folds.with_done_done (at n).head _)) (omega arith)
 
@@ -75,40 +76,40 @@ module _ {A F R J : Type 0} (sys : Actors A F R J) (hosts : ℕ) (fits : Path �
   keeps_enter : (v : Tree F) (p q : Path) → there v p ≡ true → there (enter v q) p ≡ true
   keeps_enter v p q e = there-enter v q p ∙ or_right (path_eq p q) (there v p) e
 
-  keeps_step : (y : Alone A F R) (p : Path) → there y.tree p ≡ true → there (next_alone sys y).tree p ≡ true
+  keeps_step : (y : Alone A F R) (p : Path) → there y.tree p ≡ true → there (next_alone kind.system y).tree p ≡ true
   keeps_step y p e = by y.result
     where
-      into_it : (st : Step) (peek : Bool) (kept : List Path) (i : Bool) → there (into y (segment_alone sys y).actor (segment_alone sys y).fields (y.at ++ st ∷ []) peek kept i).tree p ≡ true
+      into_it : (st : Step) (peek : Bool) (kept : List Path) (i : Bool) → there (into y (segment_alone kind.system y).actor (segment_alone kind.system y).fields (y.at ++ st ∷ []) peek kept i).tree p ≡ true
       into_it st peek kept true = e
-      into_it st peek kept false = keeps_enter (tree_with y (segment_alone sys y).fields) p (y.at ++ st ∷ []) e
+      into_it st peek kept false = keeps_enter (tree_with y (segment_alone kind.system y).fields) p (y.at ++ st ∷ []) e
 
-      by_pause : (u : Pause R) → there (Rattle.wave_states.specs.Alone.goes_on sys y (segment_alone sys y).actor (segment_alone sys y).fields u).tree p ≡ true
-      by_pause (Go st) = into_it st (sys.peeks (segment_alone sys y).actor) _ (has y.held (y.at ++ st ∷ []))
+      by_pause : (u : Pause R) → there (Rattle.wave_states.specs.Alone.goes_on kind.system y (segment_alone kind.system y).actor (segment_alone kind.system y).fields u).tree p ≡ true
+      by_pause (Go st) = into_it st (kind.system.peeks (segment_alone kind.system y).actor) _ (has y.held (y.at ++ st ∷ []))
       by_pause (Down st) = into_it st false y.held (has y.held (y.at ++ st ∷ []))
       by_pause Pause.Back = e
       by_pause (Over r) = e
 
-      by : (o : Option R) → there (segment_if sys y o).tree p ≡ true
+      by : (o : Option R) → there (segment_if kind.system y o).tree p ≡ true
       by (Some r) = e
-      by None = by_pause (segment_alone sys y).pause
+      by None = by_pause (segment_alone kind.system y).pause
 
-  keeps_segments : (n : ℕ) (y : Alone A F R) (p : Path) → there y.tree p ≡ true → there (after_segments sys n y).tree p ≡ true
+  keeps_segments : (n : ℕ) (y : Alone A F R) (p : Path) → there y.tree p ≡ true → there (after_segments kind.system n y).tree p ≡ true
   unfolding after_segments
   keeps_segments zero y p e = e
-  keeps_segments (suc n) y p e = keeps_step (after_segments sys n y) p (keeps_segments n y p e)
+  keeps_segments (suc n) y p e = keeps_step (after_segments kind.system n y) p (keeps_segments n y p e)
 
   root_there : (n : ℕ) → there (at n).tree [] ≡ true
   root_there zero = begins.root
   root_there (suc n) = by (next_job (at n).head) (root_there n)
     where
-      by : (o : Option J) → there (at n).tree [] ≡ true → there (with_job (suc b.before) (run_alone sys) sys.created (at n) o).tree [] ≡ true
+      by : (o : Option J) → there (at n).tree [] ≡ true → there (with_job (suc b.before) (run_alone kind.system) kind.system.created (at n) o).tree [] ≡ true
       by None r = r
       by (Some j) r = keeps_segments _ _ [] (keeps_enter (at n).tree [] [] r)
 
   -- once there is no next job there is none
   pub over_stays : (d i : ℕ) → next_job (at d).head ≡ None → at (i + d) ≡ at d
   over_stays d zero e = ap at (let z : 0 + d ≡ d = omega arith in z)
-  over_stays d (suc i) e = ap at (let z : suc i + d ≡ suc (i + d) = omega arith in z) ∙ Folds.stays sys b batches (i + d) (ap (λ (v : Progress F R J). next_job v.head) (over_stays d i e) ∙ e) ∙ over_stays d i e
+  over_stays d (suc i) e = ap at (let z : suc i + d ≡ suc (i + d) = omega arith in z) ∙ Folds.stays kind.system b batches (i + d) (ap (λ (v : Progress F R J). next_job v.head) (over_stays d i e) ∙ e) ∙ over_stays d i e
 
   over_below : (d n : ℕ) → next_job (at d).head ≡ None → (at n).head.done ≤ d
   over_below d n e = elim (split n d) [
@@ -126,8 +127,8 @@ module _ {A F R J : Type 0} (sys : Actors A F R J) (hosts : ℕ) (fits : Path �
           at_or_less : (n d : ℕ) → n ≤ d → (suc n ≤ d) ⊎ (n ≡ d)
           at_or_less n d l = grind arith
 
-  module _ (s : State A F R J) (k : Good_state sys hosts fits is_job fine owes b batches begins jobs s) where
-    x : Shows.Shows sys w course b.before Is_real s k.ghost
+  module _ (s : State A F R J) (k : Good_state kind owes b batches begins jobs s) where
+    x : Shows.Shows kind.system w course b.before Is_real s k.ghost
     x = k.shows
 
     pub stage_cases : (u : Stage) → (u ≡ Done) ⊎ (u ≡ Done → ⊥)
@@ -154,7 +155,7 @@ module _ {A F R J : Type 0} (sys : Actors A F R J) (hosts : ℕ) (fits : Path �
     committed_done i l = elim (stage_cases ((k.ghost).lines.stage (suc b.before + i))) [
       | inl e ↦ e
       | inr n ↦ (let r = option_some (s.cells (suc b.before + i)).result ((k.heads).over i l) in
-          let y = result_of sys hosts fits is_job fine owes b batches begins jobs s k.ghost x k.heads (suc b.before + i) r.0 r.1 in
+          let y = result_of kind owes b batches begins jobs s k.ghost x k.heads (suc b.before + i) r.0 r.1 in
           absurd (past ((k.ghost).lines.pos (suc b.before + i)) (w.last (suc b.before + i)) (x.good.going (suc b.before + i) y.admitted n) y.ended))
     ]
       where
@@ -175,10 +176,10 @@ module _ {A F R J : Type 0} (sys : Actors A F R J) (hosts : ℕ) (fits : Path �
         old_or_new zero (suc t) d l = inr (t, omega arith, omega arith)
         old_or_new (suc a) (suc t) d l = elim (old_or_new a t d (omega arith)) [ inl o ↦ inl (omega arith) | inr i ↦ inr (i.0, i.1, omega (arith, i.2)) ]
 
-    pub never_stuck : (workers : ℕ) → NeverStuck sys workers b batches s
+    pub never_stuck : (workers : ℕ) → NeverStuck kind workers b batches s
     never_stuck workers v n less idle more = elim (at_or_less s.head.done s.admitted (k.heads).few) [
-      | inr e ↦ (suc (b.before + s.head.done), omega arith, inl (Able.take_admit sys workers s v (less_is v workers less) idle (suc (b.before + s.head.done)) job.0 (ap (slice_get s.head.known) (sym e) ∙ job.1) (ap₂ (λ i j. suc (i + j)) (sym x.before) e)))
-      | inl l ↦ (let r = Stuck.goes_on sys w law course b.before Is_real (Courses.courses sys hosts fits is_job fine owes b batches begins jobs) s k.ghost x k.alive workers v (less_is v workers less) idle
+      | inr e ↦ (suc (b.before + s.head.done), omega arith, inl (Able.take_admit kind.system workers s v (less_is v workers less) idle (suc (b.before + s.head.done)) job.0 (ap (slice_get s.head.known) (sym e) ∙ job.1) (ap₂ (λ i j. suc (i + j)) (sym x.before) e)))
+      | inl l ↦ (let r = Stuck.goes_on kind.system w law course b.before Is_real (Courses.courses kind owes b batches begins jobs) s k.ghost x k.alive workers v (less_is v workers less) idle
           (suc (b.before + s.head.done)) (omega arith) (omega (arith, l, x.admitted)) (λ c m. earlier_done c (omega (arith, m))) (ap (λ i. suc (i + s.head.done)) (sym x.before)) in (r.0, r.1, r.2))
     ]
       where
@@ -195,11 +196,11 @@ module _ {A F R J : Type 0} (sys : Actors A F R J) (hosts : ℕ) (fits : Path �
             past a c l m = omega arith
 
     -- a finished state
-    module _ (workers : ℕ) (some_worker : 0 < workers) (fin : Finished sys workers s) where
+    module _ (workers : ℕ) (some_worker : 0 < workers) (fin : Finished kind.system workers s) where
       abbrev g : Shows.Ghost F
       g = k.ghost
 
-      nothing : (t : ℕ) → CanTake sys workers s 0 t → ⊥
+      nothing : (t : ℕ) → CanTake kind.system workers s 0 t → ⊥
       nothing t c = clash _ c.enabled (ap is_some (fin.none (record { worker = 0; host = c.host; act = c.act })))
 
       pub all_committed : (n : ℕ) → (at n).head.done ≤ s.head.done
@@ -213,8 +214,8 @@ module _ {A F R J : Type 0} (sys : Actors A F R J) (hosts : ℕ) (fits : Path �
 
       -- all that was admitted is committed
       pub all_done : (t : ℕ) → b.before < t → t ≤ (g).lines.admitted → t ≤ b.before + s.head.done
-      all_done t l m = (let r : Courses.Real sys hosts fits is_job fine owes b batches begins jobs t = (x.cells t l m).real in
-          let d : (at (suc r.index)).head.done ≡ suc r.index = ap (λ (v : Progress F R J). v.head.done) (Told.goes_on sys hosts fits is_job fine owes b batches begins jobs r.index r.job r.job_is) ∙ Folds.with_done_done (at r.index).head _ ∙ ap suc (done_at sys hosts fits is_job fine owes b batches begins jobs r.index r.job r.job_is) in
+      all_done t l m = (let r : Courses.Real kind owes b batches begins jobs t = (x.cells t l m).real in
+          let d : (at (suc r.index)).head.done ≡ suc r.index = ap (λ (v : Progress F R J). v.head.done) (Told.goes_on kind owes b batches begins jobs r.index r.job r.job_is) ∙ Folds.with_done_done (at r.index).head _ ∙ ap suc (done_at kind owes b batches begins jobs r.index r.job r.job_is) in
           let z : (at (suc r.index)).head.done ≤ s.head.done = all_committed (suc r.index) in
           few_index t r.index r.ticket_is (subst (λ i. i ≤ s.head.done) d z))
         where
@@ -232,7 +233,7 @@ module _ {A F R J : Type 0} (sys : Actors A F R J) (hosts : ℕ) (fits : Path �
 
       -- nobody holds a context
       pub unheld : (p : Path) (t : ℕ) → (g).lines.holds p t ≡ true → ⊥
-      unheld p t h = nothing t (Stuck.parting_can sys w law course b.before Is_real (Courses.courses sys hosts fits is_job fine owes b batches begins jobs) s k.ghost x k.alive workers 0 (less_is 0 workers some_worker) (fin.idle 0) t p h
+      unheld p t h = nothing t (Stuck.parting_can kind.system w law course b.before Is_real (Courses.courses kind owes b batches begins jobs) s k.ghost x k.alive workers 0 (less_is 0 workers some_worker) (fin.idle 0) t p h
           (ap (λ i. w.held t i p) (x.good.ended t known (stage_done t known)) ∙ law.none t p))
         where
           known : t ≤ (g).lines.admitted
@@ -242,7 +243,7 @@ module _ {A F R J : Type 0} (sys : Actors A F R J) (hosts : ℕ) (fits : Path �
       no_mail t i m e = by m.letter ((x.cells t n.0 n.1).mails i m e)
         where
           n : (b.before < t) × (t ≤ (g).lines.admitted)
-          n = Reached.known sys hosts fits is_job fine owes b batches begins jobs s k.ghost x t (λ q. none_not (sym (ap (λ (u : Cell A F R). u.mails i) q) ∙ e))
+          n = Reached.known kind owes b batches begins jobs s k.ghost x t (λ q. none_not (sym (ap (λ (u : Cell A F R). u.mails i) q) ∙ e))
 
           entering_done : Entering ≡ Done → ⊥
           entering_done e = grind arith
@@ -250,7 +251,7 @@ module _ {A F R J : Type 0} (sys : Actors A F R J) (hosts : ℕ) (fits : Path �
           coming_done : Coming ≡ Done → ⊥
           coming_done e = grind arith
 
-          by : (l : Letter F) → Shows.MailShows sys w course b.before Is_real k.ghost t i m.host m.path l → ⊥
+          by : (l : Letter F) → Shows.MailShows kind.system w course b.before Is_real k.ghost t i m.host m.path l → ⊥
           by (Enter a) y = entering_done (sym y.stage ∙ stage_done t n.1)
           by Visit y = coming_done (sym y.stage ∙ stage_done t n.1)
           by Back y = coming_done (sym y.stage ∙ stage_done t n.1)
@@ -282,12 +283,12 @@ module _ {A F R J : Type 0} (sys : Actors A F R J) (hosts : ℕ) (fits : Path �
           above_or a = grind arith
 
       -- the records are those of the last tree
-      like : (p : Path) → Shows.Like sys w course b.before Is_real ((g).body p) (Courses.leaf_of (at s.head.done).tree p)
-      like p = subst (Shows.Like sys w course b.before Is_real ((g).body p)) leaf (x.kept.calm p (b.before + s.head.done) (λ t h. absurd (unheld p t h)) (ap (rank w p) (sym admitted_is) ∙ all_served p) (omega arith))
+      like : (p : Path) → Shows.Like kind.system w course b.before Is_real ((g).body p) (Courses.leaf_of (at s.head.done).tree p)
+      like p = subst (Shows.Like kind.system w course b.before Is_real ((g).body p)) leaf (x.kept.calm p (b.before + s.head.done) (λ t h. absurd (unheld p t h)) (ap (rank w p) (sym admitted_is) ∙ all_served p) (omega arith))
         where
           leaf : course.leaf (suc (b.before + s.head.done)) 0 p ≡ Courses.leaf_of (at s.head.done).tree p
-          leaf = ap (λ t. course.leaf t 0 p) (let z : suc (b.before + s.head.done) ≡ suc b.before + s.head.done = omega arith in z) ∙ ap (λ (v : View A F R). v.leaf 0 p) (view_later sys hosts fits is_job fine owes b batches begins jobs s.head.done)
-              ∙ leaf_first sys hosts fits is_job fine owes b batches begins jobs s.head.done (job_after sys b batches s.head.done) p
+          leaf = ap (λ t. course.leaf t 0 p) (let z : suc (b.before + s.head.done) ≡ suc b.before + s.head.done = omega arith in z) ∙ ap (λ (v : View A F R). v.leaf 0 p) (view_later kind owes b batches begins jobs s.head.done)
+              ∙ leaf_first kind owes b batches begins jobs s.head.done (job_after kind.system b batches s.head.done) p
 
       child_cons : (c : Step × Child) (cs : List (Step × Child)) (st : Step) → child_at (c ∷ cs) st ≡ cond (step_eq st c.0) (Some c.1) (child_at cs st)
       child_cons c cs st = ap (λ i. cond i (Some c.1) (child_at cs st)) (sym (step_eq_ties st c.0))
@@ -336,19 +337,19 @@ module _ {A F R J : Type 0} (sys : Actors A F R J) (hosts : ℕ) (fits : Path �
       pub no_mails_left : (t i : ℕ) → (s.cells t).mails i ≡ None
       no_mails_left t i = elim (options ((s.cells t).mails i)) [ inl e ↦ e | inr m ↦ absurd (no_mail t i m.0 m.1) ]
 
-      pub complete : ((p : Path) (host : ℕ) → IsOwner s p host → host ≡ (places_alone sys b batches s.head.done).fields p) → IsComplete sys b batches s
+      pub complete : ((p : Path) (host : ℕ) → IsOwner s p host → host ≡ (places_alone kind.system b batches s.head.done).fields p) → IsComplete kind b batches s
       complete places = record {
         committed = all_committed;
         places = places;
         no_mails = no_mails_left;
-        no_holders = λ p h en e. empty_of (found sys w course b.before Is_real k.ghost p (s.columns p) h en (x.columns p) e).entry_is en.holders refl;
+        no_holders = λ p h en e. empty_of (found kind.system w course b.before Is_real k.ghost p (s.columns p) h en (x.columns p) e).entry_is en.holders refl;
         no_waits = λ p h en j e. elim (options (en.waiting j)) [
           | inl n ↦ n
-          | inr c ↦ (let f = found sys w course b.before Is_real k.ghost p (s.columns p) h en (x.columns p) e in let y = (x.entries p).waits j c.0 (ap (λ (u : Entry F). u.waiting j) (sym f.entry_is) ∙ c.1) in
+          | inr c ↦ (let f = found kind.system w course b.before Is_real k.ghost p (s.columns p) h en (x.columns p) e in let y = (x.entries p).waits j c.0 (ap (λ (u : Entry F). u.waiting j) (sym f.entry_is) ∙ c.1) in
               absurd (lined_done (sym y.stage ∙ stage_done (c.0).ticket y.known)))
         ];
         contexts = λ p e. context p (born_there p ∙ e);
-        no_others = λ p h e. let o = option_some ((s.columns p).store h) e in sym (born_there p) ∙ (found sys w course b.before Is_real k.ghost p (s.columns p) h o.0 (x.columns p) o.1).born;
+        no_others = λ p h e. let o = option_some ((s.columns p).store h) e in sym (born_there p) ∙ (found kind.system w course b.before Is_real k.ghost p (s.columns p) h o.0 (x.columns p) o.1).born;
       }
         where
           lined_done : Lined ≡ Done → ⊥
@@ -367,5 +368,5 @@ module _ {A F R J : Type 0} (sys : Actors A F R J) (hosts : ℕ) (fits : Path �
             ]
           ]
             where
-              stays : (p : Path) → (g).born p ≡ true → Shows.Stays sys w course b.before Is_real k.ghost p (s.columns p)
-              stays p e = subst (λ i. Shows.ColumnShows sys w course b.before Is_real i k.ghost p (s.columns p)) e (x.columns p)
+              stays : (p : Path) → (g).born p ≡ true → Shows.Stays kind.system w course b.before Is_real k.ghost p (s.columns p)
+              stays p e = subst (λ i. Shows.ColumnShows kind.system w course b.before Is_real i k.ghost p (s.columns p)) e (x.columns p)

@@ -12,6 +12,7 @@ use Rattle.wave_states.specs.States.{State, Cell, Column, Entry, Record, Event, 
 use Rattle.wave_states.specs.Labels.{Act, Label, Admit, Queue, Grant, Start, Stop, Free, Pass, Land, Commit, ticket_of, path_of, is_pass}
 use Rattle.wave_states.specs.Labels
 use Rattle.wave_states.specs.Begins.{Begin, start_state, is_root, has_moved}
+use Rattle.wave_states.specs.Kinds.{Kind}
 use Rattle.wave_states.specs.Owes.{Owes, IsBegin}
 use Rattle.wave_states.specs.Owners.{IsOwner, trail_by, trail_step, trail_from, first_trail, born_at, to_of}
 use Rattle.wave_states.specs.Steps.{Bench, Part, step, step_by, act_bench, with_bench, part_of, admitted, committed, only_if, next_ticket, new_cell}
@@ -38,11 +39,12 @@ use Rattle.wave_theory.proofs.Reached.{Good_state, Next}
 use Rattle.wave_theory.proofs.Reached
 use Rattle.wave_theory.proofs.Along
 use Rattle.std.proofs.lemmas.Bool.Decides.{nat_tests}
-use Rattle.wave_theory.proofs.Found.{found}
 use Rattle.wave_theory.proofs.Settled
 use Rattle.wave_theory.proofs.Sites
-use Rattle.wave_theory.specs.Orders.{AreFirst, Came, Traced, granted, granted_by, is_enter_to, sent_by, sender_by, senders_from}
-use Rattle.wave_theory.specs.States.{OwnerTakes, OneOwner, Bounds, NothingAt}
+use Rattle.wave_theory.specs.Came.{AreFirst, Came, granted, granted_by, is_enter_to, sent_by, sender_by, senders_from}
+use Rattle.wave_theory.specs.Trails.{Traced}
+use Rattle.wave_theory.specs.Owners.{OwnerTakes, OneOwner}
+use Rattle.wave_theory.specs.Bounds.{Bounds, NothingAt}
 
 -- the last of a list, or one before it
 slice_last : (ts : List ℕ) (t i u : ℕ) → slice_get (ts ++ t ∷ []) i ≡ Some u → (slice_get ts i ≡ Some u) ⊎ ((i ≡ length ts) × (t ≡ u))
@@ -83,6 +85,7 @@ hosts_sent r to = upto_more (set nat_eq r.at (suc r.last) to) (suc r.last) 0 ∙
 
 module _ {A F R J : Type 0} (sys : Actors A F R J) (workers : ℕ) where
   pub senders_more : (p : Path) (ls : List Label) (s₀ s s' : State A F R J) (l : Label) → run sys workers s₀ ls ≡ Some s → step sys workers s l ≡ Some s' → senders_from sys workers p (Some s₀) (ls ++ l ∷ []) ≡ senders_from sys workers p (Some s₀) ls ++ sender_by p (ticket_of l.act) s (Some s')
+  unfolding run
   senders_more p [] s₀ s s' l e f = (let z : s₀ ≡ s = some_same s₀ s e in
       subst (λ u. sender_by p (ticket_of l.act) u (step sys workers u l) ++ senders_from sys workers p (step sys workers u l) [] ≡ sender_by p (ticket_of l.act) s (Some s')) (sym z)
       (subst (λ o. sender_by p (ticket_of l.act) s o ++ senders_from sys workers p o [] ≡ sender_by p (ticket_of l.act) s (Some s')) (sym f) (append-nil (sender_by p (ticket_of l.act) s (Some s')))))
@@ -92,6 +95,7 @@ module _ {A F R J : Type 0} (sys : Actors A F R J) (workers : ℕ) where
       (ap (λ ts. sender_by p (ticket_of m.act) s₀ (Some u.0) ++ ts) (senders_more p ls u.0 s s' l u.2 f) ∙ sym (append_assoc (sender_by p (ticket_of m.act) s₀ (Some u.0)) (senders_from sys workers p (Some u.0) ls) (sender_by p (ticket_of l.act) s (Some s'))))
 
   pub trail_more : (p : Path) (trail : List ℕ) (ls : List Label) (s₀ s s' : State A F R J) (l : Label) → run sys workers s₀ ls ≡ Some s → step sys workers s l ≡ Some s' → trail_from sys workers p trail (Some s₀) (ls ++ l ∷ []) ≡ trail_step sys workers p (trail_from sys workers p trail (Some s₀) ls) l (Some s')
+  unfolding run
   trail_more p trail [] s₀ s s' l e f = (let z : s₀ ≡ s = some_same s₀ s e in
       subst (λ u. trail_from sys workers p (trail_step sys workers p trail l (step sys workers u l)) (step sys workers u l) [] ≡ trail_step sys workers p trail l (Some s')) (sym z)
       (subst (λ o. trail_from sys workers p (trail_step sys workers p trail l o) o [] ≡ trail_step sys workers p trail l (Some s')) (sym f) refl))
@@ -100,21 +104,21 @@ module _ {A F R J : Type 0} (sys : Actors A F R J) (workers : ℕ) where
       subst (λ o. trail_from sys workers p (trail_step sys workers p trail m o) o (ls ++ l ∷ []) ≡ trail_step sys workers p (trail_from sys workers p (trail_step sys workers p trail m o) o ls) l (Some s')) (sym u.1)
       (trail_more p (trail_step sys workers p trail m (Some u.0)) ls u.0 s s' l u.2 f)
 
-module _ {A F R J : Type 0} (sys : Actors A F R J) (hosts : ℕ) (fits : Path → F → Type 0) (is_job : J → Type 0) (fine : A → Path → ℕ → Type 0) (owes : Owes sys hosts fits is_job fine) (b : Begin F) (batches : List (List J)) (begins : IsBegin sys hosts fits is_job fine b) (jobs : All (All is_job) batches) where
+module _ {A F R J : Type 0} (kind : Kind A F R J) (owes : Owes kind) (b : Begin F) (batches : List (List J)) (begins : IsBegin kind b) (jobs : All (All kind.is_job) batches) where
   abbrev w : Way
-  w = Courses.w sys hosts fits is_job fine owes b batches begins jobs
+  w = Courses.w kind owes b batches begins jobs
 
-  abbrev course : Course sys
-  course = Courses.course sys hosts fits is_job fine owes b batches begins jobs
+  abbrev course : Course kind.system
+  course = Courses.course kind owes b batches begins jobs
 
   law : IsWay w
-  law = Courses.law sys hosts fits is_job fine owes b batches begins jobs
+  law = Courses.law kind owes b batches begins jobs
 
   abbrev Is_real : ℕ → Type 0
-  Is_real = Courses.Real sys hosts fits is_job fine owes b batches begins jobs
+  Is_real = Courses.Real kind owes b batches begins jobs
 
   abbrev Good : State A F R J → Type 0
-  Good s = Good_state sys hosts fits is_job fine owes b batches begins jobs s
+  Good s = Good_state kind owes b batches begins jobs s
 
   abbrev early : Path → ℕ
   early p = if is_root p then b.before else 0
@@ -148,35 +152,36 @@ module _ {A F R J : Type 0} (sys : Actors A F R J) (hosts : ℕ) (fits : Path �
   firsts_same : (ts ts' : List ℕ) (n n' : ℕ) (p : Path) → ts' ≡ ts → n' ≡ n → Firsts ts n p → Firsts ts' n' p
   firsts_same ts ts' n n' p e f h = subst (λ x. Firsts x n' p) (sym e) (subst (λ x. Firsts ts x p) (sym f) h)
 
-  module _ (some_host : 0 < hosts) (workers : ℕ) where
+  module _ (some_host : 0 < kind.hosts) (workers : ℕ) where
     abbrev start : State A F R J
     start = start_state b batches
 
     pub record Noted (ls : List Label) (s : State A F R J) (k : Good s) : Type 0 where
       pub came : (p : Path) → Firsts (granted p ls) ((k.ghost).lines.served p) p
-      pub sent : (p : Path) → Firsts (senders_from sys workers p (Some (start_state b batches)) ls) ((k.ghost).lines.given p) p
-      pub trace : (p : Path) → trail_from sys workers p (first_trail b p) (Some (start_state b batches)) ls ≡ list_of ((k.ghost).born p) ((k.ghost).trail p)
+      pub sent : (p : Path) → Firsts (senders_from kind.system workers p (Some (start_state b batches)) ls) ((k.ghost).lines.given p) p
+      pub trace : (p : Path) → trail_from kind.system workers p (first_trail b p) (Some (start_state b batches)) ls ≡ list_of ((k.ghost).born p) ((k.ghost).trail p)
       pub root : (k.ghost).lines.given [] ≡ (k.ghost).lines.admitted
       pub grown : (p : Path) → (k.ghost).born p ≡ true → (there b.tree p ≡ true) ⊎ ((t : ℕ) × (b.before < t) × (t ≤ (k.ghost).lines.admitted) × (visits w t p ≡ true))
       pub old : (p : Path) → there b.tree p ≡ true → (k.ghost).born p ≡ true
       pub idle : (v : ℕ) → workers ≤ v → s.hands v ≡ None
 
-    module _ (ls : List Label) (s s' : State A F R J) (k : Good s) (l : Label) (r : Along.from_start sys hosts fits is_job fine owes b batches begins jobs some_host workers ls s) (h : Noted ls s k) (e : step sys workers s l ≡ Some s') (n : Along.Follows sys hosts fits is_job fine owes b batches begins jobs some_host workers s s' k l) where
+    module _ (ls : List Label) (s s' : State A F R J) (k : Good s) (l : Label) (r : Along.from_start kind owes b batches begins jobs some_host workers ls s) (h : Noted ls s k) (e : step kind.system workers s l ≡ Some s') (n : Along.Follows kind owes b batches begins jobs some_host workers s s' k l) where
       abbrev g : Shows.Ghost F
       g = k.ghost
 
       abbrev o : Outline
       o = outline k.ghost
 
-      by_it : step_by sys s l.worker l.host l.act ≡ Some s'
-      by_it = (if_some (nat_lt l.worker workers) (step_by sys s l.worker l.host l.act) s' e).1
+      by_it : step_by kind.system s l.worker l.host l.act ≡ Some s'
+      unfolding step
+      by_it = (if_some (nat_lt l.worker workers) (step_by kind.system s l.worker l.host l.act) s' e).1
 
       known_by : (t : ℕ) → (g).lines.stage t ≢ Done → (b.before < t) × (t ≤ (g).lines.admitted)
-      known_by t m = Homes.known_by_shows sys hosts fits is_job fine owes b batches begins jobs s k.ghost k.shows t m
+      known_by t m = Homes.known_by_shows kind owes b batches begins jobs s k.ghost k.shows t m
 
       -- a ticket at its context
       comes_here : (t : ℕ) (v : Stage) → (g).lines.stage t ≡ v → (v ≡ Done → ⊥) → (b.before < t) × (Is_real t) × (visits w t (here w (g).lines t) ≡ true)
-      comes_here t v q m = (let kn = known_by t (λ z. m (sym q ∙ z)) in (kn.0, (k.shows.cells t kn.0 kn.1).real, visits_of sys w law course b.before Is_real k.ghost k.shows.good t (here w (g).lines t) kn.1 (entered_spot sys w law course b.before Is_real k.ghost k.shows.good t kn.1 (λ z. m (sym q ∙ z)))))
+      comes_here t v q m = (let kn = known_by t (λ z. m (sym q ∙ z)) in (kn.0, (k.shows.cells t kn.0 kn.1).real, visits_of kind.system w law course b.before Is_real k.ghost k.shows.good t (here w (g).lines t) kn.1 (entered_spot kind.system w law course b.before Is_real k.ghost k.shows.good t kn.1 (λ z. m (sym q ∙ z)))))
 
       lined_done : Lined ≡ Done → ⊥
       lined_done e = grind arith
@@ -188,10 +193,10 @@ module _ {A F R J : Type 0} (sys : Actors A F R J) (hosts : ℕ) (fits : Path �
       entering_done e = grind arith
 
       -- who was let in
-      came_by : (a : Act) (d : Deed) → Suits a d → Deeds.Fits sys w course b.before Is_real s k.ghost (n.good).ghost (ticket_of a) (path_of a) d → (p : Path) → Firsts (granted p ls ++ granted_by p a) ((done_by w o (ticket_of a) (path_of a) d).served p) p
-      came_by a Deeds.Lets_in su f p = (let q = grant_form a su in subst (λ u. Deeds.Fits sys w course b.before Is_real s k.ghost (n.good).ghost (ticket_of u) (path_of u) Deeds.Lets_in → Firsts (granted p ls ++ granted_by p u) ((done_by w o (ticket_of u) (path_of u) Deeds.Lets_in).served p) p) (sym q.2) (granting q.0 q.1) f)
+      came_by : (a : Act) (d : Deed) → Suits a d → Deeds.Fits kind.system w course b.before Is_real s k.ghost (n.good).ghost (ticket_of a) (path_of a) d → (p : Path) → Firsts (granted p ls ++ granted_by p a) ((done_by w o (ticket_of a) (path_of a) d).served p) p
+      came_by a Deeds.Lets_in su f p = (let q = grant_form a su in subst (λ u. Deeds.Fits kind.system w course b.before Is_real s k.ghost (n.good).ghost (ticket_of u) (path_of u) Deeds.Lets_in → Firsts (granted p ls ++ granted_by p u) ((done_by w o (ticket_of u) (path_of u) Deeds.Lets_in).served p) p) (sym q.2) (granting q.0 q.1) f)
         where
-          granting : (t : ℕ) (q : Path) → Deeds.LetsIn sys w course b.before Is_real k.ghost t q → Firsts (granted p ls ++ (if path_eq q p then t ∷ [] else [])) (set path_eq (g).lines.served (here w (g).lines t) (suc ((g).lines.served (here w (g).lines t))) p) p
+          granting : (t : ℕ) (q : Path) → Deeds.LetsIn kind.system w course b.before Is_real k.ghost t q → Firsts (granted p ls ++ (if path_eq q p then t ∷ [] else [])) (set path_eq (g).lines.served (here w (g).lines t) (suc ((g).lines.served (here w (g).lines t))) p) p
           granting t q f = elim (path_cases q p) [
             | inr d ↦ firsts_same (granted p ls) _ ((g).lines.served p) _ p (ap (λ i. granted p ls ++ (if i then t ∷ [] else [])) d ∙ append-nil (granted p ls)) (ap (λ u. set path_eq (g).lines.served u (suc ((g).lines.served u)) p) f.place ∙ set_there path_eq (g).lines.served q _ p d) (h.came p)
             | inl d ↦ subst (λ u. Firsts (granted u ls ++ (if path_eq q u then t ∷ [] else [])) (set path_eq (g).lines.served (here w (g).lines t) (suc ((g).lines.served (here w (g).lines t))) u) u) d
@@ -225,20 +230,20 @@ module _ {A F R J : Type 0} (sys : Actors A F R J) (hosts : ℕ) (fits : Path �
 
       -- a ticket with an Enter under way is on its way
       entering_now : (t i : ℕ) (y : Mail F) (c : Ask) → (s'.cells t).mails i ≡ Some y → y.letter ≡ Enter c → ((n.good).ghost).lines.stage t ≡ Entering
-      entering_now t i y c m q = (let kn = Reached.known sys hosts fits is_job fine owes b batches begins jobs s' (n.good).ghost (n.good).shows t (λ z. none_not (sym (ap (λ (u : Cell A F R). u.mails i) z) ∙ m)) in
-          (subst (Shows.MailShows sys w course b.before Is_real (n.good).ghost t i y.host y.path) q (((n.good).shows.cells t kn.0 kn.1).mails i y m)).stage)
+      entering_now t i y c m q = (let kn = Reached.known kind owes b batches begins jobs s' (n.good).ghost (n.good).shows t (λ z. none_not (sym (ap (λ (u : Cell A F R). u.mails i) z) ∙ m)) in
+          (subst (Shows.MailShows kind.system w course b.before Is_real (n.good).ghost t i y.host y.path) q (((n.good).shows.cells t kn.0 kn.1).mails i y m)).stage)
 
       -- no mail has a number past those that were sent
       past_sent : (t i : ℕ) (y : Mail F) → sent_by (s.cells t).event < i → (s.cells t).mails i ≡ Some y → ⊥
-      past_sent t i y m q = (let kn = Reached.known sys hosts fits is_job fine owes b batches begins jobs s k.ghost k.shows t (λ z. none_not (sym (ap (λ (u : Cell A F R). u.mails i) z) ∙ q)) in
+      past_sent t i y m q = (let kn = Reached.known kind owes b batches begins jobs s k.ghost k.shows t (λ z. none_not (sym (ap (λ (u : Cell A F R). u.mails i) z) ∙ q)) in
           let c = k.shows.cells t kn.0 kn.1 in none_not (sym (c.unused i (subst (λ (u : Option (Event A)). sent_by u < i) c.event_is m)) ∙ q))
 
-      pass_keeps : (t j : ℕ) (p : Path) (to : ℕ) → step_by sys s l.worker l.host (Pass t j p to) ≡ Some s' → (i : ℕ) (y : Mail F) → sent_by (s.cells t).event < i → (s'.cells t).mails i ≡ Some y → (s.cells t).mails i ≡ Some y
+      pass_keeps : (t j : ℕ) (p : Path) (to : ℕ) → step_by kind.system s l.worker l.host (Pass t j p to) ≡ Some s' → (i : ℕ) (y : Mail F) → sent_by (s.cells t).event < i → (s'.cells t).mails i ≡ Some y → (s.cells t).mails i ≡ Some y
       pass_keeps t j p to q i y m z = (let u = map_some _ _ s' q in by (s.hands l.worker) u.0 u.1 u.2)
         where
-          by : (hd : Option (Hand A F)) (u : Bench A F R) → act_bench sys (Pass t j p to) l.host (part_of sys s t p) hd ≡ Some u → s' ≡ with_bench sys s t p l.worker u → (s.cells t).mails i ≡ Some y
+          by : (hd : Option (Hand A F)) (u : Bench A F R) → act_bench kind.system (Pass t j p to) l.host (part_of s t p) hd ≡ Some u → s' ≡ with_bench s t p l.worker u → (s.cells t).mails i ≡ Some y
           by (Some hd) u q d = absurd (none_not q)
-          by None u q d = (let c = map_some (λ (x : Part A F R). record { part = x; hand = None }) _ u q in let f = passes j to p l.host (part_of sys s t p) c.0 c.1 in
+          by None u q d = (let c = map_some (λ (x : Part A F R). record { part = x; hand = None }) _ u q in let f = passes j to p l.host (part_of s t p) c.0 c.1 in
               elim (number_cases j i) [
                 | inl x ↦ absurd (past_sent t j f.letter_at.mail (subst (λ a. sent_by (s.cells t).event < a) (sym x) m) f.letter_at.mail_is)
                 | inr x ↦ sym (set_there nat_eq (s.cells t).mails j _ i x) ∙ ap (λ (a : Part A F R). a.cell.mails i) f.gives ∙ ap (λ (a : Bench A F R). a.part.cell.mails i) (sym c.2) ∙ sym (ap (λ (a : State A F R J). (a.cells t).mails i) d ∙ ap (λ (a : Cell A F R). a.mails i) (set_at s.cells t u.part.cell)) ∙ z
@@ -251,9 +256,9 @@ module _ {A F R J : Type 0} (sys : Actors A F R J) (hosts : ℕ) (fits : Path �
           over a = omega arith
 
           by : (i : Bool) → is_pass l.act ≡ i → ⊥
-          by false np = past_sent (ticket_of l.act) (suc (sent_by (s.cells (ticket_of l.act)).event)) y (over _) (Passed.mails_kept sys hosts fits is_job fine owes b batches begins jobs 0 s s' l.worker l.host l.act by_it np su (suc (sent_by (s.cells (ticket_of l.act)).event)) y q)
-          by true np = (let z = Passed.pass_form sys hosts fits is_job fine owes b batches begins jobs 0 l.act np in
-              past_sent z.0 (suc (sent_by (s.cells z.0).event)) y (over _) (pass_keeps z.0 z.1 z.2 z.3 (subst (λ a. step_by sys s l.worker l.host a ≡ Some s') z.4 by_it) (suc (sent_by (s.cells z.0).event)) y (over _) (subst (λ a. (s'.cells (ticket_of a)).mails (suc (sent_by (s.cells (ticket_of a)).event)) ≡ Some y) z.4 q)))
+          by false np = past_sent (ticket_of l.act) (suc (sent_by (s.cells (ticket_of l.act)).event)) y (over _) (Passed.mails_kept kind owes b batches begins jobs 0 s s' l.worker l.host l.act by_it np su (suc (sent_by (s.cells (ticket_of l.act)).event)) y q)
+          by true np = (let z = Passed.pass_form kind owes b batches begins jobs 0 l.act np in
+              past_sent z.0 (suc (sent_by (s.cells z.0).event)) y (over _) (pass_keeps z.0 z.1 z.2 z.3 (subst (λ a. step_by kind.system s l.worker l.host a ≡ Some s') z.4 by_it) (suc (sent_by (s.cells z.0).event)) y (over _) (subst (λ a. (s'.cells (ticket_of a)).mails (suc (sent_by (s.cells (ticket_of a)).event)) ≡ Some y) z.4 q)))
 
       stage_now : (t : ℕ) → ((n.good).ghost).lines.stage t ≡ (done_by w o (ticket_of l.act) (path_of l.act) (n.turn).deed).stage t
       stage_now t = ap (λ (u : Outline). u.stage t) (n.turn).is
@@ -262,27 +267,27 @@ module _ {A F R J : Type 0} (sys : Actors A F R J) (hosts : ℕ) (fits : Path �
       quiet : (p : Path) (v : Stage) → ((n.good).ghost).lines.stage (ticket_of l.act) ≡ v → (v ≡ Entering → ⊥) → sender_by p (ticket_of l.act) s (Some s') ≡ []
       quiet p v q m = sender_none p (ticket_of l.act) (enter_case p _ (λ y c z x. m (sym q ∙ entering_now (ticket_of l.act) _ y c z x)))
 
-      sent_same : (p : Path) (m : ℕ) → m ≡ (g).lines.given p → sender_by p (ticket_of l.act) s (Some s') ≡ [] → Firsts (senders_from sys workers p (Some (start_state b batches)) ls ++ sender_by p (ticket_of l.act) s (Some s')) m p
-      sent_same p m q z = firsts_same (senders_from sys workers p (Some (start_state b batches)) ls) _ ((g).lines.given p) m p (ap (λ ts. senders_from sys workers p (Some (start_state b batches)) ls ++ ts) z ∙ append-nil _) q (h.sent p)
+      sent_same : (p : Path) (m : ℕ) → m ≡ (g).lines.given p → sender_by p (ticket_of l.act) s (Some s') ≡ [] → Firsts (senders_from kind.system workers p (Some (start_state b batches)) ls ++ sender_by p (ticket_of l.act) s (Some s')) m p
+      sent_same p m q z = firsts_same (senders_from kind.system workers p (Some (start_state b batches)) ls) _ ((g).lines.given p) m p (ap (λ ts. senders_from kind.system workers p (Some (start_state b batches)) ls ++ ts) z ∙ append-nil _) q (h.sent p)
 
       -- who sends one, to q
       sent_new : (q : Path) (y : Mail F) (c : Ask) → (s'.cells (ticket_of l.act)).mails (suc (sent_by (s.cells (ticket_of l.act)).event)) ≡ Some y → y.letter ≡ Enter c → y.path ≡ q → b.before < ticket_of l.act → Is_real (ticket_of l.act) → visits w (ticket_of l.act) q ≡ true → rank w q (ticket_of l.act) ≡ suc ((g).lines.given q) → (p : Path) →
-          Firsts (senders_from sys workers p (Some (start_state b batches)) ls ++ sender_by p (ticket_of l.act) s (Some s')) (set path_eq (g).lines.given q (suc ((g).lines.given q)) p) p
+          Firsts (senders_from kind.system workers p (Some (start_state b batches)) ls ++ sender_by p (ticket_of l.act) s (Some s')) (set path_eq (g).lines.given q (suc ((g).lines.given q)) p) p
       sent_new q y c m z x lt rl v rk p = elim (path_cases q p) [
         | inr d ↦ sent_same p _ (set_there path_eq (g).lines.given q _ p d) (sender_none p (ticket_of l.act) (is_enter p ∙ d))
-        | inl d ↦ subst (λ u. Firsts (senders_from sys workers u (Some (start_state b batches)) ls ++ sender_by u (ticket_of l.act) s (Some s')) (set path_eq (g).lines.given q (suc ((g).lines.given q)) u) u) d
-            (firsts_same (senders_from sys workers q (Some (start_state b batches)) ls ++ ticket_of l.act ∷ []) _ (suc ((g).lines.given q)) _ q (ap (λ i. senders_from sys workers q (Some (start_state b batches)) ls ++ (if i then ticket_of l.act ∷ [] else [])) (is_enter q ∙ path_self q)) (set_at_path (g).lines.given q _)
-            (firsts_more (senders_from sys workers q (Some (start_state b batches)) ls) ((g).lines.given q) q (ticket_of l.act) (h.sent q) lt rl v rk))
+        | inl d ↦ subst (λ u. Firsts (senders_from kind.system workers u (Some (start_state b batches)) ls ++ sender_by u (ticket_of l.act) s (Some s')) (set path_eq (g).lines.given q (suc ((g).lines.given q)) u) u) d
+            (firsts_same (senders_from kind.system workers q (Some (start_state b batches)) ls ++ ticket_of l.act ∷ []) _ (suc ((g).lines.given q)) _ q (ap (λ i. senders_from kind.system workers q (Some (start_state b batches)) ls ++ (if i then ticket_of l.act ∷ [] else [])) (is_enter q ∙ path_self q)) (set_at_path (g).lines.given q _)
+            (firsts_more (senders_from kind.system workers q (Some (start_state b batches)) ls) ((g).lines.given q) q (ticket_of l.act) (h.sent q) lt rl v rk))
       ]
         where
           is_enter : (p : Path) → is_enter_to p ((s'.cells (ticket_of l.act)).mails (suc (sent_by (s.cells (ticket_of l.act)).event))) ≡ path_eq q p
           is_enter p = ap (is_enter_to p) m ∙ ap (λ (u : Letter F). is_some (ask_in u) && path_eq y.path p) z ∙ ap (λ u. path_eq u p) x
 
       -- of the ticket of the label, after it
-      own_of : b.before < ticket_of l.act → ticket_of l.act ≤ ((n.good).ghost).lines.admitted → Shows.CellShows sys w course b.before Is_real (n.good).ghost (ticket_of l.act) (s'.cells (ticket_of l.act))
+      own_of : b.before < ticket_of l.act → ticket_of l.act ≤ ((n.good).ghost).lines.admitted → Shows.CellShows kind.system w course b.before Is_real (n.good).ghost (ticket_of l.act) (s'.cells (ticket_of l.act))
       own_of lt la = (n.good).shows.cells (ticket_of l.act) lt la
 
-      sent_by_deed : (d : Deed) → (n.turn).deed ≡ d → Suits l.act d → Deeds.Fits sys w course b.before Is_real s k.ghost (n.good).ghost (ticket_of l.act) (path_of l.act) d → (p : Path) → Firsts (senders_from sys workers p (Some (start_state b batches)) ls ++ sender_by p (ticket_of l.act) s (Some s')) ((done_by w o (ticket_of l.act) (path_of l.act) d).given p) p
+      sent_by_deed : (d : Deed) → (n.turn).deed ≡ d → Suits l.act d → Deeds.Fits kind.system w course b.before Is_real s k.ghost (n.good).ghost (ticket_of l.act) (path_of l.act) d → (p : Path) → Firsts (senders_from kind.system workers p (Some (start_state b batches)) ls ++ sender_by p (ticket_of l.act) s (Some s')) ((done_by w o (ticket_of l.act) (path_of l.act) d).given p) p
       sent_by_deed Deeds.Lines_up q su f p = sent_same p _ refl (quiet p Lined (stage_now (ticket_of l.act) ∙ ap (λ d. (done_by w o (ticket_of l.act) (path_of l.act) d).stage (ticket_of l.act)) q ∙ set_at (g).lines.stage (ticket_of l.act) Lined) (λ z. grind arith))
       sent_by_deed Deeds.Lets_in q su f p = sent_same p _ refl (quiet p There (stage_now (ticket_of l.act) ∙ ap (λ d. (done_by w o (ticket_of l.act) (path_of l.act) d).stage (ticket_of l.act)) q ∙ set_at (g).lines.stage (ticket_of l.act) There) (λ z. grind arith))
       sent_by_deed Deeds.Arrives q su f p = sent_same p _ refl (quiet p There (stage_now (ticket_of l.act) ∙ ap (λ d. (done_by w o (ticket_of l.act) (path_of l.act) d).stage (ticket_of l.act)) q ∙ set_at (g).lines.stage (ticket_of l.act) There) (λ z. grind arith))
@@ -313,14 +318,14 @@ module _ {A F R J : Type 0} (sys : Actors A F R J) (hosts : ℕ) (fits : Path �
 
           mail_new : (t : ℕ) → l.act ≡ Admit t → (c : Ask) × ((s'.cells (ticket_of l.act)).mails 1 ≡ Some (record { host = 0; path = []; letter = Enter c }))
           mail_new t z =
-              let i = (Reached.idle_of sys hosts fits is_job fine owes b batches begins jobs (s.hands l.worker) _ s' (subst (λ a. step_by sys s l.worker l.host a ≡ Some s') z by_it)).1 in
-              let j = then_some (λ j. only_if ((l.host == 0) && (t == next_ticket sys s)) (admitted sys s t j)) (slice_get s.head.known s.admitted) s' i in
-              let u = only_some ((l.host == 0) && (t == next_ticket sys s)) (admitted sys s t j.0) s' j.2 in (
-                record { number = t; followed = 0; peek = sys.peeks (sys.make j.0 t) },
-                ap (λ a. (s'.cells (ticket_of a)).mails 1) z ∙ ap (λ (a : State A F R J). (a.cells t).mails 1) (sym u.1) ∙ ap (λ (a : Cell A F R). a.mails 1) (set_at s.cells t (new_cell sys (sys.make j.0 t) t)) ∙ set_at (λ i. None) 1 (Some (record { host = 0; path = []; letter = Enter (record { number = t; followed = 0; peek = sys.peeks (sys.make j.0 t) }) })),
+              let i = (Reached.idle_of kind owes b batches begins jobs (s.hands l.worker) _ s' (subst (λ a. step_by kind.system s l.worker l.host a ≡ Some s') z by_it)).1 in
+              let j = then_some (λ j. only_if ((l.host == 0) && (t == next_ticket s)) (admitted kind.system s t j)) (slice_get s.head.known s.admitted) s' i in
+              let u = only_some ((l.host == 0) && (t == next_ticket s)) (admitted kind.system s t j.0) s' j.2 in (
+                record { number = t; followed = 0; peek = kind.system.peeks (kind.system.make j.0 t) },
+                ap (λ a. (s'.cells (ticket_of a)).mails 1) z ∙ ap (λ (a : State A F R J). (a.cells t).mails 1) (sym u.1) ∙ ap (λ (a : Cell A F R). a.mails 1) (set_at s.cells t (new_cell kind.system (kind.system.make j.0 t) t)) ∙ set_at (λ i. None) 1 (Some (record { host = 0; path = []; letter = Enter (record { number = t; followed = 0; peek = kind.system.peeks (kind.system.make j.0 t) }) })),
               )
 
-          admitting : Firsts (senders_from sys workers p (Some (start_state b batches)) ls ++ sender_by p (ticket_of l.act) s (Some s')) (set path_eq (g).lines.given [] (suc ((g).lines.given [])) p) p
+          admitting : Firsts (senders_from kind.system workers p (Some (start_state b batches)) ls ++ sender_by p (ticket_of l.act) s (Some s')) (set path_eq (g).lines.given [] (suc ((g).lines.given [])) p) p
           admitting = (let a = admit_form l.act su in let m = mail_new a.0 a.1 in
               sent_new [] (record { host = 0; path = []; letter = Enter m.0 }) m.0 (ap (λ (i : Option (Event A)). (s'.cells (ticket_of l.act)).mails (suc (sent_by i))) none_yet ∙ m.1) refl refl later ((n.good).shows.cells (ticket_of l.act) later now).real (root_visited law (ticket_of l.act)) (root_number law (ticket_of l.act) ∙ f.0 ∙ ap suc (sym h.root)) p)
       sent_by_deed (Deeds.Goes_in st r₀) q su f p = going
@@ -347,20 +352,20 @@ module _ {A F R J : Type 0} (sys : Actors A F R J) (hosts : ℕ) (fits : Path �
               upto : (a c : ℕ) → a ≤ c → a ≤ suc c
               upto a c l = omega (arith, l)
 
-          going : Firsts (senders_from sys workers p (Some (start_state b batches)) ls ++ sender_by p (ticket_of l.act) s (Some s')) (set path_eq (g).lines.given (path_of l.act ++ st ∷ []) (suc ((g).lines.given (path_of l.act ++ st ∷ []))) p) p
+          going : Firsts (senders_from kind.system workers p (Some (start_state b batches)) ls ++ sender_by p (ticket_of l.act) s (Some s')) (set path_eq (g).lines.given (path_of l.act ++ st ∷ []) (suc ((g).lines.given (path_of l.act ++ st ∷ []))) p) p
           going = (let c = k.shows.cells (ticket_of l.act) known.0 known.1 in
               let there = ((n.good).alive.one (ticket_of l.act) known.0 now).entering stage_in in
               let number : ((n.good).ghost).main (ticket_of l.act) ≡ suc (sent_by (s.cells (ticket_of l.act)).event) = f.main c.event c.event_is ∙ ap (λ (u : Option (Event A)). suc (sent_by u)) (sym c.event_is) in
               let m = sym (ap (s'.cells (ticket_of l.act)).mails number) ∙ there.there in
-              let y : Shows.EnterShows sys w course b.before Is_real (n.good).ghost (ticket_of l.act) (((n.good).ghost).main (ticket_of l.act)) (there.mail).host (there.mail).path there.ask = subst (Shows.MailShows sys w course b.before Is_real (n.good).ghost (ticket_of l.act) (((n.good).ghost).main (ticket_of l.act)) (there.mail).host (there.mail).path) there.letter (((n.good).shows.cells (ticket_of l.act) known.0 now).mails (((n.good).ghost).main (ticket_of l.act)) there.mail there.there) in
+              let y : Shows.EnterShows kind.system w course b.before Is_real (n.good).ghost (ticket_of l.act) (((n.good).ghost).main (ticket_of l.act)) (there.mail).host (there.mail).path there.ask = subst (Shows.MailShows kind.system w course b.before Is_real (n.good).ghost (ticket_of l.act) (((n.good).ghost).main (ticket_of l.act)) (there.mail).host (there.mail).path) there.letter (((n.good).shows.cells (ticket_of l.act) known.0 now).mails (((n.good).ghost).main (ticket_of l.act)) there.mail there.there) in
               sent_new (path_of l.act ++ st ∷ []) there.mail there.ask m there.letter (y.place ∙ ap (w.place (ticket_of l.act)) pos_in ∙ f.next) known.0 kn.1 comes_child f.number p)
 
-      sent_next : (p : Path) → Firsts (senders_from sys workers p (Some (start_state b batches)) (ls ++ l ∷ [])) (((n.good).ghost).lines.given p) p
-      sent_next p = firsts_same _ (senders_from sys workers p (Some (start_state b batches)) (ls ++ l ∷ [])) _ (((n.good).ghost).lines.given p) p (senders_more sys workers p ls (start_state b batches) s s' l r e) (ap (λ (u : Outline). u.given p) (n.turn).is) (sent_by_deed (n.turn).deed refl (n.turn).suits (n.turn).fits p)
+      sent_next : (p : Path) → Firsts (senders_from kind.system workers p (Some (start_state b batches)) (ls ++ l ∷ [])) (((n.good).ghost).lines.given p) p
+      sent_next p = firsts_same _ (senders_from kind.system workers p (Some (start_state b batches)) (ls ++ l ∷ [])) _ (((n.good).ghost).lines.given p) p (senders_more kind.system workers p ls (start_state b batches) s s' l r e) (ap (λ (u : Outline). u.given p) (n.turn).is) (sent_by_deed (n.turn).deed refl (n.turn).suits (n.turn).fits p)
 
       -- where the contexts were
-      takes : OwnerTakes sys s s' l.act l.host
-      takes = Hosts.by_owners sys hosts fits is_job fine owes b batches begins jobs s k workers l s' e
+      takes : OwnerTakes kind s s' l.act l.host
+      takes = Hosts.by_owners kind owes b batches begins jobs s k workers l s' e
 
       abbrev next_trail : Act → Path → List ℕ → List ℕ
       next_trail a p tr = if path_eq (path_of a) p then trail_by tr a l.host (s'.columns p) else tr
@@ -385,19 +390,19 @@ module _ {A F R J : Type 0} (sys : Actors A F R J) (hosts : ℕ) (fits : Path �
       store_none : (c : Column F) (h : ℕ) (tr : List ℕ) (t : ℕ) (p : Path) (m : Mark) → c.store h ≡ None → c.gone h ≡ Some m → trail_by tr (Stop t p) h c ≡ tr ++ m.to ∷ []
       store_none c h tr t p m q z = ap (λ o. if is_none o then tr ++ to_of (c.gone h) else tr) q ∙ ap (λ o. tr ++ to_of o) z
 
-      column_now : (p : Path) → ((n.good).ghost).born p ≡ true → Shows.Stays sys w course b.before Is_real (n.good).ghost p (s'.columns p)
-      column_now p q = subst (λ i. Shows.ColumnShows sys w course b.before Is_real i (n.good).ghost p (s'.columns p)) q ((n.good).shows.columns p)
+      column_now : (p : Path) → ((n.good).ghost).born p ≡ true → Shows.Stays kind.system w course b.before Is_real (n.good).ghost p (s'.columns p)
+      column_now p q = subst (λ i. Shows.ColumnShows kind.system w course b.before Is_real i (n.good).ghost p (s'.columns p)) q ((n.good).shows.columns p)
 
       -- a Stop that leaves its context where it is
-      stop_stays : (d : Deed) → ends_segment d ≡ true → (n.turn).deed ≡ d → Suits l.act d → Deeds.Stopped sys w course b.before Is_real k.ghost (ticket_of l.act) (path_of l.act) → ((n.good).ghost).trail (path_of l.act) ≡ (g).trail (path_of l.act) → ((n.good).ghost).born (path_of l.act) ≡ true → (p : Path) (tr : List ℕ) → next_trail l.act p tr ≡ tr
+      stop_stays : (d : Deed) → ends_segment d ≡ true → (n.turn).deed ≡ d → Suits l.act d → Deeds.Stopped kind.system w course b.before Is_real k.ghost (ticket_of l.act) (path_of l.act) → ((n.good).ghost).trail (path_of l.act) ≡ (g).trail (path_of l.act) → ((n.good).ghost).born (path_of l.act) ≡ true → (p : Path) (tr : List ℕ) → next_trail l.act p tr ≡ tr
       stop_stays d q x su f same bo p tr = elim (path_cases (path_of l.act) p) [
         | inr z ↦ elsewhere l.act p tr z
         | inl z ↦ subst (λ u. next_trail l.act u tr ≡ tr) z (ap (λ i. if i then trail_by tr l.act l.host (s'.columns (path_of l.act)) else tr) (path_self (path_of l.act)) ∙ by (stop_form l.act d q su))
       ]
         where
           by : (t : ℕ) × (p : Path) × (l.act ≡ Stop t p) → trail_by tr l.act l.host (s'.columns (path_of l.act)) ≡ tr
-          by a = (let own : IsOwner s a.1 l.host = subst (λ u. OwnerTakes sys s s' u l.host) a.2 takes in
-              let at : l.host ≡ owner ((g).trail (path_of l.act)) = Told.owner_is sys hosts fits is_job fine owes b batches begins jobs s k a.1 l.host own ∙ ap (λ u. owner ((g).trail (path_of u))) (sym a.2) in
+          by a = (let own : IsOwner s a.1 l.host = (subst (λ u. OwnerTakes kind s s' u l.host) a.2 takes).0 in
+              let at : l.host ≡ owner ((g).trail (path_of l.act)) = Told.owner_is kind owes b batches begins jobs s k a.1 l.host own ∙ ap (λ u. owner ((g).trail (path_of u))) (sym a.2) in
               let some : is_some ((s'.columns (path_of l.act)).store l.host) ≡ true = ap (λ i. is_some ((s'.columns (path_of l.act)).store i)) (at ∙ ap owner (sym same)) ∙ (column_now (path_of l.act) bo).track.stored_is (ap (λ (u : Trail). u.stored) same ∙ f.stored) in
               subst (λ u. trail_by tr u l.host (s'.columns (path_of l.act)) ≡ tr) (sym a.2) (store_some (s'.columns (path_of l.act)) l.host tr a.0 a.1 some))
 
@@ -407,7 +412,7 @@ module _ {A F R J : Type 0} (sys : Actors A F R J) (hosts : ℕ) (fits : Path �
       outline_by : (d : Deed) → (n.turn).deed ≡ d → outline (n.good).ghost ≡ done_by w o (ticket_of l.act) (path_of l.act) d
       outline_by d q = (n.turn).is ∙ ap (done_by w o (ticket_of l.act) (path_of l.act)) q
 
-      traced_by : (d : Deed) → (n.turn).deed ≡ d → Suits l.act d → Deeds.Fits sys w course b.before Is_real s k.ghost (n.good).ghost (ticket_of l.act) (path_of l.act) d → (p : Path) →
+      traced_by : (d : Deed) → (n.turn).deed ≡ d → Suits l.act d → Deeds.Fits kind.system w course b.before Is_real s k.ghost (n.good).ghost (ticket_of l.act) (path_of l.act) d → (p : Path) →
           next_trail l.act p (list_at p) ≡ list_of ((done_by w o (ticket_of l.act) (path_of l.act) d).births p) ((done_by w o (ticket_of l.act) (path_of l.act) d).trail p)
       traced_by Deeds.Admits q su f p = plain Deeds.Admits refl su p (list_at p)
       traced_by Deeds.Lets_in q su f p = plain Deeds.Lets_in refl su p (list_at p)
@@ -441,9 +446,9 @@ module _ {A F R J : Type 0} (sys : Actors A F R J) (hosts : ℕ) (fits : Path �
             where
               at_born : (j : Bool) → (g).born (path_of l.act) ≡ j → born_at (list_of j ((g).trail (path_of l.act))) l.host ≡ hosts_of (Deeds.grown j ((g).trail (path_of l.act)))
               at_born true d = refl
-              at_born false d = (let own : IsOwner s' a.2 l.host = subst (λ u. OwnerTakes sys s s' u l.host) a.3 takes in
+              at_born false d = (let own : IsOwner s' a.2 l.host = subst (λ u. OwnerTakes kind s s' u l.host) a.3 takes in
                   let trail_is : ((n.good).ghost).trail (path_of l.act) ≡ born ((g).trail (path_of l.act)) = ap (λ (u : Outline). u.trail (path_of l.act)) (outline_by Deeds.Lines_up q) ∙ set_at_path (g).trail (path_of l.act) _ ∙ ap (λ i. Deeds.grown i ((g).trail (path_of l.act))) d in
-                  ap (λ i. i ∷ []) (Told.owner_is sys hosts fits is_job fine owes b batches begins jobs s' (n.good) a.2 l.host own ∙ ap (λ u. owner (((n.good).ghost).trail (path_of u))) (sym a.3) ∙ ap owner trail_is))
+                  ap (λ i. i ∷ []) (Told.owner_is kind owes b batches begins jobs s' (n.good) a.2 l.host own ∙ ap (λ u. owner (((n.good).ghost).trail (path_of u))) (sym a.3) ∙ ap owner trail_is))
       traced_by (Deeds.Moves to) q su f p = elim (path_cases (path_of l.act) p) [
         | inr z ↦ elsewhere l.act p (list_at p) z ∙ sym (ap (list_of ((g).born p)) (set_there path_eq (g).trail (path_of l.act) _ p z))
         | inl z ↦ subst (λ u. next_trail l.act u (list_at u) ≡ list_of ((g).born u) (set path_eq (g).trail (path_of l.act) (sent_on ((g).trail (path_of l.act)) to) u)) z
@@ -487,21 +492,21 @@ module _ {A F R J : Type 0} (sys : Actors A F R J) (hosts : ℕ) (fits : Path �
               latest a c l n = grind arith
 
           by : (t : ℕ) × (p : Path) × (l.act ≡ Stop t p) → trail_by (list_at (path_of l.act)) l.act l.host (s'.columns (path_of l.act)) ≡ list_at (path_of l.act) ++ to ∷ []
-          by a = (let own : IsOwner s a.1 l.host = subst (λ u. OwnerTakes sys s s' u l.host) a.2 takes in
-              let at : l.host ≡ owner ((g).trail (path_of l.act)) = Told.owner_is sys hosts fits is_job fine owes b batches begins jobs s k a.1 l.host own ∙ ap (λ u. owner ((g).trail (path_of u))) (sym a.2) in
+          by a = (let own : IsOwner s a.1 l.host = (subst (λ u. OwnerTakes kind s s' u l.host) a.2 takes).0 in
+              let at : l.host ≡ owner ((g).trail (path_of l.act)) = Told.owner_is kind owes b batches begins jobs s k a.1 l.host own ∙ ap (λ u. owner ((g).trail (path_of u))) (sym a.2) in
               let m = marked l.host at in
               ap (λ u. trail_by (list_at (path_of l.act)) u l.host (s'.columns (path_of l.act))) a.2 ∙ store_none (s'.columns (path_of l.act)) l.host (list_at (path_of l.act)) a.0 a.1 m.0 (no_store l.host) m.1 ∙ ap (λ i. list_at (path_of l.act) ++ i ∷ []) m.2)
 
-      trace_next : (p : Path) → trail_from sys workers p (first_trail b p) (Some (start_state b batches)) (ls ++ l ∷ []) ≡ list_of (((n.good).ghost).born p) (((n.good).ghost).trail p)
-      trace_next p = trail_more sys workers p (first_trail b p) ls (start_state b batches) s s' l r e ∙ ap (next_trail l.act p) (h.trace p) ∙ traced_by (n.turn).deed refl (n.turn).suits (n.turn).fits p ∙ sym (ap (λ (u : Outline). list_of (u.births p) (u.trail p)) (n.turn).is)
+      trace_next : (p : Path) → trail_from kind.system workers p (first_trail b p) (Some (start_state b batches)) (ls ++ l ∷ []) ≡ list_of (((n.good).ghost).born p) (((n.good).ghost).trail p)
+      trace_next p = trail_more kind.system workers p (first_trail b p) ls (start_state b batches) s s' l r e ∙ ap (next_trail l.act p) (h.trace p) ∙ traced_by (n.turn).deed refl (n.turn).suits (n.turn).fits p ∙ sym (ap (λ (u : Outline). list_of (u.births p) (u.trail p)) (n.turn).is)
 
-      hands_off : (v host : ℕ) (a : Act) → step_by sys s v host a ≡ Some s' → (u : ℕ) → nat_eq v u ≡ false → s'.hands u ≡ s.hands u
+      hands_off : (v host : ℕ) (a : Act) → step_by kind.system s v host a ≡ Some s' → (u : ℕ) → nat_eq v u ≡ false → s'.hands u ≡ s.hands u
       hands_off v host (Admit t) q u d =
-          let j = then_some (λ j. only_if ((host == 0) && (t == next_ticket sys s)) (admitted sys s t j)) (slice_get s.head.known s.admitted) s' (Reached.idle_of sys hosts fits is_job fine owes b batches begins jobs (s.hands v) _ s' q).1 in
-          let z = only_some ((host == 0) && (t == next_ticket sys s)) (admitted sys s t j.0) s' j.2 in ap (λ (y : State A F R J). y.hands u) (sym z.1)
+          let j = then_some (λ j. only_if ((host == 0) && (t == next_ticket s)) (admitted kind.system s t j)) (slice_get s.head.known s.admitted) s' (Reached.idle_of kind owes b batches begins jobs (s.hands v) _ s' q).1 in
+          let z = only_some ((host == 0) && (t == next_ticket s)) (admitted kind.system s t j.0) s' j.2 in ap (λ (y : State A F R J). y.hands u) (sym z.1)
       hands_off v host (Commit t) q u d =
-          let j = then_some (λ c. only_if ((host == 0) && (t == suc (s.before + s.head.done))) (committed sys s c)) (s.cells t).result s' (Reached.idle_of sys hosts fits is_job fine owes b batches begins jobs (s.hands v) _ s' q).1 in
-          let z = only_some ((host == 0) && (t == suc (s.before + s.head.done))) (committed sys s j.0) s' j.2 in ap (λ (y : State A F R J). y.hands u) (sym z.1)
+          let j = then_some (λ c. only_if ((host == 0) && (t == suc (s.before + s.head.done))) (committed kind.system s c)) (s.cells t).result s' (Reached.idle_of kind owes b batches begins jobs (s.hands v) _ s' q).1 in
+          let z = only_some ((host == 0) && (t == suc (s.before + s.head.done))) (committed kind.system s j.0) s' j.2 in ap (λ (y : State A F R J). y.hands u) (sym z.1)
       hands_off v host (Queue t i p) q u d = (let y = map_some _ _ s' q in ap (λ (z : State A F R J). z.hands u) y.2 ∙ set_there nat_eq s.hands v _ u d)
       hands_off v host (Grant t p) q u d = (let y = map_some _ _ s' q in ap (λ (z : State A F R J). z.hands u) y.2 ∙ set_there nat_eq s.hands v _ u d)
       hands_off v host (Labels.Visit t i p) q u d = (let y = map_some _ _ s' q in ap (λ (z : State A F R J). z.hands u) y.2 ∙ set_there nat_eq s.hands v _ u d)
@@ -512,7 +517,8 @@ module _ {A F R J : Type 0} (sys : Actors A F R J) (hosts : ℕ) (fits : Path �
       hands_off v host (Land t i p) q u d = (let y = map_some _ _ s' q in ap (λ (z : State A F R J). z.hands u) y.2 ∙ set_there nat_eq s.hands v _ u d)
 
       idle_next : (v : ℕ) → workers ≤ v → s'.hands v ≡ None
-      idle_next v q = hands_off l.worker l.host l.act by_it v (differ l.worker v (λ z. past _ _ _ (less l.worker workers (if_some (nat_lt l.worker workers) (step_by sys s l.worker l.host l.act) s' e).0) q z)) ∙ h.idle v q
+      unfolding step
+      idle_next v q = hands_off l.worker l.host l.act by_it v (differ l.worker v (λ z. past _ _ _ (less l.worker workers (if_some (nat_lt l.worker workers) (step_by kind.system s l.worker l.host l.act) s' e).0) q z)) ∙ h.idle v q
         where
           less : (a c : ℕ) → nat_lt a c ≡ true → a < c
           less a c e = grind (arith, nat_tests)
@@ -539,7 +545,7 @@ module _ {A F R J : Type 0} (sys : Actors A F R J) (hosts : ℕ) (fits : Path �
       abbrev Comer : Path → ℕ → Type 0
       Comer p m = (there b.tree p ≡ true) ⊎ ((t : ℕ) × (b.before < t) × (t ≤ m) × (visits w t p ≡ true))
 
-      grown_by : (d : Deed) → Deeds.Fits sys w course b.before Is_real s k.ghost (n.good).ghost (ticket_of l.act) (path_of l.act) d → (p : Path) → (done_by w o (ticket_of l.act) (path_of l.act) d).births p ≡ true → Comer p (done_by w o (ticket_of l.act) (path_of l.act) d).admitted
+      grown_by : (d : Deed) → Deeds.Fits kind.system w course b.before Is_real s k.ghost (n.good).ghost (ticket_of l.act) (path_of l.act) d → (p : Path) → (done_by w o (ticket_of l.act) (path_of l.act) d).births p ≡ true → Comer p (done_by w o (ticket_of l.act) (path_of l.act) d).admitted
       grown_by Deeds.Admits f p q = elim (h.grown p q) [ inl z ↦ inl z | inr z ↦ inr (z.0, z.1, more _ _ z.2, z.3) ]
         where
           more : (a c : ℕ) → a ≤ c → a ≤ suc c
@@ -587,7 +593,7 @@ module _ {A F R J : Type 0} (sys : Actors A F R J) (hosts : ℕ) (fits : Path �
         idle = idle_next;
       }
 
-    noted_first : Noted [] (start_state b batches) (Along.first sys hosts fits is_job fine owes b batches begins jobs some_host workers)
+    noted_first : Noted [] (start_state b batches) (Along.first kind owes b batches begins jobs some_host workers)
     noted_first = record {
       came = λ p. on (λ g. Firsts [] (g.lines.served p) p) (record { each = λ i t e. absurd (none_not e); many = none_more (early p) });
       sent = λ p. on (λ g. Firsts [] (g.lines.given p) p) (record { each = λ i t e. absurd (none_not e); many = none_more (early p) });
@@ -598,50 +604,49 @@ module _ {A F R J : Type 0} (sys : Actors A F R J) (hosts : ℕ) (fits : Path �
       idle = λ v l. refl;
     }
       where
-        on : (C : Shows.Ghost F → Type 0) → C (Beginning.ghost₀ sys hosts fits is_job fine owes b batches begins jobs) → C ((Along.first sys hosts fits is_job fine owes b batches begins jobs some_host workers).ghost)
-        on C c = subst C (sym (Reached.first_ghost sys hosts fits is_job fine owes b batches begins jobs some_host)) c
+        on : (C : Shows.Ghost F → Type 0) → C (Beginning.ghost₀ kind owes b batches begins jobs) → C ((Along.first kind owes b batches begins jobs some_host workers).ghost)
+        on C c = subst C (sym (Reached.first_ghost kind owes b batches begins jobs some_host)) c
 
         none_more : (a : ℕ) → a ≡ a + 0
         none_more a = omega arith
 
-        trail_at : (p : Path) (j : Bool) → has_moved b p ≡ j → (if has_moved b p then 0 ∷ b.places.fields p ∷ [] else b.places.fields p ∷ []) ≡ hosts_of (Beginning.moved_trail sys hosts fits is_job fine owes b batches begins jobs (has_moved b p) p)
-        trail_at p true m = ap (λ i. if i then 0 ∷ b.places.fields p ∷ [] else b.places.fields p ∷ []) m ∙ sym (ap (λ i. hosts_of (Beginning.moved_trail sys hosts fits is_job fine owes b batches begins jobs i p)) m)
-        trail_at p false m = ap (λ i. if i then 0 ∷ b.places.fields p ∷ [] else b.places.fields p ∷ []) m ∙ sym (ap (λ i. hosts_of (Beginning.moved_trail sys hosts fits is_job fine owes b batches begins jobs i p)) m)
+        trail_at : (p : Path) (j : Bool) → has_moved b p ≡ j → (if has_moved b p then 0 ∷ b.places.fields p ∷ [] else b.places.fields p ∷ []) ≡ hosts_of (Beginning.moved_trail kind owes b batches begins jobs (has_moved b p) p)
+        trail_at p true m = ap (λ i. if i then 0 ∷ b.places.fields p ∷ [] else b.places.fields p ∷ []) m ∙ sym (ap (λ i. hosts_of (Beginning.moved_trail kind owes b batches begins jobs i p)) m)
+        trail_at p false m = ap (λ i. if i then 0 ∷ b.places.fields p ∷ [] else b.places.fields p ∷ []) m ∙ sym (ap (λ i. hosts_of (Beginning.moved_trail kind owes b batches begins jobs i p)) m)
 
-        at_begin : (p : Path) (i : Bool) → there b.tree p ≡ i → (j : Bool) → has_moved b p ≡ j → first_trail b p ≡ list_of (there b.tree p) (if there b.tree p then Beginning.moved_trail sys hosts fits is_job fine owes b batches begins jobs (has_moved b p) p else unborn 0)
-        at_begin p true e j m = ap (λ i. if i then (if has_moved b p then 0 ∷ b.places.fields p ∷ [] else b.places.fields p ∷ []) else []) e ∙ trail_at p j m ∙ sym (ap (λ i. list_of i (if i then Beginning.moved_trail sys hosts fits is_job fine owes b batches begins jobs (has_moved b p) p else unborn 0)) e)
-        at_begin p false e j m = ap (λ i. if i then (if has_moved b p then 0 ∷ b.places.fields p ∷ [] else b.places.fields p ∷ []) else []) e ∙ sym (ap (λ i. list_of i (if i then Beginning.moved_trail sys hosts fits is_job fine owes b batches begins jobs (has_moved b p) p else unborn 0)) e)
+        at_begin : (p : Path) (i : Bool) → there b.tree p ≡ i → (j : Bool) → has_moved b p ≡ j → first_trail b p ≡ list_of (there b.tree p) (if there b.tree p then Beginning.moved_trail kind owes b batches begins jobs (has_moved b p) p else unborn 0)
+        at_begin p true e j m = ap (λ i. if i then (if has_moved b p then 0 ∷ b.places.fields p ∷ [] else b.places.fields p ∷ []) else []) e ∙ trail_at p j m ∙ sym (ap (λ i. list_of i (if i then Beginning.moved_trail kind owes b batches begins jobs (has_moved b p) p else unborn 0)) e)
+        at_begin p false e j m = ap (λ i. if i then (if has_moved b p then 0 ∷ b.places.fields p ∷ [] else b.places.fields p ∷ []) else []) e ∙ sym (ap (λ i. list_of i (if i then Beginning.moved_trail kind owes b batches begins jobs (has_moved b p) p else unborn 0)) e)
 
     pub record Note (ls : List Label) (s : State A F R J) : Type 0 where
       pub good : Good s
       pub noted : Noted ls s good
 
-    pub noting : (ls : List Label) (s : State A F R J) → run sys workers (start_state b batches) ls ≡ Some s → Note ls s
-    noting ls s e = by (Along.along sys hosts fits is_job fine owes b batches begins jobs some_host workers Noted noted_by noted_first ls s e)
+    pub noting : (ls : List Label) (s : State A F R J) → run kind.system workers (start_state b batches) ls ≡ Some s → Note ls s
+    noting ls s e = by (Along.along kind owes b batches begins jobs some_host workers Noted noted_by noted_first ls s e)
       where
-        noted_by : (ls : List Label) (s s' : State A F R J) (k : Good s) (l : Label) → Along.from_start sys hosts fits is_job fine owes b batches begins jobs some_host workers ls s → Noted ls s k → step sys workers s l ≡ Some s' → (n : Along.Follows sys hosts fits is_job fine owes b batches begins jobs some_host workers s s' k l) → Noted (ls ++ l ∷ []) s' n.good
+        noted_by : (ls : List Label) (s s' : State A F R J) (k : Good s) (l : Label) → Along.from_start kind owes b batches begins jobs some_host workers ls s → Noted ls s k → step kind.system workers s l ≡ Some s' → (n : Along.Follows kind owes b batches begins jobs some_host workers s s' k l) → Noted (ls ++ l ∷ []) s' n.good
         noted_by ls s s' k l r h e n = noted_next ls s s' k l r h e n
 
-        by : Along.Along sys hosts fits is_job fine owes b batches begins jobs some_host workers Noted noted_by ls s → Note ls s
+        by : Along.Along kind owes b batches begins jobs some_host workers Noted noted_by ls s → Note ls s
         by a = record { good = a.good; noted = a.holds }
 
     -- the laws
-    module _ (ls : List Label) (s : State A F R J) (e : run sys workers (start_state b batches) ls ≡ Some s) where
+    module _ (ls : List Label) (s : State A F R J) (e : run kind.system workers (start_state b batches) ls ≡ Some s) where
       abbrev note : Note ls s
       note = noting ls s e
 
-      firsts_are : (p : Path) (ts : List ℕ) (n : ℕ) → Firsts ts n p → AreFirst sys b batches p ts
-      firsts_are p ts n f i t q = (let c = f.each i t q in Told.number_of sys hosts fits is_job fine owes b batches begins jobs s (note).good t p (early p + suc i) c.later c.real c.comes (sym c.number))
+      firsts_are : (p : Path) (ts : List ℕ) (n : ℕ) → Firsts ts n p → AreFirst kind b batches p ts
+      firsts_are p ts n f i t q = (let c = f.each i t q in Told.number_of kind owes b batches begins jobs s (note).good t p (early p + suc i) c.later c.real c.comes (sym c.number))
 
-      pub came : Came sys workers b batches ls s
+      pub came : Came kind workers b batches ls s
       came = (let k = (note).good in let h = (note).noted in record {
         granted_first = λ p. firsts_are p _ _ (h.came p);
-        served = λ p en q. ap (λ (u : Entry F). u.served) (Told.entry_same sys hosts fits is_job fine owes b batches begins jobs s k p en q) ∙ (k.shows.entries p).served ∙ (h.came p).many;
+        served = λ p en q. ap (λ (u : Entry F). u.served) (Told.entry_same kind owes b batches begins jobs s k p en q) ∙ (k.shows.entries p).served ∙ (h.came p).many;
         sent_first = λ p. firsts_are p _ _ (h.sent p);
-        given = λ p st host en r se be.
-            let f = found sys w course b.before Is_real k.ghost p (s.columns p) host en (k.shows.columns p) se in
-            let same : r ≡ (k.ghost).body p = (k.shows.entries p).body r (ap (λ (u : Entry F). u.body) (sym f.entry_is) ∙ be) in
-            ap (λ (u : Record F). Shows.given_of u st) same ∙ (k.shows.entries p).given st ∙ (h.sent (p ++ st ∷ [])).many ∙ ap (λ i. (if i then b.before else 0) + length (senders_from sys workers (p ++ st ∷ []) (Some (start_state b batches)) ls)) (not_root p st) ∙ none_before (length (senders_from sys workers (p ++ st ∷ []) (Some (start_state b batches)) ls));
+        given = λ p st en r se be.
+            let same : r ≡ (k.ghost).body p = (k.shows.entries p).body r (ap (λ (u : Entry F). u.body) (sym (Told.entry_same kind owes b batches begins jobs s k p en se)) ∙ be) in
+            ap (λ (u : Record F). Shows.given_of u st) same ∙ (k.shows.entries p).given st ∙ (h.sent (p ++ st ∷ [])).many ∙ ap (λ i. (if i then b.before else 0) + length (senders_from kind.system workers (p ++ st ∷ []) (Some (start_state b batches)) ls)) (not_root p st) ∙ none_before (length (senders_from kind.system workers (p ++ st ∷ []) (Some (start_state b batches)) ls));
         at_root = same _ _ _ _ _ (h.sent []).many h.root k.shows.admitted;
       })
         where
@@ -655,47 +660,47 @@ module _ {A F R J : Type 0} (sys : Actors A F R J) (hosts : ℕ) (fits : Path �
           same : (v l a m x : ℕ) → v ≡ x + l → v ≡ a → a ≡ x + m → m ≡ l
           same v l a m x p q r = omega (arith, p, q, r)
 
-      pub traced : Traced sys workers b batches ls s
+      pub traced : Traced kind workers b batches ls s
       traced p = (let k = (note).good in let h = (note).noted in elim (bool_cases ((k.ghost).born p)) [
-        | inr u ↦ inl (h.trace p ∙ ap (λ i. list_of i ((k.ghost).trail p)) u, Told.unborn_is sys hosts fits is_job fine owes b batches begins jobs s k p u)
-        | inl u ↦ inr (record { at = ((k.ghost).trail p).at; last = ((k.ghost).trail p).last }, Told.trail_is sys hosts fits is_job fine owes b batches begins jobs s k p u, h.trace p ∙ ap (λ i. list_of i ((k.ghost).trail p)) u)
+        | inr u ↦ inl (h.trace p ∙ ap (λ i. list_of i ((k.ghost).trail p)) u, Told.unborn_is kind owes b batches begins jobs s k p u)
+        | inl u ↦ inr (record { at = ((k.ghost).trail p).at; last = ((k.ghost).trail p).last }, Told.trail_is kind owes b batches begins jobs s k p u, h.trace p ∙ ap (λ i. list_of i ((k.ghost).trail p)) u)
       ])
 
       owned : (p : Path) → (((note).good).ghost).born p ≡ true → (h : ℕ) × IsOwner s p h
-      owned p u = (let t = Told.trail_is sys hosts fits is_job fine owes b batches begins jobs s (note).good p u in (owner ((((note).good).ghost).trail p), t.owned))
+      owned p u = (let t = Told.trail_is kind owes b batches begins jobs s (note).good p u in (owner ((((note).good).ghost).trail p), t.owned))
 
       born_of : (p : Path) (h : ℕ) → IsOwner s p h → (((note).good).ghost).born p ≡ true
-      born_of p h q = elim (bool_cases ((((note).good).ghost).born p)) [ inl u ↦ u | inr u ↦ absurd ((Told.unborn_is sys hosts fits is_job fine owes b batches begins jobs s (note).good p u).not_coming h q) ]
+      born_of p h q = elim (bool_cases ((((note).good).ghost).born p)) [ inl u ↦ u | inr u ↦ absurd ((Told.unborn_is kind owes b batches begins jobs s (note).good p u).not_coming h q) ]
 
-      pub one_owner : OneOwner sys workers b batches s
+      pub one_owner : OneOwner kind workers b batches s
       one_owner = record {
-        one = Told.one_owner sys hosts fits is_job fine owes b batches begins jobs s (note).good;
+        one = Told.one_owner kind owes b batches begins jobs s (note).good;
         begun = λ p q. owned p ((note).noted.old p q);
         stays = λ l v p h q z.
-            let n = Along.step_follows sys hosts fits is_job fine owes b batches begins jobs some_host workers s v (note).good l q in
+            let n = Along.step_follows kind owes b batches begins jobs some_host workers s v (note).good l q in
             let u = born_on ls s v (note).good l e (note).noted q n p (born_of p h z) in
-            (owner (((n.good).ghost).trail p), (Told.trail_is sys hosts fits is_job fine owes b batches begins jobs v n.good p u).owned);
+            (owner (((n.good).ghost).trail p), (Told.trail_is kind owes b batches begins jobs v n.good p u).owned);
       }
 
       nothing : (p : Path) → (((note).good).ghost).born p ≡ false → (h : ℕ) → NothingAt s p h
-      nothing p u h = (let t = Told.unborn_is sys hosts fits is_job fine owes b batches begins jobs s (note).good p u in (t.no_entry h, t.no_mark h))
+      nothing p u h = (let t = Told.unborn_is kind owes b batches begins jobs s (note).good p u in (t.no_entry h, t.no_mark h))
 
-      pub bounds : Bounds sys hosts workers b batches s
-      bounds = (let k = (note).good in let t = Told.bounds sys hosts fits is_job fine owes b batches begins jobs s k in record {
+      pub bounds : Bounds kind workers b batches s
+      bounds = (let k = (note).good in let t = Told.bounds kind owes b batches begins jobs s k in record {
         cells = t.cells;
         mails = t.mails;
         from_one = k.alive.no_zero;
         entered = λ p q. nothing p (not_born p q);
         children = t.children;
         elsewhere = outside;
-        waiting = λ p en j q l. ap (λ (u : Entry F). u.waiting j) (Told.entry_same sys hosts fits is_job fine owes b batches begins jobs s k p en q) ∙ no_claim p j (subst (λ (u : Entry F). j ≤ u.served) (Told.entry_same sys hosts fits is_job fine owes b batches begins jobs s k p en q) l);
+        waiting = λ p en j q l. ap (λ (u : Entry F). u.waiting j) (Told.entry_same kind owes b batches begins jobs s k p en q) ∙ no_claim p j (subst (λ (u : Entry F). j ≤ u.served) (Told.entry_same kind owes b batches begins jobs s k p en q) l);
         hands = (note).noted.idle;
       })
         where
-          not_born : (p : Path) → there (Rattle.wave_states.specs.Alone.fold_alone sys b batches s.admitted).tree p ≡ false → (((note).good).ghost).born p ≡ false
+          not_born : (p : Path) → there (Rattle.wave_states.specs.Alone.fold_alone kind.system b batches s.admitted).tree p ≡ false → (((note).good).ghost).born p ≡ false
           not_born p q = elim (bool_cases ((((note).good).ghost).born p)) [
             | inr u ↦ u
-            | inl u ↦ absurd (clash _ (by ((note).noted.grown p u)) (sym (Settled.tree_there sys hosts fits is_job fine owes b batches begins jobs s.admitted p) ∙ q))
+            | inl u ↦ absurd (clash _ (by ((note).noted.grown p u)) (sym (Settled.tree_there kind owes b batches begins jobs s.admitted p) ∙ q))
           ]
             where
               none_more : s.admitted + 0 ≡ s.admitted
@@ -709,17 +714,17 @@ module _ {A F R J : Type 0} (sys : Actors A F R J) (hosts : ℕ) (fits : Path �
               index_in : (t i : ℕ) → t ≡ suc b.before + i → t ≤ b.before + s.admitted → suc i ≤ s.admitted
               index_in t i e l = omega (arith, e, l)
 
-              by : (there b.tree p ≡ true) ⊎ ((t : ℕ) × (b.before < t) × (t ≤ (((note).good).ghost).lines.admitted) × (visits w t p ≡ true)) → there (Rattle.wave_states.specs.Alone.places_alone sys b batches s.admitted) p ≡ true
-              by (inl z) = subst (λ n. there (Rattle.wave_states.specs.Alone.places_alone sys b batches n) p ≡ true) none_more (Sites.there_later sys hosts fits is_job fine owes b batches begins jobs s.admitted 0 p (Homes.there_same sys hosts fits is_job fine owes b batches begins jobs p ∙ z))
+              by : (there b.tree p ≡ true) ⊎ ((t : ℕ) × (b.before < t) × (t ≤ (((note).good).ghost).lines.admitted) × (visits w t p ≡ true)) → there (Rattle.wave_states.specs.Alone.places_alone kind.system b batches s.admitted) p ≡ true
+              by (inl z) = subst (λ n. there (Rattle.wave_states.specs.Alone.places_alone kind.system b batches n) p ≡ true) none_more (Sites.there_later kind owes b batches begins jobs s.admitted 0 p (Homes.there_same kind owes b batches begins jobs p ∙ z))
               by (inr z) = (let r = ((note).good.shows.cells z.0 z.1 z.2).real in
                   let d = difference (suc r.index) s.admitted (index_in z.0 r.index r.ticket_is (subst (λ m. z.0 ≤ m) (note).good.shows.admitted z.2)) in
-                  subst (λ n. there (Rattle.wave_states.specs.Alone.places_alone sys b batches n) p ≡ true) (sym d.1) (Sites.there_later sys hosts fits is_job fine owes b batches begins jobs d.0 (suc r.index) p (Sites.there_entered sys hosts fits is_job fine owes b batches begins jobs r.index r.job p r.job_is (subst (λ u. visits w u p ≡ true) r.ticket_is z.3))))
+                  subst (λ n. there (Rattle.wave_states.specs.Alone.places_alone kind.system b batches n) p ≡ true) (sym d.1) (Sites.there_later kind owes b batches begins jobs d.0 (suc r.index) p (Sites.there_entered kind owes b batches begins jobs r.index r.job p r.job_is (subst (λ u. visits w u p ≡ true) r.ticket_is z.3))))
 
           no_claim : (p : Path) (j : ℕ) → j ≤ ((((note).good).ghost).entry p).served → ((((note).good).ghost).entry p).waiting j ≡ None
           no_claim p j l = elim (options (((((note).good).ghost).entry p).waiting j)) [
             | inl z ↦ z
             | inr z ↦ (let y = ((note).good.shows.entries p).waits j z.0 z.1 in
-                let gr = ((note).good.shows.good.grants (z.0).ticket p (first _ _ y.later) (subst (λ u. visits w (z.0).ticket u ≡ true) y.place (visits_of sys w law course b.before Is_real ((note).good).ghost (note).good.shows.good (z.0).ticket (here w (((note).good).ghost).lines (z.0).ticket) y.known (entered_spot sys w law course b.before Is_real ((note).good).ghost (note).good.shows.good (z.0).ticket y.known (λ d. lined_done (sym y.stage ∙ d)))))).1
+                let gr = ((note).good.shows.good.grants (z.0).ticket p (first _ _ y.later) (subst (λ u. visits w (z.0).ticket u ≡ true) y.place (visits_of kind.system w law course b.before Is_real ((note).good).ghost (note).good.shows.good (z.0).ticket (here w (((note).good).ghost).lines (z.0).ticket) y.known (entered_spot kind.system w law course b.before Is_real ((note).good).ghost (note).good.shows.good (z.0).ticket y.known (λ d. lined_done (sym y.stage ∙ d)))))).1
                 (subst (λ m. m ≤ (((note).good).ghost).lines.served p) y.number (subst (λ m. j ≤ m) ((note).good.shows.entries p).served l)) in
                 absurd (gr.past (ap Rattle.wave_theory.proofs.Order.is_pending y.stage) y.place))
           ]
@@ -730,10 +735,10 @@ module _ {A F R J : Type 0} (sys : Actors A F R J) (hosts : ℕ) (fits : Path �
               first : (a t : ℕ) → a < t → 1 ≤ t
               first a t l = omega (arith, l)
 
-          outside : (p : Path) (h : ℕ) → hosts ≤ h → NothingAt s p h
+          outside : (p : Path) (h : ℕ) → kind.hosts ≤ h → NothingAt s p h
           outside p h l = elim (bool_cases ((((note).good).ghost).born p)) [
             | inr u ↦ nothing p u h
-            | inl u ↦ (let t = Told.trail_is sys hosts fits is_job fine owes b batches begins jobs s (note).good p u in (
+            | inl u ↦ (let t = Told.trail_is kind owes b batches begins jobs s (note).good p u in (
               elim (options ((s.columns p).store h)) [
                 | inl z ↦ z
                 | inr z ↦ absurd (past _ _ _ ((note).good.alive.housed p ((((note).good).ghost).trail p).last (upto _)) (t.owner h (inl (ap is_some z.1))) l)

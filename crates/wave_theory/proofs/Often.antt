@@ -3,11 +3,11 @@ use Rattle.std.proofs.Common.{◌≡◌, ℕ, suc, ◌+◌, ◌<◌, ◌≤◌, 
 use Rattle.std.specs.Prelude.{All, if◌then◌else◌}
 use Rattle.wave_base.specs.declared.path.Path.{Path}
 use Rattle.wave_base.specs.Paths.{path_eq}
-use Rattle.wave_states.specs.Actors.{Actors}
 use Rattle.wave_states.specs.States.{State, Cell, Entry, Hand, Mail, Ask, Enter, set}
 use Rattle.wave_states.specs.Labels.{Act, Label, Admit, Queue, Grant, Start, Stop, Free, Pass, Land, Commit, ticket_of, path_of, is_pass}
 use Rattle.wave_states.specs.Labels
 use Rattle.wave_states.specs.Begins.{Begin, start_state}
+use Rattle.wave_states.specs.Kinds.{Kind}
 use Rattle.wave_states.specs.Owes.{Owes, IsBegin}
 use Rattle.wave_states.specs.Steps.{Bench, Part, step, step_by, act_bench, with_bench, part_of, route_by, Forward}
 use Rattle.wave_states.specs.Steps
@@ -28,7 +28,8 @@ use Rattle.wave_theory.proofs.Told
 use Rattle.wave_theory.proofs.Reached.{Good_state, Next}
 use Rattle.wave_theory.proofs.Reached
 use Rattle.wave_theory.proofs.Along
-use Rattle.wave_theory.specs.States.{is_pass_of, passed_to, HasEntry}
+use Rattle.wave_theory.specs.Counted.{is_pass_of, passed_to}
+use Rattle.wave_theory.specs.Numbers.{HasEntry}
 
 pub passed_on : (t : ℕ) (p : Path) (ls : List Label) (l : Label) → passed_to t p (ls ++ l ∷ []) ≡ passed_to t p ls + (if is_pass_of t p l.act then 1 else 0)
 passed_on t p [] l = by (is_pass_of t p l.act)
@@ -58,23 +59,23 @@ not_pass t p (Free u k q) e = refl
 not_pass t p (Land u k q) e = refl
 not_pass t p (Commit u) e = refl
 
-module _ {A F R J : Type 0} (sys : Actors A F R J) (hosts : ℕ) (fits : Path → F → Type 0) (is_job : J → Type 0) (fine : A → Path → ℕ → Type 0) (owes : Owes sys hosts fits is_job fine) (b : Begin F) (batches : List (List J)) (begins : IsBegin sys hosts fits is_job fine b) (jobs : All (All is_job) batches) where
+module _ {A F R J : Type 0} (kind : Kind A F R J) (owes : Owes kind) (b : Begin F) (batches : List (List J)) (begins : IsBegin kind b) (jobs : All (All kind.is_job) batches) where
   abbrev w : Way
-  w = Courses.w sys hosts fits is_job fine owes b batches begins jobs
+  w = Courses.w kind owes b batches begins jobs
 
-  abbrev course : Course sys
-  course = Courses.course sys hosts fits is_job fine owes b batches begins jobs
+  abbrev course : Course kind.system
+  course = Courses.course kind owes b batches begins jobs
 
   law : IsWay w
-  law = Courses.law sys hosts fits is_job fine owes b batches begins jobs
+  law = Courses.law kind owes b batches begins jobs
 
   abbrev Is_real : ℕ → Type 0
-  Is_real = Courses.Real sys hosts fits is_job fine owes b batches begins jobs
+  Is_real = Courses.Real kind owes b batches begins jobs
 
   abbrev Good : State A F R J → Type 0
-  Good s = Good_state sys hosts fits is_job fine owes b batches begins jobs s
+  Good s = Good_state kind owes b batches begins jobs s
 
-  module _ (some_host : 0 < hosts) (workers : ℕ) where
+  module _ (some_host : 0 < kind.hosts) (workers : ℕ) where
     -- the ticket has not sent an Enter to the context yet
     abbrev NotSent : Shows.Ghost F → ℕ → Path → Type 0
     NotSent g t p = (w.entered t (g.lines.pos t) p ≡ false) ⊎ (g.lines.admitted < t)
@@ -84,7 +85,7 @@ module _ {A F R J : Type 0} (sys : Actors A F R J) (hosts : ℕ) (fits : Path �
       pub under_way : (t i : ℕ) (m : Mail F) (a : Ask) → (s.cells t).mails i ≡ Some m → m.letter ≡ Enter a → passed_to t m.path ls ≤ a.followed
       pub few : (t : ℕ) (p : Path) → passed_to t p ls ≤ ((k.ghost).trail p).last
 
-    module _ (ls : List Label) (s s' : State A F R J) (k : Good s) (l : Label) (h : Often ls s k) (e : step sys workers s l ≡ Some s') (n : Along.Follows sys hosts fits is_job fine owes b batches begins jobs some_host workers s s' k l) where
+    module _ (ls : List Label) (s s' : State A F R J) (k : Good s) (l : Label) (h : Often ls s k) (e : step kind.system workers s l ≡ Some s') (n : Along.Follows kind owes b batches begins jobs some_host workers s s' k l) where
       abbrev g : Shows.Ghost F
       g = k.ghost
 
@@ -97,8 +98,9 @@ module _ {A F R J : Type 0} (sys : Actors A F R J) (hosts : ℕ) (fits : Path �
       is : outline (n.good).ghost ≡ o'
       is = (n.turn).is
 
-      by_it : step_by sys s l.worker l.host l.act ≡ Some s'
-      by_it = (if_some (nat_lt l.worker workers) (step_by sys s l.worker l.host l.act) s' e).1
+      by_it : step_by kind.system s l.worker l.host l.act ≡ Some s'
+      unfolding step
+      by_it = (if_some (nat_lt l.worker workers) (step_by kind.system s l.worker l.host l.act) s' e).1
 
       -- what was entered stays entered
       later : (t : ℕ) (p : Path) → w.entered t ((g).lines.pos t) p ≡ true → w.entered t (set nat_eq (g).lines.pos (ticket_of l.act) (suc ((g).lines.pos (ticket_of l.act))) t) p ≡ true
@@ -107,7 +109,7 @@ module _ {A F R J : Type 0} (sys : Actors A F R J) (hosts : ℕ) (fits : Path �
         | inl d ↦ subst (λ u. w.entered u ((g).lines.pos u) p ≡ true → w.entered u (set nat_eq (g).lines.pos (ticket_of l.act) (suc ((g).lines.pos (ticket_of l.act))) u) p ≡ true) d (λ z. subst (λ i. w.entered (ticket_of l.act) i p ≡ true) (sym (set_at (g).lines.pos (ticket_of l.act) _)) (law.kept (ticket_of l.act) ((g).lines.pos (ticket_of l.act)) p z)) q
       ]
 
-      entered_on : (d : Deed) → Deeds.Fits sys w course b.before Is_real s k.ghost (n.good).ghost (ticket_of l.act) (path_of l.act) d → (t : ℕ) (p : Path) → t ≤ (g).lines.admitted → w.entered t ((g).lines.pos t) p ≡ true → w.entered t ((done_by w o (ticket_of l.act) (path_of l.act) d).pos t) p ≡ true
+      entered_on : (d : Deed) → Deeds.Fits kind.system w course b.before Is_real s k.ghost (n.good).ghost (ticket_of l.act) (path_of l.act) d → (t : ℕ) (p : Path) → t ≤ (g).lines.admitted → w.entered t ((g).lines.pos t) p ≡ true → w.entered t ((done_by w o (ticket_of l.act) (path_of l.act) d).pos t) p ≡ true
       entered_on Deeds.Admits f t p la q = subst (λ i. w.entered t i p ≡ true) (sym (set_there nat_eq (g).lines.pos (suc (g).lines.admitted) 0 t (differ (suc (g).lines.admitted) t (λ z. past _ _ la z)))) q
         where
           past : (a c : ℕ) → a ≤ c → suc c ≡ a → ⊥
@@ -138,7 +140,7 @@ module _ {A F R J : Type 0} (sys : Actors A F R J) (hosts : ℕ) (fits : Path �
           below_or a c = grind arith
 
           fewer : (u : ℕ) → ((n.good).ghost).lines.admitted < u → (g).lines.admitted < u
-          fewer u m = elim (Deeds.how_many sys w course b.before Is_real s k.ghost (n.good).ghost (ticket_of l.act) (path_of l.act) (n.turn).deed (n.turn).fits) [
+          fewer u m = elim (Deeds.how_many kind.system w course b.before Is_real s k.ghost (n.good).ghost (ticket_of l.act) (path_of l.act) (n.turn).deed (n.turn).fits) [
             | inl z ↦ subst (λ i. i < u) (ap (λ (u : Outline). u.admitted) is ∙ z) m
             | inr z ↦ less _ _ _ (ap (λ (u : Outline). u.admitted) is ∙ z.0) m
           ]
@@ -147,7 +149,7 @@ module _ {A F R J : Type 0} (sys : Actors A F R J) (hosts : ℕ) (fits : Path �
               less a c u e l = omega (arith, e, l)
 
       -- a trail grows
-      trail_on : (d : Deed) → Deeds.Fits sys w course b.before Is_real s k.ghost (n.good).ghost (ticket_of l.act) (path_of l.act) d → (p : Path) → ((g).trail p).last ≤ ((done_by w o (ticket_of l.act) (path_of l.act) d).trail p).last
+      trail_on : (d : Deed) → Deeds.Fits kind.system w course b.before Is_real s k.ghost (n.good).ghost (ticket_of l.act) (path_of l.act) d → (p : Path) → ((g).trail p).last ≤ ((done_by w o (ticket_of l.act) (path_of l.act) d).trail p).last
       trail_on d f p = by d f
         where
           upto : (a : ℕ) → a ≤ a
@@ -159,7 +161,7 @@ module _ {A F R J : Type 0} (sys : Actors A F R J) (hosts : ℕ) (fits : Path �
             | inl z ↦ subst (λ u. ((g).trail u).last ≤ (set path_eq (g).trail q r u).last) z (subst (λ (u : Trail). ((g).trail q).last ≤ u.last) (sym (set_at_path (g).trail q r)) m)
           ]
 
-          by : (d : Deed) → Deeds.Fits sys w course b.before Is_real s k.ghost (n.good).ghost (ticket_of l.act) (path_of l.act) d → ((g).trail p).last ≤ ((done_by w o (ticket_of l.act) (path_of l.act) d).trail p).last
+          by : (d : Deed) → Deeds.Fits kind.system w course b.before Is_real s k.ghost (n.good).ghost (ticket_of l.act) (path_of l.act) d → ((g).trail p).last ≤ ((done_by w o (ticket_of l.act) (path_of l.act) d).trail p).last
           by Deeds.Admits f = upto _
           by Deeds.Lets_in f = upto _
           by Deeds.Arrives f = upto _
@@ -182,7 +184,7 @@ module _ {A F R J : Type 0} (sys : Actors A F R J) (hosts : ℕ) (fits : Path �
           ])
             where
               unborn_last : (g).born (path_of l.act ++ st ∷ []) ≡ false → ((g).trail (path_of l.act ++ st ∷ [])).last ≡ 0
-              unborn_last z = (let c : Shows.Unborn sys w course b.before Is_real k.ghost (path_of l.act ++ st ∷ []) (s.columns (path_of l.act ++ st ∷ [])) = subst (λ i. Shows.ColumnShows sys w course b.before Is_real i k.ghost (path_of l.act ++ st ∷ []) (s.columns (path_of l.act ++ st ∷ []))) z (k.shows.columns (path_of l.act ++ st ∷ [])) in c.last)
+              unborn_last z = (let c : Shows.Unborn kind.system w course b.before Is_real k.ghost (path_of l.act ++ st ∷ []) (s.columns (path_of l.act ++ st ∷ [])) = subst (λ i. Shows.ColumnShows kind.system w course b.before Is_real i k.ghost (path_of l.act ++ st ∷ []) (s.columns (path_of l.act ++ st ∷ []))) z (k.shows.columns (path_of l.act ++ st ∷ [])) in c.last)
 
       few_on : (t : ℕ) (p : Path) → passed_to t p ls ≤ (((n.good).ghost).trail p).last
       few_on t p = subst (λ (u : Outline). passed_to t p ls ≤ (u.trail p).last) (sym is) (trans _ _ _ (h.few t p) (trail_on (n.turn).deed (n.turn).fits p))
@@ -191,9 +193,9 @@ module _ {A F R J : Type 0} (sys : Actors A F R J) (hosts : ℕ) (fits : Path �
           trans a c d l m = omega (arith, l, m)
 
       -- what a mail of the state after the label shows
-      shown : (t i : ℕ) (m : Mail F) (a : Ask) → (s'.cells t).mails i ≡ Some m → m.letter ≡ Enter a → Shows.EnterShows sys w course b.before Is_real (n.good).ghost t i m.host m.path a
-      shown t i m a z q = (let kn = Reached.known sys hosts fits is_job fine owes b batches begins jobs s' (n.good).ghost (n.good).shows t (λ y. none_not (sym (ap (λ (u : Cell A F R). u.mails i) y) ∙ z)) in
-          subst (Shows.MailShows sys w course b.before Is_real (n.good).ghost t i m.host m.path) q (((n.good).shows.cells t kn.0 kn.1).mails i m z))
+      shown : (t i : ℕ) (m : Mail F) (a : Ask) → (s'.cells t).mails i ≡ Some m → m.letter ≡ Enter a → Shows.EnterShows kind.system w course b.before Is_real (n.good).ghost t i m.host m.path a
+      shown t i m a z q = (let kn = Reached.known kind owes b batches begins jobs s' (n.good).ghost (n.good).shows t (λ y. none_not (sym (ap (λ (u : Cell A F R). u.mails i) y) ∙ z)) in
+          subst (Shows.MailShows kind.system w course b.before Is_real (n.good).ghost t i m.host m.path) q (((n.good).shows.cells t kn.0 kn.1).mails i m z))
 
       none_more : (a : ℕ) → a + 0 ≡ a
       none_more a = omega arith
@@ -203,7 +205,7 @@ module _ {A F R J : Type 0} (sys : Actors A F R J) (hosts : ℕ) (fits : Path �
         same : (t : ℕ) (p : Path) → passed_to t p (ls ++ l ∷ []) ≡ passed_to t p ls
         same t p = passed_on t p ls l ∙ ap (λ i. passed_to t p ls + (if i then 1 else 0)) (not_pass t p l.act np) ∙ none_more _
 
-        own : (d : Deed) → (n.turn).deed ≡ d → Deeds.Suits l.act d → Deeds.Fits sys w course b.before Is_real s k.ghost (n.good).ghost (ticket_of l.act) (path_of l.act) d → (i : ℕ) (m : Mail F) (a : Ask) → (s'.cells (ticket_of l.act)).mails i ≡ Some m → m.letter ≡ Enter a → passed_to (ticket_of l.act) m.path ls ≤ a.followed
+        own : (d : Deed) → (n.turn).deed ≡ d → Deeds.Suits l.act d → Deeds.Fits kind.system w course b.before Is_real s k.ghost (n.good).ghost (ticket_of l.act) (path_of l.act) d → (i : ℕ) (m : Mail F) (a : Ask) → (s'.cells (ticket_of l.act)).mails i ≡ Some m → m.letter ≡ Enter a → passed_to (ticket_of l.act) m.path ls ≤ a.followed
         own d q su f i m a z y = by d q su f
           where
             stage_is : (d : Deed) → (n.turn).deed ≡ d → (done_by w o (ticket_of l.act) (path_of l.act) d).stage (ticket_of l.act) ≡ Entering
@@ -212,13 +214,13 @@ module _ {A F R J : Type 0} (sys : Actors A F R J) (hosts : ℕ) (fits : Path �
             nothing : (c d : ℕ) → c ≡ 0 → c ≤ d
             nothing c d e = omega (arith, e)
 
-            by : (d : Deed) → (n.turn).deed ≡ d → Deeds.Suits l.act d → Deeds.Fits sys w course b.before Is_real s k.ghost (n.good).ghost (ticket_of l.act) (path_of l.act) d → passed_to (ticket_of l.act) m.path ls ≤ a.followed
+            by : (d : Deed) → (n.turn).deed ≡ d → Deeds.Suits l.act d → Deeds.Fits kind.system w course b.before Is_real s k.ghost (n.good).ghost (ticket_of l.act) (path_of l.act) d → passed_to (ticket_of l.act) m.path ls ≤ a.followed
             by Deeds.Admits q su f = nothing _ _ (h.none (ticket_of l.act) m.path (inr (subst (λ u. (g).lines.admitted < u) (sym f.0) (above _))))
               where
                 above : (a : ℕ) → a < suc a
                 above a = omega arith
-            by Deeds.Rests q su f = h.under_way (ticket_of l.act) i m a (Passed.mails_kept sys hosts fits is_job fine owes b batches begins jobs 0 s s' l.worker l.host l.act by_it np (inl su) i m z) y
-            by Deeds.Lands q su f = h.under_way (ticket_of l.act) i m a (Passed.mails_kept sys hosts fits is_job fine owes b batches begins jobs 0 s s' l.worker l.host l.act by_it np (inr su) i m z) y
+            by Deeds.Rests q su f = h.under_way (ticket_of l.act) i m a (Passed.mails_kept kind owes b batches begins jobs 0 s s' l.worker l.host l.act by_it np (inl su) i m z) y
+            by Deeds.Lands q su f = h.under_way (ticket_of l.act) i m a (Passed.mails_kept kind owes b batches begins jobs 0 s s' l.worker l.host l.act by_it np (inr su) i m z) y
             by (Deeds.Goes_in st r) q su f = nothing _ _ (h.none (ticket_of l.act) m.path (inl (subst (λ u. w.entered (ticket_of l.act) ((g).lines.pos (ticket_of l.act)) u ≡ false) (sym at_child) (law.once (ticket_of l.act) ((g).lines.pos (ticket_of l.act)) f.more f.fresh))))
               where
                 at_child : m.path ≡ w.place (ticket_of l.act) (suc ((g).lines.pos (ticket_of l.act)))
@@ -252,7 +254,7 @@ module _ {A F R J : Type 0} (sys : Actors A F R J) (hosts : ℕ) (fits : Path �
         next_plain = record {
           none = λ t p q. same t p ∙ h.none t p (not_yet t p q);
           under_way = λ t i m a z q. subst (λ c. c ≤ a.followed) (sym (same t m.path)) (elim (number_cases (ticket_of l.act) t) [
-            | inr d ↦ h.under_way t i m a (sym (ap (λ (c : Cell A F R). c.mails i) (Passed.cells_off sys hosts fits is_job fine owes b batches begins jobs 0 s s' l.worker l.host l.act by_it t d)) ∙ z) q
+            | inr d ↦ h.under_way t i m a (sym (ap (λ (c : Cell A F R). c.mails i) (Passed.cells_off kind owes b batches begins jobs 0 s s' l.worker l.host l.act by_it t d)) ∙ z) q
             | inl d ↦ subst (λ u. passed_to u m.path ls ≤ a.followed) d (own (n.turn).deed refl (n.turn).suits (n.turn).fits i m a (subst (λ u. (s'.cells u).mails i ≡ Some m) (sym d) z) q)
           ]);
           few = λ t p. subst (λ c. c ≤ (((n.good).ghost).trail p).last) (sym (same t p)) (few_on t p);
@@ -279,17 +281,17 @@ module _ {A F R J : Type 0} (sys : Actors A F R J) (hosts : ℕ) (fits : Path �
         entering_done e = grind arith
 
         before_it : Before_it
-        before_it = (let y = map_some _ _ s' (subst (λ a. step_by sys s l.worker l.host a ≡ Some s') a_is by_it) in by (s.hands l.worker) y.0 y.1 y.2)
+        before_it = (let y = map_some _ _ s' (subst (λ a. step_by kind.system s l.worker l.host a ≡ Some s') a_is by_it) in by (s.hands l.worker) y.0 y.1 y.2)
           where
-            by : (hd : Option (Hand A F)) (y : Bench A F R) → act_bench sys (Pass t j p₀ to) l.host (part_of sys s t p₀) hd ≡ Some y → s' ≡ with_bench sys s t p₀ l.worker y → Before_it
+            by : (hd : Option (Hand A F)) (y : Bench A F R) → act_bench kind.system (Pass t j p₀ to) l.host (part_of s t p₀) hd ≡ Some y → s' ≡ with_bench s t p₀ l.worker y → Before_it
             by (Some hd) y q d = absurd (none_not q)
             by None y q d =
-                let z = map_some (λ (x : Part A F R). record { part = x; hand = None }) _ y q in let f = passes j to p₀ l.host (part_of sys s t p₀) z.0 z.1 in
-                let kn = Reached.known sys hosts fits is_job fine owes b batches begins jobs s k.ghost k.shows t (λ x. none_not (sym (ap (λ (u : Cell A F R). u.mails j) x) ∙ f.letter_at.mail_is)) in
-                let ep : Shows.EnterShows sys w course b.before Is_real k.ghost t j l.host p₀ f.ask = shows_letter sys w course b.before Is_real k.ghost t j l.host p₀ (Enter f.ask) (s.cells t) (k.shows.cells t kn.0 kn.1) f.letter_at in
+                let z = map_some (λ (x : Part A F R). record { part = x; hand = None }) _ y q in let f = passes j to p₀ l.host (part_of s t p₀) z.0 z.1 in
+                let kn = Reached.known kind owes b batches begins jobs s k.ghost k.shows t (λ x. none_not (sym (ap (λ (u : Cell A F R). u.mails j) x) ∙ f.letter_at.mail_is)) in
+                let ep : Shows.EnterShows kind.system w course b.before Is_real k.ghost t j l.host p₀ f.ask = shows_letter kind.system w course b.before Is_real k.ghost t j l.host p₀ (Enter f.ask) (s.cells t) (k.shows.cells t kn.0 kn.1) f.letter_at in
                 record {
                   known = kn;
-                  sent = subst (λ r. w.entered t ((g).lines.pos t) r ≡ true) (sym ep.place) (entered_spot sys w law course b.before Is_real k.ghost k.shows.good t kn.1 (λ x. entering_done (sym ep.stage ∙ x)));
+                  sent = subst (λ r. w.entered t ((g).lines.pos t) r ≡ true) (sym ep.place) (entered_spot kind.system w law course b.before Is_real k.ghost k.shows.good t kn.1 (λ x. entering_done (sym ep.stage ∙ x)));
                   mail = f.letter_at.mail;
                   ask = f.ask;
                   mail_is = f.letter_at.mail_is;
@@ -300,7 +302,7 @@ module _ {A F R J : Type 0} (sys : Actors A F R J) (hosts : ℕ) (fits : Path �
                   now_is = ap (λ (u : State A F R J). (u.cells t).mails j) d ∙ ap (λ (u : Cell A F R). u.mails j) (set_at s.cells t y.part.cell) ∙ ap (λ (u : Bench A F R). u.part.cell.mails j) z.2 ∙ ap (λ (u : Part A F R). u.cell.mails j) (sym f.gives) ∙ set_at (s.cells t).mails j _;
                   now_letter = refl;
                   now_path = refl;
-                  higher = Passed.forward_more sys hosts fits is_job fine owes b batches begins jobs 0 (is_some ((s.columns p₀).store l.host)) f.mark f.ask.followed to (subst (λ o. (if is_some ((s.columns p₀).store l.host) then Steps.Deliver else route_by o f.ask.followed) ≡ Forward to) f.mark_is f.route_is);
+                  higher = Passed.forward_more kind owes b batches begins jobs 0 (is_some ((s.columns p₀).store l.host)) f.mark f.ask.followed to (subst (λ o. (if is_some ((s.columns p₀).store l.host) then Steps.Deliver else route_by o f.ask.followed) ≡ Forward to) f.mark_is f.route_is);
                 }
 
         abbrev bi : Before_it
@@ -336,7 +338,7 @@ module _ {A F R J : Type 0} (sys : Actors A F R J) (hosts : ℕ) (fits : Path �
             | inl z ↦ absurd (sent_already u p (number_is t u (and_first _ _ z)) (path_is p₀ p (and_second (nat_eq t u) _ z)) (not_yet u p q))
           ];
           under_way = λ u i m a z q. elim (number_cases t u) [
-            | inr d ↦ subst (λ c. c ≤ a.followed) (sym (elsewhere u m.path (ap (λ i. i && path_eq p₀ m.path) d))) (h.under_way u i m a (sym (ap (λ (c : Cell A F R). c.mails i) (Passed.cells_off sys hosts fits is_job fine owes b batches begins jobs 0 s s' l.worker l.host l.act by_it u (subst (λ x. nat_eq x u ≡ false) (sym ticket_is) d))) ∙ z) q)
+            | inr d ↦ subst (λ c. c ≤ a.followed) (sym (elsewhere u m.path (ap (λ i. i && path_eq p₀ m.path) d))) (h.under_way u i m a (sym (ap (λ (c : Cell A F R). c.mails i) (Passed.cells_off kind owes b batches begins jobs 0 s s' l.worker l.host l.act by_it u (subst (λ x. nat_eq x u ≡ false) (sym ticket_is) d))) ∙ z) q)
             | inl d ↦ subst (λ x. passed_to x m.path (ls ++ l ∷ []) ≤ a.followed) d (own_now i m a (subst (λ x. (s'.cells x).mails i ≡ Some m) (sym d) z) q)
           ];
           few = λ u p. elim (bool_cases (nat_eq t u && path_eq p₀ p)) [
@@ -357,7 +359,7 @@ module _ {A F R J : Type 0} (sys : Actors A F R J) (hosts : ℕ) (fits : Path �
             own_now : (i : ℕ) (m : Mail F) (a : Ask) → (s'.cells t).mails i ≡ Some m → m.letter ≡ Enter a → passed_to t m.path (ls ++ l ∷ []) ≤ a.followed
             own_now i m a z q = (let x = shown t i m a z q in let y = shown t j (bi).now (bi).now_ask (bi).now_is (bi).now_letter in
                 let same : (bi).now ≡ m = some_same (bi).now m (sym (bi).now_is ∙ ap (s'.cells t).mails (y.main ∙ sym x.main) ∙ z) in
-                let asks : (bi).now_ask ≡ a = Passed.enter_same sys hosts fits is_job fine owes b batches begins jobs 0 (bi).now_ask a (sym (bi).now_letter ∙ ap (λ (u : Mail F). u.letter) same ∙ q) in
+                let asks : (bi).now_ask ≡ a = Passed.enter_same kind owes b batches begins jobs 0 (bi).now_ask a (sym (bi).now_letter ∙ ap (λ (u : Mail F). u.letter) same ∙ q) in
                 subst (λ (u : Ask). passed_to t m.path (ls ++ l ∷ []) ≤ u.followed) asks (subst (λ r. passed_to t r (ls ++ l ∷ []) ≤ (bi).now_ask.followed) (sym (bi).now_path ∙ ap (λ (u : Mail F). u.path) same) at_now))
 
             few_now : passed_to t p₀ (ls ++ l ∷ []) ≤ (((n.good).ghost).trail p₀).last
@@ -366,21 +368,21 @@ module _ {A F R J : Type 0} (sys : Actors A F R J) (hosts : ℕ) (fits : Path �
                 trans : (a c d : ℕ) → a ≤ c → c ≤ d → a ≤ d
                 trans a c d l m = omega (arith, l, m)
 
-    often_next : (ls : List Label) (s s' : State A F R J) (k : Good s) (l : Label) → Along.from_start sys hosts fits is_job fine owes b batches begins jobs some_host workers ls s → Often ls s k → step sys workers s l ≡ Some s' → (n : Along.Follows sys hosts fits is_job fine owes b batches begins jobs some_host workers s s' k l) → Often (ls ++ l ∷ []) s' n.good
+    often_next : (ls : List Label) (s s' : State A F R J) (k : Good s) (l : Label) → Along.from_start kind owes b batches begins jobs some_host workers ls s → Often ls s k → step kind.system workers s l ≡ Some s' → (n : Along.Follows kind owes b batches begins jobs some_host workers s s' k l) → Often (ls ++ l ∷ []) s' n.good
     often_next ls s s' k l r h e n = by (is_pass l.act) refl
       where
         by : (i : Bool) → is_pass l.act ≡ i → Often (ls ++ l ∷ []) s' n.good
         by false q = next_plain ls s s' k l h e n q
-        by true q = (let z = Passed.pass_form sys hosts fits is_job fine owes b batches begins jobs 0 l.act q in next_pass ls s s' k l h e n z.0 z.1 z.2 z.3 z.4)
+        by true q = (let z = Passed.pass_form kind owes b batches begins jobs 0 l.act q in next_pass ls s s' k l h e n z.0 z.1 z.2 z.3 z.4)
 
-    often_first : Often [] (start_state b batches) (Along.first sys hosts fits is_job fine owes b batches begins jobs some_host workers)
+    often_first : Often [] (start_state b batches) (Along.first kind owes b batches begins jobs some_host workers)
     often_first = record { none = λ t p q. refl; under_way = λ t i m a z q. nothing a.followed; few = λ t p. nothing _ }
       where
         nothing : (a : ℕ) → 0 ≤ a
         nothing a = omega arith
 
-    pub each : (ls : List Label) (s : State A F R J) → run sys workers (start_state b batches) ls ≡ Some s → (t : ℕ) (p : Path) (en : Entry F) → HasEntry sys b batches s p en → passed_to t p ls ≤ en.moves
-    each ls s e t p en q = by (Along.along sys hosts fits is_job fine owes b batches begins jobs some_host workers Often often_next often_first ls s e)
+    pub each : (ls : List Label) (s : State A F R J) → run kind.system workers (start_state b batches) ls ≡ Some s → (t : ℕ) (p : Path) (en : Entry F) → HasEntry s p en → passed_to t p ls ≤ en.moves
+    each ls s e t p en q = by (Along.along kind owes b batches begins jobs some_host workers Often often_next often_first ls s e)
       where
-        by : Along.Along sys hosts fits is_job fine owes b batches begins jobs some_host workers Often often_next ls s → passed_to t p ls ≤ en.moves
-        by a = subst (λ c. passed_to t p ls ≤ c) (sym (ap (λ (u : Entry F). u.moves) (Told.entry_same sys hosts fits is_job fine owes b batches begins jobs s a.good p en q) ∙ (a.good.shows.entries p).moves)) (a.holds.few t p)
+        by : Along.Along kind owes b batches begins jobs some_host workers Often often_next ls s → passed_to t p ls ≤ en.moves
+        by a = subst (λ c. passed_to t p ls ≤ c) (sym (ap (λ (u : Entry F). u.moves) (Told.entry_same kind owes b batches begins jobs s a.good p en q) ∙ (a.good.shows.entries p).moves)) (a.holds.few t p)

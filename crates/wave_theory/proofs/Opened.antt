@@ -181,11 +181,11 @@ module _ {A F R J : Type 0} (sys : Actors A F R J) where
     pub letter_at : LetterIs (x.cell.mails k) h p (Enter ask)
     pub entry : Entry F
     pub entry_is : entry_for sys p h x.column (route x.column h ask.followed) ≡ Some entry
-    pub gives : queued sys t k p h x event ask entry ≡ y
+    pub gives : queued t k p h x event ask entry ≡ y
 
   pub queues : (t k : ℕ) (p : Path) (h : ℕ) (x y : Part A F R) → queue sys t k p h x ≡ Some y → Queues t k p h x y
   queues t k p h x y e =
-      let last : Event A → Ask → Entry F → Option (Part A F R) = λ ev a en. Some (queued sys t k p h x ev a en) in
+      let last : Event A → Ask → Entry F → Option (Part A F R) = λ ev a en. Some (queued t k p h x ev a en) in
       let a = then_some (λ ev. option_and_then (λ m. option_and_then (λ a. option_and_then (last ev a) (entry_for sys p h x.column (route x.column h a.followed))) (ask_in m)) (mail_for h p (x.cell.mails k))) x.cell.event y e in
       let b = then_some (λ m. option_and_then (λ q. option_and_then (last a.0 q) (entry_for sys p h x.column (route x.column h q.followed))) (ask_in m)) (mail_for h p (x.cell.mails k)) y a.2 in
       let d = then_some (λ q. option_and_then (last a.0 q) (entry_for sys p h x.column (route x.column h q.followed))) (ask_in b.0) y b.2 in

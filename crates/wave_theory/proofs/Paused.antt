@@ -22,7 +22,7 @@ same_pair : {X Y : Type 0} (a c : X) (b d : Y) → a ≡ c → b ≡ d → ◌�
 same_pair a c b d e f = λ i. (e i, f i)
 
 module _ {A F R J : Type 0} (sys : Actors A F R J) (w : Way) (law : IsWay w) (course : Course sys) (low : ℕ) (is_real : ℕ → Type 0) (courses : IsCourse sys w course low is_real) where
-  module _ (s : State A F R J) (g : Shows.Ghost F) (x : Shows.Shows sys w course low is_real s g) (hd : Hand A F) (v h : ℕ) (hand_is : s.hands v ≡ Some hd) (y : Part A F R) (q : Stopping sys hd.ticket hd.path h hd (part_of sys s hd.ticket hd.path) y) where
+  module _ (s : State A F R J) (g : Shows.Ghost F) (x : Shows.Shows sys w course low is_real s g) (hd : Hand A F) (v h : ℕ) (hand_is : s.hands v ≡ Some hd) (y : Part A F R) (q : Stopping sys hd.ticket hd.path h hd (part_of s hd.ticket hd.path) y) where
     abbrev t : ℕ
     t = hd.ticket
 
@@ -47,20 +47,20 @@ module _ {A F R J : Type 0} (sys : Actors A F R J) (w : Way) (law : IsWay w) (co
     abbrev desk : Desk A F
     desk = Stopping.desk_with sys w law course low is_real courses s g x hd v h hand_is y q q.event.held
 
-    gives : stopped sys p h (part_of sys s t p) desk q.entry hd.body.children left (w.looks t p) ≡ Some y
-    gives = subst (λ i. stopped sys p h (part_of sys s t p) desk q.entry hd.body.children left i ≡ Some y) (Stopping.peek_is sys w law course low is_real courses s g x hd v h hand_is y q)
-        (subst (λ (l : Left A F R). stopped sys p h (part_of sys s t p) (desk_back (s.cells t) q.event l.actor) q.entry hd.body.children l (holds_as_peek q.event.held p) ≡ Some y) (Stopping.segment_is sys w law course low is_real courses s g x hd v h hand_is y q) q.gives)
+    gives : stopped sys p h (part_of s t p) desk q.entry hd.body.children left (w.looks t p) ≡ Some y
+    gives = subst (λ i. stopped sys p h (part_of s t p) desk q.entry hd.body.children left i ≡ Some y) (Stopping.peek_is sys w law course low is_real courses s g x hd v h hand_is y q)
+        (subst (λ (l : Left A F R). stopped sys p h (part_of s t p) (desk_back (s.cells t) q.event l.actor) q.entry hd.body.children l (holds_as_peek q.event.held p) ≡ Some y) (Stopping.segment_is sys w law course low is_real courses s g x hd v h hand_is y q) q.gives)
 
     follows : (u : Pause R) → (left).pause ≡ u → Follows sys w course t (g.lines.pos t) left u
     follows u e = subst (Follows sys w course t (g.lines.pos t) left) e seg.follows
 
     -- into a child
     into_it : (st : Step) (peek go : Bool) (i : Stopping.InFacts sys w law course low is_real courses s g x hd v h hand_is y q p st peek go) → (o : Option Hold) → hold_at q.event.held (p ++ st ∷ []) ≡ o →
-        y ≡ put_back (part_of sys s t p) h (Stopping.finish sys w law course low is_real courses s g x hd v h hand_is y q go (p ++ st ∷ []) (into_child p h desk q.entry (left).fields hd.body.children st peek o).0, (into_child p h desk q.entry (left).fields hd.body.children st peek o).1) → Changed
+        y ≡ put_back (part_of s t p) h (Stopping.finish sys w law course low is_real courses s g x hd v h hand_is y q go (p ++ st ∷ []) (into_child p h desk q.entry (left).fields hd.body.children st peek o).0, (into_child p h desk q.entry (left).fields hd.body.children st peek o).1) → Changed
     into_it st peek go i None e k = (Stopping.z_new sys w law course low is_real courses s g x hd v h hand_is y q st peek go i e, Stopping.is_new sys w law course low is_real courses s g x hd v h hand_is y q st peek go i e k, Stopping.lives_new sys w law course low is_real courses s g x hd v h hand_is y q st peek go i e k, Stopping.turn_new sys w law course low is_real courses s g x hd v h hand_is y q st peek go i e)
     into_it st peek go i (Some a) e k = (Stopping.z_old sys w law course low is_real courses s g x hd v h hand_is y q st peek go i a e, Stopping.is_old sys w law course low is_real courses s g x hd v h hand_is y q st peek go i a e k, Stopping.lives_old sys w law course low is_real courses s g x hd v h hand_is y q st peek go i a e k, Stopping.turn_old sys w law course low is_real courses s g x hd v h hand_is y q st peek go i a e)
 
-    over_it : w.looks t p ≡ false → (r : R) → Stopping.EndFacts sys w law course low is_real courses s g x hd v h hand_is y q p r → (m : Option (Path × ℕ)) → sys.moved r ≡ m → y ≡ over_by p (part_of sys s t p) h desk (with_body q.entry (Some (record { fields = (left).fields; children = hd.body.children }))) r m → Changed
+    over_it : w.looks t p ≡ false → (r : R) → Stopping.EndFacts sys w law course low is_real courses s g x hd v h hand_is y q p r → (m : Option (Path × ℕ)) → sys.moved r ≡ m → y ≡ over_by p (part_of s t p) h desk (with_body q.entry (Some (record { fields = (left).fields; children = hd.body.children }))) r m → Changed
     over_it off r i None mv k = (Stopping.z_end sys w law course low is_real courses s g x hd v h hand_is y q r i off, Stopping.is_end sys w law course low is_real courses s g x hd v h hand_is y q r i off k, Stopping.lives_end sys w law course low is_real courses s g x hd v h hand_is y q r i off k, Stopping.turn_end sys w law course low is_real courses s g x hd v h hand_is y q r i off (inl mv))
     over_it off r i (Some m) mv k = elim (number_cases m.1 h) [
       | inl e ↦ (Stopping.z_end sys w law course low is_real courses s g x hd v h hand_is y q r i off, Stopping.is_end sys w law course low is_real courses s g x hd v h hand_is y q r i off (k ∙ choose_first m.1 e), Stopping.lives_end sys w law course low is_real courses s g x hd v h hand_is y q r i off (k ∙ choose_first m.1 e), Stopping.turn_end sys w law course low is_real courses s g x hd v h hand_is y q r i off (inr (mv ∙ ap Some (same_pair m.0 hd.path m.1 _ (i.moves m.0 m.1 mv).0 (e ∙ (Stopping.f sys w law course low is_real courses s g x hd v h hand_is y q).host_is)))))
@@ -68,10 +68,10 @@ module _ {A F R J : Type 0} (sys : Actors A F R J) (w : Way) (law : IsWay w) (co
     ]
       where
         here : Part A F R
-        here = over_here (part_of sys s t p) h desk (with_body q.entry (Some (record { fields = (left).fields; children = hd.body.children }))) r
+        here = over_here (part_of s t p) h desk (with_body q.entry (Some (record { fields = (left).fields; children = hd.body.children }))) r
 
         there : ℕ → Part A F R
-        there to = over_there p (part_of sys s t p) h desk (with_body q.entry (Some (record { fields = (left).fields; children = hd.body.children }))) r to
+        there to = over_there p (part_of s t p) h desk (with_body q.entry (Some (record { fields = (left).fields; children = hd.body.children }))) r to
 
         choose_first : (to : ℕ) → to ≡ h → (if to == h then here else there to) ≡ here
         choose_first to e = ap (λ i. if i then here else there to) (subst (λ a. nat_eq to a ≡ true) e (number_self to))
@@ -81,29 +81,29 @@ module _ {A F R J : Type 0} (sys : Actors A F R J) (w : Way) (law : IsWay w) (co
 
     pub change : Changed
     change = elim (bool_cases (w.looks t p)) [
-      | inl looks_on ↦ looked_case looks_on (seg.ends (subst (λ r. w.looks t r ≡ true) place_is looks_on)) (subst (λ i. stopped sys p h (part_of sys s t p) desk q.entry hd.body.children left i ≡ Some y) looks_on gives)
-      | inr off ↦ plain_case off (left).pause refl (some_same _ y (subst (λ i. stopped sys p h (part_of sys s t p) desk q.entry hd.body.children left i ≡ Some y) off gives))
+      | inl looks_on ↦ looked_case looks_on (seg.ends (subst (λ r. w.looks t r ≡ true) place_is looks_on)) (subst (λ i. stopped sys p h (part_of s t p) desk q.entry hd.body.children left i ≡ Some y) looks_on gives)
+      | inr off ↦ plain_case off (left).pause refl (some_same _ y (subst (λ i. stopped sys p h (part_of s t p) desk q.entry hd.body.children left i ≡ Some y) off gives))
     ]
       where
-        looked_case : w.looks t p ≡ true → (r : R) × ((left).pause ≡ Over r) → looked (part_of sys s t p) h desk q.entry (left).pause ≡ Some y → Changed
+        looked_case : w.looks t p ≡ true → (r : R) × ((left).pause ≡ Over r) → looked (part_of s t p) h desk q.entry (left).pause ≡ Some y → Changed
         looked_case looks_on r e = (let i = Stopping.end_facts sys w law course low is_real courses s g x hd v h hand_is y q r.0 (follows (Over r.0) r.1) in
-            (Stopping.z_look sys w law course low is_real courses s g x hd v h hand_is y q r.0 i looks_on, Stopping.is_look sys w law course low is_real courses s g x hd v h hand_is y q r.0 i looks_on (sym (some_same _ y (subst (λ u. looked (part_of sys s t p) h desk q.entry u ≡ Some y) r.1 e))), Stopping.lives_look sys w law course low is_real courses s g x hd v h hand_is y q r.0 i looks_on (sym (some_same _ y (subst (λ u. looked (part_of sys s t p) h desk q.entry u ≡ Some y) r.1 e))), Stopping.turn_look sys w law course low is_real courses s g x hd v h hand_is y q r.0 i looks_on))
+            (Stopping.z_look sys w law course low is_real courses s g x hd v h hand_is y q r.0 i looks_on, Stopping.is_look sys w law course low is_real courses s g x hd v h hand_is y q r.0 i looks_on (sym (some_same _ y (subst (λ u. looked (part_of s t p) h desk q.entry u ≡ Some y) r.1 e))), Stopping.lives_look sys w law course low is_real courses s g x hd v h hand_is y q r.0 i looks_on (sym (some_same _ y (subst (λ u. looked (part_of s t p) h desk q.entry u ≡ Some y) r.1 e))), Stopping.turn_look sys w law course low is_real courses s g x hd v h hand_is y q r.0 i looks_on))
 
-        plain_case : w.looks t p ≡ false → (u : Pause R) → (left).pause ≡ u → paused sys p h (part_of sys s t p) desk q.entry (left).fields hd.body.children (sys.peeks (left).actor) (left).pause ≡ y → Changed
+        plain_case : w.looks t p ≡ false → (u : Pause R) → (left).pause ≡ u → paused sys p h (part_of s t p) desk q.entry (left).fields hd.body.children (sys.peeks (left).actor) (left).pause ≡ y → Changed
         plain_case off (Go st) e k = into_it st (sys.peeks (left).actor) true (Stopping.go_facts sys w law course low is_real courses s g x hd v h hand_is y q st (follows (Go st) e)) (hold_at q.event.held (p ++ st ∷ [])) refl
-            (sym k ∙ ap (paused sys p h (part_of sys s t p) desk q.entry (left).fields hd.body.children (sys.peeks (left).actor)) e)
+            (sym k ∙ ap (paused sys p h (part_of s t p) desk q.entry (left).fields hd.body.children (sys.peeks (left).actor)) e)
         plain_case off (Down st) e k = into_it st false false (Stopping.down_facts sys w law course low is_real courses s g x hd v h hand_is y q st (follows (Down st) e)) (hold_at q.event.held (p ++ st ∷ [])) refl
-            (sym k ∙ ap (paused sys p h (part_of sys s t p) desk q.entry (left).fields hd.body.children (sys.peeks (left).actor)) e)
+            (sym k ∙ ap (paused sys p h (part_of s t p) desk q.entry (left).fields hd.body.children (sys.peeks (left).actor)) e)
         plain_case off Pause.Back e k = (let i = Stopping.back_facts sys w law course low is_real courses s g x hd v h hand_is y q (follows Pause.Back e) in
-            (Stopping.z_back sys w law course low is_real courses s g x hd v h hand_is y q i, Stopping.is_back sys w law course low is_real courses s g x hd v h hand_is y q i (sym k ∙ ap (paused sys p h (part_of sys s t p) desk q.entry (left).fields hd.body.children (sys.peeks (left).actor)) e), Stopping.lives_back sys w law course low is_real courses s g x hd v h hand_is y q i (sym k ∙ ap (paused sys p h (part_of sys s t p) desk q.entry (left).fields hd.body.children (sys.peeks (left).actor)) e), Stopping.turn_back sys w law course low is_real courses s g x hd v h hand_is y q i))
+            (Stopping.z_back sys w law course low is_real courses s g x hd v h hand_is y q i, Stopping.is_back sys w law course low is_real courses s g x hd v h hand_is y q i (sym k ∙ ap (paused sys p h (part_of s t p) desk q.entry (left).fields hd.body.children (sys.peeks (left).actor)) e), Stopping.lives_back sys w law course low is_real courses s g x hd v h hand_is y q i (sym k ∙ ap (paused sys p h (part_of s t p) desk q.entry (left).fields hd.body.children (sys.peeks (left).actor)) e), Stopping.turn_back sys w law course low is_real courses s g x hd v h hand_is y q i))
         plain_case off (Over r) e k = over_it off r (Stopping.end_facts sys w law course low is_real courses s g x hd v h hand_is y q r (follows (Over r) e)) (sys.moved r) refl
-            (sym k ∙ ap (paused sys p h (part_of sys s t p) desk q.entry (left).fields hd.body.children (sys.peeks (left).actor)) e)
+            (sym k ∙ ap (paused sys p h (part_of s t p) desk q.entry (left).fields hd.body.children (sys.peeks (left).actor)) e)
 
     pub record Stopped_state : Type 0 where
       pub ghost : Shows.Ghost F
-      pub shows : Shows.Shows sys w course low is_real (with_bench sys s hd.ticket hd.path v (record { part = y; hand = None })) ghost
+      pub shows : Shows.Shows sys w course low is_real (with_bench s hd.ticket hd.path v (record { part = y; hand = None })) ghost
       pub turn : Turned ghost
-      pub alive : Alive.Alive sys w course low is_real s g → Alive.Alive sys w course low is_real (with_bench sys s hd.ticket hd.path v (record { part = y; hand = None })) ghost
+      pub alive : Alive.Alive sys w course low is_real s g → Alive.Alive sys w course low is_real (with_bench s hd.ticket hd.path v (record { part = y; hand = None })) ghost
       pub tally : Alive.Alive sys w course low is_real s g → (n : ℕ → ℕ) → Tallies.Tally sys w course low is_real g n → Tallies.Tally sys w course low is_real ghost (set nat_eq n t (suc (n t)))
 
     pub stop_keeps : Stopped_state

@@ -14,6 +14,7 @@ use Rattle.wave_base.specs.Fold.{Head, Ran, Progress, next_batch, begun, next_jo
 use Rattle.wave_states.specs.Actors.{Actors, Pause, Go, Down, Back, Over}
 use Rattle.wave_states.specs.Alone.{Alone, has, into, goes_on, next_alone, segment_if, segment_alone, first_alone, after_segments, run_alone, ended_alone, segments_of, fold_alone, job_after}
 use Rattle.wave_states.specs.Begins.{Begin}
+use Rattle.wave_states.specs.Kinds.{Kind}
 use Rattle.wave_states.specs.Owes.{Owes, Keeps, MovesOnly, IsBegin}
 use Rattle.wave_theory.proofs.Basics.{some_same, none_not, options}
 use Rattle.wave_theory.proofs.Order.{Way, IsWay}
@@ -51,169 +52,169 @@ module _ {A F R J : Type 0} (sys : Actors A F R J) where
   sorted_after x h zero = h
   sorted_after x h (suc k) = next_sorted (after_segments sys k x) (sorted_after x h k)
 
-module _ {A F R J : Type 0} (sys : Actors A F R J) (hosts : ℕ) (fits : Path → F → Type 0) (is_job : J → Type 0) (fine : A → Path → ℕ → Type 0) (owes : Owes sys hosts fits is_job fine) where
+module _ {A F R J : Type 0} (kind : Kind A F R J) (owes : Owes kind) where
   abbrev Ok : Alone A F R → Type 0
-  Ok x = Fine sys hosts fits is_job fine owes x
+  Ok x = Fine kind owes x
 
-  pub fine_after : (x : Alone A F R) → Ok x → (k : ℕ) → Ok (after_segments sys k x)
+  pub fine_after : (x : Alone A F R) → Ok x → (k : ℕ) → Ok (after_segments kind.system k x)
   unfolding after_segments
   fine_after x h zero = h
-  fine_after x h (suc k) = elim (options (after_segments sys k x).result) [
-    | inl z ↦ (step_moved sys hosts fits is_job fine owes (after_segments sys k x) (fine_after x h k) z).fine_then
-    | inr z ↦ subst Ok (sym (stays_over sys (after_segments sys k x) z.0 z.1)) (fine_after x h k)
+  fine_after x h (suc k) = elim (options (after_segments kind.system k x).result) [
+    | inl z ↦ (step_moved kind owes (after_segments kind.system k x) (fine_after x h k) z).fine_then
+    | inr z ↦ subst Ok (sym (stays_over kind.system (after_segments kind.system k x) z.0 z.1)) (fine_after x h k)
   ]
 
   -- a result creates jobs and moves only the context where it came
   abbrev pub Result_ok : Alone A F R → R → Type 0
-  Result_ok x r = All is_job (sys.created r) × MovesOnly hosts x.at (sys.moved r)
+  Result_ok x r = All kind.is_job (kind.system.created r) × MovesOnly kind.hosts x.at (kind.system.moved r)
 
-  goes_ok : (x : Alone A F R) (base : Path) (h : Stands sys hosts fits is_job fine owes x base) (fit : fits x.at (x.tree.fields x.at)) (v : Pause R) → (segment_alone sys x).pause ≡ v → (r : R) →
-      (goes_on sys x (segment_alone sys x).actor (segment_alone sys x).fields v).result ≡ Some r → Result_ok (goes_on sys x (segment_alone sys x).actor (segment_alone sys x).fields v) r
+  goes_ok : (x : Alone A F R) (base : Path) (h : Stands kind owes x base) (fit : kind.fits x.at (x.tree.fields x.at)) (v : Pause R) → (segment_alone kind.system x).pause ≡ v → (r : R) →
+      (goes_on kind.system x (segment_alone kind.system x).actor (segment_alone kind.system x).fields v).result ≡ Some r → Result_ok (goes_on kind.system x (segment_alone kind.system x).actor (segment_alone kind.system x).fields v) r
   goes_ok x base h fit (Go s) v r e = absurd (none_not (sym (never (has x.held (x.at ++ s ∷ []))) ∙ e))
     where
-      never : (was : Bool) → (into x (segment_alone sys x).actor (segment_alone sys x).fields (x.at ++ s ∷ []) (sys.peeks (segment_alone sys x).actor) (filter (is_above (x.at ++ s ∷ [])) x.held) was).result ≡ None
+      never : (was : Bool) → (into x (segment_alone kind.system x).actor (segment_alone kind.system x).fields (x.at ++ s ∷ []) (kind.system.peeks (segment_alone kind.system x).actor) (filter (is_above (x.at ++ s ∷ [])) x.held) was).result ≡ None
       never true = refl
       never false = refl
   goes_ok x base h fit (Down s) v r e = absurd (none_not (sym (never (has x.held (x.at ++ s ∷ []))) ∙ e))
     where
-      never : (was : Bool) → (into x (segment_alone sys x).actor (segment_alone sys x).fields (x.at ++ s ∷ []) false x.held was).result ≡ None
+      never : (was : Bool) → (into x (segment_alone kind.system x).actor (segment_alone kind.system x).fields (x.at ++ s ∷ []) false x.held was).result ≡ None
       never true = refl
       never false = refl
   goes_ok x base h fit Back v r e = absurd (none_not e)
-  goes_ok x base h fit (Over q) v r e = subst (λ z. All is_job (sys.created z) × MovesOnly hosts x.at (sys.moved z)) (some_same q r e)
-      (subst (Keeps sys hosts fits is_job fine (segment_alone sys x).actor x.at (length h.below)) v (owes.keeps x.actor x.at (length h.below) (x.tree.fields x.at) _ h.ready fit))
+  goes_ok x base h fit (Over q) v r e = subst (λ z. All kind.is_job (kind.system.created z) × MovesOnly kind.hosts x.at (kind.system.moved z)) (some_same q r e)
+      (subst (Keeps kind (segment_alone kind.system x).actor x.at (length h.below)) v (owes.keeps x.actor x.at (length h.below) (x.tree.fields x.at) _ h.ready fit))
 
-  pub result_ok : (x : Alone A F R) → Ok x → x.result ≡ None → (k : ℕ) (r : R) → (after_segments sys k x).result ≡ Some r → Result_ok (after_segments sys k x) r
+  pub result_ok : (x : Alone A F R) → Ok x → x.result ≡ None → (k : ℕ) (r : R) → (after_segments kind.system k x).result ≡ Some r → Result_ok (after_segments kind.system k x) r
   unfolding after_segments
   result_ok x h n zero r e = absurd (none_not (sym n ∙ e))
-  result_ok x h n (suc k) r e = elim (options (after_segments sys k x).result) [
-    | inr z ↦ (let s = stays_over sys (after_segments sys k x) z.0 z.1 in
+  result_ok x h n (suc k) r e = elim (options (after_segments kind.system k x).result) [
+    | inr z ↦ (let s = stays_over kind.system (after_segments kind.system k x) z.0 z.1 in
         subst (λ y. Result_ok y r) (sym s) (result_ok x h n k r (ap (λ y. y.result) (sym s) ∙ e)))
-    | inl z ↦ (let y : Alone A F R = after_segments sys k x in
-        let g : next_alone sys y ≡ goes_on sys y (segment_alone sys y).actor (segment_alone sys y).fields (segment_alone sys y).pause = ap (segment_if sys y) z in
+    | inl z ↦ (let y : Alone A F R = after_segments kind.system k x in
+        let g : next_alone kind.system y ≡ goes_on kind.system y (segment_alone kind.system y).actor (segment_alone kind.system y).fields (segment_alone kind.system y).pause = ap (segment_if kind.system y) z in
         elim (fine_after x h k).phase [
           | inr u ↦ absurd (none_not (sym z ∙ u.1))
-          | inl u ↦ subst (λ v. Result_ok v r) (sym g) (goes_ok y u.1 u.2 ((fine_after x h k).fitting y.at) (segment_alone sys y).pause refl r (ap (λ v. v.result) (sym g) ∙ e))
+          | inl u ↦ subst (λ v. Result_ok v r) (sym g) (goes_ok y u.1 u.2 ((fine_after x h k).fitting y.at) (segment_alone kind.system y).pause refl r (ap (λ v. v.result) (sym g) ∙ e))
         ])
   ]
 
   -- what a whole run leaves
   pub record RanOk (x : Ran F R) : Type 0 where
-    pub fitting : (p : Path) → fits p (x.tree.fields p)
+    pub fitting : (p : Path) → kind.fits p (x.tree.fields p)
     pub ordered : IsStrictlySortedBy path_cmp x.tree.paths
-    pub created : All is_job (sys.created x.result)
+    pub created : All kind.is_job (kind.system.created x.result)
 
-  pub ran_ok : (t : ℕ) (tree : Tree F) (j : J) → is_job j → ((p : Path) → fits p (tree.fields p)) → IsStrictlySortedBy path_cmp tree.paths → RanOk (run_alone sys t tree j)
+  pub ran_ok : (t : ℕ) (tree : Tree F) (j : J) → kind.is_job j → ((p : Path) → kind.fits p (tree.fields p)) → IsStrictlySortedBy path_cmp tree.paths → RanOk (run_alone kind.system t tree j)
   ran_ok t tree j k f o = record {
     fitting = (fine_after x ok n).fitting;
-    ordered = sorted_after sys x (enter_sorted tree [] o) n;
-    created = subst (λ r. All is_job (sys.created r)) (sym (ap (λ v. unwrap_or v sys.unended) e.1)) (result_ok x ok refl n e.0 e.1).0;
+    ordered = sorted_after kind.system x (enter_sorted tree [] o) n;
+    created = subst (λ r. All kind.is_job (kind.system.created r)) (sym (ap (λ v. unwrap_or v kind.system.unended) e.1)) (result_ok x ok refl n e.0 e.1).0;
   }
     where
       x : Alone A F R
-      x = first_alone sys j t tree
+      x = first_alone kind.system j t tree
 
       n : ℕ
-      n = sys.enough j t tree
+      n = kind.system.enough j t tree
 
-      ok : Fine sys hosts fits is_job fine owes (first_alone sys j t tree)
-      ok = first_fine sys hosts fits is_job fine owes j t tree k f
+      ok : Fine kind owes (first_alone kind.system j t tree)
+      ok = first_fine kind owes j t tree k f
 
-      e : (r : R) × ((ended_alone sys t tree j).result ≡ Some r)
+      e : (r : R) × ((ended_alone kind.system t tree j).result ≡ Some r)
       e = owes.ends j t tree k f o
 
-  module _ (b : Begin F) (batches : List (List J)) (begins : IsBegin sys hosts fits is_job fine b) (jobs : All (All is_job) batches) where
+  module _ (b : Begin F) (batches : List (List J)) (begins : IsBegin kind b) (jobs : All (All kind.is_job) batches) where
     abbrev pub at : ℕ → Progress F R J
-    at n = fold_alone sys b batches n
+    at n = fold_alone kind.system b batches n
 
     pub record Holds (w : Progress F R J) : Type 0 where
-      pub fitting : (p : Path) → fits p (w.tree.fields p)
+      pub fitting : (p : Path) → kind.fits p (w.tree.fields p)
       pub ordered : IsStrictlySortedBy path_cmp w.tree.paths
-      pub known : All is_job w.head.known
-      pub later : All (All is_job) w.head.later
+      pub known : All kind.is_job w.head.known
+      pub later : All (All kind.is_job) w.head.later
 
-    begun_ok : (h : Head J) (bs : List (List J)) → All is_job h.known → All (All is_job) h.later → AllByRecursion (All is_job) bs → All is_job (begun h bs).known × All (All is_job) (begun h bs).later
+    begun_ok : (h : Head J) (bs : List (List J)) → All kind.is_job h.known → All (All kind.is_job) h.later → AllByRecursion (All kind.is_job) bs → All kind.is_job (begun h bs).known × All (All kind.is_job) (begun h bs).later
     begun_ok h [] k l m = (k, l)
-    begun_ok h (x ∷ bs) k l m = (All-append is_job h.known x k m.0, All-from_recursion (All is_job) bs m.1)
+    begun_ok h (x ∷ bs) k l m = (All-append kind.is_job h.known x k m.0, All-from_recursion (All kind.is_job) bs m.1)
 
-    next_ok : (h : Head J) → All is_job h.known → All (All is_job) h.later → All is_job (next_batch h).known × All (All is_job) (next_batch h).later
+    next_ok : (h : Head J) → All kind.is_job h.known → All (All kind.is_job) h.later → All kind.is_job (next_batch h).known × All (All kind.is_job) (next_batch h).later
     next_ok h k l = by (nat_lt h.done (length h.known))
       where
-        by : (c : Bool) → All is_job (if c then h else begun h h.later).known × All (All is_job) (if c then h else begun h h.later).later
+        by : (c : Bool) → All kind.is_job (if c then h else begun h h.later).known × All (All kind.is_job) (if c then h else begun h h.later).later
         by true = (k, l)
-        by false = begun_ok h h.later k l (recursion_from_All (All is_job) h.later l)
+        by false = begun_ok h h.later k l (recursion_from_All (All kind.is_job) h.later l)
 
-    slice_ok : (xs : List J) (i : ℕ) (j : J) → AllByRecursion is_job xs → slice_get xs i ≡ Some j → is_job j
+    slice_ok : (xs : List J) (i : ℕ) (j : J) → AllByRecursion kind.is_job xs → slice_get xs i ≡ Some j → kind.is_job j
     slice_ok [] i j h e = absurd (none_not e)
-    slice_ok (x ∷ xs) zero j h e = subst is_job (some_same x j e) h.0
+    slice_ok (x ∷ xs) zero j h e = subst kind.is_job (some_same x j e) h.0
     slice_ok (x ∷ xs) (suc i) j h e = slice_ok xs i j h.1 e
 
-    pub job_ok : (w : Progress F R J) (j : J) → Holds w → next_job w.head ≡ Some j → is_job j
-    job_ok w j h e = slice_ok w.head.known w.head.done j (recursion_from_All is_job w.head.known h.known) e
+    pub job_ok : (w : Progress F R J) (j : J) → Holds w → next_job w.head ≡ Some j → kind.is_job j
+    job_ok w j h e = slice_ok w.head.known w.head.done j (recursion_from_All kind.is_job w.head.known h.known) e
 
     pub holds : (n : ℕ) → Holds (at n)
-    holds zero = (let n = next_ok (record { known = []; later = batches; done = 0 }) (All-from_recursion is_job [] tt) jobs in
+    holds zero = (let n = next_ok (record { known = []; later = batches; done = 0 }) (All-from_recursion kind.is_job [] tt) jobs in
         record { fitting = begins.fields; ordered = begins.ordered; known = n.0; later = n.1 })
     holds (suc n) = holds_next n (next_job (at n).head) refl (holds n)
       where
-        holds_next : (n : ℕ) (o : Option J) → next_job (at n).head ≡ o → Holds (at n) → Holds (with_job (suc b.before) (run_alone sys) sys.created (at n) o)
+        holds_next : (n : ℕ) (o : Option J) → next_job (at n).head ≡ o → Holds (at n) → Holds (with_job (suc b.before) (run_alone kind.system) kind.system.created (at n) o)
         holds_next n None e h = h
         holds_next n (Some j) e h =
             let x = ran_ok (suc b.before + (at n).head.done) (at n).tree j (job_ok (at n) j h e) h.fitting h.ordered in
-            let m = next_ok (record { known = (at n).head.known ++ sys.created (run_alone sys (suc b.before + (at n).head.done) (at n).tree j).result; later = (at n).head.later; done = suc (at n).head.done }) (All-append is_job _ _ h.known x.created) h.later in
+            let m = next_ok (record { known = (at n).head.known ++ kind.system.created (run_alone kind.system (suc b.before + (at n).head.done) (at n).tree j).result; later = (at n).head.later; done = suc (at n).head.done }) (All-append kind.is_job _ _ h.known x.created) h.later in
             record { fitting = x.fitting; ordered = x.ordered; known = m.0; later = m.1 }
 
     -- the event of the ticket that comes after i others, and its last segment
     abbrev pub first_of : ℕ → J → Alone A F R
-    first_of i j = first_alone sys j (suc b.before + i) (at i).tree
+    first_of i j = first_alone kind.system j (suc b.before + i) (at i).tree
 
     abbrev pub last_of : ℕ → J → ℕ
-    last_of i j = less_one (segments_of sys (suc b.before + i) (at i).tree j)
+    last_of i j = less_one (segments_of kind.system (suc b.before + i) (at i).tree j)
 
     abbrev pub one_at : ℕ → Option J → One
     one_at i None = in_and_out
-    one_at i (Some j) = one_of sys (first_of i j) (last_of i j)
+    one_at i (Some j) = one_of kind.system (first_of i j) (last_of i j)
 
     abbrev pub one : ℕ → One
-    one t = if nat_lt b.before t then one_at (t - suc b.before) (job_after sys b batches (t - suc b.before)) else in_and_out
+    one t = if nat_lt b.before t then one_at (t - suc b.before) (job_after kind.system b batches (t - suc b.before)) else in_and_out
 
     abbrev pub w : Way
     w = way_of one
 
-    pub first_ok : (i : ℕ) (j : J) → job_after sys b batches i ≡ Some j → Ok (first_of i j)
-    first_ok i j e = first_fine sys hosts fits is_job fine owes j (suc b.before + i) (at i).tree (job_ok (at i) j (holds i) e) (holds i).fitting
+    pub first_ok : (i : ℕ) (j : J) → job_after kind.system b batches i ≡ Some j → Ok (first_of i j)
+    first_ok i j e = first_fine kind owes j (suc b.before + i) (at i).tree (job_ok (at i) j (holds i) e) (holds i).fitting
 
     -- it has that many segments, and one at least
-    counts_all : (i : ℕ) (j : J) → job_after sys b batches i ≡ Some j → Counts sys (first_of i j) (segments_of sys (suc b.before + i) (at i).tree j)
-    counts_all i j e = (let r = owes.ends j (suc b.before + i) (at i).tree (job_ok (at i) j (holds i) e) (holds i).fitting (holds i).ordered in counted sys (sys.enough j (suc b.before + i) (at i).tree) (first_of i j) r.0 r.1)
+    counts_all : (i : ℕ) (j : J) → job_after kind.system b batches i ≡ Some j → Counts kind.system (first_of i j) (segments_of kind.system (suc b.before + i) (at i).tree j)
+    counts_all i j e = (let r = owes.ends j (suc b.before + i) (at i).tree (job_ok (at i) j (holds i) e) (holds i).fitting (holds i).ordered in counted kind.system (kind.system.enough j (suc b.before + i) (at i).tree) (first_of i j) r.0 r.1)
 
-    some_segment : (i : ℕ) (j : J) (n : ℕ) → Counts sys (first_of i j) n → n ≡ suc (less_one n)
-    some_segment i j zero c = absurd (none_not (sym (ap (λ (y : Alone A F R). y.result) (none_yet sys (first_of i j))) ∙ c.ends))
+    some_segment : (i : ℕ) (j : J) (n : ℕ) → Counts kind.system (first_of i j) n → n ≡ suc (less_one n)
+    some_segment i j zero c = absurd (none_not (sym (ap (λ (y : Alone A F R). y.result) (none_yet kind.system (first_of i j))) ∙ c.ends))
     some_segment i j (suc n) c = refl
 
-    pub segments_is : (i : ℕ) (j : J) → job_after sys b batches i ≡ Some j → suc (last_of i j) ≡ segments_of sys (suc b.before + i) (at i).tree j
-    segments_is i j e = sym (some_segment i j (segments_of sys (suc b.before + i) (at i).tree j) (counts_all i j e))
+    pub segments_is : (i : ℕ) (j : J) → job_after kind.system b batches i ≡ Some j → suc (last_of i j) ≡ segments_of kind.system (suc b.before + i) (at i).tree j
+    segments_is i j e = sym (some_segment i j (segments_of kind.system (suc b.before + i) (at i).tree j) (counts_all i j e))
 
-    pub counts : (i : ℕ) (j : J) → job_after sys b batches i ≡ Some j → Counts sys (first_of i j) (suc (last_of i j))
-    counts i j e = subst (Counts sys (first_of i j)) (some_segment i j (segments_of sys (suc b.before + i) (at i).tree j) (counts_all i j e)) (counts_all i j e)
+    pub counts : (i : ℕ) (j : J) → job_after kind.system b batches i ≡ Some j → Counts kind.system (first_of i j) (suc (last_of i j))
+    counts i j e = subst (Counts kind.system (first_of i j)) (some_segment i j (segments_of kind.system (suc b.before + i) (at i).tree j) (counts_all i j e)) (counts_all i j e)
 
-    pub one_at_ok : (i : ℕ) (o : Option J) → job_after sys b batches i ≡ o → IsOne (one_at i o)
+    pub one_at_ok : (i : ℕ) (o : Option J) → job_after kind.system b batches i ≡ o → IsOne (one_at i o)
     one_at_ok i None e = in_and_out_is
-    one_at_ok i (Some j) e = one_is sys hosts fits is_job fine owes (first_of i j) (last_of i j) (first_ok i j e) (counts i j e) refl refl (root_only sys hosts fits is_job fine owes j (suc b.before + i) (at i).tree)
+    one_at_ok i (Some j) e = one_is kind owes (first_of i j) (last_of i j) (first_ok i j e) (counts i j e) refl refl (root_only kind owes j (suc b.before + i) (at i).tree)
 
     pub one_ok : (t : ℕ) → IsOne (one t)
     one_ok t = by (nat_lt b.before t)
       where
-        by : (c : Bool) → IsOne (if c then one_at (t - suc b.before) (job_after sys b batches (t - suc b.before)) else in_and_out)
-        by true = one_at_ok (t - suc b.before) (job_after sys b batches (t - suc b.before)) refl
+        by : (c : Bool) → IsOne (if c then one_at (t - suc b.before) (job_after kind.system b batches (t - suc b.before)) else in_and_out)
+        by true = one_at_ok (t - suc b.before) (job_after kind.system b batches (t - suc b.before)) refl
         by false = in_and_out_is
 
     pub law : IsWay w
     law = is_way_of one one_ok
 
     -- the way of a ticket of this run
-    pub one_is_at : (i : ℕ) (j : J) → job_after sys b batches i ≡ Some j → one (suc b.before + i) ≡ one_of sys (first_of i j) (last_of i j)
-    one_is_at i j e = rw (later b.before i) (ap (λ k. one_at k (job_after sys b batches k)) (index b.before i) ∙ ap (one_at i) e)
+    pub one_is_at : (i : ℕ) (j : J) → job_after kind.system b batches i ≡ Some j → one (suc b.before + i) ≡ one_of kind.system (first_of i j) (last_of i j)
+    one_is_at i j e = rw (later b.before i) (ap (λ k. one_at k (job_after kind.system b batches k)) (index b.before i) ∙ ap (one_at i) e)
       where
         later : (x i : ℕ) → nat_lt x (suc x + i) ≡ true
         later x i = grind (arith, nat_tests)

@@ -56,7 +56,7 @@ module _ {A F R J : Type 0} (sys : Actors A F R J) (w : Way) (law : IsWay w) (co
     trail = set path_eq g.trail p (grown (g.born p) (g.trail p));
   }
 
-  module _ (s : State A F R J) (g : Shows.Ghost F) (x : Shows.Shows sys w course low is_real s g) (t k : ℕ) (p : Path) (h v : ℕ) (y : Part A F R) (q : Queues sys t k p h (part_of sys s t p) y) (lt : low < t) (la : t ≤ g.lines.admitted) where
+  module _ (s : State A F R J) (g : Shows.Ghost F) (x : Shows.Shows sys w course low is_real s g) (t k : ℕ) (p : Path) (h v : ℕ) (y : Part A F R) (q : Queues sys t k p h (part_of s t p) y) (lt : low < t) (la : t ≤ g.lines.admitted) where
     c : Shows.CellShows sys w course low is_real g t (s.cells t)
     c = x.cells t lt la
 
@@ -214,7 +214,7 @@ module _ {A F R J : Type 0} (sys : Actors A F R J) (w : Way) (law : IsWay w) (co
       ];
     }
 
-    cell : Shows.CellShows sys w course low is_real g' t (queued sys t k p h (part_of sys s t p) q.event q.ask q.entry).cell
+    cell : Shows.CellShows sys w course low is_real g' t (queued t k p h (part_of s t p) q.event q.ask q.entry).cell
     cell = record {
       event = with_status q.event (Waiting p);
       event_is = refl;
@@ -268,8 +268,8 @@ module _ {A F R J : Type 0} (sys : Actors A F R J) (w : Way) (law : IsWay w) (co
             still : (b : ℕ) → g.lines.stage b ≡ Lined → set nat_eq g.lines.stage t Lined b ≡ Lined
             still b i = elim (number_cases t b) [ inr n ↦ set_there nat_eq g.lines.stage t Lined b n ∙ i | inl n ↦ subst (λ a. set nat_eq g.lines.stage t Lined a ≡ Lined) n stage_now ]
 
-    column : Shows.ColumnShows sys w course low is_real ((g').born p) g' p (queued sys t k p h (part_of sys s t p) q.event q.ask q.entry).column
-    column = subst (λ i. Shows.ColumnShows sys w course low is_real i g' p (queued sys t k p h (part_of sys s t p) q.event q.ask q.entry).column) (sym (set_at_path g.born p true)) where_it_is.column
+    column : Shows.ColumnShows sys w course low is_real ((g').born p) g' p (queued t k p h (part_of s t p) q.event q.ask q.entry).column
+    column = subst (λ i. Shows.ColumnShows sys w course low is_real i g' p (queued t k p h (part_of s t p) q.event q.ask q.entry).column) (sym (set_at_path g.born p true)) where_it_is.column
 
     root : (g').born [] ≡ true
     root = elim (path_cases p []) [
@@ -277,7 +277,7 @@ module _ {A F R J : Type 0} (sys : Actors A F R J) (w : Way) (law : IsWay w) (co
       | inr z ↦ set_there path_eq g.born p true [] z ∙ x.root
     ]
 
-    pub queue_shows : Shows.Shows sys w course low is_real (with_bench sys s t p v (record { part = y; hand = None })) g'
+    pub queue_shows : Shows.Shows sys w course low is_real (with_bench s t p v (record { part = y; hand = None })) g'
     queue_shows = update sys w law course low is_real s g g' t p v (record { part = y; hand = None }) x frame (line_good law g.lines t x.good e.stage) (record { held = x.kept.held; calm = x.kept.calm }) refl lt la
         (subst (λ (z : Part A F R). Shows.CellShows sys w course low is_real g' t z.cell) q.gives cell) entry
         (subst (λ (z : Part A F R). Shows.ColumnShows sys w course low is_real ((g').born p) g' p z.column) q.gives column) (λ hd z. absurd (none_not z)) root
@@ -293,7 +293,7 @@ module _ {A F R J : Type 0} (sys : Actors A F R J) (w : Way) (law : IsWay w) (co
         lined_coming : Lined ≡ Coming → ⊥
         lined_coming e = grind arith
 
-    pub queue_alive : Alive.Alive sys w course low is_real s g → s.hands v ≡ None → Alive.Alive sys w course low is_real (with_bench sys s t p v (record { part = y; hand = None })) g'
+    pub queue_alive : Alive.Alive sys w course low is_real s g → s.hands v ≡ None → Alive.Alive sys w course low is_real (with_bench s t p v (record { part = y; hand = None })) g'
     queue_alive a idle = Alive.alive_update sys w course low is_real s g g' t p v (record { part = y; hand = None }) x frame refl la lt a
         (λ b cl n z vb. ap (λ (u : Entry F). u.waiting (rank w p b)) entry_now ∙ set_there nat_eq (g.entry p).waiting q.ask.number _ (rank w p b) (elim (number_cases q.ask.number (rank w p b)) [
           | inr i ↦ i

@@ -9,12 +9,13 @@ use Rattle.wave_states.specs.States.{State, Event, Mail, Mark, Hand, Status, Tra
 use Rattle.wave_states.specs.Labels.{Act, Choice, Label, Admit, Queue, Grant, Start, Stop, Free, Pass, Land, Commit, ticket_of, path_of}
 use Rattle.wave_states.specs.Labels
 use Rattle.wave_states.specs.Begins.{Begin}
+use Rattle.wave_states.specs.Kinds.{Kind}
 use Rattle.wave_states.specs.Owes.{Owes, IsBegin}
 use Rattle.wave_states.specs.Steps.{step, next_ticket}
-use Rattle.wave_states.specs.Canonical.{below, at_host, by_event, by_mail, to_mark, runs_it, place, by_status, grants_of, starts_of, stops_of, by_mails, mail_act, passes_of, may_take, able, front, rear, idle_in, taken_by, stop_by, enabled}
+use Rattle.wave_states.specs.Canonical.{below, at_host, by_event, by_mail, to_mark, runs_it, place, by_status, grants_of, starts_of, stops_of, by_mails, mail_act, passes_of, early, stops, late, idle_in, taken_as, takes, taken_by, stop_by, enabled, enabled_for}
 use Rattle.wave_theory.proofs.Basics.{bool_cases, clash, number_is, and_first}
 use Rattle.wave_theory.proofs.Reached.{Good_state}
-use Rattle.wave_theory.specs.Orders.{kind_of, mail_of, Before, Rising, Sorted}
+use Rattle.wave_theory.specs.Listed.{kind_of, mail_of, Before, Rising, Sorted}
 
 all_append : {X : Type 0} (P : X → Type 0) (xs ys : List X) → AllByRecursion P xs → AllByRecursion P ys → AllByRecursion P (xs ++ ys)
 all_append P [] ys h k = k
@@ -145,9 +146,9 @@ record IsPart (i : ℕ) (cs : List Choice) : Type 0 where
   each : AllByRecursion (OfKind i) cs
 
 module _ {A F R J : Type 0} (sys : Actors A F R J) (s : State A F R J) (hosts : ℕ) where
-  status_part : (i : ℕ) (f : ℕ → Status → List Choice) → ((t : ℕ) (u : Status) → IsOne i t 0 (f t u)) → IsPart i (by_status s hosts f)
+  status_part : (i : ℕ) (f : ℕ → Status → List Choice) → ((t : ℕ) (u : Status) → IsOne i t 0 (f t u)) → IsPart i (by_status s f)
   status_part i f one = (let r = flat_from Order (OfTicket i) (λ t. by_event (s.cells t).event (λ e. f t e.status)) (λ t. rise t (s.cells t).event) (λ t. kinds t (s.cells t).event) (by_tickets i) s.admitted (suc s.before) in
-      record { rising = r.0; each = all_with (FromOn (OfTicket i) (suc s.before)) (OfKind i) (by_status s hosts f) (λ c u. u.is.0) r.1 })
+      record { rising = r.0; each = all_with (FromOn (OfTicket i) (suc s.before)) (OfKind i) (by_status s f) (λ c u. u.is.0) r.1 })
     where
       rise : (t : ℕ) (o : Option (Event A)) → Rising Order (by_event o (λ e. f t e.status))
       rise t None = tt
@@ -157,9 +158,9 @@ module _ {A F R J : Type 0} (sys : Actors A F R J) (s : State A F R J) (hosts : 
       kinds t None = tt
       kinds t (Some e) = all_with (OfMail i t 0) (OfTicket i t) (f t e.status) (λ c u. (u.0, u.1)) (one t e.status).each
 
-  mail_part : (i : ℕ) (f : ℕ → ℕ → Mail F → List Choice) → ((t k : ℕ) (m : Mail F) → IsOne i t k (f t k m)) → IsPart i (by_mails s hosts f)
+  mail_part : (i : ℕ) (f : ℕ → ℕ → Mail F → List Choice) → ((t k : ℕ) (m : Mail F) → IsOne i t k (f t k m)) → IsPart i (by_mails s f)
   mail_part i f one = (let r = flat_from Order (OfTicket i) (λ t. by_event (s.cells t).event (λ e. flat_map (λ k. by_mail ((s.cells t).mails k) (f t k)) (tickets_from 1 e.sent))) (λ t. rise t (s.cells t).event) (λ t. kinds t (s.cells t).event) (by_tickets i) s.admitted (suc s.before) in
-      record { rising = r.0; each = all_with (FromOn (OfTicket i) (suc s.before)) (OfKind i) (by_mails s hosts f) (λ c u. u.is.0) r.1 })
+      record { rising = r.0; each = all_with (FromOn (OfTicket i) (suc s.before)) (OfKind i) (by_mails s f) (λ c u. u.is.0) r.1 })
     where
       inner : (t : ℕ) (o : ℕ → Option (Mail F)) (n : ℕ) → Rising Order (flat_map (λ k. by_mail (o k) (f t k)) (tickets_from 1 n)) × AllByRecursion (FromOn (OfMail i t) 1) (flat_map (λ k. by_mail (o k) (f t k)) (tickets_from 1 n))
       inner t o n = flat_from Order (OfMail i t) (λ k. by_mail (o k) (f t k)) (λ k. one_rise k (o k)) (λ k. one_kind k (o k)) (by_numbers i t) n 1
@@ -209,11 +210,8 @@ module _ {A F R J : Type 0} (sys : Actors A F R J) (s : State A F R J) (hosts : 
       near : (a c d j : ℕ) → a ≤ c → c < d → d ≤ j → a ≤ j
       near a c d j l m n = omega (arith, l, m, n)
 
-  able_run : (a c : ℕ) (cs : List Choice) → IsRun a c cs → IsRun a c (able sys s hosts cs)
-  able_run a c cs x = record { rising = rising_filter Order (λ (c : Choice). may_take sys s hosts c.host c.act) cs x.rising; each = all_filter (InSpan a c) (λ (c : Choice). may_take sys s hosts c.host c.act) cs x.each }
-
-  mails : (i : ℕ) (act : ℕ → ℕ → Path → Act) → ((t k : ℕ) (p : Path) → kind_of (act t k p) ≡ i) → ((t k : ℕ) (p : Path) → ticket_of (act t k p) ≡ t) → ((t k : ℕ) (p : Path) → mail_of (act t k p) ≡ k) → IsRun i i (by_mails s hosts (mail_act s hosts act))
-  mails i act e f g = part_run i _ (mail_part i (mail_act s hosts act) (λ t k m. record { rising = (tt, tt); each = ((e t k m.path, f t k m.path, g t k m.path), tt) }))
+  mails : (i : ℕ) (act : ℕ → ℕ → Path → Act) → ((t k : ℕ) (p : Path) → kind_of (act t k p) ≡ i) → ((t k : ℕ) (p : Path) → ticket_of (act t k p) ≡ t) → ((t k : ℕ) (p : Path) → mail_of (act t k p) ≡ k) → IsRun i i (by_mails s (mail_act act))
+  mails i act e f g = part_run i _ (mail_part i (mail_act act) (λ t k m. record { rising = (tt, tt); each = ((e t k m.path, f t k m.path, g t k m.path), tt) }))
 
   grants_one : (t : ℕ) (u : Status) → IsOne 2 t 0 (grants_of s hosts t u)
   grants_one t (Waiting p) = at_one 2 t (place s hosts p) (Grant t p) refl refl refl
@@ -236,7 +234,7 @@ module _ {A F R J : Type 0} (sys : Actors A F R J) (s : State A F R J) (hosts : 
   stops_one t Travelling = none_of 5 t 0
   stops_one t Ended = none_of 5 t 0
 
-  passes_one : (t k : ℕ) (m : Mail F) → IsOne 7 t k (passes_of s hosts t k m)
+  passes_one : (t k : ℕ) (m : Mail F) → IsOne 7 t k (passes_of s t k m)
   passes_one t k m = by ((s.columns m.path).gone m.host)
     where
       by : (o : Option Mark) → IsOne 7 t k (to_mark o (λ g. Pass t k m.path g) m.host)
@@ -246,13 +244,13 @@ module _ {A F R J : Type 0} (sys : Actors A F R J) (s : State A F R J) (hosts : 
   single : (i : ℕ) (c : Choice) → kind_of c.act ≡ i → IsRun i i (c ∷ [])
   single i c e = part_run i (c ∷ []) (record { rising = (tt, tt); each = (e, tt) })
 
-  front_run : IsRun 0 4 (front sys s hosts)
-  front_run = able_run 0 4 _ (join 0 0 1 4 (record { host = 0; act = Admit (next_ticket sys s) } ∷ []) _ (omega arith) (omega arith) (omega arith) (single 0 _ refl)
+  early_run : IsRun 0 4 (early s hosts)
+  early_run = (join 0 0 1 4 (record { host = 0; act = Admit (next_ticket s) } ∷ []) _ (omega arith) (omega arith) (omega arith) (single 0 _ refl)
       (join 1 3 4 4 _ _ (omega arith) (omega arith) (omega arith) (join 1 2 3 3 _ _ (omega arith) (omega arith) (omega arith) (join 1 1 2 2 _ _ (omega arith) (omega arith) (omega arith) (mails 1 (λ t k p. Queue t k p) (λ t k p. refl) (λ t k p. refl) (λ t k p. refl)) (part_run 2 _ (status_part 2 (grants_of s hosts) grants_one)))
       (mails 3 (λ t k p. Labels.Visit t k p) (λ t k p. refl) (λ t k p. refl) (λ t k p. refl))) (part_run 4 _ (status_part 4 (starts_of s hosts) starts_one))))
 
-  rear_run : IsRun 6 9 (rear sys s hosts)
-  rear_run = able_run 6 9 _ (join 6 8 9 9 _ _ (omega arith) (omega arith) (omega arith) (join 6 7 8 8 _ _ (omega arith) (omega arith) (omega arith) (join 6 6 7 7 _ _ (omega arith) (omega arith) (omega arith) (mails 6 (λ t k p. Free t k p) (λ t k p. refl) (λ t k p. refl) (λ t k p. refl)) (part_run 7 _ (mail_part 7 (passes_of s hosts) passes_one)))
+  late_run : IsRun 6 9 (late s)
+  late_run = (join 6 8 9 9 _ _ (omega arith) (omega arith) (omega arith) (join 6 7 8 8 _ _ (omega arith) (omega arith) (omega arith) (join 6 6 7 7 _ _ (omega arith) (omega arith) (omega arith) (mails 6 (λ t k p. Free t k p) (λ t k p. refl) (λ t k p. refl) (λ t k p. refl)) (part_run 7 _ (mail_part 7 (passes_of s) passes_one)))
       (mails 8 (λ t k p. Land t k p) (λ t k p. refl) (λ t k p. refl) (λ t k p. refl))) (single 9 (record { host = 0; act = Commit (suc (s.before + s.head.done)) }) refl))
 
   abbrev LabelOrder : Label → Label → Type 0
@@ -280,14 +278,29 @@ module _ {A F R J : Type 0} (sys : Actors A F R J) (s : State A F R J) (hosts : 
       near : (a c d j : ℕ) → a ≤ c → c < d → d ≤ j → a ≤ j
       near a c d j l m n = omega (arith, l, m, n)
 
+  abbrev OfLabels : ℕ → Label → Bool
+  OfLabels workers l = is_some (step sys workers s l)
+
+  module _ (workers : ℕ) where
+    taken_labels_by : (a c v : ℕ) (cs : List Choice) → IsRun a c cs → IsLabels a c (takes sys workers s v cs)
+    taken_labels_by a c v cs x = record {
+      rising = rising_filter LabelOrder (OfLabels workers) (map (taken_as v) cs) (rising_map LabelOrder (taken_as v) cs x.rising);
+      each = all_filter (LabelSpan a c) (OfLabels workers) (map (taken_as v) cs) (all_map (LabelSpan a c) (taken_as v) cs x.each);
+    }
+
+    -- of one worker, in the order of all
+    pub sorted_for : (v : ℕ) → Rising LabelOrder (enabled_for sys workers hosts s v)
+    unfolding enabled_for
+    sorted_for v = (taken_labels_by 0 9 v (early s hosts ++ stops s hosts ++ late s) (join 0 5 6 9 _ _ (omega arith) (omega arith) (omega arith) (join 0 4 5 5 _ _ (omega arith) (omega arith) (omega arith) early_run (part_run 5 _ (status_part 5 (stops_of s hosts) stops_one))) late_run)).rising
+
   module _ (workers : ℕ) (one_worker : (t v u : ℕ) (p : Path) → runs_it (s.hands v) t p ≡ true → runs_it (s.hands u) t p ≡ true → v ≡ u) where
-    taken_labels : (a c : ℕ) (o : Option ℕ) (cs : List Choice) → IsRun a c cs → IsLabels a c (taken_by sys workers hosts s o cs)
+    taken_labels : (a c : ℕ) (o : Option ℕ) (cs : List Choice) → IsRun a c cs → IsLabels a c (taken_by sys workers s o cs)
     taken_labels a c None cs x = record { rising = tt; each = tt }
-    taken_labels a c (Some v) cs x = record { rising = rising_map LabelOrder (λ (c : Choice). record { worker = v; host = c.host; act = c.act }) cs x.rising; each = all_map (LabelSpan a c) (λ (c : Choice). record { worker = v; host = c.host; act = c.act }) cs x.each }
+    taken_labels a c (Some v) cs x = taken_labels_by workers a c v cs x
 
     -- one worker at most runs it
-    stop_one : (c : Choice) → Rising LabelOrder (stop_by sys workers hosts s c)
-    stop_one c = rising_filter LabelOrder (λ l. is_some (step sys workers s l)) (map (λ w. record { worker = w; host = c.host; act = c.act }) (filter (λ w. runs_it (s.hands w) (ticket_of c.act) (path_of c.act)) (below workers))) (by (any (below workers)))
+    stop_one : (c : Choice) → Rising LabelOrder (stop_by sys workers s c)
+    stop_one c = rising_filter LabelOrder (λ l. is_some (step sys workers s l)) (map (λ w. taken_as w c) (filter (λ w. runs_it (s.hands w) (ticket_of c.act) (path_of c.act)) (below workers))) (by (any (below workers)))
       where
         any : (ws : List ℕ) → ((v : ℕ) × (runs_it (s.hands v) (ticket_of c.act) (path_of c.act) ≡ true)) ⊎ (filter (λ w. runs_it (s.hands w) (ticket_of c.act) (path_of c.act)) ws ≡ [])
         any [] = inr refl
@@ -300,39 +313,43 @@ module _ {A F R J : Type 0} (sys : Actors A F R J) (s : State A F R J) (hosts : 
         ]
 
         by : ((v : ℕ) × (runs_it (s.hands v) (ticket_of c.act) (path_of c.act) ≡ true)) ⊎ (filter (λ w. runs_it (s.hands w) (ticket_of c.act) (path_of c.act)) (below workers) ≡ []) →
-            Rising LabelOrder (map (λ w. record { worker = w; host = c.host; act = c.act }) (filter (λ w. runs_it (s.hands w) (ticket_of c.act) (path_of c.act)) (below workers)))
-        by (inl v) = one_only LabelOrder (λ w. record { worker = w; host = c.host; act = c.act }) (λ w. runs_it (s.hands w) (ticket_of c.act) (path_of c.act)) v.0 (λ u e. one_worker (ticket_of c.act) u v.0 (path_of c.act) e v.1) workers 0
-        by (inr e) = subst (λ xs. Rising LabelOrder (map (λ w. record { worker = w; host = c.host; act = c.act }) xs)) (sym e) tt
+            Rising LabelOrder (map (λ w. taken_as w c) (filter (λ w. runs_it (s.hands w) (ticket_of c.act) (path_of c.act)) (below workers)))
+        by (inl v) = one_only LabelOrder (λ w. taken_as w c) (λ w. runs_it (s.hands w) (ticket_of c.act) (path_of c.act)) v.0 (λ u e. one_worker (ticket_of c.act) u v.0 (path_of c.act) e v.1) workers 0
+        by (inr e) = subst (λ xs. Rising LabelOrder (map (λ w. taken_as w c) xs)) (sym e) tt
 
-    stop_acts : (c : Choice) → AllByRecursion (λ (x : Label). x.act ≡ c.act) (stop_by sys workers hosts s c)
-    stop_acts c = all_filter (λ (x : Label). x.act ≡ c.act) (λ l. is_some (step sys workers s l)) (map (λ w. record { worker = w; host = c.host; act = c.act }) (filter (λ w. runs_it (s.hands w) (ticket_of c.act) (path_of c.act)) (below workers))) (all_map (λ (x : Label). x.act ≡ c.act) (λ w. record { worker = w; host = c.host; act = c.act }) (filter (λ w. runs_it (s.hands w) (ticket_of c.act) (path_of c.act)) (below workers)) (same (filter (λ w. runs_it (s.hands w) (ticket_of c.act) (path_of c.act)) (below workers))))
+    stop_acts : (c : Choice) → AllByRecursion (λ (x : Label). x.act ≡ c.act) (stop_by sys workers s c)
+    stop_acts c = all_filter (λ (x : Label). x.act ≡ c.act) (λ l. is_some (step sys workers s l)) (map (λ w. taken_as w c) (filter (λ w. runs_it (s.hands w) (ticket_of c.act) (path_of c.act)) (below workers))) (all_map (λ (x : Label). x.act ≡ c.act) (λ w. taken_as w c) (filter (λ w. runs_it (s.hands w) (ticket_of c.act) (path_of c.act)) (below workers)) (same (filter (λ w. runs_it (s.hands w) (ticket_of c.act) (path_of c.act)) (below workers))))
       where
         same : (ws : List ℕ) → AllByRecursion (λ w. c.act ≡ c.act) ws
         same [] = tt
         same (v ∷ ws) = (refl, same ws)
 
-    stops_rise : (cs : List Choice) → Rising Order cs → Rising LabelOrder (flat_map (stop_by sys workers hosts s) cs)
+    stops_rise : (cs : List Choice) → Rising Order cs → Rising LabelOrder (flat_map (stop_by sys workers s) cs)
     stops_rise [] h = tt
-    stops_rise (c ∷ cs) h = rising_append LabelOrder (stop_by sys workers hosts s c) (flat_map (stop_by sys workers hosts s) cs) (stop_one c) (stops_rise cs h.1)
-        (cross (λ (x : Label). x.act ≡ c.act) (λ (x : Label). Before c.act x.act) LabelOrder (stop_by sys workers hosts s c) (flat_map (stop_by sys workers hosts s) cs) (stop_acts c) (all_flat (Order c) (λ (x : Label). Before c.act x.act) (stop_by sys workers hosts s) cs h.0 (λ d o. all_with (λ (x : Label). x.act ≡ d.act) (λ (x : Label). Before c.act x.act) (stop_by sys workers hosts s d) (λ x e. subst (Before c.act) (sym e) o) (stop_acts d))) (λ x y e q. subst (λ a. Before a y.act) (sym e) q))
+    stops_rise (c ∷ cs) h = rising_append LabelOrder (stop_by sys workers s c) (flat_map (stop_by sys workers s) cs) (stop_one c) (stops_rise cs h.1)
+        (cross (λ (x : Label). x.act ≡ c.act) (λ (x : Label). Before c.act x.act) LabelOrder (stop_by sys workers s c) (flat_map (stop_by sys workers s) cs) (stop_acts c) (all_flat (Order c) (λ (x : Label). Before c.act x.act) (stop_by sys workers s) cs h.0 (λ d o. all_with (λ (x : Label). x.act ≡ d.act) (λ (x : Label). Before c.act x.act) (stop_by sys workers s d) (λ x e. subst (Before c.act) (sym e) o) (stop_acts d))) (λ x y e q. subst (λ a. Before a y.act) (sym e) q))
 
     pub sorted : Rising (λ (l m : Label). Before l.act m.act) (enabled sys workers hosts s)
-    sorted = (join_labels 0 5 6 9 _ _ (omega arith) (omega arith) (omega arith) (join_labels 0 4 5 5 _ _ (omega arith) (omega arith) (omega arith) (taken_labels 0 4 (idle_in sys workers hosts s (below workers)) (front sys s hosts) front_run) stops) (taken_labels 6 9 (idle_in sys workers hosts s (below workers)) (rear sys s hosts) rear_run)).rising
+    unfolding enabled
+    sorted = (join_labels 0 5 6 9 _ _ (omega arith) (omega arith) (omega arith) (join_labels 0 4 5 5 _ _ (omega arith) (omega arith) (omega arith) (taken_labels 0 4 (idle_in s.hands (below workers)) (early s hosts) early_run) stop_labels) (taken_labels 6 9 (idle_in s.hands (below workers)) (late s) late_run)).rising
       where
-        part : IsPart 5 (by_status s hosts (stops_of s hosts))
+        part : IsPart 5 (by_status s (stops_of s hosts))
         part = status_part 5 (stops_of s hosts) stops_one
 
-        stops : IsLabels 5 5 (flat_map (stop_by sys workers hosts s) (by_status s hosts (stops_of s hosts)))
-        stops = record {
-          rising = stops_rise (by_status s hosts (stops_of s hosts)) part.rising;
-          each = all_flat (OfKind 5) (LabelSpan 5 5) (stop_by sys workers hosts s) (by_status s hosts (stops_of s hosts)) part.each (λ c e. all_with (λ (x : Label). x.act ≡ c.act) (LabelSpan 5 5) (stop_by sys workers hosts s c) (λ x f. (subst (λ i. 5 ≤ i) (sym (ap kind_of f ∙ e)) (omega arith), subst (λ i. i ≤ 5) (sym (ap kind_of f ∙ e)) (omega arith))) (stop_acts c));
+        stop_labels : IsLabels 5 5 (flat_map (stop_by sys workers s) (by_status s (stops_of s hosts)))
+        stop_labels = record {
+          rising = stops_rise (by_status s (stops_of s hosts)) part.rising;
+          each = all_flat (OfKind 5) (LabelSpan 5 5) (stop_by sys workers s) (by_status s (stops_of s hosts)) part.each (λ c e. all_with (λ (x : Label). x.act ≡ c.act) (LabelSpan 5 5) (stop_by sys workers s c) (λ x f. (subst (λ i. 5 ≤ i) (sym (ap kind_of f ∙ e)) (omega arith), subst (λ i. i ≤ 5) (sym (ap kind_of f ∙ e)) (omega arith))) (stop_acts c));
         }
 
-module _ {A F R J : Type 0} (sys : Actors A F R J) (hosts : ℕ) (fits : Path → F → Type 0) (is_job : J → Type 0) (fine : A → Path → ℕ → Type 0) (owes : Owes sys hosts fits is_job fine) (b : Begin F) (batches : List (List J)) (begins : IsBegin sys hosts fits is_job fine b) (jobs : All (All is_job) batches) where
-  pub in_order : (s : State A F R J) → Good_state sys hosts fits is_job fine owes b batches begins jobs s → (workers : ℕ) → Sorted sys hosts workers b batches s
-  in_order s k workers = sorted sys s hosts workers (λ t v u p e f. by t v u p (s.hands v) (s.hands u) refl refl e f)
+module _ {A F R J : Type 0} (kind : Kind A F R J) (owes : Owes kind) (b : Begin F) (batches : List (List J)) (begins : IsBegin kind b) (jobs : All (All kind.is_job) batches) where
+  pub in_order : (s : State A F R J) → Good_state kind owes b batches begins jobs s → (workers : ℕ) → Sorted kind workers b batches s
+  in_order s k workers = sorted kind.system s kind.hosts workers (λ t v u p e f. by t v u p (s.hands v) (s.hands u) refl refl e f)
     where
       by : (t v u : ℕ) (p : Path) (o q : Option (Hand A F)) → s.hands v ≡ o → s.hands u ≡ q → runs_it o t p ≡ true → runs_it q t p ≡ true → v ≡ u
       by t v u p None q x y e f = absurd (clash false e refl)
       by t v u p (Some h) None x y e f = absurd (clash false f refl)
       by t v u p (Some h) (Some i) x y e f = (k.shows.hands v h x).worker ∙ ap (k.ghost).worker (number_is h.ticket t (and_first _ _ e) ∙ sym (number_is i.ticket t (and_first _ _ f))) ∙ sym (k.shows.hands u i y).worker
+
+  pub in_order_for : (s : State A F R J) (workers worker : ℕ) → Rising (λ (l m : Label). Before l.act m.act) (enabled_for kind.system workers kind.hosts s worker)
+  in_order_for s workers worker = sorted_for kind.system s kind.hosts workers worker

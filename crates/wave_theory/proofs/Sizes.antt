@@ -8,6 +8,7 @@ use Rattle.wave_theory.proofs.Order.{Way, IsWay, Done, Stage, Entering, Lined, C
 use Rattle.wave_theory.proofs.Leaves.{Course}
 use Rattle.std.specs.Prelude.{All}
 use Rattle.wave_states.specs.Begins.{Begin}
+use Rattle.wave_states.specs.Kinds.{Kind}
 use Rattle.wave_states.specs.Owes.{Owes, IsBegin}
 use Rattle.wave_theory.proofs.Courses.{View, view, view_real, done_at, entered_after, leaf_first, view_later, done_or_over}
 use Rattle.wave_theory.proofs.Reached.{Heads, Good_state, ResultIs, result_of}
@@ -20,7 +21,7 @@ use Rattle.wave_states.specs.Actors.{Pause, Go, Down, Over}
 use Rattle.wave_states.specs.Alone.{Alone, into, has, goes_on, next_alone, segment_if, segment_alone, after_segments, segments_of, fold_alone, run_alone, job_after}
 use Rattle.wave_states.specs.Work.{work_after, work_of_job}
 use Rattle.wave_states.specs.Runs.{Finished}
-use Rattle.wave_theory.specs.States.{Counted, taken, size}
+use Rattle.wave_theory.specs.Counted.{Counted, taken, size}
 use Rattle.wave_theory.proofs.Ways.{Counts, none_yet, next_is}
 use Rattle.wave_theory.proofs.Plans.{first_of, last_of, counts}
 use Rattle.wave_theory.proofs.Courses.{view_real, view_at, View}
@@ -115,7 +116,7 @@ module _ {A F R J : Type 0} (sys : Actors A F R J) where
         by true z s s' a a' e d u = (let d' : s' ≡ s + 5 = d ∙ ap (λ i. s + full_part i) z in let u' : a' ≡ a + 1 = u ∙ ap (λ i. a + one_if i) z in omega (arith, e, d', u'))
         by false z s s' a a' e d u = (let d' : s' ≡ s + 3 = d ∙ ap (λ i. s + full_part i) z in let u' : a' ≡ a + 0 = u ∙ ap (λ i. a + one_if i) z in omega (arith, e, d', u'))
 
-    last_stale : (after_segments sys (suc n) y).fresh ≡ false
+    pub last_stale : (after_segments sys (suc n) y).fresh ≡ false
     last_stale = ap (λ (z : Alone A F R). z.fresh) (next_is sys n y) ∙ over_stale (after_segments sys n y) c.result (c.under n (omega arith)) (sym (ap (λ (z : Alone A F R). z.result) (next_is sys n y)) ∙ c.ends)
 
     none_more : (n : ℕ) → n + 0 ≡ n
@@ -136,45 +137,45 @@ module _ {A F R J : Type 0} (sys : Actors A F R J) where
     pub entries : sum_to (suc n) (λ i. one_if (after_segments sys i y).fresh) ≡ length (after_segments sys (suc n) y).entered
     entries = entries_at n (omega arith) ∙ all_entered
 
-module _ {A F R J : Type 0} (sys : Actors A F R J) (hosts : ℕ) (fits : Path → F → Type 0) (is_job : J → Type 0) (fine : A → Path → ℕ → Type 0) (owes : Owes sys hosts fits is_job fine) (b : Begin F) (batches : List (List J)) (begins : IsBegin sys hosts fits is_job fine b) (jobs : All (All is_job) batches) where
+module _ {A F R J : Type 0} (kind : Kind A F R J) (owes : Owes kind) (b : Begin F) (batches : List (List J)) (begins : IsBegin kind b) (jobs : All (All kind.is_job) batches) where
   abbrev w : Way
-  w = Courses.w sys hosts fits is_job fine owes b batches begins jobs
+  w = Courses.w kind owes b batches begins jobs
 
-  abbrev course : Course sys
-  course = Courses.course sys hosts fits is_job fine owes b batches begins jobs
+  abbrev course : Course kind.system
+  course = Courses.course kind owes b batches begins jobs
 
   abbrev Is_real : ℕ → Type 0
-  Is_real = Courses.Real sys hosts fits is_job fine owes b batches begins jobs
+  Is_real = Courses.Real kind owes b batches begins jobs
 
   abbrev at : ℕ → Progress F R J
-  at n = fold_alone sys b batches n
+  at n = fold_alone kind.system b batches n
 
   law : IsWay w
-  law = Courses.law sys hosts fits is_job fine owes b batches begins jobs
+  law = Courses.law kind owes b batches begins jobs
 
   -- the most that a ticket takes, its Admit and its Commit aside
   abbrev full : ℕ → ℕ
   full i = sum_to (suc (w.last (suc b.before + i))) (λ k. full_part (w.fresh (suc b.before + i) k))
 
-  full_is : (i : ℕ) (j : J) → job_after sys b batches i ≡ Some j → full i ≡ 3 * segments_of sys (suc b.before + i) (at i).tree j + 2 * length (run_alone sys (suc b.before + i) (at i).tree j).entered
-  full_is i j e = ap (λ (v : View A F R). sum_to (suc v.one.last) (λ k. full_part (v.one.fresh k))) (view_real sys hosts fits is_job fine owes b batches begins jobs i j e)
-      ∙ parts sys (first_of sys hosts fits is_job fine owes b batches begins jobs i j) (last_of sys hosts fits is_job fine owes b batches begins jobs i j) (counts sys hosts fits is_job fine owes b batches begins jobs i j e) refl refl
-      ∙ ap₂ (λ a d. 3 * a + 2 * d) (Plans.segments_is sys hosts fits is_job fine owes b batches begins jobs i j e) (ap length (sym (entered_after sys hosts fits is_job fine owes b batches begins jobs i j e)))
+  full_is : (i : ℕ) (j : J) → job_after kind.system b batches i ≡ Some j → full i ≡ 3 * segments_of kind.system (suc b.before + i) (at i).tree j + 2 * length (run_alone kind.system (suc b.before + i) (at i).tree j).entered
+  full_is i j e = ap (λ (v : View A F R). sum_to (suc v.one.last) (λ k. full_part (v.one.fresh k))) (view_real kind owes b batches begins jobs i j e)
+      ∙ parts kind.system (first_of kind owes b batches begins jobs i j) (last_of kind owes b batches begins jobs i j) (counts kind owes b batches begins jobs i j e) refl refl
+      ∙ ap₂ (λ a d. 3 * a + 2 * d) (Plans.segments_is kind owes b batches begins jobs i j e) (ap length (sym (entered_after kind owes b batches begins jobs i j e)))
 
   -- the work of the first jobs
-  size_is : (n : ℕ) → size (work_after sys b batches n) ≡ sum_to (at n).head.done (λ i. 2 + full i)
-  size_is zero = sym (ap (λ d. sum_to d (λ i. 2 + full i)) (Folds.zero_done sys b batches) ∙ sum_zero (λ i. 2 + full i))
-  size_is (suc n) = elim (options (job_after sys b batches n)) [
-    | inl e ↦ ap (λ o. size (work_of_job sys b batches n (work_after sys b batches n) o)) e ∙ size_is n ∙ ap (λ (v : Progress F R J). sum_to v.head.done (λ i. 2 + full i)) (sym (Folds.stays sys b batches n e))
+  size_is : (n : ℕ) → size (work_after kind.system b batches n) ≡ sum_to (at n).head.done (λ i. 2 + full i)
+  size_is zero = sym (ap (λ d. sum_to d (λ i. 2 + full i)) (Folds.zero_done kind.system b batches) ∙ sum_zero (λ i. 2 + full i))
+  size_is (suc n) = elim (options (job_after kind.system b batches n)) [
+    | inl e ↦ ap (λ o. size (work_of_job kind.system b batches n (work_after kind.system b batches n) o)) e ∙ size_is n ∙ ap (λ (v : Progress F R J). sum_to v.head.done (λ i. 2 + full i)) (sym (Folds.stays kind.system b batches n e))
     | inr j ↦ more j.0 j.1 (size_is n)
   ]
     where
-      more : (j : J) → job_after sys b batches n ≡ Some j → size (work_after sys b batches n) ≡ sum_to (at n).head.done (λ i. 2 + full i) → size (work_after sys b batches (suc n)) ≡ sum_to (at (suc n)).head.done (λ i. 2 + full i)
+      more : (j : J) → job_after kind.system b batches n ≡ Some j → size (work_after kind.system b batches n) ≡ sum_to (at n).head.done (λ i. 2 + full i) → size (work_after kind.system b batches (suc n)) ≡ sum_to (at (suc n)).head.done (λ i. 2 + full i)
       more j e h =
-          let d : (at n).head.done ≡ n = done_at sys hosts fits is_job fine owes b batches begins jobs n j e in
-          let d' : (at (suc n)).head.done ≡ suc n = ap (λ (v : Progress F R J). v.head.done) (Told.goes_on sys hosts fits is_job fine owes b batches begins jobs n j e) ∙ Folds.with_done_done (at n).head _ ∙ ap suc d in
-          ap (λ o. size (work_of_job sys b batches n (work_after sys b batches n) o)) e
-          ∙ plus (work_after sys b batches n).tickets (work_after sys b batches n).segments (work_after sys b batches n).entered (segments_of sys (suc b.before + n) (at n).tree j) (length (run_alone sys (suc b.before + n) (at n).tree j).entered) (sum_to n (λ i. 2 + full i)) (full n)
+          let d : (at n).head.done ≡ n = done_at kind owes b batches begins jobs n j e in
+          let d' : (at (suc n)).head.done ≡ suc n = ap (λ (v : Progress F R J). v.head.done) (Told.goes_on kind owes b batches begins jobs n j e) ∙ Folds.with_done_done (at n).head _ ∙ ap suc d in
+          ap (λ o. size (work_of_job kind.system b batches n (work_after kind.system b batches n) o)) e
+          ∙ plus (work_after kind.system b batches n).tickets (work_after kind.system b batches n).segments (work_after kind.system b batches n).entered (segments_of kind.system (suc b.before + n) (at n).tree j) (length (run_alone kind.system (suc b.before + n) (at n).tree j).entered) (sum_to n (λ i. 2 + full i)) (full n)
           (h ∙ ap (λ m. sum_to m (λ i. 2 + full i)) d) (full_is n j e)
           ∙ sym (sum_more n (λ i. 2 + full i)) ∙ ap (λ m. sum_to m (λ i. 2 + full i)) (sym d')
         where
@@ -188,14 +189,14 @@ module _ {A F R J : Type 0} (sys : Actors A F R J) (hosts : ℕ) (fits : Path �
       one : (n : ℕ) → (at n).head.done ≤ (at (suc n)).head.done
       one n = by (next_job (at n).head)
         where
-          by : (o : Option J) → (at n).head.done ≤ (with_job (suc b.before) (run_alone sys) sys.created (at n) o).head.done
+          by : (o : Option J) → (at n).head.done ≤ (with_job (suc b.before) (run_alone kind.system) kind.system.created (at n) o).head.done
           by None = omega arith
           by (Some j) = subst (λ m. (at n).head.done ≤ m) (sym (Folds.with_done_done (at n).head _)) (omega arith)
 
-  all_below : (n m : ℕ) → job_after sys b batches n ≡ None → (at m).head.done ≤ (at n).head.done
+  pub all_below : (n m : ℕ) → job_after kind.system b batches n ≡ None → (at m).head.done ≤ (at n).head.done
   all_below n m e = elim (either m n) [
     | inl i ↦ subst (λ u. (at m).head.done ≤ (at u).head.done) (sym i.1) (done_up i.0 m)
-    | inr i ↦ subst (λ u. (at u).head.done ≤ (at n).head.done) (sym i.1) (subst (λ (v : Progress F R J). v.head.done ≤ (at n).head.done) (sym (Live.over_stays sys hosts fits is_job fine owes b batches begins jobs n i.0 e)) (omega arith))
+    | inr i ↦ subst (λ u. (at u).head.done ≤ (at n).head.done) (sym i.1) (subst (λ (v : Progress F R J). v.head.done ≤ (at n).head.done) (sym (Live.over_stays kind owes b batches begins jobs n i.0 e)) (omega arith))
   ]
     where
       either : (m n : ℕ) → ((i : ℕ) × (n ≡ i + m)) ⊎ ((i : ℕ) × (m ≡ i + n))
@@ -203,27 +204,27 @@ module _ {A F R J : Type 0} (sys : Actors A F R J) (hosts : ℕ) (fits : Path �
       either (suc m) zero = inr (suc m, omega arith)
       either (suc m) (suc n) = elim (either m n) [ inl i ↦ inl (i.0, omega (arith, i.1)) | inr i ↦ inr (i.0, omega (arith, i.1)) ]
 
-  module _ (s : State A F R J) (labels : List Rattle.wave_states.specs.Labels.Label) (r : Reached.Goes sys hosts fits is_job fine owes b batches begins jobs s (taken labels)) where
-    abbrev k : Good_state sys hosts fits is_job fine owes b batches begins jobs s
+  module _ (s : State A F R J) (labels : List Rattle.wave_states.specs.Labels.Label) (r : Reached.Goes kind owes b batches begins jobs s (taken labels)) where
+    abbrev k : Good_state kind owes b batches begins jobs s
     k = r.good
 
-    x : Shows.Shows sys w course b.before Is_real s (r.good).ghost
+    x : Shows.Shows kind.system w course b.before Is_real s (r.good).ghost
     x = (r.good).shows
 
     abbrev g : Shows.Ghost F
     g = (r.good).ghost
 
     -- no ticket takes more
-    most : (t : ℕ) → b.before < t → t ≤ (g).lines.admitted → progress sys w course b.before Is_real g t ≤ suc (sum_to (suc (w.last t)) (λ i. full_part (w.fresh t i)))
-    most t l m = elim (Live.stage_cases sys hosts fits is_job fine owes b batches begins jobs s k ((g).lines.stage t)) [
+    most : (t : ℕ) → b.before < t → t ≤ (g).lines.admitted → progress kind.system w course b.before Is_real g t ≤ suc (sum_to (suc (w.last t)) (λ i. full_part (w.fresh t i)))
+    most t l m = elim (Live.stage_cases kind owes b batches begins jobs s k ((g).lines.stage t)) [
       | inl e ↦ (let p : (g).lines.pos t ≡ suc (w.last t) = x.good.ended t m e in let a = sums (suc (w.last t)) in
-          one_more _ _ _ (subst (λ n. sum_to n (over_parts sys w course b.before Is_real g t) ≤ sum_to (suc (w.last t)) (λ i. full_part (w.fresh t i))) (sym p) a) (ap (λ u. stage_part (w.fresh t ((g).lines.pos t)) u ((g).out t)) e))
+          one_more _ _ _ (subst (λ n. sum_to n (over_parts kind.system w course b.before Is_real g t) ≤ sum_to (suc (w.last t)) (λ i. full_part (w.fresh t i))) (sym p) a) (ap (λ u. stage_part (w.fresh t ((g).lines.pos t)) u ((g).out t)) e))
       | inr e ↦ (let p : (g).lines.pos t ≤ w.last t = x.good.going t m e in let a = sums ((g).lines.pos t) in let d = sum_more ((g).lines.pos t) (λ i. full_part (w.fresh t i)) in let u = sum_up (suc ((g).lines.pos t)) (suc (w.last t)) (λ i. full_part (w.fresh t i)) (omega (arith, p)) in
           let v = part_less (w.fresh t ((g).lines.pos t)) ((g).out t) ((g).lines.stage t) in more_to _ _ _ _ _ _ a d u v)
     ]
       where
-        sums : (n : ℕ) → sum_to n (over_parts sys w course b.before Is_real g t) ≤ sum_to n (λ i. full_part (w.fresh t i))
-        sums n = sum_less n (over_parts sys w course b.before Is_real g t) (λ i. full_part (w.fresh t i)) (λ i l. over_less (w.fresh t i) ((g).lines.holds (w.place t i) t))
+        sums : (n : ℕ) → sum_to n (over_parts kind.system w course b.before Is_real g t) ≤ sum_to n (λ i. full_part (w.fresh t i))
+        sums n = sum_less n (over_parts kind.system w course b.before Is_real g t) (λ i. full_part (w.fresh t i)) (λ i l. over_less (w.fresh t i) ((g).lines.holds (w.place t i) t))
 
         one_more : (a d p : ℕ) → a ≤ d → p ≡ 0 → suc (a + p) ≤ suc d
         one_more a d p l e = omega (arith, l, e)
@@ -231,23 +232,23 @@ module _ {A F R J : Type 0} (sys : Actors A F R J) (hosts : ℕ) (fits : Path �
         more_to : (a f d n p q : ℕ) → a ≤ f → n ≡ f + q → n ≤ d → p ≤ q → suc (a + p) ≤ suc d
         more_to a f d n p q l e m v = omega (arith, l, e, m, v)
 
-    job_at : (i : ℕ) → i < s.admitted → (j : J) × (job_after sys b batches i ≡ Some j)
-    job_at i l = (let y = (x.cells (suc b.before + i) (omega arith) (omega (arith, l, x.admitted))).real in (y.job, subst (λ n. job_after sys b batches n ≡ Some y.job) (same_index b.before i y.index y.ticket_is) y.job_is))
+    job_at : (i : ℕ) → i < s.admitted → (j : J) × (job_after kind.system b batches i ≡ Some j)
+    job_at i l = (let y = (x.cells (suc b.before + i) (omega arith) (omega (arith, l, x.admitted))).real in (y.job, subst (λ n. job_after kind.system b batches n ≡ Some y.job) (same_index b.before i y.index y.ticket_is) y.job_is))
       where
         same_index : (a i j : ℕ) → suc a + i ≡ suc a + j → j ≡ i
         same_index a i j e = omega (arith, e)
 
-    admitted_below : (n : ℕ) → job_after sys b batches n ≡ None → s.admitted ≤ (at n).head.done
+    admitted_below : (n : ℕ) → job_after kind.system b batches n ≡ None → s.admitted ≤ (at n).head.done
     admitted_below n e = by s.admitted job_at
       where
-        by : (m : ℕ) → ((i : ℕ) → i < m → (j : J) × (job_after sys b batches i ≡ Some j)) → m ≤ (at n).head.done
+        by : (m : ℕ) → ((i : ℕ) → i < m → (j : J) × (job_after kind.system b batches i ≡ Some j)) → m ≤ (at n).head.done
         by zero f = omega arith
         by (suc m) f =
             let j = f m (omega arith) in
-            let d : (at (suc m)).head.done ≡ suc m = ap (λ (v : Progress F R J). v.head.done) (Told.goes_on sys hosts fits is_job fine owes b batches begins jobs m j.0 j.1) ∙ Folds.with_done_done (at m).head _ ∙ ap suc (done_at sys hosts fits is_job fine owes b batches begins jobs m j.0 j.1) in
+            let d : (at (suc m)).head.done ≡ suc m = ap (λ (v : Progress F R J). v.head.done) (Told.goes_on kind owes b batches begins jobs m j.0 j.1) ∙ Folds.with_done_done (at m).head _ ∙ ap suc (done_at kind owes b batches begins jobs m j.0 j.1) in
             subst (λ i. i ≤ (at n).head.done) d (all_below n (suc m) e)
 
-    pub counted : (workers : ℕ) → 0 < workers → Counted sys workers b batches labels s
+    pub counted : (workers : ℕ) → 0 < workers → Counted kind workers b batches labels s
     counted workers some_worker = record {
       within = λ n e.
           let a : sum_to s.admitted (λ i. (k).tally (suc b.before + i)) ≤ sum_to s.admitted (λ i. suc (full i)) = sum_less s.admitted _ _ (λ i l. let lt : b.before < suc b.before + i = omega arith in let la : suc b.before + i ≤ (g).lines.admitted = omega (arith, l, x.admitted) in
@@ -256,11 +257,11 @@ module _ {A F R J : Type 0} (sys : Actors A F R J) (hosts : ℕ) (fits : Path �
           let u = sum_up s.admitted (at n).head.done (λ i. 2 + full i) (admitted_below n e) in
           at_most _ _ _ _ _ _ _ _ r.counts (size_is n) a d u ((k).heads.few);
       exactly = λ fin.
-          let z = Live.admitted_is sys hosts fits is_job fine owes b batches begins jobs s k workers some_worker fin in
+          let z = Live.admitted_is kind owes b batches begins jobs s k workers some_worker fin in
           let n : s.admitted ≡ s.head.done = (let y = x.admitted in same_admitted b.before s.admitted s.head.done (sym y ∙ z)) in
           let a : sum_to s.admitted (λ i. (k).tally (suc b.before + i)) ≡ sum_to s.admitted (λ i. suc (full i)) = sum_same s.admitted _ _ (λ i l. let lt : b.before < suc b.before + i = omega arith in let la : suc b.before + i ≤ (g).lines.admitted = omega (arith, l, x.admitted) in
           (k).tallied.counted (suc b.before + i) lt la ∙ all_of workers some_worker fin (suc b.before + i) la) in
-          sym r.counts ∙ ap₂ (λ p q. p + q) a (sym n) ∙ sum_suc s.admitted full ∙ ap (λ m. sum_to m (λ i. 2 + full i)) (n ∙ Live.done_is sys hosts fits is_job fine owes b batches begins jobs s k workers some_worker fin) ∙ sym (size_is s.head.done);
+          sym r.counts ∙ ap₂ (λ p q. p + q) a (sym n) ∙ sum_suc s.admitted full ∙ ap (λ m. sum_to m (λ i. 2 + full i)) (n ∙ Live.done_is kind owes b batches begins jobs s k workers some_worker fin) ∙ sym (size_is s.head.done);
     }
       where
         at_most : (t c a u v q d adm : ℕ) → c + d ≡ t → v ≡ u → c ≤ a → a + adm ≡ q → q ≤ u → d ≤ adm → t ≤ v
@@ -269,11 +270,11 @@ module _ {A F R J : Type 0} (sys : Actors A F R J) (hosts : ℕ) (fits : Path �
         same_admitted : (a m d : ℕ) → a + m ≡ a + d → m ≡ d
         same_admitted a m d e = omega (arith, e)
 
-        all_of : (workers : ℕ) (some_worker : 0 < workers) (fin : Finished sys workers s) (t : ℕ) → t ≤ (g).lines.admitted → progress sys w course b.before Is_real g t ≡ suc (sum_to (suc (w.last t)) (λ i. full_part (w.fresh t i)))
+        all_of : (workers : ℕ) (some_worker : 0 < workers) (fin : Finished kind.system workers s) (t : ℕ) → t ≤ (g).lines.admitted → progress kind.system w course b.before Is_real g t ≡ suc (sum_to (suc (w.last t)) (λ i. full_part (w.fresh t i)))
         all_of workers some_worker fin t m =
-            let e = Live.stage_done sys hosts fits is_job fine owes b batches begins jobs s k workers some_worker fin t m in
+            let e = Live.stage_done kind owes b batches begins jobs s k workers some_worker fin t m in
             let p : (g).lines.pos t ≡ suc (w.last t) = x.good.ended t m e in
-            ap suc (ap₂ (λ i j. i + j) (ap (λ n. sum_to n (over_parts sys w course b.before Is_real g t)) p ∙ sum_same (suc (w.last t)) (over_parts sys w course b.before Is_real g t) (λ i. full_part (w.fresh t i)) (λ i l. over_full (w.fresh t i) ((g).lines.holds (w.place t i) t) (off_is _ (Live.unheld sys hosts fits is_job fine owes b batches begins jobs s k workers some_worker fin (w.place t i) t))))
+            ap suc (ap₂ (λ i j. i + j) (ap (λ n. sum_to n (over_parts kind.system w course b.before Is_real g t)) p ∙ sum_same (suc (w.last t)) (over_parts kind.system w course b.before Is_real g t) (λ i. full_part (w.fresh t i)) (λ i l. over_full (w.fresh t i) ((g).lines.holds (w.place t i) t) (off_is _ (Live.unheld kind owes b batches begins jobs s k workers some_worker fin (w.place t i) t))))
             (ap (λ u. stage_part (w.fresh t ((g).lines.pos t)) u ((g).out t)) e) ∙ none_more _)
           where
             off_is : (o : Bool) → (o ≡ true → ⊥) → o ≡ false

@@ -43,7 +43,7 @@ module _ {A F R J : Type 0} (sys : Actors A F R J) (w : Way) (law : IsWay w) (co
   abbrev sent_out : Shows.Ghost F → ℕ → Path → ℕ → Bool → Record F → Shows.Ghost F
   sent_out g t p v peek b = record { lines = g.lines; out = set nat_eq g.out t true; worker = set nat_eq g.worker t v; main = g.main; parting = g.parting; entry = set path_eq g.entry p (with_body (g.entry p) (left_by peek b)); body = g.body; born = g.born; trail = g.trail }
 
-  module _ (s : State A F R J) (g : Shows.Ghost F) (x : Shows.Shows sys w course low is_real s g) (t : ℕ) (p : Path) (h v : ℕ) (y : Bench A F R) (q : Starts t p h (part_of sys s t p) y) (lt : low < t) (la : t ≤ g.lines.admitted) where
+  module _ (s : State A F R J) (g : Shows.Ghost F) (x : Shows.Shows sys w course low is_real s g) (t : ℕ) (p : Path) (h v : ℕ) (y : Bench A F R) (q : Starts t p h (part_of s t p) y) (lt : low < t) (la : t ≤ g.lines.admitted) where
     f : Found sys w course low is_real g p (s.columns p) h q.entry
     f = found sys w course low is_real g p (s.columns p) h q.entry (x.columns p) q.entry_is
 
@@ -111,7 +111,7 @@ module _ {A F R J : Type 0} (sys : Actors A F R J) (w : Way) (law : IsWay w) (co
       hand = λ u n z i. absurd (clash _ z at_it.2);
     }
 
-    cell : Shows.CellShows sys w course low is_real gs t (started t p h (part_of sys s t p) q.event q.entry q.actor q.body).part.cell
+    cell : Shows.CellShows sys w course low is_real gs t (started t p h (part_of s t p) q.event q.entry q.actor q.body).part.cell
     cell = record {
       event = record { actor = None; held = q.event.held; sent = q.event.sent; status = Running p };
       event_is = refl;
@@ -160,7 +160,7 @@ module _ {A F R J : Type 0} (sys : Actors A F R J) (w : Way) (law : IsWay w) (co
       moves = ap (λ z. z.moves) entry_now ∙ en.moves;
     }
 
-    column : Shows.ColumnShows sys w course low is_real (g.born p) gs p (started t p h (part_of sys s t p) q.event q.entry q.actor q.body).part.column
+    column : Shows.ColumnShows sys w course low is_real (g.born p) gs p (started t p h (part_of s t p) q.event q.entry q.actor q.body).part.column
     column = changed sys w course low is_real g gs p (s.columns p) h q.entry (with_body q.entry (left_by (holds_as_peek q.event.held p) q.body)) f refl refl (entry_now ∙ ap (λ z. with_body z (left_by (holds_as_peek q.event.held p) q.body)) (sym f.entry_is))
 
     seen_fields : (i : Bool) (b : Record F) → (seen_by i b).fields ≡ b.fields
@@ -187,8 +187,8 @@ module _ {A F R J : Type 0} (sys : Actors A F R J) (w : Way) (law : IsWay w) (co
       bare = λ e. seen_bare _ q.body (peek_is ∙ e);
     }
 
-    pub start_shows : Shows.Shows sys w course low is_real (with_bench sys s t p v y) gs
-    start_shows = subst (λ z. Shows.Shows sys w course low is_real (with_bench sys s t p v z) gs) q.gives (update sys w law course low is_real s g gs t p v (started t p h (part_of sys s t p) q.event q.entry q.actor q.body) x frame
+    pub start_shows : Shows.Shows sys w course low is_real (with_bench s t p v y) gs
+    start_shows = subst (λ z. Shows.Shows sys w course low is_real (with_bench s t p v z) gs) q.gives (update sys w law course low is_real s g gs t p v (started t p h (part_of s t p) q.event q.entry q.actor q.body) x frame
         (record { within = x.good.within; going = x.good.going; ended = x.good.ended; is_fresh = x.good.is_fresh; sends = x.good.sends; grants = x.good.grants; first = x.good.first; let_in = x.good.let_in; keeps = x.good.keeps; alone = x.good.alone; latest = x.good.latest })
         (record { held = x.kept.held; calm = x.kept.calm }) refl lt la cell entry column (λ hd z. subst (Shows.HandShows sys w course low is_real gs v) (some_same _ hd z) hand) x.root)
 
@@ -204,8 +204,8 @@ module _ {A F R J : Type 0} (sys : Actors A F R J) (w : Way) (law : IsWay w) (co
         by true = refl
         by false = refl
 
-    pub start_alive : Alive.Alive sys w course low is_real s g → s.hands v ≡ None → Alive.Alive sys w course low is_real (with_bench sys s t p v y) gs
-    start_alive a idle = subst (λ z. Alive.Alive sys w course low is_real (with_bench sys s t p v z) gs) q.gives (Alive.alive_update sys w course low is_real s g gs t p v (started t p h (part_of sys s t p) q.event q.entry q.actor q.body) x frame refl la lt a
+    pub start_alive : Alive.Alive sys w course low is_real s g → s.hands v ≡ None → Alive.Alive sys w course low is_real (with_bench s t p v y) gs
+    start_alive a idle = subst (λ z. Alive.Alive sys w course low is_real (with_bench s t p v z) gs) q.gives (Alive.alive_update sys w course low is_real s g gs t p v (started t p h (part_of s t p) q.event q.entry q.actor q.body) x frame refl la lt a
         (λ b cl n z vb. ap (λ (u : Entry F). u.waiting (rank w p b)) entry_now ∙ z)
         (λ hd z. absurd (none_not (sym idle ∙ z)))
         (record {

@@ -86,7 +86,7 @@ module _ {A F R J : Type 0} (sys : Actors A F R J) (w : Way) (law : IsWay w) (co
     trail = z.trail;
   }
 
-  module _ (s : State A F R J) (g : Shows.Ghost F) (x : Shows.Shows sys w course low is_real s g) (hd : Hand A F) (v h : ℕ) (hand_is : s.hands v ≡ Some hd) (y : Part A F R) (q : Stopping sys hd.ticket hd.path h hd (part_of sys s hd.ticket hd.path) y) where
+  module _ (s : State A F R J) (g : Shows.Ghost F) (x : Shows.Shows sys w course low is_real s g) (hd : Hand A F) (v h : ℕ) (hand_is : s.hands v ≡ Some hd) (y : Part A F R) (q : Stopping sys hd.ticket hd.path h hd (part_of s hd.ticket hd.path) y) where
     abbrev pub t : ℕ
     t = hd.ticket
 
@@ -238,7 +238,7 @@ module _ {A F R J : Type 0} (sys : Actors A F R J) (w : Way) (law : IsWay w) (co
             | inl d ↦ subst (λ a. Shows.Like sys w course low is_real ((g').body a) (course.leaf t (suc k) a)) d (subst (λ a. Shows.Like sys w course low is_real a (course.leaf t (suc k) p)) (sym (set_at_path g.body p z.body)) i.like)
           ]
 
-      pub stop_shows : Shows.Shows sys w course low is_real (with_bench sys s t p v (record { part = y; hand = None })) g'
+      pub stop_shows : Shows.Shows sys w course low is_real (with_bench s t p v (record { part = y; hand = None })) g'
       stop_shows = update sys w law course low is_real s g g' t p v (record { part = y; hand = None }) x frame i.good kept refl hs.later hs.known i.cell i.entry i.column (λ u e. absurd (none_not e)) x.root
 
     leaves_later : (r : Path) → g.lines.holds r t ≡ true → w.held t k r ≡ false → w.held t (suc k) r ≡ false
@@ -272,7 +272,7 @@ module _ {A F R J : Type 0} (sys : Actors A F R J) (w : Way) (law : IsWay w) (co
       pub waits_next : (f o : Bool) → Tallies.stage_part f z.stage o ≡ 0
       pub stale : z.stage ≡ Coming → w.fresh t (suc k) ≡ false
 
-    pub stop_alive : (z : Change) → IsChange z → Lives z → Alive.Alive sys w course low is_real s g → Alive.Alive sys w course low is_real (with_bench sys s t p v (record { part = y; hand = None })) (changed_by g t p z)
+    pub stop_alive : (z : Change) → IsChange z → Lives z → Alive.Alive sys w course low is_real s g → Alive.Alive sys w course low is_real (with_bench s t p v (record { part = y; hand = None })) (changed_by g t p z)
     stop_alive z i l a = Alive.alive_update sys w course low is_real s g (changed_by g t p z) t p v (record { part = y; hand = None }) x (frame z i) refl hs.known hs.later a
         (λ b cl n e vb. ap (λ (u : Entry F). u.waiting (rank w p b)) (set_at_path g.entry p z.entry) ∙ ap (λ u. u (rank w p b)) l.waiting ∙ ap (λ (u : Entry F). u.waiting (rank w p b)) f.entry_is ∙ e)
         (λ u e. ap (λ (o : Hand A F). o.ticket) (sym (some_same hd u (sym hand_is ∙ e))))
@@ -677,7 +677,7 @@ module _ {A F R J : Type 0} (sys : Actors A F R J) (w : Way) (law : IsWay w) (co
         }
 
         abbrev pub y_new : Part A F R
-        y_new = put_back (part_of sys s t p) h (finish go child_path (send (desk_with q.event.held) (record { host = (kid).birth.0; path = child_path; letter = Enter (record { number = suc (kid).given; followed = 0; peek = peek }) })), with_body q.entry (Some body_new))
+        y_new = put_back (part_of s t p) h (finish go child_path (send (desk_with q.event.held) (record { host = (kid).birth.0; path = child_path; letter = Enter (record { number = suc (kid).given; followed = 0; peek = peek }) })), with_body q.entry (Some body_new))
 
         pub is_new : y ≡ y_new → IsChange z_new
         is_new ye = record {
@@ -772,7 +772,7 @@ module _ {A F R J : Type 0} (sys : Actors A F R J) (w : Way) (law : IsWay w) (co
             (base_desk z_old (record { trail = λ r m n. refl; parting = λ r e. parting_old go child_path r e }) q.event.held (λ r. w.held t k r) held_is (λ r a e. (e, refl)) once_held) visit_now
 
         abbrev pub y_old : Part A F R
-        y_old = put_back (part_of sys s t p) h (finish go child_path (send (desk_with q.event.held) (record { host = x'.host; path = child_path; letter = Visit })), with_body q.entry (Some body_old))
+        y_old = put_back (part_of s t p) h (finish go child_path (send (desk_with q.event.held) (record { host = x'.host; path = child_path; letter = Visit })), with_body q.entry (Some body_old))
 
         pub is_old : y ≡ y_old → IsChange z_old
         is_old ye = record {
@@ -872,7 +872,7 @@ module _ {A F R J : Type 0} (sys : Actors A F R J) (w : Way) (law : IsWay w) (co
       }
 
       abbrev pub y_back : Part A F R
-      y_back = put_back (part_of sys s t p) h (send (desk_with q.event.held) mail_back, with_body q.entry (Some body_back))
+      y_back = put_back (part_of s t p) h (send (desk_with q.event.held) mail_back, with_body q.entry (Some body_back))
 
       pub is_back : y ≡ y_back → IsChange z_back
       is_back ye = record {
@@ -991,7 +991,7 @@ module _ {A F R J : Type 0} (sys : Actors A F R J) (w : Way) (law : IsWay w) (co
         z_look = record { stage = Done; given = g.lines.given; main = g.main t; parting = all_parting q.event.held q.event.sent; entry = q.entry; body = g.body p; trail = g.trail }
 
         abbrev pub y_look : Part A F R
-        y_look = over_here (part_of sys s t p) h (desk_with q.event.held) q.entry r
+        y_look = over_here (part_of s t p) h (desk_with q.event.held) q.entry r
 
         not_away : (a : Shows.AwayShows sys w course low is_real g p) → ⊥
         not_away a = clash _ on (subst (λ b. w.looks b p ≡ false) (sym (x.good.alone a.ticket p a.holds a.looks t holds_p)) a.looks)
@@ -1067,7 +1067,7 @@ module _ {A F R J : Type 0} (sys : Actors A F R J) (w : Way) (law : IsWay w) (co
         z_end = record { stage = Done; given = g.lines.given; main = g.main t; parting = all_parting q.event.held q.event.sent; entry = with_body q.entry (Some body_end); body = body_end; trail = g.trail }
 
         abbrev pub y_end : Part A F R
-        y_end = over_here (part_of sys s t p) h (desk_with q.event.held) (with_body q.entry (Some body_end)) r
+        y_end = over_here (part_of s t p) h (desk_with q.event.held) (with_body q.entry (Some body_end)) r
 
         pub is_end : y ≡ y_end → IsChange z_end
         is_end ye = record {
@@ -1135,7 +1135,7 @@ module _ {A F R J : Type 0} (sys : Actors A F R J) (w : Way) (law : IsWay w) (co
           transfer = record { host = to; path = p; letter = Transfer entry_sent }
 
           abbrev pub y_moved : Part A F R
-          y_moved = over_there p (part_of sys s t p) h (desk_with q.event.held) (with_body q.entry (Some body_end)) r to
+          y_moved = over_there p (part_of s t p) h (desk_with q.event.held) (with_body q.entry (Some body_end)) r to
 
           trail_off_m : (a : Path) → path_eq p a ≡ false → (z_moved).trail a ≡ g.trail a
           trail_off_m a d = set_there path_eq g.trail p _ a d

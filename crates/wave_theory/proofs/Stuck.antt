@@ -15,7 +15,7 @@ use Rattle.wave_theory.proofs.Frames.{entered_spot, holds_spot, visits_of, optio
 use Rattle.wave_theory.proofs.Shows
 use Rattle.wave_states.specs.States.{ask_in, is_coming, is_release, entry_in}
 use Rattle.wave_states.specs.Steps.{entry_for, Deliver, Born, Wait, route_by, letter_at}
-use Rattle.wave_theory.specs.States.{CanTake, IsOut}
+use Rattle.wave_theory.specs.NeverStuck.{CanTake, IsOut}
 use Rattle.wave_theory.proofs.Ranks.{rank_every}
 use Rattle.wave_theory.proofs.Tracks.{routed}
 use Rattle.wave_theory.proofs.Leaves.{Follows}
@@ -37,9 +37,9 @@ module _ {A F R J : Type 0} (sys : Actors A F R J) (w : Way) (law : IsWay w) (co
     pub parting_can : (b : ℕ) (p : Path) → g.lines.holds p b ≡ true → w.held b (g.lines.pos b) p ≡ false → Can b
     parting_can b p h n = elim o.letter [
       | inl r ↦ (let l = subst (Shows.MailShows sys w course low is_real g b (g.parting b p) (o).mail.host (o).mail.path) r shown in
-          Able.take_free sys workers s v less idle b (g.parting b p) (o).mail.path (o).mail.host (Able.free_can (part_of sys s b (o).mail.path) b (g.parting b p) (o).mail.path (o).mail.host (g.entry (o).mail.path) (o).mail.letter
+          Able.take_free sys workers s v less idle b (g.parting b p) (o).mail.path (o).mail.host (Able.free_can (part_of s b (o).mail.path) b (g.parting b p) (o).mail.path (o).mail.host (g.entry (o).mail.path) (o).mail.letter
           (ap (s.columns (o).mail.path).store l.0.host_is ∙ (stays_of (o).mail.path (born_of (o).mail.path b l.0.holds)).there l.1) (Able.letter_there (s.cells b) (g.parting b p) (o).mail o.there) (ap is_release r)))
-      | inr r ↦ Able.take_land sys workers s v less idle b (g.parting b p) (o).mail.path (o).mail.host (Able.land_can (part_of sys s b (o).mail.path) (g.parting b p) (o).mail.path (o).mail.host (o).mail.letter r.0 (Able.letter_there (s.cells b) (g.parting b p) (o).mail o.there) (ap entry_in r.1))
+      | inr r ↦ Able.take_land sys workers s v less idle b (g.parting b p) (o).mail.path (o).mail.host (Able.land_can (part_of s b (o).mail.path) (g.parting b p) (o).mail.path (o).mail.host (o).mail.letter r.0 (Able.letter_there (s.cells b) (g.parting b p) (o).mail o.there) (ap entry_in r.1))
     ]
       where
         o : Alive.PartingThere (s.cells b).mails (g.parting b p) p
@@ -91,7 +91,7 @@ module _ {A F R J : Type 0} (sys : Actors A F R J) (w : Way) (law : IsWay w) (co
             before : (a b : ℕ) → (a ≡ b → ⊥) → (b < a → ⊥) → a < b
             before a b e l = grind arith
 
-        older_can : (b : ℕ) → g.lines.holds p b ≡ true → (b : ℕ) × (b ≤ t) × (Can b ⊎ IsOut sys s b)
+        older_can : (b : ℕ) → g.lines.holds p b ≡ true → (b : ℕ) × (b ≤ t) × (Can b ⊎ IsOut s b)
         older_can b h = (b, omega (arith, older b h), inl (parting_can b p h (ap (λ k. w.held b k p) (ended_before b (older b h)) ∙ law.none b p)))
 
         -- its number is the next
@@ -114,7 +114,7 @@ module _ {A F R J : Type 0} (sys : Actors A F R J) (w : Way) (law : IsWay w) (co
                 not_granted_less b l lb vb e = (let r : rank w p b ≤ g.lines.served p = (x.good.grants b p lb vb).0 (record { known = omega (arith, l, la); entered = ap (λ k. w.entered b k p) (ended_before b l) ∙ vb; past = λ u. absurd (clash _ u (ap is_pending (earlier b l))) }) in omega (arith, e))
 
       abbrev GoesOn : Type 0
-      GoesOn = (b : ℕ) × (b ≤ t) × (Can b ⊎ IsOut sys s b)
+      GoesOn = (b : ℕ) × (b ≤ t) × (Can b ⊎ IsOut s b)
 
       own : Can t → GoesOn
       own k = (t, omega arith, inl k)
@@ -137,12 +137,12 @@ module _ {A F R J : Type 0} (sys : Actors A F R J) (w : Way) (law : IsWay w) (co
 
           by_holders : (hs : List Claim) → (g.entry p).holders ≡ hs → (g.trail p).stored ≡ true → GoesOn
           by_holders (b ∷ hs) h st = older_can waits b.ticket (sym ((x.entries p).holders b.ticket) ∙ ap (λ u. Shows.holds_claim u b.ticket) h ∙ ap (λ i. i || Shows.holds_claim hs b.ticket) (number_self b.ticket))
-          by_holders [] h st = own (Able.take_grant sys workers s v less idle t p (owner (g.trail p)) (Able.grant_can (part_of sys s t p) t p (owner (g.trail p)) c.event (g.entry p) claim.claim c.event_is ((stays_of p born).there st)
+          by_holders [] h st = own (Able.take_grant sys workers s v less idle t p (owner (g.trail p)) (Able.grant_can (part_of s t p) t p (owner (g.trail p)) c.event (g.entry p) claim.claim c.event_is ((stays_of p born).there st)
               (ap (g.entry p).waiting (ap suc (x.entries p).served ∙ sym (is_next waits)) ∙ claim.there) claim.ticket_is h))
 
       -- a Visit or a Back is under way
       coming : g.lines.stage t ≡ Coming → GoesOn
-      coming e = (let o = one.coming e in own (Able.take_visit sys workers s v less idle t (g.main t) o.mail.path o.mail.host (Able.visit_can (part_of sys s t o.mail.path) (g.main t) o.mail.path o.mail.host c.event o.mail.letter c.event_is
+      coming e = (let o = one.coming e in own (Able.take_visit sys workers s v less idle t (g.main t) o.mail.path o.mail.host (Able.visit_can (part_of s t o.mail.path) (g.main t) o.mail.path o.mail.host c.event o.mail.letter c.event_is
           (Able.letter_there (s.cells t) (g.main t) o.mail o.there) (elim o.coming [ inl u ↦ ap is_coming u | inr u ↦ ap is_coming u ]))))
 
       -- at the context
@@ -173,7 +173,7 @@ module _ {A F R J : Type 0} (sys : Actors A F R J) (w : Way) (law : IsWay w) (co
           ready : g.out t ≡ false → (st : Status) → c.event.status ≡ st → Shows.StatusShows st There (g.out t) p → GoesOn
           ready o (Ready q) z h = elim (options (g.entry p).body) [
             | inl n ↦ (let aw = (x.entries p).away n in absurd (clash _ (ap g.out (x.good.alone aw.ticket p aw.holds aw.looks t holds) ∙ aw.out) o))
-            | inr r ↦ own (Able.take_start sys workers s v less idle t p (owner (g.trail p)) (Able.start_can (part_of sys s t p) t p (owner (g.trail p)) c.event (g.entry p) (seg).actor r.0 c.event_is ((stays_of p (born_of p t holds)).there stored) (c.actor o ∙ seg.actor_is) r.1 (z ∙ ap Ready h.0)))
+            | inr r ↦ own (Able.take_start sys workers s v less idle t p (owner (g.trail p)) (Able.start_can (part_of s t p) t p (owner (g.trail p)) c.event (g.entry p) (seg).actor r.0 c.event_is ((stays_of p (born_of p t holds)).there stored) (c.actor o ∙ seg.actor_is) r.1 (z ∙ ap Ready h.0)))
           ]
           ready o (Running q) z h = absurd (clash _ h.1 o)
           ready o Travelling z h = absurd h
@@ -203,7 +203,7 @@ module _ {A F R J : Type 0} (sys : Actors A F R J) (w : Way) (law : IsWay w) (co
           followed = subst (λ r. (o).ask.followed ≤ (g.trail r).last) shown.place shown.followed
 
           queue_at : (en : Entry F) → entry_for sys p (o).mail.host (s.columns p) (route (s.columns p) (o).mail.host (o).ask.followed) ≡ Some en → GoesOn
-          queue_at en r = own (Able.take_queue sys workers s v less idle t (g.main t) p (o).mail.host (Able.queue_can sys (part_of sys s t p) t (g.main t) p (o).mail.host c.event (o).mail.letter (o).ask en c.event_is letter_p (ap ask_in o.letter) r))
+          queue_at en r = own (Able.take_queue sys workers s v less idle t (g.main t) p (o).mail.host (Able.queue_can sys (part_of s t p) t (g.main t) p (o).mail.host c.event (o).mail.letter (o).ask en c.event_is letter_p (ap ask_in o.letter) r))
 
           not_born : g.born p ≡ false → GoesOn
           not_born b = queue_at (new_entry sys p) (ap (entry_for sys p (o).mail.host (s.columns p)) (ap₂ (λ i j. if is_some i then Deliver else route_by j (o).ask.followed) (u.empty.no_entry (o).mail.host) (u.empty.no_marks (o).mail.host) ∙ ap (λ i. if nat_eq i 0 then Born else Wait) zero_followed))
@@ -237,7 +237,7 @@ module _ {A F R J : Type 0} (sys : Actors A F R J) (w : Way) (law : IsWay w) (co
 
               pass_on : (to : ℕ) → route (s.columns p) (o).mail.host (o).ask.followed ≡ Forward to → GoesOn
               pass_on to r = (let mark = option_some ((s.columns p).gone (o).mail.host) (Able.forward_mark (s.columns p) (o).mail.host (o).ask.followed to r) in
-                  own (Able.take_pass sys workers s v less idle t (g.main t) p to (o).mail.host (Able.pass_can (part_of sys s t p) (g.main t) p to (o).mail.host (o).mail.letter (o).ask mark.0 letter_p (ap ask_in o.letter) mark.1 r)))
+                  own (Able.take_pass sys workers s v less idle t (g.main t) p to (o).mail.host (Able.pass_can (part_of s t p) (g.main t) p to (o).mail.host (o).mail.letter (o).ask mark.0 letter_p (ap ask_in o.letter) mark.1 r)))
 
       -- at the end
       done : g.lines.stage t ≡ Done → t ≡ suc (s.before + s.head.done) → GoesOn

@@ -7,7 +7,6 @@ use Rattle.std.specs.List.{list_any, AllByRecursion}
 use Rattle.wave_base.specs.declared.path.Step.{Step}
 use Rattle.wave_base.specs.declared.path.Path.{Path}
 use Rattle.wave_base.specs.Paths.{path_eq}
-use Rattle.wave_states.specs.Actors.{Actors}
 use Rattle.wave_states.specs.States.{State, Cell, Claim, Entry, Event, Record, Mail, steps_of, Ask}
 use Rattle.wave_states.specs.Steps.{free, route, Deliver, Wait, Forward}
 use Rattle.wave_theory.proofs.Basics.{clash, some_same, none_not, options, number_cases, bool_cases}
@@ -25,6 +24,7 @@ use Rattle.std.proofs.lemmas.List.Elements.{recursion_from_All}
 use Rattle.wave_base.specs.Places.{load_of}
 use Rattle.wave_base.specs.Fold.{Head, Ran, Progress, next_job, with_result, with_job}
 use Rattle.wave_states.specs.Begins.{Begin}
+use Rattle.wave_states.specs.Kinds.{Kind}
 use Rattle.wave_states.specs.Owes.{Owes, IsBegin}
 use Rattle.wave_states.specs.Owners.{IsOwner, IsComing}
 use Rattle.wave_states.specs.Alone.{fold_alone, job_after, run_alone}
@@ -34,7 +34,11 @@ use Rattle.wave_theory.proofs.Folds
 use Rattle.wave_theory.proofs.Beginning.{rank_start}
 use Rattle.wave_theory.proofs.Reached.{Heads, Good_state, ResultIs, result_of}
 use Rattle.wave_theory.proofs.Reached
-use Rattle.wave_theory.specs.States.{Results, Tickets, IsNumber, Numbers, HasEntry, Records, NothingAt, served_before}
+use Rattle.wave_theory.specs.Results.{Results, Tickets}
+use Rattle.wave_theory.specs.Numbers.{IsNumber, Numbers, HasEntry}
+use Rattle.wave_theory.specs.Records.{Records}
+use Rattle.wave_theory.specs.Bounds.{NothingAt}
+use Rattle.wave_theory.specs.Always.{served_before}
 
 same_mail : {F : Type 0} (m : Mail F) (h : ℕ) (p : Path) (l : Rattle.wave_states.specs.States.Letter F) → m.host ≡ h → m.path ≡ p → m.letter ≡ l → m ≡ record { host = h; path = p; letter = l }
 same_mail m h p l e f k = λ i. record { host = e i; path = f i; letter = k i }
@@ -45,60 +49,60 @@ load_last xs y p = sum_by-append (λ x. cond (list_any (path_eq p) x) 1 0) xs (y
     one : (a c : ℕ) → a + (0 + c) ≡ a + c
     one a c = omega arith
 
-module _ {A F R J : Type 0} (sys : Actors A F R J) (hosts : ℕ) (fits : Path → F → Type 0) (is_job : J → Type 0) (fine : A → Path → ℕ → Type 0) (owes : Owes sys hosts fits is_job fine) (b : Begin F) (batches : List (List J)) (begins : IsBegin sys hosts fits is_job fine b) (jobs : All (All is_job) batches) where
+module _ {A F R J : Type 0} (kind : Kind A F R J) (owes : Owes kind) (b : Begin F) (batches : List (List J)) (begins : IsBegin kind b) (jobs : All (All kind.is_job) batches) where
   abbrev w : Way
-  w = Courses.w sys hosts fits is_job fine owes b batches begins jobs
+  w = Courses.w kind owes b batches begins jobs
 
-  abbrev course : Course sys
-  course = Courses.course sys hosts fits is_job fine owes b batches begins jobs
+  abbrev course : Course kind.system
+  course = Courses.course kind owes b batches begins jobs
 
   abbrev Is_real : ℕ → Type 0
-  Is_real = Courses.Real sys hosts fits is_job fine owes b batches begins jobs
+  Is_real = Courses.Real kind owes b batches begins jobs
 
   law : IsWay w
-  law = Courses.law sys hosts fits is_job fine owes b batches begins jobs
+  law = Courses.law kind owes b batches begins jobs
 
   abbrev at : ℕ → Progress F R J
-  at n = fold_alone sys b batches n
+  at n = fold_alone kind.system b batches n
 
   abbrev ran : ℕ → J → Ran F R
-  ran i j = run_alone sys (suc b.before + i) (at i).tree j
+  ran i j = run_alone kind.system (suc b.before + i) (at i).tree j
 
-  pub goes_on : (i : ℕ) (j : J) → job_after sys b batches i ≡ Some j → at (suc i) ≡ with_result (suc b.before) (run_alone sys) sys.created (at i) (ran i j)
-  goes_on i j e = Folds.goes_on sys b batches i j e (done_at sys hosts fits is_job fine owes b batches begins jobs i j e)
+  pub goes_on : (i : ℕ) (j : J) → job_after kind.system b batches i ≡ Some j → at (suc i) ≡ with_result (suc b.before) (run_alone kind.system) kind.system.created (at i) (ran i j)
+  goes_on i j e = Folds.goes_on kind.system b batches i j e (done_at kind owes b batches begins jobs i j e)
 
   -- a ticket comes to a context where its run enters it
-  pub visits_is : (i : ℕ) (j : J) (p : Path) → job_after sys b batches i ≡ Some j → visits w (suc b.before + i) p ≡ list_any (path_eq p) (ran i j).entered
-  visits_is i j p e = ap (λ (v : View A F R). v.one.entered (suc v.one.last) p) (view_real sys hosts fits is_job fine owes b batches begins jobs i j e) ∙ ap (λ ps. list_any (path_eq p) ps) (sym (entered_after sys hosts fits is_job fine owes b batches begins jobs i j e))
+  pub visits_is : (i : ℕ) (j : J) (p : Path) → job_after kind.system b batches i ≡ Some j → visits w (suc b.before + i) p ≡ list_any (path_eq p) (ran i j).entered
+  visits_is i j p e = ap (λ (v : View A F R). v.one.entered (suc v.one.last) p) (view_real kind owes b batches begins jobs i j e) ∙ ap (λ ps. list_any (path_eq p) ps) (sym (entered_after kind owes b batches begins jobs i j e))
 
-  load_next : (i : ℕ) (j : J) (p : Path) → job_after sys b batches i ≡ Some j → load_of (at (suc i)).entered p ≡ load_of (at i).entered p + (if visits w (suc b.before + i) p then 1 else 0)
+  load_next : (i : ℕ) (j : J) (p : Path) → job_after kind.system b batches i ≡ Some j → load_of (at (suc i)).entered p ≡ load_of (at i).entered p + (if visits w (suc b.before + i) p then 1 else 0)
   load_next i j p e = ap (λ (v : Progress F R J). load_of v.entered p) (goes_on i j e) ∙ load_last (at i).entered (ran i j).entered p ∙ ap (λ u. load_of (at i).entered p + (if u then 1 else 0)) (sym (visits_is i j p e))
 
   done_below : (n : ℕ) → (at n).head.done ≤ n
-  done_below zero = subst (λ i. i ≤ 0) (sym (Folds.zero_done sys b batches)) (omega arith)
+  done_below zero = subst (λ i. i ≤ 0) (sym (Folds.zero_done kind.system b batches)) (omega arith)
   done_below (suc n) = by (next_job (at n).head) refl (done_below n)
     where
-      by : (o : Option J) → next_job (at n).head ≡ o → (at n).head.done ≤ n → (with_job (suc b.before) (run_alone sys) sys.created (at n) o).head.done ≤ suc n
+      by : (o : Option J) → next_job (at n).head ≡ o → (at n).head.done ≤ n → (with_job (suc b.before) (run_alone kind.system) kind.system.created (at n) o).head.done ≤ suc n
       by None e l = omega arith
       by (Some j) e l = subst (λ i. i ≤ suc n) (sym (Folds.with_done_done (at n).head _)) (omega arith)
 
   -- of so many jobs the last one is there, and the others
-  last_there : (m : ℕ) → (at (suc m)).head.done ≡ suc m → ((at m).head.done ≡ m) × (j : J) × (job_after sys b batches m ≡ Some j)
-  last_there m e = elim (options (job_after sys b batches m)) [
-    | inl n ↦ absurd (let l = done_below m in let z : suc m ≡ (at m).head.done = sym e ∙ ap (λ (v : Progress F R J). v.head.done) (Folds.stays sys b batches m n) in omega arith)
-    | inr n ↦ (done_at sys hosts fits is_job fine owes b batches begins jobs m n.0 n.1, n.0, n.1)
+  last_there : (m : ℕ) → (at (suc m)).head.done ≡ suc m → ((at m).head.done ≡ m) × (j : J) × (job_after kind.system b batches m ≡ Some j)
+  last_there m e = elim (options (job_after kind.system b batches m)) [
+    | inl n ↦ absurd (let l = done_below m in let z : suc m ≡ (at m).head.done = sym e ∙ ap (λ (v : Progress F R J). v.head.done) (Folds.stays kind.system b batches m n) in omega arith)
+    | inr n ↦ (done_at kind owes b batches begins jobs m n.0 n.1, n.0, n.1)
   ]
 
   -- how many tickets came, by the fold
-  pub rank_is : (m : ℕ) (p : Path) → (at m).head.done ≡ m → rank w p (b.before + m) ≡ served_before sys b batches p + load_of (at m).entered p
+  pub rank_is : (m : ℕ) (p : Path) → (at m).head.done ≡ m → rank w p (b.before + m) ≡ served_before kind b batches p + load_of (at m).entered p
   unfolding rank
-  rank_is zero p e = ap (rank w p) (let z : b.before + 0 ≡ b.before = omega arith in z) ∙ rank_start sys hosts fits is_job fine owes b batches begins jobs p ∙ (let z : served_before sys b batches p ≡ served_before sys b batches p + 0 = omega arith in z)
+  rank_is zero p e = ap (rank w p) (let z : b.before + 0 ≡ b.before = omega arith in z) ∙ rank_start kind owes b batches begins jobs p ∙ (let z : served_before kind b batches p ≡ served_before kind b batches p + 0 = omega arith in z)
   rank_is (suc m) p e =
       let l = last_there m e in
       ap (rank w p) (let z : b.before + suc m ≡ suc (b.before + m) = omega arith in z)
       ∙ choose (visits w (suc (b.before + m)) p) (rank w p (b.before + m))
       ∙ ap (λ n. n + (if visits w (suc (b.before + m)) p then 1 else 0)) (rank_is m p l.0)
-      ∙ plus _ _ _ ∙ ap (λ n. served_before sys b batches p + n) (ap (λ t. load_of (at m).entered p + (if visits w t p then 1 else 0)) (let z : suc (b.before + m) ≡ suc b.before + m = omega arith in z) ∙ sym (load_next m l.1 p l.2))
+      ∙ plus _ _ _ ∙ ap (λ n. served_before kind b batches p + n) (ap (λ t. load_of (at m).entered p + (if visits w t p then 1 else 0)) (let z : suc (b.before + m) ≡ suc b.before + m = omega arith in z) ∙ sym (load_next m l.1 p l.2))
     where
       choose : (i : Bool) (n : ℕ) → (if i then suc n else n) ≡ n + (if i then 1 else 0)
       choose true n = omega arith
@@ -107,12 +111,12 @@ module _ {A F R J : Type 0} (sys : Actors A F R J) (hosts : ℕ) (fits : Path �
       plus : (a c d : ℕ) → (a + c) + d ≡ a + (c + d)
       plus a c d = omega arith
 
-  module _ (s : State A F R J) (k : Good_state sys hosts fits is_job fine owes b batches begins jobs s) where
-    x : Shows.Shows sys w course b.before Is_real s k.ghost
+  module _ (s : State A F R J) (k : Good_state kind owes b batches begins jobs s) where
+    x : Shows.Shows kind.system w course b.before Is_real s k.ghost
     x = k.shows
 
     -- the number of a ticket that comes
-    pub number_of : (t : ℕ) (p : Path) (n : ℕ) → b.before < t → Is_real t → visits w t p ≡ true → n ≡ rank w p t → IsNumber sys b batches p t n
+    pub number_of : (t : ℕ) (p : Path) (n : ℕ) → b.before < t → Is_real t → visits w t p ≡ true → n ≡ rank w p t → IsNumber kind b batches p t n
     number_of t p n lt r v e = record {
       index = r.index;
       ticket_is = r.ticket_is;
@@ -123,7 +127,7 @@ module _ {A F R J : Type 0} (sys : Actors A F R J) (hosts : ℕ) (fits : Path �
     }
       where
         there : (at (suc r.index)).head.done ≡ suc r.index
-        there = ap (λ (v : Progress F R J). v.head.done) (goes_on r.index r.job r.job_is) ∙ Folds.with_done_done (at r.index).head _ ∙ ap suc (done_at sys hosts fits is_job fine owes b batches begins jobs r.index r.job r.job_is)
+        there = ap (λ (v : Progress F R J). v.head.done) (goes_on r.index r.job r.job_is) ∙ Folds.with_done_done (at r.index).head _ ∙ ap suc (done_at kind owes b batches begins jobs r.index r.job r.job_is)
 
     entering_done : Entering ≡ Done → ⊥
     entering_done e = grind arith
@@ -132,19 +136,19 @@ module _ {A F R J : Type 0} (sys : Actors A F R J) (hosts : ℕ) (fits : Path �
     lined_done e = grind arith
 
     comes_spot : (t : ℕ) (p : Path) → t ≤ (k.ghost).lines.admitted → ((k.ghost).lines.stage t ≡ Done → ⊥) → here w (k.ghost).lines t ≡ p → visits w t p ≡ true
-    comes_spot t p l n e = subst (λ r. visits w t r ≡ true) e (visits_of sys w law course b.before Is_real k.ghost x.good t (here w (k.ghost).lines t) l (entered_spot sys w law course b.before Is_real k.ghost x.good t l n))
+    comes_spot t p l n e = subst (λ r. visits w t r ≡ true) e (visits_of kind.system w law course b.before Is_real k.ghost x.good t (here w (k.ghost).lines t) l (entered_spot kind.system w law course b.before Is_real k.ghost x.good t l n))
 
     mail_known : (t i : ℕ) (m : Mail F) → (s.cells t).mails i ≡ Some m → (b.before < t) × (t ≤ (k.ghost).lines.admitted)
-    mail_known t i m e = Reached.known sys hosts fits is_job fine owes b batches begins jobs s k.ghost x t (λ q. none_not (sym (ap (λ (u : Cell A F R). u.mails i) q) ∙ e))
+    mail_known t i m e = Reached.known kind owes b batches begins jobs s k.ghost x t (λ q. none_not (sym (ap (λ (u : Cell A F R). u.mails i) q) ∙ e))
 
-    pub entry_same : (p : Path) (en : Entry F) → HasEntry sys b batches s p en → en ≡ (k.ghost).entry p
-    entry_same p en (inl e) = (found sys w course b.before Is_real k.ghost p (s.columns p) e.0 en (x.columns p) e.1).entry_is
+    pub entry_same : (p : Path) (en : Entry F) → HasEntry s p en → en ≡ (k.ghost).entry p
+    entry_same p en (inl e) = (found kind.system w course b.before Is_real k.ghost p (s.columns p) e.0 en (x.columns p) e.1).entry_is
     entry_same p en (inr e) = (let n = mail_known e.0 e.1 _ e.3 in ((x.cells e.0 n.0 n.1).mails e.1 _ e.3).2)
 
-    pub numbers : Numbers sys b batches s
+    pub numbers : Numbers kind b batches s
     numbers = record {
       enters = λ t i m a e l. let n = mail_known t i m e in
-          let y : Shows.EnterShows sys w course b.before Is_real k.ghost t i m.host m.path a = subst (Shows.MailShows sys w course b.before Is_real k.ghost t i m.host m.path) l ((x.cells t n.0 n.1).mails i m e) in
+          let y : Shows.EnterShows kind.system w course b.before Is_real k.ghost t i m.host m.path a = subst (Shows.MailShows kind.system w course b.before Is_real k.ghost t i m.host m.path) l ((x.cells t n.0 n.1).mails i m e) in
           number_of t m.path a.number n.0 (x.cells t n.0 n.1).real (comes_spot t m.path n.1 (λ d. entering_done (sym y.stage ∙ d)) (sym y.place)) y.number;
       waits = λ p en j c h e. let y = (x.entries p).waits j c (ap (λ (u : Entry F). u.waiting j) (sym (entry_same p en h)) ∙ e) in
           number_of c.ticket p j y.later (x.cells c.ticket y.later y.known).real (comes_spot c.ticket p y.known (λ d. lined_done (sym y.stage ∙ d)) y.place) y.number;
@@ -157,18 +161,18 @@ module _ {A F R J : Type 0} (sys : Actors A F R J) (hosts : ℕ) (fits : Path �
       | inr z ↦ calm_of hs p f.1 g.1 t (ap (λ i. i || Shows.holds_claim hs t) (sym z) ∙ e)
     ]
 
-    pub records : Records sys b batches s
+    pub records : Records kind b batches s
     records p host en r n st free body there served =
-        let f = found sys w course b.before Is_real k.ghost p (s.columns p) host en (x.columns p) st in
+        let f = found kind.system w course b.before Is_real k.ghost p (s.columns p) host en (x.columns p) st in
         let e = x.entries p in
-        let calm : Shows.IsCalm sys w course b.before Is_real (k.ghost).lines p = λ t h. calm_of en.holders p (recursion_from_All (λ (c : Claim). c.peek ≡ true) en.holders free) (subst (λ (u : Entry F). AllByRecursion (λ c. c.peek ≡ w.looks c.ticket p) u.holders) (sym f.entry_is) e.peeks) t (ap (λ (u : Entry F). Shows.holds_claim u.holders t) f.entry_is ∙ e.holders t ∙ h) in
+        let calm : Shows.IsCalm kind.system w course b.before Is_real (k.ghost).lines p = λ t h. calm_of en.holders p (recursion_from_All (λ (c : Claim). c.peek ≡ true) en.holders free) (subst (λ (u : Entry F). AllByRecursion (λ c. c.peek ≡ w.looks c.ticket p) u.holders) (sym f.entry_is) e.peeks) t (ap (λ (u : Entry F). Shows.holds_claim u.holders t) f.entry_is ∙ e.holders t ∙ h) in
         let l = x.kept.calm p (b.before + n) calm (rank_is n p there ∙ sym served ∙ ap (λ (u : Entry F). u.served) f.entry_is ∙ e.served) (omega arith) in
         let same : r ≡ (k.ghost).body p = e.body r (ap (λ (u : Entry F). u.body) (sym f.entry_is) ∙ body) in
-        let leaf : course.leaf (suc (b.before + n)) 0 p ≡ Courses.leaf_of (at n).tree p = ap (λ t. course.leaf t 0 p) (let z : suc (b.before + n) ≡ suc b.before + n = omega arith in z) ∙ ap (λ (v : View A F R). v.leaf 0 p) (view_later sys hosts fits is_job fine owes b batches begins jobs n) ∙ leaf_first sys hosts fits is_job fine owes b batches begins jobs n (job_after sys b batches n) p in
+        let leaf : course.leaf (suc (b.before + n)) 0 p ≡ Courses.leaf_of (at n).tree p = ap (λ t. course.leaf t 0 p) (let z : suc (b.before + n) ≡ suc b.before + n = omega arith in z) ∙ ap (λ (v : View A F R). v.leaf 0 p) (view_later kind owes b batches begins jobs n) ∙ leaf_first kind owes b batches begins jobs n (job_after kind.system b batches n) p in
         (ap (λ (u : Record F). u.fields) same ∙ l.fields ∙ ap (λ (u : F × List Step). u.0) leaf, ap (λ (u : Record F). steps_of u.children) same ∙ l.steps ∙ ap (λ (u : F × List Step). u.1) leaf)
 
     pub owner_is : (p : Path) (h : ℕ) → IsOwner s p h → h ≡ owner ((k.ghost).trail p)
-    owner_is p h (inl e) = (let o = option_some ((s.columns p).store h) e in (found sys w course b.before Is_real k.ghost p (s.columns p) h o.0 (x.columns p) o.1).host_is)
+    owner_is p h (inl e) = (let o = option_some ((s.columns p).store h) e in (found kind.system w course b.before Is_real k.ghost p (s.columns p) h o.0 (x.columns p) o.1).host_is)
     owner_is p h (inr e) = (let n = mail_known e.ticket e.number _ e.mail in ((x.cells e.ticket n.0 n.1).mails e.number _ e.mail).0.host_is)
 
     pub one_owner : (p : Path) (h h' : ℕ) → IsOwner s p h → IsOwner s p h' → h ≡ h'
@@ -177,16 +181,15 @@ module _ {A F R J : Type 0} (sys : Actors A F R J) (hosts : ℕ) (fits : Path �
     pub record Bounded_by : Type 0 where
       pub cells : (t : ℕ) → (s.before < t → t ≤ s.before + s.admitted → ⊥) → s.cells t ≡ record { event = None; mails = λ k. None; result = None }
       pub mails : (t i : ℕ) (e : Event A) → (s.cells t).event ≡ Some e → e.sent < i → (s.cells t).mails i ≡ None
-      pub children : (q : Path) (st : Step) (host : ℕ) (en : Entry F) (r : Record F) → (s.columns q).store host ≡ Some en → en.body ≡ Some r → child_at r.children st ≡ None → (h : ℕ) → NothingAt s (q ++ st ∷ []) h
+      pub children : (q : Path) (st : Step) (en : Entry F) (r : Record F) → HasEntry s q en → en.body ≡ Some r → child_at r.children st ≡ None → (h : ℕ) → NothingAt s (q ++ st ∷ []) h
 
     pub bounds : Bounded_by
     bounds = record {
       cells = λ t n. x.no_cells t (λ l m. n (subst (λ i. i < t) (sym x.before) l) (subst (λ i. t ≤ i) (x.admitted ∙ ap (λ i. i + s.admitted) (sym x.before)) m));
-      mails = λ t i e p l. let n = Reached.known sys hosts fits is_job fine owes b batches begins jobs s k.ghost x t (λ q. none_not (sym (ap (λ (u : Cell A F R). u.event) q) ∙ p)) in
+      mails = λ t i e p l. let n = Reached.known kind owes b batches begins jobs s k.ghost x t (λ q. none_not (sym (ap (λ (u : Cell A F R). u.event) q) ∙ p)) in
           let c = x.cells t n.0 n.1 in c.unused i (subst (λ (u : Event A). u.sent < i) (some_same e c.event (sym p ∙ c.event_is)) l);
-      children = λ q st h en r se be ce i. let f = found sys w course b.before Is_real k.ghost q (s.columns q) h en (x.columns q) se in
-          let same : r ≡ (k.ghost).body q = (x.entries q).body r (ap (λ (u : Entry F). u.body) (sym f.entry_is) ∙ be) in
-          let c : Shows.Unborn sys w course b.before Is_real k.ghost (q ++ st ∷ []) (s.columns (q ++ st ∷ [])) = subst (λ o. Shows.ColumnShows sys w course b.before Is_real o k.ghost (q ++ st ∷ []) (s.columns (q ++ st ∷ []))) ((x.entries q).strangers st (ap (λ (u : Record F). child_at u.children st) (sym same) ∙ ce)) (x.columns (q ++ st ∷ [])) in
+      children = λ q st en r se be ce i. let same : r ≡ (k.ghost).body q = (x.entries q).body r (ap (λ (u : Entry F). u.body) (sym (entry_same q en se)) ∙ be) in
+          let c : Shows.Unborn kind.system w course b.before Is_real k.ghost (q ++ st ∷ []) (s.columns (q ++ st ∷ [])) = subst (λ o. Shows.ColumnShows kind.system w course b.before Is_real o k.ghost (q ++ st ∷ []) (s.columns (q ++ st ∷ []))) ((x.entries q).strangers st (ap (λ (u : Record F). child_at u.children st) (sym same) ∙ ce)) (x.columns (q ++ st ∷ [])) in
           (c.empty.no_entry i, c.empty.no_marks i);
     }
 
@@ -206,37 +209,37 @@ module _ {A F R J : Type 0} (sys : Actors A F R J) (hosts : ℕ) (fits : Path �
         append (a ∷ xs) ys zero e = e
         append (a ∷ xs) ys (suc i) e = append xs ys i e
 
-        by : (o : Option J) → slice_get (at m).results i ≡ Some r → slice_get (with_job (suc b.before) (run_alone sys) sys.created (at m) o).results i ≡ Some r
+        by : (o : Option J) → slice_get (at m).results i ≡ Some r → slice_get (with_job (suc b.before) (run_alone kind.system) kind.system.created (at m) o).results i ≡ Some r
         by None e = e
         by (Some j) e = append (at m).results _ i e
 
     length_results : (n : ℕ) → length (at n).results ≡ (at n).head.done
-    length_results zero = sym (Folds.zero_done sys b batches)
+    length_results zero = sym (Folds.zero_done kind.system b batches)
     length_results (suc n) = by (next_job (at n).head) (length_results n)
       where
         longer : (xs : List R) (r : R) → length (xs ++ r ∷ []) ≡ suc (length xs)
         longer [] r = refl
         longer (a ∷ xs) r = ap suc (longer xs r)
 
-        by : (o : Option J) → length (at n).results ≡ (at n).head.done → length (with_job (suc b.before) (run_alone sys) sys.created (at n) o).results ≡ (with_job (suc b.before) (run_alone sys) sys.created (at n) o).head.done
+        by : (o : Option J) → length (at n).results ≡ (at n).head.done → length (with_job (suc b.before) (run_alone kind.system) kind.system.created (at n) o).results ≡ (with_job (suc b.before) (run_alone kind.system) kind.system.created (at n) o).head.done
         by None e = e
         by (Some j) e = longer (at n).results _ ∙ ap suc e ∙ sym (Folds.with_done_done (at n).head _)
 
-    result_there : (i : ℕ) (j : J) → job_after sys b batches i ≡ Some j → slice_get (at (suc i)).results i ≡ Some (ran i j).result
-    result_there i j e = ap (λ (v : Progress F R J). slice_get v.results i) (goes_on i j e) ∙ at_end (at i).results (ran i j).result i (length_results i ∙ done_at sys hosts fits is_job fine owes b batches begins jobs i j e)
+    result_there : (i : ℕ) (j : J) → job_after kind.system b batches i ≡ Some j → slice_get (at (suc i)).results i ≡ Some (ran i j).result
+    result_there i j e = ap (λ (v : Progress F R J). slice_get v.results i) (goes_on i j e) ∙ at_end (at i).results (ran i j).result i (length_results i ∙ done_at kind owes b batches begins jobs i j e)
       where
         at_end : (xs : List R) (r : R) (i : ℕ) → length xs ≡ i → slice_get (xs ++ r ∷ []) i ≡ Some r
         at_end [] r i e = subst (λ n. slice_get (r ∷ []) n ≡ Some r) e refl
         at_end (a ∷ xs) r zero e = absurd (omega arith)
         at_end (a ∷ xs) r (suc i) e = at_end xs r i (omega arith)
 
-    pub results : Results sys b batches s
+    pub results : Results kind b batches s
     results n i l m =
         let o = option_some (s.cells (suc b.before + i)).result ((k.heads).over i m) in
-        let q = result_of sys hosts fits is_job fine owes b batches begins jobs s k.ghost x k.heads (suc b.before + i) o.0 o.1 in
+        let q = result_of kind owes b batches begins jobs s k.ghost x k.heads (suc b.before + i) o.0 o.1 in
         let z : q.index ≡ i = same_index b.before _ _ q.ticket_is in
-        let jobs_is : job_after sys b batches i ≡ Some q.job = ap (job_after sys b batches) (sym z) ∙ q.job_is in
-        (o.0, o.1, results_keep (suc i) n i o.0 (omega arith) (result_there i q.job jobs_is ∙ ap Some (ap (λ a. (run_alone sys (suc b.before + a) (at a).tree q.job).result) (sym z) ∙ q.result_is)))
+        let jobs_is : job_after kind.system b batches i ≡ Some q.job = ap (job_after kind.system b batches) (sym z) ∙ q.job_is in
+        (o.0, o.1, results_keep (suc i) n i o.0 (omega arith) (result_there i q.job jobs_is ∙ ap Some (ap (λ a. (run_alone kind.system (suc b.before + a) (at a).tree q.job).result) (sym z) ∙ q.result_is)))
       where
         same_index : (x a i : ℕ) → suc x + a ≡ suc x + i → i ≡ a
         same_index x a i e = omega arith
@@ -251,11 +254,11 @@ module _ {A F R J : Type 0} (sys : Actors A F R J) (hosts : ℕ) (fits : Path �
         at_or_below : (a c : ℕ) → a ≤ suc c → (a ≤ c) ⊎ (a ≡ suc c)
         at_or_below a c l = grind arith
 
-        by : (o : Option J) → slice_get (at m).head.known i ≡ Some j → slice_get (with_job (suc b.before) (run_alone sys) sys.created (at m) o).head.known i ≡ Some j
+        by : (o : Option J) → slice_get (at m).head.known i ≡ Some j → slice_get (with_job (suc b.before) (run_alone kind.system) kind.system.created (at m) o).head.known i ≡ Some j
         by None e = e
         by (Some a) e = Folds.done_keeps (at m).head _ i j e
 
-    pub tickets : Tickets sys b batches s
+    pub tickets : Tickets kind b batches s
     tickets = record {
       head_is = (k.heads).head_is;
       stay = λ n i j l e. known_keep s.head.done n i j l (ap (λ (u : Head J). slice_get u.known i) (sym (k.heads).head_is) ∙ e);
@@ -263,16 +266,16 @@ module _ {A F R J : Type 0} (sys : Actors A F R J) (hosts : ℕ) (fits : Path �
     }
 
     -- trails
-    enters_lie : (p : Path) → Rattle.wave_theory.specs.States.EntersLie s p (record { at = ((k.ghost).trail p).at; last = ((k.ghost).trail p).last })
+    enters_lie : (p : Path) → Rattle.wave_theory.specs.Trails.EntersLie s p (record { at = ((k.ghost).trail p).at; last = ((k.ghost).trail p).last })
     enters_lie p t i m a e q l =
         let n = mail_known t i m e in
-        let y : Shows.EnterShows sys w course b.before Is_real k.ghost t i m.host m.path a = subst (Shows.MailShows sys w course b.before Is_real k.ghost t i m.host m.path) l ((x.cells t n.0 n.1).mails i m e) in
+        let y : Shows.EnterShows kind.system w course b.before Is_real k.ghost t i m.host m.path a = subst (Shows.MailShows kind.system w course b.before Is_real k.ghost t i m.host m.path) l ((x.cells t n.0 n.1).mails i m e) in
         (subst (λ r. a.followed ≤ ((k.ghost).trail r).last) q y.followed, y.host_is ∙ ap (λ r. ((k.ghost).trail r).at a.followed) q)
 
     on_its_way : (p : Path) → (k.ghost).born p ≡ true → ((k.ghost).trail p).stored ≡ false → IsOwner s p (owner ((k.ghost).trail p))
     on_its_way p u st = by o.letter
       where
-        aw : Alive.AwayBy sys w course b.before Is_real k.ghost p
+        aw : Alive.AwayBy kind.system w course b.before Is_real k.ghost p
         aw = (k.alive).away p u st
 
         lt : b.before < (aw).ticket
@@ -284,25 +287,24 @@ module _ {A F R J : Type 0} (sys : Actors A F R J) (hosts : ℕ) (fits : Path �
         o : Alive.PartingThere (s.cells (aw).ticket).mails ((k.ghost).parting (aw).ticket p) p
         o = ((k.alive).one (aw).ticket lt la).parting p aw.holds aw.not_held
 
-        shown : Shows.MailShows sys w course b.before Is_real k.ghost (aw).ticket ((k.ghost).parting (aw).ticket p) (o).mail.host (o).mail.path (o).mail.letter
+        shown : Shows.MailShows kind.system w course b.before Is_real k.ghost (aw).ticket ((k.ghost).parting (aw).ticket p) (o).mail.host (o).mail.path (o).mail.letter
         shown = (x.cells (aw).ticket lt la).mails ((k.ghost).parting (aw).ticket p) (o).mail o.there
 
         by : ((o).mail.letter ≡ Rattle.wave_states.specs.States.Letter.Release) ⊎ ((en : Entry F) × ((o).mail.letter ≡ Rattle.wave_states.specs.States.Letter.Transfer en)) → IsOwner s p (owner ((k.ghost).trail p))
-        by (inl r) = (let y = subst (Shows.MailShows sys w course b.before Is_real k.ghost (aw).ticket ((k.ghost).parting (aw).ticket p) (o).mail.host (o).mail.path) r shown in absurd (clash _ (subst (λ i. ((k.ghost).trail i).stored ≡ true) o.path_is y.1) st))
-        by (inr r) = (let y = subst (Shows.MailShows sys w course b.before Is_real k.ghost (aw).ticket ((k.ghost).parting (aw).ticket p) (o).mail.host (o).mail.path) r.1 shown in inr (record {
+        by (inl r) = (let y = subst (Shows.MailShows kind.system w course b.before Is_real k.ghost (aw).ticket ((k.ghost).parting (aw).ticket p) (o).mail.host (o).mail.path) r shown in absurd (clash _ (subst (λ i. ((k.ghost).trail i).stored ≡ true) o.path_is y.1) st))
+        by (inr r) = (let y = subst (Shows.MailShows kind.system w course b.before Is_real k.ghost (aw).ticket ((k.ghost).parting (aw).ticket p) (o).mail.host (o).mail.path) r.1 shown in inr (record {
           ticket = (aw).ticket;
           number = (k.ghost).parting (aw).ticket p;
           entry = r.0;
           mail = o.there ∙ ap Some (same_mail (o).mail (owner ((k.ghost).trail p)) p (Rattle.wave_states.specs.States.Letter.Transfer r.0) (y.0.host_is ∙ ap (λ i. owner ((k.ghost).trail i)) o.path_is) o.path_is r.1);
         }))
 
-    birth_is : (p q : Path) (st : Step) (h : ℕ) (en : Entry F) (r : Record F) (c : Child) → q ++ st ∷ [] ≡ p → (s.columns q).store h ≡ Some en → en.body ≡ Some r → child_at r.children st ≡ Some c → c.birth.0 ≡ ((k.ghost).trail p).at 0
-    birth_is p q st h en r c e se be ce =
-        let f = found sys w course b.before Is_real k.ghost q (s.columns q) h en (x.columns q) se in
-        let same : r ≡ (k.ghost).body q = (x.entries q).body r (ap (λ (u : Entry F). u.body) (sym f.entry_is) ∙ be) in
+    birth_is : (p q : Path) (st : Step) (en : Entry F) (r : Record F) (c : Child) → q ++ st ∷ [] ≡ p → HasEntry s q en → en.body ≡ Some r → child_at r.children st ≡ Some c → c.birth.0 ≡ ((k.ghost).trail p).at 0
+    birth_is p q st en r c e se be ce =
+        let same : r ≡ (k.ghost).body q = (x.entries q).body r (ap (λ (u : Entry F). u.body) (sym (entry_same q en se)) ∙ be) in
         (x.entries q).births st c (ap (λ (u : Record F). child_at u.children st) (sym same) ∙ ce) ∙ ap (λ i. ((k.ghost).trail i).at 0) e
 
-    module _ (p : Path) (c : Shows.Stays sys w course b.before Is_real k.ghost p (s.columns p)) (t i : ℕ) (m : Mail F) (a : Ask) (e : (s.cells t).mails i ≡ Some m) (q : m.path ≡ p) (l : m.letter ≡ Rattle.wave_states.specs.States.Letter.Enter a) where
+    module _ (p : Path) (c : Shows.Stays kind.system w course b.before Is_real k.ghost p (s.columns p)) (t i : ℕ) (m : Mail F) (a : Ask) (e : (s.cells t).mails i ≡ Some m) (q : m.path ≡ p) (l : m.letter ≡ Rattle.wave_states.specs.States.Letter.Enter a) where
       lies : (a.followed ≤ ((k.ghost).trail p).last) × (m.host ≡ ((k.ghost).trail p).at a.followed)
       lies = enters_lie p t i m a e q l
 
@@ -336,19 +338,19 @@ module _ {A F R J : Type 0} (sys : Actors A F R J) (hosts : ℕ) (fits : Path �
           below_or : (i j : ℕ) → i ≤ j → (i < j) ⊎ (i ≡ j)
           below_or i j l = grind arith
 
-    wait_to : (p : Path) → (k.ghost).born p ≡ true → (c : Shows.Stays sys w course b.before Is_real k.ghost p (s.columns p)) (t i : ℕ) (m : Mail F) (a : Ask) → (s.cells t).mails i ≡ Some m → m.path ≡ p → m.letter ≡ Rattle.wave_states.specs.States.Letter.Enter a → route (s.columns p) m.host a.followed ≡ Wait → IsComing s p m.host × (a.followed ≡ ((k.ghost).trail p).last)
+    wait_to : (p : Path) → (k.ghost).born p ≡ true → (c : Shows.Stays kind.system w course b.before Is_real k.ghost p (s.columns p)) (t i : ℕ) (m : Mail F) (a : Ask) → (s.cells t).mails i ≡ Some m → m.path ≡ p → m.letter ≡ Rattle.wave_states.specs.States.Letter.Enter a → route (s.columns p) m.host a.followed ≡ Wait → IsComing s p m.host × (a.followed ≡ ((k.ghost).trail p).last)
     wait_to p u c t i m a e q l = wait_to_by p c t i m a e q l u
 
-    pub unborn_is : (p : Path) → (k.ghost).born p ≡ false → Rattle.wave_theory.specs.States.IsUnborn s p
-    unborn_is p u = of_column (subst (λ i. Shows.ColumnShows sys w course b.before Is_real i k.ghost p (s.columns p)) u (x.columns p))
+    pub unborn_is : (p : Path) → (k.ghost).born p ≡ false → Rattle.wave_theory.specs.Trails.IsUnborn s p
+    unborn_is p u = of_column (subst (λ i. Shows.ColumnShows kind.system w course b.before Is_real i k.ghost p (s.columns p)) u (x.columns p))
       where
-        of_column : Shows.Unborn sys w course b.before Is_real k.ghost p (s.columns p) → Rattle.wave_theory.specs.States.IsUnborn s p
+        of_column : Shows.Unborn kind.system w course b.before Is_real k.ghost p (s.columns p) → Rattle.wave_theory.specs.Trails.IsUnborn s p
         of_column c = record {
           no_entry = c.empty.no_entry;
           no_mark = c.empty.no_marks;
           not_coming = λ h o. not_coming h o;
           birth = ((k.ghost).trail p).at 0;
-          birth_is = λ q st h en r kid e se be ce. birth_is p q st h en r kid e se be ce;
+          birth_is = λ q st en r kid e se be ce. birth_is p q st en r kid e se be ce;
           enters = λ t i m a e q l. let r = enters_lie p t i m a e q l in (subst (λ n. a.followed ≤ n) c.last r.0, r.1 ∙ ap ((k.ghost).trail p).at (let z : a.followed ≡ 0 = at_zero a.followed _ r.0 c.last in z));
         }
           where
@@ -360,15 +362,15 @@ module _ {A F R J : Type 0} (sys : Actors A F R J) (hosts : ℕ) (fits : Path �
             not_coming h (inr e) = (let n = mail_known e.ticket e.number _ e.mail in let y = (x.cells e.ticket n.0 n.1).mails e.number _ e.mail in
                 clash _ y.0.holds (sym ((x.entries p).holders e.ticket) ∙ ap (λ (u : Entry F). Shows.holds_claim u.holders e.ticket) ((x.entries p).unborn u)))
 
-    pub trail_is : (p : Path) → (k.ghost).born p ≡ true → Rattle.wave_theory.specs.States.IsTrail s p (record { at = ((k.ghost).trail p).at; last = ((k.ghost).trail p).last })
-    trail_is p u = of_column (subst (λ i. Shows.ColumnShows sys w course b.before Is_real i k.ghost p (s.columns p)) u (x.columns p))
+    pub trail_is : (p : Path) → (k.ghost).born p ≡ true → Rattle.wave_theory.specs.Trails.IsTrail s p (record { at = ((k.ghost).trail p).at; last = ((k.ghost).trail p).last })
+    trail_is p u = of_column (subst (λ i. Shows.ColumnShows kind.system w course b.before Is_real i k.ghost p (s.columns p)) u (x.columns p))
       where
-        of_column : Shows.Stays sys w course b.before Is_real k.ghost p (s.columns p) → Rattle.wave_theory.specs.States.IsTrail s p (record { at = ((k.ghost).trail p).at; last = ((k.ghost).trail p).last })
+        of_column : Shows.Stays kind.system w course b.before Is_real k.ghost p (s.columns p) → Rattle.wave_theory.specs.Trails.IsTrail s p (record { at = ((k.ghost).trail p).at; last = ((k.ghost).trail p).last })
         of_column c = record {
           neighbours = c.track.neighbours;
           owned = elim (bool_cases ((k.ghost).trail p).stored) [ inl st ↦ inl (c.track.stored_is st) | inr st ↦ on_its_way p u st ];
           owner = owner_is p;
-          moves = λ h en e. (let f = found sys w course b.before Is_real k.ghost p (s.columns p) h en (x.columns p) e in ap (λ (u : Entry F). u.moves) f.entry_is ∙ (x.entries p).moves);
+          moves = λ en e. ap (λ (u : Entry F). u.moves) (entry_same p en e) ∙ (x.entries p).moves;
           marks = c.track.mark_is;
           unmarked = λ h e. elim (c.track.no_mark h e) [
             | inl z ↦ inl (ap (λ i. is_some ((s.columns p).store i)) z.1 ∙ c.track.stored_is z.0)
@@ -377,11 +379,11 @@ module _ {A F R J : Type 0} (sys : Actors A F R J) (hosts : ℕ) (fits : Path �
           here = λ h e. let z = c.track.store_is h e in ap (s.columns p).gone z.1 ∙ c.track.here_no_mark z.0;
           enters = enters_lie p;
           waits = λ t i m a e q l. (wait_to p u c t i m a e q l, wait_from p c t i m a e q l);
-          birth = λ q st h en r kid e se be ce. birth_is p q st h en r kid e se be ce;
+          birth = λ q st en r kid e se be ce. birth_is p q st en r kid e se be ce;
           from_zero = λ e. ap (λ r. ((k.ghost).trail r).at 0) e ∙ x.root_birth;
         }
 
-    pub trails : Rattle.wave_theory.specs.States.Trails s
+    pub trails : Rattle.wave_theory.specs.Trails.Trails kind b batches s
     trails p = elim (bool_cases ((k.ghost).born p)) [
       | inr u ↦ inl (unborn_is p u)
       | inl u ↦ inr (record { at = ((k.ghost).trail p).at; last = ((k.ghost).trail p).last }, trail_is p u)

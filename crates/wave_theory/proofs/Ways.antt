@@ -5,6 +5,7 @@ use Rattle.wave_base.specs.declared.path.Path.{Path}
 use Rattle.wave_base.specs.Paths.{path_eq, parent_of}
 use Rattle.wave_states.specs.Actors.{Actors}
 use Rattle.wave_states.specs.Alone.{Alone, has, next_alone, segment_if, segment_alone, goes_on, after_segments, count_from}
+use Rattle.wave_states.specs.Kinds.{Kind}
 use Rattle.wave_states.specs.Owes.{Owes}
 use Rattle.wave_theory.proofs.Basics.{bool_cases, clash, none_not, options, path_is, path_self, and_first, and_second}
 use Rattle.wave_theory.proofs.Order.{Way, IsWay}
@@ -172,77 +173,77 @@ module _ {A F R J : Type 0} (sys : Actors A F R J) where
     looks = looks_at (after_segments sys n x);
   }
 
-module _ {A F R J : Type 0} (sys : Actors A F R J) (hosts : ℕ) (fits : Path → F → Type 0) (is_job : J → Type 0) (fine : A → Path → ℕ → Type 0) (owes : Owes sys hosts fits is_job fine) where
-  module _ (x : Alone A F R) (n : ℕ) (fin : Fine sys hosts fits is_job fine owes x) (c : Counts sys x (suc n)) where
+module _ {A F R J : Type 0} (kind : Kind A F R J) (owes : Owes kind) where
+  module _ (x : Alone A F R) (n : ℕ) (fin : Fine kind owes x) (c : Counts kind.system x (suc n)) where
     abbrev pub step : ℕ → Alone A F R
-    step k = after_segments sys k x
+    step k = after_segments kind.system k x
 
-    pub all_fine : (k : ℕ) → Fine sys hosts fits is_job fine owes (after_segments sys k x)
+    pub all_fine : (k : ℕ) → Fine kind owes (after_segments kind.system k x)
     unfolding after_segments
     all_fine zero = fin
-    all_fine (suc k) = elim (options (after_segments sys k x).result) [
-      | inl z ↦ (step_moved sys hosts fits is_job fine owes (after_segments sys k x) (all_fine k) z).fine_then
-      | inr z ↦ subst (Fine sys hosts fits is_job fine owes) (sym (stays_over sys (after_segments sys k x) z.0 z.1)) (all_fine k)
+    all_fine (suc k) = elim (options (after_segments kind.system k x).result) [
+      | inl z ↦ (step_moved kind owes (after_segments kind.system k x) (all_fine k) z).fine_then
+      | inr z ↦ subst (Fine kind owes) (sym (stays_over kind.system (after_segments kind.system k x) z.0 z.1)) (all_fine k)
     ]
 
-    pub moved_at : (k : ℕ) → k ≤ n → Moved sys hosts fits is_job fine owes (after_segments sys k x) (after_segments sys (suc k) x)
+    pub moved_at : (k : ℕ) → k ≤ n → Moved kind owes (after_segments kind.system k x) (after_segments kind.system (suc k) x)
     unfolding after_segments
-    moved_at k l = step_moved sys hosts fits is_job fine owes (after_segments sys k x) (all_fine k) (c.under k (omega arith))
+    moved_at k l = step_moved kind owes (after_segments kind.system k x) (all_fine k) (c.under k (omega arith))
 
-    not_over : (k : ℕ) → k ≤ n → (after_segments sys (suc k) x).result ≡ None → suc k ≤ n
+    not_over : (k : ℕ) → k ≤ n → (after_segments kind.system (suc k) x).result ≡ None → suc k ≤ n
     not_over k l e = elim (at_or_below k n l) [
       | inl m ↦ m
-      | inr m ↦ absurd (none_not (sym e ∙ subst (λ i. (after_segments sys (suc i) x).result ≡ Some c.result) (sym m) c.ends))
+      | inr m ↦ absurd (none_not (sym e ∙ subst (λ i. (after_segments kind.system (suc i) x).result ≡ Some c.result) (sym m) c.ends))
     ]
       where
         at_or_below : (a b : ℕ) → a ≤ b → (suc a ≤ b) ⊎ (a ≡ b)
         at_or_below a b l = grind arith
 
-    stands_at : (k : ℕ) → k ≤ n → (base : Path) × Stands sys hosts fits is_job fine owes (after_segments sys k x) base
+    stands_at : (k : ℕ) → k ≤ n → (base : Path) × Stands kind owes (after_segments kind.system k x) base
     stands_at k l = elim (all_fine k).phase [
       | inl z ↦ (z.1, z.2)
       | inr z ↦ absurd (none_not (sym (c.under k (omega arith)) ∙ z.1))
     ]
 
-    pub held_there : (k : ℕ) → k ≤ n → has (after_segments sys k x).held (after_segments sys k x).at ≡ true
-    held_there k l = (let s = stands_at k l in at_held sys hosts fits is_job fine owes (after_segments sys k x) s.0 s.1)
+    pub held_there : (k : ℕ) → k ≤ n → has (after_segments kind.system k x).held (after_segments kind.system k x).at ≡ true
+    held_there k l = (let s = stands_at k l in at_held kind owes (after_segments kind.system k x) s.0 s.1)
 
     -- a context is entered once: where the last segment only looks, no earlier one was there
-    looked_last : (k : ℕ) → k ≤ n → (m : ℕ) → n ≡ m → (after_segments sys m x).peek ≡ true → (after_segments sys m x).at ≡ (after_segments sys k x).at → k ≡ n
+    looked_last : (k : ℕ) → k ≤ n → (m : ℕ) → n ≡ m → (after_segments kind.system m x).peek ≡ true → (after_segments kind.system m x).at ≡ (after_segments kind.system k x).at → k ≡ n
     looked_last k l zero e pk same = omega arith
     looked_last k l (suc m) e pk same = elim (at_or_below k (suc m) (subst (λ i. k ≤ i) e l)) [
       | inr z ↦ z ∙ sym e
       | inl z ↦ absurd (clash _
-          (earlier k m (omega arith) (after_segments sys (suc m) x).at (subst (λ q. has (after_segments sys k x).entered q ≡ true) (sym same) ((all_fine k).held_entered _ (held_there k l))))
+          (earlier k m (omega arith) (after_segments kind.system (suc m) x).at (subst (λ q. has (after_segments kind.system k x).entered q ≡ true) (sym same) ((all_fine k).held_entered _ (held_there k l))))
           ((moved_at m (omega arith)).once (c.under (suc m) (omega arith)) ((all_fine (suc m)).peeking pk).0))
     ]
       where
         at_or_below : (a b : ℕ) → a ≤ b → (a < b) ⊎ (a ≡ b)
         at_or_below a b l = grind arith
 
-        earlier : (a b : ℕ) → a ≤ b → (q : Path) → has (after_segments sys a x).entered q ≡ true → has (after_segments sys b x).entered q ≡ true
-        earlier a zero l q h = subst (λ i. has (after_segments sys i x).entered q ≡ true) (let z : a ≡ 0 = omega arith in z) h
+        earlier : (a b : ℕ) → a ≤ b → (q : Path) → has (after_segments kind.system a x).entered q ≡ true → has (after_segments kind.system b x).entered q ≡ true
+        earlier a zero l q h = subst (λ i. has (after_segments kind.system i x).entered q ≡ true) (let z : a ≡ 0 = omega arith in z) h
         earlier a (suc b) l q h = elim (at_or_below a (suc b) l) [
-          | inr z ↦ subst (λ i. has (after_segments sys i x).entered q ≡ true) z h
+          | inr z ↦ subst (λ i. has (after_segments kind.system i x).entered q ≡ true) z h
           | inl z ↦ kept_on b q (earlier a b (omega arith) q h)
         ]
           where
-            kept_on : (b : ℕ) (q : Path) → has (after_segments sys b x).entered q ≡ true → has (after_segments sys (suc b) x).entered q ≡ true
-            kept_on b q h = elim (options (after_segments sys b x).result) [
-              | inl z ↦ subst (λ v. has v.entered q ≡ true) (sym (next_is sys b x)) ((step_moved sys hosts fits is_job fine owes (after_segments sys b x) (all_fine b) z).kept q h)
-              | inr z ↦ subst (λ v. has v.entered q ≡ true) (sym (next_is sys b x ∙ stays_over sys (after_segments sys b x) z.0 z.1)) h
+            kept_on : (b : ℕ) (q : Path) → has (after_segments kind.system b x).entered q ≡ true → has (after_segments kind.system (suc b) x).entered q ≡ true
+            kept_on b q h = elim (options (after_segments kind.system b x).result) [
+              | inl z ↦ subst (λ v. has v.entered q ≡ true) (sym (next_is kind.system b x)) ((step_moved kind owes (after_segments kind.system b x) (all_fine b) z).kept q h)
+              | inr z ↦ subst (λ v. has v.entered q ≡ true) (sym (next_is kind.system b x ∙ stays_over kind.system (after_segments kind.system b x) z.0 z.1)) h
             ]
 
-    pub one_is : (x.fresh ≡ true) → (x.at ≡ []) → ((p : Path) → has x.entered p ≡ true → p ≡ []) → IsOne (one_of sys x n)
+    pub one_is : (x.fresh ≡ true) → (x.at ≡ []) → ((p : Path) → has x.entered p ≡ true → p ≡ []) → IsOne (one_of kind.system x n)
     one_is f a r = record {
-      first_fresh = ap (λ y. y.fresh) (none_yet sys x) ∙ f;
-      first_place = ap (λ y. y.at) (none_yet sys x) ∙ a;
-      first_entered = λ p e. r p (subst (λ y. has y.entered p ≡ true) (none_yet sys x) e);
+      first_fresh = ap (λ y. y.fresh) (none_yet kind.system x) ∙ f;
+      first_place = ap (λ y. y.at) (none_yet kind.system x) ∙ a;
+      first_entered = λ p e. r p (subst (λ y. has y.entered p ≡ true) (none_yet kind.system x) e);
       at_held = λ k l. held_there k l;
       held_entered = λ k p. (all_fine k).held_entered p;
-      kept = λ k p e. elim (options (after_segments sys k x).result) [
-        | inl z ↦ subst (λ v. has v.entered p ≡ true) (sym (next_is sys k x)) ((step_moved sys hosts fits is_job fine owes (after_segments sys k x) (all_fine k) z).kept p e)
-        | inr z ↦ subst (λ v. has v.entered p ≡ true) (sym (next_is sys k x ∙ stays_over sys (after_segments sys k x) z.0 z.1)) e
+      kept = λ k p e. elim (options (after_segments kind.system k x).result) [
+        | inl z ↦ subst (λ v. has v.entered p ≡ true) (sym (next_is kind.system k x)) ((step_moved kind owes (after_segments kind.system k x) (all_fine k) z).kept p e)
+        | inr z ↦ subst (λ v. has v.entered p ≡ true) (sym (next_is kind.system k x ∙ stays_over kind.system (after_segments kind.system k x) z.0 z.1)) e
       ];
       new = λ k p l e. elim ((moved_at k l).new p e) [
         | inl z ↦ inl z
@@ -260,30 +261,30 @@ module _ {A F R J : Type 0} (sys : Actors A F R J) (hosts : ℕ) (fits : Path �
         | inl z ↦ absurd (none_not (sym z.0 ∙ c.ends))
         | inr z ↦ subst (λ hs. has hs p ≡ false) (sym z.2) refl
       ];
-      looks_last = λ k l e. looked_last k l n refl (and_first _ _ e) (path_is _ _ (and_second (after_segments sys n x).peek _ e));
+      looks_last = λ k l e. looked_last k l n refl (and_first _ _ e) (path_is _ _ (and_second (after_segments kind.system n x).peek _ e));
     }
 
     -- a segment for which a context is entered is a look exactly where the ticket only looks at that context
-    pub looks_is : (k : ℕ) → k ≤ n → (after_segments sys k x).fresh ≡ true → (one_of sys x n).looks (after_segments sys k x).at ≡ (after_segments sys k x).peek
-    looks_is k l g = elim (bool_cases (after_segments sys k x).peek) [
+    pub looks_is : (k : ℕ) → k ≤ n → (after_segments kind.system k x).fresh ≡ true → (one_of kind.system x n).looks (after_segments kind.system k x).at ≡ (after_segments kind.system k x).peek
+    looks_is k l g = elim (bool_cases (after_segments kind.system k x).peek) [
       | inl e ↦ (let m : k ≡ n = last_one k l e in
-          subst (λ i. looks_at sys (after_segments sys i x) (after_segments sys k x).at ≡ (after_segments sys k x).peek) m
-          (and_true _ _ (path_self (after_segments sys k x).at)))
-      | inr e ↦ elim (bool_cases (looks_at sys (after_segments sys n x) (after_segments sys k x).at)) [
+          subst (λ i. looks_at kind.system (after_segments kind.system i x) (after_segments kind.system k x).at ≡ (after_segments kind.system k x).peek) m
+          (and_true _ _ (path_self (after_segments kind.system k x).at)))
+      | inr e ↦ elim (bool_cases (looks_at kind.system (after_segments kind.system n x) (after_segments kind.system k x).at)) [
         | inr z ↦ z ∙ sym e
-        | inl z ↦ absurd (clash _ (subst (λ i. (after_segments sys i x).peek ≡ true) (sym (looked_last k l n refl (and_first _ _ z) (path_is _ _ (and_second (after_segments sys n x).peek _ z)))) (and_first _ _ z)) e)
+        | inl z ↦ absurd (clash _ (subst (λ i. (after_segments kind.system i x).peek ≡ true) (sym (looked_last k l n refl (and_first _ _ z) (path_is _ _ (and_second (after_segments kind.system n x).peek _ z)))) (and_first _ _ z)) e)
       ]
     ]
       where
         and_true : (a b : Bool) → b ≡ true → (a && b) ≡ a
         and_true a b e = grind arith
 
-        last_one : (k : ℕ) → k ≤ n → (after_segments sys k x).peek ≡ true → k ≡ n
+        last_one : (k : ℕ) → k ≤ n → (after_segments kind.system k x).peek ≡ true → k ≡ n
         last_one k l e = elim (at_or_below k n l) [
           | inr z ↦ z
-          | inl z ↦ absurd (let o = look_ends sys hosts fits is_job fine owes (after_segments sys k x) (all_fine k) (c.under k (omega arith)) e in
-              none_not (sym (c.under (suc k) (omega arith)) ∙ ap (λ y. y.result) (next_is sys k x ∙ ap (segment_if sys (after_segments sys k x)) (c.under k (omega arith)))
-              ∙ ap (λ u. (goes_on sys (after_segments sys k x) (segment_alone sys (after_segments sys k x)).actor (segment_alone sys (after_segments sys k x)).fields u).result) o.1))
+          | inl z ↦ absurd (let o = look_ends kind owes (after_segments kind.system k x) (all_fine k) (c.under k (omega arith)) e in
+              none_not (sym (c.under (suc k) (omega arith)) ∙ ap (λ y. y.result) (next_is kind.system k x ∙ ap (segment_if kind.system (after_segments kind.system k x)) (c.under k (omega arith)))
+              ∙ ap (λ u. (goes_on kind.system (after_segments kind.system k x) (segment_alone kind.system (after_segments kind.system k x)).actor (segment_alone kind.system (after_segments kind.system k x)).fields u).result) o.1))
         ]
           where
             at_or_below : (a b : ℕ) → a ≤ b → (a < b) ⊎ (a ≡ b)

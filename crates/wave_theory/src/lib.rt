@@ -3,13 +3,24 @@
 
 mod acting;
 mod counter;
+mod given;
 mod laws;
 mod movers;
+mod shown;
 
 pub use acting::Acting;
-pub use counter::{Counter, at_movers_and_walkers, at_the_counter};
+pub use counter::Counter;
+pub use given::{
+    agree, all_moves, changes, doable, ends, hands_stay_over, holders, holding, loads, may_run,
+    measured, reads, sent, stoppable, within,
+};
 pub use laws::{
-    bounded, bounds, by_owners, came, complete, counted, hands_stay, independent, listed,
-    never_stuck, numbers, one_host, one_owner, records, results, sorted, tickets, traced, trails,
+    bounded, bounds, by_owners, came, complete, counted, driven, empty_at_end, families,
+    hands_stay, independent, listed, listed_for, never_stuck, numbers, one_host, one_owner,
+    records, results, rules_pick, sorted, tickets, traced, trails,
 };
 pub use movers::{Movers, Walkers};
+pub use shown::{
+    at_movers, at_the_counter, at_walkers, given_at_movers, given_at_the_counter, given_at_walkers,
+    moves_end,
+};

@@ -1,8 +1,10 @@
 ghost use Rattle.std.specs.Prelude.{ℕ, List};
 ghost use Rattle.wave_base.specs.declared.path.Path.{Path};
 ghost use Rattle.wave_states.specs.Movers.{Move, Mover, MoveEnd};
-ghost use Rattle.wave_states.specs.Walkers.{Walker, IsWalker};
-ghost use Rattle.wave_theory.specs.Movers.{Setting, Fits, IsMove, movers_in, IsMoverIn, movers_owe, IsWalk, walkers_in, walkers_owe};
+ghost use Rattle.wave_states.specs.Walkers.{Walker};
+ghost use Rattle.wave_states.proofs.Moving.{movers_owe};
+ghost use Rattle.wave_states.proofs.Walking.{walkers_owe};
+ghost use Rattle.wave_theory.specs.Movers.{Setting, Fits, movers_in, walkers_in};
 
 use crate::acting::Acting;
 
@@ -20,17 +22,9 @@ impl Acting for Movers {
 
     ghost Job = { Move };
 
-    ghost system = { movers_in };
+    ghost kind = { movers_in };
 
-    ghost hosts = { λ c. c.hosts };
-
-    ghost fits = { λ c. Fits };
-
-    ghost is_job = { IsMove };
-
-    ghost fine = { IsMoverIn };
-
-    ghost owed = { movers_owe };
+    ghost owed = { λ c. movers_owe c.initial c.hosts Fits (λ p. tt) };
 }
 
 /// Walks through all contexts.
@@ -47,15 +41,7 @@ impl Acting for Walkers {
 
     ghost Job = { Unit {0} };
 
-    ghost system = { walkers_in };
+    ghost kind = { walkers_in };
 
-    ghost hosts = { λ c. c.hosts };
-
-    ghost fits = { λ c. Fits };
-
-    ghost is_job = { λ c. IsWalk };
-
-    ghost fine = { λ c. IsWalker };
-
-    ghost owed = { walkers_owe };
+    ghost owed = { λ c. walkers_owe c.initial c.hosts Fits (λ p. tt) };
 }

@@ -4,4 +4,4 @@ use Rattle.wave_theory.proofs.Canon
 
 pub returns : goal.returns
 returns g c = λ code workers b batches begins plan labels s e. let a = g.T.Acting in
-    Canon.listed (a.system code) (a.hosts code) (a.fits code) (a.is_job code) (a.fine code) (a.owed code) b batches begins plan.jobs s (Reached.reached (a.system code) (a.hosts code) (a.fits code) (a.is_job code) (a.fine code) (a.owed code) b batches begins plan.jobs plan.some_host workers s labels e) workers
+    Canon.listed (a.kind code) (a.owed code) b batches begins plan.jobs s (Reached.reached (a.kind code) (a.owed code) b batches begins plan.jobs plan.some_host workers s labels e) workers

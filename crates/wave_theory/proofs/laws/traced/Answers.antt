@@ -3,4 +3,4 @@ use Rattle.wave_theory.proofs.Noted
 
 pub returns : goal.returns
 returns g c = λ code workers b batches begins plan labels s e. let a = g.T.Acting in
-    Noted.traced (a.system code) (a.hosts code) (a.fits code) (a.is_job code) (a.fine code) (a.owed code) b batches begins plan.jobs plan.some_host workers labels s e
+    Noted.traced (a.kind code) (a.owed code) b batches begins plan.jobs plan.some_host workers labels s e

@@ -1,0 +1,3 @@
+pub mod MapLemmas
+mod QueueMaps
+pub mod Holding

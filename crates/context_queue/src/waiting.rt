@@ -1,0 +1,105 @@
+ghost use Rattle.std.specs.Prelude.{◌≡◌, ◌≤◌, ◌<◌, ◌+◌, ◌^◌, OnOk, IfSome};
+ghost use Rattle.std.specs.FinMap as map;
+
+use std::alloc::Global;
+use std::collections::HashMap;
+use std::marker::Model;
+use wave_base::{OutOfMemory, Ticket};
+
+/// A ticket that waits at a context, and whether it only looks, so that it may hold the context beside others that do.
+#[derive(Clone, Copy, Debug, PartialEq, Eq)]
+pub struct Claim {
+    pub ticket: Ticket,
+    pub peek: bool,
+}
+
+/// The line of a context: the tickets that wait, each under its entry number.
+#[derive(Drop)]
+pub struct Waiting {
+    claims: HashMap<u64, Claim>,
+}
+
+impl Model for Waiting {
+    ghost use Rattle.std.specs.Prelude.{◌≡◌, ◌^◌, None, nat_eq};
+    ghost use Rattle.std.specs.Map.{lookup};
+    ghost use Rattle.std.specs.FinMap as map;
+    ghost use Rattle.std.specs.HashMap.{spare};
+    ghost use Rattle.context_queue.specs.Lines.{Line, line_code};
+
+    ghost Value = { Line };
+
+    ghost coded = { line_code };
+
+    ghost view = { λ a. record { claims = map.from_entries a.claims.entries; room = spare a.claims } };
+
+    ghost invariant = { λ a. lookup (nat_eq (2 ^ 64)) a.claims.entries ≡ None };
+}
+
+impl Waiting {
+    /// Nobody waits.
+    pub fn new(alloc: Global) -> Waiting
+        ensures { result.claims ≡ map.empty }
+    {
+        Waiting {
+            claims: HashMap::new(alloc),
+        }
+    }
+
+    /// How many wait.
+    pub fn len(&self) -> usize
+        ensures { result ≡ map.len self.now.claims }
+    {
+        self.claims.len()
+    }
+
+    /// Who waits under an entry number.
+    pub fn get(&self, number: u64) -> Option<Claim>
+        ensures { result ≡ map.get self.now.claims number }
+    {
+        match self.claims.get(&number) {
+            Some(claim) => Some(*claim),
+            None => None,
+        }
+    }
+
+    /// Who waits under the number after this one.
+    pub fn after(&self, number: u64) -> Option<Claim>
+        ensures claim { result ≡ map.get self.now.claims (number + 1) }
+        ensures counted { IfSome result (λ _. number + 1 < 2 ^ 64) }
+    {
+        if self.claims.is_empty() {
+            return None;
+        }
+        match number.checked_add(1) {
+            Some(next) => self.get(next),
+            None => None,
+        }
+    }
+
+    /// Makes room for so many more.
+    pub fn reserve(&mut self, more: usize) -> Result<(), OutOfMemory>
+        ensures ok { OnOk result (more ≤ self.new.room) }
+        ensures room { self.old.room ≤ self.new.room }
+        ensures claims { self.new.claims ≡ self.old.claims }
+    {
+        self.claims.reserve(more)?;
+        Ok(())
+    }
+
+    /// A claim joins under an entry number.
+    pub fn join(&mut self, number: u64, claim: Claim)
+        requires { 1 ≤ self.old.room }
+        ensures claims { self.new.claims ≡ map.insert self.old.claims number claim }
+        ensures room { self.old.room ≤ self.new.room + 1 }
+    {
+        let _ = self.claims.insert(number, claim);
+    }
+
+    /// The claim under an entry number leaves.
+    pub fn leave(&mut self, number: u64)
+        ensures claims { self.new.claims ≡ map.remove self.old.claims number }
+        ensures room { self.old.room ≤ self.new.room }
+    {
+        let _ = self.claims.remove(&number);
+    }
+}

@@ -1,0 +1,47 @@
+-- The lemmas of tables at paths.
+use Rattle.std.proofs.Common.{◌≡◌, ℕ, zero, suc, true, List, [], ◌∷◌, Option, Some, None, cond, position, slice_get, get_or, sym, ap, ◌∙◌}
+use Rattle.std.proofs.lemmas.List.Quantifiers.{position-Some}
+use Rattle.std.specs.Option.{unwrap_or}
+use Rattle.std.specs.Map.{lookup, keys_of, values_of}
+use Rattle.std.specs.FinMap as table
+use Rattle.wave_base.specs.declared.path.Path.{Path}
+use Rattle.wave_base.specs.Paths.{path_eq, path_cmp}
+use Rattle.wave_base.specs.PathLaws.{path_cmp_total, path_eq_equiv, path_eq_ties, path_eq_decides, same_path}
+use Rattle.context_queue.proofs.MapLemmas as m
+use Rattle.indexmap.specs.IndexMap.{IndexMap, IsUnique, keys, values, with_value_at}
+use Rattle.indexmap.proofs.CallerLemmas.{updates-with_value_at}
+
+module _ {X : Type 0} where
+  pub get_is_lookup : (q : Path) (es : List (Path × X)) → table.get (table.from_entries {R = path_cmp} es) q ≡ lookup (path_eq q) es
+  get_is_lookup = m.get_is_lookup path_cmp path_eq path_cmp_total same_path path_eq_equiv.symm path_eq_ties
+
+  pub same_entries : (es fs : List (Path × X)) → ((q : Path) → lookup (path_eq q) fs ≡ lookup (path_eq q) es) → table.from_entries {R = path_cmp} fs ≡ table.from_entries es
+  same_entries = m.same_entries path_cmp path_eq path_cmp_total same_path path_eq_equiv.symm path_eq_ties
+
+  pub inserted : (es fs : List (Path × X)) (k : Path) (v : X) → ((q : Path) → lookup (path_eq q) fs ≡ cond (path_eq k q) (Some v) (lookup (path_eq q) es))
+      → table.from_entries {R = path_cmp} fs ≡ table.insert (table.from_entries es) k v
+  inserted = m.inserted path_cmp path_eq path_cmp_total same_path path_eq_equiv.symm path_eq_ties
+
+  pub removed : (es fs : List (Path × X)) (k : Path) → ((q : Path) → lookup (path_eq q) fs ≡ cond (path_eq k q) None (lookup (path_eq q) es))
+      → table.from_entries {R = path_cmp} fs ≡ table.remove (table.from_entries es) k
+  removed = m.removed path_cmp path_eq path_cmp_total same_path path_eq_equiv.symm path_eq_ties
+
+-- ---- a write behind a reference into the table
+
+key_at : (p k : Path) → path_eq p k ≡ true → k ≡ p
+key_at p k e = sym ((path_eq_decides p k).0 e)
+
+module _ {X : Type 0} where
+  same_Some : (x y : X) → Some x ≡ Some y → x ≡ y
+  same_Some x y e = ap (λ o. unwrap_or o x) e
+
+  entry_at : (es : List (Path × X)) (i : ℕ) (p : Path) (v : X) → get_or (keys_of es) i p ≡ p → slice_get (values_of es) i ≡ Some v → slice_get es i ≡ Some (p, v)
+  entry_at [] i p v k e = cc
+  entry_at (e ∷ es) zero p v k h = ap Some (λ j. (k j, same_Some e.1 v h j))
+  entry_at (e ∷ es) (suc i) p v k h = entry_at es i p v k h
+
+  module _ {S : Type 0} (m : IndexMap Path X S) (p : Path) (i : ℕ) (v : X) (unique : IsUnique path_eq m) (at : position (path_eq p) (keys m) ≡ Some i) (value : slice_get (values m) i ≡ Some v) where
+    pub written : (w : X) → table.from_entries {R = path_cmp} (with_value_at m i w).entries ≡ table.insert (table.from_entries m.entries) p w
+    written w =
+        let key : get_or (keys m) i p ≡ p = key_at p (get_or (keys m) i p) (position-Some (path_eq p) (keys m) i p at).1 in
+        inserted m.entries (with_value_at m i w).entries p w (updates-with_value_at m i w path_eq_equiv unique p v (entry_at m.entries i p v key value)).0

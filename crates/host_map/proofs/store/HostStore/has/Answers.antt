@@ -1,0 +1,7 @@
+use Rattle.std.proofs.Common.{sym, ap, ◌∙◌, is_some}
+use Rattle.std.specs.FinMap as table
+use Rattle.host_map.proofs.StoreMaps.{get_is_lookup}
+use Rattle.host_map.proofs.store.HostStore.has.Goals as goal
+
+pub returns : goal.returns
+returns c = c.contains_key.ensures ∙ ap is_some (sym (get_is_lookup c.args.path.now c.self.inside.store.entries) ∙ ap (λ v. table.get v.store c.args.path.now) c.self.view_is)

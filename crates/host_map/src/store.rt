@@ -1,0 +1,171 @@
+ghost use Rattle.std.specs.Prelude.{◌≡◌, ◌≤◌, ◌+◌, OnOk, option_copied, option_map, position, length, IfSome, ◌<◌};
+ghost use Rattle.std.specs.FinMap as map;
+ghost use Rattle.host_map.specs.Stores.{find_in, has};
+
+use context_queue::Entry;
+use indexmap::IndexMap;
+use std::alloc::Global;
+use std::marker::Model;
+use wave_base::{Host, OutOfMemory, Path};
+
+/// Where a context went from here, as its how-manieth move.
+#[derive(Clone, Copy, Debug, PartialEq, Eq)]
+pub struct Mark {
+    pub to: Host,
+    pub number: u64,
+}
+
+/// What a host has of a context.
+#[derive(Clone, Copy, Debug, PartialEq, Eq)]
+pub enum Found {
+    /// Its entry is here.
+    Here,
+    /// It went from here.
+    Gone(Mark),
+    /// Neither.
+    Unknown,
+}
+
+/// The entries of a host, and its departure marks.
+#[derive(Drop)]
+pub struct HostStore {
+    pub(crate) store: IndexMap<Path, Entry>,
+    gone: IndexMap<Path, Mark>,
+}
+
+impl Model for HostStore {
+    ghost use Rattle.std.specs.FinMap as map;
+    ghost use Rattle.std.specs.HashMap.{spare};
+    ghost use Rattle.host_map.specs.Stores.{Stores, stores_code};
+
+    ghost Value = { Stores };
+
+    ghost coded = { stores_code };
+
+    ghost view = { λ a. record { store = map.from_entries a.store.entries; gone = map.from_entries a.gone.entries; path_room = spare a.store; mark_room = spare a.gone } };
+}
+
+impl HostStore {
+    /// No entries and no marks.
+    pub fn new(alloc: Global) -> HostStore
+        ensures store { result.store ≡ map.empty }
+        ensures gone { result.gone ≡ map.empty }
+    {
+        HostStore {
+            store: IndexMap::new(alloc),
+            gone: IndexMap::new(alloc),
+        }
+    }
+
+    /// What is here of a context.
+    pub fn find(&self, path: &Path) -> Found
+        ensures { result ≡ find_in self.now path.now }
+    {
+        if self.has(path) {
+            return Found::Here;
+        }
+        match self.departure(path) {
+            Some(mark) => Found::Gone(mark),
+            None => Found::Unknown,
+        }
+    }
+
+    // The mark of a context.
+    fn departure(&self, path: &Path) -> Option<Mark>
+        ensures { result ≡ map.get self.now.gone path.now }
+    {
+        match self.gone.get(path) {
+            Some(mark) => Some(*mark),
+            None => None,
+        }
+    }
+
+    /// Whether the entry of a context is here.
+    pub fn has(&self, path: &Path) -> bool
+        ensures { result ≡ has path.now self.now }
+    {
+        self.store.contains_key(path)
+    }
+
+    /// The entry of a context.
+    pub fn entry(&self, path: &Path) -> Option<&Entry>
+        ensures { option_copied result ≡ map.get self.now.store path.now }
+    {
+        self.store.get(path)
+    }
+
+    /// Makes room for one more entry and for one more mark.
+    pub fn reserve(&mut self) -> Result<(), OutOfMemory>
+        ensures path { OnOk result (1 ≤ self.new.path_room) }
+        ensures mark { OnOk result (1 ≤ self.new.mark_room) }
+        ensures path_room { self.old.path_room ≤ self.new.path_room }
+        ensures mark_room { self.old.mark_room ≤ self.new.mark_room }
+        ensures store { self.new.store ≡ self.old.store }
+        ensures gone { self.new.gone ≡ self.old.gone }
+    {
+        self.store.reserve(1)?;
+        self.gone.reserve(1)?;
+        Ok(())
+    }
+
+    /// A context is here from now on.
+    pub fn birth(&mut self, path: Path, entry: Entry)
+        requires { 1 ≤ self.old.path_room }
+        ensures store { self.new.store ≡ map.insert self.old.store path entry }
+        ensures gone { self.new.gone ≡ self.old.gone }
+        ensures path_room { self.old.path_room ≤ self.new.path_room + 1 }
+        ensures mark_room { self.new.mark_room ≡ self.old.mark_room }
+    {
+        let _ = self.store.insert(path, entry);
+    }
+
+    /// Takes the entry of a context out.
+    pub fn take(&mut self, path: &Path) -> Option<Entry>
+        ensures entry { result ≡ map.get self.old.store path.now }
+        ensures store { self.new.store ≡ map.remove self.old.store path.now }
+        ensures gone { self.new.gone ≡ self.old.gone }
+        ensures path_room { self.old.path_room ≤ self.new.path_room }
+        ensures mark_room { self.new.mark_room ≡ self.old.mark_room }
+    {
+        self.store.swap_remove(path)
+    }
+
+    /// Leaves a mark for a context, in place of one that is here.
+    pub fn mark(&mut self, path: Path, mark: Mark)
+        requires { 1 ≤ self.old.mark_room }
+        ensures gone { self.new.gone ≡ map.insert self.old.gone path mark }
+        ensures store { self.new.store ≡ self.old.store }
+        ensures path_room { self.new.path_room ≡ self.old.path_room }
+        ensures mark_room { self.old.mark_room ≤ self.new.mark_room + 1 }
+    {
+        let _ = self.gone.insert(path, mark);
+    }
+
+    /// Clears a mark.
+    pub fn forget(&mut self, path: &Path)
+        ensures gone { self.new.gone ≡ map.remove self.old.gone path.now }
+        ensures store { self.new.store ≡ self.old.store }
+        ensures path_room { self.new.path_room ≡ self.old.path_room }
+        ensures mark_room { self.old.mark_room ≤ self.new.mark_room }
+    {
+        let _ = self.gone.swap_remove(path);
+    }
+}
+
+/// The first host whose store has the entry of a context.
+pub fn place_of(hosts: &[HostStore], path: &Path) -> Option<Host>
+    requires { length hosts.now ≤ 8 }
+    ensures { option_map (λ h. h.0) result ≡ position (has path.now) hosts.now }
+{
+    match first_with(hosts, path) {
+        Some(i) => Some(Host(i as u8)),
+        None => None,
+    }
+}
+
+fn first_with(hosts: &[HostStore], path: &Path) -> Option<usize>
+    ensures place { result ≡ position (has path.now) hosts.now }
+    ensures within { IfSome result (λ i. i < length hosts.now) }
+{
+    hosts.iter().position(|host| host.has(path))
+}

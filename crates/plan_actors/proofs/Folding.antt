@@ -1,0 +1,123 @@
+-- Two folds whose jobs do the same are the same; and where a script's fold is over.
+use Rattle.std.proofs.Common.{◌≡◌, ◌≤◌, ◌<◌, ℕ, zero, suc, ◌+◌, ◌-◌, ◌⊎◌, inl, inr, Bool, true, false, List, [], ◌∷◌, length, drop, sum_by, Option, Some, None, refl, sym, ◌∙◌, ap, subst, arith}
+use Rattle.std.proofs.lemmas.List.Sums.{sum_by-cons}
+use Rattle.wave_base.specs.declared.call.Call.{Call}
+use Rattle.wave_base.specs.declared.outcome.EventResult.{EventResult}
+use Rattle.wave_base.specs.declared.script.Line.{Line}
+use Rattle.wave_base.specs.declared.script.Script.{Script}
+use Rattle.wave_base.specs.declared.shape.Shape.{Shape}
+use Rattle.wave_base.specs.declared.start.Start.{Start}
+use Rattle.wave_base.specs.declared.value.Value.{Value}
+use Rattle.wave_base.specs.Fold.{Head, Ran, Progress, first_progress, with_result, with_job, with_done, one_more, next_job, fold_jobs, created_lines}
+use Rattle.wave_base.specs.Scripts.{IsScript}
+use Rattle.wave_base.specs.Starts.{IsStart, start_tree}
+use Rattle.wave_base.specs.Tree.{Tree}
+use Rattle.script_fold.specs.Lines.{Meaning, line_by, most_of, most_jobs, FitsJob}
+use Rattle.script_fold.specs.Owed.{Owed}
+use Rattle.script_fold.specs.Runs.{after_jobs, whole_run}
+use Rattle.script_fold.proofs.FoldLemmas.{IsGood, good_after, next_is, All-drop_head}
+use Rattle.plan_actors.proofs.Counting.{left_in, next_left, done_left, most_of_some, created_most}
+use Rattle.wave_theory.proofs.Basics.{options, none_not}
+use Rattle.wave_theory.proofs.Folds.{with_done_done}
+
+module _ {F R J : Type 0} (first other : ℕ) (firsts : first ≡ other) (run ran : ℕ → Tree F → J → Ran F R) (created : R → List J) (w : Progress F R J) (Good : Progress F R J → Type 0)
+    (good : (n : ℕ) → Good (fold_jobs other ran created n w)) (alike : (v : Progress F R J) (j : J) → Good v → next_job v.head ≡ Some j → run (other + v.head.done) v.tree j ≡ ran (other + v.head.done) v.tree j) where
+  one_alike : (v : Progress F R J) → Good v → one_more first run created v ≡ one_more other ran created v
+  one_alike v g = by (next_job v.head) refl
+    where
+      by : (o : Option J) → next_job v.head ≡ o → with_job first run created v o ≡ with_job other ran created v o
+      by None e = refl
+      by (Some j) e = ap (λ n. with_result first run created v (run (n + v.head.done) v.tree j)) firsts ∙ ap (with_result other ran created v) (alike v j g e)
+
+  -- the folds of two kinds of jobs that do the same on what one of them comes to
+  pub folds_alike : (n : ℕ) → fold_jobs first run created n w ≡ fold_jobs other ran created n w
+  folds_alike zero = refl
+  folds_alike (suc n) = ap (one_more first run created) (folds_alike n) ∙ one_alike (fold_jobs other ran created n w) (good n)
+
+module _ (shape : Shape) (meaning : Meaning) (FitsTree : Tree (List Value) → Type 0) (FitsCall : Call → Type 0) (owed : Owed shape meaning FitsTree FitsCall) (start : Start) (script : Script) (is_script : IsScript shape script) (is_start : IsStart shape script.hosts start) where
+  abbrev at : ℕ → Progress (List Value) EventResult Line
+  at n = after_jobs meaning shape start script n
+
+  good : (n : ℕ) → IsGood shape meaning FitsTree FitsCall owed start script (at n)
+  good n = good_after shape meaning FitsTree FitsCall owed start script is_script is_start n
+
+  goes_on : (n : ℕ) (j : Line) → next_job (at n).head ≡ Some j → (at (suc n)).head.done ≡ suc (at n).head.done
+  goes_on n j e = ap (λ o. (with_job start.next.0 (line_by meaning) created_lines (at n) o).head.done) e ∙ with_done_done (at n).head (created_lines (line_by meaning (start.next.0 + (at n).head.done) (at n).tree j).result)
+
+  over_stays : (n : ℕ) → next_job (at n).head ≡ None → at (suc n) ≡ at n
+  over_stays n e = ap (with_job start.next.0 (line_by meaning) created_lines (at n)) e
+
+  -- it is over, or so many jobs are done
+  pub over_or_done : (n : ℕ) → (next_job (at n).head ≡ None) ⊎ ((at n).head.done ≡ n)
+  over_or_done zero = inr (zero_done (good 0).results)
+    where
+      zero_done : {a : ℕ} → 0 ≡ a → a ≡ 0
+      zero_done e = sym e
+  over_or_done (suc n) = elim (options (next_job (at n).head)) [
+    | inl z ↦ inl (ap (λ (w : Progress (List Value) EventResult Line). next_job w.head) (over_stays n z) ∙ z)
+    | inr z ↦ (elim (over_or_done n) [
+      | inl y ↦ absurd (none_not (sym y ∙ z.1))
+      | inr y ↦ inr (goes_on n z.0 z.1 ∙ ap suc y)
+    ])
+  ]
+
+  -- the jobs that are done, and those that the others may make, are no more than the lines may make
+  pub few_left : (n : ℕ) → (at n).head.done + left_in (at n).head ≤ most_jobs script.batches
+  few_left zero = omega (arith, first, (good 0).results)
+    where
+      first : left_in (at 0).head ≡ most_jobs script.batches
+      first = next_left (record { known = []; later = script.batches; done = 0 }) (omega arith) ∙ none (most_jobs script.batches)
+        where
+          none : (a : ℕ) → 0 + a ≡ a
+          none a = omega arith
+  few_left (suc n) = elim (options (next_job (at n).head)) [
+    | inl z ↦ subst (λ (w : Progress (List Value) EventResult Line). w.head.done + left_in w.head ≤ most_jobs script.batches) (sym (over_stays n z)) (few_left n)
+    | inr z ↦ (let w : Progress (List Value) EventResult Line = at n in
+        let x : Ran (List Value) EventResult = line_by meaning (start.next.0 + w.head.done) w.tree z.0 in
+        let fits : FitsJob FitsCall z.0 = All-drop_head (FitsJob FitsCall) w.head.known w.head.done z.0 z.1 (good n).known in
+        let most : sum_by most_of (created_lines x.result) + 1 ≤ most_of z.0 = created_most shape meaning FitsTree FitsCall owed (start.next.0 + w.head.done) w.tree (good n).tree z.0 fits in
+        let left : left_in (with_done w.head (created_lines x.result)) + most_of z.0 ≡ left_in w.head + sum_by most_of (created_lines x.result) = done_left w.head z.0 (created_lines x.result) z.1 in
+        let done : (with_done w.head (created_lines x.result)).done ≡ suc w.head.done = with_done_done w.head (created_lines x.result) in
+        subst (λ (o : Option Line). (with_job start.next.0 (line_by meaning) created_lines w o).head.done + left_in (with_job start.next.0 (line_by meaning) created_lines w o).head ≤ most_jobs script.batches) (sym z.1)
+        (sum w.head.done (with_done w.head (created_lines x.result)).done (left_in (with_done w.head (created_lines x.result))) (left_in w.head) (most_of z.0) (sum_by most_of (created_lines x.result)) (most_jobs script.batches) done left most (few_left n)))
+  ]
+    where
+      sum : (d e l m o s t : ℕ) → e ≡ suc d → l + o ≡ m + s → s + 1 ≤ o → d + m ≤ t → e + l ≤ t
+      sum d e l m o s t f g h i = omega (arith, f, g, h, i)
+
+  -- where a job is left, fewer are done than the lines may make
+  pub more_left : (n : ℕ) (j : Line) → next_job (at n).head ≡ Some j → (at n).head.done < most_jobs script.batches
+  more_left n j e =
+      let w : Progress (List Value) EventResult Line = at n in
+      let rest : sum_by most_of (drop w.head.done w.head.known) ≡ most_of j + sum_by most_of (drop (suc w.head.done) w.head.known) = ap (sum_by most_of) (next_is w.head.known w.head.done j e) ∙ sum_by-cons most_of j (drop (suc w.head.done) w.head.known) in
+      omega (arith, rest, most_of_some j, few_left n)
+
+  -- after as many as the lines may make it is over
+  pub most_over : next_job (at (most_jobs script.batches)).head ≡ None
+  most_over = elim (options (next_job (at (most_jobs script.batches)).head)) [
+    | inl z ↦ z
+    | inr z ↦ (elim (over_or_done (most_jobs script.batches)) [
+      | inl y ↦ y
+      | inr y ↦ absurd (never (most_jobs script.batches) (at (most_jobs script.batches)).head.done y (more_left (most_jobs script.batches) z.0 z.1))
+    ])
+  ]
+    where
+      never : (a b : ℕ) → b ≡ a → b < a → ⊥
+      never a b e l = omega (arith, e, l)
+
+  pub whole_at : whole_run meaning shape start script ≡ at (most_jobs script.batches)
+  unfolding whole_run
+  whole_at = refl
+
+  pub stays_long : (n d : ℕ) → next_job (at n).head ≡ None → at (d + n) ≡ at n
+  stays_long n zero e = ap at (let z : 0 + n ≡ n = omega arith in z)
+  stays_long n (suc d) e =
+      let before : at (d + n) ≡ at n = stays_long n d e in
+      ap at (let z : suc d + n ≡ suc (d + n) = omega arith in z) ∙ over_stays (d + n) (ap (λ (w : Progress (List Value) EventResult Line). next_job w.head) before ∙ e) ∙ before
+
+  -- and where it is over it is the whole run
+  pub over_whole : (n : ℕ) → next_job (at n).head ≡ None → at n ≡ whole_run meaning shape start script
+  over_whole n e = sym (stays_long n (most_jobs script.batches) e) ∙ ap at (swap (most_jobs script.batches) n) ∙ stays_long (most_jobs script.batches) n most_over ∙ sym whole_at
+    where
+      swap : (a b : ℕ) → a + b ≡ b + a
+      swap a b = omega arith

@@ -1,0 +1,11 @@
+use Rattle.wave_theory.proofs.laws.listed_for.Goals as goal
+use Rattle.wave_theory.proofs.Reached
+use Rattle.wave_theory.proofs.Canon
+use Rattle.wave_theory.proofs.Rising
+
+pub returns : goal.returns
+returns g c = λ code workers b batches begins plan labels s e. let a = g.T.Acting in
+    record {
+      has = Canon.listed_for (a.kind code) (a.owed code) b batches begins plan.jobs s (Reached.reached (a.kind code) (a.owed code) b batches begins plan.jobs plan.some_host workers s labels e) workers;
+      sorted = Rising.in_order_for (a.kind code) (a.owed code) b batches begins plan.jobs s workers;
+    }

@@ -1,0 +1,166 @@
+ghost use Rattle.std.specs.Prelude.{◌≡◌, ℕ, List, None, All};
+ghost use Rattle.wave_states.specs.Alone.{job_after};
+ghost use Rattle.wave_states.specs.Begins.{Begin};
+ghost use Rattle.wave_states.specs.Movers.{Move};
+ghost use Rattle.wave_states.specs.Owes.{IsBegin};
+ghost use Rattle.wave_theory.specs.Ends.{worth_of};
+ghost use Rattle.wave_theory.specs.Movers.{Setting, movers_in};
+
+use crate::counter::Counter;
+use crate::given::{
+    agree, all_moves, changes, doable, ends, hands_stay_over, holders, holding, loads, may_run,
+    measured, reads, sent, stoppable, within,
+};
+use crate::laws::{
+    bounded, bounds, by_owners, came, complete, counted, driven, empty_at_end, families,
+    hands_stay, independent, listed, listed_for, never_stuck, numbers, one_host, one_owner,
+    records, results, rules_pick, sorted, tickets, traced, trails,
+};
+use crate::movers::{Movers, Walkers};
+
+/// The laws, at the counter.
+pub fn at_the_counter() {
+    hands_stay::<Counter>();
+    independent::<Counter>();
+    results::<Counter>();
+    tickets::<Counter>();
+    numbers::<Counter>();
+    records::<Counter>();
+    one_owner::<Counter>();
+    trails::<Counter>();
+    traced::<Counter>();
+    came::<Counter>();
+    bounds::<Counter>();
+    never_stuck::<Counter>();
+    complete::<Counter>();
+    by_owners::<Counter>();
+    counted::<Counter>();
+    bounded::<Counter>();
+    listed::<Counter>();
+    sorted::<Counter>();
+    listed_for::<Counter>();
+    empty_at_end::<Counter>();
+    rules_pick::<Counter>();
+    driven::<Counter>();
+    families::<Counter>();
+    one_host::<Counter>();
+}
+
+/// The laws, at movers.
+pub fn at_movers() {
+    hands_stay::<Movers>();
+    independent::<Movers>();
+    results::<Movers>();
+    tickets::<Movers>();
+    numbers::<Movers>();
+    records::<Movers>();
+    one_owner::<Movers>();
+    trails::<Movers>();
+    traced::<Movers>();
+    came::<Movers>();
+    bounds::<Movers>();
+    never_stuck::<Movers>();
+    complete::<Movers>();
+    by_owners::<Movers>();
+    counted::<Movers>();
+    bounded::<Movers>();
+    listed::<Movers>();
+    sorted::<Movers>();
+    listed_for::<Movers>();
+    empty_at_end::<Movers>();
+    rules_pick::<Movers>();
+    driven::<Movers>();
+    families::<Movers>();
+    one_host::<Movers>();
+}
+
+/// The laws, at walkers.
+pub fn at_walkers() {
+    hands_stay::<Walkers>();
+    independent::<Walkers>();
+    results::<Walkers>();
+    tickets::<Walkers>();
+    numbers::<Walkers>();
+    records::<Walkers>();
+    one_owner::<Walkers>();
+    trails::<Walkers>();
+    traced::<Walkers>();
+    came::<Walkers>();
+    bounds::<Walkers>();
+    never_stuck::<Walkers>();
+    complete::<Walkers>();
+    by_owners::<Walkers>();
+    counted::<Walkers>();
+    bounded::<Walkers>();
+    listed::<Walkers>();
+    sorted::<Walkers>();
+    listed_for::<Walkers>();
+    empty_at_end::<Walkers>();
+    rules_pick::<Walkers>();
+    driven::<Walkers>();
+    families::<Walkers>();
+    one_host::<Walkers>();
+}
+
+/// What the machine's code is given, at the counter.
+pub fn given_at_the_counter() {
+    stoppable::<Counter>();
+    may_run::<Counter>();
+    hands_stay_over::<Counter>();
+    holding::<Counter>();
+    holders::<Counter>();
+    agree::<Counter>();
+    sent::<Counter>();
+    within::<Counter>();
+    loads::<Counter>();
+    all_moves::<Counter>();
+    ends::<Counter>();
+    measured::<Counter>();
+    reads::<Counter>();
+    changes::<Counter>();
+    doable::<Counter>();
+}
+
+/// What the machine's code is given, at movers.
+pub fn given_at_movers() {
+    stoppable::<Movers>();
+    may_run::<Movers>();
+    hands_stay_over::<Movers>();
+    holding::<Movers>();
+    holders::<Movers>();
+    agree::<Movers>();
+    sent::<Movers>();
+    within::<Movers>();
+    loads::<Movers>();
+    all_moves::<Movers>();
+    ends::<Movers>();
+    measured::<Movers>();
+    reads::<Movers>();
+    changes::<Movers>();
+    doable::<Movers>();
+}
+
+/// What the machine's code is given, at walkers.
+pub fn given_at_walkers() {
+    stoppable::<Walkers>();
+    may_run::<Walkers>();
+    hands_stay_over::<Walkers>();
+    holding::<Walkers>();
+    holders::<Walkers>();
+    agree::<Walkers>();
+    sent::<Walkers>();
+    within::<Walkers>();
+    loads::<Walkers>();
+    all_moves::<Walkers>();
+    ends::<Walkers>();
+    measured::<Walkers>();
+    reads::<Walkers>();
+    changes::<Walkers>();
+    doable::<Walkers>();
+}
+
+/// A plan of moves ends after as many moves as it lists.
+pub fn moves_end()
+    ensures { (c : Setting) (b : Begin ℕ) (batches : List (List Move)) → IsBegin (movers_in c) b → All (All (movers_in c).is_job) batches →
+        job_after (movers_in c).system b batches (worth_of (λ j. 1) batches) ≡ None }
+{}
