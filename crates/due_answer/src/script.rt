@@ -19,7 +19,9 @@ use fault_notes::script_note;
 use listing_out::listing;
 use script_reader::{ScriptError, read_script};
 use std::alloc::Global;
-use wave_base::{EventResult, Finished, Line, OutOfMemory, Outcome, SCRIPT_BYTES, Script, Seq, Shape, Ticket};
+use wave_base::{
+    EventResult, Finished, Line, OutOfMemory, Outcome, SCRIPT_BYTES, Script, Seq, Shape, Ticket,
+};
 use wave_gen::summarize;
 use wave_meaning::run_script;
 

@@ -37,8 +37,12 @@ given_own : (words : List (List ℕ)) (left : Option (List ℕ)) (status : ℕ) 
 given_own words left status P s same = ap own_status (same s.due s.holds) ∙ statuses s.command s.bytes s.due s.only.is_due
 
 not_own : (status : ℕ) → own_status status ≡ true → (status ≢ 2) × (status ≢ 5) × (status ≢ 6) × (status ≢ 7)
-not_own status own = (λ e. let bad : own_status 2 ≡ true = ap own_status (sym e) ∙ own in cc, λ e. let bad : own_status 5 ≡ true = ap own_status (sym e) ∙ own in cc,
-    λ e. let bad : own_status 6 ≡ true = ap own_status (sym e) ∙ own in cc, λ e. let bad : own_status 7 ≡ true = ap own_status (sym e) ∙ own in cc)
+not_own status own = (
+  λ e. let bad : own_status 2 ≡ true = ap own_status (sym e) ∙ own in cc,
+  λ e. let bad : own_status 5 ≡ true = ap own_status (sym e) ∙ own in cc,
+  λ e. let bad : own_status 6 ≡ true = ap own_status (sym e) ∙ own in cc,
+  λ e. let bad : own_status 7 ≡ true = ap own_status (sym e) ∙ own in cc,
+)
 
 answered : (words : List (List ℕ)) (left old new : Option (List ℕ)) (status : ℕ) (note : List ℕ) → Ended words left old new (Answered status note) → (status ≢ 2) × (status ≢ 5) × (status ≢ 6) × (status ≢ 7)
 answered words left old new status note h = not_own status (given_own words left status (λ due. Gave due old new (Answered status note)) h (λ due g. g.0))

@@ -172,6 +172,7 @@ fn plain<'a>(
 }
 
 /// A service, a script, and what they come to.
+#[derive(Clone, Copy)]
 struct Case<'a> {
     words: &'a str,
     service: &'a [u8],
@@ -213,6 +214,21 @@ fn joined(alloc: Global, service: &[u8], script: &[u8]) -> Result<Vec<u8>, OutOf
     input.extend_from_slice(b"----\n")?;
     input.extend_from_slice(script)?;
     Ok(input)
+}
+
+fn all_hold(rt: &impl Abort, alloc: Global, cases: &[Case]) -> Result<(), Fail> {
+    for case in cases {
+        let input = joined(alloc, case.service, case.script)?;
+        let row = plain(
+            case.words,
+            input.as_slice(),
+            case.status,
+            case.out,
+            case.note,
+        );
+        holds(rt, alloc, &row)?;
+    }
+    Ok(())
 }
 
 #[test]
@@ -285,18 +301,6 @@ fn scripts_on_services(rt: HostRuntime) -> Result<(), Fail> {
             b"request again()\n",
             b"#1 again ok\n#1 made #2\n#2 again ok\n#2 made #3\n#3 again ok\n#3 made #4\n#4 again ok\n#4 made #5\n#5 again trap Generation at 8:37\ndone 5\n",
         ),
-        traps(
-            "run",
-            LOOP,
-            b"request turns(100000)\nrequest turns(100001)\n",
-            b"#1 turns = 4999950000\n#2 turns trap Ticks at 3:23\ndone 2\n",
-        ),
-        works(
-            "seq",
-            LONG,
-            b"request turns(100000)\n",
-            b"#1 turns = 1000000\ndone 1\n",
-        ),
         works(
             "seq",
             MARKET,
@@ -341,18 +345,27 @@ fn scripts_on_services(rt: HostRuntime) -> Result<(), Fail> {
             b"S1 UnknownCommand line 1\n",
         ),
     ];
-    for case in &cases {
-        let input = joined(alloc, case.service, case.script)?;
-        let row = plain(
-            case.words,
-            input.as_slice(),
-            case.status,
-            case.out,
-            case.note,
-        );
-        holds(&rt, alloc, &row)?;
-    }
-    Ok(())
+    all_hold(&rt, alloc, cases.as_slice())
+}
+
+/// A hundred thousand turns, and one more; and as many of ten statements.
+#[test]
+fn long_loops(rt: HostRuntime) -> Result<(), Fail> {
+    let cases = [
+        traps(
+            "run",
+            LOOP,
+            b"request turns(100000)\nrequest turns(100001)\n",
+            b"#1 turns = 4999950000\n#2 turns trap Ticks at 3:23\ndone 2\n",
+        ),
+        works(
+            "seq",
+            LONG,
+            b"request turns(100000)\n",
+            b"#1 turns = 1000000\ndone 1\n",
+        ),
+    ];
+    all_hold(&rt, rt.alloc(), cases.as_slice())
 }
 
 /// Inputs of a service alone, words that are no command, and commands that read nothing.

@@ -19,7 +19,7 @@ returns-clause-words g c = λ e.
 pub returns-clause-sure : goal.returns-clause-sure
 returns-clause-sure g c = λ unread e.
     let fault = is_fault c.args.words.now (g.S.Source.left c.args.input.now) (g.K.Sink.written c.args.out.now) (g.K.Sink.written c.respond-ending.new.out) c.respond-ending.result c.respond-ending.ensures.ended
-        (inner c.status_of.result 5 _ c.status_of.ensures e) in
+    (inner c.status_of.result 5 _ c.status_of.ensures e) in
     let bad : is_read_fault ReadFault ≡ false = subst (λ x. is_read_fault x ≡ false) fault (c.respond-ending.ensures.sure unread) in
     cc
 
