@@ -114,6 +114,7 @@ module _ (program : Program) (fit : IsFit program) (verified : IsVerified progra
     few = λ t c is job. (ended t c is job).spawned.few;
     later = λ t c is job. (ended t c is job).spawned.later;
     last = λ c job. job.1;
-    joined = λ t c p is job e. sym (joined t c is job p) ∙ e;
+    joined = λ t c p is job. joined t c is job p;
+    ordered = λ t c is job o. (kept t c is job).ordered;
     unmoved = λ t c is job. unmoved (code_ran program t c).result.outcome (ended t c is job).own;
   }

@@ -28,7 +28,6 @@ use Rattle.plan_actors.specs.PlanActors.{plan_actors}
 use Rattle.plan_actors.specs.Plans.{Plan, Fits, FitsStart, begin_in}
 use Rattle.plan_actors.proofs.Coded.{code_owes}
 use Rattle.plan_actors.proofs.Folding.{stays_long, most_over}
-use Rattle.plan_actors.proofs.Hosts.{hosts_there}
 use Rattle.plan_actors.proofs.Jobs.{runs_line, counts_line}
 use Rattle.plan_actors.proofs.Meeting.{good, folds_meet, places_meet}
 
@@ -66,7 +65,7 @@ module _ (plan : Plan) (fits : Fits plan) (start : Start) (begins : FitsStart pl
       (move_of (run_alone (plan_actors plan.program) t (fold_alone (plan_actors plan.program) (begin_in plan start) plan.script.batches n).tree l).result)
       ≡ moves_away (hosts_after start (at n)) (move_of (line_by (code_ran plan.program) (start.next.0 + (at n).head.done) (at n).tree l).result) =
       ap₂ (λ (hosts : Tree ℕ) (r : Ran Fields EventResult). moves_away (with_contexts hosts r.entered) (move_of r.result)) places ran
-      ∙ moves_same (start.next.0 + (at n).head.done) (hosts_after start (at n)) (at n).tree (hosts_there plan fits start begins n) g.tree l job in
+      ∙ moves_same (start.next.0 + (at n).head.done) (hosts_after start (at n)) (at n).tree g.placed g.tree l job in
       λ i. record { tickets = suc x.tickets; segments = x.segments + segments i; entered = x.entered + length (ran i).entered; moves = x.moves + moves i }
 
   -- the machine's work numbers are the plan's

@@ -36,8 +36,7 @@ use Rattle.plan_actors.specs.Calls.{code_ran}
 use Rattle.plan_actors.specs.Finishing.{path_of, path_shot, IsOn, IsShot, IsLoad, Tells}
 use Rattle.plan_actors.specs.PlanActors.{Actor, plan_actors, plan_kind}
 use Rattle.plan_actors.specs.Plans.{Plan, Fits, FitsStart, begin_in}
-use Rattle.plan_actors.proofs.Hosts.{hosts_there, hosts_paths}
-use Rattle.plan_actors.proofs.Meeting.{good, folds_meet, places_meet, whole_meets}
+use Rattle.plan_actors.proofs.Meeting.{good, hosts_paths, folds_meet, places_meet, whole_meets}
 use Rattle.plan_actors.proofs.Order.{at_path, sorted_same}
 
 -- lists of one length that have the same at each place are the same

@@ -15,7 +15,7 @@ use Rattle.wave_base.specs.Places.{places_after, move_of}
 use Rattle.wave_base.specs.Starts.{start_tree, start_places}
 use Rattle.script_fold.specs.Lines.{FitsJob, line_by, most_jobs}
 use Rattle.script_fold.specs.Runs.{after_jobs, whole_run, hosts_after}
-use Rattle.script_fold.proofs.FoldLemmas.{IsGood, good_after, All-drop_head}
+use Rattle.script_fold.proofs.FoldLemmas.{IsGood, good_after, same_paths, All-drop_head}
 use Rattle.wave_states.specs.Alone.{fold_alone, job_after, moves_in, places_alone, run_alone}
 use Rattle.wave_states.specs.Begins.{begin_of}
 use Rattle.wave_states.specs.Owes.{IsBegin, IsPlan}
@@ -63,6 +63,9 @@ module _ (plan : Plan) (fits : Fits plan) where
 
     pub good : (n : ℕ) → IsGood plan.program.shape (code_ran plan.program) (IsTree plan.program) (code.IsJob plan.program) (code_owes plan.program fits.fit fits.verified) start plan.script (after_jobs (code_ran plan.program) plan.program.shape start plan.script n)
     good n = good_after plan.program.shape (code_ran plan.program) (IsTree plan.program) (code.IsJob plan.program) (code_owes plan.program fits.fit fits.verified) start plan.script fits.script begins n
+
+    pub hosts_paths : (n : ℕ) → (hosts_after start (after_jobs (code_ran plan.program) plan.program.shape start plan.script n)).paths ≡ (after_jobs (code_ran plan.program) plan.program.shape start plan.script n).tree.paths
+    hosts_paths n = same_paths plan.program.shape (code_ran plan.program) (IsTree plan.program) (code.IsJob plan.program) (code_owes plan.program fits.fit fits.verified) start plan.script fits.script begins n
 
     Good : Progress Fields EventResult Line → Type 0
     Good w = IsGood plan.program.shape (code_ran plan.program) (IsTree plan.program) (code.IsJob plan.program) (code_owes plan.program fits.fit fits.verified) start plan.script w
