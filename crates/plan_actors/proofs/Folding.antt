@@ -1,5 +1,5 @@
 -- Two folds whose jobs do the same are the same; and where a script's fold is over.
-use Rattle.std.proofs.Common.{◌≡◌, ◌≤◌, ◌<◌, ℕ, zero, suc, ◌+◌, ◌-◌, ◌⊎◌, inl, inr, Bool, true, false, List, [], ◌∷◌, length, drop, sum_by, Option, Some, None, refl, sym, ◌∙◌, ap, subst, arith}
+use Rattle.std.proofs.Common.{◌≡◌, ◌≤◌, ◌<◌, ℕ, zero, suc, ◌+◌, ◌⊎◌, inl, inr, List, [], ◌∷◌, length, drop, sum_by, Option, Some, None, refl, sym, ◌∙◌, ap, arith}
 use Rattle.std.proofs.lemmas.List.Sums.{sum_by-cons}
 use Rattle.wave_base.specs.declared.call.Call.{Call}
 use Rattle.wave_base.specs.declared.outcome.EventResult.{EventResult}
@@ -8,9 +8,9 @@ use Rattle.wave_base.specs.declared.script.Script.{Script}
 use Rattle.wave_base.specs.declared.shape.Shape.{Shape}
 use Rattle.wave_base.specs.declared.start.Start.{Start}
 use Rattle.wave_base.specs.declared.value.Value.{Value}
-use Rattle.wave_base.specs.Fold.{Head, Ran, Progress, first_progress, with_result, with_job, one_more, next_job, fold_jobs, created_lines}
+use Rattle.wave_base.specs.Fold.{Ran, Progress, with_result, with_job, one_more, next_job, fold_jobs, created_lines}
 use Rattle.wave_base.specs.Scripts.{IsScript}
-use Rattle.wave_base.specs.Starts.{IsStart, start_tree}
+use Rattle.wave_base.specs.Starts.{IsStart}
 use Rattle.wave_base.specs.Tree.{Tree}
 use Rattle.script_fold.specs.Lines.{Meaning, line_by, most_of, most_jobs}
 use Rattle.script_fold.specs.Owed.{Owed}

@@ -1,8 +1,7 @@
 -- The machine's fold of a plan is the script's fold by code; and a Start that fits gives a beginning that fits.
-use Rattle.std.proofs.Common.{◌≡◌, ◌≤◌, ◌<◌, ◌-◌, ◌+◌, ℕ, suc, Some, None, List, [], ◌∷◌, zip, refl, sym, ◌∙◌, ap, subst, arith}
+use Rattle.std.proofs.Common.{◌≡◌, ◌≤◌, ◌-◌, ◌+◌, ℕ, suc, None, List, [], ◌∷◌, zip, refl, sym, ◌∙◌, ap, arith}
 use Rattle.std.specs.Prelude.{All, map}
 use Rattle.std.proofs.lemmas.List.Elements.{All-weaker}
-use Rattle.wave_base.specs.declared.call.Call.{Call}
 use Rattle.wave_base.specs.declared.limits.TheConstants.{GENERATION}
 use Rattle.wave_base.specs.declared.outcome.EventResult.{EventResult}
 use Rattle.wave_base.specs.declared.path.Path.{Path}
@@ -17,7 +16,6 @@ use Rattle.script_fold.specs.Lines.{FitsJob, line_by, most_jobs}
 use Rattle.script_fold.specs.Runs.{after_jobs, whole_run, hosts_after}
 use Rattle.script_fold.proofs.FoldLemmas.{IsGood, good_after, same_paths, All-drop_head}
 use Rattle.wave_states.specs.Alone.{fold_alone, job_after, moves_in, places_alone, run_alone}
-use Rattle.wave_states.specs.Begins.{begin_of}
 use Rattle.wave_states.specs.Owes.{IsBegin, IsPlan}
 use Rattle.wave_states.proofs.Starts.{start_fits}
 use Rattle.code_actor.specs.CodeActors as code
