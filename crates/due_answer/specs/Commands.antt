@@ -1,5 +1,5 @@
 -- The words of a command line.
-use Rattle.std.specs.Prelude.{ℕ, Bool, if◌then◌else◌, Option, Some, None, List, [], ◌∷◌, codes}
+use Rattle.std.specs.Prelude.{ℕ, if◌then◌else◌, Option, Some, None, List, [], ◌∷◌, codes}
 use Rattle.wave_base.specs.Names.{same_bytes}
 use Rattle.due_answer.specs.declared.command.Command.{Command}
 use Rattle.due_answer.specs.declared.command.Command.TheVariants.{Run, Seq, Check, Print, Code}
