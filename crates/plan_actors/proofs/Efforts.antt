@@ -1,11 +1,10 @@
 -- The work of a plan's actors is that of its script.
-use Rattle.std.proofs.Common.{◌≡◌, ◌≤◌, ℕ, zero, suc, ◌+◌, ◌-◌, ◌⊎◌, inl, inr, Bool, true, false, if◌then◌else◌, nat_eq, List, [], ◌∷◌, ◌++◌, length, length-append, sum_by, Option, Some, None, refl, sym, ◌∙◌, ap, ap₂, subst, arith}
+use Rattle.std.proofs.Common.{◌≡◌, ℕ, zero, suc, ◌+◌, ◌-◌, Bool, true, false, if◌then◌else◌, nat_eq, List, [], ◌∷◌, length, length-append, sum_by, Option, Some, None, refl, sym, ◌∙◌, ap, ap₂, arith}
 use Rattle.std.proofs.lemmas.List.Sums.{sum_by-append, sum_by-cons}
 use Rattle.wave_base.specs.declared.numbers.Host.{Host}
 use Rattle.wave_base.specs.declared.outcome.EventResult.{EventResult}
 use Rattle.wave_base.specs.declared.outcome.Outcome.TheVariants as out
 use Rattle.wave_base.specs.declared.path.Path.{Path}
-use Rattle.wave_base.specs.declared.path.Step.{Step}
 use Rattle.wave_base.specs.declared.script.Line.{Line}
 use Rattle.wave_base.specs.declared.script.Line.TheVariants.{Request, Move, Snapshot}
 use Rattle.wave_base.specs.declared.start.Start.{Start}
@@ -18,7 +17,7 @@ use Rattle.script_fold.specs.Runs.{after_jobs, whole_run, hosts_after}
 use Rattle.script_fold.proofs.FoldLemmas.{All-drop_head}
 use Rattle.script_fold.proofs.StepLemmas.{any_ticket}
 use Rattle.wave_states.specs.Alone.{run_alone, segments_of, fold_alone, job_after, places_alone}
-use Rattle.wave_states.specs.Work.{Work, no_work, moves_away, work_after, work_of_job}
+use Rattle.wave_states.specs.Work.{Work, moves_away, work_after, work_of_job}
 use Rattle.wave_theory.proofs.Sites.{old_same}
 use Rattle.code_actor.specs.CodeActors as code
 use Rattle.code_actor.specs.CodeActors.{Fields}

@@ -1,10 +1,9 @@
 -- A small plan, computed: events that create others, moves and a snapshot, in the fold and in the machine. And short wrong runs.
-use Rattle.std.proofs.Common.{◌≡◌, ℕ, true, false, suc, if◌then◌else◌, List, [], ◌∷◌, ◌++◌, length, Option, Some, None, pos, is_none, refl}
-use Rattle.std.specs.Prelude.{codes, option_map, map, slice_get}
+use Rattle.std.proofs.Common.{◌≡◌, ℕ, true, List, [], ◌∷◌, ◌++◌, length, Option, Some, None, pos, refl}
+use Rattle.std.specs.Prelude.{codes, option_map, map}
 use Rattle.wave_base.specs.declared.call.Call.{Call}
 use Rattle.wave_base.specs.declared.numbers.Host.{Host}
 use Rattle.wave_base.specs.declared.outcome.EventResult.{EventResult}
-use Rattle.wave_base.specs.declared.outcome.Outcome.{Outcome}
 use Rattle.wave_base.specs.declared.outcome.Outcome.TheVariants as out
 use Rattle.wave_base.specs.declared.path.Path.{Path}
 use Rattle.wave_base.specs.declared.path.Step.{Step}
@@ -12,15 +11,13 @@ use Rattle.wave_base.specs.declared.script.Line.{Line}
 use Rattle.wave_base.specs.declared.script.Line.TheVariants.{Request, Move, Snapshot}
 use Rattle.wave_base.specs.declared.shot.Shot.{Shot}
 use Rattle.wave_base.specs.declared.start.Start.{Start}
-use Rattle.wave_base.specs.declared.trap.TrapKind.TheVariants as trap
 use Rattle.wave_base.specs.declared.value.Value.{Value}
 use Rattle.wave_base.specs.declared.value.Value.TheVariants as v
-use Rattle.wave_base.specs.Fold.{Head, Ran, Progress, next_job, created_lines}
+use Rattle.wave_base.specs.Fold.{next_job, created_lines}
 use Rattle.wave_base.specs.Paths.{parent_of}
-use Rattle.wave_base.specs.Places.{load_of}
 use Rattle.wave_base.specs.Tree.{Tree, enter, put, shots}
 use Rattle.wave_base.specs.Trees.{first_tree}
-use Rattle.resolved_service.specs.Jobs.{only, move_ran, snapshot_ran}
+use Rattle.resolved_service.specs.Jobs.{only, move_ran}
 use Rattle.value_ops.specs.Operators.{operators, takes_of, gives_of, apply_row}
 use Rattle.service_code.specs.declared.instr.Instr.TheVariants.{PushInt, Field, SetField, Op, Spawn, Go, End}
 use Rattle.service_code.specs.declared.program.Program.{Program}
@@ -32,10 +29,9 @@ use Rattle.service_verify.specs.Reads.{kept}
 use Rattle.service_verify.specs.Rules.{effect_of, levels_above}
 use Rattle.service_verify.specs.Segments.{weight, enough, steps, segment}
 use Rattle.service_verify.specs.Steps.{acted, one_step}
-use Rattle.service_verify.proofs.Samples.{at, class, function, one_int}
+use Rattle.service_verify.proofs.Samples.{class, function, one_int}
 use Rattle.wave_states.specs.Actors.{Actors, Left, Down, Back, Over}
-use Rattle.wave_states.specs.Actors as pause
-use Rattle.wave_states.specs.Alone.{run_alone, segments_of, fold_alone, places_alone, after_segments}
+use Rattle.wave_states.specs.Alone.{run_alone, fold_alone, places_alone, after_segments}
 use Rattle.wave_states.specs.Begins.{Begin, begin_of, start_state}
 use Rattle.wave_states.specs.Canonical.{enabled}
 use Rattle.wave_states.specs.Movers as mover
@@ -44,7 +40,7 @@ use Rattle.wave_states.specs.Runs.{run, drive, seed}
 use Rattle.wave_states.specs.States.{State}
 use Rattle.wave_states.specs.Steps as machine
 use Rattle.wave_states.specs.Walkers.{Walker, first_of, last_step, steps_left, visit, walkers}
-use Rattle.wave_states.specs.Work.{Work, work_after}
+use Rattle.wave_states.specs.Work.{work_after}
 use Rattle.code_actor.specs.CodeActors.{Fields}
 use Rattle.plan_actors.specs.PlanActors.{Actor, plan_actors}
 
@@ -185,7 +181,7 @@ snapshot_tells : shots tree ≡ ([], int 0 ∷ []) ∷ (hall 1, int 4 ∷ []) �
 snapshot_tells = refl
 
 -- A created call that loses its generation: an event that creates itself ends at the fifth, for want of a generation; by the
--- wrong rule a job is left for ever.
+-- wrong rule a sixth comes.
 abbrev endless : List (List Line)
 endless = (Request (call 2 0) ∷ []) ∷ []
 
