@@ -261,8 +261,22 @@ fn with_event(alloc: Global, code: Vec<Instr>) -> Result<Program, OutOfMemory>
     let set = vec![in alloc; Instr::PushInt(1), Instr::SetField(0), Instr::Return]?;
     let set = function(alloc, Class(1), false, Seq::new(alloc), None, set)?;
     let look = vec![in alloc; Instr::Field(0), Instr::Return]?;
-    let look = function(alloc, Class(1), false, Seq::new(alloc), Some(Kind::Int), look)?;
-    let event = function(alloc, Class(0), true, Seq::new(alloc), Some(Kind::Int), code)?;
+    let look = function(
+        alloc,
+        Class(1),
+        false,
+        Seq::new(alloc),
+        Some(Kind::Int),
+        look,
+    )?;
+    let event = function(
+        alloc,
+        Class(0),
+        true,
+        Seq::new(alloc),
+        Some(Kind::Int),
+        code,
+    )?;
     market(alloc, vec![in alloc; set, look, event]?)
 }
 
@@ -272,7 +286,10 @@ fn peeks_where_it_only_looks_at_last(rt: HostRuntime) -> Result<(), Fail> {
     let (key, go, tick) = (Instr::PushInt(5), Instr::Go(Class(1)), Instr::Tick);
     let (field, reply) = (Instr::Field(0), Instr::Reply);
     let reads = vec![in alloc; key, go, tick, Instr::Call(1), reply]?;
-    assert_eq!(rt; verify(alloc, with_event(alloc, reads)?)?.looks_from(2), Some(2));
+    assert_eq!(rt;
+        verify(alloc, with_event(alloc, reads)?)?.looks_from(2),
+        Some(2)
+    );
     let sets = vec![in alloc; key, go, key, Instr::SetField(0), field, reply]?;
     assert!(rt; !verify(alloc, with_event(alloc, sets)?)?.peeks(2));
     let calls = vec![in alloc; key, go, tick, Instr::Call(0), field, reply]?;
@@ -280,7 +297,10 @@ fn peeks_where_it_only_looks_at_last(rt: HostRuntime) -> Result<(), Fail> {
     let down = vec![in alloc; key, tick, Instr::CallDown(Class(1), 1), reply]?;
     assert!(rt; !verify(alloc, with_event(alloc, down)?)?.peeks(2));
     let stays = vec![in alloc; field, reply]?;
-    assert_eq!(rt; verify(alloc, with_event(alloc, stays)?)?.looks_from(2), Some(0));
+    assert_eq!(rt;
+        verify(alloc, with_event(alloc, stays)?)?.looks_from(2),
+        Some(0)
+    );
     Ok(())
 }
 
@@ -288,7 +308,12 @@ fn peeks_where_it_only_looks_at_last(rt: HostRuntime) -> Result<(), Fail> {
 #[test]
 fn a_loop_back_over_the_last_go_does_not_peek(rt: HostRuntime) -> Result<(), Fail> {
     let alloc = rt.alloc();
-    let code = vec![in alloc; Instr::PushInt(5), Instr::Go(Class(1)), Instr::Tick, Instr::Jump(0)]?;
+    let code = vec![in alloc;
+        Instr::PushInt(5),
+        Instr::Go(Class(1)),
+        Instr::Tick,
+        Instr::Jump(0),
+    ]?;
     let event = function(alloc, Class(0), true, Seq::new(alloc), None, code)?;
     assert_eq!(rt; looks_from(&event, &[]), None);
     Ok(())
