@@ -56,33 +56,30 @@ answered j a at f h st l = then_like j (answer a at st) (answer a at st) f f (an
 
 enter_like : (j : ℕ) (q : Path) (at : Span) → Like j (enter_at q at) (enter_at q at)
 unfolding entering
-enter_like j q at st h =
-    (
-      refl,
-      elim (has st.world.held q) as (λ b. Few j (with_world (if b then Ok (changed st.world) else (if nat_lt (length st.world.entered) CONTEXTS then Ok (changed (with_entered q st.world)) else Err trap.Reach)) at st)) [
-        | true ↦ h
-        | false ↦ elim (nat_lt (length st.world.entered) CONTEXTS) as (λ b. Few j (with_world (if b then Ok (changed (with_entered q st.world)) else Err trap.Reach) at st)) [ true ↦ h | false ↦ tt ]
-      ],
-    )
+enter_like j q at st h = (
+  refl,
+  elim (has st.world.held q) as (λ b. Few j (with_world (if b then Ok (changed st.world) else (if nat_lt (length st.world.entered) CONTEXTS then Ok (changed (with_entered q st.world)) else Err trap.Reach)) at st)) [
+    | true ↦ h
+    | false ↦ elim (nat_lt (length st.world.entered) CONTEXTS) as (λ b. Few j (with_world (if b then Ok (changed (with_entered q st.world)) else Err trap.Reach) at st)) [ true ↦ h | false ↦ tt ]
+  ],
+)
 
 send_like : (j : ℕ) (label : List ℕ) (x : Value) (at : Span) → Like j (λ st. with_world (sending label x st.world) at st) (λ st. with_world (sending label x st.world) at st)
 unfolding sending
-send_like j label x at st h =
-    (
-      refl,
-      elim (nat_lt (length st.world.messages) MESSAGES) as (λ b. Few j (with_world (if b then Ok (record st.world { messages = st.world.messages ++ record { label = label; value = x } ∷ [] }) else Err trap.Sends) at st)) [ true ↦ h | false ↦ tt ],
-    )
+send_like j label x at st h = (
+  refl,
+  elim (nat_lt (length st.world.messages) MESSAGES) as (λ b. Few j (with_world (if b then Ok (record st.world { messages = st.world.messages ++ record { label = label; value = x } ∷ [] }) else Err trap.Sends) at st)) [ true ↦ h | false ↦ tt ],
+)
 
 spawn_like : (j event : ℕ) (args : List Value) (at : Span) → Like j (λ st. with_world (spawning event args st.world) at st) (λ st. with_world (spawning event args st.world) at st)
 unfolding spawning
-spawn_like j event args at st h =
-    (
-      refl,
-      elim (st.world.generation == GENERATION) as (λ b. Few j (with_world (if b then Err trap.Generation else (if nat_lt (length st.world.created) SPAWNS then Ok (record st.world { created = st.world.created ++ record { event = event; args = args; generation = suc st.world.generation } ∷ [] }) else Err trap.Spawns)) at st)) [
-        | true ↦ tt
-        | false ↦ elim (nat_lt (length st.world.created) SPAWNS) as (λ b. Few j (with_world (if b then Ok (record st.world { created = st.world.created ++ record { event = event; args = args; generation = suc st.world.generation } ∷ [] }) else Err trap.Spawns) at st)) [ true ↦ h | false ↦ tt ]
-      ],
-    )
+spawn_like j event args at st h = (
+  refl,
+  elim (st.world.generation == GENERATION) as (λ b. Few j (with_world (if b then Err trap.Generation else (if nat_lt (length st.world.created) SPAWNS then Ok (record st.world { created = st.world.created ++ record { event = event; args = args; generation = suc st.world.generation } ∷ [] }) else Err trap.Spawns)) at st)) [
+    | true ↦ tt
+    | false ↦ elim (nat_lt (length st.world.created) SPAWNS) as (λ b. Few j (with_world (if b then Ok (record st.world { created = st.world.created ++ record { event = event; args = args; generation = suc st.world.generation } ∷ [] }) else Err trap.Spawns) at st)) [ true ↦ h | false ↦ tt ]
+  ],
+)
 
 demand_like : (j : ℕ) (b : Bool) (at : Span) → Like j (demand b at) (demand b at)
 demand_like j true at st h = (refl, h)
@@ -164,6 +161,7 @@ module _ (call call' : ℕ → Path → List Value → Act (Option Value)) (k : 
     module _ (n n' : ℕ) (few : k ≤ n) (few' : k ≤ n') where
       mutual
         unfolding set_field read_field
+
         effect_like : (s : Step) (j : ℕ) → j ≤ k → Like j (effect call n p s) (effect call' n' p s)
         effect_like (SetLocal at slot e) j l st h = then_like j (value call p e st) (value call' p e st) _ _ (value_like e j l st h) (λ v st h. (refl, h))
         effect_like (SetField at f e) j l st h = then_like j (value call p e st) (value call' p e st) _ _ (value_like e j l st h) (λ v st h. (refl, h))
