@@ -3,3 +3,4 @@ pub mod Entries
 mod Examples
 pub mod Laws
 pub mod Steps
+pub mod Unchanged

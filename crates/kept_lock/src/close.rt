@@ -22,7 +22,11 @@ impl<V: Kept> KeptLock<V> {
     {
         let (mut seat, _) = pass.into_parts();
         self.shut(rt, &mut seat);
-        let KeptLock { table, bell: _ } = self;
+        let KeptLock {
+            table,
+            bell: _,
+            news: _,
+        } = self;
         let mut closed = table.close_with(seat);
         let value = closed.take(0).unwrap();
         closed.free();

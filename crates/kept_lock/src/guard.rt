@@ -27,7 +27,7 @@ impl<'a, V: Kept> Guard<'a, V> {
         }
     }
 
-    /// Puts the value back. It stands for the name, and its history grew by entries of this pass alone.
+    /// Puts the value back, and wakes those who nap. It stands for the name, and its history grew by entries of this pass alone.
     pub fn leave(self)
         requires inside { IsInside (lock_in self) (pass_in self) }
         requires stands { IfSome (value_in self) (λ y. V.stands y (name_of (lock_in self))) }
@@ -38,6 +38,32 @@ impl<'a, V: Kept> Guard<'a, V> {
         ensures left { IfSome (value_in self.entry) (λ y. known self.exit.1.0.now ≡ left_at (known (pass_in self.entry)) (V.history y)) }
     {
         let Guard { lock, pass } = self;
-        lock.put_back(pass);
+        lock.put_back(pass, true);
+    }
+
+    /// Puts the value back with the history that it had, and wakes nobody who naps. It stands for the name.
+    pub fn leave_unchanged(self)
+        requires inside { IsInside (lock_in self) (pass_in self) }
+        requires stands { IfSome (value_in self) (λ y. V.stands y (name_of (lock_in self))) }
+        requires unchanged { IfSome (value_in self) (λ y. V.history y ≡ (known (pass_in self)).seen) }
+
+        ensures outside { IsPassOf (lock_in self.entry) self.exit.1.0.now }
+        ensures left { IfSome (value_in self.entry) (λ y. known self.exit.1.0.now ≡ left_at (known (pass_in self.entry)) (V.history y)) }
+    {
+        let Guard { lock, pass } = self;
+        lock.put_back(pass, false);
+    }
+
+    // By either way, as the pass has added something or not.
+    pub(crate) fn leave_as(self, adds: bool)
+        requires inside { IsInside (lock_in self) (pass_in self) }
+        requires stands { IfSome (value_in self) (λ y. V.stands y (name_of (lock_in self))) }
+        requires adds { IfSome (value_in self) (λ y. Adds V.owner (known (pass_in self)).number (known (pass_in self)).seen (V.history y)) }
+
+        ensures outside { IsPassOf (lock_in self.entry) self.exit.1.0.now }
+        ensures left { IfSome (value_in self.entry) (λ y. known self.exit.1.0.now ≡ left_at (known (pass_in self.entry)) (V.history y)) }
+    {
+        let Guard { lock, pass } = self;
+        lock.put_back(pass, adds);
     }
 }

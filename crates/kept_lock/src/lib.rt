@@ -2,9 +2,11 @@
 //!
 //! `KeptLock::new` gives a lock and its first pass, and `split` makes a pass for each further thread. A thread goes to the value by `enter`, `get_mut` and `leave`,
 //! or by `visit`, which is all three in one. Each time it finds a value that stands for the lock's name and whose history goes on from what its pass has seen;
-//! it leaves one whose history has grown by entries of its own alone. `nap` waits for another to leave. At the end `join` puts passes together, and `close` gives the value.
+//! it leaves one whose history has grown by entries of its own alone. `nap` waits for another to leave with something added, which `look` and an `attempt` that
+//! finds nothing to do never are. At the end `join` puts passes together, and `close` gives the value.
 #![tactic(auto)]
 
+mod attempt;
 mod bell;
 mod close;
 mod cross;
@@ -14,6 +16,8 @@ mod kept;
 mod law;
 mod lends;
 mod lock;
+mod look;
+mod news;
 mod open;
 mod passes;
 mod plays;
@@ -23,6 +27,7 @@ mod view;
 mod visit;
 mod wait;
 
+pub use attempt::Attempt;
 pub use guard::Guard;
 pub use kept::Kept;
 pub use law::passes_share_one_history;

@@ -3,6 +3,7 @@ ghost use Rattle.std.specs.Prelude.{◌≡◌, None};
 
 use crate::bell::Bell;
 use crate::kept::Kept;
+use crate::news::News;
 use crate::plays::Keeping;
 use crate::view::View;
 use atomic_table::{Seat, Table};
@@ -14,7 +15,9 @@ use std::alloc::Global;
 #[derive(Drop)]
 pub struct KeptLock<V: Kept> {
     pub(crate) table: Table<Option<V>, View<V::Name, V::Entry>, V::Name, Keeping<V>, Global>,
+    // Rung at each release of the word.
     pub(crate) bell: Bell,
+    pub(crate) news: News,
     ghost sized: { (table.shared.table_id.words ≡ 1) × (table.shared.table_id.slots ≡ 1) },
 }
 
@@ -22,7 +25,7 @@ pub struct KeptLock<V: Kept> {
 #[derive(Drop)]
 pub struct Pass<V: Kept> {
     pub(crate) seat: Seat<Option<V>, View<V::Name, V::Entry>>,
-    // The word at its last leave.
+    // The count of news at its last leave.
     pub(crate) last: Option<u64>,
     // The value, while the pass is inside.
     pub(crate) out: Option<V>,

@@ -6,6 +6,7 @@ ghost use Rattle.kept_lock.specs.Locks.{name_of, known, IsPassOf};
 use crate::bell::Bell;
 use crate::kept::Kept;
 use crate::lock::{KeptLock, Pass};
+use crate::news::News;
 use atomic_table::{Refused, Table};
 use std::alloc::Global;
 use wave_base::OutOfMemory;
@@ -33,6 +34,7 @@ impl<V: Kept> KeptLock<V> {
                 let lock = KeptLock {
                     table,
                     bell: Bell::new(),
+                    news: News::new(),
                 };
                 let pass = Pass {
                     seat,

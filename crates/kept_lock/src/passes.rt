@@ -44,7 +44,7 @@ impl<V: Kept> KeptLock<V> {
         let (mut seat, last) = into.into_parts();
         let (other, _) = other.into_parts();
         self.table.shared.join_seat::<Tell>(&mut seat, other);
-        self.look(&mut seat);
+        self.hear(&mut seat);
         Pass {
             seat,
             last,
@@ -53,7 +53,7 @@ impl<V: Kept> KeptLock<V> {
     }
 
     // A look at the word, by which the pass has seen what it was told of.
-    fn look(&self, seat: &mut Seat<Option<V>, View<V::Name, V::Entry>>)
+    fn hear(&self, seat: &mut Seat<Option<V>, View<V::Name, V::Entry>>)
         requires table { seat.old.table_id ≡ self.now.table.shared.table_id }
         requires live { seat.old.me.0.name ≡ Some (name_of self.now) }
         requires outside { seat.old.me.0.place ≡ Outside }

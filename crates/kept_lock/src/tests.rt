@@ -2,7 +2,7 @@ ghost use Rattle.std.specs.Prelude.{◌≡◌, ◌++◌, ◌∷◌, [], MatchRes
 ghost use Rattle.kept_lock.specs.Locks.{known, IsPassOf};
 
 use crate::cross::{sent_lock, sent_pass, shared_lock};
-use crate::{Kept, KeptLock, Pass, passes_share_one_history};
+use crate::{Attempt, Kept, KeptLock, Pass, passes_share_one_history};
 use std::alloc::{AllocError, Global};
 use std::sync::Wait;
 use std::test::Fail;
@@ -56,6 +56,7 @@ fn add<R: Wait>(
     requires number { (known pass.old).number ≡ me }
     ensures pass { IsPassOf lock.now pass.new }
     ensures number { (known pass.new).number ≡ me }
+    ensures passes { (known pass.new).passes ≡ (known pass.old).passes }
 {
     let mut guard = lock.enter(rt, pass);
     let added = guard.get_mut().add(me, note);
@@ -138,6 +139,52 @@ fn a_pass_that_never_left_does_not_nap(rt: HostRuntime) -> Result<(), Fail> {
     lock.nap(&rt, &mut first);
     drop(second);
     assert_eq!(rt; lock.close(&rt, first).title, 4);
+    Ok(())
+}
+
+// A new pass takes no leave of another for its own, also where it is split after one.
+#[test]
+fn a_pass_that_was_split_after_a_leave_does_not_nap(rt: HostRuntime) -> Result<(), Fail> {
+    let Ok((lock, mut first)) = KeptLock::new(rt.alloc(), 9, Notes::new(rt.alloc(), 9)) else {
+        return Err("memory".into());
+    };
+    add(&rt, &lock, &mut first, 0, 90)?;
+    let mut second = lock.split(&mut first);
+    lock.nap(&rt, &mut second);
+    drop(second);
+    assert_eq!(rt; lock.close(&rt, first).notes.len(), 1);
+    Ok(())
+}
+
+// A pass that another was joined to has left when it last did itself: what the other added since is news to it.
+#[test]
+fn a_joined_pass_keeps_its_own_last_leave(rt: HostRuntime) -> Result<(), Fail> {
+    let Ok((lock, mut first)) = KeptLock::new(rt.alloc(), 10, Notes::new(rt.alloc(), 10)) else {
+        return Err("memory".into());
+    };
+    let mut second = lock.split(&mut first);
+    add(&rt, &lock, &mut first, 0, 100)?;
+    add(&rt, &lock, &mut second, 1, 101)?;
+    let mut pass = lock.join(first, second);
+    lock.nap(&rt, &mut pass);
+    assert_eq!(rt; lock.close(&rt, pass).notes.len(), 2);
+    Ok(())
+}
+
+#[test]
+fn looks_and_attempts_give_what_their_work_gives(rt: HostRuntime) -> Result<(), Fail> {
+    let Ok((lock, mut pass)) = KeptLock::new(rt.alloc(), 11, Notes::new(rt.alloc(), 11)) else {
+        return Err("memory".into());
+    };
+    let full = lock.attempt(&rt, &mut pass, |_notes: &mut Notes| -> Attempt<u8> {
+        Attempt::Nothing(7)
+    });
+    assert!(rt; matches!(full, Attempt::Nothing(7)));
+    let title = lock.look(&rt, &mut pass, |notes: &Notes| -> u64 { notes.title });
+    assert_eq!(rt; title, 11);
+    let guard = lock.enter(&rt, &mut pass);
+    guard.leave_unchanged();
+    assert_eq!(rt; lock.close(&rt, pass).notes.len(), 0);
     Ok(())
 }
 

@@ -41,7 +41,7 @@ impl<V: Kept> KeptLock<V> {
         None
     }
 
-    /// Waits until another pass has left since this one last did. It may return at any time, and does so at once where this one never left.
+    /// Waits until another pass has added something since this one last left. It may return at any time, and does so at once where this one never left.
     pub fn nap<R: Wait>(&self, rt: &R, pass: &mut Pass<V>)
         requires { IsPassOf self.now pass.old }
         ensures { pass.new ≡ pass.old }
@@ -49,9 +49,6 @@ impl<V: Kept> KeptLock<V> {
         let Some(last) = pass.last else {
             return;
         };
-        let asked = self.bell.listen();
-        if self.table.shared.peek(0) == last {
-            self.bell.sleep(rt, asked);
-        }
+        self.news.sleep_at(rt, last);
     }
 }

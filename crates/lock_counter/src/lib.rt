@@ -19,4 +19,4 @@ pub use guarded::{Grows, add_one, grow};
 pub use many::{Turn, run_all};
 pub use thread::{Done, Job, run};
 pub use two::{add_by_two, run_two};
-pub use work::{add, add_times, total, wait_for};
+pub use work::{add, add_below, add_times, total, wait_for};

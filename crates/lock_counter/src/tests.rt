@@ -1,14 +1,15 @@
-ghost use Rattle.std.specs.Prelude.{◌≡◌};
+ghost use Rattle.std.specs.Prelude.{◌≡◌, IfOk};
 ghost use Rattle.kept_lock.specs.Locks.{known, IsPassOf};
 ghost use Rattle.lock_counter.specs.Passes.{IsFresh};
 ghost use Rattle.lock_counter.specs.Jobs.{IsReady, IsDone};
 
 use crate::{
-    Addition, Counter, Done, Job, Order, Plan, Turn, add, add_again, add_by_four, add_by_two,
-    add_one, run, run_all, total, wait_for,
+    Addition, Counter, Done, Job, Order, Plan, Turn, add, add_again, add_below, add_by_four,
+    add_by_two, add_one, run, run_all, total, wait_for,
 };
-use kept_lock::{KeptLock, Pass};
+use kept_lock::{Attempt, KeptLock, Pass};
 use std::alloc::AllocError;
+use std::hint::spin_loop;
 use std::sync::Wait;
 use std::test::Fail;
 use std::thread::{Threads, join};
@@ -129,6 +130,99 @@ fn one_naps_until_the_other_is_done(rt: HostRuntime) -> Result<(), Fail> {
     Ok(())
 }
 
+// Adds one at a time, and takes its time in between.
+fn add_slowly<'l, 'p, R: Wait>(rt: &R, job: Job<'l, 'p>) -> Result<Pass<Counter<'p>>, AllocError>
+    requires { IsReady job }
+    ensures { IfOk result (λ pass. IsPassOf job.entry.lock.now pass × ((known pass).number ≡ job.entry.me)) }
+{
+    let Job {
+        lock,
+        mut pass,
+        me,
+        amount,
+        times,
+    } = job;
+    for _ in 0..times {
+        add(rt, lock, &mut pass, me, amount)?;
+        for _ in 0..20_000u32 {
+            spin_loop();
+        }
+    }
+    Ok(pass)
+}
+
+// Two wait until a third has added what each waits for.
+fn two_wait<'l, 'p, R: Threads + Wait + Sync>(
+    rt: &R,
+    one: Job<'l, 'p>,
+    two: Job<'l, 'p>,
+    other: Job<'l, 'p>,
+) -> (u64, u64, bool)
+    requires one { IsReady one }
+    requires two { IsReady two }
+    requires other { IsReady other }
+{
+    let ((one, two), other) = join(
+        rt,
+        move ||
+            requires { IsReady one × IsReady two }
+        {
+            join(
+                rt,
+                move ||
+                    requires { IsReady one }
+                { wait(rt, one).1 },
+                move ||
+                    requires { IsReady two }
+                { wait(rt, two).1 },
+            )
+        },
+        move ||
+            requires { IsReady other }
+        { add_slowly(rt, other).is_ok() },
+    );
+    (one, two, other)
+}
+
+// A look wakes nobody. Where each look woke the others, two that wait would wake each other without end.
+#[test]
+fn whoever_naps_is_woken_by_additions_alone(rt: HostRuntime) -> Result<(), Fail> {
+    let plan = Plan { label: 6 };
+    let alloc = rt.alloc();
+    let Ok((lock, mut first)) = KeptLock::new(alloc, &plan, Counter::new(alloc, &plan)) else {
+        return Err("memory".into());
+    };
+    let (amount, times) = (1, 20);
+    let second = lock.split(&mut first);
+    let third = lock.split(&mut first);
+    let one = Job {
+        lock: &lock,
+        pass: first,
+        me: 0,
+        amount,
+        times,
+    };
+    let two = Job {
+        lock: &lock,
+        pass: second,
+        me: 1,
+        amount,
+        times,
+    };
+    let other = Job {
+        lock: &lock,
+        pass: third,
+        me: 2,
+        amount,
+        times,
+    };
+    let (one, two, done) = two_wait(&rt, one, two, other);
+    assert!(rt; done);
+    assert!(rt; one <= 3 * (times + 1), "{one} looks of the first");
+    assert!(rt; two <= 3 * (times + 1), "{two} looks of the second");
+    Ok(())
+}
+
 #[test]
 fn as_many_threads_as_jobs(rt: HostRuntime) -> Result<(), Fail> {
     let plan = Plan { label: 3 };
@@ -178,9 +272,13 @@ fn one_after_another(rt: HostRuntime) -> Result<(), Fail> {
         notes: Vec::new(alloc),
     };
     assert!(rt; add_again(&rt, &lock, &mut pass, 0, order).is_ok());
-    assert_eq!(rt; add_one(&rt, &lock, &mut pass, 0), 3);
+    let below = add_below(&rt, &lock, &mut pass, 0, 9, 12);
+    assert!(rt; matches!(below, Attempt::Added(Ok(()))));
+    let full = add_below(&rt, &lock, &mut pass, 0, 9, 12);
+    assert!(rt; matches!(full, Attempt::Nothing(Ok(()))));
+    assert_eq!(rt; add_one(&rt, &lock, &mut pass, 0), 4);
     let counter = lock.close(&rt, pass);
     assert_eq!(rt; counter.plan.label, 5);
-    assert_eq!(rt; counter.total, 11);
+    assert_eq!(rt; counter.total, 20);
     Ok(())
 }

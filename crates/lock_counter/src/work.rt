@@ -1,12 +1,11 @@
 // What a thread does with the lock.
-ghost use Rattle.std.specs.Prelude.{◌≡◌, ◌∷◌, ◌%◌, ◌^◌, [], MatchResult, OnOk, length, sum_by, replicate};
-ghost use Rattle.kept_lock.specs.History.{entries_of};
+ghost use Rattle.std.specs.Prelude.{◌≡◌, ◌≤◌, ◌∷◌, ◌%◌, ◌^◌, [], MatchResult, OnOk, length, sum_by, replicate};
 ghost use Rattle.kept_lock.specs.Locks.{known, IsPassOf};
 ghost use Rattle.lock_counter.specs.Counters.{StandsFor, Added, addition};
-ghost use Rattle.lock_counter.specs.Passes.{Made};
+ghost use Rattle.lock_counter.specs.Passes.{Made, MadeAsTold, AddedAsTold};
 
 use crate::counter::Counter;
-use kept_lock::{KeptLock, Pass};
+use kept_lock::{Attempt, KeptLock, Pass};
 use std::alloc::AllocError;
 use std::sync::Wait;
 
@@ -54,24 +53,54 @@ pub fn add_times<'p, R: Wait>(
     Ok(())
 }
 
-/// The total at the moment of the visit.
+/// The total at the moment of the look.
 pub fn total<'p, R: Wait>(rt: &R, lock: &KeptLock<Counter<'p>>, pass: &mut Pass<Counter<'p>>) -> u64
     requires { IsPassOf lock.now pass.old }
     ensures pass { IsPassOf lock.now pass.new }
     ensures made { Made (known pass.old) (known pass.new) [] }
     ensures sum { result ≡ sum_by (λ e. e.amount) (known pass.new).seen % 2 ^ 64 }
 {
-    lock.visit(
+    lock.look(
         rt,
         pass,
-        |counter: &mut Counter| -> u64
+        |counter: &Counter| -> u64
             requires { StandsFor counter.now counter.now.plan }
-            ensures { (result ≡ counter.entry.now.total) × (counter.exit.now ≡ counter.entry.now) }
+            ensures { result ≡ counter.now.total }
         { counter.total },
     )
 }
 
-/// Naps until the total is at least `least`, and counts its visits.
+/// Adds under the lock where the total is still below `most`, and tells whether it did.
+pub fn add_below<'p, R: Wait>(
+    rt: &R,
+    lock: &KeptLock<Counter<'p>>,
+    pass: &mut Pass<Counter<'p>>,
+    me: u64,
+    amount: u64,
+    most: u64,
+) -> Attempt<Result<(), AllocError>>
+    requires pass { IsPassOf lock.now pass.old }
+    requires number { (known pass.old).number ≡ me }
+    ensures pass { IsPassOf lock.now pass.new }
+    ensures made { MadeAsTold (known pass.old) (known pass.new) (addition me amount) result }
+{
+    lock.attempt(
+        rt,
+        pass,
+        |counter: &mut Counter| -> Attempt<Result<(), AllocError>>
+            requires { StandsFor counter.now counter.now.plan }
+            ensures { StandsFor counter.exit.now counter.entry.now.plan × AddedAsTold counter.entry.now.log.items (addition me amount) result counter.exit.now.log.items }
+        {
+            if counter.total < most {
+                Attempt::Added(counter.add(me, amount))
+            } else {
+                Attempt::Nothing(Ok(()))
+            }
+        },
+    )
+}
+
+/// Naps until the total is at least `least`, and counts its looks.
 pub fn wait_for<'p, R: Wait>(
     rt: &R,
     lock: &KeptLock<Counter<'p>>,
@@ -81,12 +110,13 @@ pub fn wait_for<'p, R: Wait>(
     requires { IsPassOf lock.now pass.old }
     ensures pass { IsPassOf lock.now pass.new }
     ensures made { Made (known pass.old) (known pass.new) [] }
+    ensures reached { least ≤ sum_by (λ e. e.amount) (known pass.new).seen % 2 ^ 64 }
 {
-    let mut visits = 0u64;
+    let mut looks = 0u64;
     for _ in rt.forever() {
-        visits = visits.wrapping_add(1);
+        looks = looks.wrapping_add(1);
         if total(rt, lock, pass) >= least {
-            return visits;
+            return looks;
         }
         lock.nap(rt, pass);
     }

@@ -5,8 +5,8 @@ use Rattle.kept_lock.specs.Locks.{name_of, known}
 use Rattle.kept_lock.proofs.Steps.{releases_as}
 use Rattle.kept_lock.proofs.lock.KeptLock.put_back.Goals as goal
 
-pub fetch_add-found-requires : goal.fetch_add-found-requires
-fetch_add-found-requires g c =
+pub fetch_add-requires : goal.fetch_add-requires
+fetch_add-requires g c =
     let h = c.requires.inside.0 in let k = known c.args.pass.now in let y = c.unwrap-value.result in
     let out : c.args.pass.now.out ≡ Some y = sym c.take.ensures.value ∙ c.unwrap-value.ensures in
     let stand = subst (λ (o : Option g.row.V.Denot). IfSome o (λ z. g.V.Kept.stands z (name_of c.args.self.now))) out c.requires.stands in

@@ -1,5 +1,4 @@
-use Rattle.std.proofs.Common.{◌≡◌, ◌∙◌, Option, Some, ap, sym, subst, refl, rules}
-use Rattle.std.specs.Prelude.{IfSome}
+use Rattle.std.proofs.Common.{◌≡◌, ◌∙◌, ap, sym, subst, refl, rules}
 use Rattle.std.specs.Fn.{FnOnceReturnsAtMut}
 use Rattle.kept_lock.specs.declared.view.Known.{Known}
 use Rattle.kept_lock.specs.History.{Adds}
@@ -7,13 +6,10 @@ use Rattle.kept_lock.specs.Knowing.{Agrees, Accounts, entered, left_at}
 use Rattle.kept_lock.specs.Locks.{name_of, known}
 use Rattle.kept_lock.specs.Guards.{pass_in}
 use Rattle.kept_lock.specs.Visits.{Meets}
+use Rattle.kept_lock.proofs.Unchanged.{at_value}
 use denote.MutBor.{at_last}
 use Rattle.kept_lock.proofs.lock.KeptLock.visit.Given as given
 use Rattle.kept_lock.proofs.lock.KeptLock.visit.Goals as goal
-
--- what a clause says of the value of a guard, said of that value
-at_value : {V : Type 0} → (P : V → Type 0) (o : Option V) (y : V) → o ≡ Some y → IfSome o P → P y
-at_value P o y is h = subst (λ t. IfSome t P) is h
 
 meets : (g : given.Over) (c : goal.After-guard-2-1 g) → Meets g.V.Kept.history g.V.Kept.owner g.V.Kept.stands (name_of c.args.self.now) (known c.args.pass.now) c.get_mut.result.now
 meets g c = let e = c.enter-guard.ensures in let is = c.get_mut.ensures.value in let y = c.get_mut.result.now in record {
