@@ -3,7 +3,7 @@ ghost use Rattle.context_tree.specs.Contexts.{tree_of, as_pair, is_there, with_f
 ghost use Rattle.wave_base.specs.declared.shape.Shape.{Shape};
 ghost use Rattle.wave_base.specs.Paths.{parent_of};
 ghost use Rattle.wave_base.specs.Shapes.{is_path, class_of};
-ghost use Rattle.wave_base.specs.Tree.{enter, shots};
+ghost use Rattle.wave_base.specs.Tree.{enter, put, shots};
 ghost use Rattle.wave_base.specs.Trees.{first_tree};
 
 use std::alloc::Global;
@@ -99,6 +99,19 @@ impl Tree {
     {
         match self.contexts.get_mut(path) {
             Some(record) => record.fields.set(field, value),
+            None => unreachable!(),
+        }
+    }
+
+    /// Gives a context other fields, and hands out those that it had. So what a context has can be taken out, worked on and put
+    /// back with no copy and no memory.
+    pub fn exchange(&mut self, path: &Path, fields: Seq<Value>) -> Seq<Value>
+        requires { is_there self.old path.now ≡ true }
+        ensures put { (shape : Shape) → tree_of shape self.new ≡ put (tree_of shape self.old) path.now fields }
+        ensures before { (shape : Shape) → result ≡ (tree_of shape self.old).fields path.now }
+    {
+        match self.contexts.get_mut(path) {
+            Some(record) => std::mem::replace(&mut record.fields, fields),
             None => unreachable!(),
         }
     }
