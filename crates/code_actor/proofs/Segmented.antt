@@ -1,5 +1,5 @@
 -- A segment of an event that stands, as the machine has it.
-use Rattle.std.proofs.Common.{◌≡◌, ℕ, zero, suc, List, [], ◌∷◌, Option, Some, None, refl, ap, sym, subst, true}
+use Rattle.std.proofs.Common.{◌≡◌, ℕ, zero, suc, List, [], ◌∷◌, Option, Some, None, refl, ap, sym, subst, ◌∙◌, true}
 use Rattle.std.specs.Prelude.{All, map, slice_get}
 use Rattle.std.proofs.lemmas.List.Elements.{All-head, All-tail}
 use Rattle.std.proofs.lemmas.Option.{get_or_from_slice_get, slice_get_within}
@@ -21,6 +21,7 @@ use Rattle.service_verify.specs.Lawful.{OnlyLooks}
 use Rattle.service_verify.specs.Reads.{kept}
 use Rattle.service_verify.specs.Segments.{Event, Left as Halted, segment, event_segment}
 use Rattle.service_verify.specs.Standing.{HasFields, Leaves, Pauses, Stands}
+use Rattle.service_verify.proofs.Judged.{some_same}
 use Rattle.service_verify.proofs.Peeking.{only_looks_there}
 use Rattle.service_verify.proofs.Segmenting.{pauses}
 use Rattle.wave_states.specs.Actors.{Left}
@@ -68,12 +69,14 @@ module _ (program : Program) (fit : IsFit program) (verified : IsVerified progra
   segment_looks hosts p n e fields children stands has peeking =
       let o : OnlyLooks program e fields = only_looks_there program verified fit p n e fields stands has peeking in
       let is = ap (left_of e fields) o.is in
+      let r = segment_runs p n e fields stands has in
+      let same : r.left ≡ record { event = o.left; fields = fields; pause = halt.Over o.result } = some_same _ _ (sym r.is_left ∙ o.is) in
       record {
         same = ap (λ (l : Left Event Fields EventResult). l.fields) is;
         blind = refl;
         result = o.result;
         over = ap (λ (l : Left Event Fields EventResult). l.pause) is;
-        stays = refl;
+        stays = (subst (λ (l : Halted). Holding.Pauses e.box.path e.box.held l.event.box l.pause) same r.holds).2;
       }
 
   module _ (hosts : ℕ) where

@@ -78,7 +78,7 @@ has_here program w tree walks here fields at same =
     subst (HasFields program.shape walks.path) (sym (same ∙ ap tree.fields (at ∙ walks.stands.box.path))) has
 
 -- what a segment requires of the event and of the fields
-pub stands_on : (program : Program) (w : Walk) (tree : Tree Fields) → Walks program (trip_of w tree None) → (here : Path) (fields : Fields) → here ≡ w.event.event.box.path → fields ≡ tree.fields here → (p : Path) × (n : ℕ) × Stands program p n w.event × HasFields program.shape p fields
+pub stands_on : (program : Program) (w : Walk) (tree : Tree Fields) → Walks program (trip_of w tree None) → (here : Path) (fields : Fields) → here ≡ w.event.event.box.path → fields ≡ tree.fields here → (p : Path) × (n : ℕ) × Stands program p n w.event.event × HasFields program.shape p fields
 stands_on program w tree walks here fields at same = (walks.path, walks.calls, walks.stands, has_here program w tree walks here fields at same)
 
 -- a context is there after fields were put
@@ -109,7 +109,7 @@ into_child program p n e halt.Back (inr is) l = no_down halt.Back is.0 refl is.1
 into_child program p n e (halt.Over r) (inl is) l = over_no_go r is.0 is.1
 into_child program p n e (halt.Over r) (inr is) l = over_no_down r is.0 is.1
 
-module _ (program : Program) (w : Walk) (tree : Tree Fields) (walks : Walks program (trip_of w tree None)) (fields : Fields) (same : fields ≡ tree.fields w.event.event.box.path) (e : Event) (left : Fields) (why : Halt) (is : event_segment program w.event fields ≡ Some (record { event = e; fields = left; pause = why })) where
+module _ (program : Program) (w : Walk) (tree : Tree Fields) (walks : Walks program (trip_of w tree None)) (fields : Fields) (same : fields ≡ tree.fields w.event.event.box.path) (e : Event) (left : Fields) (why : Halt) (is : event_segment program w.event.event fields ≡ Some (record { event = e; fields = left; pause = why })) where
   abbrev t : Trip
   t = trip_of w tree None
 

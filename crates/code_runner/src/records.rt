@@ -23,9 +23,9 @@ pub fn take_record(alloc: Global, contexts: &mut Tree, path: &Path) -> Record
 }
 
 /// Moves a record back to a context.
-pub fn put_record(contexts: &mut Tree, path: &Path, record: Record)
+pub fn put_record(contexts: &mut Tree, path: &Path, body: Record)
     requires { is_there contexts.old path.now ≡ true }
-    ensures { (shape : Shape) → tree_of shape contexts.new ≡ put (tree_of shape contexts.old) path.now record.fields }
+    ensures { (shape : Shape) → tree_of shape contexts.new ≡ put (tree_of shape contexts.old) path.now body.fields }
 {
-    let _ = contexts.exchange(path, record.fields);
+    let _ = contexts.exchange(path, body.fields);
 }

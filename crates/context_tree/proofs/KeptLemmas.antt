@@ -178,3 +178,15 @@ module _ (shape : Shape) (p : Path) (r : Record) (initial : r.fields ≡ initial
 pub no_value : {A : Type 0} (o : Option A) → false ≡ is_some o → o ≡ None
 no_value None e = refl
 no_value (Some x) e = absurd (true≢false (sym e))
+
+-- what a look-up doesn't find is not there
+pub not_there : (es : Entries) (p : Path) → lookup (is_at (path_cmp p)) es ≡ None → is_there (kept es) p ≡ true → ⊥
+not_there es p none there = true≢false (sym there ∙ sym (there_in (kept es).shots p) ∙ ap is_some (sym (found es p) ∙ ap (option_map (λ r. r.fields)) none))
+
+-- a context with a field is there
+pub there_by_field : (t : Contexts) (p : Path) (field : ℕ) → HasField t p field → is_there t p ≡ true
+there_by_field t p field h = sym (there_in t.shots p) ∙ some (fields_in t.shots p) h
+  where
+    some : (o : Option (List Value)) → IsSomeAnd o (λ fields. field < length fields) → is_some o ≡ true
+    some None k = absurd k
+    some (Some fields) k = refl

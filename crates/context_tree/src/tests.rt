@@ -105,6 +105,19 @@ fn a_field_is_set(rt: HostRuntime) -> Result<(), Fail> {
     Ok(())
 }
 
+#[test]
+fn fields_are_exchanged(rt: HostRuntime) -> Result<(), Fail> {
+    let alloc = rt.alloc();
+    let shots = two(alloc)?;
+    let mut tree = Tree::from_shots(alloc, shots.as_slice())?;
+    let fields = Seq::from_vec(vec![in alloc; Value::Int(5)]?);
+    let before = tree.exchange(&hall(2), fields);
+    assert!(rt; before.as_slice() == [Value::Int(9)].as_slice());
+    let wanted = [shot(alloc, hall(-5), 1)?, shot(alloc, hall(2), 5)?];
+    assert!(rt; tree.shots(alloc)?.as_slice() == wanted.as_slice());
+    Ok(())
+}
+
 fn step(class: u16, key: i64) -> Step {
     let class = Class(class);
     Step { class, key }

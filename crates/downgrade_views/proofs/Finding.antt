@@ -65,9 +65,9 @@ pub kept_step : (i : ℕ) (kept : List Bool) (xs : List Value) (d : Value) (copi
 kept_step i kept xs d copies new whole k lt lt' is new_is e =
     let up : suc i ≡ i + 1 = omega arith in
     let next : kept_from i (drop i kept) (drop i xs) ≡ (if k then (i, get_or xs i d) ∷ [] else []) ++ kept_from (i + 1) (drop (i + 1) kept) (drop (i + 1) xs) =
-        (λ j. kept_from i (drop-cons kept i false lt j) (drop-cons xs i d lt' j))
-        ∙ kept_next i (drop (suc i) kept) (drop (suc i) xs) (get_or kept i false) (get_or xs i d)
-        ∙ (λ j. (if is j then (i, get_or xs i d) ∷ [] else []) ++ kept_from (up j) (drop (up j) kept) (drop (up j) xs)) in
+    (λ j. kept_from i (drop-cons kept i false lt j) (drop-cons xs i d lt' j))
+    ∙ kept_next i (drop (suc i) kept) (drop (suc i) xs) (get_or kept i false) (get_or xs i d)
+    ∙ (λ j. (if is j then (i, get_or xs i d) ∷ [] else []) ++ kept_from (up j) (drop (up j) kept) (drop (up j) xs)) in
     ap (λ cs. cs ++ kept_from (i + 1) (drop (i + 1) kept) (drop (i + 1) xs)) new_is
     ∙ append_assoc copies (if k then (i, get_or xs i d) ∷ [] else []) (kept_from (i + 1) (drop (i + 1) kept) (drop (i + 1) xs))
     ∙ ap (λ cs. copies ++ cs) (sym next)

@@ -1,5 +1,5 @@
 -- No fewer words spell a tree than its canonical ones.
-use Rattle.std.proofs.Common.{◌≡◌, ◌≤◌, ◌<◌, ◌+◌, ℕ, zero, suc, ◌⊎◌, inl, inr, Bool, true, false, nat_lt, List, [], ◌∷◌, ◌++◌, length, map, fold, Option, Some, None, unwrap_or, refl, sym, ap, subst, ◌∙◌, arith, length-append, ltb-true, lt-ltb}
+use Rattle.std.proofs.Common.{◌≡◌, ◌≤◌, ◌<◌, ◌+◌, ℕ, zero, suc, inl, inr, Bool, true, false, nat_lt, List, [], ◌∷◌, ◌++◌, length, fold, Option, Some, None, unwrap_or, refl, sym, ap, subst, ◌∙◌, arith, length-append, ltb-true, lt-ltb}
 use Rattle.wave_base.specs.declared.span.Span.{Span}
 use Rattle.mace_lexer.specs.declared.token.Token.{Token}
 use Rattle.mace_lexer.specs.declared.token.Word.{Word}
@@ -9,20 +9,17 @@ use Rattle.mace_lexer.specs.declared.keyword.Keyword.TheVariants as k
 use Rattle.mace_lexer.specs.declared.sign.Sign.{Sign}
 use Rattle.mace_lexer.specs.declared.sign.Sign.TheVariants as s
 use Rattle.mace_ast.specs.declared.name.Name.{Name}
-use Rattle.mace_ast.specs.declared.field.VarDecl.{VarDecl}
 use Rattle.mace_ast.specs.declared.field.Initial.{Initial}
 use Rattle.mace_ast.specs.declared.field.Literal.{Literal}
 use Rattle.mace_ast.specs.declared.field.Literal.TheVariants as lit
-use Rattle.mace_ast.specs.declared.method.Param.{Param}
 use Rattle.mace_ast.specs.declared.expr.BinaryOp.{BinaryOp}
 use Rattle.mace_ast.specs.declared.expr.BinaryOp.TheVariants as op
 use Rattle.mace_ast.specs.Exprs as e
-use Rattle.mace_ast.specs.Exprs.{ExprTree, ExprTrees, no_exprs, expr_and, exprs_of, place_of}
-use Rattle.mace_ast.specs.Stmts as st
-use Rattle.mace_ast.specs.Stmts.{StmtTree, StmtTrees, stmts_of, else_of}
-use Rattle.mace_ast.specs.Decls.{LastTree, MethodTree, PhaseTree, EventTree, ContextTree, Context, contexts_of, ServiceTree}
+use Rattle.mace_ast.specs.Exprs.{ExprTree, exprs_of, place_of}
+use Rattle.mace_ast.specs.Stmts.{StmtTree, stmts_of, else_of}
+use Rattle.mace_ast.specs.Decls.{LastTree, ContextTree, contexts_of}
 use Rattle.wave_base.specs.declared.value.Kind.{Kind}
-use Rattle.mace_grammar.specs.Part.{Part, ◌>>◌, many, maybe, SpellsAll, SpellsMaybe, nested}
+use Rattle.mace_grammar.specs.Part.{Part, ◌>>◌, SpellsAll, SpellsMaybe, nested}
 use Rattle.mace_grammar.specs.Words as w
 use Rattle.mace_grammar.specs.Grammar as g
 use Rattle.mace_printer.specs.Canon as c

@@ -5,8 +5,6 @@ use Rattle.std.proofs.Math.Path.{fun_ext}
 use Rattle.wave_base.specs.declared.limits.TheConstants.{TICKS}
 use Rattle.wave_base.specs.declared.call.Call.{Call}
 use Rattle.wave_base.specs.declared.path.Path.{Path}
-use Rattle.wave_base.specs.declared.script.Line.{Line}
-use Rattle.wave_base.specs.declared.script.Line.TheVariants.{Request, Move, Snapshot}
 use Rattle.wave_base.specs.declared.outcome.Outcome.TheVariants as out
 use Rattle.wave_base.specs.declared.trap.TrapKind.TheVariants as trap
 use Rattle.wave_base.specs.declared.value.Value.{Value}

@@ -1,5 +1,5 @@
 -- What the code of a call owes to the fold of a script.
-use Rattle.std.proofs.Common.{◌≡◌, ◌≤◌, ℕ, ◌||◌, ◌⊎◌, inl, inr, Bool, true, false, List, [], ◌∷◌, Option, Some, None, refl, sym, ◌∙◌, ap, subst, arith}
+use Rattle.std.proofs.Common.{◌≡◌, ◌≤◌, ℕ, ◌||◌, inl, inr, true, false, [], None, refl, sym, ◌∙◌, ap, subst, arith}
 use Rattle.std.specs.Prelude.{All, unwrap_or}
 use Rattle.std.specs.List.{list_any}
 use Rattle.std.specs.List.Sorted.{IsStrictlySortedBy}
@@ -11,10 +11,9 @@ use Rattle.wave_base.specs.declared.outcome.Outcome.TheVariants as out
 use Rattle.wave_base.specs.declared.path.Path.{Path}
 use Rattle.wave_base.specs.Fold.{Ran}
 use Rattle.wave_base.specs.Paths.{path_eq, path_cmp, parent_of}
-use Rattle.wave_base.specs.Places.{move_of, move_in}
+use Rattle.wave_base.specs.Places.{move_in}
 use Rattle.wave_base.specs.Tree.{Tree, there}
 use Rattle.wave_base.specs.Trees.{FitsShape, HasKinds}
-use Rattle.wave_base.specs.Shapes.{initial_fields}
 use Rattle.std.proofs.lemmas.List.Elements.{recursion_from_All}
 use Rattle.script_fold.specs.Owed.{Owed}
 use Rattle.service_code.specs.declared.program.Program.{Program}
@@ -22,8 +21,8 @@ use Rattle.service_verify.specs.Fit.{IsFit}
 use Rattle.service_verify.specs.Points.{IsVerified}
 use Rattle.service_verify.specs.Standing.{HasFields, HasTree}
 use Rattle.service_verify.specs.Tours.{code_tour}
-use Rattle.wave_states.specs.Alone.{Alone, has, first_alone, ended_alone, run_alone, after_segments}
-use Rattle.wave_theory.proofs.Alone.{Fine, first_fine}
+use Rattle.wave_states.specs.Alone.{has, first_alone, run_alone}
+use Rattle.wave_theory.proofs.Alone.{first_fine}
 use Rattle.wave_theory.proofs.Plans.{RanOk, ran_ok, fine_after}
 use Rattle.wave_theory.proofs.Basics.{bool_cases, clash, path_is}
 use Rattle.wave_theory.proofs.Paths.{or_is, or_left, or_right}
@@ -114,6 +113,7 @@ module _ (program : Program) (fit : IsFit program) (verified : IsVerified progra
     few = λ t c is job. (ended t c is job).spawned.few;
     later = λ t c is job. (ended t c is job).spawned.later;
     last = λ c job. job.1;
-    joined = λ t c p is job e. sym (joined t c is job p) ∙ e;
+    joined = λ t c p is job. joined t c is job p;
+    ordered = λ t c is job o. (kept t c is job).ordered;
     unmoved = λ t c is job. unmoved (code_ran program t c).result.outcome (ended t c is job).own;
   }

@@ -1,11 +1,10 @@
 -- The work of a plan's actors is that of its script.
-use Rattle.std.proofs.Common.{◌≡◌, ◌≤◌, ℕ, zero, suc, ◌+◌, ◌-◌, ◌⊎◌, inl, inr, Bool, true, false, if◌then◌else◌, nat_eq, List, [], ◌∷◌, ◌++◌, length, length-append, sum_by, Option, Some, None, refl, sym, ◌∙◌, ap, ap₂, subst, arith}
+use Rattle.std.proofs.Common.{◌≡◌, ℕ, zero, suc, ◌+◌, ◌-◌, Bool, true, false, if◌then◌else◌, nat_eq, List, [], ◌∷◌, length, length-append, sum_by, Option, Some, None, refl, sym, ◌∙◌, ap, ap₂, arith}
 use Rattle.std.proofs.lemmas.List.Sums.{sum_by-append, sum_by-cons}
 use Rattle.wave_base.specs.declared.numbers.Host.{Host}
 use Rattle.wave_base.specs.declared.outcome.EventResult.{EventResult}
 use Rattle.wave_base.specs.declared.outcome.Outcome.TheVariants as out
 use Rattle.wave_base.specs.declared.path.Path.{Path}
-use Rattle.wave_base.specs.declared.path.Step.{Step}
 use Rattle.wave_base.specs.declared.script.Line.{Line}
 use Rattle.wave_base.specs.declared.script.Line.TheVariants.{Request, Move, Snapshot}
 use Rattle.wave_base.specs.declared.start.Start.{Start}
@@ -18,7 +17,7 @@ use Rattle.script_fold.specs.Runs.{after_jobs, whole_run, hosts_after}
 use Rattle.script_fold.proofs.FoldLemmas.{All-drop_head}
 use Rattle.script_fold.proofs.StepLemmas.{any_ticket}
 use Rattle.wave_states.specs.Alone.{run_alone, segments_of, fold_alone, job_after, places_alone}
-use Rattle.wave_states.specs.Work.{Work, no_work, moves_away, work_after, work_of_job}
+use Rattle.wave_states.specs.Work.{Work, moves_away, work_after, work_of_job}
 use Rattle.wave_theory.proofs.Sites.{old_same}
 use Rattle.code_actor.specs.CodeActors as code
 use Rattle.code_actor.specs.CodeActors.{Fields}
@@ -28,7 +27,6 @@ use Rattle.plan_actors.specs.PlanActors.{plan_actors}
 use Rattle.plan_actors.specs.Plans.{Plan, Fits, FitsStart, begin_in}
 use Rattle.plan_actors.proofs.Coded.{code_owes}
 use Rattle.plan_actors.proofs.Folding.{stays_long, most_over}
-use Rattle.plan_actors.proofs.Hosts.{hosts_there}
 use Rattle.plan_actors.proofs.Jobs.{runs_line, counts_line}
 use Rattle.plan_actors.proofs.Meeting.{good, folds_meet, places_meet}
 
@@ -66,7 +64,7 @@ module _ (plan : Plan) (fits : Fits plan) (start : Start) (begins : FitsStart pl
       (move_of (run_alone (plan_actors plan.program) t (fold_alone (plan_actors plan.program) (begin_in plan start) plan.script.batches n).tree l).result)
       ≡ moves_away (hosts_after start (at n)) (move_of (line_by (code_ran plan.program) (start.next.0 + (at n).head.done) (at n).tree l).result) =
       ap₂ (λ (hosts : Tree ℕ) (r : Ran Fields EventResult). moves_away (with_contexts hosts r.entered) (move_of r.result)) places ran
-      ∙ moves_same (start.next.0 + (at n).head.done) (hosts_after start (at n)) (at n).tree (hosts_there plan fits start begins n) g.tree l job in
+      ∙ moves_same (start.next.0 + (at n).head.done) (hosts_after start (at n)) (at n).tree g.placed g.tree l job in
       λ i. record { tickets = suc x.tickets; segments = x.segments + segments i; entered = x.entered + length (ran i).entered; moves = x.moves + moves i }
 
   -- the machine's work numbers are the plan's

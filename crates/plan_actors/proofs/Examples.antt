@@ -1,10 +1,9 @@
 -- A small plan, computed: events that create others, moves and a snapshot, in the fold and in the machine. And short wrong runs.
-use Rattle.std.proofs.Common.{◌≡◌, ℕ, true, false, suc, if◌then◌else◌, List, [], ◌∷◌, ◌++◌, length, Option, Some, None, pos, is_none, refl}
-use Rattle.std.specs.Prelude.{codes, option_map, map, slice_get}
+use Rattle.std.proofs.Common.{◌≡◌, ℕ, true, List, [], ◌∷◌, ◌++◌, length, Option, Some, None, pos, refl}
+use Rattle.std.specs.Prelude.{codes, option_map, map}
 use Rattle.wave_base.specs.declared.call.Call.{Call}
 use Rattle.wave_base.specs.declared.numbers.Host.{Host}
 use Rattle.wave_base.specs.declared.outcome.EventResult.{EventResult}
-use Rattle.wave_base.specs.declared.outcome.Outcome.{Outcome}
 use Rattle.wave_base.specs.declared.outcome.Outcome.TheVariants as out
 use Rattle.wave_base.specs.declared.path.Path.{Path}
 use Rattle.wave_base.specs.declared.path.Step.{Step}
@@ -12,25 +11,27 @@ use Rattle.wave_base.specs.declared.script.Line.{Line}
 use Rattle.wave_base.specs.declared.script.Line.TheVariants.{Request, Move, Snapshot}
 use Rattle.wave_base.specs.declared.shot.Shot.{Shot}
 use Rattle.wave_base.specs.declared.start.Start.{Start}
-use Rattle.wave_base.specs.declared.trap.TrapKind.TheVariants as trap
 use Rattle.wave_base.specs.declared.value.Value.{Value}
 use Rattle.wave_base.specs.declared.value.Value.TheVariants as v
-use Rattle.wave_base.specs.Fold.{Head, Ran, Progress, next_job, created_lines}
+use Rattle.wave_base.specs.Fold.{next_job, created_lines}
 use Rattle.wave_base.specs.Paths.{parent_of}
-use Rattle.wave_base.specs.Places.{load_of}
 use Rattle.wave_base.specs.Tree.{Tree, enter, put, shots}
 use Rattle.wave_base.specs.Trees.{first_tree}
-use Rattle.resolved_service.specs.Jobs.{only, move_ran, snapshot_ran}
+use Rattle.resolved_service.specs.Jobs.{only, move_ran}
 use Rattle.value_ops.specs.Operators.{operators, takes_of, gives_of, apply_row}
 use Rattle.service_code.specs.declared.instr.Instr.TheVariants.{PushInt, Field, SetField, Op, Spawn, Go, End}
 use Rattle.service_code.specs.declared.program.Program.{Program}
 use Rattle.service_verify.specs.Boxes.{first_box}
+use Rattle.service_verify.specs.Looks.{peeks, is_quiet_function}
+use Rattle.service_verify.specs.Points as points
+use Rattle.service_verify.specs.Points.{judged_function, judged_from, point_after}
+use Rattle.service_verify.specs.Reads.{kept}
+use Rattle.service_verify.specs.Rules.{effect_of, levels_above}
 use Rattle.service_verify.specs.Segments.{weight, enough, steps, segment}
 use Rattle.service_verify.specs.Steps.{acted, one_step}
-use Rattle.service_verify.proofs.Samples.{at, class, function, one_int}
+use Rattle.service_verify.proofs.Samples.{class, function, one_int}
 use Rattle.wave_states.specs.Actors.{Actors, Left, Down, Back, Over}
-use Rattle.wave_states.specs.Actors as pause
-use Rattle.wave_states.specs.Alone.{run_alone, segments_of, fold_alone, places_alone, after_segments}
+use Rattle.wave_states.specs.Alone.{run_alone, fold_alone, places_alone, after_segments}
 use Rattle.wave_states.specs.Begins.{Begin, begin_of, start_state}
 use Rattle.wave_states.specs.Canonical.{enabled}
 use Rattle.wave_states.specs.Movers as mover
@@ -39,7 +40,7 @@ use Rattle.wave_states.specs.Runs.{run, drive, seed}
 use Rattle.wave_states.specs.States.{State}
 use Rattle.wave_states.specs.Steps as machine
 use Rattle.wave_states.specs.Walkers.{Walker, first_of, last_step, steps_left, visit, walkers}
-use Rattle.wave_states.specs.Work.{Work, work_after}
+use Rattle.wave_states.specs.Work.{work_after}
 use Rattle.code_actor.specs.CodeActors.{Fields}
 use Rattle.plan_actors.specs.PlanActors.{Actor, plan_actors}
 
@@ -103,24 +104,24 @@ jobs = Request (call 0 0) ∷ Request (call 1 1) ∷ Move (hall 1) (host 0) ∷ 
 
 -- in the fold: the created call comes before the second batch
 folded : (fold_alone brief begin batches 5).results ≡ results
-unfolding after_segments segment steps enough weight one_step acted first_box takes_of gives_of apply_row operators
+unfolding after_segments segment steps enough weight one_step acted first_box takes_of gives_of apply_row operators kept peeks is_quiet_function judged_function judged_from points.visit point_after effect_of levels_above
 folded = refl
 
 folded_jobs : (fold_alone brief begin batches 5).head ≡ record { known = jobs; later = []; done = 5 }
-unfolding after_segments segment steps enough weight one_step acted first_box takes_of gives_of apply_row operators
+unfolding after_segments segment steps enough weight one_step acted first_box takes_of gives_of apply_row operators kept peeks is_quiet_function judged_function judged_from points.visit point_after effect_of levels_above
 folded_jobs = refl
 
 folded_paths : (fold_alone brief begin batches 5).entered ≡ ([] ∷ hall 1 ∷ []) ∷ ([] ∷ []) ∷ ([] ∷ hall 1 ∷ []) ∷ ([] ∷ []) ∷ ([] ∷ hall 1 ∷ []) ∷ []
-unfolding after_segments segment steps enough weight one_step acted first_box takes_of gives_of apply_row operators
+unfolding after_segments segment steps enough weight one_step acted first_box takes_of gives_of apply_row operators kept peeks is_quiet_function judged_function judged_from points.visit point_after effect_of levels_above
 folded_paths = refl
 
 folded_hosts : shots (places_alone brief begin batches 5) ≡ ([], 1) ∷ (hall 1, 0) ∷ []
-unfolding after_segments segment steps enough weight one_step acted first_box takes_of gives_of apply_row operators
+unfolding after_segments segment steps enough weight one_step acted first_box takes_of gives_of apply_row operators kept peeks is_quiet_function judged_function judged_from points.visit point_after effect_of levels_above
 folded_hosts = refl
 
 -- five tickets; two segments down, one at the root, two and one of the moves, and three of the snapshot
 folded_work : work_after brief begin batches 5 ≡ record { tickets = 5; segments = 9; entered = 8; moves = 1 }
-unfolding after_segments segment steps enough weight one_step acted first_box takes_of gives_of apply_row operators
+unfolding after_segments segment steps enough weight one_step acted first_box takes_of gives_of apply_row operators kept peeks is_quiet_function judged_function judged_from points.visit point_after effect_of levels_above
 folded_work = refl
 
 -- in the machine, by two workers on two hosts
@@ -131,11 +132,11 @@ abbrev all_results : State Actor Fields EventResult Line → List (Option EventR
 all_results s = (s.cells 8).result ∷ (s.cells 9).result ∷ (s.cells 10).result ∷ (s.cells 11).result ∷ (s.cells 12).result ∷ []
 
 driven_results : option_map all_results driven ≡ Some (map (λ r. Some r) results)
-unfolding machine.step run enabled drive segment steps enough weight one_step acted first_box takes_of gives_of apply_row operators
+unfolding machine.step run enabled drive segment steps enough weight one_step acted first_box takes_of gives_of apply_row operators kept peeks is_quiet_function judged_function judged_from points.visit point_after effect_of levels_above
 driven_results = refl
 
 driven_jobs : option_map (λ s. s.head) driven ≡ Some (record { known = jobs; later = []; done = 5 })
-unfolding machine.step run enabled drive segment steps enough weight one_step acted first_box takes_of gives_of apply_row operators
+unfolding machine.step run enabled drive segment steps enough weight one_step acted first_box takes_of gives_of apply_row operators kept peeks is_quiet_function judged_function judged_from points.visit point_after effect_of levels_above
 driven_jobs = refl
 
 -- ---- wrong actors
@@ -180,12 +181,12 @@ snapshot_tells : shots tree ≡ ([], int 0 ∷ []) ∷ (hall 1, int 4 ∷ []) �
 snapshot_tells = refl
 
 -- A created call that loses its generation: an event that creates itself ends at the fifth, for want of a generation; by the
--- wrong rule a job is left for ever.
+-- wrong rule a sixth comes.
 abbrev endless : List (List Line)
 endless = (Request (call 2 0) ∷ []) ∷ []
 
 no_sixth : next_job (fold_alone brief begin endless 5).head ≡ None
-unfolding after_segments segment steps enough weight one_step acted first_box takes_of gives_of apply_row operators
+unfolding after_segments segment steps enough weight one_step acted first_box takes_of gives_of apply_row operators kept peeks is_quiet_function judged_function judged_from points.visit point_after effect_of levels_above
 no_sixth = refl
 
 abbrev young : Line → Line
@@ -196,7 +197,7 @@ abbrev forgetful : Actors Actor Fields EventResult Line
 forgetful = record brief { created = λ r. map young (created_lines r) }
 
 a_sixth : next_job (fold_alone forgetful begin endless 5).head ≡ Some (Request (call 2 0))
-unfolding after_segments segment steps enough weight one_step acted first_box takes_of gives_of apply_row operators
+unfolding after_segments segment steps enough weight one_step acted first_box takes_of gives_of apply_row operators kept peeks is_quiet_function judged_function judged_from points.visit point_after effect_of levels_above
 a_sixth = refl
 
 -- Created calls that are left out: a result is missing.
@@ -204,5 +205,5 @@ abbrev barren : Actors Actor Fields EventResult Line
 barren = record brief { created = λ r. [] }
 
 one_missing : length (fold_alone barren begin batches 5).results ≡ 4
-unfolding after_segments segment steps enough weight one_step acted first_box takes_of gives_of apply_row operators
+unfolding after_segments segment steps enough weight one_step acted first_box takes_of gives_of apply_row operators kept peeks is_quiet_function judged_function judged_from points.visit point_after effect_of levels_above
 one_missing = refl

@@ -1,18 +1,16 @@
 -- What a finished state tells is what the script's fold by code gives.
-use Rattle.std.proofs.Common.{◌≡◌, ◌≤◌, ◌<◌, ℕ, zero, suc, ◌+◌, ◌-◌, ◌⊎◌, inl, inr, Bool, true, false, if◌then◌else◌, List, [], ◌∷◌, length, map, Option, Some, None, zip, slice_get, refl, sym, ◌∙◌, ap, ap₂, subst, arith}
+use Rattle.std.proofs.Common.{◌≡◌, ◌≤◌, ◌<◌, ℕ, zero, suc, ◌+◌, ◌-◌, inl, inr, true, if◌then◌else◌, List, [], ◌∷◌, length, map, Some, None, slice_get, refl, sym, ◌∙◌, ap, ap₂, subst, arith}
 use Rattle.std.specs.Prelude.{All, is_some}
 use Rattle.std.specs.List.{list_any, AllByRecursion}
 use Rattle.std.proofs.lemmas.List.Elements.{recursion_from_All, All-from_recursion}
 use Rattle.std.proofs.lemmas.Option.{slice_get_within}
 use Rattle.wave_base.specs.declared.finished.Finished.{Finished}
 use Rattle.wave_base.specs.declared.finished.Place.{Place}
-use Rattle.wave_base.specs.declared.numbers.Host.{Host}
 use Rattle.wave_base.specs.declared.outcome.EventResult.{EventResult}
 use Rattle.wave_base.specs.declared.path.Path.{Path}
 use Rattle.wave_base.specs.declared.script.Line.{Line}
 use Rattle.wave_base.specs.declared.shot.Shot.{Shot}
 use Rattle.wave_base.specs.declared.start.Start.{Start}
-use Rattle.wave_base.specs.declared.value.Value.{Value}
 use Rattle.wave_base.specs.Fold.{Head, Progress, first_head, next_job, with_job, made, created_lines}
 use Rattle.std.specs.List.Sorted.{IsStrictlySortedBy}
 use Rattle.wave_base.specs.Paths.{path_eq, path_cmp}
@@ -20,7 +18,7 @@ use Rattle.wave_base.specs.Places.{load_of}
 use Rattle.wave_base.specs.Tree.{Tree, there, shots}
 use Rattle.resolved_service.specs.Jobs.{shot_of}
 use Rattle.script_fold.specs.Lines.{name_of}
-use Rattle.script_fold.specs.Runs.{after_jobs, whole_run, hosts_after, ticket_of, place_of, finished_by, finished_of}
+use Rattle.script_fold.specs.Runs.{after_jobs, whole_run, hosts_after, ticket_of, place_of, finished_of}
 use Rattle.wave_states.specs.Begins.{is_root}
 use Rattle.wave_states.specs.Alone.{fold_alone, places_alone, run_alone}
 use Rattle.wave_states.specs.States.{State, Entry, Record}
@@ -36,8 +34,7 @@ use Rattle.plan_actors.specs.Calls.{code_ran}
 use Rattle.plan_actors.specs.Finishing.{path_of, path_shot, IsOn, IsShot, IsLoad, Tells}
 use Rattle.plan_actors.specs.PlanActors.{Actor, plan_actors, plan_kind}
 use Rattle.plan_actors.specs.Plans.{Plan, Fits, FitsStart, begin_in}
-use Rattle.plan_actors.proofs.Hosts.{hosts_there, hosts_paths}
-use Rattle.plan_actors.proofs.Meeting.{good, folds_meet, places_meet, whole_meets}
+use Rattle.plan_actors.proofs.Meeting.{good, hosts_paths, folds_meet, places_meet, whole_meets}
 use Rattle.plan_actors.proofs.Order.{at_path, sorted_same}
 
 -- lists of one length that have the same at each place are the same

@@ -1,22 +1,22 @@
 -- Two folds whose jobs do the same are the same; and where a script's fold is over.
-use Rattle.std.proofs.Common.{◌≡◌, ◌≤◌, ◌<◌, ℕ, zero, suc, ◌+◌, ◌-◌, ◌⊎◌, inl, inr, Bool, true, false, List, [], ◌∷◌, length, drop, sum_by, Option, Some, None, refl, sym, ◌∙◌, ap, subst, arith}
+use Rattle.std.proofs.Common.{◌≡◌, ◌≤◌, ◌<◌, ℕ, zero, suc, ◌+◌, ◌⊎◌, inl, inr, List, [], ◌∷◌, length, drop, sum_by, Option, Some, None, refl, sym, ◌∙◌, ap, arith}
 use Rattle.std.proofs.lemmas.List.Sums.{sum_by-cons}
 use Rattle.wave_base.specs.declared.call.Call.{Call}
 use Rattle.wave_base.specs.declared.outcome.EventResult.{EventResult}
 use Rattle.wave_base.specs.declared.script.Line.{Line}
+use Rattle.wave_base.specs.declared.script.Line.TheVariants.{Request, Move, Snapshot}
 use Rattle.wave_base.specs.declared.script.Script.{Script}
 use Rattle.wave_base.specs.declared.shape.Shape.{Shape}
 use Rattle.wave_base.specs.declared.start.Start.{Start}
 use Rattle.wave_base.specs.declared.value.Value.{Value}
-use Rattle.wave_base.specs.Fold.{Head, Ran, Progress, first_progress, with_result, with_job, with_done, one_more, next_job, fold_jobs, created_lines}
+use Rattle.wave_base.specs.Fold.{Ran, Progress, first_progress, with_result, with_job, one_more, next_job, fold_jobs, created_lines}
 use Rattle.wave_base.specs.Scripts.{IsScript}
 use Rattle.wave_base.specs.Starts.{IsStart, start_tree}
 use Rattle.wave_base.specs.Tree.{Tree}
 use Rattle.script_fold.specs.Lines.{Meaning, line_by, most_of, most_jobs, FitsJob}
 use Rattle.script_fold.specs.Owed.{Owed}
-use Rattle.script_fold.specs.Runs.{after_jobs, whole_run}
-use Rattle.script_fold.proofs.FoldLemmas.{IsGood, good_after, next_is, All-drop_head}
-use Rattle.plan_actors.proofs.Counting.{left_in, next_left, done_left, most_of_some, created_most}
+use Rattle.script_fold.specs.Runs.{after_jobs, whole_run, finished_by, finished_of}
+use Rattle.script_fold.proofs.FoldLemmas.{IsGood, good_after, left_in, next_is, batches_most, All-drop_head}
 use Rattle.wave_theory.proofs.Basics.{options, none_not}
 use Rattle.wave_theory.proofs.Folds.{with_done_done}
 
@@ -61,36 +61,14 @@ module _ (shape : Shape) (meaning : Meaning) (FitsTree : Tree (List Value) → T
     ])
   ]
 
-  -- the jobs that are done, and those that the others may make, are no more than the lines may make
-  pub few_left : (n : ℕ) → (at n).head.done + left_in (at n).head ≤ most_jobs script.batches
-  few_left zero = omega (arith, first, (good 0).results)
-    where
-      first : left_in (at 0).head ≡ most_jobs script.batches
-      first = next_left (record { known = []; later = script.batches; done = 0 }) (omega arith) ∙ none (most_jobs script.batches)
-        where
-          none : (a : ℕ) → 0 + a ≡ a
-          none a = omega arith
-  few_left (suc n) = elim (options (next_job (at n).head)) [
-    | inl z ↦ subst (λ (w : Progress (List Value) EventResult Line). w.head.done + left_in w.head ≤ most_jobs script.batches) (sym (over_stays n z)) (few_left n)
-    | inr z ↦ (let w : Progress (List Value) EventResult Line = at n in
-        let x : Ran (List Value) EventResult = line_by meaning (start.next.0 + w.head.done) w.tree z.0 in
-        let fits : FitsJob FitsCall z.0 = All-drop_head (FitsJob FitsCall) w.head.known w.head.done z.0 z.1 (good n).known in
-        let most : sum_by most_of (created_lines x.result) + 1 ≤ most_of z.0 = created_most shape meaning FitsTree FitsCall owed (start.next.0 + w.head.done) w.tree (good n).tree z.0 fits in
-        let left : left_in (with_done w.head (created_lines x.result)) + most_of z.0 ≡ left_in w.head + sum_by most_of (created_lines x.result) = done_left w.head z.0 (created_lines x.result) z.1 in
-        let done : (with_done w.head (created_lines x.result)).done ≡ suc w.head.done = with_done_done w.head (created_lines x.result) in
-        subst (λ (o : Option Line). (with_job start.next.0 (line_by meaning) created_lines w o).head.done + left_in (with_job start.next.0 (line_by meaning) created_lines w o).head ≤ most_jobs script.batches) (sym z.1)
-        (sum w.head.done (with_done w.head (created_lines x.result)).done (left_in (with_done w.head (created_lines x.result))) (left_in w.head) (most_of z.0) (sum_by most_of (created_lines x.result)) (most_jobs script.batches) done left most (few_left n)))
-  ]
-    where
-      sum : (d e l m o s t : ℕ) → e ≡ suc d → l + o ≡ m + s → s + 1 ≤ o → d + m ≤ t → e + l ≤ t
-      sum d e l m o s t f g h i = omega (arith, f, g, h, i)
-
   -- where a job is left, fewer are done than the lines may make
   pub more_left : (n : ℕ) (j : Line) → next_job (at n).head ≡ Some j → (at n).head.done < most_jobs script.batches
+  unfolding left_in
   more_left n j e =
       let w : Progress (List Value) EventResult Line = at n in
       let rest : sum_by most_of (drop w.head.done w.head.known) ≡ most_of j + sum_by most_of (drop (suc w.head.done) w.head.known) = ap (sum_by most_of) (next_is w.head.known w.head.done j e) ∙ sum_by-cons most_of j (drop (suc w.head.done) w.head.known) in
-      omega (arith, rest, most_of_some j, few_left n)
+      let one : sum_by length ((j ∷ []) ∷ []) ≤ most_jobs ((j ∷ []) ∷ []) = batches_most ((j ∷ []) ∷ []) in
+      omega (arith, rest, one, (good n).left)
 
   -- after as many as the lines may make it is over
   pub most_over : next_job (at (most_jobs script.batches)).head ≡ None
@@ -121,3 +99,23 @@ module _ (shape : Shape) (meaning : Meaning) (FitsTree : Tree (List Value) → T
     where
       swap : (a b : ℕ) → a + b ≡ b + a
       swap a b = omega arith
+
+-- where calls do the same by two meanings, a script gives the same
+module _ (shape : Shape) (meaning other : Meaning) (FitsTree : Tree (List Value) → Type 0) (FitsCall : Call → Type 0) (owed : Owed shape other FitsTree FitsCall) (same : (t : Tree (List Value)) (c : Call) → FitsTree t → FitsCall c → meaning t c ≡ other t c)
+    (start : Start) (script : Script) (is_script : IsScript shape script) (is_start : IsStart shape script.hosts start) where
+  lines_alike : (ticket : ℕ) (t : Tree (List Value)) → FitsTree t → (l : Line) → FitsJob FitsCall l → line_by meaning ticket t l ≡ line_by other ticket t l
+  lines_alike ticket t f (Request call) h = same t call f h
+  lines_alike ticket t f (Move p k) h = refl
+  lines_alike ticket t f Snapshot h = refl
+
+  Good : Progress (List Value) EventResult Line → Type 0
+  Good w = IsGood shape other FitsTree FitsCall owed start script w
+
+  runs_alike : whole_run meaning shape start script ≡ whole_run other shape start script
+  unfolding whole_run Good
+  runs_alike = folds_alike start.next.0 start.next.0 refl (line_by meaning) (line_by other) created_lines (first_progress (start_tree shape start) script.batches) Good
+      (λ n. good_after shape other FitsTree FitsCall owed start script is_script is_start n)
+      (λ w l g e. lines_alike (start.next.0 + w.head.done) w.tree g.tree l (All-drop_head (FitsJob FitsCall) w.head.known w.head.done l e g.known)) (most_jobs script.batches)
+
+  pub scripts_alike : finished_of meaning shape start script ≡ finished_of other shape start script
+  scripts_alike = ap (finished_by start script) runs_alike

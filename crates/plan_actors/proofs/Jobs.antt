@@ -1,14 +1,12 @@
 -- Each job of a plan alone, whole, is what the line of a script does.
-use Rattle.std.proofs.Common.{◌≡◌, ℕ, suc, ◌+◌, ◌*◌, ◌-◌, if◌then◌else◌, Bool, true, false, List, [], ◌∷◌, length, filter, Option, Some, None, refl, sym, ◌∙◌, ap, subst, arith}
+use Rattle.std.proofs.Common.{◌≡◌, ℕ, suc, ◌+◌, ◌*◌, ◌-◌, if◌then◌else◌, Bool, true, false, [], length, filter, refl, ◌∙◌, ap, arith}
 use Rattle.std.specs.Prelude.{map, unwrap_or}
 use Rattle.wave_base.specs.declared.call.Call.{Call}
 use Rattle.wave_base.specs.declared.numbers.Host.{Host}
-use Rattle.wave_base.specs.declared.outcome.EventResult.{EventResult}
 use Rattle.wave_base.specs.declared.outcome.Outcome.TheVariants as out
 use Rattle.wave_base.specs.declared.path.Path.{Path}
 use Rattle.wave_base.specs.declared.script.Line.{Line}
 use Rattle.wave_base.specs.declared.script.Line.TheVariants.{Request, Move, Snapshot}
-use Rattle.wave_base.specs.Fold.{Ran}
 use Rattle.wave_base.specs.Tree.{Tree, there, shots}
 use Rattle.wave_base.specs.Shapes.{initial_fields}
 use Rattle.resolved_service.specs.Jobs.{only, fronts, move_ran, snapshot_ran, shot_of}
@@ -22,7 +20,7 @@ use Rattle.code_actor.specs.CodeActors as code
 use Rattle.code_actor.specs.CodeActors.{Fields, no_result, code_actors}
 use Rattle.code_actor.proofs.Whole as coded
 use Rattle.plan_actors.specs.Calls.{code_ran, IsTree, segments_on}
-use Rattle.plan_actors.specs.PlanActors.{Actor, Serves, Moves, Walks, end_of, shots_of, same, move_to, moving, walking, plan_actors}
+use Rattle.plan_actors.specs.PlanActors.{Serves, Moves, Walks, end_of, shots_of, same, move_to, moving, walking, plan_actors}
 use Rattle.plan_actors.proofs.Coded.{alone_is}
 use Rattle.plan_actors.proofs.Images.{run_same, segments_same}
 use Rattle.plan_actors.proofs.Moving.{Gone, moved_whole, entered_whole, counted_whole}

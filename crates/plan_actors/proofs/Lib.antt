@@ -1,10 +1,8 @@
 pub mod Coded
-pub mod Counting
 pub mod Efforts
 pub mod Examples
 pub mod Finishing
 pub mod Folding
-pub mod Hosts
 pub mod Images
 pub mod Jobs
 pub mod Joining

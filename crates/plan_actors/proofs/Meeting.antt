@@ -1,8 +1,7 @@
 -- The machine's fold of a plan is the script's fold by code; and a Start that fits gives a beginning that fits.
-use Rattle.std.proofs.Common.{◌≡◌, ◌≤◌, ◌<◌, ◌-◌, ◌+◌, ℕ, suc, Some, None, List, [], ◌∷◌, zip, refl, sym, ◌∙◌, ap, subst, arith}
+use Rattle.std.proofs.Common.{◌≡◌, ◌≤◌, ◌-◌, ◌+◌, ℕ, suc, None, List, [], ◌∷◌, zip, refl, sym, ◌∙◌, ap, arith, length, sum_by, ◌^◌, subst}
 use Rattle.std.specs.Prelude.{All, map}
 use Rattle.std.proofs.lemmas.List.Elements.{All-weaker}
-use Rattle.wave_base.specs.declared.call.Call.{Call}
 use Rattle.wave_base.specs.declared.limits.TheConstants.{GENERATION}
 use Rattle.wave_base.specs.declared.outcome.EventResult.{EventResult}
 use Rattle.wave_base.specs.declared.path.Path.{Path}
@@ -15,9 +14,8 @@ use Rattle.wave_base.specs.Places.{places_after, move_of}
 use Rattle.wave_base.specs.Starts.{start_tree, start_places}
 use Rattle.script_fold.specs.Lines.{FitsJob, line_by, most_jobs}
 use Rattle.script_fold.specs.Runs.{after_jobs, whole_run, hosts_after}
-use Rattle.script_fold.proofs.FoldLemmas.{IsGood, good_after, All-drop_head}
+use Rattle.script_fold.proofs.FoldLemmas.{IsGood, good_after, same_paths, room_after, All-drop_head}
 use Rattle.wave_states.specs.Alone.{fold_alone, job_after, moves_in, places_alone, run_alone}
-use Rattle.wave_states.specs.Begins.{begin_of}
 use Rattle.wave_states.specs.Owes.{IsBegin, IsPlan}
 use Rattle.wave_states.proofs.Starts.{start_fits}
 use Rattle.code_actor.specs.CodeActors as code
@@ -64,6 +62,9 @@ module _ (plan : Plan) (fits : Fits plan) where
     pub good : (n : ℕ) → IsGood plan.program.shape (code_ran plan.program) (IsTree plan.program) (code.IsJob plan.program) (code_owes plan.program fits.fit fits.verified) start plan.script (after_jobs (code_ran plan.program) plan.program.shape start plan.script n)
     good n = good_after plan.program.shape (code_ran plan.program) (IsTree plan.program) (code.IsJob plan.program) (code_owes plan.program fits.fit fits.verified) start plan.script fits.script begins n
 
+    pub hosts_paths : (n : ℕ) → (hosts_after start (after_jobs (code_ran plan.program) plan.program.shape start plan.script n)).paths ≡ (after_jobs (code_ran plan.program) plan.program.shape start plan.script n).tree.paths
+    hosts_paths n = same_paths plan.program.shape (code_ran plan.program) (IsTree plan.program) (code.IsJob plan.program) (code_owes plan.program fits.fit fits.verified) start plan.script fits.script begins n
+
     Good : Progress Fields EventResult Line → Type 0
     Good w = IsGood plan.program.shape (code_ran plan.program) (IsTree plan.program) (code.IsJob plan.program) (code_owes plan.program fits.fit fits.verified) start plan.script w
 
@@ -91,3 +92,12 @@ module _ (plan : Plan) (fits : Fits plan) where
     pub none_after : job_after (plan_actors plan.program) (begin_in plan start) plan.script.batches (most_jobs plan.script.batches) ≡ None
     none_after = ap (λ (w : Progress Fields EventResult Line). next_job w.head) (folds_meet (most_jobs plan.script.batches))
         ∙ most_over plan.program.shape (code_ran plan.program) (IsTree plan.program) (code.IsJob plan.program) (code_owes plan.program fits.fit fits.verified) start plan.script fits.script begins
+
+    -- there is a ticket for each job that is known, and for each line that is still to come
+    pub room : (n : ℕ) → start.next.0 + length (fold_alone (plan_actors plan.program) (begin_in plan start) plan.script.batches n).head.known + sum_by length (fold_alone (plan_actors plan.program) (begin_in plan start) plan.script.batches n).head.later ≤ 2 ^ 32
+    room n = subst (λ (w : Progress Fields EventResult Line). start.next.0 + length w.head.known + sum_by length w.head.later ≤ 2 ^ 32) (sym (folds_meet n))
+        (none_more (start.next.0 + length (after_jobs (code_ran plan.program) plan.program.shape start plan.script n).head.known) (sum_by length (after_jobs (code_ran plan.program) plan.program.shape start plan.script n).head.later)
+        (room_after plan.program.shape (code_ran plan.program) (IsTree plan.program) (code.IsJob plan.program) (code_owes plan.program fits.fit fits.verified) start plan.script fits.script begins (after_jobs (code_ran plan.program) plan.program.shape start plan.script n) (good n) [] (omega arith)))
+      where
+        none_more : (a b : ℕ) → a + 0 + b ≤ 2 ^ 32 → a + b ≤ 2 ^ 32
+        none_more a b l = omega (arith, l)

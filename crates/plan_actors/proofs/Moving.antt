@@ -1,21 +1,21 @@
 -- A mover alone enters the contexts of its way that are there, and leaves the tree as it is.
-use Rattle.std.proofs.Common.{◌≡◌, ℕ, zero, suc, ◌+◌, ◌||◌, if◌then◌else◌, inl, inr, Bool, true, false, List, [], ◌∷◌, ◌++◌, length, map, filter, Option, Some, None, append_assoc, append-nil, refl, sym, ◌∙◌, ap, ap₂, subst, arith}
+use Rattle.std.proofs.Common.{◌≡◌, ℕ, zero, suc, ◌||◌, if◌then◌else◌, inl, inr, true, false, List, [], ◌∷◌, ◌++◌, length, map, filter, Some, None, append_assoc, append-nil, refl, sym, ◌∙◌, ap, ap₂, subst}
 use Rattle.std.specs.Prelude.{is_some}
 use Rattle.std.specs.List.{list_any, AllByRecursion}
 use Rattle.std.specs.List.Sorted.{IsStrictlySortedBy}
 use Rattle.wave_base.specs.declared.path.Step.{Step}
 use Rattle.wave_base.specs.declared.path.Path.{Path}
-use Rattle.wave_base.specs.Paths.{step_eq, path_eq, path_cmp, is_above, parent_of}
-use Rattle.wave_base.specs.Tree.{Tree, there, enter, put, children_of}
+use Rattle.wave_base.specs.Paths.{step_eq, path_cmp, is_above, parent_of}
+use Rattle.wave_base.specs.Tree.{Tree, there, enter, children_of}
 use Rattle.wave_base.proofs.Trees.{put_same, enter_there}
 use Rattle.resolved_service.specs.Jobs.{fronts}
 use Rattle.wave_states.specs.Actors.{Left, Go, Over}
 use Rattle.wave_states.specs.Alone.{Alone, has, into, tree_with, goes_on, segment_if, next_alone, first_alone, after_segments, ended_alone, count_from}
 use Rattle.wave_states.specs.Movers.{Move, Mover, MoveEnd, Moved, Absent, advance_on, movers}
 use Rattle.wave_states.proofs.Children.{kids_in}
-use Rattle.wave_states.proofs.Segments.{after_first, after_none, after_over}
+use Rattle.wave_states.proofs.Segments.{after_first, after_none}
 use Rattle.wave_theory.proofs.Basics.{bool_cases, clash}
-use Rattle.wave_theory.proofs.Paths.{child_not_above, child_differs, or_is, step_is}
+use Rattle.wave_theory.proofs.Paths.{child_not_above, child_differs, step_is}
 use Rattle.plan_actors.proofs.Images.{count_last}
 use Rattle.plan_actors.proofs.Order.{has_child, front_there}
 

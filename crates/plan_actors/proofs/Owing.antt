@@ -1,5 +1,5 @@
 -- The actors of a plan owe what the machine asks of actors.
-use Rattle.std.proofs.Common.{◌≡◌, ℕ, Bool, true, false, List, [], Some, None, Option, refl, sym, ap}
+use Rattle.std.proofs.Common.{◌≡◌, ℕ, true, List, [], Some, refl, sym}
 use Rattle.std.specs.Prelude.{All}
 use Rattle.std.specs.List.Sorted.{IsStrictlySortedBy}
 use Rattle.std.proofs.lemmas.List.Elements.{All-nil, All-map}
@@ -18,8 +18,6 @@ use Rattle.wave_base.specs.Tree.{Tree}
 use Rattle.service_code.specs.declared.program.Program.{Program}
 use Rattle.service_verify.specs.Fit.{IsFit}
 use Rattle.service_verify.specs.Points.{IsVerified}
-use Rattle.service_verify.specs.Segments.{Event}
-use Rattle.wave_states.specs.Actors.{Actors, Left}
 use Rattle.wave_states.specs.Alone.{ended_alone}
 use Rattle.wave_states.specs.Movers as mover
 use Rattle.wave_states.specs.Movers.{MoveEnd, IsMove, sent_to, mover_kind}

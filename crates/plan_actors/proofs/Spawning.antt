@@ -1,5 +1,5 @@
 -- What events create: at most four calls, each a generation later; and none ends as a move or a snapshot does.
-use Rattle.std.proofs.Common.{◌≡◌, ◌≤◌, ◌<◌, ℕ, zero, suc, ◌+◌, List, [], ◌∷◌, ◌++◌, length, if◌then◌else◌, Bool, true, false, Option, Some, None, ℤ, refl, sym, ap, subst, ◌∙◌, arith, length-append, ltb-true}
+use Rattle.std.proofs.Common.{◌≡◌, ◌≤◌, ◌<◌, ℕ, zero, suc, List, [], ◌∷◌, ◌++◌, length, if◌then◌else◌, Bool, true, false, Option, Some, None, ℤ, refl, sym, ap, subst, ◌∙◌, arith, length-append, ltb-true}
 use Rattle.std.specs.Prelude.{slice_get, slice_set, nat_lt, ◌==◌, Ok, Err, All}
 use Rattle.std.specs.BTreeSet.{insert_key}
 use Rattle.std.specs.List.{filter}
@@ -24,7 +24,7 @@ use Rattle.wave_base.specs.declared.value.Value.TheVariants as v
 use Rattle.value_ops.specs.Kinds.{Answer}
 use Rattle.value_ops.specs.Operators.{takes_of, apply_row}
 use Rattle.deferred_out.specs.Kept.{with_call}
-use Rattle.downgrade_views.specs.Levels.{field_at}
+use Rattle.downgrade_views.specs.Levels.{Level, field_at}
 use Rattle.service_code.specs.declared.instr.Instr.{Instr}
 use Rattle.service_code.specs.declared.instr.Instr.TheVariants.{PushInt, PushBool, PushText, PushEmpty, Load, Store, Field, SetField, Above, Op, PutLocal, PutField, CutLocal, CutField, Jump, JumpFalse, Tick, Call as CallOwn, CallDown, Return, Pop, Require, Send, Spawn, Go, Reply, End}
 use Rattle.service_code.specs.declared.program.Program.{Program}
@@ -105,7 +105,7 @@ module _ (g : ℕ) where
   result_keeps None s go e = e None
   result_keeps (Some kind) s go e = top_keeps s _ (λ x rest. e (Some x))
 
-  module _ (program : Program) (levels : List (List Value)) (f : Frame) (below : List Frame) (b : Box) (fields : List Value) (at : Span) (same : So b) where
+  module _ (program : Program) (levels : List Level) (f : Frame) (below : List Frame) (b : Box) (fields : List Value) (at : Span) (same : So b) where
     so_far : Spawned g b.kept.created
     so_far = same.1
 
@@ -168,7 +168,7 @@ module _ (g : ℕ) where
     unfolding acted
     acted_keeps i = keeps i
 
-  module _ (program : Program) (levels : List (List Value)) where
+  module _ (program : Program) (levels : List Level) where
     step_keeps : (b : Box) (fields : List Value) → So b → K (one_step program levels b fields)
     unfolding one_step
     step_keeps b fields same = go b.frames

@@ -1,5 +1,5 @@
 -- A walker alone enters and copies all contexts, in path order, and leaves the tree as it is.
-use Rattle.std.proofs.Common.{◌≡◌, ℕ, zero, suc, ◌+◌, ◌*◌, ◌≤◌, ◌||◌, if◌then◌else◌, inl, inr, Bool, true, false, List, [], ◌∷◌, ◌++◌, length, map, Option, Some, None, append_assoc, append-nil, length-append, refl, sym, ◌∙◌, ap, ap₂, subst, arith}
+use Rattle.std.proofs.Common.{◌≡◌, ℕ, zero, suc, ◌+◌, ◌*◌, ◌≤◌, inl, inr, true, false, List, [], ◌∷◌, ◌++◌, length, map, Some, None, append_assoc, append-nil, length-append, refl, sym, ◌∙◌, ap, ap₂, subst, arith}
 use Rattle.std.proofs.lemmas.List.{map-append}
 use Rattle.std.specs.List.{list_any, AllByRecursion}
 use Rattle.std.specs.List.Sorted.{IsStrictlySortedBy}
@@ -9,16 +9,16 @@ use Rattle.wave_base.specs.declared.path.Path.{Path}
 use Rattle.wave_base.specs.Paths.{step_cmp, path_eq, path_cmp, parent_of}
 use Rattle.wave_base.specs.PathLaws.{path_cmp_total}
 use Rattle.wave_base.specs.Tree.{Tree, there, enter, children_of, shots}
-use Rattle.wave_base.proofs.Trees.{put_same, enter_there, enter_sorted}
+use Rattle.wave_base.proofs.Trees.{put_same, enter_there}
 use Rattle.wave_states.specs.Actors.{Left}
 use Rattle.wave_states.specs.Alone.{Alone, into, has, goes_on, next_alone, segment_if, after_segments, first_alone, ended_alone, segments_of, tree_with, count_from}
 use Rattle.wave_states.specs.Walkers.{Walker, steps_left, first_of, last_step, copied_now, leave, walk_on, walkers, visit, with_children, depth_of}
 use Rattle.wave_states.proofs.Children.{kids_in, kids_sorted, left_after}
 use Rattle.wave_states.proofs.Segments.{after_first, after_none, after_both}
-use Rattle.wave_theory.proofs.Basics.{bool_cases, clash}
-use Rattle.wave_theory.proofs.Paths.{parent_child, or_is}
+use Rattle.wave_theory.proofs.Basics.{bool_cases}
+use Rattle.wave_theory.proofs.Paths.{parent_child}
 use Rattle.plan_actors.proofs.Images.{count_both, count_last}
-use Rattle.plan_actors.proofs.Order.{below, subtree, Under, subtree_under, sides, first_below, never_self, at_path, all_map, all_joined, no_deeper, depth_first, visit_is}
+use Rattle.plan_actors.proofs.Order.{below, subtree, subtree_under, sides, first_below, never_self, at_path, all_map, all_joined, no_deeper, depth_first, visit_is}
 
 last_child : (p : Path) (s : Step) → last_step (p ++ s ∷ []) ≡ Some s
 last_child [] s = refl

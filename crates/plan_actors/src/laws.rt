@@ -1,6 +1,6 @@
 //! Laws of the actors of a plan: each is the contract of a function that does nothing.
 
-ghost use Rattle.std.specs.Prelude.{◌≡◌, ◌≢◌, ◌↔◌, ◌≤◌, ◌+◌, ℕ, suc, List, length, sum_by, Some, None};
+ghost use Rattle.std.specs.Prelude.{◌≡◌, ◌≢◌, ◌↔◌, ◌≤◌, ◌+◌, ◌^◌, ℕ, suc, List, length, sum_by, Some, None};
 ghost use Rattle.wave_base.specs.declared.finished.Finished.{Finished};
 ghost use Rattle.wave_base.specs.declared.outcome.EventResult.{EventResult};
 ghost use Rattle.wave_base.specs.declared.script.Line.{Line};
@@ -20,6 +20,7 @@ ghost use Rattle.wave_states.specs.Runs as runs;
 ghost use Rattle.wave_states.specs.States.{State};
 ghost use Rattle.wave_states.specs.Work.{work_after};
 ghost use Rattle.wave_theory.specs.Counted.{passed};
+ghost use Rattle.wave_theory.specs.Drives.{Picks, HasDrive};
 ghost use Rattle.code_actor.specs.CodeActors.{Fields};
 ghost use Rattle.code_actor.specs.CodeActors as code;
 ghost use Rattle.plan_actors.specs.Calls.{code_ran, IsTree, segments_on};
@@ -29,7 +30,7 @@ ghost use Rattle.plan_actors.specs.PlanActors.{Actor, plan_actors, plan_kind};
 ghost use Rattle.plan_actors.specs.Plans.{Plan, Fits, FitsStart, begin_in};
 
 use crate::actors::PlanActors;
-use wave_theory::{bounded, complete, loads, results, tickets};
+use wave_theory::{bounded, complete, driven, loads, results, tickets};
 
 /// A plan that fits is one that fits the machine, and a Start that fits it a beginning.
 pub fn plans_begin()
@@ -72,6 +73,11 @@ pub fn folds_end()
     ensures whole { (plan : Plan) (start : Start) (n : ℕ) → Fits plan → FitsStart plan start → job_after (plan_actors plan.program) (begin_in plan start) plan.script.batches n ≡ None → fold_alone (plan_actors plan.program) (begin_in plan start) plan.script.batches n ≡ whole_run (code_ran plan.program) plan.program.shape start plan.script }
 {}
 
+/// The jobs that are known, and the lines that are still to come, have tickets of 32 bits.
+pub fn tickets_fit()
+    ensures { (plan : Plan) (start : Start) (n : ℕ) → Fits plan → FitsStart plan start → start.next.0 + length (fold_alone (plan_actors plan.program) (begin_in plan start) plan.script.batches n).head.known + sum_by length (fold_alone (plan_actors plan.program) (begin_in plan start) plan.script.batches n).head.later ≤ 2 ^ 32 }
+{}
+
 /// The machine's work numbers are those of the plan; T is the number of results, and E that of all contexts entered.
 pub fn work_is()
     ensures same { (plan : Plan) (start : Start) (n : ℕ) → Fits plan → FitsStart plan start → work_after (plan_actors plan.program) (begin_in plan start) plan.script.batches n ≡ work_of plan start n }
@@ -100,4 +106,11 @@ pub fn runs_are_short()
     loads::<PlanActors>();
     results::<PlanActors>();
     tickets::<PlanActors>();
+}
+
+/// Each rule that picks has one drive from each number, which is a run and ends in a finished state.
+pub fn plans_drive()
+    ensures { (plan : Plan) (start : Start) → Fits plan → FitsStart plan start → (rule : runs.Rule Actor Fields EventResult Line) → Picks rule → (x : ℕ) → HasDrive (plan_kind plan.program plan.script.hosts) plan.workers (begin_in plan start) plan.script.batches rule x }
+{
+    driven::<PlanActors>();
 }

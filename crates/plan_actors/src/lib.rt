@@ -8,5 +8,5 @@ mod laws;
 pub use actors::PlanActors;
 pub use laws::{
     actors_owe, code_owes, finished_states_tell, folds_end, folds_meet, jobs_are_lines,
-    jobs_have_results, plans_begin, runs_are_short, work_is,
+    jobs_have_results, plans_begin, plans_drive, runs_are_short, tickets_fit, work_is,
 };

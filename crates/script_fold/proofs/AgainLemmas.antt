@@ -1,9 +1,8 @@
 -- What a run leaves, another can begin with.
-use Rattle.std.proofs.Common.{◌≡◌, ◌≤◌, ◌<◌, ◌+◌, ℕ, zero, suc, Bool, true, false, if◌then◌else◌, ◌||◌, List, [], ◌∷◌, ◌++◌, length, map, Option, Some, None, IfSome, slice_get, All, true≢false, refl, sym, ap, subst, ◌∙◌, arith}
+use Rattle.std.proofs.Common.{◌≡◌, ◌<◌, ◌+◌, ℕ, zero, suc, Bool, true, false, if◌then◌else◌, ◌||◌, List, [], ◌∷◌, map, Option, Some, None, IfSome, All, true≢false, refl, sym, ap, subst, ◌∙◌, arith}
 use Rattle.std.proofs.lemmas.List.Elements.{All-nil, All-cons, All-append, All-weaker}
 use Rattle.std.specs.List.{list_any}
 use Rattle.wave_base.specs.declared.call.Call.{Call}
-use Rattle.wave_base.specs.declared.finished.Finished.{Finished}
 use Rattle.wave_base.specs.declared.finished.Place.{Place}
 use Rattle.wave_base.specs.declared.numbers.Host.{Host}
 use Rattle.wave_base.specs.declared.outcome.EventResult.{EventResult}
@@ -16,13 +15,13 @@ use Rattle.wave_base.specs.declared.shape.Shape.{Shape}
 use Rattle.wave_base.specs.declared.shot.Shot.{Shot}
 use Rattle.wave_base.specs.declared.start.Start.{Start}
 use Rattle.wave_base.specs.declared.value.Value.{Value}
-use Rattle.wave_base.specs.Fold.{Ran, Progress, first_head, first_progress, next_job, with_done, with_result, with_job, one_more, created_lines}
+use Rattle.wave_base.specs.Fold.{Progress, first_head, first_progress, next_job, with_done, with_result, with_job, one_more, created_lines}
 use Rattle.wave_base.specs.Paths.{path_eq, parent_of}
 use Rattle.wave_base.specs.PathLaws.{path_eq_decides, path_eq_equiv}
 use Rattle.wave_base.specs.Places.{with_context, with_contexts, with_move, move_of}
 use Rattle.wave_base.specs.Scripts.{IsScript, FitsLine}
 use Rattle.wave_base.specs.Shapes.{initial_fields}
-use Rattle.wave_base.specs.Starts.{IsStart, start_tree, start_places, shown_fields, shown_host}
+use Rattle.wave_base.specs.Starts.{IsStart, start_tree, shown_fields, shown_host}
 use Rattle.wave_base.specs.Tree.{Tree, there, enter, put, shots}
 use Rattle.wave_base.specs.Trees.{FitsShape}
 use Rattle.resolved_service.specs.Jobs.{only, shot_of}

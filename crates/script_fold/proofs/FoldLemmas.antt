@@ -1,5 +1,5 @@
 -- What holds of the fold, however far it has come.
-use Rattle.std.proofs.Common.{◌≡◌, ◌≤◌, ◌<◌, ◌+◌, ◌-◌, ◌*◌, ℕ, zero, suc, Bool, true, false, cond, filter, if◌then◌else◌, ◌||◌, List, [], ◌∷◌, ◌++◌, length, map, drop, sum_by, Option, Some, None, is_none, slice_get, All, zip, nat_lt, refl, sym, ap, subst, ◌∙◌, arith, length-append, length-drop, ◌^◌, ltb-true, ltb-false, true≢false, add-suc, mul-le-mul_right, le_trans}
+use Rattle.std.proofs.Common.{◌≡◌, ◌≤◌, ◌<◌, ◌+◌, ◌-◌, ◌*◌, ℕ, zero, suc, Bool, true, false, cond, filter, if◌then◌else◌, ◌||◌, List, [], ◌∷◌, ◌++◌, length, map, drop, sum_by, Option, Some, None, is_none, slice_get, All, zip, nat_lt, refl, sym, ap, subst, ◌∙◌, arith, length-append, length-drop, ◌^◌, ltb-true, ltb-false, add-suc, mul-le-mul_right, le_trans}
 use Rattle.std.proofs.lemmas.List.{map-append, drop-append-le}
 use Rattle.std.proofs.lemmas.List.Elements.{All-nil, All-cons, All-head, All-tail, All-append, All-map, All-weaker}
 use Rattle.std.proofs.lemmas.List.Sums.{sum_by-append, sum_by-cons, sum_by-le}

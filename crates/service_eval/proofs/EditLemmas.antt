@@ -155,8 +155,7 @@ module _ (code : Code) (contexts : Contexts) (m m' : Machine) (at : Span) (base 
         (tt, subst (λ (x : Mach). Holds code.shape.now x.state.world.tree) (sym same) (subst (λ (w : World). Holds code.shape.now w.tree) (sym (kept h)) next.holds))
     field_turn (Err (stop.Trapped t)) h same =
         let fails : Fails does (stop.Trapped t) M.state.world = subst (λ o. Fails o (stop.Trapped t) M.state.world) (sym is) (gives_fails a at M.state (put_field f M.path) (stop.Trapped t) (h.0, h.1)) in
-        let there : Fails does (stop.Trapped t) after = subst (Fails does (stop.Trapped t)) (sym (kept h.2)) fails in
-        (
+        let there : Fails does (stop.Trapped t) after = subst (Fails does (stop.Trapped t)) (sym (kept h.2)) fails in (
           not_finished code.methods.now M at base what (stop.Trapped t) _ (subst (λ (x : Mach). Fails does (stop.Trapped t) x.state.world) (sym same) there),
           subst (λ (x : Mach). Holds code.shape.now x.state.world.tree) (sym same) (subst (λ (w : World). Holds code.shape.now w.tree) (sym (kept h.2)) next.holds),
         )

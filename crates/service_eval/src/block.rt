@@ -148,7 +148,11 @@ fn with_two<'s>(
         },
         Ok(None) => {
             let Tail { at, ending, base } = tail;
-            m.push_three(Work::Eval(key), Work::Eval(e), Work::Finish(at, ending, base))
+            m.push_three(
+                Work::Eval(key),
+                Work::Eval(e),
+                Work::Finish(at, ending, base),
+            )
         }
         Err(e) => Err(e),
     }

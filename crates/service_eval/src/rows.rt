@@ -11,9 +11,7 @@ ghost use Rattle.wave_base.specs.Values.{kind_of};
 
 use crate::stop::Stop;
 use std::alloc::Global;
-use value_ops::{
-    OpError, apply, apply_ints, apply_texts, compare_flags, part, read_map, takes_of,
-};
+use value_ops::{OpError, apply, apply_ints, apply_texts, compare_flags, part, read_map, takes_of};
 use wave_base::{Kind, OPERATORS, Span, Trap, TrapKind, Value};
 
 /// The operator row of a part of a text.

@@ -94,7 +94,11 @@ pub fn verify(alloc: Global, program: Program) -> Result<Verified, VerifyError>
         };
         survey.add(&program, number as u16, function, points.as_slice())?;
     }
-    let Survey { kept, quiet: _, looks } = survey;
+    let Survey {
+        kept,
+        quiet: _,
+        looks,
+    } = survey;
     Ok(Verified {
         program,
         kept,

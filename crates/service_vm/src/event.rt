@@ -20,9 +20,7 @@ use service_code::{Function, Program};
 use service_verify::Verified;
 use std::alloc::Global;
 use std::marker::Model;
-use wave_base::{
-    Call, Class, OutOfMemory, Path, Pause, Record, Seq, TICKS, Ticket, Value,
-};
+use wave_base::{Call, Class, OutOfMemory, Path, Pause, Record, Seq, TICKS, Ticket, Value};
 
 /// An event between its segments. It is of one program, which each of its calls is given.
 #[derive(Debug, Drop)]

@@ -1,13 +1,9 @@
-// A library with one function.
+//! Walkers: the code of a snapshot, which goes through all contexts and copies each.
 #![tactic(auto)]
 
-ghost use Rattle.std.specs.Prelude.{◌≡◌};
-ghost use Rattle.snapshot_events.specs.Echo.{echo_of};
+mod walker;
 
-// The `ensures` clause is the contract: what `echo` returns is `echo_of` of its argument, a definition
-// in `specs/Echo.antt`, which a caller's clause can cite too.
-pub fn echo(x: usize) -> usize
-    ensures { result ≡ echo_of x }
-{
-    x
-}
+pub use walker::{Walker, walk};
+
+#[cfg(test)]
+mod tests;

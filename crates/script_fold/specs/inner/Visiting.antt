@@ -1,5 +1,5 @@
 -- What is kept of hosts and loads, and what it stands for.
-use Rattle.std.specs.Prelude.{◌≡◌, ◌≤◌, ◌+◌, ◌==◌, ℕ, suc, Bool, if◌then◌else◌, List, [], length, map, Option, Some, None, unwrap_or, true, IfSome}
+use Rattle.std.specs.Prelude.{◌≡◌, ◌≤◌, ◌+◌, ◌==◌, ℕ, suc, Bool, if◌then◌else◌, List, length, Option, Some, None, unwrap_or, true, IfSome}
 use Rattle.std.specs.BTreeMap.{is_at}
 use Rattle.std.specs.List.{list_any}
 use Rattle.std.specs.List.Sorted.{IsStrictlySortedBy}

@@ -1,5 +1,4 @@
-use Rattle.std.proofs.Common.{◌≡◌, sym, subst}
-use Rattle.wave_base.specs.declared.finished.Finished.{Finished}
+use Rattle.std.proofs.Common.{sym, subst}
 use Rattle.plan_actors.specs.Finishing.{Tells}
 use Rattle.plan_actors.specs.Plans.{Setting, begin_in}
 use Rattle.plan_actors.proofs.Finishing.{told, tells}

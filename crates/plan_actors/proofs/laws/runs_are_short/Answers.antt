@@ -1,4 +1,4 @@
-use Rattle.std.proofs.Common.{◌≡◌, ◌≤◌, ◌+◌, ◌*◌, length, sym, ◌∙◌, ap, subst}
+use Rattle.std.proofs.Common.{◌≤◌, ◌+◌, ◌*◌, length, sym, ◌∙◌, ap, subst}
 use Rattle.wave_base.specs.declared.outcome.EventResult.{EventResult}
 use Rattle.wave_base.specs.declared.script.Line.{Line}
 use Rattle.wave_base.specs.Fold.{Progress, next_job}

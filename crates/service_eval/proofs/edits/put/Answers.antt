@@ -25,10 +25,9 @@ returns-in_default-int_at-2 c =
 pub returns-in-Err-Trap : goal.returns-in-Err-Trap
 returns-in-Err-Trap c =
     let key : FitsSigned w64 c.in-Some.key = search rules in
-    let value : FitsSigned w64 c.in-Some-int_at.value = search rules in
-    (
+    let value : FitsSigned w64 c.in-Some-int_at.value = search rules in (
       put_ints _ _ _ _ _ _ _ _ c.in-Map.is (sym c.int_at.ensures ∙ c.in-Some.is) (sym c.int_at-2.ensures ∙ c.in-Some-int_at.is) (to_z-of_z w64 c.in-Some.key key) (to_z-of_z w64 c.in-Some-int_at.value value)
-      ∙ (c.in-Err-Trap.ensures.trap c.in-Err-Trap.kind).0 (ap Err c.in-Err-Trap.field-0-is),
+          ∙ (c.in-Err-Trap.ensures.trap c.in-Err-Trap.kind).0 (ap Err c.in-Err-Trap.field-0-is),
       refl,
       ap Map c.in-Err-Trap.ensures.err ∙ sym c.in-Map.is,
     )

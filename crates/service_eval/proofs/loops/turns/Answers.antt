@@ -57,9 +57,8 @@ returns-in-Err c =
     let t = tree_of c.args.test.now in
     let b = steps_in c.args.body.now in
     let n = c.height-base.result in
-    let M = mach c.args.code c.args.contexts.now c.args.m.now in
-    (
+    let M = mach c.args.code c.args.contexts.now c.args.m.now in (
       subst (λ o. Fails o c.in-Err.e M.state.world) (sym (test_first c.args.code c.args.contexts.now c.args.m.now c.args.at t b c.args.left n c.height-base.ensures))
-      (found_fails c.args.code.methods.now (before_all (Check c.args.at t b c.args.left n ∷ []) M) t c.in-Err.e _ c.in-Err.ensures),
+          (found_fails c.args.code.methods.now (before_all (Check c.args.at t b c.args.left n ∷ []) M) t c.in-Err.e _ c.in-Err.ensures),
       c.requires.holds,
     )

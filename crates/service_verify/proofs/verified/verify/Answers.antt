@@ -12,14 +12,14 @@ add-requires-clause-there c = item_there c.as_slice-function-items.result.now c.
 
 pub loop-number-preserved : goal.loop-number-preserved
 loop-number-preserved c = (
-    keep_more c.args.program c.loop-number.number c.function-item.result c.in-Ok.points.items (item_there c.as_slice-function-items.result.now c.args.program.functions c.loop-number.number c.function-item.result c.function-item.is c.loop-number-test.true c.as_slice-function-items.ensures) c.loop-number.invariant.0 c.in-Ok.ensures.ok,
-    surveyed_at c.args.program _ _ _ _ _ (omega arith) c.in_ok-add.ensures,
+  keep_more c.args.program c.loop-number.number c.function-item.result c.in-Ok.points.items (item_there c.as_slice-function-items.result.now c.args.program.functions c.loop-number.number c.function-item.result c.function-item.is c.loop-number-test.true c.as_slice-function-items.ensures) c.loop-number.invariant.0 c.in-Ok.ensures.ok,
+  surveyed_at c.args.program _ _ _ _ _ (omega arith) c.in_ok-add.ensures,
 )
 
 pub invariant_of-result : goal.invariant_of-result
 invariant_of-result c = (
-    all_keep c.args.program c.loop-number.number (subst (λ fs. length fs ≤ c.loop-number.number) c.as_slice-function-items.ensures c.loop-number-test.false) c.loop-number.invariant.0,
-    all_surveyed c.args.program c.loop-number.number _ _ _ (omega (arith, c.loop-number-test.false, c.loop-number.auto.number-end, ap length c.as_slice-function-items.ensures)) c.loop-number.invariant.1,
+  all_keep c.args.program c.loop-number.number (subst (λ fs. length fs ≤ c.loop-number.number) c.as_slice-function-items.ensures c.loop-number-test.false) c.loop-number.invariant.0,
+  all_surveyed c.args.program c.loop-number.number _ _ _ (omega (arith, c.loop-number-test.false, c.loop-number.auto.number-end, ap length c.as_slice-function-items.ensures)) c.loop-number.invariant.1,
 )
 
 pub returns-clause-verified : goal.returns-clause-verified
