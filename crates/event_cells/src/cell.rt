@@ -54,6 +54,7 @@ impl<A: Drop> Cell<A> {
         peek: bool,
     ) -> Result<Cell<A>, OutOfMemory>
         ensures desk { IfOk result (λ c. StandsFor c (first_desk actor ticket.0 peek)) }
+        ensures actor { IfOk result (λ c. c.actor ≡ Some actor) }
         ensures status { IfOk result (λ c. is_over c.status ≡ false) }
         ensures kind { IfOk result (λ c. c.kind ≡ kind) }
     {
@@ -95,6 +96,7 @@ impl<A: Drop> Cell<A> {
         ensures mail { (d : Desk A (List Value)) → StandsFor self.old d → Carries result (d.mails number) }
         ensures desk { (d : Desk A (List Value)) → StandsFor self.old d → StandsFor self.new (with_mail d number None) }
         ensures mails_room { self.old.outbox.room ≤ self.new.outbox.room }
+        ensures actor { self.new.actor ≡ self.old.actor }
         ensures status { self.new.status ≡ self.old.status }
         ensures held { self.new.held ≡ self.old.held }
         ensures kind { self.new.kind ≡ self.old.kind }
@@ -107,6 +109,7 @@ impl<A: Drop> Cell<A> {
         requires { IsSome (mail_in self.old.outbox.mails number) }
         ensures desk { (d : Desk A (List Value)) (m : theory.Mail (List Value)) → StandsFor self.old d → IsEnvelope envelope m → StandsFor self.new (with_mail d number (Some m)) }
         ensures mails_room { self.old.outbox.room ≤ self.new.outbox.room }
+        ensures actor { self.new.actor ≡ self.old.actor }
         ensures status { self.new.status ≡ self.old.status }
         ensures held { self.new.held ≡ self.old.held }
         ensures kind { self.new.kind ≡ self.old.kind }
@@ -130,6 +133,7 @@ impl<A: Drop> Cell<A> {
     pub fn let_in(&mut self, path: Path, hold: Hold)
         requires { 1 ≤ self.old.held.room }
         ensures desk { (d : Desk A (List Value)) → is_over self.old.status ≡ false → StandsFor self.old d → StandsFor self.new (with_actor (with_held d (insert_entry path_cmp d.event.held path (hold_of hold))) d.event.actor (theory.Ready path)) }
+        ensures actor { self.new.actor ≡ self.old.actor }
         ensures outbox { self.new.outbox ≡ self.old.outbox }
         ensures status { self.new.status ≡ Status.Ready path }
         ensures kind { self.new.kind ≡ self.old.kind }
@@ -149,6 +153,8 @@ impl<A: Drop> Cell<A> {
     pub fn start(&mut self, path: Path) -> Option<A>
         ensures actor { (d : Desk A (List Value)) → is_over self.old.status ≡ false → StandsFor self.old d → result ≡ d.event.actor }
         ensures desk { (d : Desk A (List Value)) → StandsFor self.old d → StandsFor self.new (with_actor d None (theory.Running path)) }
+        ensures away { self.new.actor ≡ None }
+        ensures taken { result ≡ self.old.actor }
         ensures outbox { self.new.outbox ≡ self.old.outbox }
         ensures held { self.new.held ≡ self.old.held }
         ensures status { self.new.status ≡ Status.Running path }
@@ -161,6 +167,7 @@ impl<A: Drop> Cell<A> {
     /// The actor comes back, and the event travels.
     pub fn put_back(&mut self, actor: A)
         ensures desk { (d : Desk A (List Value)) → StandsFor self.old d → StandsFor self.new (with_actor d (Some actor) theory.Travelling) }
+        ensures actor { self.new.actor ≡ Some actor }
         ensures outbox { self.new.outbox ≡ self.old.outbox }
         ensures held { self.new.held ≡ self.old.held }
         ensures status { self.new.status ≡ Status.Travelling }
@@ -186,6 +193,7 @@ impl<A: Drop> Cell<A> {
     /// No longer holds a context, without a Release.
     pub fn let_go(&mut self, path: &Path)
         ensures desk { (d : Desk A (List Value)) → StandsFor self.old d → StandsFor self.new (with_held d (kept_of (not_at path.now) d.event.held)) }
+        ensures actor { self.new.actor ≡ self.old.actor }
         ensures outbox { self.new.outbox ≡ self.old.outbox }
         ensures fewer { length self.new.held.holds ≤ length self.old.held.holds }
         ensures status { self.new.status ≡ self.old.status }

@@ -32,27 +32,32 @@ fn is_release(mail: Option<&Envelope>, to: u8, path: Path) -> bool {
     }
 }
 
+fn is_enter(mail: Option<&Envelope>, entry: u64) -> bool {
+    match mail {
+        Some(mail) => match mail.letter {
+            Letter::Enter {
+                number,
+                followed,
+                peek,
+            } => {
+                mail.to == Host(0)
+                    && mail.path == Path::root()
+                    && number == entry
+                    && followed == 0
+                    && !peek
+            }
+            _ => false,
+        },
+        None => false,
+    }
+}
+
 #[test]
 fn an_admitted_event_enters_the_root(rt: HostRuntime) -> Result<(), Fail> {
     let mut cell = seventh(rt.alloc())?;
     assert!(rt; cell.outbox.sent() == 1);
-    match cell.take_mail(1) {
-        Some(
-            Envelope {
-                to,
-                path,
-                letter: Letter::Enter {
-                    number,
-                    followed,
-                    peek,
-                },
-            },
-        ) => {
-            assert!(rt; to == Host(0) && path == Path::root());
-            assert!(rt; number == 7 && followed == 0 && !peek);
-        }
-        _ => assert!(rt; false),
-    }
+    let mail = cell.take_mail(1);
+    assert!(rt; is_enter(mail.as_ref(), 7));
     assert!(rt; cell.take_mail(1).is_none());
     assert!(rt; cell.outbox.as_slice().is_empty());
     assert!(rt; cell.kind == JobKind::Event(2));
