@@ -4,18 +4,19 @@ use Rattle.std.proofs.lemmas.List.Sums.{sum_by-cons}
 use Rattle.wave_base.specs.declared.call.Call.{Call}
 use Rattle.wave_base.specs.declared.outcome.EventResult.{EventResult}
 use Rattle.wave_base.specs.declared.script.Line.{Line}
+use Rattle.wave_base.specs.declared.script.Line.TheVariants.{Request, Move, Snapshot}
 use Rattle.wave_base.specs.declared.script.Script.{Script}
 use Rattle.wave_base.specs.declared.shape.Shape.{Shape}
 use Rattle.wave_base.specs.declared.start.Start.{Start}
 use Rattle.wave_base.specs.declared.value.Value.{Value}
-use Rattle.wave_base.specs.Fold.{Ran, Progress, with_result, with_job, one_more, next_job, fold_jobs, created_lines}
+use Rattle.wave_base.specs.Fold.{Ran, Progress, first_progress, with_result, with_job, one_more, next_job, fold_jobs, created_lines}
 use Rattle.wave_base.specs.Scripts.{IsScript}
 use Rattle.wave_base.specs.Starts.{IsStart}
 use Rattle.wave_base.specs.Tree.{Tree}
-use Rattle.script_fold.specs.Lines.{Meaning, line_by, most_of, most_jobs}
+use Rattle.script_fold.specs.Lines.{Meaning, line_by, most_of, most_jobs, FitsJob}
 use Rattle.script_fold.specs.Owed.{Owed}
-use Rattle.script_fold.specs.Runs.{after_jobs, whole_run}
-use Rattle.script_fold.proofs.FoldLemmas.{IsGood, good_after, left_in, next_is, batches_most}
+use Rattle.script_fold.specs.Runs.{after_jobs, whole_run, finished_by, finished_of}
+use Rattle.script_fold.proofs.FoldLemmas.{IsGood, good_after, left_in, next_is, batches_most, All-drop_head}
 use Rattle.wave_theory.proofs.Basics.{options, none_not}
 use Rattle.wave_theory.proofs.Folds.{with_done_done}
 
@@ -98,3 +99,23 @@ module _ (shape : Shape) (meaning : Meaning) (FitsTree : Tree (List Value) → T
     where
       swap : (a b : ℕ) → a + b ≡ b + a
       swap a b = omega arith
+
+-- where calls do the same by two meanings, a script gives the same
+module _ (shape : Shape) (meaning other : Meaning) (FitsTree : Tree (List Value) → Type 0) (FitsCall : Call → Type 0) (owed : Owed shape other FitsTree FitsCall) (same : (t : Tree (List Value)) (c : Call) → FitsTree t → FitsCall c → meaning t c ≡ other t c)
+    (start : Start) (script : Script) (is_script : IsScript shape script) (is_start : IsStart shape script.hosts start) where
+  lines_alike : (ticket : ℕ) (t : Tree (List Value)) → FitsTree t → (l : Line) → FitsJob FitsCall l → line_by meaning ticket t l ≡ line_by other ticket t l
+  lines_alike ticket t f (Request call) h = same t call f h
+  lines_alike ticket t f (Move p k) h = refl
+  lines_alike ticket t f Snapshot h = refl
+
+  Good : Progress (List Value) EventResult Line → Type 0
+  Good w = IsGood shape other FitsTree FitsCall owed start script w
+
+  runs_alike : whole_run meaning shape start script ≡ whole_run other shape start script
+  unfolding whole_run Good
+  runs_alike = folds_alike start.next.0 start.next.0 refl (line_by meaning) (line_by other) created_lines (first_progress (start_tree shape start) script.batches) Good
+      (λ n. good_after shape other FitsTree FitsCall owed start script is_script is_start n)
+      (λ w l g e. lines_alike (start.next.0 + w.head.done) w.tree g.tree l (All-drop_head (FitsJob FitsCall) w.head.known w.head.done l e g.known)) (most_jobs script.batches)
+
+  pub scripts_alike : finished_of meaning shape start script ≡ finished_of other shape start script
+  scripts_alike = ap (finished_by start script) runs_alike
