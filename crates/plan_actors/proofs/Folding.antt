@@ -11,7 +11,7 @@ use Rattle.wave_base.specs.declared.start.Start.{Start}
 use Rattle.wave_base.specs.declared.value.Value.{Value}
 use Rattle.wave_base.specs.Fold.{Ran, Progress, first_progress, with_result, with_job, one_more, next_job, fold_jobs, created_lines}
 use Rattle.wave_base.specs.Scripts.{IsScript}
-use Rattle.wave_base.specs.Starts.{IsStart}
+use Rattle.wave_base.specs.Starts.{IsStart, start_tree}
 use Rattle.wave_base.specs.Tree.{Tree}
 use Rattle.script_fold.specs.Lines.{Meaning, line_by, most_of, most_jobs, FitsJob}
 use Rattle.script_fold.specs.Owed.{Owed}
