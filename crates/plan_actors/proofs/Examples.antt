@@ -181,7 +181,7 @@ snapshot_tells : shots tree ≡ ([], int 0 ∷ []) ∷ (hall 1, int 4 ∷ []) �
 snapshot_tells = refl
 
 -- A created call that loses its generation: an event that creates itself ends at the fifth, for want of a generation; by the
--- wrong rule a job is left for ever.
+-- wrong rule a sixth comes.
 abbrev endless : List (List Line)
 endless = (Request (call 2 0) ∷ []) ∷ []
 
