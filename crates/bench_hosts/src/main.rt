@@ -70,7 +70,9 @@ fn found(hosts: &[HostStore], paths: &[Path], finds: u32) -> u32 {
     let mut x: u64 = 1;
     let mut found: u32 = 0;
     for _ in 0..finds {
-        x = x.wrapping_mul(6364136223846793005).wrapping_add(1442695040888963407);
+        x = x
+            .wrapping_mul(6364136223846793005)
+            .wrapping_add(1442695040888963407);
         let host = hosts.get((x >> 61) as usize);
         let path = paths.get(((x >> 33) % 1000) as usize);
         if let (Some(host), Some(path)) = (host, path) {
