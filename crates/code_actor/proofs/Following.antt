@@ -9,10 +9,12 @@ use Rattle.wave_base.specs.declared.pause.Pause.{Pause as Halt}
 use Rattle.wave_base.specs.declared.pause.Pause.TheVariants as halt
 use Rattle.wave_base.specs.Paths.{is_above, parent_of}
 use Rattle.wave_base.specs.Tree.{Tree, enter, put}
+use Rattle.downgrade_views.specs.Levels.{Level}
 use Rattle.service_code.specs.declared.program.Program.{Program}
 use Rattle.service_verify.specs.Boxes.{Box, first_box}
 use Rattle.service_verify.specs.Copies.{Trip, tripped, trip_if, next_trip, trip_after, first_trip}
 use Rattle.service_verify.specs.Fit.{IsFit}
+use Rattle.service_verify.specs.Looks.{is_peeking}
 use Rattle.service_verify.specs.Points.{IsVerified}
 use Rattle.service_verify.specs.Segments.{Event, event_segment}
 use Rattle.service_verify.specs.Standing.{HasFields, HasTree, Leaves, Stands}
@@ -38,7 +40,7 @@ abbrev pub event_of : Trip → Event
 event_of t = record { box = t.tour.box; levels = t.levels }
 
 -- what a pause makes of a trip
-abbrev pub trip_to : Trip → Box → List Fields → Fields → Halt → Trip
+abbrev pub trip_to : Trip → Box → List Level → Fields → Halt → Trip
 trip_to t b levels f why = record { tour = halted t.tour b f why; levels = levels }
 
 -- each segment counts
@@ -90,7 +92,7 @@ module _ (program : Program) (fit : IsFit program) (verified : IsVerified progra
     held = f.held w.running
 
     -- into a child, for good or for a call
-    module _ (b : Box) (levels : List Fields) (left : Fields) (has_left : HasFields program.shape p left) where
+    module _ (b : Box) (levels : List Level) (left : Fields) (has_left : HasFields program.shape p left) where
       trees : tree_with x left ≡ tour.tree_with t.tour left
       trees i = put (f.tree i) (f.at i) left
 
@@ -134,7 +136,7 @@ module _ (program : Program) (fit : IsFit program) (verified : IsVerified progra
       same_held s g e = e ∙ ap (λ r. g (r ++ s ∷ [])) (sym f.at)
 
       by : (why : Halt) → Leaves program p n (record { box = b; levels = levels }) why → Holding.Pauses t.tour.box.path t.tour.box.held b why → Walked (goes_on actors x (record { box = b; levels = levels }) left (pause_of why)) (trip_to t b levels left why)
-      by (halt.Go s) l h = both s 0 l.1 false (filter (is_above (x.at ++ s ∷ [])) x.held)
+      by (halt.Go s) l h = both s 0 l.1 (is_peeking program b) (filter (is_above (x.at ++ s ∷ [])) x.held)
           (λ e r. go_held x.held t.tour.box.held held (x.at ++ s ∷ []) r e ∙ sym (holds r))
           (λ r. go_new x.held t.tour.box.held held (x.at ++ s ∷ []) r ∙ sym (holds r))
         where

@@ -19,7 +19,7 @@ use Rattle.wave_base.specs.declared.value.Value.TheVariants as v
 use Rattle.value_ops.specs.Kinds.{Answer}
 use Rattle.value_ops.specs.Operators.{takes_of, apply_row}
 use Rattle.deferred_out.specs.Kept.{with_call}
-use Rattle.downgrade_views.specs.Levels.{field_at}
+use Rattle.downgrade_views.specs.Levels.{Level, field_at}
 use Rattle.service_code.specs.declared.instr.Instr.{Instr}
 use Rattle.service_code.specs.declared.instr.Instr.TheVariants.{PushInt, PushBool, PushText, PushEmpty, Load, Store, Field, SetField, Above, Op, PutLocal, PutField, CutLocal, CutField, Jump, JumpFalse, Tick, Call as CallOwn, CallDown, Return, Pop, Require, Send, Spawn, Go, Reply, End}
 use Rattle.service_code.specs.declared.program.Program.{Program}
@@ -88,7 +88,7 @@ module _ (p : Path) (held : List Path) where
   result_keeps None s go e = e None
   result_keeps (Some kind) s go e = top_keeps s _ (λ x rest. e (Some x))
 
-module _ (program : Program) (levels : List (List Value)) (f : Frame) (below : List Frame) (b : Box) (fields : List Value) (at : Span) where
+module _ (program : Program) (levels : List Level) (f : Frame) (below : List Frame) (b : Box) (fields : List Value) (at : Span) where
   abbrev Kept : Move → Type 0
   Kept m = Keeps b.path b.held m
 
@@ -135,7 +135,7 @@ module _ (program : Program) (levels : List (List Value)) (f : Frame) (below : L
   unfolding acted
   acted_keeps i = keeps i
 
-module _ (program : Program) (levels : List (List Value)) where
+module _ (program : Program) (levels : List Level) where
   step_keeps : (b : Box) (fields : List Value) → Keeps b.path b.held (one_step program levels b fields)
   unfolding one_step
   step_keeps b fields = go b.frames
@@ -164,12 +164,12 @@ some_same : {A : Type 0} {x y : A} → Some x ≡ Some y → x ≡ y
 some_same {A} {x} {y} e = ap (λ o. unwrap_or o x) e
 
 -- what a segment leaves with its copies holds the same
-pub left_keeps_by : (levels : List (List Value)) (p : Path) (held : List Path) (m : Move) (l : Left) → left_by levels m ≡ Some l → Keeps p held m → Pauses p held l.event.box l.pause
-left_keeps_by levels p held (Runs b fields) l e k = cc
-left_keeps_by levels p held Lost l e k = cc
-left_keeps_by levels p held (Paused b fields why) l e k = by why e k
+pub left_keeps_by : (marks : List Bool) (levels : List Level) (p : Path) (held : List Path) (m : Move) (l : Left) → left_by marks levels m ≡ Some l → Keeps p held m → Pauses p held l.event.box l.pause
+left_keeps_by marks levels p held (Runs b fields) l e k = cc
+left_keeps_by marks levels p held Lost l e k = cc
+left_keeps_by marks levels p held (Paused b fields why) l e k = by why e k
   where
-    by : (why : Pause) → left_by levels (Paused b fields why) ≡ Some l → Pauses p held b why → Pauses p held l.event.box l.pause
+    by : (why : Pause) → left_by marks levels (Paused b fields why) ≡ Some l → Pauses p held b why → Pauses p held l.event.box l.pause
     by (pause.Go s) e k = subst (λ (l : Left). Pauses p held l.event.box l.pause) (some_same e) k
     by (pause.Down s) e k = subst (λ (l : Left). Pauses p held l.event.box l.pause) (some_same e) k
     by pause.Back e k = subst (λ (l : Left). Pauses p held l.event.box l.pause) (some_same e) k

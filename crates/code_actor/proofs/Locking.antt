@@ -11,6 +11,7 @@ use Rattle.wave_base.specs.declared.pause.Pause.TheVariants as halt
 use Rattle.wave_base.specs.Paths.{path_eq, is_above, parent_of}
 use Rattle.wave_base.specs.PathLaws.{path_eq_decides, is_above_append}
 use Rattle.wave_base.specs.Tree.{Tree}
+use Rattle.downgrade_views.specs.Levels.{Level}
 use Rattle.service_code.specs.declared.program.Program.{Program}
 use Rattle.service_verify.specs.Boxes.{Box, first_box}
 use Rattle.service_verify.specs.Copies.{Trip, tripped, trip_if, next_trip, trip_after, first_trip}
@@ -129,7 +130,7 @@ module _ (program : Program) (fit : IsFit program) (verified : IsVerified progra
     holds_here : holds t.tour t.tour.box.path ≡ true
     holds_here = ap (is_held t.tour.box.held) here ∙ g.locked.way 0 (omega arith)
 
-    module _ (b : Box) (levels : List Fields) (left : Fields) (has_left : HasFields program.shape p left) where
+    module _ (b : Box) (levels : List Level) (left : Fields) (has_left : HasFields program.shape p left) where
       tree_has : HasTree program (tour.tree_with t.tour left)
       tree_has = put_has program fit verified t.tour.tree t.tour.box.path left g.tree (subst (λ q. HasFields program.shape q left) (sym here) has_left)
 

@@ -1,23 +1,31 @@
 -- A segment of an event that stands, as the machine has it.
-use Rattle.std.proofs.Common.{◌≡◌, ℕ, zero, suc, List, [], ◌∷◌, Option, Some, None, refl, sym, subst}
+use Rattle.std.proofs.Common.{◌≡◌, ℕ, zero, suc, List, [], ◌∷◌, Option, Some, None, refl, ap, sym, subst, ◌∙◌, true}
 use Rattle.std.specs.Prelude.{All, map, slice_get}
 use Rattle.std.proofs.lemmas.List.Elements.{All-head, All-tail}
 use Rattle.std.proofs.lemmas.Option.{get_or_from_slice_get, slice_get_within}
 use Rattle.wave_base.specs.declared.path.Path.{Path}
+use Rattle.wave_base.specs.declared.path.Step.{Step}
 use Rattle.wave_base.specs.declared.pause.Pause.{Pause as Halt}
 use Rattle.wave_base.specs.declared.pause.Pause.TheVariants as halt
 use Rattle.wave_base.specs.declared.shape.ClassInfo.{ClassInfo}
 use Rattle.wave_base.specs.declared.shape.FieldInfo.{FieldInfo}
 use Rattle.wave_base.specs.declared.shape.Shape.{Shape}
+use Rattle.wave_base.specs.declared.outcome.EventResult.{EventResult}
 use Rattle.wave_base.specs.Shapes.{IsShape, HasInitials, class_of, fields_in, fields_of_class, initial_fields, kinds_of_class}
 use Rattle.wave_base.specs.Values.{kind_of}
 use Rattle.service_code.specs.declared.program.Program.{Program}
 use Rattle.service_verify.specs.Fit.{IsFit}
 use Rattle.service_verify.specs.Points.{IsVerified}
+use Rattle.service_verify.specs.Looks.{is_peeking}
+use Rattle.service_verify.specs.Lawful.{OnlyLooks}
+use Rattle.service_verify.specs.Reads.{kept}
 use Rattle.service_verify.specs.Segments.{Event, Left as Halted, segment, event_segment}
 use Rattle.service_verify.specs.Standing.{HasFields, Leaves, Pauses, Stands}
+use Rattle.service_verify.proofs.Judged.{some_same}
+use Rattle.service_verify.proofs.Peeking.{only_looks_there}
 use Rattle.service_verify.proofs.Segmenting.{pauses}
-use Rattle.wave_states.specs.Owes.{Keeps, MovesOnly}
+use Rattle.wave_states.specs.Actors.{Left}
+use Rattle.wave_states.specs.Owes.{Keeps, Looks, MovesOnly}
 use Rattle.code_actor.specs.CodeActors.{code_kind, Fields, pause_of, left_of}
 use Rattle.code_actor.proofs.Holding
 use Rattle.code_actor.proofs.Holding.{segment_keeps, left_keeps_by}
@@ -49,12 +57,27 @@ module _ (program : Program) (fit : IsFit program) (verified : IsVerified progra
   pub segment_runs : (p : Path) (n : ℕ) (e : Event) (fields : Fields) → Stands program p n e → HasFields program.shape p fields → Runs p n e fields
   segment_runs p n e fields stands has =
       let a : Pauses program p n e fields = pauses program fit verified p n e fields stands has in
-      record { left = a.left; is_left = a.is_left; has = a.has_fields; leaves = a.leaves; holds = left_keeps_by e.levels e.box.path e.box.held (segment program e.levels e.box fields) a.left a.is_left (segment_keeps program e.levels e.box fields) }
+      record { left = a.left; is_left = a.is_left; has = a.has_fields; leaves = a.leaves; holds = left_keeps_by (kept program (class_of e.box.path)) e.levels e.box.path e.box.held (segment program e.levels e.box fields) a.left a.is_left (segment_keeps program e.levels e.box fields) }
 
   pub segment_kept : (p : Path) (n : ℕ) (e : Event) (fields : Fields) → Stands program p n e → HasFields program.shape p fields → HasFields program.shape p (left_of e fields (event_segment program e fields)).fields
   segment_kept p n e fields stands has =
       let r = segment_runs p n e fields stands has in
       subst (λ o. HasFields program.shape p (left_of e fields o).fields) (sym r.is_left) r.has
+
+  -- one that peeks only looks
+  pub segment_looks : (hosts : ℕ) (p : Path) (n : ℕ) (e : Event) (fields : Fields) (children : List Step) → Stands program p n e → HasFields program.shape p fields → is_peeking program e.box ≡ true → Looks (code_kind program hosts) e fields children
+  segment_looks hosts p n e fields children stands has peeking =
+      let o : OnlyLooks program e fields = only_looks_there program verified fit p n e fields stands has peeking in
+      let is = ap (left_of e fields) o.is in
+      let r = segment_runs p n e fields stands has in
+      let same : r.left ≡ record { event = o.left; fields = fields; pause = halt.Over o.result } = some_same _ _ (sym r.is_left ∙ o.is) in
+      record {
+        same = ap (λ (l : Left Event Fields EventResult). l.fields) is;
+        blind = refl;
+        result = o.result;
+        over = ap (λ (l : Left Event Fields EventResult). l.pause) is;
+        stays = (subst (λ (l : Halted). Holding.Pauses e.box.path e.box.held l.event.box l.pause) same r.holds).2;
+      }
 
   module _ (hosts : ℕ) where
     abbrev Protocol : Event → Path → ℕ → Halt → Type 0

@@ -20,7 +20,7 @@ use Rattle.wave_states.specs.Owes.{Owes}
 use Rattle.code_actor.specs.CodeActors.{code_kind, Fields, no_result, enough_segments, code_actors, IsJob}
 use Rattle.code_actor.specs.Follows.{Follows, IsWhole}
 use Rattle.code_actor.proofs.Following.{Walked, done, going, followed, walks_on, counts, trip_stays, first_walked, all_walked}
-use Rattle.code_actor.proofs.Segmented.{initial_has, segment_kept, segment_protocol}
+use Rattle.code_actor.proofs.Segmented.{initial_has, segment_kept, segment_looks, segment_protocol}
 
 module _ (program : Program) (fit : IsFit program) (verified : IsVerified program) where
   -- the first segment first
@@ -85,6 +85,6 @@ module _ (program : Program) (fit : IsFit program) (verified : IsVerified progra
     first = λ call ticket is_job. begins program fit verified call is_job.0 is_job.1;
     kept = λ e p n fields children stands has. segment_kept program fit verified p n e fields stands has;
     keeps = λ e p n fields children stands has. segment_protocol program fit verified hosts p n e fields stands has;
-    looks = λ e p n fields children stands has looks. absurd (true≢false (sym looks));
+    looks = λ e p n fields children stands has looks. segment_looks program fit verified hosts p n e fields children stands has looks;
     ends = λ call ticket tree is_job has ordered. ends call ticket tree is_job has;
   }

@@ -13,6 +13,7 @@ use Rattle.wave_base.specs.Scripts.{IsCall}
 use Rattle.wave_base.specs.Shapes.{initial_fields}
 use Rattle.service_code.specs.declared.program.Program.{Program}
 use Rattle.service_verify.specs.Boxes.{first_box}
+use Rattle.service_verify.specs.Looks.{is_peeking}
 use Rattle.service_verify.specs.Segments.{Event, Left as Halted, event_segment}
 use Rattle.service_verify.specs.Standing.{Stands, HasFields}
 use Rattle.service_verify.specs.Tours.{most_segments}
@@ -47,12 +48,12 @@ first_event program call = record { box = first_box program call; levels = [] }
 unfoldable pub enough_segments : Program → ℕ
 enough_segments program = most_segments program
 
--- code never asks which children there are; none of it only looks; and it moves no context
+-- code never asks which children there are, and moves no context; an event that peeks only looks
 abbrev pub code_actors : Program → Actors Event Fields EventResult Call
 code_actors program = record {
   make = λ call ticket. first_event program call;
   segment = λ e fields children. left_of e fields (event_segment program e fields);
-  peeks = λ e. false;
+  peeks = λ e. is_peeking program e.box;
   initial = initial_fields program.shape;
   created = λ r. r.created;
   moved = move_of;

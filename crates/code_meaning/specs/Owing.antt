@@ -30,6 +30,7 @@ module _ (service : Resolved) (program : Program) (code : IsCode service program
     few = λ tree call is job. (known tree call is job).few;
     later = λ tree call is job. (known tree call is job).later;
     last = λ call job. job.1;
-    joined = λ tree call p is job there. (known tree call is job).joined p there;
+    joined = λ tree call p is job. (known tree call is job).joined p;
+    ordered = λ tree call is job. (known tree call is job).ordered;
     unmoved = λ tree call is job. (known tree call is job).unmoved;
   }

@@ -27,12 +27,11 @@ use Rattle.code_actor.specs.CodeActors.{first_event}
 use Rattle.code_actor.specs.Locks.{Enters, Locks, holds, has_entered}
 use Rattle.code_runner.specs.declared.walk.Walk.{Walk}
 use Rattle.code_actor.proofs.Above.{parent_child}
-use Rattle.code_runner.proofs.Putting.{kept_here}
 use Rattle.code_runner.proofs.Walking.{at_there}
 use Rattle.code_runner.specs.Walks.{trip_of, Walks, paths_into, tree_into}
 
 -- a call that begins
-pub started : (program : Program) (call call' : Call) (tree tree' : Tree Fields) (w : Walk) → call' ≡ call → w.event ≡ first_event program call' → w.entered.items ≡ [] ∷ [] → w.segments ≡ 0 → tree' ≡ enter tree [] → trip_of w tree' None ≡ first_trip program call tree
+pub started : (program : Program) (call call' : Call) (tree tree' : Tree Fields) (w : Walk) → call' ≡ call → w.event.event ≡ first_event program call' → w.entered.items ≡ [] ∷ [] → w.segments ≡ 0 → tree' ≡ enter tree [] → trip_of w tree' None ≡ first_trip program call tree
 started program call call' tree tree' w c e n s t = let f = e ∙ ap (first_event program) c in λ i. record { tour = record { box = (f i).box; tree = t i; entered = n i; segments = s i; result = None }; levels = (f i).levels }
 
 same_test : (p : Path) (ps : List Path) → list_any (λ q. path_eq q p) ps ≡ list_any (path_eq p) ps
@@ -73,27 +72,14 @@ tells t b left false e known l = by l.enters
     by (inr new) = ap (has_entered t) (last_is t.entered b.path (t.box.path ++ new.0 ∷ []) new.2) ∙ new.1
 
 -- the fields where it runs have the kinds of their class
-pub has_here : (program : Program) (w : Walk) (tree : Tree Fields) (walks : Walks program (trip_of w tree None)) (here : Path) (fields : Fields) → here ≡ w.event.box.path → fields ≡ tree.fields here → HasFields program.shape walks.path fields
+pub has_here : (program : Program) (w : Walk) (tree : Tree Fields) (walks : Walks program (trip_of w tree None)) (here : Path) (fields : Fields) → here ≡ w.event.event.box.path → fields ≡ tree.fields here → HasFields program.shape walks.path fields
 has_here program w tree walks here fields at same =
     let has : HasFields program.shape walks.path (tree.fields walks.path) = at_there (λ q. HasKinds program.shape q (tree.fields q)) walks.path tree.paths walks.fits.kinds walks.here in
     subst (HasFields program.shape walks.path) (sym (same ∙ ap tree.fields (at ∙ walks.stands.box.path))) has
 
 -- what a segment requires of the event and of the fields
-pub stands_on : (program : Program) (w : Walk) (tree : Tree Fields) → Walks program (trip_of w tree None) → (here : Path) (fields : Fields) → here ≡ w.event.box.path → fields ≡ tree.fields here → (p : Path) × (n : ℕ) × Stands program p n w.event × HasFields program.shape p fields
+pub stands_on : (program : Program) (w : Walk) (tree : Tree Fields) → Walks program (trip_of w tree None) → (here : Path) (fields : Fields) → here ≡ w.event.event.box.path → fields ≡ tree.fields here → (p : Path) × (n : ℕ) × Stands program p n w.event.event × HasFields program.shape p fields
 stands_on program w tree walks here fields at same = (walks.path, walks.calls, walks.stands, has_here program w tree walks here fields at same)
-
-same_length : (shape : Shape) (p : Path) (x y : Fields) → HasFields shape p x → HasFields shape p y → length x ≡ length y
-same_length shape p x y e f = sym (length-map x kind_of) ∙ ap length (e ∙ sym f) ∙ length-map y kind_of
-
-pub has_kinds : (program : Program) (tree : Tree Fields) (p : Path) → FitsShape program.shape tree → there tree p ≡ true → HasFields program.shape p (tree.fields p)
-has_kinds program tree p fits here = at_there (λ q. HasKinds program.shape q (tree.fields q)) p tree.paths fits.kinds here
-
--- fields of the right kinds are as many as those there
-pub as_many : (shape other : Shape) (t : Contexts) (p here : Path) (left : Fields) → is_there t p ≡ true → here ≡ p → HasFields shape p left → HasFields shape p ((tree_of shape t).fields p) → length left ≡ length ((tree_of other t).fields here)
-as_many shape other t p here left there at e f =
-    let k = kept_here t p there in
-    same_length shape p left ((tree_of shape t).fields p) e f
-    ∙ ap length (k.shown shape ∙ sym (k.shown other) ∙ ap (tree_of other t).fields (sym at))
 
 -- a context is there after fields were put
 pub still_there : (shape : Shape) (t u : Contexts) (here p q : Path) (left : Fields) → ((shape : Shape) → tree_of shape u ≡ put (tree_of shape t) here left) → q ≡ p → is_there t p ≡ true → is_there u q ≡ true
@@ -123,17 +109,17 @@ into_child program p n e halt.Back (inr is) l = no_down halt.Back is.0 refl is.1
 into_child program p n e (halt.Over r) (inl is) l = over_no_go r is.0 is.1
 into_child program p n e (halt.Over r) (inr is) l = over_no_down r is.0 is.1
 
-module _ (program : Program) (w : Walk) (tree : Tree Fields) (walks : Walks program (trip_of w tree None)) (fields : Fields) (same : fields ≡ tree.fields w.event.box.path) (e : Event) (left : Fields) (why : Halt) (is : event_segment program w.event fields ≡ Some (record { event = e; fields = left; pause = why })) where
+module _ (program : Program) (w : Walk) (tree : Tree Fields) (walks : Walks program (trip_of w tree None)) (fields : Fields) (same : fields ≡ tree.fields w.event.event.box.path) (e : Event) (left : Fields) (why : Halt) (is : event_segment program w.event.event fields ≡ Some (record { event = e; fields = left; pause = why })) where
   abbrev t : Trip
   t = trip_of w tree None
 
   pub is_next : next_trip program t ≡ record { tour = halted t.tour e.box left why; levels = e.levels }
-  is_next = ap (tripped t) (ap (event_segment program w.event) (sym same) ∙ is)
+  is_next = ap (tripped t) (ap (event_segment program w.event.event) (sym same) ∙ is)
 
   -- what the call has become
-  module _ (w' : Walk) (tree' : Tree Fields) (event : w'.event ≡ e) (segments : w'.segments ≡ suc w.segments) where
+  module _ (w' : Walk) (tree' : Tree Fields) (event : w'.event.event ≡ e) (segments : w'.segments ≡ suc w.segments) where
     abbrev left_tree : Tree Fields
-    left_tree = put tree w.event.box.path left
+    left_tree = put tree w.event.event.box.path left
 
     by_into : (c : Bool) → w'.entered.items ≡ paths_into c w.entered.items e.box.path → tree' ≡ tree_into c left_tree e.box.path → trip_of w' tree' None ≡ record { tour = into t.tour e.box left c; levels = e.levels }
     by_into true n r i = record { tour = record { box = (event i).box; tree = r i; entered = n i; segments = segments i; result = None }; levels = (event i).levels }

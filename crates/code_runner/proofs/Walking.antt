@@ -18,6 +18,7 @@ use Rattle.wave_base.specs.Shapes.{is_path}
 use Rattle.wave_base.specs.Tree.{Tree, there, put}
 use Rattle.wave_base.specs.Trees.{FitsShape, HasKinds}
 use Rattle.context_tree.proofs.FitLemmas.{enter_fits}
+use Rattle.downgrade_views.specs.Levels.{Level}
 use Rattle.service_code.specs.declared.program.Program.{Program}
 use Rattle.service_verify.specs.Boxes.{Box, first_box}
 use Rattle.service_verify.specs.Copies.{Trip, tripped, trip_if, next_trip, trip_after, first_trip}
@@ -120,7 +121,7 @@ module _ (program : Program) (fit : IsFit program) (verified : IsVerified progra
     has_fields : HasFields program.shape p (t.tour.tree.fields t.tour.box.path)
     has_fields = subst (λ q. HasFields program.shape p (t.tour.tree.fields q)) (sym at) (has_tree t.tour.tree h.fits p)
 
-    module _ (b : Box) (levels : List Fields) (left : Fields) (has_left : HasFields program.shape p left) where
+    module _ (b : Box) (levels : List Level) (left : Fields) (has_left : HasFields program.shape p left) where
       abbrev put_tree : Tree Fields
       put_tree = tree_with t.tour left
 

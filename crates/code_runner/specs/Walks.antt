@@ -1,10 +1,9 @@
 -- A call under way on a tree, as it is kept, and what stands before each of its segments.
-use Rattle.std.specs.Prelude.{◌≡◌, ℕ, Bool, true, false, List, [], ◌∷◌, ◌++◌, length, take, Option}
-use Rattle.context_tree.specs.Contexts.{Contexts, tree_of, is_there}
+use Rattle.std.specs.Prelude.{◌≡◌, ℕ, Bool, true, false, List, [], ◌∷◌, ◌++◌, Option}
 use Rattle.wave_base.specs.declared.outcome.EventResult.{EventResult}
 use Rattle.wave_base.specs.declared.path.Path.{Path}
 use Rattle.wave_base.specs.declared.shape.Shape.{Shape}
-use Rattle.wave_base.specs.Tree.{Tree, there, enter, put}
+use Rattle.wave_base.specs.Tree.{Tree, there, enter}
 use Rattle.wave_base.specs.Trees.{FitsShape}
 use Rattle.service_code.specs.declared.program.Program.{Program}
 use Rattle.service_verify.specs.Copies.{Trip, next_trip}
@@ -21,8 +20,8 @@ event_of t = record { box = t.tour.box; levels = t.levels }
 -- the trip that a call under way on a tree stands for, over with a result or not
 abbrev pub trip_of : Walk → Tree Fields → Option EventResult → Trip
 trip_of w tree result = record {
-  tour = record { box = w.event.box; tree = tree; entered = w.entered.items; segments = w.segments; result = result };
-  levels = w.event.levels;
+  tour = record { box = w.event.event.box; tree = tree; entered = w.entered.items; segments = w.segments; result = result };
+  levels = w.event.event.levels;
 }
 
 -- The event stands where it runs, in a context that is there, on a tree of the shape; it has entered what it holds, and the
@@ -44,10 +43,3 @@ paths_into false entered p = entered ++ p ∷ []
 abbrev pub tree_into : Bool → Tree Fields → Path → Tree Fields
 tree_into true tree p = tree
 tree_into false tree p = enter tree p
-
--- Of a context's new fields, from the last on, some are put: the tree shows the old ones up to there, and then the new ones.
-pub record PutSoFar (old : Contexts) (p : Path) (all : Fields) (now : Contexts) (left : Fields) : Type 0 where
-  pub rest : Fields
-  pub is : all ≡ left ++ rest
-  pub there : is_there now p ≡ true
-  pub tree : (shape : Shape) → tree_of shape now ≡ put (tree_of shape old) p (take (length left) ((tree_of shape old).fields p) ++ rest)

@@ -1,7 +1,7 @@
 //! Calls of events, each run by its code, segment by segment, on a tree of contexts.
 #![tactic(auto)]
 
-mod fields;
+mod records;
 mod run;
 mod walk;
 

@@ -11,7 +11,7 @@ ghost use Rattle.service_verify.specs.Fit.{IsFit};
 ghost use Rattle.service_verify.specs.Points.{IsVerified};
 ghost use Rattle.code_runner.specs.Walks.{Walks, trip_of, paths_into, tree_into};
 
-use crate::fields::{put_fields, record_at};
+use crate::records::{put_record, take_record};
 use context_tree::Tree;
 use service_verify::Verified;
 use service_vm::{EventBox, segment};
@@ -69,9 +69,10 @@ impl Walk {
         ensures next { IfOk result (λ over. trip_of self.new (tree_of program.now.shape contexts.new) over ≡ next_trip program.now (trip_of self.old (tree_of program.now.shape contexts.old) None)) }
     {
         let here = self.event.path();
-        let mut record = record_at(alloc, contexts, &here)?;
-        let pause = segment(program, &mut self.event, &mut record)?;
-        put_fields(contexts, &here, record.fields);
+        let mut record = take_record(alloc, contexts, &here);
+        let paused = segment(program, &mut self.event, &mut record);
+        put_record(contexts, &here, record);
+        let pause = paused?;
         self.segments += 1;
         match pause {
             Pause::Go(_) | Pause::Down(_) => {
@@ -90,12 +91,12 @@ impl Walk {
         shape: &Shape,
         contexts: &mut Tree,
     ) -> Result<(), OutOfMemory>
-        requires path { is_path shape.now self.old.event.box.path ≡ true }
-        requires parent { is_there contexts.old (parent_of self.old.event.box.path) ≡ true }
+        requires path { is_path shape.now self.old.event.event.box.path ≡ true }
+        requires parent { is_there contexts.old (parent_of self.old.event.event.box.path) ≡ true }
         ensures event { OnOk result (self.new.event ≡ self.old.event) }
         ensures segments { OnOk result (self.new.segments ≡ self.old.segments) }
-        ensures entered { OnOk result (self.new.entered.items ≡ paths_into (list_any (path_eq self.old.event.box.path) self.old.entered.items) self.old.entered.items self.old.event.box.path) }
-        ensures tree { OnOk result (tree_of shape.now contexts.new ≡ tree_into (list_any (path_eq self.old.event.box.path) self.old.entered.items) (tree_of shape.now contexts.old) self.old.event.box.path) }
+        ensures entered { OnOk result (self.new.entered.items ≡ paths_into (list_any (path_eq self.old.event.event.box.path) self.old.entered.items) self.old.entered.items self.old.event.event.box.path) }
+        ensures tree { OnOk result (tree_of shape.now contexts.new ≡ tree_into (list_any (path_eq self.old.event.event.box.path) self.old.entered.items) (tree_of shape.now contexts.old) self.old.event.event.box.path) }
     {
         let path = self.event.path();
         if self.entered.as_slice().contains(&path) {

@@ -11,6 +11,7 @@ use Rattle.wave_base.specs.Paths.{path_eq}
 use Rattle.wave_base.specs.PathLaws.{path_eq_decides}
 use Rattle.wave_base.specs.Tree.{Tree, enter, put}
 use Rattle.wave_base.proofs.Trees.{put_same, put_twice}
+use Rattle.downgrade_views.specs.Levels.{Level, whole_level}
 use Rattle.service_code.specs.declared.program.Program.{Program}
 use Rattle.service_verify.specs.Boxes.{Frame, Box}
 use Rattle.service_verify.specs.Fit.{IsFit}
@@ -30,7 +31,7 @@ from_put tree q x done [] h = refl
 from_put tree q x done (s ∷ p) h =
     let rest = from_put tree q x (done ++ s ∷ []) p (omega (arith, h, length-append done (s ∷ []))) in
     let one = unchanged (path_eq q done) refl in
-    λ i. one i ∷ rest i
+    λ i. whole_level (one i) ∷ rest i
   where
     unchanged : (b : Bool) → path_eq q done ≡ b → (if b then x else tree.fields done) ≡ tree.fields done
     unchanged true e = absurd (let same = ap length ((path_eq_decides q done).0 e) in omega (arith, h, same))
@@ -46,7 +47,7 @@ put_at tree p x = go (path_eq p p) ((path_eq_decides p p).1 refl)
     go true e = refl
     go false e = cc
 
-step_held : (program : Program) (levels : List Fields) (b : Box) (fields : Fields) → OnRun (λ b'. b'.held ≡ b.held) (one_step program levels b fields)
+step_held : (program : Program) (levels : List Level) (b : Box) (fields : Fields) → OnRun (λ b'. b'.held ≡ b.held) (one_step program levels b fields)
 unfolding one_step
 step_held program levels b fields = go b.frames
   where
@@ -80,7 +81,7 @@ module _ (program : Program) (fit : IsFit program) (verified : IsVerified progra
     p : Path
     p = t.box.path
 
-    levels : List Fields
+    levels : List Level
     levels = fields_above t.tree t.box.path
 
     mid_move : (b : Box) (fields : Fields) → b.path ≡ t.box.path → move_of program (mid t b fields) ≡ one_step program (fields_above t.tree t.box.path) b fields

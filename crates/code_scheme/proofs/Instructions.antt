@@ -24,6 +24,7 @@ use Rattle.wave_base.specs.declared.pause.Pause.{Pause}
 use Rattle.wave_base.specs.declared.pause.Pause.TheVariants as pause
 use Rattle.wave_base.specs.declared.shape.EventInfo.{EventInfo}
 use Rattle.downgrade_views.specs.Levels.{field_at}
+use Rattle.downgrade_views.proofs.Finding.{whole_field}
 use Rattle.value_ops.specs.Kinds.{Answer}
 use Rattle.value_ops.specs.Operators.{takes_of, apply_row}
 use Rattle.resolved_service.specs.Meaning.{row_put, row_cut, set_local, put_field, State, Done, Act, and_then, answer, with_world, tick, enter_at, choose, demand}
@@ -281,7 +282,9 @@ module _ (program : Program) (fit : IsFit program) (verified : IsVerified progra
 
   above_there : (tree : Tree Fields) (done p : List Step) (l n : ℕ) (go : Value → Move) → Moving (with_some (field_at (fields_from tree done p) l n) go) → with_some (field_at (fields_from tree done p) l n) go ≡ go (get_or (tree.fields (done ++ take l p)) n nothing)
   above_there tree done [] l n go h = absurd h
-  above_there tree done (s ∷ p) zero n go h = there_or (tree.fields done) n nothing go h ∙ ap (λ q. go (get_or (tree.fields q) n nothing)) (sym (append-nil done))
+  above_there tree done (s ∷ p) zero n go h =
+      let is = whole_field (tree.fields done) n in
+      ap (λ o. with_some o go) is ∙ there_or (tree.fields done) n nothing go (subst (λ o. Moving (with_some o go)) is h) ∙ ap (λ q. go (get_or (tree.fields q) n nothing)) (sym (append-nil done))
   above_there tree done (s ∷ p) (suc l) n go h = above_there tree (done ++ s ∷ []) p l n go h ∙ ap (λ q. go (get_or (tree.fields q) n nothing)) (append_assoc done (s ∷ []) (take l p))
 
   pub above_runs : (h : Here) (pc pc' t x y : ℕ) (s : List Value) (st : State) (c : Tour) → At program fit verified h pc s st c → (at : Span) → suc pc ≡ pc' → IsLine program fit verified h.fn pc (i.Above x y) at → st.world.ticks ≤ t →

@@ -9,11 +9,12 @@ use Rattle.service_code.specs.declared.program.Program.{Program}
 use Rattle.service_verify.specs.Boxes.{Box}
 use Rattle.service_verify.specs.Fit.{IsFit}
 use Rattle.service_verify.specs.Points.{IsVerified}
-use Rattle.service_verify.specs.Standing.{kinds_of, kinds_above, HasFields, HasTree, RunsAt, LeavesAt, MovesOn}
+use Rattle.service_verify.specs.Standing.{HasFields, HasLevels, HasTree, RunsAt, LeavesAt, MovesOn}
 use Rattle.service_verify.specs.Steps.{Move, Runs, Paused, Lost, one_step, is_held}
 use Rattle.service_verify.specs.Tours.{Fields, fields_above, Tour, tree_with, into, halted}
 use Rattle.service_verify.proofs.Stepping.{step_moves}
-use Rattle.service_verify.proofs.Touring.{above_kinds, put_has}
+use Rattle.service_verify.proofs.Leveled.{above_has}
+use Rattle.service_verify.proofs.Touring.{put_has}
 
 -- what an instruction leaves to the tour, whose tree has the fields in hand at its context
 abbrev pub resumed : Tour → Move → Tour
@@ -73,8 +74,8 @@ module _ (program : Program) (fit : IsFit program) (verified : IsVerified progra
   pub moves_on : (t : Tour) (a : Alive t) → MovesOn program a.path a.calls (move_of program t)
   moves_on t a = step_moves program fit verified (fields_above t.tree t.box.path) a.path a.calls t.box (t.tree.fields t.box.path) a.box levels_are has
     where
-      levels_are : map kinds_of (fields_above t.tree t.box.path) ≡ kinds_above program.shape a.path
-      levels_are = ap (λ q. map kinds_of (fields_above t.tree q)) a.box.path ∙ above_kinds program fit verified t.tree a.tree a.path
+      levels_are : HasLevels program a.path (fields_above t.tree t.box.path)
+      levels_are = subst (λ q. HasLevels program a.path (fields_above t.tree q)) (sym a.box.path) (above_has program t.tree a.tree a.path)
 
       has : HasFields program.shape a.path (t.tree.fields t.box.path)
       has = subst (λ q. HasFields program.shape a.path (t.tree.fields q)) (sym a.box.path) (a.tree a.path)

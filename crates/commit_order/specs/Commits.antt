@@ -1,10 +1,8 @@
 -- Commits in the order of tickets.
-use Rattle.std.specs.Prelude.{ℕ, ◌+◌, Option, option_map, refl}
-use Rattle.std.specs.Coded.{Coded, code_by, coded×, coded_ℕ}
+use Rattle.std.specs.Prelude.{ℕ, ◌+◌, Option, option_map}
 use Rattle.std.specs.Ordering.{nat_cmp}
-use Rattle.std.specs.FinMap.{FinMap, get, code}
+use Rattle.std.specs.FinMap.{FinMap, get}
 use Rattle.wave_base.specs.declared.outcome.EventResult.{EventResult}
-use Rattle.wave_base.specs.contracts.outcome.EventResult as outcome
 use Rattle.commit_order.specs.declared.commits.Committed.{Committed}
 
 -- the last ticket that was committed, the results of those that have one and are not committed, and for how many more
@@ -21,8 +19,3 @@ ready_result c = get c.results (c.committed + 1)
 -- that ticket with its result
 abbrev pub next_committed : Committing → Option Committed
 next_committed c = option_map (λ r. record { ticket = record { 0 = c.committed + 1 }; result = r }) (ready_result c)
-
--- it is stored as its parts
-abbrev pub committing_code : Coded Committing
-committing_code =
-    code_by (ℕ × (FinMap nat_cmp EventResult × ℕ)) (coded× coded_ℕ (coded× (code coded_ℕ outcome.the_row.coded) coded_ℕ)) (λ c. (c.committed, (c.results, c.room))) (λ p. record { committed = p.0; results = p.1.0; room = p.1.1 }) (λ _. refl)

@@ -26,7 +26,8 @@ impl Model for Commits {
     ghost use Rattle.std.specs.Map.{lookup};
     ghost use Rattle.std.specs.FinMap as map;
     ghost use Rattle.std.specs.HashMap.{spare};
-    ghost use Rattle.commit_order.specs.Commits.{Committing, committing_code};
+    ghost use Rattle.commit_order.specs.Commits.{Committing};
+    ghost use Rattle.commit_order.specs.inner.Coding.{committing_code};
 
     ghost Value = { Committing };
 

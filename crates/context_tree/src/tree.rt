@@ -103,12 +103,11 @@ impl Tree {
         }
     }
 
-    /// Gives a context other fields, and hands out those that it had. So what a context has can be taken out, worked on and put
-    /// back with no copy and no memory.
+    /// Puts fields into a context in place of its own, which come out: nothing is copied.
     pub fn exchange(&mut self, path: &Path, fields: Seq<Value>) -> Seq<Value>
         requires { is_there self.old path.now ≡ true }
         ensures put { (shape : Shape) → tree_of shape self.new ≡ put (tree_of shape self.old) path.now fields }
-        ensures before { (shape : Shape) → result ≡ (tree_of shape self.old).fields path.now }
+        ensures before { (shape : Shape) → (tree_of shape self.old).fields path.now ≡ result }
     {
         match self.contexts.get_mut(path) {
             Some(record) => std::mem::replace(&mut record.fields, fields),

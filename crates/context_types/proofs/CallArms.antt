@@ -21,7 +21,7 @@ use Rattle.type_rules.specs.Here.{Here, called, takes, gives, is_earlier, method
 use Rattle.type_rules.specs.Exprs.{resolve, resolve_all, count, args_demands, call_demands, call_gives, call_tree, class_asks, child_gives, child_tree, child_demands, demands_as, or_zero}
 use Rattle.type_rules.proofs.First.{told_past, told_here, fails_front, fails_behind, fails_same, holds_both}
 use Rattle.context_types.specs.declared.calls.Called.{Called}
-use Rattle.context_types.specs.Children.{asks_of_child, gives_of_child, child_tree_of}
+use Rattle.context_types.specs.inner.Children.{asks_of_child, gives_of_child, child_tree_of}
 use Rattle.context_types.specs.Places.{IsCalled}
 use Rattle.context_types.proofs.TreeRows.{op_node, call_node, child_node}
 

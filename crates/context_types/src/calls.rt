@@ -6,7 +6,7 @@ ghost use Rattle.type_rules.specs.Demands.{Judges, ask};
 ghost use Rattle.type_rules.specs.Known as known;
 ghost use Rattle.type_rules.specs.Here as names;
 ghost use Rattle.type_rules.specs.Exprs as rules;
-ghost use Rattle.context_types.specs.Children.{asks_of_child, gives_of_child, child_tree_of};
+ghost use Rattle.context_types.specs.inner.Children.{asks_of_child, gives_of_child, child_tree_of};
 ghost use Rattle.context_types.specs.Places.{here_of, IsJudged, IsCalled};
 
 use crate::exprs::Judged;

@@ -1,24 +1,25 @@
 ghost use Rattle.std.specs.Prelude.{◌≡◌, ◌<◌, ◌++◌, ◌∷◌, [], length, Some, IsSome, IfOk, OnOk, OnErr};
 ghost use Rattle.wave_base.specs.declared.value.Kind.TheVariants as k;
 ghost use Rattle.wave_base.specs.declared.value.Value.TheVariants as v;
-ghost use Rattle.downgrade_views.specs.Levels.{field_at, HasField};
+ghost use Rattle.downgrade_views.specs.Levels.{field_at, HasField, kept_level};
 
+use crate::level::{Level, copied, value_of};
 use std::alloc::Global;
 use std::marker::Model;
 use wave_base::{OutOfMemory, Record, Seq, Value};
 
-/// Copies of the fields of the contexts above an event, from the root.
+/// Copies of fields of the contexts above an event, from the root.
 #[derive(Debug, Drop)]
 pub struct Views {
-    levels: Vec<Seq<Value>>,
+    levels: Vec<Level>,
     alloc: Global,
 }
 
 impl Model for Views {
     ghost use Rattle.std.specs.Prelude.{List};
-    ghost use Rattle.wave_base.specs.declared.value.Value.{Value as FieldValue};
+    ghost use Rattle.downgrade_views.specs.Levels.{Level as TheLevel};
 
-    ghost Value = { List (List FieldValue) };
+    ghost Value = { List TheLevel };
 
     ghost view = { λ v. v.levels.items };
 }
@@ -34,13 +35,14 @@ impl Views {
         }
     }
 
-    /// Adds a copy of a context's fields below the others.
-    pub fn leave(&mut self, body: &Record) -> Result<(), OutOfMemory>
-        ensures ok { OnOk result (self.new ≡ self.old ++ body.now.fields ∷ []) }
+    /// Adds a level below the others: copies of the kept fields of a context, and of no others.
+    pub fn leave(&mut self, body: &Record, kept: &Seq<bool>) -> Result<(), OutOfMemory>
+        requires { length kept.now ≡ length body.now.fields }
+        ensures ok { OnOk result (self.new ≡ self.old ++ kept_level kept.now body.now.fields ∷ []) }
         ensures err { OnErr result (self.new ≡ self.old) }
     {
-        let fields = body.fields.copy(self.alloc)?;
-        self.levels.push(fields)?;
+        let level = copied(self.alloc, body, kept)?;
+        self.levels.push(level)?;
         Ok(())
     }
 
@@ -87,12 +89,14 @@ impl Views {
         requires { IsSome (field_at self.now level field) }
         ensures { field_at self.now level field ≡ Some result.now }
     {
-        &self.levels[level].as_slice()[field]
+        value_of(&self.levels[level], field)
     }
 }
 
 #[cfg(test)]
 mod tests {
+    ghost use Rattle.std.specs.Prelude.{true, false};
+
     use super::*;
     use std::test::Fail;
     use wave_base::{Children, Txt};
@@ -106,18 +110,23 @@ mod tests {
         Ok(Record { fields, children })
     }
 
+    fn kept(alloc: Global, name: bool, count: bool, busy: bool) -> Result<Seq<bool>, OutOfMemory>
+        ensures { IfOk result (λ ks. ks ≡ name ∷ count ∷ busy ∷ []) }
+    {
+        Ok(Seq::from_vec(vec![in alloc; name, count, busy]?))
+    }
+
     #[test]
-    fn reads_what_was_left(rt: HostRuntime) -> Result<(), Fail> {
+    fn reads_what_was_kept(rt: HostRuntime) -> Result<(), Fail> {
         let alloc = rt.alloc();
         let root = body(alloc, Txt::from_bytes(alloc, b"root")?, 7, true)?;
         let hall = body(alloc, Txt::from_bytes(alloc, b"hall")?, -1, false)?;
         let mut views = Views::new(alloc);
-        views.leave(&root)?;
-        views.leave(&hall)?;
+        views.leave(&root, &kept(alloc, false, true, true)?)?;
+        views.leave(&hall, &kept(alloc, true, false, true)?)?;
         let text = views.read(1, 0)?;
         assert!(rt; text == Value::Str(Txt::from_bytes(alloc, b"hall")?));
         assert_eq!(rt; views.read_int(0, 1), 7);
-        assert_eq!(rt; views.read_int(1, 1), -1);
         assert!(rt; views.read_bool(0, 2));
         assert!(rt; !views.read_bool(1, 2));
         views.back();

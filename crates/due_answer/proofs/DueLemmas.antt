@@ -1,5 +1,5 @@
 -- Only one answer is due for an input.
-use Rattle.std.proofs.Common.{◌≡◌, ℕ, ◌≤◌, ◌<◌, inl, inr, false, List, length, Option, Some, Result, Ok, Err, IfOk, refl, sym, ◌∙◌, subst, ap, arith}
+use Rattle.std.proofs.Common.{◌≡◌, ℕ, ◌≤◌, ◌<◌, inl, inr, false, true, List, length, Option, Some, Result, Ok, Err, IfOk, refl, sym, ◌∙◌, subst, ap, arith}
 use Rattle.wave_base.specs.declared.limits.TheConstants.{INPUT_BYTES, SCRIPT_BYTES}
 use Rattle.wave_base.specs.declared.script.Script.{Script}
 use Rattle.wave_base.specs.declared.shape.Shape.{Shape}
@@ -10,15 +10,20 @@ use Rattle.type_rules.specs.Known.{shape_of}
 use Rattle.type_rules.specs.Views.{resolved_view}
 use Rattle.meaning_views.proofs.SameMeaning.{same_calls}
 use Rattle.script_fold.specs.Runs.{finished_of}
-use Rattle.wave_meaning.specs.Meaning.{results_of}
+use Rattle.wave_meaning.specs.Meaning.{results_of, IsWhole}
 use Rattle.context_types.specs.declared.Typed.{Typed}
 use Rattle.service_reader.specs.declared.fault.TextFault.{TextFault}
 use Rattle.service_reader.specs.Parsing.{IsOnlyParse}
 use Rattle.due_answer.specs.declared.answer.Answer.{Answer}
-use Rattle.due_answer.specs.declared.command.Command.{Command}
-use Rattle.due_answer.specs.declared.command.Engine.{Engine}
-use Rattle.due_answer.specs.declared.command.Places.{Places}
-use Rattle.due_answer.specs.Due.{Only, IsDue, IsDueBoth, IsDueService, IsDueOf, IsDueTyped, IsDueScript, IsDueLines, IsDueRun, IsDueWhere, IsDueFold, IsOnlyDue, is_unbuilt, listed, too_large_input}
+use Rattle.command_words.specs.declared.command.Command.{Command}
+use Rattle.due_answer.specs.declared.report.Engine.{Engine}
+use Rattle.due_answer.specs.declared.report.Report.{Report}
+use Rattle.input_parts.specs.Parts.{service_of}
+use Rattle.command_words.specs.Inputs.{reads_input}
+use Rattle.command_words.specs.declared.command.Command.TheVariants.{Run, Seq, Check, Print, Code, Gen, Load}
+use Rattle.due_answer.specs.declared.report.Engine.TheVariants.{Workers, Evaluator}
+use Rattle.due_answer.specs.declared.report.Report.TheVariants.{Listing}
+use Rattle.due_answer.specs.Due.{Only, IsDueBoth, IsDueScripted, IsDueSized, IsListedCode, IsPrinted, approved, IsDueService, IsDueOf, IsDueTyped, IsDueScript, IsDueLines, IsDueRun, IsDueWhere, IsDueFold, IsOnlyDue, is_unbuilt, reported, too_large_input}
 use Rattle.service_code.specs.declared.program.Program.{Program}
 use Rattle.due_answer.specs.Coded.{IsCoded}
 use Rattle.due_answer.specs.declared.service.Judged.{Judged}
@@ -76,23 +81,23 @@ only_same x = record { is_due = refl; only = λ other h. h }
 same_results : (shape : Shape) (a b : Resolved) (script : Script) → resolved_view a ≡ resolved_view b → results_of shape a script ≡ results_of shape b script
 same_results shape a b script e = ap (λ calls. finished_of (λ tree call. (calls tree call).ran) shape (first_start shape) script) (same_calls a b e)
 
-only_fold : (places : Places) (tree : ServiceTree) (typed : Typed) (script : Script) → IsTypedTree tree typed →
-    Only (IsDueFold places tree script) (listed typed.shape places (results_of typed.shape typed.resolved script))
-only_fold places tree typed script t = record {
-  is_due = record { service = typed.resolved; resolved = t.resolved_is; due_is = ap (λ s. listed s places (results_of s typed.resolved script)) t.shape_is };
-  only = λ other h. h.due_is ∙ ap (listed (shape_of tree) places) (same_results (shape_of tree) h.service typed.resolved script (h.resolved ∙ sym t.resolved_is))
-      ∙ ap (λ s. listed s places (results_of s typed.resolved script)) (sym t.shape_is);
+only_fold : (report : Report) (tree : ServiceTree) (typed : Typed) (script : Script) → IsTypedTree tree typed → IsWhole typed.shape typed.resolved script →
+    Only (IsDueFold report tree script) (reported typed.shape report (results_of typed.shape typed.resolved script))
+only_fold report tree typed script t whole = record {
+  is_due = record { service = typed.resolved; resolved = t.resolved_is; whole = subst (λ s. IsWhole s typed.resolved script) t.shape_is whole; due_is = ap (λ s. reported s report (results_of s typed.resolved script)) t.shape_is };
+  only = λ other h. h.due_is ∙ ap (reported (shape_of tree) report) (same_results (shape_of tree) h.service typed.resolved script (h.resolved ∙ sym t.resolved_is))
+      ∙ ap (λ s. reported s report (results_of s typed.resolved script)) (sym t.shape_is);
 }
 
-only_built : (engine : Engine) (places : Places) (tree : ServiceTree) (typed : Typed) (script : Script) → is_unbuilt engine script ≡ false → IsTypedTree tree typed →
-    Only (IsDueRun engine places tree script) (listed typed.shape places (results_of typed.shape typed.resolved script))
-only_built engine places tree typed script h t = subst (λ w. Only (IsDueWhere places tree script w) (listed typed.shape places (results_of typed.shape typed.resolved script))) (sym h) (only_fold places tree typed script t)
+only_built : (engine : Engine) (report : Report) (tree : ServiceTree) (typed : Typed) (script : Script) → is_unbuilt engine script ≡ false → IsTypedTree tree typed → IsWhole typed.shape typed.resolved script →
+    Only (IsDueRun engine report tree script) (reported typed.shape report (results_of typed.shape typed.resolved script))
+only_built engine report tree typed script h t whole = subst (λ w. Only (IsDueWhere report tree script w) (reported typed.shape report (results_of typed.shape typed.resolved script))) (sym h) (only_fold report tree typed script t whole)
 
 -- the listing of a script that wants no machine
-pub built_if : {E : Type 0} (engine : Engine) (places : Places) (tree : ServiceTree) (typed : Typed) (script : Script) (r : Result Answer E) → is_unbuilt engine script ≡ false → IsTypedTree tree typed →
-    IfOk r (λ a. a ≡ listed typed.shape places (results_of typed.shape typed.resolved script)) → IfOk r (Only (IsDueRun engine places tree script))
-built_if engine places tree typed script (Ok a) h t e = subst (Only (IsDueRun engine places tree script)) (sym e) (only_built engine places tree typed script h t)
-built_if engine places tree typed script (Err e) h t is = tt
+pub built_if : {E : Type 0} (engine : Engine) (report : Report) (tree : ServiceTree) (typed : Typed) (script : Script) (r : Result Answer E) → is_unbuilt engine script ≡ false → IsTypedTree tree typed → IfOk r (λ _. IsWhole typed.shape typed.resolved script) →
+    IfOk r (λ a. a ≡ reported typed.shape report (results_of typed.shape typed.resolved script)) → IfOk r (Only (IsDueRun engine report tree script))
+built_if engine report tree typed script (Ok a) h t whole e = subst (Only (IsDueRun engine report tree script)) (sym e) (only_built engine report tree typed script h t whole)
+built_if engine report tree typed script (Err e) h t whole is = tt
 
 only_short : (P : ServiceTree → Script → Answer → Type 0) (text : List ℕ) (tree : ServiceTree) (shape : Shape) (due : Answer) → length text ≤ SCRIPT_BYTES → shape ≡ shape_of tree →
     Only (IsDueLines (P tree) shape text) due → Only (IsDueScript P text tree) due
@@ -117,9 +122,31 @@ pub with_script : {E : Type 0} (P : ServiceTree → Script → Answer → Type 0
     IfOk r (Only (IsDueService (IsDueScript P script) text)) → IfOk r (Only (IsDueBoth P text found))
 with_script P text found script r e o = subst (λ s. IfOk r (Only (IsDueBoth P text s))) (sym e) o
 
-pub only_too_large : (c : Command) (bytes : List ℕ) → INPUT_BYTES < length bytes → IsOnlyDue c bytes too_large_input
-only_too_large c bytes long = record { is_due = inl (long, refl); only = others }
+-- bytes that are too many, and others
+pub sized_long : (P : List ℕ → Answer → Type 0) (bytes : List ℕ) → INPUT_BYTES < length bytes → Only (IsDueSized P bytes) too_large_input
+sized_long P bytes long = record { is_due = inl (long, refl); only = others }
   where
-    others : (other : Answer) → IsDue c bytes other → other ≡ too_large_input
+    others : (other : Answer) → IsDueSized P bytes other → other ≡ too_large_input
     others other (inl h) = h.1
     others other (inr h) = let small = h.0 in absurd (omega arith)
+
+sized_fine : (P : List ℕ → Answer → Type 0) (bytes : List ℕ) (due : Answer) → length bytes ≤ INPUT_BYTES → Only (P bytes) due → Only (IsDueSized P bytes) due
+sized_fine P bytes due small o = record { is_due = inr (small, o.is_due); only = others }
+  where
+    others : (other : Answer) → IsDueSized P bytes other → other ≡ due
+    others other (inl h) = let long = h.0 in absurd (omega arith)
+    others other (inr h) = o.only other h.1
+
+pub sized_if : {E : Type 0} (P : List ℕ → Answer → Type 0) (bytes : List ℕ) (r : Result Answer E) → length bytes ≤ INPUT_BYTES → IfOk r (Only (P bytes)) → IfOk r (Only (IsDueSized P bytes))
+sized_if P bytes (Ok a) small o = sized_fine P bytes a small o
+sized_if P bytes (Err e) small o = tt
+
+-- a command that reads its input is told so where there is too much of it
+pub only_too_large : (c : Command) (bytes : List ℕ) → reads_input c ≡ true → INPUT_BYTES < length bytes → IsOnlyDue c bytes too_large_input
+only_too_large (Run places crew) bytes reads long = sized_long (IsDueScripted Workers (Listing places)) bytes long
+only_too_large (Seq places) bytes reads long = sized_long (IsDueScripted Evaluator (Listing places)) bytes long
+only_too_large Check bytes reads long = sized_long (λ b. IsDueService (λ tree a. a ≡ approved) (service_of b)) bytes long
+only_too_large Code bytes reads long = sized_long (λ b. IsDueService IsListedCode (service_of b)) bytes long
+only_too_large Print bytes reads long = sized_long (λ b. IsDueService IsPrinted (service_of b)) bytes long
+only_too_large (Gen n) bytes reads long = cc
+only_too_large (Load n crew) bytes reads long = cc

@@ -1,3 +1,4 @@
 pub mod CodeLemmas
 pub mod NameLemmas
 pub mod DueLemmas
+pub mod StatusLemmas

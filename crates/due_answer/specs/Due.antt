@@ -33,14 +33,18 @@ use Rattle.script_reader.specs.Judged.{nothing_earlier}
 use Rattle.script_reader.specs.Scripts.{IsRead}
 use Rattle.wave_text.specs.Lines.{lines_of}
 use Rattle.listing_out.specs.Listing.{listing}
-use Rattle.wave_meaning.specs.Meaning.{results_of}
+use Rattle.wave_meaning.specs.Meaning.{results_of, IsWhole}
 use Rattle.due_answer.specs.declared.answer.Answer.{Answer}
-use Rattle.due_answer.specs.declared.command.Command.{Command}
-use Rattle.due_answer.specs.declared.command.Command.TheVariants.{Run, Seq, Check, Print, Code}
-use Rattle.due_answer.specs.declared.command.Engine.{Engine}
-use Rattle.due_answer.specs.declared.command.Engine.TheVariants.{Workers, Evaluator}
-use Rattle.due_answer.specs.declared.command.Places.{Places}
-use Rattle.due_answer.specs.declared.command.Places.TheVariants.{Unlisted, Listed}
+use Rattle.command_words.specs.declared.command.Command.{Command}
+use Rattle.command_words.specs.declared.command.Command.TheVariants.{Run, Seq, Check, Print, Code, Gen, Load}
+use Rattle.command_words.specs.declared.command.Places.{Places}
+use Rattle.command_words.specs.declared.command.Places.TheVariants.{Unlisted, Listed}
+use Rattle.wave_gen.specs.Load.{load_text}
+use Rattle.wave_gen.specs.Summary.{summary_text}
+use Rattle.due_answer.specs.declared.report.Engine.{Engine}
+use Rattle.due_answer.specs.declared.report.Engine.TheVariants.{Workers, Evaluator}
+use Rattle.due_answer.specs.declared.report.Report.{Report}
+use Rattle.due_answer.specs.declared.report.Report.TheVariants.{Listing, Summary}
 
 -- ---- answers
 
@@ -115,15 +119,21 @@ is_trap _ = false
 abbrev pub any_trap : List EventResult → Bool
 any_trap rs = list_any (λ (r : EventResult). is_trap r.outcome) rs
 
--- the listing of all that was done; the status tells whether something trapped
-abbrev pub listed : Shape → Places → Finished → Answer
-listed shape places done = record { status = if any_trap done.results then 1 else 0; note = []; text = listing shape 1 done (is_listed places) }
+-- all that was done is listed, or summed up
+abbrev pub report_text : Shape → Report → Finished → List ℕ
+report_text shape (Listing places) done = listing shape 1 done (is_listed places)
+report_text shape Summary done = summary_text done.results
 
--- of a script that was read: the listing of its fold on the service with each name resolved
-pub record IsDueFold (places : Places) (tree : ServiceTree) (script : Script) (due : Answer) : Type 0 where
+-- what was done is told; the status tells whether something trapped
+abbrev pub reported : Shape → Report → Finished → Answer
+reported shape report done = record { status = if any_trap done.results then 1 else 0; note = []; text = report_text shape report done }
+
+-- of a script that was read: what its fold, to its end, on the service with each name resolved has done
+pub record IsDueFold (report : Report) (tree : ServiceTree) (script : Script) (due : Answer) : Type 0 where
   pub service : Resolved
   pub resolved : resolved_view service ≡ resolve_service tree
-  pub due_is : due ≡ listed (shape_of tree) places (results_of (shape_of tree) service script)
+  pub whole : IsWhole (shape_of tree) service script
+  pub due_is : due ≡ reported (shape_of tree) report (results_of (shape_of tree) service script)
 
 abbrev pub is_request : Line → Bool
 is_request (Request call) = true
@@ -137,12 +147,12 @@ abbrev pub is_unbuilt : Engine → Script → Bool
 is_unbuilt Workers script = wants_machine script
 is_unbuilt Evaluator script = false
 
-abbrev pub IsDueWhere : Places → ServiceTree → Script → Bool → Answer → Type 0
-IsDueWhere places tree script true due = due ≡ not_yet
-IsDueWhere places tree script false due = IsDueFold places tree script due
+abbrev pub IsDueWhere : Report → ServiceTree → Script → Bool → Answer → Type 0
+IsDueWhere report tree script true due = due ≡ not_yet
+IsDueWhere report tree script false due = IsDueFold report tree script due
 
-abbrev pub IsDueRun : Engine → Places → ServiceTree → Script → Answer → Type 0
-IsDueRun engine places tree script due = IsDueWhere places tree script (is_unbuilt engine script) due
+abbrev pub IsDueRun : Engine → Report → ServiceTree → Script → Answer → Type 0
+IsDueRun engine report tree script due = IsDueWhere report tree script (is_unbuilt engine script) due
 
 abbrev pub IsDueRead : (Script → Answer → Type 0) → Result Script ScriptError → Answer → Type 0
 IsDueRead P (Err e) due = due ≡ refusal 4 (script_note e)
@@ -182,15 +192,23 @@ pub record IsListedCode (tree : ServiceTree) (due : Answer) : Type 0 where
   pub resolved : resolved_view service ≡ resolve_service tree
   pub due_is : due ≡ written (program_text (scheme_program (shape_of tree) service))
 
-abbrev pub IsDueFor : Command → List ℕ → Answer → Type 0
-IsDueFor (Run places) bytes due = IsDueBoth (IsDueRun Workers places) (service_of bytes) (script_of bytes) due
-IsDueFor (Seq places) bytes due = IsDueBoth (IsDueRun Evaluator places) (service_of bytes) (script_of bytes) due
-IsDueFor Check bytes due = IsDueService (λ tree due. due ≡ approved) (service_of bytes) due
-IsDueFor Code bytes due = IsDueService IsListedCode (service_of bytes) due
-IsDueFor Print bytes due = IsDueService IsPrinted (service_of bytes) due
+-- of the bytes of a service and a script
+abbrev pub IsDueScripted : Engine → Report → List ℕ → Answer → Type 0
+IsDueScripted engine report bytes due = IsDueBoth (IsDueRun engine report) (service_of bytes) (script_of bytes) due
 
+-- of bytes, which may be too many
+abbrev pub IsDueSized : (List ℕ → Answer → Type 0) → List ℕ → Answer → Type 0
+IsDueSized P bytes due = ((INPUT_BYTES < length bytes) × (due ≡ too_large_input)) ⊎ ((length bytes ≤ INPUT_BYTES) × P bytes due)
+
+-- `gen` writes the load of a number, and `load` runs it and sums it up, whatever the input is; all others are about their input
 abbrev pub IsDue : Command → List ℕ → Answer → Type 0
-IsDue c bytes due = ((INPUT_BYTES < length bytes) × (due ≡ too_large_input)) ⊎ ((length bytes ≤ INPUT_BYTES) × IsDueFor c bytes due)
+IsDue (Run places crew) bytes due = IsDueSized (IsDueScripted Workers (Listing places)) bytes due
+IsDue (Seq places) bytes due = IsDueSized (IsDueScripted Evaluator (Listing places)) bytes due
+IsDue Check bytes due = IsDueSized (λ b. IsDueService (λ tree a. a ≡ approved) (service_of b)) bytes due
+IsDue Code bytes due = IsDueSized (λ b. IsDueService IsListedCode (service_of b)) bytes due
+IsDue Print bytes due = IsDueSized (λ b. IsDueService IsPrinted (service_of b)) bytes due
+IsDue (Gen n) bytes due = due ≡ written (load_text n)
+IsDue (Load n crew) bytes due = IsDueSized (IsDueScripted Evaluator Summary) (load_text n) due
 
 -- it is so of this answer, and of no other
 pub record Only (P : Answer → Type 0) (due : Answer) : Type 0 where

@@ -1,4 +1,3 @@
-pub mod Commands
 pub mod Due
 pub mod Served
 pub mod Coded

@@ -3,39 +3,60 @@ ghost use Rattle.input_parts.specs.Parts.{service_of, script_of};
 ghost use Rattle.mace_ast.specs.Decls.{service_tree};
 ghost use Rattle.mace_printer.specs.Written.{IsParsed};
 ghost use Rattle.service_code.specs.Listing.{CanList, program_text};
-ghost use Rattle.due_answer.specs.declared.command.Command.{Command};
-ghost use Rattle.due_answer.specs.Due.{Only, IsDueBoth, IsDueFor, IsDueRun, IsOnlyDue, IsPrinted, approved, written};
+ghost use Rattle.wave_gen.specs.Load.{load_text};
+ghost use Rattle.due_answer.specs.Due.{Only, IsDueScripted, IsDueService, IsDueSized, IsListedCode, IsOnlyDue, IsPrinted, approved, written};
+ghost use Rattle.due_answer.specs.declared.report.Engine.{Engine};
+ghost use Rattle.due_answer.specs.declared.report.Report.{Report};
 
 use crate::answer::{Answer, refused, written};
-use crate::command::{Command, Engine, Places};
+use crate::report::{Engine, Report};
 use crate::script::judge_script;
 use crate::service::{Judged, served};
+use command_words::Command;
 use input_parts::parts_of;
 use mace_ast::Service;
 use mace_printer::print;
 use service_code::{Program, code_listing};
 use std::alloc::Global;
 use wave_base::{INPUT_BYTES, OutOfMemory, Seq};
+use wave_gen::generate;
 
-/// What is due for a command and an input that is not too large.
+/// What is due for a command and an input that is not too large; a command that reads none does not look at it.
 pub fn judge(alloc: Global, command: Command, input: &[u8]) -> Result<Answer, OutOfMemory>
     requires { length input.now ≤ INPUT_BYTES }
     ensures { IfOk result (IsOnlyDue command input.now) }
 {
-    judge_parts(alloc, command, input)
-}
-
-// What is due for a command and the parts of an input.
-fn judge_parts(alloc: Global, command: Command, input: &[u8]) -> Result<Answer, OutOfMemory>
-    ensures { IfOk result (Only (IsDueFor command input.now)) }
-{
     match command {
-        Command::Run(places) => judge_both(alloc, Engine::Workers, places, input),
-        Command::Seq(places) => judge_both(alloc, Engine::Evaluator, places, input),
+        Command::Run(places, _) => {
+            judge_both(alloc, Engine::Workers, Report::Listing(places), input)
+        }
+        Command::Seq(places) => {
+            judge_both(alloc, Engine::Evaluator, Report::Listing(places), input)
+        }
         Command::Check => judge_check(alloc, input),
         Command::Print => judge_print(alloc, input),
         Command::Code => judge_code(alloc, input),
+        Command::Gen(n) => judge_gen(alloc, n),
+        Command::Load(n, _) => judge_load(alloc, n),
     }
+}
+
+// What is due for the generated load of a number that is to be written.
+fn judge_gen(alloc: Global, n: u64) -> Result<Answer, OutOfMemory>
+    ensures { IfOk result (λ a. a ≡ written (load_text n)) }
+{
+    Ok(written(alloc, generate(alloc, n)?))
+}
+
+// What is due for one that is to be run and summed up.
+fn judge_load(alloc: Global, n: u64) -> Result<Answer, OutOfMemory>
+    ensures { IfOk result (Only (IsDueSized (IsDueScripted Engine.Evaluator Report.Summary) (load_text n))) }
+{
+    let load = generate(alloc, n)?;
+    if load.len() > INPUT_BYTES {
+        return refused(alloc, 3, b"TooLarge input");
+    }
+    judge_both(alloc, Engine::Evaluator, Report::Summary, load.as_slice())
 }
 
 // What is due where a service is typed and nothing more is asked.
@@ -48,7 +69,7 @@ fn approved(alloc: Global) -> Result<Answer, OutOfMemory>
 
 // What is due for a service that is to be checked.
 fn judge_check(alloc: Global, input: &[u8]) -> Result<Answer, OutOfMemory>
-    ensures { IfOk result (Only (IsDueFor Command.Check input.now)) }
+    ensures { IfOk result (Only (IsDueService (λ tree a. a ≡ approved) (service_of input.now))) }
 {
     let (text, _) = parts_of(input);
     match served(alloc, text)? {
@@ -67,7 +88,7 @@ fn printed(alloc: Global, service: &Service) -> Result<Answer, OutOfMemory>
 
 // What is due for a service that is to be printed.
 fn judge_print(alloc: Global, input: &[u8]) -> Result<Answer, OutOfMemory>
-    ensures { IfOk result (Only (IsDueFor Command.Print input.now)) }
+    ensures { IfOk result (Only (IsDueService IsPrinted (service_of input.now))) }
 {
     let (text, _) = parts_of(input);
     match served(alloc, text)? {
@@ -86,7 +107,7 @@ fn listed_code(alloc: Global, program: &Program) -> Result<Answer, OutOfMemory>
 
 // What is due for a service whose code is asked for.
 fn judge_code(alloc: Global, input: &[u8]) -> Result<Answer, OutOfMemory>
-    ensures { IfOk result (Only (IsDueFor Command.Code input.now)) }
+    ensures { IfOk result (Only (IsDueService IsListedCode (service_of input.now))) }
 {
     let (text, _) = parts_of(input);
     match served(alloc, text)? {
@@ -99,17 +120,17 @@ fn judge_code(alloc: Global, input: &[u8]) -> Result<Answer, OutOfMemory>
 fn judge_both(
     alloc: Global,
     engine: Engine,
-    places: Places,
+    report: Report,
     input: &[u8],
 ) -> Result<Answer, OutOfMemory>
-    ensures { IfOk result (Only (IsDueBoth (IsDueRun engine places) (service_of input.now) (script_of input.now))) }
+    ensures { IfOk result (Only (IsDueScripted engine report input.now)) }
 {
     let (text, script) = parts_of(input);
     let Some(script) = script else {
         return refused(alloc, 3, b"NoScript");
     };
     match served(alloc, text)? {
-        Judged::Typed(typed, _) => judge_script(alloc, engine, places, &typed, script),
+        Judged::Typed(typed, _) => judge_script(alloc, engine, report, &typed, script),
         Judged::Refused(answer) => Ok(answer),
     }
 }

@@ -3,13 +3,12 @@
 
 mod answer;
 mod code;
-mod command;
 mod judging;
+mod report;
 mod script;
 mod service;
 #[cfg(test)]
 mod tests;
 
 pub use answer::{Answer, refused};
-pub use command::{Command, Engine, Places, command_of};
 pub use judging::judge;

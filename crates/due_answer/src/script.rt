@@ -4,21 +4,25 @@ ghost use Rattle.wave_base.specs.declared.limits.TheConstants.{SCRIPT_BYTES};
 ghost use Rattle.wave_base.specs.Scripts.{IsScript};
 ghost use Rattle.wave_base.specs.Shapes.{IsShape};
 ghost use Rattle.resolved_service.specs.Fits.{FitsService};
-ghost use Rattle.wave_meaning.specs.Meaning.{results_of};
+ghost use Rattle.wave_meaning.specs.Meaning.{results_of, IsWhole};
 ghost use Rattle.mace_ast.specs.Decls.{ServiceTree};
 ghost use Rattle.fault_notes.specs.Notes.{script_note};
 ghost use Rattle.script_reader.specs.declared.error.ScriptError.{ScriptError};
-ghost use Rattle.due_answer.specs.Due.{Only, IsDueRun, IsDueLines, IsDueScript, any_trap, is_listed, is_request, is_unbuilt, listed, not_yet, refusal, wants_machine};
+ghost use Rattle.due_answer.specs.Due.{Only, IsDueRun, IsDueLines, IsDueScript, any_trap, is_listed, is_request, is_unbuilt, not_yet, refusal, report_text, reported, wants_machine};
 ghost use Rattle.due_answer.specs.Served.{IsTypedTree};
 
 use crate::answer::{Answer, refused};
-use crate::command::{Engine, Places};
+use crate::report::{Engine, Report};
+use command_words::Places;
 use context_types::Typed;
 use fault_notes::script_note;
 use listing_out::listing;
 use script_reader::{ScriptError, read_script};
 use std::alloc::Global;
-use wave_base::{EventResult, Line, OutOfMemory, Outcome, SCRIPT_BYTES, Script, Seq, Ticket};
+use wave_base::{
+    EventResult, Finished, Line, OutOfMemory, Outcome, SCRIPT_BYTES, Script, Seq, Shape, Ticket,
+};
+use wave_gen::summarize;
 use wave_meaning::run_script;
 
 fn is_listed(places: Places) -> bool
@@ -73,20 +77,36 @@ fn is_unbuilt(engine: Engine, script: &Script) -> bool
     }
 }
 
-// The listing of a script's results.
-fn listed(
+// What is told of all that was done.
+fn report_text(
     alloc: Global,
-    places: Places,
+    report: Report,
+    shape: &Shape,
+    done: &Finished,
+) -> Result<Seq<u8>, OutOfMemory>
+    ensures { IfOk result (λ text. text ≡ report_text shape.now report done.now) }
+{
+    match report {
+        Report::Listing(places) => listing(alloc, shape, Ticket(1), done, is_listed(places)),
+        Report::Summary => summarize(alloc, done.results.as_slice()),
+    }
+}
+
+// What a script has done is told.
+fn reported(
+    alloc: Global,
+    report: Report,
     typed: &Typed,
     script: &Script,
 ) -> Result<Answer, OutOfMemory>
     requires shape { IsShape typed.now.shape }
     requires service { FitsService typed.now.shape typed.now.resolved }
     requires script { IsScript typed.now.shape script.now }
-    ensures { IfOk result (λ a. a ≡ listed typed.now.shape places (results_of typed.now.shape typed.now.resolved script.now)) }
+    ensures value { IfOk result (λ a. a ≡ reported typed.now.shape report (results_of typed.now.shape typed.now.resolved script.now)) }
+    ensures whole { IfOk result (λ _. IsWhole typed.now.shape typed.now.resolved script.now) }
 {
     let done = run_script(alloc, &typed.shape, &typed.resolved, script)?;
-    let text = listing(alloc, &typed.shape, Ticket(1), &done, is_listed(places))?;
+    let text = report_text(alloc, report, &typed.shape, &done)?;
     Ok(Answer {
         status: if any_trap(done.results.as_slice()) {
             1
@@ -102,19 +122,19 @@ fn listed(
 fn judge_read(
     alloc: Global,
     engine: Engine,
-    places: Places,
+    report: Report,
     typed: &Typed,
     script: &Script,
 ) -> Result<Answer, OutOfMemory>
     requires shape { IsShape typed.now.shape }
     requires service { FitsService typed.now.shape typed.now.resolved }
     requires script { IsScript typed.now.shape script.now }
-    ensures { (tree : ServiceTree) → IsTypedTree tree typed.now → IfOk result (Only (IsDueRun engine places tree script.now)) }
+    ensures { (tree : ServiceTree) → IsTypedTree tree typed.now → IfOk result (Only (IsDueRun engine report tree script.now)) }
 {
     if is_unbuilt(engine, script) {
         return refused(alloc, 9, b"NotYet");
     }
-    listed(alloc, places, typed, script)
+    reported(alloc, report, typed, script)
 }
 
 fn refused_script(alloc: Global, error: &ScriptError) -> Result<Answer, OutOfMemory>
@@ -129,17 +149,17 @@ fn refused_script(alloc: Global, error: &ScriptError) -> Result<Answer, OutOfMem
 fn judge_lines(
     alloc: Global,
     engine: Engine,
-    places: Places,
+    report: Report,
     typed: &Typed,
     text: &[u8],
 ) -> Result<Answer, OutOfMemory>
     requires shape { IsShape typed.now.shape }
     requires service { FitsService typed.now.shape typed.now.resolved }
     requires short { length text.now ≤ SCRIPT_BYTES }
-    ensures { (tree : ServiceTree) → IsTypedTree tree typed.now → IfOk result (Only (IsDueLines (IsDueRun engine places tree) typed.now.shape text.now)) }
+    ensures { (tree : ServiceTree) → IsTypedTree tree typed.now → IfOk result (Only (IsDueLines (IsDueRun engine report tree) typed.now.shape text.now)) }
 {
     match read_script(alloc, &typed.shape, text) {
-        Ok(script) => judge_read(alloc, engine, places, typed, &script),
+        Ok(script) => judge_read(alloc, engine, report, typed, &script),
         Err(error) => refused_script(alloc, &error),
     }
 }
@@ -148,16 +168,16 @@ fn judge_lines(
 pub fn judge_script(
     alloc: Global,
     engine: Engine,
-    places: Places,
+    report: Report,
     typed: &Typed,
     text: &[u8],
 ) -> Result<Answer, OutOfMemory>
     requires shape { IsShape typed.now.shape }
     requires service { FitsService typed.now.shape typed.now.resolved }
-    ensures { (tree : ServiceTree) → IsTypedTree tree typed.now → IfOk result (Only (IsDueScript (IsDueRun engine places) text.now tree)) }
+    ensures { (tree : ServiceTree) → IsTypedTree tree typed.now → IfOk result (Only (IsDueScript (IsDueRun engine report) text.now tree)) }
 {
     if text.len() > SCRIPT_BYTES {
         return refused(alloc, 4, b"TooLarge script");
     }
-    judge_lines(alloc, engine, places, typed, text)
+    judge_lines(alloc, engine, report, typed, text)
 }

@@ -4,7 +4,8 @@ mod limits;
 mod rows;
 mod traps;
 
-use crate::{Answer, Command, judge};
+use crate::{Answer, judge};
+use command_words::Command;
 use rows::{FINE, Part, ROWS};
 use std::alloc::Global;
 use std::process::Abort;

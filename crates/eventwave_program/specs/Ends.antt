@@ -1,5 +1,5 @@
 -- How a call ends: statuses, notes, and what was read and written.
-use Rattle.std.specs.Prelude.{◌≡◌, ℕ, ◌⊎◌, ◌==◌, ◌||◌, Bool, not, if◌then◌else◌, Option, Some, None, List, [], ◌∷◌, ◌++◌, codes, length, ◌<◌}
+use Rattle.std.specs.Prelude.{◌≡◌, ℕ, ◌⊎◌, ◌==◌, ◌||◌, Bool, true, false, not, if◌then◌else◌, Option, Some, None, List, [], ◌∷◌, ◌++◌, codes, length, ◌<◌}
 use Rattle.std.specs.Io.KnownBytes.{Appends, Keeps, IsAtEnd}
 use Rattle.wave_base.specs.declared.limits.TheConstants.{INPUT_BYTES}
 use Rattle.wave_io.specs.Causes.{Rose}
@@ -7,8 +7,9 @@ use Rattle.wave_io.specs.Streams.{AppendsFront}
 use Rattle.due_answer.specs.declared.answer.Answer.{Answer}
 use Rattle.eventwave_program.specs.declared.ending.Ending.{Ending}
 use Rattle.eventwave_program.specs.declared.ending.Ending.TheVariants.{WordsRefused, ReadFault, WriteFault, NoMemory, Answered}
-use Rattle.due_answer.specs.declared.command.Command.{Command}
-use Rattle.due_answer.specs.Commands.{command_of}
+use Rattle.command_words.specs.declared.command.Command.{Command}
+use Rattle.command_words.specs.Inputs.{reads_input}
+use Rattle.command_words.specs.Reading.{command_of}
 use Rattle.due_answer.specs.Due.{IsOnlyDue}
 
 -- wrong words, a read fault, a write fault, want of memory
@@ -22,24 +23,48 @@ abbrev pub is_given : ℕ → Bool
 is_given n = not (n == 2 || n == 5 || n == 6 || n == 7)
 
 -- the bytes are what the source has, where it tells them
-abbrev pub IsInput : Option (List ℕ) → List ℕ → Type 0
-IsInput None bytes = Unit {0}
-IsInput (Some xs) bytes = xs ≡ bytes
+abbrev pub IsLeft : Option (List ℕ) → List ℕ → Type 0
+IsLeft None bytes = Unit {0}
+IsLeft (Some xs) bytes = xs ≡ bytes
 
--- the words are a command, and there are bytes of the input for which this answer alone is due; P holds of it
+-- the bytes of a command's input, which is empty where it reads none
+abbrev pub IsInputWhere : Bool → Option (List ℕ) → List ℕ → Type 0
+IsInputWhere true left bytes = IsLeft left bytes
+IsInputWhere false left bytes = bytes ≡ []
+
+abbrev pub IsInput : Command → Option (List ℕ) → List ℕ → Type 0
+IsInput c left bytes = IsInputWhere (reads_input c) left bytes
+
+-- the same, where the source tells what it has if it is read
+abbrev pub IsToldWhere : Bool → Option (List ℕ) → List ℕ → Type 0
+IsToldWhere true left bytes = left ≡ Some bytes
+IsToldWhere false left bytes = bytes ≡ []
+
+abbrev pub IsTold : Command → Option (List ℕ) → List ℕ → Type 0
+IsTold c left bytes = IsToldWhere (reads_input c) left bytes
+
+-- the words are a command that reads the input
+abbrev pub reads_where : Option Command → Bool
+reads_where None = false
+reads_where (Some c) = reads_input c
+
+abbrev pub read_by : List (List ℕ) → Bool
+read_by words = reads_where (command_of words)
+
+-- the words are a command, and there are bytes of its input for which this answer alone is due; P holds of it
 pub record SomeDue (words : List (List ℕ)) (left : Option (List ℕ)) (P : Answer → Type 0) : Type 0 where
   pub command : Command
   pub accepted : command_of words ≡ Some command
   pub bytes : List ℕ
-  pub input : IsInput left bytes
+  pub input : IsInput command left bytes
   pub due : Answer
   pub only : IsOnlyDue command bytes due
   pub holds : P due
 
--- there are bytes of the input for which this answer alone is due
+-- there are bytes of a command's input for which this answer alone is due
 pub record SomeInputDue (c : Command) (left : Option (List ℕ)) (due : Answer) : Type 0 where
   pub bytes : List ℕ
-  pub input : IsInput left bytes
+  pub input : IsInput c left bytes
   pub only : IsOnlyDue c bytes due
 
 -- a note is a line, and no note is none
@@ -54,11 +79,16 @@ Told before now old new note = Rose before now ⊎ Appends old new (note_line no
 -- more than is allowed stands in the input, or it was read to its end
 pub record IsLong (left : Option (List ℕ)) : Type 0 where
   pub bytes : List ℕ
-  pub input : IsInput left bytes
+  pub input : IsLeft left bytes
   pub long : INPUT_BYTES < length bytes
 
 abbrev pub ReadsAll : Option (List ℕ) → Option (List ℕ) → Type 0
 ReadsAll old new = IsLong old ⊎ IsAtEnd new
+
+-- nothing was taken from the source
+pub record Unread (before now : ℕ) (old new : Option (List ℕ)) : Type 0 where
+  pub kept : Keeps old new
+  pub faults : now ≡ before
 
 -- nothing was written, or a front of what is due
 abbrev pub WritesFront : List (List ℕ) → Option (List ℕ) → Option (List ℕ) → Option (List ℕ) → Type 0
@@ -92,12 +122,16 @@ Gave due old new NoMemory = ⊥
 abbrev pub Ended : List (List ℕ) → Option (List ℕ) → Option (List ℕ) → Option (List ℕ) → Ending → Type 0
 Ended words left old new WordsRefused = (command_of words ≡ None) × Keeps old new
 Ended words left old new ReadFault = ((c : Command) × (command_of words ≡ Some c)) × Keeps old new
-Ended words left old new NoMemory = ((c : Command) × (command_of words ≡ Some c)) × Keeps old new
+Ended words left old new NoMemory = Keeps old new
 Ended words left old new WriteFault = SomeDue words left (λ due. Gave due old new WriteFault)
 Ended words left old new (Answered status note) = SomeDue words left (λ due. Gave due old new (Answered status note))
 
--- an answer that is given has read the input, and wrong words leave it
-abbrev pub ReadsDue : Option (List ℕ) → Option (List ℕ) → Ending → Type 0
-ReadsDue old new WordsRefused = Keeps old new
-ReadsDue old new (Answered status note) = ReadsAll old new
-ReadsDue old new ending = Unit {0}
+-- an answer that is given has read the input, where it is read
+abbrev pub ReadsDue : Bool → Option (List ℕ) → Option (List ℕ) → Ending → Type 0
+ReadsDue true old new (Answered status note) = ReadsAll old new
+ReadsDue _ old new ending = Unit {0}
+
+-- a command that reads no input never ends so
+abbrev pub is_read_fault : Ending → Bool
+is_read_fault ReadFault = true
+is_read_fault _ = false

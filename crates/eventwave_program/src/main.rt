@@ -9,12 +9,9 @@ mod top;
 use std::env;
 use std::io::ErrorKind;
 use std::process::ExitCode;
-use top::eventwave;
+use top::start;
 use wave_base::{OutOfMemory, Words};
 use wave_io::{OpenGate, StdSink, StdSource};
-
-/// The status of want of memory.
-const NO_MEMORY: u8 = 7;
 
 /// The words after the program's name. Where they can't be had, or one is no text, there are none, which is no command.
 fn words_given(rt: &HostRuntime) -> Result<Words, OutOfMemory> {
@@ -32,16 +29,14 @@ fn words_given(rt: &HostRuntime) -> Result<Words, OutOfMemory> {
 }
 
 fn main(rt: HostRuntime) -> ExitCode {
-    let Ok(words) = words_given(&rt) else {
-        return ExitCode::from(NO_MEMORY);
-    };
+    let words = words_given(&rt);
     let mut input = StdSource::new(rt.stdin());
     let mut out = StdSink::new(rt.stdout());
     let mut notes = StdSink::new(rt.stderr());
-    let status = eventwave(
+    let status = start(
         &rt,
         rt.alloc(),
-        &words,
+        words,
         &mut input,
         &mut out,
         &mut notes,

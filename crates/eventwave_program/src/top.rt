@@ -1,14 +1,16 @@
-ghost use Rattle.std.specs.Prelude.{◌≡◌, ◌⊎◌, ◌↔◌, List, ℕ, true, Some, None, IsSome, IfSome, IfOk, IsErrOf};
+ghost use Rattle.std.specs.Prelude.{◌≡◌, ◌⊎◌, List, ℕ, Option, true, false, Some, None, IsSome, IfSome, IfOk, IfErr, IsErrOf};
 ghost use Rattle.std.specs.Io.KnownBytes.{Appends, Keeps};
 ghost use Rattle.wave_io.specs.Causes.{Rose};
 ghost use Rattle.due_answer.specs.declared.answer.Answer.{Answer};
-ghost use Rattle.due_answer.specs.declared.command.Command.{Command};
-ghost use Rattle.due_answer.specs.Commands.{command_of};
-ghost use Rattle.due_answer.specs.Due.{IsDue, IsOnlyDue};
-ghost use Rattle.eventwave_program.specs.Ends.{note_for, is_given, SomeInputDue, SomeDue, Told, ReadsAll, WritesFront, status_of, note_of, Gave, Ended, ReadsDue};
+ghost use Rattle.command_words.specs.declared.command.Command.{Command};
+ghost use Rattle.command_words.specs.Inputs.{reads_input};
+ghost use Rattle.command_words.specs.Reading.{command_of};
+ghost use Rattle.due_answer.specs.Due.{IsDue};
+ghost use Rattle.eventwave_program.specs.Ends.{note_for, is_given, read_by, IsTold, SomeInputDue, SomeDue, Told, ReadsAll, Unread, WritesFront, status_of, note_of, Gave, Ended, ReadsDue, is_read_fault};
 
 use crate::ending::Ending;
-use due_answer::{Answer, Command, command_of, judge, refused};
+use command_words::{Command, command_of};
+use due_answer::{Answer, judge, refused};
 use std::alloc::Global;
 use std::sync::Wait;
 use std::thread::Threads;
@@ -25,12 +27,25 @@ enum InputError {
     OutOfMemory,
 }
 
+/// Finds what is due for a command that reads no input.
+fn judge_alone(alloc: Global, command: Command) -> Result<Answer, InputError>
+    requires { reads_input command ≡ false }
+    ensures found { (left : Option (List ℕ)) → IfOk result (SomeInputDue command left) }
+    ensures sure { ¬ (IsErrOf result InputError.ReadFault) }
+{
+    match judge(alloc, command, b"") {
+        Ok(answer) => Ok(answer),
+        Err(OutOfMemory) => Err(InputError::OutOfMemory),
+    }
+}
+
 /// Reads the input, and finds what is due for it.
 fn judge_input<S: Source>(
     alloc: Global,
     command: Command,
     input: &mut S,
 ) -> Result<Answer, InputError>
+    requires { reads_input command ≡ true }
     ensures found { IfOk result (SomeInputDue command (S.left input.old)) }
     ensures end { IfOk result (λ _. ReadsAll (S.left input.old) (S.left input.new)) }
     ensures fault { IsErrOf result InputError.ReadFault → Rose (S.faults input.old) (S.faults input.new) }
@@ -61,20 +76,55 @@ fn give<K: Sink>(out: &mut K, answer: Answer) -> Ending
     }
 }
 
-/// Reads, judges and writes.
-fn respond<S: Source, K: Sink>(alloc: Global, words: &Words, input: &mut S, out: &mut K) -> Ending
-    ensures ended { Ended words.now (S.left input.old) (K.written out.old) (K.written out.new) result }
-    ensures read { ReadsDue (S.left input.old) (S.left input.new) result }
+/// Finds what is due for a command.
+fn find_due<S: Source>(alloc: Global, command: Command, input: &mut S) -> Result<Answer, InputError>
+    ensures found { IfOk result (SomeInputDue command (S.left input.old)) }
+    ensures end { reads_input command ≡ true → IfOk result (λ _. ReadsAll (S.left input.old) (S.left input.new)) }
+    ensures fault { IsErrOf result InputError.ReadFault → Rose (S.faults input.old) (S.faults input.new) }
+    ensures unread { reads_input command ≡ false → Unread (S.faults input.old) (S.faults input.new) (S.left input.old) (S.left input.new) }
+    ensures sure { reads_input command ≡ false → ¬ (IsErrOf result InputError.ReadFault) }
+{
+    if command.reads_input() {
+        judge_input(alloc, command, input)
+    } else {
+        judge_alone(alloc, command)
+    }
+}
+
+/// Does what a command asks for.
+fn perform<S: Source, K: Sink>(
+    alloc: Global,
+    command: Command,
+    input: &mut S,
+    out: &mut K,
+) -> Ending
+    ensures ended { (words : List (List ℕ)) → command_of words ≡ Some command → Ended words (S.left input.old) (K.written out.old) (K.written out.new) result }
+    ensures read { ReadsDue (reads_input command) (S.left input.old) (S.left input.new) result }
     ensures read_fault { result ≡ Ending.ReadFault → Rose (S.faults input.old) (S.faults input.new) }
     ensures write_fault { result ≡ Ending.WriteFault → Rose (K.faults out.old) (K.faults out.new) }
+    ensures unread { reads_input command ≡ false → Unread (S.faults input.old) (S.faults input.new) (S.left input.old) (S.left input.new) }
+    ensures sure { reads_input command ≡ false → is_read_fault result ≡ false }
 {
-    let Some(command) = command_of(words) else {
-        return Ending::WordsRefused;
-    };
-    match judge_input(alloc, command, input) {
+    match find_due(alloc, command, input) {
         Ok(answer) => give(out, answer),
         Err(InputError::ReadFault) => Ending::ReadFault,
         Err(InputError::OutOfMemory) => Ending::NoMemory,
+    }
+}
+
+/// Reads the words, and does what they ask for.
+fn respond<S: Source, K: Sink>(alloc: Global, words: &Words, input: &mut S, out: &mut K) -> Ending
+    ensures ended { Ended words.now (S.left input.old) (K.written out.old) (K.written out.new) result }
+    ensures read { ReadsDue (read_by words.now) (S.left input.old) (S.left input.new) result }
+    ensures read_fault { result ≡ Ending.ReadFault → Rose (S.faults input.old) (S.faults input.new) }
+    ensures write_fault { result ≡ Ending.WriteFault → Rose (K.faults out.old) (K.faults out.new) }
+    ensures unread { read_by words.now ≡ false → Unread (S.faults input.old) (S.faults input.new) (S.left input.old) (S.left input.new) }
+    ensures sure { read_by words.now ≡ false → is_read_fault result ≡ false }
+{
+    match command_of(alloc, words) {
+        Ok(Some(command)) => perform(alloc, command, input, out),
+        Ok(None) => Ending::WordsRefused,
+        Err(OutOfMemory) => Ending::NoMemory,
     }
 }
 
@@ -126,9 +176,13 @@ pub fn eventwave_alone<S: Source, K: Sink, N: Sink>(
 ) -> Option<u8>
     ensures always { IsSome result }
 
-    // Wrong words, and then nothing is read or written; a fault of the source or of `out`.
-    ensures words { (result ≡ Some 2) ↔ (command_of words.now ≡ None) }
-    ensures unread { result ≡ Some 2 → Keeps (S.left input.old) (S.left input.new) }
+    // Wrong words, and no others; where these or the command read nothing, nothing is taken from the source.
+    ensures words { result ≡ Some 2 → command_of words.now ≡ None }
+    ensures wrong { command_of words.now ≡ None → (result ≡ Some 2) ⊎ (result ≡ Some 7) }
+    ensures unread { read_by words.now ≡ false → Unread (S.faults input.old) (S.faults input.new) (S.left input.old) (S.left input.new) }
+    ensures sure { read_by words.now ≡ false → ¬ (result ≡ Some 5) }
+
+    // A fault of the source or of `out`.
     ensures read_fault { result ≡ Some 5 → Rose (S.faults input.old) (S.faults input.new) }
     ensures write_fault { result ≡ Some 6 → Rose (K.faults out.old) (K.faults out.new) }
 
@@ -136,7 +190,7 @@ pub fn eventwave_alone<S: Source, K: Sink, N: Sink>(
     ensures given { IfSome result (λ n. is_given n ≡ true → SomeDue words.now (S.left input.old) (λ due. (n ≡ due.status)
         × Appends (K.written out.old) (K.written out.new) due.text
         × Told (N.faults notes.old) (N.faults notes.new) (N.written notes.old) (N.written notes.new) due.note)) }
-    ensures end { IfSome result (λ n. is_given n ≡ true → ReadsAll (S.left input.old) (S.left input.new)) }
+    ensures end { IfSome result (λ n. is_given n ≡ true → read_by words.now ≡ true → ReadsAll (S.left input.old) (S.left input.new)) }
 
     // What is written where no answer was given.
     ensures nothing { (result ≡ Some 2) ⊎ (result ≡ Some 5) → Keeps (K.written out.old) (K.written out.new) }
@@ -144,8 +198,8 @@ pub fn eventwave_alone<S: Source, K: Sink, N: Sink>(
     ensures noted { IfSome result (λ n. IfSome (note_for n) (Told (N.faults notes.old) (N.faults notes.new) (N.written notes.old) (N.written notes.new))) }
 
     // What is due is given, unless memory, the source or `out` fails.
-    ensures complete { (c : Command) (bytes : List ℕ) (due : Answer) → command_of words.now ≡ Some c → S.left input.old ≡ Some bytes
-        → IsDue c bytes due → ¬ (Rose (S.faults input.old) (S.faults input.new)) → ¬ (Rose (K.faults out.old) (K.faults out.new))
+    ensures complete { (c : Command) (bytes : List ℕ) (due : Answer) → command_of words.now ≡ Some c → IsTold c (S.left input.old) bytes
+        → IsDue c bytes due → (reads_input c ≡ true → ¬ (Rose (S.faults input.old) (S.faults input.new))) → ¬ (Rose (K.faults out.old) (K.faults out.new))
         → (result ≡ Some 7) ⊎ ((result ≡ Some due.status) × Appends (K.written out.old) (K.written out.new) due.text) }
 {
     let ending = respond(alloc, words, input, out);
@@ -165,9 +219,13 @@ pub fn eventwave<R: Threads + Wait + Sync, S: Source, K: Sink, N: Sink, G: Gate 
     notes: &mut N,
     _gate: &G,
 ) -> u8
-    // Wrong words, and then nothing is read or written; a fault of the source or of `out`.
-    ensures words { (result ≡ 2) ↔ (command_of words.now ≡ None) }
-    ensures unread { result ≡ 2 → Keeps (S.left input.old) (S.left input.new) }
+    // Wrong words, and no others; where these or the command read nothing, nothing is taken from the source.
+    ensures words { result ≡ 2 → command_of words.now ≡ None }
+    ensures wrong { command_of words.now ≡ None → (result ≡ 2) ⊎ (result ≡ 7) }
+    ensures unread { read_by words.now ≡ false → Unread (S.faults input.old) (S.faults input.new) (S.left input.old) (S.left input.new) }
+    ensures sure { read_by words.now ≡ false → ¬ (result ≡ 5) }
+
+    // A fault of the source or of `out`.
     ensures read_fault { result ≡ 5 → Rose (S.faults input.old) (S.faults input.new) }
     ensures write_fault { result ≡ 6 → Rose (K.faults out.old) (K.faults out.new) }
 
@@ -175,7 +233,7 @@ pub fn eventwave<R: Threads + Wait + Sync, S: Source, K: Sink, N: Sink, G: Gate 
     ensures given { is_given result ≡ true → SomeDue words.now (S.left input.old) (λ due. (result ≡ due.status)
         × Appends (K.written out.old) (K.written out.new) due.text
         × Told (N.faults notes.old) (N.faults notes.new) (N.written notes.old) (N.written notes.new) due.note) }
-    ensures end { is_given result ≡ true → ReadsAll (S.left input.old) (S.left input.new) }
+    ensures end { is_given result ≡ true → read_by words.now ≡ true → ReadsAll (S.left input.old) (S.left input.new) }
 
     // What is written where no answer was given.
     ensures nothing { (result ≡ 2) ⊎ (result ≡ 5) → Keeps (K.written out.old) (K.written out.new) }
@@ -183,12 +241,34 @@ pub fn eventwave<R: Threads + Wait + Sync, S: Source, K: Sink, N: Sink, G: Gate 
     ensures noted { IfSome (note_for result) (Told (N.faults notes.old) (N.faults notes.new) (N.written notes.old) (N.written notes.new)) }
 
     // What is due is given, unless memory, the source or `out` fails.
-    ensures complete { (c : Command) (bytes : List ℕ) (due : Answer) → command_of words.now ≡ Some c → S.left input.old ≡ Some bytes
-        → IsDue c bytes due → ¬ (Rose (S.faults input.old) (S.faults input.new)) → ¬ (Rose (K.faults out.old) (K.faults out.new))
+    ensures complete { (c : Command) (bytes : List ℕ) (due : Answer) → command_of words.now ≡ Some c → IsTold c (S.left input.old) bytes
+        → IsDue c bytes due → (reads_input c ≡ true → ¬ (Rose (S.faults input.old) (S.faults input.new))) → ¬ (Rose (K.faults out.old) (K.faults out.new))
         → (result ≡ 7) ⊎ ((result ≡ due.status) × Appends (K.written out.old) (K.written out.new) due.text) }
 {
     match eventwave_alone(alloc, words, input, out, notes) {
         Some(status) => status,
         None => unreachable!(),
+    }
+}
+
+/// The same for words that may have found no memory, and then that is the status.
+pub fn start<R: Threads + Wait + Sync, S: Source, K: Sink, N: Sink, G: Gate + Sync>(
+    rt: &R,
+    alloc: Global,
+    words: Result<Words, OutOfMemory>,
+    input: &mut S,
+    out: &mut K,
+    notes: &mut N,
+    gate: &G,
+) -> u8
+    ensures no_memory { IfErr words (λ _. (result ≡ 7) × Keeps (S.left input.old) (S.left input.new) × Keeps (K.written out.old) (K.written out.new)) }
+    ensures words { IfOk words (λ w. result ≡ 2 → command_of w ≡ None) }
+    ensures given { IfOk words (λ w. is_given result ≡ true → SomeDue w (S.left input.old) (λ due. (result ≡ due.status)
+        × Appends (K.written out.old) (K.written out.new) due.text
+        × Told (N.faults notes.old) (N.faults notes.new) (N.written notes.old) (N.written notes.new) due.note)) }
+{
+    match words {
+        Ok(words) => eventwave(rt, alloc, &words, input, out, notes, gate),
+        Err(OutOfMemory) => status_of(&Ending::NoMemory),
     }
 }

@@ -7,7 +7,7 @@ use Rattle.std.proofs.lemmas.List.{take-append-drop, take_at}
 use Rattle.std.proofs.lemmas.List.Sums.{prefix_len_stops}
 use Rattle.wave_text.specs.Lines.{is_inside, onto_first, cut_lines}
 use Rattle.wave_text.proofs.LineLemmas.{cut_first, cut_last}
-use Rattle.input_parts.specs.Firsts.{IsFirst}
+use Rattle.input_parts.specs.inner.Firsts.{IsFirst}
 use Rattle.input_parts.specs.Parts.{is_dashes, with_first, parted, ended, service_of, script_of}
 
 is_ten : (b : ℕ) → not (b == 10) ≡ false → b ≡ 10

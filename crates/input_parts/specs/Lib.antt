@@ -1,2 +1,2 @@
 pub mod Parts
-pub mod Firsts
+pub mod inner

@@ -1,7 +1,7 @@
 ghost use Rattle.std.specs.Prelude.{◌≡◌, ◌<◌, ◌≤◌, [], ◌∷◌, ◌++◌, length};
 ghost use Rattle.std.specs.List.{prefix_len};
 ghost use Rattle.wave_text.specs.Lines.{is_inside};
-ghost use Rattle.input_parts.specs.Firsts.{IsFirst};
+ghost use Rattle.input_parts.specs.inner.Firsts.{IsFirst};
 ghost use Rattle.input_parts.specs.Parts.{is_dashes};
 
 // The number of bytes before the first line feed.

@@ -1,5 +1,6 @@
 -- The nest: how many brackets are open, and how many operators stand in the pieces on the stack.
 use Rattle.std.specs.Prelude.{ℕ, ◌+◌, ◌<◌, ◌≤◌, List, [], ◌∷◌, length, take, fold, sum, Option, Some, None}
+use Rattle.wave_base.specs.declared.limits.TheConstants.{NEST}
 use Rattle.mace_lexer.specs.declared.token.Word.{Word}
 use Rattle.mace_lexer.specs.declared.token.Word.TheVariants as word
 use Rattle.mace_lexer.specs.declared.sign.Sign.{Sign}
@@ -69,11 +70,11 @@ nest p = length p.under + (p.current + sum p.under)
 abbrev pub nest_after : List Word → ℕ
 nest_after ws = nest (fold past_word no_pieces ws)
 
--- the nest passes 64 behind no front of the words
+-- the nest passes the limit behind no front of the words
 abbrev pub IsShallow : List Word → Type 0
-IsShallow ws = (k : ℕ) → k ≤ length ws → nest_after (take k ws) ≤ 64
+IsShallow ws = (k : ℕ) → k ≤ length ws → nest_after (take k ws) ≤ NEST
 
--- the first word behind which the nest passes 64
+-- the first word behind which the nest passes the limit
 abbrev pub IsFirstDeep : List Word → Option ℕ → Type 0
 IsFirstDeep ws None = IsShallow ws
-IsFirstDeep ws (Some j) = (j < length ws) × (64 < nest_after (take (j + 1) ws)) × IsShallow (take j ws)
+IsFirstDeep ws (Some j) = (j < length ws) × (NEST < nest_after (take (j + 1) ws)) × IsShallow (take j ws)

@@ -1,5 +1,6 @@
 -- Which words spell a service, and where words stop to be those of one.
 use Rattle.std.specs.Prelude.{◌≡◌, ℕ, zero, suc, ◌+◌, ◌<◌, ◌≤◌, List, [], ◌∷◌, length, take, map}
+use Rattle.wave_base.specs.declared.limits.TheConstants.{NEST}
 use Rattle.wave_base.specs.declared.span.Span.{Span}
 use Rattle.mace_lexer.specs.declared.token.Word.{Word}
 use Rattle.mace_lexer.specs.declared.token.Token.{Token}
@@ -38,7 +39,7 @@ pub record IsExpected (ws : List Word) (k : ℕ) : Type 0 where
 pub record IsTooDeep (ws : List Word) (k : ℕ) : Type 0 where
   pub within : k < length ws
   pub begun : Begun (take (k + 1) ws)
-  pub deep : 64 < nest_after (take (k + 1) ws)
+  pub deep : NEST < nest_after (take (k + 1) ws)
   pub shallow : IsShallow (take k ws)
 
 -- where the token behind the first k stands; the end of the text stands behind its last byte

@@ -1,5 +1,5 @@
 -- What the first two bytes tell of a piece.
-use Rattle.std.proofs.Common.{◌≡◌, ℕ, ◌⊎◌, inl, inr, Bool, true, false, ◌&&◌, ◌||◌, List, [], ◌∷◌, length, get_or, map, Option, Some, All, refl, sym, ◌∙◌, ap, subst, arith, ⊎_elim, eqb-true}
+use Rattle.std.proofs.Common.{◌≡◌, ℕ, ◌⊎◌, inl, inr, Bool, true, false, ◌&&◌, ◌||◌, List, [], ◌∷◌, length, get_or, Option, Some, All, refl, sym, ◌∙◌, ap, subst, arith, ⊎_elim, eqb-true}
 use Rattle.std.specs.Prelude.{◌==◌, if◌then◌else◌}
 use Rattle.std.specs.Char.{is_ascii_digit}
 use Rattle.std.specs.List.{list_all}
@@ -10,11 +10,10 @@ use Rattle.wave_base.specs.Text.{IsPrintable}
 use Rattle.mace_lexer.specs.declared.cut.Form.{Form}
 use Rattle.mace_lexer.specs.declared.cut.Form.TheVariants as form
 use Rattle.mace_lexer.specs.declared.keyword.Keyword.{Keyword}
-use Rattle.mace_lexer.specs.declared.keyword.TheConstants.{KEYWORDS}
 use Rattle.mace_lexer.specs.declared.sign.Sign.{Sign}
-use Rattle.mace_lexer.specs.declared.sign.TheConstants.{SIGNS}
 use Rattle.mace_lexer.specs.declared.token.Word.TheVariants as word
 use Rattle.mace_lexer.specs.declared.fault.LexFault.TheVariants.{BadByte, NumberRange, OpenText, NameLong, TextLong}
+use Rattle.mace_lexer.specs.Spellings.{keywords, signs}
 use Rattle.mace_lexer.specs.Words.{is_blank, is_inside_line, is_comment, is_letter, is_name_byte, is_name, is_number, entry_of, keyword, sign, form_by, form_of}
 use Rattle.mace_lexer.specs.Texts.{quoted}
 use Rattle.mace_lexer.specs.Pieces.{Piece, Gap, Spell, Wrong, IsPiece}
@@ -53,13 +52,13 @@ entry_passes p (t ∷ table) bs x h e =
     let both = and_cases (p t.0) (list_all (λ f. p f.0) table) h in
     found p t.0 t.1 bs x (entry_of table bs) both.0 (entry_passes p table bs x both.1) e
 
-pub keyword_passes : (p : List ℕ → Bool) (bs : List ℕ) (k : Keyword) → list_all (λ (e : List ℕ × Keyword). p e.0) (map (λ e. (e.0.now, e.1)) KEYWORDS) ≡ true → keyword bs ≡ Some k → p bs ≡ true
+pub keyword_passes : (p : List ℕ → Bool) (bs : List ℕ) (k : Keyword) → list_all (λ (e : List ℕ × Keyword). p e.0) keywords ≡ true → keyword bs ≡ Some k → p bs ≡ true
 unfolding keyword
-keyword_passes p bs k h e = entry_passes p (map (λ e. (e.0.now, e.1)) KEYWORDS) bs k h e
+keyword_passes p bs k h e = entry_passes p keywords bs k h e
 
-pub sign_passes : (p : List ℕ → Bool) (bs : List ℕ) (s : Sign) → list_all (λ (e : List ℕ × Sign). p e.0) (map (λ e. (e.0.now, e.1)) SIGNS) ≡ true → sign bs ≡ Some s → p bs ≡ true
+pub sign_passes : (p : List ℕ → Bool) (bs : List ℕ) (s : Sign) → list_all (λ (e : List ℕ × Sign). p e.0) signs ≡ true → sign bs ≡ Some s → p bs ≡ true
 unfolding sign
-sign_passes p bs s h e = entry_passes p (map (λ e. (e.0.now, e.1)) SIGNS) bs s h e
+sign_passes p bs s h e = entry_passes p signs bs s h e
 
 -- ---- the forms
 

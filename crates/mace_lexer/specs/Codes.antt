@@ -1,4 +1,4 @@
--- The place of each keyword and each sign in its table.
+-- The place of each keyword and each sign in its list.
 use Rattle.std.specs.Prelude.{ℕ}
 use Rattle.mace_lexer.specs.declared.keyword.Keyword.{Keyword}
 use Rattle.mace_lexer.specs.declared.keyword.Keyword.TheVariants as k

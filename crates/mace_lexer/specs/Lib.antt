@@ -1,4 +1,5 @@
 pub mod Codes
+pub mod Spellings
 pub mod Words
 pub mod Texts
 pub mod Pieces

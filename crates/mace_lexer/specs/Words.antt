@@ -1,5 +1,5 @@
 -- Which bytes make a name, a keyword, a number and a sign.
-use Rattle.std.specs.Prelude.{ℕ, ◌+◌, ◌-◌, ◌*◌, Bool, false, not, ◌&&◌, ◌||◌, ◌==◌, if◌then◌else◌, List, [], ◌∷◌, map, fold, slice_index, slice_index_or, Option, Some, None}
+use Rattle.std.specs.Prelude.{ℕ, ◌+◌, ◌-◌, ◌*◌, Bool, false, not, ◌&&◌, ◌||◌, ◌==◌, if◌then◌else◌, List, [], ◌∷◌, map, fold, slice_index, get_or, Option, Some, None}
 use Rattle.std.specs.Char.{is_ascii_digit, is_ascii_alphabetic, is_ascii_alphanumeric}
 use Rattle.std.specs.List.{list_all}
 use Rattle.std.specs.Str.{bytes_eq}
@@ -9,9 +9,8 @@ use Rattle.mace_lexer.specs.declared.cut.Class.TheVariants as class
 use Rattle.mace_lexer.specs.declared.cut.Form.{Form}
 use Rattle.mace_lexer.specs.declared.cut.Form.TheVariants as form
 use Rattle.mace_lexer.specs.declared.keyword.Keyword.{Keyword}
-use Rattle.mace_lexer.specs.declared.keyword.TheConstants.{KEYWORDS}
 use Rattle.mace_lexer.specs.declared.sign.Sign.{Sign}
-use Rattle.mace_lexer.specs.declared.sign.TheConstants.{SIGNS}
+use Rattle.mace_lexer.specs.Spellings.{keywords, signs}
 
 -- ---- blanks and comments
 
@@ -61,25 +60,30 @@ value_of digits = fold with_digit 0 digits
 abbrev pub greatest : ℕ
 greatest = 9223372036854775807
 
--- ---- keywords and signs, by their tables
+-- ---- keywords and signs, by their spellings
 
 abbrev pub entry_of : {A : Type 0} → List (List ℕ × A) → List ℕ → Option A
 entry_of [] bs = None
 entry_of (e ∷ es) bs = if bytes_eq e.0 bs then Some e.1 else entry_of es bs
 
+abbrev pub spelling_at : {A : Type 0} → List (List ℕ × A) → ℕ → List ℕ
+spelling_at entries place = get_or (map (λ e. e.0) entries) place []
+
+-- the keyword that these bytes spell
 unfoldable pub keyword : List ℕ → Option Keyword
-keyword = entry_of (map (λ e. (e.0.now, e.1)) KEYWORDS)
+keyword = entry_of keywords
 
 -- how a keyword is written
 unfoldable pub keyword_bytes : Keyword → List ℕ
-keyword_bytes k = slice_index_or (map (λ e. e.0.now) KEYWORDS) (key_code k) []
+keyword_bytes k = spelling_at keywords (key_code k)
 
+-- the sign that these bytes spell
 unfoldable pub sign : List ℕ → Option Sign
-sign = entry_of (map (λ e. (e.0.now, e.1)) SIGNS)
+sign = entry_of signs
 
 -- how a sign is written
 unfoldable pub sign_bytes : Sign → List ℕ
-sign_bytes s = slice_index_or (map (λ e. e.0.now) SIGNS) (sign_code s) []
+sign_bytes s = spelling_at signs (sign_code s)
 
 -- ---- which bytes go on with a comment, a name and a number
 

@@ -9,7 +9,7 @@ use crate::quoted::quoted;
 use crate::sign::{SIGNS, Sign};
 use crate::token::Word;
 use std::alloc::Global;
-use wave_base::{OutOfMemory, Txt};
+use wave_base::{NAME_BYTES, OutOfMemory, Txt};
 
 /// The piece at the front of a text: blanks or a comment, or a word, each of so many bytes; or the fault that is found so far behind the front.
 #[derive(Drop)]
@@ -105,7 +105,7 @@ fn name(alloc: Global, text: &[u8]) -> Result<Cut, OutOfMemory>
     ensures { IfOk result (IsCut text.now) }
 {
     let n = run(Class::Name, text);
-    if 64 < n {
+    if NAME_BYTES < n {
         return Ok(Cut::Fault(LexFault::NameLong, 0));
     }
     let bytes = &text[..n];

@@ -1,4 +1,5 @@
 ghost use Rattle.std.specs.Prelude.{◌≡◌, ◌+◌, ◌<◌, ◌≤◌, ◌^◌, length};
+ghost use Rattle.wave_base.specs.declared.limits.TheConstants.{PLACED_BYTES};
 ghost use Rattle.mace_lexer.specs.Cuts.{past};
 ghost use Rattle.mace_lexer.specs.Lexed.{start};
 
@@ -28,7 +29,7 @@ pub fn past(at: Span, bytes: &[u8]) -> Span
 
 /// The place behind the text's last byte.
 pub fn text_end(text: &[u8]) -> Span
-    requires { length text.now ≤ 67108864 }
+    requires { length text.now ≤ PLACED_BYTES }
     ensures { result ≡ past start text.now }
 {
     past(Span { line: 1, col: 1 }, text)

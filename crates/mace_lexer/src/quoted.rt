@@ -7,7 +7,7 @@ use crate::cut::{Cut, Form};
 use crate::fault::LexFault;
 use crate::token::Word;
 use std::alloc::Global;
-use wave_base::{OutOfMemory, Txt};
+use wave_base::{LITERAL_BYTES, OutOfMemory, Txt};
 
 /// What stands next inside a text.
 #[derive(Clone, Copy, Debug, PartialEq, Eq)]
@@ -75,7 +75,7 @@ pub fn quoted(alloc: Global, text: &[u8]) -> Result<Cut, OutOfMemory>
 {
     let (bytes, n) = body(alloc, text)?;
     match next_inside(&text[n..]) {
-        Inside::Close if bytes.len() <= 200 => {
+        Inside::Close if bytes.len() <= LITERAL_BYTES => {
             let text = Txt::from_bytes(alloc, bytes.as_slice())?;
             Ok(Cut::Spell(n + 1, Word::Text(text)))
         }

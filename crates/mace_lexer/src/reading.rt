@@ -1,5 +1,6 @@
 ghost use Rattle.std.specs.Prelude.{◌≡◌, ◌≤◌, List, length, All, IfOk, IfErr, Ok, Err};
 ghost use Rattle.wave_base.specs.declared.span.Span.{Span};
+ghost use Rattle.wave_base.specs.declared.limits.TheConstants.{PLACED_BYTES};
 ghost use Rattle.mace_lexer.specs.declared.token.Token.{Token};
 ghost use Rattle.mace_lexer.specs.declared.fault.LexFault.{LexFault};
 ghost use Rattle.mace_lexer.specs.Lexed.{AreTokens, LiesIn, AreInOrder, IsFirstFault, TellsFault, Answers, error_of};
@@ -25,7 +26,7 @@ fn error(fault: LexFault, at: Span) -> LexError
 
 // The tokens of a text, or its first fault.
 fn read(alloc: Global, text: &[u8]) -> Result<Seq<Token>, LexError>
-    requires { length text.now ≤ 67108864 }
+    requires { length text.now ≤ PLACED_BYTES }
     ensures found { IfOk result (AreTokens text.now) }
     ensures fault { IfErr result (TellsFault text.now) }
 {
@@ -64,7 +65,7 @@ fn read(alloc: Global, text: &[u8]) -> Result<Seq<Token>, LexError>
 
 /// The tokens of a text. An error tells the first fault, from the left.
 pub fn lex(alloc: Global, text: &[u8]) -> Result<Seq<Token>, LexError>
-    requires { length text.now ≤ 67108864 }
+    requires { length text.now ≤ PLACED_BYTES }
     ensures found { IfOk result (AreTokens text.now) }
     ensures fault { IfErr result (TellsFault text.now) }
 
@@ -91,7 +92,7 @@ mod tests {
     use wave_base::Txt;
 
     fn refuses(rt: &impl Abort, alloc: Global, text: &[u8], error: LexError)
-        requires { length text.now ≤ 67108864 }
+        requires { length text.now ≤ PLACED_BYTES }
     {
         assert_eq!(rt; lex(alloc, text), Err(error));
     }

@@ -6,7 +6,7 @@ use Rattle.mace_ast.specs.declared.expr.BinaryOp.{BinaryOp}
 use Rattle.mace_ast.specs.Exprs.{ExprTree}
 use Rattle.mace_parser.specs.declared.fault.Fault.{Fault}
 use Rattle.mace_parser.specs.declared.fault.Fault.TheVariants.{Memory, Stuck}
-use Rattle.mace_parser.specs.Gives.{Fails}
+use Rattle.mace_parser.specs.inner.Gives.{Fails}
 use Rattle.mace_grammar.specs.Grammar.{joined}
 use Rattle.mace_grammar.specs.Run.{Outcome, Reader, and_then, give, after, sees, each, each_of, with_front}
 use Rattle.mace_grammar.specs.Classes.{kind}

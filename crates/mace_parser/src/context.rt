@@ -3,7 +3,7 @@
 ghost use Rattle.std.specs.Prelude.{◌≡◌, map};
 ghost use Rattle.mace_ast.specs.Decls.{context_tree, service_tree};
 ghost use Rattle.mace_grammar.specs.Readers as reader;
-ghost use Rattle.mace_parser.specs.Gives.{Gives};
+ghost use Rattle.mace_parser.specs.inner.Gives.{Gives};
 
 use crate::class::sees_key;
 use crate::event::events;

@@ -4,7 +4,7 @@ ghost use Rattle.std.specs.Prelude.{◌≡◌, ◌+◌, ◌-◌};
 ghost use Rattle.std.specs.Option.{option_map};
 ghost use Rattle.mace_grammar.specs.Words as words;
 ghost use Rattle.mace_grammar.specs.Readers as reader;
-ghost use Rattle.mace_parser.specs.Gives.{Gives};
+ghost use Rattle.mace_parser.specs.inner.Gives.{Gives};
 
 use crate::class::{sees_key, sees_literal};
 use crate::fault::{Fault, Read};

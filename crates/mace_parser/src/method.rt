@@ -5,7 +5,7 @@ ghost use Rattle.std.specs.Option.{option_map};
 ghost use Rattle.mace_ast.specs.Decls.{last_tree, method_tree};
 ghost use Rattle.mace_ast.specs.Stmts.{stmt_tree};
 ghost use Rattle.mace_grammar.specs.Readers as reader;
-ghost use Rattle.mace_parser.specs.Gives.{Gives};
+ghost use Rattle.mace_parser.specs.inner.Gives.{Gives};
 
 use crate::class::{sees_key, sees_name, sees_sign};
 use crate::fault::Read;

@@ -46,7 +46,7 @@ impl Pieces {
     }
 
     fn open(&mut self) -> Result<(), OutOfMemory>
-        requires { spec.nest self.old ≤ 64 }
+        requires { spec.nest self.old ≤ NEST }
         ensures { OnOk result (self.new ≡ spec.opened self.old) }
     {
         self.under.push(self.current)?;
@@ -78,7 +78,7 @@ impl Pieces {
     }
 
     fn count(&mut self)
-        requires { spec.nest self.old ≤ 64 }
+        requires { spec.nest self.old ≤ NEST }
         ensures { self.new ≡ spec.counted self.old }
     {
         self.current += 1;
@@ -86,7 +86,7 @@ impl Pieces {
     }
 
     fn pass_sign(&mut self, sign: Sign) -> Result<(), OutOfMemory>
-        requires { spec.nest self.old ≤ 64 }
+        requires { spec.nest self.old ≤ NEST }
         ensures { OnOk result (self.new ≡ spec.past_sign sign self.old) }
     {
         match sign {
@@ -108,7 +108,7 @@ impl Pieces {
     }
 
     fn pass(&mut self, word: &Word) -> Result<(), OutOfMemory>
-        requires { spec.nest self.old ≤ 64 }
+        requires { spec.nest self.old ≤ NEST }
         ensures { OnOk result (self.new ≡ spec.past_word self.old word.now) }
     {
         match word {
@@ -118,7 +118,7 @@ impl Pieces {
     }
 }
 
-/// The first token at which the nest passes 64.
+/// The first token at which the nest passes the limit.
 pub fn first_deep(alloc: Global, tokens: &[Token]) -> Result<Option<usize>, OutOfMemory>
     ensures { IfOk result (spec.IsFirstDeep (words tokens.now)) }
 {

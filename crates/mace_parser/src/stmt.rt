@@ -6,7 +6,7 @@ ghost use Rattle.mace_ast.specs.Exprs.{expr_tree};
 ghost use Rattle.mace_ast.specs.Stmts.{stmt_tree};
 ghost use Rattle.mace_grammar.specs.Grammar.{target};
 ghost use Rattle.mace_grammar.specs.Readers as reader;
-ghost use Rattle.mace_parser.specs.Gives.{Gives};
+ghost use Rattle.mace_parser.specs.inner.Gives.{Gives};
 
 use crate::class::{begins_stmt, sees_key, sees_sign};
 use crate::expr::{arguments, bracketed, expr};

@@ -4,7 +4,7 @@ ghost use Rattle.std.specs.Prelude.{◌≡◌};
 ghost use Rattle.mace_ast.specs.Exprs.{expr_tree};
 ghost use Rattle.mace_grammar.specs.Words as words;
 ghost use Rattle.mace_grammar.specs.Readers as reader;
-ghost use Rattle.mace_parser.specs.Gives.{Gives};
+ghost use Rattle.mace_parser.specs.inner.Gives.{Gives};
 
 use crate::fault::{Fault, Read};
 use mace_ast::{Expr, Name};

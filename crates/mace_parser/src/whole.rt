@@ -1,9 +1,10 @@
 // A whole text.
 
 ghost use Rattle.std.specs.Prelude.{◌≡◌, ◌+◌, ◌-◌, ◌<◌, ◌≤◌, ℕ, length, Some, IfOk, IfErr, OnOk};
+ghost use Rattle.wave_base.specs.declared.limits.TheConstants.{PLACED_BYTES};
 ghost use Rattle.mace_lexer.specs.Lexed.{AreTokens};
 ghost use Rattle.mace_ast.specs.Decls.{ServiceTree, service_tree};
-ghost use Rattle.mace_parser.specs.Gives.{TakesAll};
+ghost use Rattle.mace_parser.specs.inner.Gives.{TakesAll};
 ghost use Rattle.mace_grammar.specs.Grammar.{service};
 ghost use Rattle.mace_grammar.specs.Nest.{IsShallow, IsFirstDeep};
 ghost use Rattle.mace_parser.specs.Parsed.{TellsFault, AnswersTree, AnswersFault};
@@ -31,7 +32,7 @@ fn all<'a>(alloc: Global, tokens: &'a [Token]) -> Result<Service, Fault<'a>>
 
 // The place of a token, the end of the text among them.
 fn place(text: &[u8], tokens: &[Token], k: usize) -> Span
-    requires { length text.now ≤ 67108864 }
+    requires { length text.now ≤ PLACED_BYTES }
     ensures { result ≡ place_in text.now tokens.now k }
 {
     match tokens.get(k) {
@@ -41,7 +42,7 @@ fn place(text: &[u8], tokens: &[Token], k: usize) -> Span
 }
 
 fn expected(text: &[u8], tokens: &[Token], token: usize) -> ParseError
-    requires { length text.now ≤ 67108864 }
+    requires { length text.now ≤ PLACED_BYTES }
     ensures { result ≡ ParseError.Expected token (place_in text.now tokens.now token) }
 {
     let at = place(text, tokens, token);
@@ -50,7 +51,7 @@ fn expected(text: &[u8], tokens: &[Token], token: usize) -> ParseError
 
 // Where no token is nested too deep.
 fn shallow(alloc: Global, text: &[u8], tokens: &[Token]) -> Result<Service, ParseError>
-    requires text { length text.now ≤ 67108864 }
+    requires text { length text.now ≤ PLACED_BYTES }
     requires nest { IsShallow (words tokens.now) }
     ensures tree { IfOk result (λ s. service.Spells (service_tree s) tokens.now) }
     ensures spelled { IfOk result (λ s. Spelled (service_tree s) (words tokens.now)) }
@@ -64,7 +65,7 @@ fn shallow(alloc: Global, text: &[u8], tokens: &[Token]) -> Result<Service, Pars
 }
 
 fn too_deep(text: &[u8], tokens: &[Token], token: usize) -> ParseError
-    requires { length text.now ≤ 67108864 }
+    requires { length text.now ≤ PLACED_BYTES }
     ensures { result ≡ ParseError.TooDeep token (place_in text.now tokens.now token) }
 {
     let at = place(text, tokens, token);
@@ -73,7 +74,7 @@ fn too_deep(text: &[u8], tokens: &[Token], token: usize) -> ParseError
 
 // Where token `deep` is nested too deep, and so many of the tokens up to it were not read.
 fn stopped(text: &[u8], tokens: &[Token], deep: usize, left: usize) -> ParseError
-    requires text { length text.now ≤ 67108864 }
+    requires text { length text.now ≤ PLACED_BYTES }
     requires left { left ≤ deep + 1 }
     requires deep { deep < length tokens.now }
     ensures all { left ≡ 0 → result ≡ ParseError.TooDeep deep (place_in text.now tokens.now deep) }
@@ -87,7 +88,7 @@ fn stopped(text: &[u8], tokens: &[Token], deep: usize, left: usize) -> ParseErro
 
 // Where token `deep` is the first that is nested too deep: only what stands before it is read, and so no deeper.
 fn cut_off(alloc: Global, text: &[u8], tokens: &[Token], deep: usize) -> ParseError
-    requires text { length text.now ≤ 67108864 }
+    requires text { length text.now ≤ PLACED_BYTES }
     requires nest { IsFirstDeep (words tokens.now) (Some deep) }
     ensures { TellsFault text.now tokens.now result }
 {
@@ -100,7 +101,7 @@ fn cut_off(alloc: Global, text: &[u8], tokens: &[Token], deep: usize) -> ParseEr
 
 // The answer, with what it tells.
 fn read(alloc: Global, text: &[u8], tokens: &[Token]) -> Result<Service, ParseError>
-    requires { length text.now ≤ 67108864 }
+    requires { length text.now ≤ PLACED_BYTES }
     ensures tree { IfOk result (λ s. service.Spells (service_tree s) tokens.now) }
     ensures spelled { IfOk result (λ s. Spelled (service_tree s) (words tokens.now)) }
     ensures nest { OnOk result (IsShallow (words tokens.now)) }
@@ -115,7 +116,7 @@ fn read(alloc: Global, text: &[u8], tokens: &[Token]) -> Result<Service, ParseEr
 
 /// The service that the tokens of a text spell. Of faults the earlier token decides.
 pub fn parse(alloc: Global, text: &[u8], tokens: &[Token]) -> Result<Service, ParseError>
-    requires text { length text.now ≤ 67108864 }
+    requires text { length text.now ≤ PLACED_BYTES }
     requires tokens { AreTokens text.now tokens.now }
 
     // The tree, with its places and up to them.
@@ -145,7 +146,7 @@ mod tests {
     use std::test::Fail;
 
     fn refuses(rt: &impl Abort, alloc: Global, text: &[u8], error: ParseError) -> Result<(), Fail>
-        requires { length text.now ≤ 67108864 }
+        requires { length text.now ≤ PLACED_BYTES }
     {
         let tokens = lex(alloc, text)?;
         match parse(alloc, text, tokens.as_slice()) {
@@ -156,7 +157,7 @@ mod tests {
     }
 
     fn reads(rt: &impl Abort, alloc: Global, text: &[u8]) -> Result<(), Fail>
-        requires { length text.now ≤ 67108864 }
+        requires { length text.now ≤ PLACED_BYTES }
     {
         let tokens = lex(alloc, text)?;
         assert!(rt; parse(alloc, text, tokens.as_slice()).is_ok());

@@ -8,3 +8,5 @@ pub mod Fine
 pub mod Wrote
 pub mod Arms
 pub mod Printed
+pub mod Least
+pub mod Shortest

@@ -84,6 +84,8 @@ pub fn print(alloc: Global, service: &Service) -> Result<Seq<u8>, OutOfMemory>
 
 #[cfg(test)]
 mod tests {
+    ghost use Rattle.wave_base.specs.declared.limits.TheConstants.{PLACED_BYTES};
+
     use super::*;
     use mace_lexer::lex;
     use mace_parser::parse;
@@ -91,7 +93,7 @@ mod tests {
     use std::test::Fail;
 
     fn prints(rt: &impl Abort, alloc: Global, text: &[u8], wanted: &[u8]) -> Result<(), Fail>
-        requires { length text.now ≤ 67108864 }
+        requires { length text.now ≤ PLACED_BYTES }
     {
         let tokens = lex(alloc, text)?;
         let Ok(service) = parse(alloc, text, tokens.as_slice()) else {

@@ -2,10 +2,11 @@
 use Rattle.std.proofs.Common.{◌≡◌, ◌≢◌, ℕ, zero, suc, ◌+◌, ◌<◌, ◌≤◌, ◌||◌, ◌==◌, Bool, true, false, if◌then◌else◌, nat_lt, List, [], ◌∷◌, ◌++◌, length, All, Option, Some, None, Result, Ok, Err, refl, sym, ap, subst, ◌∙◌, arith, length-append}
 use Rattle.std.specs.Prelude.{slice_get, filter}
 use Rattle.std.specs.List.{list_any}
+use Rattle.std.specs.List.Sorted.{IsStrictlySortedBy}
 use Rattle.std.proofs.lemmas.Bool.Decides.{nat_tests}
 use Rattle.std.proofs.lemmas.List.Elements.{All-nil, All-cons, All-filter, All-append, All-weaker}
 use Rattle.std.proofs.lemmas.List.Folds.{list_any-append}
-use Rattle.wave_base.proofs.Trees.{there-enter}
+use Rattle.wave_base.proofs.Trees.{there-enter, enter_sorted}
 use Rattle.wave_base.specs.declared.call.Call.{Call}
 use Rattle.wave_base.specs.declared.path.Path.{Path}
 use Rattle.wave_base.specs.declared.path.Step.{Step}
@@ -13,7 +14,7 @@ use Rattle.wave_base.specs.declared.shape.Shape.{Shape}
 use Rattle.wave_base.specs.declared.span.Span.{Span}
 use Rattle.wave_base.specs.declared.trap.TrapKind.TheVariants.{Ticks, Reach, Sends, Spawns, Generation}
 use Rattle.wave_base.specs.declared.value.Value.{Value}
-use Rattle.wave_base.specs.Paths.{path_eq, is_above, parent_of}
+use Rattle.wave_base.specs.Paths.{path_eq, path_cmp, is_above, parent_of}
 use Rattle.wave_base.specs.Shapes.{class_of, is_path}
 use Rattle.wave_base.specs.Tree.{Tree, there, enter, put}
 use Rattle.value_ops.specs.Kinds.{Answer}
@@ -31,7 +32,8 @@ module _ (shape : Shape) (first : Tree (List Value)) (g : ℕ) where
     pub same : generation ≡ g
     pub holds : Holds shape tree
     pub held_there : All (λ q. there tree q ≡ true) held
-    pub joined : (p : Path) → there tree p ≡ true → (there first p || has entered p) ≡ true
+    pub joined : (p : Path) → there tree p ≡ (there first p || has entered p)
+    pub ordered : IsStrictlySortedBy path_cmp first.paths → IsStrictlySortedBy path_cmp tree.paths
     pub few : length created ≤ 4
     pub later : All (λ (d : Call). d.generation ≡ suc g) created
     pub early : All IsEarly created
@@ -101,24 +103,18 @@ module _ (shape : Shape) (first : Tree (List Value)) (g : ℕ) where
       still : (r : Path) → there w.tree r ≡ true → there (enter w.tree q) r ≡ true
       still r e = still_there shape w.tree k.holds q r e
 
-      or_right : (a b c : Bool) → (a || b) ≡ true → (a || (b || c)) ≡ true
-      or_right true b c e = refl
-      or_right false true c e = refl
-      or_right false false c e = cc
+      or_last : (a b c : Bool) → (a || (b || c)) ≡ (b || (c || (a || false)))
+      or_last true true c = refl
+      or_last true false true = refl
+      or_last true false false = refl
+      or_last false true c = refl
+      or_last false false true = refl
+      or_last false false false = refl
 
-      or_last : (a b : Bool) → (a || (b || (true || false))) ≡ true
-      or_last true b = refl
-      or_last false true = refl
-      or_last false false = refl
-
-      joined : (r : Path) → there (enter w.tree q) r ≡ true → (there first r || has (w.entered ++ q ∷ []) r) ≡ true
-      joined r e = by_same (path_eq r q) refl
-        where
-          by_same : (b : Bool) → path_eq r q ≡ b → (there first r || has (w.entered ++ q ∷ []) r) ≡ true
-          by_same true s = ap (λ x. there first r || x) (list_any-append (path_eq r) w.entered (q ∷ [])) ∙ ap (λ x. there first r || (has w.entered r || (x || false))) s ∙ or_last (there first r) (has w.entered r)
-          by_same false s =
-              ap (λ x. there first r || x) (list_any-append (path_eq r) w.entered (q ∷ []))
-              ∙ or_right (there first r) (has w.entered r) (path_eq r q || false) (k.joined r (sym (ap (λ x. x || there w.tree r) s) ∙ sym (there-enter w.tree q r) ∙ e))
+      joined : (r : Path) → there (enter w.tree q) r ≡ (there first r || has (w.entered ++ q ∷ []) r)
+      joined r =
+          there-enter w.tree q r ∙ ap (λ x. path_eq r q || x) (k.joined r) ∙ or_last (path_eq r q) (there first r) (has w.entered r)
+          ∙ ap (λ x. there first r || x) (sym (list_any-append (path_eq r) w.entered (q ∷ [])))
 
       fresh : Kept (with_entered q w)
       fresh = record {
@@ -128,6 +124,7 @@ module _ (shape : Shape) (first : Tree (List Value)) (g : ℕ) where
             (All-weaker (λ r. there w.tree r ≡ true) (λ r. there (enter w.tree q) r ≡ true) still w.held k.held_there)
             (All-cons (λ r. there (enter w.tree q) r ≡ true) q [] (entered_there shape w.tree k.holds q) (All-nil (λ r. there (enter w.tree q) r ≡ true)));
         joined = joined;
+        ordered = λ o. enter_sorted w.tree q (k.ordered o);
         few = k.few;
         later = k.later;
         early = k.early;
@@ -160,6 +157,7 @@ module _ (shape : Shape) (first : Tree (List Value)) (g : ℕ) where
       holds = h.0.holds;
       held_there = All-filter (is_above q) (λ r. there w.tree r ≡ true) w.held h.0.held_there;
       joined = h.0.joined;
+      ordered = h.0.ordered;
       few = h.0.few;
       later = h.0.later;
       early = h.0.early;
@@ -175,6 +173,7 @@ module _ (shape : Shape) (first : Tree (List Value)) (g : ℕ) where
       holds = same_paths shape w.tree (put w.tree p _) refl h.0.holds;
       held_there = h.0.held_there;
       joined = h.0.joined;
+      ordered = h.0.ordered;
       few = h.0.few;
       later = h.0.later;
       early = h.0.early;
@@ -213,6 +212,7 @@ module _ (shape : Shape) (first : Tree (List Value)) (g : ℕ) where
             holds = k.holds;
             held_there = k.held_there;
             joined = k.joined;
+            ordered = k.ordered;
             few = omega (arith, small, length-append w.created (made ∷ []));
             later = All-append (λ (d : Call). d.generation ≡ suc g) w.created (made ∷ []) k.later (All-cons (λ (d : Call). d.generation ≡ suc g) made [] (ap suc k.same) (All-nil (λ (d : Call). d.generation ≡ suc g)));
             early = All-append IsEarly w.created (made ∷ []) k.early (All-cons IsEarly made [] below (All-nil IsEarly));

@@ -1,5 +1,5 @@
 -- A call keeps the tree that it runs on well.
-use Rattle.std.proofs.Common.{◌≡◌, ◌||◌, ℕ, suc, Bool, true, false, List, [], ◌∷◌, All, Option, Some, None, refl, ap, arith}
+use Rattle.std.proofs.Common.{◌≡◌, ◌||◌, ℕ, suc, Bool, true, false, List, [], ◌∷◌, All, Option, Some, None, refl, sym, ap, ◌∙◌, arith}
 use Rattle.std.specs.Prelude.{slice_get}
 use Rattle.std.specs.List.{list_any}
 use Rattle.std.proofs.lemmas.List.Elements.{All-nil, All-cons}
@@ -10,6 +10,7 @@ use Rattle.wave_base.specs.declared.path.Path.{Path}
 use Rattle.wave_base.specs.declared.shape.Shape.{Shape}
 use Rattle.wave_base.specs.declared.value.Value.{Value}
 use Rattle.wave_base.specs.Paths.{path_eq}
+use Rattle.wave_base.specs.PathLaws.{path_eq_decides}
 use Rattle.wave_base.specs.Places.{move_of}
 use Rattle.wave_base.specs.Tree.{Tree, there}
 use Rattle.resolved_service.specs.declared.service.Event.{Event}
@@ -34,6 +35,7 @@ module _ (shape : Shape) (t : Tree (List Value)) (g : ℕ) where
     few = h.few;
     later = h.later;
     joined = h.joined;
+    ordered = h.ordered;
     unmoved = no_move reply st.world.messages st.world.created;
   }
   kept_by (Trapped k at w) h = record {
@@ -42,9 +44,26 @@ module _ (shape : Shape) (t : Tree (List Value)) (g : ℕ) where
     few = omega arith;
     later = All-nil (λ (d : Call). d.generation ≡ suc g);
     joined = h.joined;
+    ordered = h.ordered;
     unmoved = refl;
   }
   kept_by (Left l st) h = absurd h
+
+or_false : (a : Bool) → (a || false) ≡ a
+or_false true = refl
+or_false false = refl
+
+or_true : (a : Bool) → (a || true) ≡ true
+or_true true = refl
+or_true false = refl
+
+-- the root is there already
+root_joined : (t : Tree (List Value)) (p : Path) → there t [] ≡ true → there t p ≡ (there t p || list_any (path_eq p) ([] ∷ []))
+root_joined t p root = by_root (path_eq p []) refl
+  where
+    by_root : (b : Bool) → path_eq p [] ≡ b → there t p ≡ (there t p || (b || false))
+    by_root true e = ap (there t) ((path_eq_decides p []).0 e) ∙ root ∙ sym (or_true (there t p))
+    by_root false e = sym (or_false (there t p))
 
 -- an event begins at the root, which is there
 begins_at : (shape : Shape) (t : Tree (List Value)) (g : ℕ) → Holds shape t → At shape t g [] (first_world g t)
@@ -53,7 +72,8 @@ begins_at shape t g h = (
     same = refl;
     holds = h;
     held_there = All-cons (λ q. there t q ≡ true) [] [] h.root (All-nil (λ q. there t q ≡ true));
-    joined = λ p e. ap (λ b. b || list_any (path_eq p) ([] ∷ [])) e;
+    joined = λ p. root_joined t p h.root;
+    ordered = λ o. o;
     few = omega arith;
     later = All-nil (λ (d : Call). d.generation ≡ suc g);
     early = All-nil IsEarly;
@@ -68,7 +88,8 @@ module _ (shape : Shape) (service : Resolved) (fit : FitsService shape service) 
     early = All-nil IsEarly;
     few = omega arith;
     later = All-nil (λ (d : Call). d.generation ≡ suc c.generation);
-    joined = λ p e. ap (λ b. b || false) e;
+    joined = λ p. sym (or_false (there t p));
+    ordered = λ o. o;
     unmoved = refl;
   }
   kept_event t c h early (Some x) e =

@@ -13,8 +13,8 @@ ghost use Rattle.service_eval.specs.Worlds.{Holds};
 ghost use Rattle.meaning_laws.specs.Kept.{IsKept};
 
 /// A call on a tree whose paths are the shape's, with each parent and the root there, leaves one that is so again. It
-/// creates at most four calls, each a generation later and none later than the last; a context that is there after it
-/// was there before or was entered; and it moves none.
+/// creates at most four calls, each a generation later and none later than the last; the contexts that are there after it
+/// are those that were there before and those that it entered, in order where they were; and it moves none.
 pub fn calls_keep_trees()
     ensures { (shape : Shape) (service : Resolved) → FitsService shape service → (tree : Tree (List Value)) (call : Call) → Holds shape tree → call.generation ≤ GENERATION → IsKept shape tree call.generation (call_meaning service tree call) }
 {}

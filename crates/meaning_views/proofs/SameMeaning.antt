@@ -5,8 +5,6 @@ use Rattle.std.proofs.Math.Path.{fun_ext}
 use Rattle.wave_base.specs.declared.limits.TheConstants.{TICKS}
 use Rattle.wave_base.specs.declared.call.Call.{Call}
 use Rattle.wave_base.specs.declared.path.Path.{Path}
-use Rattle.wave_base.specs.declared.script.Line.{Line}
-use Rattle.wave_base.specs.declared.script.Line.TheVariants.{Request, Move, Snapshot}
 use Rattle.wave_base.specs.declared.outcome.Outcome.TheVariants as out
 use Rattle.wave_base.specs.declared.trap.TrapKind.TheVariants as trap
 use Rattle.wave_base.specs.declared.value.Value.{Value}
@@ -20,7 +18,7 @@ use Rattle.resolved_service.specs.Meaning.{Act, Outcome, Done, Trapped, ◌>>=�
 use Rattle.resolved_service.specs.Steps.{steps_in}
 use Rattle.resolved_service.specs.View.{tree_of}
 use Rattle.resolved_service.specs.World.{World, child}
-use Rattle.resolved_service.specs.Jobs.{Meant, meant_by, only, first_world, call_meaning, meant_event, line_ran}
+use Rattle.resolved_service.specs.Jobs.{Meant, meant_by, only, first_world, call_meaning, meant_event}
 use Rattle.type_rules.specs.Functions.{LastView, MethodView, PhaseView, EventView}
 use Rattle.type_rules.specs.Services.{ResolvedView}
 use Rattle.type_rules.specs.Views.{last_view, method_view, phase_view, event_view, resolved_view}
@@ -108,11 +106,3 @@ call_is r tree call = meant_is r (slice_get r.events call.event) call tree ∙ (
 
 pub same_calls : (a b : Resolved) → resolved_view a ≡ resolved_view b → call_meaning a ≡ call_meaning b
 same_calls a b e = fun_ext (λ tree. fun_ext (λ call. call_is a tree call ∙ (λ i. meant_seen (e i) (slice_get (e i).events call.event) call tree) ∙ sym (call_is b tree call)))
-
-lines_by : (a b : Resolved) → call_meaning a ≡ call_meaning b → (ticket : ℕ) (tree : Tree (List Value)) (l : Line) → line_ran a ticket tree l ≡ line_ran b ticket tree l
-lines_by a b e ticket tree (Request call) = λ i. (e i tree call).ran
-lines_by a b e ticket tree (Move p h) = refl
-lines_by a b e ticket tree Snapshot = refl
-
-pub same_lines : (a b : Resolved) → resolved_view a ≡ resolved_view b → line_ran a ≡ line_ran b
-same_lines a b e = fun_ext (λ ticket. fun_ext (λ tree. fun_ext (λ l. lines_by a b (same_calls a b e) ticket tree l)))

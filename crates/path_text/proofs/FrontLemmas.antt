@@ -8,7 +8,7 @@ use Rattle.std.proofs.lemmas.List.{take_all}
 use Rattle.wave_base.specs.Names.{is_digit, is_name_start, is_name_byte}
 use Rattle.wave_text.specs.Words.{is_word, is_digits, is_whole, without_minus}
 use Rattle.path_text.specs.declared.written.Written.{Written}
-use Rattle.path_text.specs.Fronts.{is_other, HasNone, IsSplit, AreParts, IsFront, IsOnlyFront, HasNoFront}
+use Rattle.path_text.specs.inner.Fronts.{is_other, HasNone, IsSplit, AreParts, IsFront, IsOnlyFront, HasNoFront}
 use Rattle.path_text.specs.Steps.{is_key, is_step, step_text}
 
 -- ---- where a byte first stands

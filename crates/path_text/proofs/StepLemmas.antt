@@ -4,7 +4,7 @@ use Rattle.std.specs.Prelude.{◌&&◌, ◌==◌}
 use Rattle.std.specs.List.{list_all}
 use Rattle.std.proofs.lemmas.Bool.Decides.{nat_tests}
 use Rattle.path_text.specs.declared.written.Written.{Written}
-use Rattle.path_text.specs.Fronts.{IsFront, IsOnlyFront, HasNoFront}
+use Rattle.path_text.specs.inner.Fronts.{IsFront, IsOnlyFront, HasNoFront}
 use Rattle.path_text.specs.Steps.{is_step, step_text, steps_text, HasSteps, HasOnlySteps, HasNoSteps}
 
 -- these steps are all that stands there

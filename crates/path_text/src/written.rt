@@ -2,7 +2,7 @@ ghost use Rattle.std.specs.Prelude.{◌≡◌, ◌≤◌, ◌∷◌, ◌&&◌, [
 ghost use Rattle.std.specs.List.{prefix_len};
 ghost use Rattle.wave_text.specs.Words.{is_word};
 ghost use Rattle.path_text.specs.Steps.{is_key, HasSteps, HasOnlySteps, HasNoSteps};
-ghost use Rattle.path_text.specs.Fronts.{is_other, HasNone, IsSplit, AreParts, IsOnlyFront, HasNoFront};
+ghost use Rattle.path_text.specs.inner.Fronts.{is_other, HasNone, IsSplit, AreParts, IsOnlyFront, HasNoFront};
 
 use std::alloc::Global;
 use wave_base::{OutOfMemory, Seq};

@@ -2,9 +2,11 @@
 #![tactic(auto)]
 
 mod expr;
+mod laws;
 mod service;
 mod stmt;
 
 pub use expr::{Expr, Node};
+pub use laws::ticks_end_before_fuel;
 pub use service::{Event, Last, Method, Phase, Resolved};
 pub use stmt::{Action, Stmt};

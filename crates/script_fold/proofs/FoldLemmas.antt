@@ -1,12 +1,13 @@
 -- What holds of the fold, however far it has come.
-use Rattle.std.proofs.Common.{◌≡◌, ◌≤◌, ◌<◌, ◌+◌, ◌-◌, ◌*◌, ℕ, zero, suc, Bool, true, false, if◌then◌else◌, ◌||◌, List, [], ◌∷◌, ◌++◌, length, map, drop, sum_by, Option, Some, None, is_none, slice_get, All, zip, nat_lt, refl, sym, ap, subst, ◌∙◌, arith, length-append, length-drop, ◌^◌, ltb-true, ltb-false, true≢false, add-suc, mul-le-mul_right, le_trans}
+use Rattle.std.proofs.Common.{◌≡◌, ◌≤◌, ◌<◌, ◌+◌, ◌-◌, ◌*◌, ℕ, zero, suc, Bool, true, false, cond, filter, if◌then◌else◌, ◌||◌, List, [], ◌∷◌, ◌++◌, length, map, drop, sum_by, Option, Some, None, is_none, slice_get, All, zip, nat_lt, refl, sym, ap, subst, ◌∙◌, arith, length-append, length-drop, ◌^◌, ltb-true, ltb-false, add-suc, mul-le-mul_right, le_trans}
 use Rattle.std.proofs.lemmas.List.{map-append, drop-append-le}
 use Rattle.std.proofs.lemmas.List.Elements.{All-nil, All-cons, All-head, All-tail, All-append, All-map, All-weaker}
 use Rattle.std.proofs.lemmas.List.Sums.{sum_by-append, sum_by-cons, sum_by-le}
 use Rattle.std.proofs.lemmas.Option.{slice_get_within}
 use Rattle.std.proofs.Math.Seq.{drop-append_seam, drop-length}
 use Rattle.std.specs.List.{list_any}
-use Rattle.wave_base.proofs.Trees.{there-enter}
+use Rattle.std.specs.List.Sorted.{IsStrictlySortedBy}
+use Rattle.wave_base.proofs.Trees.{there-enter, enter_sorted}
 use Rattle.wave_base.specs.declared.limits.TheConstants.{GENERATION, SPAWNS}
 use Rattle.wave_base.specs.declared.call.Call.{Call}
 use Rattle.wave_base.specs.declared.finished.Place.{Place}
@@ -21,16 +22,17 @@ use Rattle.wave_base.specs.declared.shape.Shape.{Shape}
 use Rattle.wave_base.specs.declared.start.Start.{Start}
 use Rattle.wave_base.specs.declared.value.Value.{Value}
 use Rattle.wave_base.specs.Fold.{Head, Ran, Progress, begun, next_batch, next_job, first_head, with_done, head_after, first_progress, with_result, with_job, one_more, is_over, created_lines}
-use Rattle.wave_base.specs.Paths.{path_eq, parent_of}
+use Rattle.wave_base.specs.Paths.{path_eq, path_cmp, parent_of}
 use Rattle.wave_base.specs.PathLaws.{path_eq_decides}
 use Rattle.wave_base.specs.Places.{with_context, with_contexts, with_move, after_job, places_after, move_of}
 use Rattle.wave_base.specs.Scripts.{IsScript, FitsLine, IsCall}
 use Rattle.wave_base.specs.Starts.{IsStart, start_tree, start_places}
 use Rattle.wave_base.specs.Tree.{Tree, there, enter, put}
-use Rattle.resolved_service.specs.Jobs.{only, move_ran}
+use Rattle.resolved_service.specs.Jobs.{only, fronts}
 use Rattle.script_fold.specs.Lines.{Meaning, line_by, most_events, most_of, most_jobs, FitsJob}
 use Rattle.script_fold.specs.Owed.{Owed}
 use Rattle.script_fold.specs.Runs.{after_jobs, whole_run, hosts_after}
+use Rattle.script_fold.proofs.OrderLemmas.{same_sorted}
 
 -- ---- how many jobs a line may make
 
@@ -75,17 +77,17 @@ batches_most (b ∷ bs) = omega (arith, lines_most b, batches_most bs, sum_by-co
 
 -- ---- heads
 
-pub left_in : Head Line → ℕ
+unfoldable pub left_in : Head Line → ℕ
 left_in h = sum_by most_of (drop h.done h.known) + most_jobs h.later
 
-record Next (F : Line → Type 0) (h n : Head Line) : Type 0 where
-  done : n.done ≡ h.done
-  within : n.done ≤ length n.known
-  left : left_in n ≡ left_in h
-  known : All F h.known → All (All F) h.later → All F n.known
-  later : All (All F) h.later → All (All F) n.later
+pub record Next (F : Line → Type 0) (h n : Head Line) : Type 0 where
+  pub done : n.done ≡ h.done
+  pub within : n.done ≤ length n.known
+  pub left : left_in n ≡ left_in h
+  pub known : All F h.known → All (All F) h.later → All F n.known
+  pub later : All (All F) h.later → All (All F) n.later
 
-next_keeps : (F : Line → Type 0) (h : Head Line) → h.done ≤ length h.known → Next F h (next_batch h)
+pub next_keeps : (F : Line → Type 0) (h : Head Line) → h.done ≤ length h.known → Next F h (next_batch h)
 unfolding left_in
 next_keeps F h l = by_test (nat_lt h.done (length h.known)) refl
   where
@@ -123,11 +125,11 @@ All-drop_head F (x ∷ xs) zero j e h = let same : x ≡ j = cc in subst F same 
 All-drop_head F (x ∷ xs) (suc i) j e h = All-drop_head F xs i j e (All-tail F x xs h)
 
 -- one job is done
-abbrev grown : Head Line → List Line → Head Line
+abbrev pub grown : Head Line → List Line → Head Line
 grown h created = record { known = h.known ++ created; later = h.later; done = suc h.done }
 
 module _ (F : Line → Type 0) (h : Head Line) (j : Line) (created : List Line) (is : slice_get h.known h.done ≡ Some j) where
-  done_next : Next F (grown h created) (with_done h created)
+  pub done_next : Next F (grown h created) (with_done h created)
   done_next =
       let l : h.done < length h.known = slice_get_within h.known h.done j is in
       next_keeps F (grown h created) (omega (arith, l, length-append h.known created))
@@ -151,38 +153,52 @@ or_true : (a : Bool) → (a || true) ≡ true
 or_true true = refl
 or_true false = refl
 
-there_context : (t : Tree ℕ) (q p : Path) → (there t p || path_eq p q) ≡ true → there (with_context t q) p ≡ true
-there_context t q p h = by_there (there t q) refl
+or_false : (a : Bool) → a ≡ (a || false)
+or_false true = refl
+or_false false = refl
+
+or_swap : (a b : Bool) → (a || b) ≡ (b || a)
+or_swap true b = sym (or_true b)
+or_swap false b = or_false b
+
+or_more : (a b c : Bool) → ((a || b) || c) ≡ (a || (b || c))
+or_more true b c = refl
+or_more false b c = refl
+
+-- what is implied adds nothing
+or_same : (a b : Bool) → (b ≡ true → a ≡ true) → a ≡ (a || b)
+or_same true b h = refl
+or_same false true h = h refl
+or_same false false h = refl
+
+there_context : (t : Tree ℕ) (q p : Path) → there (with_context t q) p ≡ (there t p || path_eq p q)
+there_context t q p = by_there (there t q) refl
   where
-    by_old : (a b : Bool) → (a || b) ≡ true → (b || a) ≡ true
-    by_old true b e = or_true b
-    by_old false b e = ap (λ c. c || false) e
+    by_there : (b : Bool) → there t q ≡ b → there (if b then t else put (enter t q) q (t.fields (parent_of q))) p ≡ (there t p || path_eq p q)
+    by_there true s = or_same (there t p) (path_eq p q) (λ e. ap (there t) ((path_eq_decides p q).0 e) ∙ s)
+    by_there false s = there-enter t q p ∙ or_swap (path_eq p q) (there t p)
 
-    known : there t q ≡ true → (a b : Bool) → there t p ≡ a → path_eq p q ≡ b → (a || b) ≡ true → there t p ≡ true
-    known s true b e f o = e
-    known s false true e f o = ap (there t) ((path_eq_decides p q).0 f) ∙ s
-    known s false false e f o = absurd (true≢false (sym o))
+there_contexts : (t : Tree ℕ) (ps : List Path) (p : Path) → there (with_contexts t ps) p ≡ (there t p || list_any (path_eq p) ps)
+there_contexts t [] p = or_false (there t p)
+there_contexts t (q ∷ ps) p = there_contexts (with_context t q) ps p ∙ ap (λ b. b || list_any (path_eq p) ps) (there_context t q p) ∙ or_more (there t p) (path_eq p q) (list_any (path_eq p) ps)
 
-    by_there : (b : Bool) → there t q ≡ b → there (if b then t else put (enter t q) q (t.fields (parent_of q))) p ≡ true
-    by_there true s = known s (there t p) (path_eq p q) refl refl h
-    by_there false s = there-enter t q p ∙ by_old (there t p) (path_eq p q) h
+abbrev pub IsOrdered : {F : Type 0} → Tree F → Type 0
+IsOrdered t = IsStrictlySortedBy path_cmp t.paths
 
-there_contexts : (t : Tree ℕ) (ps : List Path) (p : Path) → (there t p || list_any (path_eq p) ps) ≡ true → there (with_contexts t ps) p ≡ true
-there_contexts t [] p h = no_more (there t p) h
+context_ordered : (t : Tree ℕ) (q : Path) → IsOrdered t → IsOrdered (with_context t q)
+context_ordered t q h = by_there (there t q)
   where
-    no_more : (a : Bool) → (a || false) ≡ true → a ≡ true
-    no_more true e = refl
-    no_more false e = e
-there_contexts t (q ∷ ps) p h = there_contexts (with_context t q) ps p (by_rest (list_any (path_eq p) ps) refl)
-  where
-    split : (a b : Bool) → (a || (b || false)) ≡ true → (a || b) ≡ true
-    split true b e = refl
-    split false true e = refl
-    split false false e = e
+    by_there : (b : Bool) → IsOrdered (if b then t else put (enter t q) q (t.fields (parent_of q)))
+    by_there true = h
+    by_there false = enter_sorted t q h
 
-    by_rest : (r : Bool) → list_any (path_eq p) ps ≡ r → (there (with_context t q) p || r) ≡ true
-    by_rest true e = or_true (there (with_context t q) p)
-    by_rest false e = ap (λ b. b || false) (there_context t q p (split (there t p) (path_eq p q) (ap (λ r. there t p || (path_eq p q || r)) (sym e) ∙ h)))
+contexts_ordered : (t : Tree ℕ) (ps : List Path) → IsOrdered t → IsOrdered (with_contexts t ps)
+contexts_ordered t [] h = h
+contexts_ordered t (q ∷ ps) h = contexts_ordered (with_context t q) ps (context_ordered t q h)
+
+move_ordered : (t : Tree ℕ) (m : Option (Path × ℕ)) → IsOrdered t → IsOrdered (with_move t m)
+move_ordered t None h = h
+move_ordered t (Some m) h = h
 
 pub there_move : (t : Tree ℕ) (m : Option (Path × ℕ)) (p : Path) → there (with_move t m) p ≡ there t p
 there_move t None p = refl
@@ -242,10 +258,28 @@ module _ (shape : Shape) (meaning : Meaning) (FitsTree : Tree (List Value) → T
     line_most (Move p k) h = omega arith
     line_most Snapshot h = omega arith
 
-    line_joined : (l : Line) → FitsJob FitsCall l → (p : Path) → there (line_by meaning ticket t l).tree p ≡ true → (there t p || list_any (path_eq p) (line_by meaning ticket t l).entered) ≡ true
-    line_joined (Request call) h p e = owed.joined t call p f h e
-    line_joined (Move q k) h p e = ap (λ b. b || list_any (path_eq p) (move_ran t q k).entered) e
-    line_joined Snapshot h p e = ap (λ b. b || list_any (path_eq p) t.paths) e
+    -- a filtered path is there
+    filtered_there : (ps : List Path) (p : Path) → list_any (path_eq p) (filter (there t) ps) ≡ true → there t p ≡ true
+    filtered_there [] p e = cc
+    filtered_there (q ∷ ps) p e = by_there (there t q) refl (filtered_there ps p) e
+      where
+        by_first : (b : Bool) → path_eq p q ≡ b → there t q ≡ true → (list_any (path_eq p) (filter (there t) ps) ≡ true → there t p ≡ true) → (b || list_any (path_eq p) (filter (there t) ps)) ≡ true → there t p ≡ true
+        by_first true s h rest e = ap (there t) ((path_eq_decides p q).0 s) ∙ h
+        by_first false s h rest e = rest e
+
+        by_there : (b : Bool) → there t q ≡ b → (list_any (path_eq p) (filter (there t) ps) ≡ true → there t p ≡ true) → list_any (path_eq p) (cond b (q ∷ filter (there t) ps) (filter (there t) ps)) ≡ true → there t p ≡ true
+        by_there true h rest e = by_first (path_eq p q) refl h rest e
+        by_there false h rest e = rest e
+
+    pub line_joined : (l : Line) → FitsJob FitsCall l → (p : Path) → there (line_by meaning ticket t l).tree p ≡ (there t p || list_any (path_eq p) (line_by meaning ticket t l).entered)
+    line_joined (Request call) h p = owed.joined t call p f h
+    line_joined (Move q k) h p = or_same (there t p) (list_any (path_eq p) (filter (there t) (fronts q))) (filtered_there (fronts q) p)
+    line_joined Snapshot h p = or_same (there t p) (there t p) (λ e. e)
+
+    line_ordered : (l : Line) → FitsJob FitsCall l → IsOrdered t → IsOrdered (line_by meaning ticket t l).tree
+    line_ordered (Request call) h o = owed.ordered t call f h o
+    line_ordered (Move q k) h o = o
+    line_ordered Snapshot h o = o
 
     move_there : (b : Bool) (p : Path) (k : Host) (m : Path × ℕ) → there t p ≡ b → move_of (only (if b then out.Moved p k else out.Absent p)) ≡ Some m → there t m.0 ≡ true
     move_there true p k m s e = let same : (p, k.0) ≡ m = cc in ap (there t) (sym (ap (λ (m : Path × ℕ). m.0) same)) ∙ s
@@ -265,7 +299,9 @@ module _ (shape : Shape) (meaning : Meaning) (FitsTree : Tree (List Value) → T
       pub within : w.head.done ≤ length w.head.known
       pub results : length w.results ≡ w.head.done
       pub entered : length w.entered ≡ w.head.done
-      pub covered : (p : Path) → there w.tree p ≡ true → there (hosts_after start w) p ≡ true
+      pub placed : (p : Path) → there (hosts_after start w) p ≡ there w.tree p
+      pub ordered : IsOrdered w.tree
+      pub hosts_ordered : IsOrdered (hosts_after start w)
       pub heads : head_after (first_head script.batches) (map created_lines w.results) ≡ w.head
 
     pub hosts_push : (w : Progress (List Value) EventResult Line) (x : Ran (List Value) EventResult) → length w.entered ≡ length w.results → hosts_after start (with_result start.next.0 (line_by meaning) created_lines w x) ≡ after_job (hosts_after start w) x.entered (move_of x.result)
@@ -292,19 +328,14 @@ module _ (shape : Shape) (meaning : Meaning) (FitsTree : Tree (List Value) → T
           within = next.within;
           results = omega (arith, next.done, good.results, length-append w.results (x.result ∷ []));
           entered = omega (arith, next.done, good.entered, length-append w.entered (x.entered ∷ []));
-          covered = λ p e.
-              let known : (there (hosts_after start w) p || list_any (path_eq p) x.entered) ≡ true = by_old w good p x.entered (line_joined ticket w.tree good.tree j fits p e) in
-              ap (λ (t : Tree ℕ). there t p) (hosts_push w x (good.entered ∙ sym good.results)) ∙ there_move (with_contexts (hosts_after start w) x.entered) (move_of x.result) p ∙ there_contexts (hosts_after start w) x.entered p known;
+          placed = λ p.
+              ap (λ (t : Tree ℕ). there t p) (hosts_push w x (good.entered ∙ sym good.results)) ∙ there_move (with_contexts (hosts_after start w) x.entered) (move_of x.result) p ∙ there_contexts (hosts_after start w) x.entered p
+              ∙ ap (λ b. b || list_any (path_eq p) x.entered) (good.placed p) ∙ sym (line_joined ticket w.tree good.tree j fits p);
+          ordered = line_ordered ticket w.tree good.tree j fits good.ordered;
+          hosts_ordered = subst IsOrdered (sym (hosts_push w x (good.entered ∙ sym good.results)))
+              (move_ordered (with_contexts (hosts_after start w) x.entered) (move_of x.result) (contexts_ordered (hosts_after start w) x.entered good.hosts_ordered));
           heads = ap (head_after (first_head script.batches)) (map-append created_lines w.results (x.result ∷ [])) ∙ head_push (first_head script.batches) (map created_lines w.results) created ∙ ap (λ h. with_done h created) good.heads;
         }
-      where
-        by_test : (a b c : Bool) → (a ≡ true → c ≡ true) → (a || b) ≡ true → (c || b) ≡ true
-        by_test true b c h e = ap (λ c. c || b) (h refl)
-        by_test false true c h e = or_true c
-        by_test false false c h e = absurd (true≢false (sym e))
-
-        by_old : (w : Progress (List Value) EventResult Line) → IsGood w → (p : Path) (ps : List Path) → (there w.tree p || list_any (path_eq p) ps) ≡ true → (there (hosts_after start w) p || list_any (path_eq p) ps) ≡ true
-        by_old w good p ps e = by_test (there w.tree p) (list_any (path_eq p) ps) (there (hosts_after start w) p) (good.covered p) e
 
     good_more : (w : Progress (List Value) EventResult Line) → IsGood w → IsGood (one_more start.next.0 (line_by meaning) created_lines w)
     good_more w good = by_job (next_job w.head) refl
@@ -331,13 +362,21 @@ module _ (shape : Shape) (meaning : Meaning) (FitsTree : Tree (List Value) → T
           within = next.within;
           results = sym next.done;
           entered = sym next.done;
-          covered = λ p e. ap (list_any (path_eq p)) b.places ∙ e;
+          placed = λ p. ap (list_any (path_eq p)) b.places;
+          ordered = b.tree.ordered;
+          hosts_ordered = subst (IsStrictlySortedBy path_cmp) (sym b.places) b.tree.ordered;
           heads = refl;
         }
 
     pub good_after : IsScript shape script → IsStart shape script.hosts start → (n : ℕ) → IsGood (after_jobs meaning shape start script n)
     good_after s b zero = good_first s b
     good_after s b (suc n) = good_more (after_jobs meaning shape start script n) (good_after s b n)
+
+    -- the places are those of the contexts
+    pub same_paths : IsScript shape script → IsStart shape script.hosts start → (n : ℕ) → (hosts_after start (after_jobs meaning shape start script n)).paths ≡ (after_jobs meaning shape start script n).tree.paths
+    same_paths s b n =
+        let good = good_after s b n in
+        same_sorted (hosts_after start (after_jobs meaning shape start script n)).paths (after_jobs meaning shape start script n).tree.paths good.hosts_ordered good.ordered good.placed
 
     -- there is a ticket for each job
     pub room_after : IsScript shape script → IsStart shape script.hosts start → (w : Progress (List Value) EventResult Line) → IsGood w → (created : List Call) → length created ≤ 4

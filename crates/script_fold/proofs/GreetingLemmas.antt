@@ -14,7 +14,7 @@ use Rattle.wave_base.specs.Shapes.{IsShape, HasInitials, parent_class, is_within
 use Rattle.wave_base.specs.Starts.{IsStart, first_start}
 use Rattle.wave_base.specs.Trees.{FitsShape, first_tree}
 use Rattle.wave_base.specs.Values.{kind_of}
-use Rattle.script_fold.specs.Greeting.{root_class, hall_class, greeting, small_shape, call_at, hall, first_batch, last_batch, small_script}
+use Rattle.script_fold.specs.inner.Greeting.{root_class, hall_class, greeting, small_shape, call_at, hall, first_batch, last_batch, small_script}
 use Rattle.script_fold.proofs.StartLemmas.{first_fits}
 
 parent_there : (n : ℕ) → suc n < 2 → (d : Class) × (parent_class small_shape (suc n) ≡ Some d) × (d.0 ≤ n)

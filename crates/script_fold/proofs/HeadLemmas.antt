@@ -8,7 +8,7 @@ use Rattle.wave_base.specs.declared.script.Line.{Line}
 use Rattle.wave_base.specs.Fold.{Head, next_batch, begun, next_job}
 use Rattle.head_tickets.proofs.TicketLists.{begins}
 use Rattle.head_tickets.specs.Heads.{Heading, head_of}
-use Rattle.script_fold.specs.Standing.{IsWaiting, IsReady}
+use Rattle.script_fold.specs.inner.Standing.{IsWaiting, IsReady}
 
 pub ready_begun : (first : ℕ) (done : List Line) (w : Head Line) (h k : Heading) → IsWaiting first done w h → h.waiting ≡ [] → 0 < length h.later → head_of done k ≡ next_batch (head_of done h)
     → k.first ≡ h.first → k.admitted ≡ h.admitted → k.done ≡ h.done → IsReady first done w k

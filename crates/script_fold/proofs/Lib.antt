@@ -2,9 +2,11 @@ pub mod SeenLemmas
 pub mod VisitLemmas
 pub mod PlaceLemmas
 pub mod HeadLemmas
+pub mod OrderLemmas
 pub mod FrontLemmas
 pub mod FoldLemmas
 pub mod StepLemmas
 pub mod StartLemmas
 pub mod MoveLemmas
+pub mod AgainLemmas
 pub mod GreetingLemmas

@@ -10,14 +10,15 @@ use Rattle.std.specs.declared.cmp.Ordering.{Ordering}
 use Rattle.std.specs.declared.cmp.Ordering.TheVariants.{Less}
 use Rattle.wave_base.specs.declared.finished.Place.{Place}
 use Rattle.wave_base.specs.declared.path.Path.{Path}
+use Rattle.wave_base.specs.declared.start.Start.{Start}
 use Rattle.wave_base.specs.Paths.{path_eq, path_cmp}
 use Rattle.wave_base.specs.PathLaws.{path_cmp_total, path_eq_ties, path_eq_equiv}
 use Rattle.wave_base.specs.Places.{load_of}
-use Rattle.wave_base.specs.Starts.{shown_host}
+use Rattle.wave_base.specs.Starts.{shown_host, start_places}
 use Rattle.wave_base.specs.Tree.{Tree, shots}
 use Rattle.script_fold.specs.declared.visits.Visit.{Visit}
 use Rattle.script_fold.specs.Runs.{place_of}
-use Rattle.script_fold.specs.Visiting.{Entries, IsSeen, IsVisited, found, visit_at, unseen, hosts_of, place_in}
+use Rattle.script_fold.specs.inner.Visiting.{Entries, IsSeen, IsVisited, found, visit_at, unseen, place_in}
 use Rattle.script_fold.proofs.VisitLemmas.{at_path}
 
 abbrev pub fresh : Place → Path × Visit
@@ -68,12 +69,12 @@ fresh_at (x ∷ places) q = ap (λ b. unwrap_or (cond b (Some (fresh x).1) (foun
     by_test true h = refl
     by_test false h = h
 
-pub start_visited : (places : List Place) → IsStrictlySortedBy path_cmp (map (λ x. x.path) places) → IsVisited (hosts_of places) [] [] (map fresh places)
-start_visited places ordered = record {
-  paths = keys_fresh places;
+pub start_visited : (start : Start) → IsStrictlySortedBy path_cmp (map (λ x. x.path) start.places) → IsVisited (start_places start) [] [] (map fresh start.places)
+start_visited start ordered = record {
+  paths = keys_fresh start.places;
   sorted = ordered;
-  host = λ p. ap (λ (v : Visit). v.host.0) (fresh_at places p);
-  seen = λ p. subst (IsSeen 0 0 false) (sym (fresh_at places p)) (record { load = refl; mark = refl; last = omega arith; few = omega arith });
+  host = λ p. ap (λ (v : Visit). v.host.0) (fresh_at start.places p);
+  seen = λ p. subst (IsSeen 0 0 false) (sym (fresh_at start.places p)) (record { load = refl; mark = refl; last = omega arith; few = omega arith });
 }
 
 -- what is kept in order is what look-ups give

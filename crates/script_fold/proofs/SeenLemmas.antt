@@ -3,7 +3,7 @@ use Rattle.std.proofs.Common.{◌≡◌, ◌≢◌, ◌≤◌, ◌+◌, ◌==◌
 use Rattle.std.proofs.lemmas.Bool.{eqb-false}
 use Rattle.wave_base.specs.declared.numbers.Host.{Host}
 use Rattle.script_fold.specs.declared.visits.Visit.{Visit}
-use Rattle.script_fold.specs.Visiting.{IsSeen, counted, unseen}
+use Rattle.script_fold.specs.inner.Visiting.{IsSeen, counted, unseen}
 
 pub seen_counted : (n base : ℕ) (m : Bool) (v : Visit) → IsSeen n base m v → IsSeen n base true (counted (suc n) v)
 seen_counted n base m v h = by_last (v.last == suc n) refl

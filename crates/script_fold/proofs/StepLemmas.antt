@@ -22,8 +22,8 @@ use Rattle.script_fold.specs.declared.folding.Folding.{Folding}
 use Rattle.script_fold.specs.Lines.{Meaning, line_by, name_of, most_jobs, FitsJob}
 use Rattle.script_fold.specs.Owed.{Owed}
 use Rattle.script_fold.specs.Runs.{after_jobs, hosts_after, ticket_of}
-use Rattle.script_fold.specs.Standing.{IsWaiting, IsAdmitted, IsKept, Stands, Ended}
-use Rattle.script_fold.specs.Visiting.{Entries, IsVisited, IsMoveWithin}
+use Rattle.script_fold.specs.inner.Standing.{IsWaiting, IsAdmitted, IsKept, Stands, Ended}
+use Rattle.script_fold.specs.inner.Visiting.{Entries, IsVisited, IsMoveWithin}
 use Rattle.script_fold.proofs.FoldLemmas.{IsGood, good_after, good_ran, line_few, line_moved, hosts_push, there_move, All-drop_head, room_after}
 
 at_seam : (xs : List Line) (y : Line) (zs : List Line) → slice_get ((xs ++ y ∷ []) ++ zs) (length xs) ≡ Some y
@@ -130,7 +130,7 @@ module _ (shape : Shape) (meaning : Meaning) (FitsTree : Tree (List Value) → T
             by_move (Some m) e =
                 let moved : move_of ran.result ≡ Some m = ap move_of (sym result_ran) ∙ e in
                 let known : there ran.tree m.0 ≡ true = line_moved shape meaning FitsTree FitsCall owed (start.next.0 + here.head.done) here.tree good.tree line job_fits m moved in
-                let placed : there (hosts_after start further) m.0 ≡ true = good_further.covered m.0 known in
+                let placed : there (hosts_after start further) m.0 ≡ true = good_further.placed m.0 ∙ known in
                 ap (λ ps. there (with_contexts (hosts_after start here) ps) m.0) paths_ran ∙ sym (there_move (with_contexts (hosts_after start here) ran.entered) (move_of ran.result) m.0)
                 ∙ ap (λ (t : Tree ℕ). there t m.0) (sym hosts_further) ∙ placed
 

@@ -17,7 +17,7 @@ use Rattle.wave_base.specs.PathLaws.{path_eq_ties, path_eq_equiv, path_eq_decide
 use Rattle.wave_base.specs.Places.{with_context, with_contexts, load_of}
 use Rattle.wave_base.specs.Tree.{Tree, there, enter, put}
 use Rattle.script_fold.specs.declared.visits.Visit.{Visit}
-use Rattle.script_fold.specs.Visiting.{Entries, IsSeen, IsVisited, found, visit_at, visit_of, visit_by, counted, unseen}
+use Rattle.script_fold.specs.inner.Visiting.{Entries, IsSeen, IsVisited, found, visit_at, visit_of, visit_by, counted, unseen}
 use Rattle.script_fold.proofs.SeenLemmas.{seen_counted, seen_new, seen_elsewhere, seen_later}
 
 pub parent_last : (p : List Step) (s : Step) → parent_of (p ++ s ∷ []) ≡ p

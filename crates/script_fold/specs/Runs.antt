@@ -1,8 +1,9 @@
 -- A whole run of a script, and what it gives.
-use Rattle.std.specs.Prelude.{ℕ, List, map}
+use Rattle.std.specs.Prelude.{◌≤◌, ◌+◌, ℕ, List, length, map}
 use Rattle.std.specs.List.{zip}
 use Rattle.wave_base.specs.declared.finished.Finished.{Finished}
 use Rattle.wave_base.specs.declared.finished.Place.{Place}
+use Rattle.wave_base.specs.declared.limits.TheConstants.{START_CONTEXTS, START_TICKET}
 use Rattle.wave_base.specs.declared.numbers.Ticket.{Ticket}
 use Rattle.wave_base.specs.declared.outcome.EventResult.{EventResult}
 use Rattle.wave_base.specs.declared.path.Path.{Path}
@@ -50,3 +51,13 @@ finished_by start script w = record {
 
 abbrev pub finished_of : Meaning → Shape → Start → Script → Finished
 finished_of meaning shape start script = finished_by start script (whole_run meaning shape start script)
+
+-- ---- what a run leaves, another can begin with
+
+-- its contexts, their hosts, and the ticket behind its last
+abbrev pub start_after : Start → Finished → Start
+start_after start f = record { shots = f.shots; places = f.places; next = record { 0 = start.next.0 + length f.results } }
+
+-- its contexts and its next ticket are few enough for a start
+abbrev pub IsFew : Start → Type 0
+IsFew start = (length start.shots ≤ START_CONTEXTS) × (start.next.0 ≤ START_TICKET)

@@ -8,7 +8,7 @@ ghost use Rattle.wave_base.specs.Scripts.{IsScript};
 ghost use Rattle.wave_base.specs.Starts.{IsStart};
 ghost use Rattle.script_fold.specs.Lines.{Meaning};
 ghost use Rattle.script_fold.specs.Runs.{finished_of};
-ghost use Rattle.script_fold.specs.Standing.{Stands, Ended};
+ghost use Rattle.script_fold.specs.inner.Standing.{Stands, Ended};
 
 use crate::jobs::{name_of, run_job};
 use crate::runner::Runner;
@@ -36,7 +36,7 @@ impl Folding {
         requires { (shape : Shape) × IsScript shape script.now × IsStart shape script.now.hosts start.now }
         ensures { IfOk result (λ f. (meaning : Meaning) (shape : Shape) → IsScript shape script.now → IsStart shape script.now.hosts start.now → Stands meaning shape start.now script.now f) }
     {
-        let visits = Visits::start(alloc, start.places.as_slice())?;
+        let visits = Visits::start(alloc, start)?;
         let contexts = Tree::from_shots(alloc, start.shots.as_slice())?;
         let head = Head::new_at(alloc, script.copy(alloc)?, start.next);
         Ok(Folding {

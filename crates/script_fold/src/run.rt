@@ -1,6 +1,6 @@
 //! A script, run whole.
 
-ghost use Rattle.std.specs.Prelude.{◌≡◌, ◌≤◌, ◌-◌, ◌^◌, length, IfOk, IsTrue};
+ghost use Rattle.std.specs.Prelude.{◌≡◌, ◌≤◌, ◌-◌, ◌^◌, length, map, IfOk, IsTrue};
 ghost use Rattle.wave_base.specs.declared.script.Script.{Script};
 ghost use Rattle.wave_base.specs.declared.start.Start.{Start};
 ghost use Rattle.wave_base.specs.Fold.{is_over};
@@ -8,7 +8,7 @@ ghost use Rattle.wave_base.specs.Scripts.{IsScript};
 ghost use Rattle.wave_base.specs.Shapes.{IsShape};
 ghost use Rattle.wave_base.specs.Starts.{IsStart, first_start};
 ghost use Rattle.script_fold.specs.Runs.{finished_of, whole_run};
-ghost use Rattle.script_fold.specs.Standing.{Stands, Ended};
+ghost use Rattle.script_fold.specs.inner.Standing.{Stands, Ended};
 
 use crate::folding::Folding;
 use crate::runner::Runner;
@@ -27,6 +27,7 @@ pub fn run_script_at<R: Runner>(
     requires script { IsScript (R.shape runner.now) script.now }
     requires start { IsStart (R.shape runner.now) script.now.hosts start.now }
     ensures finished { IfOk result (λ f. f ≡ finished_of (R.meaning runner.now) (R.shape runner.now) start.now script.now) }
+    ensures places { IfOk result (λ f. map (λ x. x.path) f.places ≡ map (λ s. s.path) f.shots) }
     ensures few { IfOk result (λ f. length f.results ≤ 2 ^ 32 - 1) }
     ensures over { IfOk result (λ _. IsTrue (is_over (whole_run (R.meaning runner.now) (R.shape runner.now) start.now script.now))) }
 {
@@ -47,6 +48,7 @@ pub fn run_script<R: Runner>(
     requires sound { R.sound runner.now }
     requires script { IsScript shape.now script.now }
     ensures finished { IfOk result (λ f. f ≡ finished_of (R.meaning runner.now) shape.now (first_start shape.now) script.now) }
+    ensures places { IfOk result (λ f. map (λ x. x.path) f.places ≡ map (λ s. s.path) f.shots) }
     ensures few { IfOk result (λ f. length f.results ≤ 2 ^ 32 - 1) }
     ensures over { IfOk result (λ _. IsTrue (is_over (whole_run (R.meaning runner.now) shape.now (first_start shape.now) script.now))) }
 {

@@ -1,11 +1,11 @@
 //! A small script, run whole: what it gives was worked out by hand.
 
 ghost use Rattle.std.specs.Prelude.{◌≡◌, [], None, IfOk};
-ghost use Rattle.script_fold.specs.Greeting.{small_shape, small_script, again, greets, AnyTree, Greeted, greeting, hall};
-ghost use Rattle.script_fold.specs.Greets.{greets_owed};
+ghost use Rattle.script_fold.specs.inner.Greeting.{small_shape, small_script, again, greets, HasRoot, Greeted, greeting, hall};
+ghost use Rattle.script_fold.specs.inner.Greets.{greets_owed};
 
 use crate::runner::Runner;
-use crate::{moves_change_no_other_result, run_script, run_script_at};
+use crate::{moves_change_no_other_result, run_script, run_script_at, runs_go_on};
 use context_tree::{Tree, trees_that_fit};
 use std::alloc::Global;
 use std::test::Fail;
@@ -24,7 +24,7 @@ impl Runner for Greeter {
 
     ghost sound = { λ _. Unit {0} };
 
-    ghost fits_tree = { λ _. AnyTree };
+    ghost fits_tree = { λ _. HasRoot };
 
     ghost fits_call = { λ _. Greeted };
 
@@ -124,6 +124,7 @@ fn small_script(alloc: Global) -> Result<Script, OutOfMemory>
 fn a_script_is_run_whole(rt: HostRuntime) -> Result<(), Fail> {
     let alloc = rt.alloc();
     moves_change_no_other_result();
+    runs_go_on(&Greeter);
     let shape = small_shape(alloc)?;
     let script = small_script(alloc)?;
     let finished = run_script(alloc, &Greeter, &shape, &script)?;

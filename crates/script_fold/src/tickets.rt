@@ -4,7 +4,7 @@ ghost use Rattle.std.specs.Prelude.{◌≡◌, ◌≤◌, ◌+◌, ◌^◌, ◌�
 ghost use Rattle.head_tickets.specs.Heads.{line_of, line_count, requests};
 ghost use Rattle.wave_base.specs.declared.script.Line.{Line};
 ghost use Rattle.wave_base.specs.Fold as fold;
-ghost use Rattle.script_fold.specs.Standing.{IsWaiting, IsReady, IsAdmitted};
+ghost use Rattle.script_fold.specs.inner.Standing.{IsWaiting, IsReady, IsAdmitted};
 
 use head_tickets::{Head, Job};
 use std::alloc::Global;

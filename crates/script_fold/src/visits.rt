@@ -5,12 +5,13 @@ ghost use Rattle.std.specs.List.Sorted.{IsStrictlySortedBy};
 ghost use Rattle.wave_base.specs.declared.path.Path.{Path};
 ghost use Rattle.wave_base.specs.Paths.{path_cmp, parent_of};
 ghost use Rattle.wave_base.specs.Places.{with_context, with_contexts, after_job, move_in};
+ghost use Rattle.wave_base.specs.Starts.{start_places};
 ghost use Rattle.wave_base.specs.Tree.{Tree, put, there};
-ghost use Rattle.script_fold.specs.Visiting.{IsVisited, IsMoveWithin, visit_at, visit_by, counted, hosts_of, place_in};
+ghost use Rattle.script_fold.specs.inner.Visiting.{IsVisited, IsMoveWithin, visit_at, visit_by, counted, place_in};
 
 use std::alloc::Global;
 use std::collections::BTreeMap;
-use wave_base::{Host, OutOfMemory, Outcome, Path, Place, Seq};
+use wave_base::{Host, OutOfMemory, Outcome, Path, Place, Seq, Start};
 
 /// A context's host, how many jobs entered it, and the last of them, where the first job of the run is 1.
 #[derive(Clone, Copy)]
@@ -46,11 +47,12 @@ impl Visit {
 
 impl Visits {
     /// No job has entered any of these contexts.
-    pub fn start(alloc: Global, places: &[Place]) -> Result<Visits, OutOfMemory>
-        requires { IsStrictlySortedBy path_cmp (map (λ x. x.path) places.now) }
-        ensures { IfOk result (λ v. IsVisited (hosts_of places.now) [] [] v.contexts.entries) }
+    pub fn start(alloc: Global, start: &Start) -> Result<Visits, OutOfMemory>
+        requires { IsStrictlySortedBy path_cmp (map (λ x. x.path) start.now.places) }
+        ensures { IfOk result (λ v. IsVisited (start_places start.now) [] [] v.contexts.entries) }
     {
         let mut contexts = BTreeMap::new(alloc);
+        let places = start.places.as_slice();
         for place in places {
             let visit = Visit {
                 host: place.host,

@@ -37,9 +37,9 @@ use Rattle.script_reader.specs.declared.said.Said.TheVariants.{Nothing, Unknown,
 use Rattle.script_reader.specs.declared.taken.Taken.{Taken}
 use Rattle.script_reader.specs.declared.taken.Taken.TheVariants.{Skipped, Hosts, Event, Settle}
 use Rattle.script_reader.specs.Judged.{value_of, values_of, call_with, call_of, has_name, params_in, call_at, requested, move_to, as_event, judged_event, judged_hosts, judged_form}
-use Rattle.script_reader.specs.Progressed.{with_taken, progress_of}
+use Rattle.script_reader.specs.inner.Progressed.{with_taken, progress_of}
 use Rattle.script_reader.specs.Scripts.{judged, with_batch, script_with}
-use Rattle.script_reader.specs.Steps.{IsStep}
+use Rattle.script_reader.specs.inner.Steps.{IsStep}
 
 pub record Fits (shape : Shape) (p : Progress) : Type 0 where
   pub some_host : 1 ≤ p.hosts

@@ -13,7 +13,7 @@ use Rattle.script_reader.specs.declared.piece.Piece.TheVariants.{Run}
 use Rattle.script_reader.specs.declared.said.Said.{Said}
 use Rattle.script_reader.specs.declared.said.Said.TheVariants.{Nothing, Unknown, Says}
 use Rattle.script_reader.specs.Forms.{form_word, form_rest, HasNoFormOf, HasForm, HasNoForm, is_skipped}
-use Rattle.script_reader.specs.Parts.{IsNumber, IsTo, IsNoMove, Spells, SpellsOnly, SpellsNone}
+use Rattle.script_reader.specs.inner.Parts.{IsNumber, IsTo, IsNoMove, Spells, SpellsOnly, SpellsNone}
 use Rattle.script_reader.specs.Pieces.{ArePieces, AreOnlyPieces, HasNoPieces}
 use Rattle.script_reader.specs.Scripts.{IsSaid, IsOnlySaid}
 

@@ -9,7 +9,7 @@ use Rattle.script_reader.specs.declared.form.Literal.TheVariants.{Number, Truth,
 use Rattle.script_reader.specs.declared.piece.Piece.{Piece}
 use Rattle.script_reader.specs.declared.piece.Piece.TheVariants.{Run, Text, Open, Close, Comma}
 use Rattle.script_reader.specs.Forms.{literal_piece, is_literal, more_pieces, literal_pieces, truth_word}
-use Rattle.script_reader.specs.Parts.{IsLiteralPiece, IsNoLiteralPiece, AreLiterals, AreOnlyLiterals, AreNoLiterals, More, End, Wrong, behind_in}
+use Rattle.script_reader.specs.inner.Parts.{IsLiteralPiece, IsNoLiteralPiece, AreLiterals, AreOnlyLiterals, AreNoLiterals, More, End, Wrong, behind_in}
 
 -- ---- one piece spells one literal
 

@@ -15,9 +15,9 @@ use Rattle.script_reader.specs.declared.taken.Taken.{Taken}
 use Rattle.script_reader.specs.declared.taken.Taken.TheVariants.{Skipped, Hosts, Event, Settle}
 use Rattle.std.specs.Prelude.{count_by}
 use Rattle.script_reader.specs.Judged.{is_event, hosts_of, event_lines}
-use Rattle.script_reader.specs.Progressed.{progress_of, with_taken}
+use Rattle.script_reader.specs.inner.Progressed.{progress_of, with_taken}
 use Rattle.script_reader.specs.Scripts.{closed_batches, open_batch, judged, IsOnlySaid, judged_after, Goes, IsRead, IsScriptOf, IsAnswer, script_of, refused}
-use Rattle.script_reader.specs.Steps.{IsStep, IsRefused, IsStop}
+use Rattle.script_reader.specs.inner.Steps.{IsStep, IsRefused, IsStop}
 
 -- these lines were read, the last one first, and these ones are left
 pub record AreReadTo (shape : Shape) (earlier : Earlier) (lines : List (List ℕ)) (before : List Taken) (left : List (List ℕ)) : Type 0 where

@@ -21,30 +21,30 @@ pub enum Fault {
 #[derive(Clone, Copy, Debug, PartialEq, Eq, Error)]
 pub enum ScriptError {
     /// The line has none of the forms.
-    #[error("S1 UnknownCommand line {line}")]
+    #[error("line {line} has none of the forms")]
     UnknownCommand { line: u32 },
     /// No event has that name.
-    #[error("S2 UnknownEvent line {line}")]
+    #[error("line {line}: no event has that name")]
     UnknownEvent { line: u32 },
     /// The event has more or fewer parameters.
-    #[error("S3 ArgCount line {line}")]
+    #[error("line {line}: more or fewer arguments than parameters")]
     ArgCount { line: u32 },
     /// An argument is not of its parameter's kind, does not fit 64 bits, or is too long a text.
-    #[error("S4 ArgType line {line}")]
+    #[error("line {line}: an argument that is none of its parameter")]
     ArgType { line: u32 },
     /// A class is not a child class of the one before it, a key does not fit 64 bits, or there are too many steps.
-    #[error("S5 BadPath line {line}")]
+    #[error("line {line}: no path of the service")]
     BadPath { line: u32 },
     /// The number of hosts is not from 1 to 8, or a host is not below it.
-    #[error("S6 HostRange line {line}")]
+    #[error("line {line}: a host or a number of hosts that is out of range")]
     HostRange { line: u32 },
     /// `hosts` behind an event line, a `settle` or another `hosts`.
-    #[error("S7 HostsLate line {line}")]
+    #[error("line {line}: the number of hosts comes too late")]
     HostsLate { line: u32 },
     /// An event line too many.
-    #[error("S8 TooMany line {line}")]
+    #[error("line {line}: an event line too many")]
     TooMany { line: u32 },
-    #[error("S9 OutOfMemory")]
+    #[error("out of memory")]
     OutOfMemory,
 }
 

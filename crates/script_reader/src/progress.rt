@@ -1,5 +1,5 @@
 ghost use Rattle.std.specs.Prelude.{◌≡◌, ◌+◌, ◌<◌, ◌^◌, [], OnOk, IfOk};
-ghost use Rattle.script_reader.specs.Progressed.{progress_of, with_taken};
+ghost use Rattle.script_reader.specs.inner.Progressed.{progress_of, with_taken};
 ghost use Rattle.script_reader.specs.Scripts.{with_batch, script_with};
 ghost use Rattle.script_reader.specs.declared.taken.Taken.TheVariants.{Event, Settle};
 

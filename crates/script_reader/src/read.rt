@@ -1,9 +1,10 @@
 ghost use Rattle.std.specs.Prelude.{◌≡◌, ◌+◌, ◌≤◌, ◌<◌, ◌^◌, length, IfOk, IfErr, OnOk};
+ghost use Rattle.wave_base.specs.declared.limits.TheConstants.{PLACED_BYTES};
 ghost use Rattle.wave_base.specs.Scripts.{IsScript};
 ghost use Rattle.wave_base.specs.Shapes.{IsShape};
 ghost use Rattle.script_reader.specs.Judged.{nothing_earlier, script_earlier};
 ghost use Rattle.script_reader.specs.Scripts.{IsAnswer};
-ghost use Rattle.script_reader.specs.Steps.{IsStep, IsStop};
+ghost use Rattle.script_reader.specs.inner.Steps.{IsStep, IsStop};
 
 use crate::earlier::Earlier;
 use crate::error::{ScriptError, refused};
@@ -11,7 +12,7 @@ use crate::judge::judged;
 use crate::progress::Progress;
 use crate::said::said_by;
 use std::alloc::Global;
-use wave_base::{EVENT_LINES, HOSTS, SCRIPT_BYTES, Script, Shape};
+use wave_base::{EVENT_LINES, HOSTS, Script, Shape};
 use wave_text::first_line;
 
 // Takes one line, which has this number.
@@ -45,7 +46,7 @@ fn read_after(
     earlier: Earlier,
 ) -> Result<Script, ScriptError>
     requires shape { IsShape shape.now }
-    requires short { length text.now ≤ SCRIPT_BYTES }
+    requires short { length text.now ≤ PLACED_BYTES }
     requires some_host { 1 ≤ earlier.hosts }
     requires few_hosts { earlier.hosts ≤ HOSTS }
     requires few_lines { earlier.events ≤ EVENT_LINES }
@@ -70,7 +71,7 @@ fn read_after(
 /// The script that a text stands for, or the first line that is refused with its fault.
 pub fn read_script(alloc: Global, shape: &Shape, text: &[u8]) -> Result<Script, ScriptError>
     requires shape { IsShape shape.now }
-    requires short { length text.now ≤ SCRIPT_BYTES }
+    requires short { length text.now ≤ PLACED_BYTES }
     ensures answer { IsAnswer shape.now nothing_earlier text.now result }
     ensures fits { IfOk result (IsScript shape.now) }
 {
@@ -91,7 +92,7 @@ pub fn read_script_at(
     lines: u32,
 ) -> Result<Script, ScriptError>
     requires shape { IsShape shape.now }
-    requires short { length text.now ≤ SCRIPT_BYTES }
+    requires short { length text.now ≤ PLACED_BYTES }
     requires some_host { 1 ≤ hosts }
     requires few_hosts { hosts ≤ HOSTS }
     requires few_lines { lines ≤ EVENT_LINES }

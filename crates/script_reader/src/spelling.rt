@@ -1,7 +1,7 @@
 ghost use Rattle.std.specs.Prelude.{◌≡◌, ◌∷◌, ◌↔◌, [], List, ℕ, IsTrue, codes, IfOk, IfSome, IfNone};
-ghost use Rattle.script_reader.specs.Behind.{behind_of};
+ghost use Rattle.script_reader.specs.inner.Behind.{behind_of};
 ghost use Rattle.script_reader.specs.Forms.{IsOnlyFormOf, HasNoFormOf};
-ghost use Rattle.script_reader.specs.Parts.{IsLiteralPiece, IsNoLiteralPiece, AreOnlyLiterals, AreNoLiterals, IsNumber, IsNoNumber, IsNamed, IsNotNamed, IsTo, IsNotTo, IsMove, IsNoMove, SpellsOnly, SpellsNone, behind_in};
+ghost use Rattle.script_reader.specs.inner.Parts.{IsLiteralPiece, IsNoLiteralPiece, AreOnlyLiterals, AreNoLiterals, IsNumber, IsNoNumber, IsNamed, IsNotNamed, IsTo, IsNotTo, IsMove, IsNoMove, SpellsOnly, SpellsNone, behind_in};
 ghost use Rattle.script_reader.specs.declared.piece.Piece.TheVariants.{Run, Close};
 
 use crate::form::{Form, Literal};

@@ -7,7 +7,7 @@ use crate::{ScriptError, read_script, read_script_at};
 use std::alloc::Global;
 use std::test::Fail;
 use wave_base::{
-    Call, Class, ClassInfo, EventInfo, Host, Kind, Line, OutOfMemory, Path, SCRIPT_BYTES, Script,
+    Call, Class, ClassInfo, EventInfo, Host, Kind, Line, OutOfMemory, Path, PLACED_BYTES, Script,
     Seq, Shape, Step, Txt, Value,
 };
 
@@ -167,7 +167,7 @@ fn after_4000(alloc: Global, shape: &Shape, line: &[u8]) -> Result<Option<Script
         text.extend_from_slice(b"snapshot\n")?;
     }
     text.extend_from_slice(line)?;
-    if text.len() > SCRIPT_BYTES {
+    if text.len() > PLACED_BYTES {
         return Ok(None);
     }
     Ok(read_script(alloc, shape, text.as_slice()).err())
@@ -195,7 +195,7 @@ fn with_text(alloc: Global, shape: &Shape, len: usize) -> Result<Option<ScriptEr
         text.push(b'a')?;
     }
     text.extend_from_slice(b"\",false)")?;
-    if text.len() > SCRIPT_BYTES {
+    if text.len() > PLACED_BYTES {
         return Ok(None);
     }
     Ok(read_script(alloc, shape, text.as_slice()).err())
@@ -207,6 +207,19 @@ fn refuses_a_text_past_200_bytes(rt: HostRuntime) -> Result<(), Fail> {
     let shape = shape(alloc)?;
     assert!(rt; with_text(alloc, &shape, 200)?.is_none());
     assert!(rt; with_text(alloc, &shape, 201)? == Some(ScriptError::ArgType { line: 1 }));
+    Ok(())
+}
+
+#[test]
+fn reads_a_text_past_what_an_input_may_have(rt: HostRuntime) -> Result<(), Fail> {
+    let alloc = rt.alloc();
+    let shape = shape(alloc)?;
+    let mut text = vec![in alloc; b' '; 1_048_577]?;
+    text.extend_from_slice(b"\nsnapshot")?;
+    if text.len() <= PLACED_BYTES {
+        let script = read_script(alloc, &shape, text.as_slice())?;
+        assert_eq!(rt; script.batches.len(), 1);
+    }
     Ok(())
 }
 

@@ -1,19 +1,26 @@
 -- The parts of a statement, put down in the machine.
-use Rattle.std.proofs.Common.{◌≡◌, ℕ, List, [], ◌∷◌, length, Result, Ok, Err, OnOk, IfErr, refl, sym, ap, subst, ◌∙◌, arith}
+use Rattle.std.proofs.Common.{◌≡◌, ℕ, List, [], ◌∷◌, ◌++◌, length, Result, Ok, Err, OnOk, IfErr, refl, sym, ap, subst, ◌∙◌, arith}
 use Rattle.std.proofs.lemmas.Result.{on_ok_weaker}
 use Rattle.wave_base.specs.declared.value.Value.{Value}
 use Rattle.wave_base.specs.Tree.{Tree}
-use Rattle.context_tree.specs.Contexts.{Contexts}
+use Rattle.wave_base.specs.declared.shape.Shape.{Shape}
+use Rattle.context_tree.specs.Contexts.{Contexts, tree_of as shown}
+use Rattle.resolved_service.specs.Meaning.{Outcome, Done, value, called}
+use Rattle.resolved_service.specs.View.{Tree as Tree'}
+use Rattle.resolved_service.specs.World.{World}
 use Rattle.resolved_service.specs.Steps.{Step}
 use Rattle.service_eval.specs.declared.code.Code.{Code}
 use Rattle.service_eval.specs.declared.machine.Machine.{Machine}
 use Rattle.service_eval.specs.declared.stop.Stop.{Stop}
 use Rattle.service_eval.specs.declared.stop.Stop.TheVariants as stop
-use Rattle.service_eval.specs.Items.{Begin}
-use Rattle.service_eval.specs.Machines.{Mach, mach_of, on_top, comes_to}
-use Rattle.service_eval.specs.Ready.{Ready}
+use Rattle.service_eval.specs.Items.{Item, Eval, Begin}
+use Rattle.service_eval.specs.Machines.{Mach, mach_of, state_of, on_top, before_all, with_value, comes_to}
+use Rattle.service_eval.specs.Ready.{Ready, Turned}
 use Rattle.service_eval.specs.Turns.{mach, IsNext, Goes}
-use Rattle.service_eval.proofs.ReadyLemmas.{turned}
+use Rattle.service_eval.specs.Worlds.{Holds, Fails}
+use Rattle.service_eval.proofs.EvalLemmas.{found_value}
+use Rattle.service_eval.proofs.FinishTurns.{goes_from}
+use Rattle.service_eval.proofs.ReadyLemmas.{ready_with, turned}
 
 pub step_turn : (code : Code) (contexts : Contexts) (m m' : Machine) (r : Result (Unit {0}) Stop) (n : ℕ) (first : Step) (f : ℕ → Mach → Mach) → n ≡ length m.values.items → comes_to code.methods.now (on_top (Begin first) (mach code contexts m)) ≡ comes_to code.methods.now (f (length m.values.items) (mach code contexts m)) → Ready code.shape.now code.methods.now (f (length m.values.items) (mach code contexts m)) → OnOk r ((tree : Tree (List Value)) → mach_of tree m' ≡ f n (mach_of tree m)) → IfErr r (λ e. e ≡ stop.OutOfMemory) → IsNext code contexts m (Begin first) → Goes code contexts m (Begin first) r contexts m'
 step_turn code contexts m m' r n first f is same ready ok err next =
@@ -21,3 +28,27 @@ step_turn code contexts m m' r n first f is same ready ok err next =
 
 pub at_step : (code : Code) (contexts : Contexts) (m m' : Machine) (r : Result (Unit {0}) Stop) (a b : Step) → a ≡ b → (IsNext code contexts m (Begin b) → Goes code contexts m (Begin b) r contexts m') → IsNext code contexts m (Begin a) → Goes code contexts m (Begin a) r contexts m'
 at_step code contexts m m' r a b e f next = subst (λ s. Goes code contexts m (Begin s) r contexts m') (sym e) (f (subst (λ s. IsNext code contexts m (Begin s)) e next))
+
+-- a statement whose parts are the next things to be done
+module _ (code : Code) (contexts : Contexts) (m : Machine) (n : ℕ) (a first : Step) (e : a ≡ first) (f : ℕ → Mach → Mach) (is : n ≡ length m.values.items) where
+  pub to_parts : (IsNext code contexts m (Begin first) → Ready code.shape.now code.methods.now (f (length m.values.items) (mach code contexts m))) → IsNext code contexts m (Begin a) → Ready code.shape.now code.methods.now (f n (mach code contexts m))
+  to_parts ready next = subst (λ n. Ready code.shape.now code.methods.now (f n (mach code contexts m))) (sym is) (ready (subst (λ s. IsNext code contexts m (Begin s)) e next))
+
+  pub from_parts : (contexts' : Contexts) (m' : Machine) (r : Result (Unit {0}) Stop) → comes_to code.methods.now (on_top (Begin first) (mach code contexts m)) ≡ comes_to code.methods.now (f (length m.values.items) (mach code contexts m)) → Turned code.shape.now code.methods.now (f n (mach code contexts m)) r (mach code contexts' m') → Goes code contexts m (Begin a) r contexts' m'
+  from_parts contexts' m' r same h =
+      goes_from code (on_top (Begin a) (mach code contexts m)) (f n (mach code contexts m)) r (mach code contexts' m')
+      (ap (λ s. comes_to code.methods.now (on_top (Begin s) (mach code contexts m))) e ∙ same ∙ ap (λ k. comes_to code.methods.now (f k (mach code contexts m))) (sym is)) h
+
+-- an expression that was found at once, and then what stands behind it
+module _ (code : Code) (contexts : Contexts) (m m1 : Machine) (t : Tree') (items : List Item) (next : Ready code.shape.now code.methods.now (on_top (Eval t) (before_all items (mach code contexts m)))) (v : Value) (gave : mach code contexts m1 ≡ with_value v (mach code contexts m)) where
+  pub then_next : Ready code.shape.now code.methods.now (before_all items (mach code contexts m1))
+  then_next = subst (λ x. Ready code.shape.now code.methods.now (before_all items x)) (sym gave) (ready_with _ _ (on_top (Eval t) (before_all items (mach code contexts m))) (items ++ (mach code contexts m).items) (m.values.items ++ v ∷ []) m.depth next next.items.1 (omega arith))
+
+  pub then_goes : value (called code.methods.now m.depth) m.path t (state_of (shown code.shape.now contexts) m) ≡ Done v (state_of (shown code.shape.now contexts) m) → (contexts' : Contexts) (m' : Machine) (r : Result (Unit {0}) Stop) → Turned code.shape.now code.methods.now (before_all items (mach code contexts m1)) r (mach code contexts' m') → Turned code.shape.now code.methods.now (on_top (Eval t) (before_all items (mach code contexts m))) r (mach code contexts' m')
+  then_goes found contexts' m' r h =
+      goes_from code (on_top (Eval t) (before_all items (mach code contexts m))) (before_all items (mach code contexts m1)) r (mach code contexts' m')
+      (found_value code.methods.now (before_all items (mach code contexts m)) t v found ∙ ap (λ x. comes_to code.methods.now (before_all items x)) (sym gave)) h
+
+-- where memory was wanting
+pub wanted : {A : Type 0} (shape : Shape) (o : Outcome A) (e : Stop) (w : World) → e ≡ stop.OutOfMemory → Holds shape w.tree → Fails o e w × Holds shape w.tree
+wanted shape o e w h holds = (subst (λ e. Fails o e w) (sym h) tt, holds)

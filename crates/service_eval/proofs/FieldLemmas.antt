@@ -1,9 +1,9 @@
 -- Fields of contexts that are there.
-use Rattle.std.proofs.Common.{◌≡◌, ℕ, ◌<◌, ◌≤◌, ◌↔◌, ◌⊎◌, inl, inr, Bool, true, false, IsTrue, nat_lt, if◌then◌else◌, List, [], ◌∷◌, length, Option, Some, None, is_some, unwrap_or, IsSomeAnd, slice_set, refl, sym, ap, subst, ◌∙◌, arith}
+use Rattle.std.proofs.Common.{◌≡◌, ℕ, ◌<◌, ◌≤◌, ◌↔◌, ◌⊎◌, inl, inr, Bool, true, false, IsTrue, nat_lt, if◌then◌else◌, List, [], ◌∷◌, length, Option, Some, None, is_some, unwrap_or, IsSomeAnd, get_or, slice_set, refl, sym, ap, subst, ◌∙◌, arith}
 use mathlib.Core.Bool.{true≢false}
 use Rattle.std.proofs.lemmas.Bool.{cases_lt}
 use Rattle.std.proofs.lemmas.Bool.Decides.{nat_tests}
-use Rattle.std.proofs.lemmas.List.{set_past}
+use Rattle.std.proofs.lemmas.List.{set_past, get_or_past}
 use Rattle.wave_base.proofs.Trees.{put_same}
 use Rattle.wave_base.specs.declared.path.Path.{Path}
 use Rattle.wave_base.specs.declared.shape.Shape.{Shape}
@@ -45,3 +45,8 @@ module _ (shape : Shape) (t : Contexts) (p : Path) where
         | inl l ↦ absurd (none (has_shown i h l))
         | inr l ↦ sym (ap (put (tree_of shape t) p) (set_past ((tree_of shape t).fields p) i v l) ∙ put_same (tree_of shape t) p)
       ]
+
+  -- nor does it show anything
+  pub no_field_value : (i : ℕ) (d : Value) → is_there t p ≡ true → (HasField t p i → ⊥) → get_or ((tree_of shape t).fields p) i d ≡ d
+  no_field_value i d h none =
+      elim (cases_lt i (length ((tree_of shape t).fields p))) [ inl l ↦ absurd (none (has_shown i h l)) | inr l ↦ get_or_past ((tree_of shape t).fields p) i d l ]

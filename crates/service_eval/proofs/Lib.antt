@@ -15,6 +15,7 @@ pub mod BlockLemmas
 pub mod StepRows
 pub mod FinishLemmas
 pub mod FinishTurns
+pub mod EditLemmas
 pub mod BlockTurns
 pub mod SendTurns
 pub mod EventLemmas

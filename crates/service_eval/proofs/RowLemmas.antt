@@ -1,5 +1,5 @@
 -- Values that a row doesn't take.
-use Rattle.std.proofs.Common.{◌≡◌, ℕ, zero, suc, ◌<◌, ◌≤◌, Bool, true, false, ◌&&◌, ◌||◌, not, nat_le, IsTrue, List, [], ◌∷◌, length, map, Option, Some, None, is_none, get_or, slice_get, Ok, Err, refl, sym, ap, subst, ◌∙◌, arith}
+use Rattle.std.proofs.Common.{◌≡◌, ℕ, zero, suc, ◌<◌, ◌≤◌, Bool, true, false, ◌&&◌, ◌||◌, not, nat_le, IsTrue, List, [], ◌∷◌, length, map, Option, Some, None, is_none, get_or, Result, Ok, Err, refl, sym, ap, subst, ◌∙◌, arith}
 use mathlib.Core.Bool.{true≢false}
 use Rattle.std.proofs.lemmas.Bool.Decides.{nat_tests}
 use Rattle.std.proofs.lemmas.List.{get_or_past}
@@ -8,11 +8,12 @@ use Rattle.wave_base.specs.declared.value.Kind.{Kind}
 use Rattle.wave_base.specs.declared.value.Kind.TheVariants as k
 use Rattle.wave_base.specs.declared.value.Value.{Value}
 use Rattle.wave_base.specs.declared.value.Value.TheVariants as v
-use Rattle.wave_base.specs.Operators.{operator_names}
 use Rattle.wave_base.specs.Values.{kind_of}
+use Rattle.value_ops.specs.Answers.{Answers}
+use Rattle.value_ops.specs.declared.error.OpError.{OpError}
 use Rattle.value_ops.specs.Kinds.{Answer, Of, From, answer_of, at_values}
 use Rattle.value_ops.specs.Operators.{Operator, no_operator, operators, operator_at, takes_of, apply_row}
-use Rattle.value_ops.specs.Rows.{Row, three, named, wave_rows}
+use Rattle.value_ops.specs.Rows.{three}
 use Rattle.service_eval.specs.Answers.{is_kind, are_kinds}
 
 and_left : (a b : Bool) → (a && b) ≡ true → a ≡ true
@@ -123,17 +124,6 @@ kinds_not (a ∷ b ∷ c ∷ []) f (x ∷ y ∷ z ∷ []) l e =
 kinds_not (a ∷ b ∷ c ∷ []) f (x ∷ y ∷ z ∷ u ∷ vs) l e = at_one a (b ∷ c ∷ []) f x (y ∷ z ∷ u ∷ vs) (λ h g. at_one b (c ∷ []) g y (z ∷ u ∷ vs) (λ h' g'. at_one c [] g' z (u ∷ vs) (λ h'' g''. refl)))
 kinds_not (a ∷ b ∷ c ∷ d ∷ ks) f vs l e = absurd (omega arith)
 
--- the rows of the table
-row_takes : (names : List (List ℕ)) (os : List Operator) (i : ℕ) (r : Row) → slice_get (named names os) i ≡ Some r → r.takes ≡ three (get_or os i no_operator).takes
-row_takes [] os i r h = cc
-row_takes (name ∷ names) [] i r h = cc
-row_takes (name ∷ names) (o ∷ os) zero r h = cc
-row_takes (name ∷ names) (o ∷ os) (suc i) r h = row_takes names os i r h
-
-pub kinds_of_row : (row : ℕ) (r : Row) → slice_get wave_rows row ≡ Some r → r.takes ≡ three (takes_of row)
-unfolding wave_rows operators takes_of
-kinds_of_row row r h = row_takes operator_names operators row r h
-
 abbrev all_below : ℕ → (ℕ → Bool) → Bool
 all_below zero p = true
 all_below (suc n) p = p n && all_below n p
@@ -168,3 +158,12 @@ past_rows row vs h = none_of (operator_at row) vs (get_or_past operators row no_
 pub not_taken : (row : ℕ) (vs : List Value) → row < 28 → are_kinds (three (takes_of row)) vs ≡ false → apply_row row vs ≡ Err Absent
 unfolding apply_row takes_of
 not_taken row vs h e = ap (answer_of (operator_at row).gives) (kinds_not (operator_at row).takes (operator_at row).does vs (few_kinds row h) e)
+
+-- an answer to values as they are named
+pub answers_two : (row : ℕ) (a b u v : Value) (r : Result Value OpError) → a ≡ u → b ≡ v → Answers (apply_row row (u ∷ v ∷ [])) r → Answers (apply_row row (a ∷ b ∷ [])) r
+answers_two row a b u v r e f h = subst (λ x. Answers (apply_row row (x ∷ b ∷ [])) r) (sym e) (subst (λ y. Answers (apply_row row (u ∷ y ∷ [])) r) (sym f) h)
+
+pub answers_three : (row n : ℕ) (a b c u v w : Value) (r : Result Value OpError) → row ≡ n → a ≡ u → b ≡ v → c ≡ w → Answers (apply_row n (u ∷ v ∷ w ∷ [])) r → Answers (apply_row row (a ∷ b ∷ c ∷ [])) r
+answers_three row n a b c u v w r k e f g h =
+    subst (λ i. Answers (apply_row i (a ∷ b ∷ c ∷ [])) r) (sym k)
+    (subst (λ x. Answers (apply_row n (x ∷ b ∷ c ∷ [])) r) (sym e) (subst (λ y. Answers (apply_row n (u ∷ y ∷ c ∷ [])) r) (sym f) (subst (λ z. Answers (apply_row n (u ∷ v ∷ z ∷ [])) r) (sym g) h)))

@@ -1,5 +1,5 @@
 -- What calls answer where an operator gives a value or traps at a place.
-use Rattle.std.specs.Prelude.{◌≡◌, ◌&&◌, Bool, true, false, is_none, List, [], ◌∷◌, Option, Some, None, Result, Ok, Err}
+use Rattle.std.specs.Prelude.{ℤ, ◌≡◌, ◌&&◌, Bool, true, false, is_none, List, [], ◌∷◌, Option, Some, None, Result, Ok, Err}
 use Rattle.wave_base.specs.declared.span.Span.{Span}
 use Rattle.wave_base.specs.declared.value.Kind.{Kind}
 use Rattle.wave_base.specs.declared.value.Kind.TheVariants as k
@@ -33,6 +33,11 @@ are_kinds (a ∷ b ∷ c ∷ []) (x ∷ []) = is_kind a x && is_none b
 are_kinds (a ∷ b ∷ c ∷ []) (x ∷ y ∷ []) = is_kind a x && (is_kind b y && is_none c)
 are_kinds (a ∷ b ∷ c ∷ []) (x ∷ y ∷ z ∷ []) = is_kind a x && (is_kind b y && is_kind c z)
 are_kinds _ _ = false
+
+-- the int that a value is, if it is one
+abbrev pub int_in : Value → Option ℤ
+int_in (Int n) = Some n
+int_in _ = None
 
 -- the value that an operand has
 abbrev pub value_in : Operand → Value

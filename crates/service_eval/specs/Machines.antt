@@ -35,6 +35,10 @@ mach_of tree m = record { items = map item_of (reverse m.work.items); values = m
 abbrev pub on_top : Item → Mach → Mach
 on_top item m = record m { items = item ∷ m.items }
 
+-- several things more to be done, before all others
+abbrev pub before_all : List Item → Mach → Mach
+before_all items m = record m { items = items ++ m.items }
+
 -- a value more
 abbrev pub with_value : Value → Mach → Mach
 with_value v m = record m { values = m.values ++ v ∷ [] }

@@ -9,7 +9,7 @@ use Rattle.service_eval.specs.declared.machine.Machine.{Machine}
 use Rattle.service_eval.specs.declared.stop.Stop.{Stop}
 use Rattle.service_eval.specs.declared.stop.Stop.TheVariants as stop
 use Rattle.service_eval.specs.Items.{Item}
-use Rattle.service_eval.specs.Machines.{Mach, mach_of, on_top, rest_at, comes_to}
+use Rattle.service_eval.specs.Machines.{Mach, mach_of, on_top, before_all, rest_at, comes_to}
 use Rattle.resolved_service.specs.Meaning.{Done}
 use Rattle.service_eval.specs.Ready.{Ready, Turned}
 use Rattle.service_eval.specs.Worlds.{Holds, Fails}
@@ -25,11 +25,19 @@ IsNext code contexts m item = Ready code.shape.now code.methods.now (on_top item
 abbrev pub Goes : Code → Contexts → Machine → Item → Result (Unit {0}) Stop → Contexts → Machine → Type 0
 Goes code contexts m item result contexts' m' = Turned code.shape.now code.methods.now (on_top item (mach code contexts m)) result (mach code contexts' m')
 
--- a change of a map in place: the new value, or its trap at a place, which leaves it
+-- these are the next things to be done, the first one first
+abbrev pub AreNext : Code → Contexts → Machine → List Item → Type 0
+AreNext code contexts m items = Ready code.shape.now code.methods.now (before_all items (mach code contexts m))
+
+-- they were done, or some of them
+abbrev pub GoOn : Code → Contexts → Machine → List Item → Result (Unit {0}) Stop → Contexts → Machine → Type 0
+GoOn code contexts m items result contexts' m' = Turned code.shape.now code.methods.now (before_all items (mach code contexts m)) result (mach code contexts' m')
+
+-- a change of a value in place: the new value; or its trap at a place, which leaves it, as want of memory does
 abbrev pub Alters : Answer Value → Span → Value → Result (Unit {0}) Stop → Value → Type 0
 Alters answer at before (Ok _) after = answer ≡ Ok after
 Alters answer at before (Err (stop.Trapped t)) after = (answer ≡ Err t.kind) × (t.at ≡ at) × (after ≡ before)
-Alters answer at before (Err stop.OutOfMemory) after = Unit {0}
+Alters answer at before (Err stop.OutOfMemory) after = after ≡ before
 
 -- all was done: nothing is left to do
 abbrev pub Ran : Code → Mach → Result (Unit {0}) Stop → Mach → Type 0

@@ -3,14 +3,16 @@
 ghost use Rattle.std.specs.Prelude.{◌≡◌, [], ◌∷◌, OnOk, IfErr, IsNone, IfSome};
 ghost use Rattle.resolved_service.specs.Steps.{For, step_of, steps_in};
 ghost use Rattle.resolved_service.specs.View.{tree_of};
-ghost use Rattle.service_eval.specs.Items.{else_steps, else_in};
+ghost use Rattle.service_eval.specs.Items.{end_of, else_steps, else_in};
 ghost use Rattle.service_eval.specs.Items as i;
-ghost use Rattle.service_eval.specs.Turns.{IsNext, Goes};
+ghost use Rattle.service_eval.specs.Turns.{IsNext, Goes, AreNext, GoOn};
 
 use crate::code::Code;
+use crate::eval::found;
+use crate::finish::finish;
 use crate::machine::Machine;
 use crate::stop::Stop;
-use crate::work::{Ending, Work};
+use crate::work::{Ending, Tail, Work};
 use context_tree::Tree;
 use resolved_service::{Action, Expr, Stmt};
 use wave_base::Span;
@@ -18,12 +20,12 @@ use wave_base::Span;
 /// The first of some statements, and then the others.
 pub fn block<'s>(
     code: Code<'s>,
-    contexts: &Tree,
+    contexts: &mut Tree,
     m: &mut Machine<'s>,
     stmts: &'s [Stmt],
 ) -> Result<(), Stop>
-    requires { IsNext code contexts.now m.old (i.Block (steps_in stmts.now)) }
-    ensures { Goes code.entry contexts.now m.old (i.Block (steps_in stmts.now)) result contexts.now m.new }
+    requires { IsNext code contexts.old m.old (i.Block (steps_in stmts.now)) }
+    ensures { Goes code.entry contexts.old m.old (i.Block (steps_in stmts.now)) result contexts.new m.new }
 {
     match first_of(stmts) {
         None => Ok(()),
@@ -47,64 +49,112 @@ fn first_of(stmts: &[Stmt]) -> Option<(&Stmt, &[Stmt])>
 // A statement: its expressions, and then what it does with their values.
 fn begin<'s>(
     code: Code<'s>,
-    contexts: &Tree,
+    contexts: &mut Tree,
     m: &mut Machine<'s>,
     stmt: &'s Stmt,
 ) -> Result<(), Stop>
-    requires { IsNext code contexts.now m.old (i.Begin (step_of stmt.now)) }
-    ensures { Goes code.entry contexts.now m.old (i.Begin (step_of stmt.now)) result contexts.now m.new }
+    requires { IsNext code contexts.old m.old (i.Begin (step_of stmt.now)) }
+    ensures { Goes code.entry contexts.old m.old (i.Begin (step_of stmt.now)) result contexts.new m.new }
 {
     let at = stmt.at;
     let base = m.height();
     match &stmt.action {
         Action::SetLocal(slot, e) => {
-            m.push_two(
-                Work::Eval(e),
-                Work::Finish(at, Ending::SetLocal(*slot as usize), base),
-            )
+            let ending = Ending::SetLocal(*slot as usize);
+            with_one(code, contexts, m, e, Tail { at, ending, base })
         }
         Action::SetField(f, e) => {
-            m.push_two(Work::Eval(e), Work::Finish(at, Ending::SetField(*f), base))
+            let ending = Ending::SetField(*f);
+            with_one(code, contexts, m, e, Tail { at, ending, base })
         }
-        Action::PutLocal(slot, key, e) => m.push_three(
-            Work::Eval(key),
-            Work::Eval(e),
-            Work::Finish(at, Ending::PutLocal(*slot), base),
-        ),
-        Action::PutField(f, key, e) => m.push_three(
-            Work::Eval(key),
-            Work::Eval(e),
-            Work::Finish(at, Ending::PutField(*f), base),
-        ),
+        Action::PutLocal(slot, key, e) => {
+            let ending = Ending::PutLocal(*slot);
+            with_two(code, contexts, m, key, e, Tail { at, ending, base })
+        }
+        Action::PutField(f, key, e) => {
+            let ending = Ending::PutField(*f);
+            with_two(code, contexts, m, key, e, Tail { at, ending, base })
+        }
         Action::CutLocal(slot, key) => {
-            m.push_two(
-                Work::Eval(key),
-                Work::Finish(at, Ending::CutLocal(*slot), base),
-            )
+            let ending = Ending::CutLocal(*slot);
+            with_one(code, contexts, m, key, Tail { at, ending, base })
         }
         Action::CutField(f, key) => {
-            m.push_two(
-                Work::Eval(key),
-                Work::Finish(at, Ending::CutField(*f), base),
-            )
+            let ending = Ending::CutField(*f);
+            with_one(code, contexts, m, key, Tail { at, ending, base })
         }
         Action::If(test, body, other) => {
             let ending = Ending::Branch(body.as_slice(), else_of(other));
-            m.push_two(Work::Eval(test), Work::Finish(at, ending, base))
+            with_one(code, contexts, m, test, Tail { at, ending, base })
         }
-        Action::While(test, body) => { m.push(Work::Turns(at, test, body.as_slice(), m.depth)) }
+        Action::While(test, body) => m.push(Work::Turns(at, test, body.as_slice(), m.depth)),
         Action::For(counter, from, to, body) => {
             begin_for(code, contexts, m, at, *counter, from, to, body.as_slice())
         }
-        Action::Require(e) => m.push_two(Work::Eval(e), Work::Finish(at, Ending::Require, base)),
+        Action::Require(e) => {
+            let ending = Ending::Require;
+            with_one(code, contexts, m, e, Tail { at, ending, base })
+        }
         Action::Send(label, e) => {
-            m.push_two(Work::Eval(e), Work::Finish(at, Ending::Send(label), base))
+            let ending = Ending::Send(label);
+            with_one(code, contexts, m, e, Tail { at, ending, base })
         }
         Action::Spawn(event, args) => m.push_two(
             Work::Evals(args.as_slice()),
             Work::Finish(at, Ending::Spawn(*event), base),
         ),
         Action::Do(e) => m.push_two(Work::Eval(e), Work::Finish(at, Ending::Drop, base)),
+    }
+}
+
+// An expression, and then the rest of its statement: at once, where no call is met.
+fn with_one<'s>(
+    code: Code<'s>,
+    contexts: &mut Tree,
+    m: &mut Machine<'s>,
+    e: &'s Expr,
+    tail: Tail<'s>,
+) -> Result<(), Stop>
+    requires { AreNext code contexts.old m.old (i.Eval (tree_of e.now) ∷ i.Finish tail.at (end_of tail.ending) tail.base ∷ []) }
+    ensures { GoOn code.entry contexts.old m.old (i.Eval (tree_of e.now) ∷ i.Finish tail.entry.at (end_of tail.entry.ending) tail.entry.base ∷ []) result contexts.new m.new }
+{
+    let Tail { at, ending, base } = tail;
+    match found(code, contexts, m, e) {
+        Ok(Some(value)) => match m.give(value) {
+            Ok(()) => finish(code, contexts, m, at, ending, base),
+            Err(e) => Err(e),
+        },
+        Ok(None) => m.push_two(Work::Eval(e), Work::Finish(at, ending, base)),
+        Err(e) => Err(e),
+    }
+}
+
+// A key and an expression, and then the rest of their statement: at once, where no call is met.
+fn with_two<'s>(
+    code: Code<'s>,
+    contexts: &mut Tree,
+    m: &mut Machine<'s>,
+    key: &'s Expr,
+    e: &'s Expr,
+    tail: Tail<'s>,
+) -> Result<(), Stop>
+    requires { AreNext code contexts.old m.old (i.Eval (tree_of key.now) ∷ i.Eval (tree_of e.now) ∷ i.Finish tail.at (end_of tail.ending) tail.base ∷ []) }
+    ensures { GoOn code.entry contexts.old m.old (i.Eval (tree_of key.now) ∷ i.Eval (tree_of e.now) ∷ i.Finish tail.entry.at (end_of tail.entry.ending) tail.entry.base ∷ []) result contexts.new m.new }
+{
+    match found(code, contexts, m, key) {
+        Ok(Some(value)) => match m.give(value) {
+            Ok(()) => with_one(code, contexts, m, e, tail),
+            Err(e) => Err(e),
+        },
+        Ok(None) => {
+            let Tail { at, ending, base } = tail;
+            m.push_three(
+                Work::Eval(key),
+                Work::Eval(e),
+                Work::Finish(at, ending, base),
+            )
+        }
+        Err(e) => Err(e),
     }
 }
 

@@ -13,7 +13,7 @@ ghost use Rattle.service_eval.specs.Turns.{IsNext, Goes};
 
 use crate::code::Code;
 use crate::fields::{field, item};
-use crate::look::{above, look_row};
+use crate::look::{above, look, look_row};
 use crate::machine::Machine;
 use crate::rows::apply_any;
 use crate::stop::Stop;
@@ -93,6 +93,25 @@ fn operate<'s>(
             let base = m.height();
             m.push_two(Work::Evals(args), Work::Apply(at, row, base))
         }
+        Err(e) => Err(e),
+    }
+}
+
+/// The value of an expression, where no call is met. Nothing has changed then.
+pub fn found(
+    code: Code<'_>,
+    contexts: &Tree,
+    m: &Machine<'_>,
+    e: &Expr,
+) -> Result<Option<Value>, Stop>
+    ensures { Finds (value (called code.entry.methods.now m.now.depth) m.now.path (tree_of e.now) (state_of (shown code.entry.shape.now contexts.now) m.now)) (state_of (shown code.entry.shape.now contexts.now) m.now) result }
+{
+    match look(code, contexts, m, e) {
+        Ok(Some(operand)) => match operand.owned(code.alloc) {
+            Ok(value) => Ok(Some(value)),
+            Err(_) => Err(Stop::OutOfMemory),
+        },
+        Ok(None) => Ok(None),
         Err(e) => Err(e),
     }
 }

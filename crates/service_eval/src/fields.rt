@@ -74,3 +74,16 @@ pub fn set_field(tree: &mut Tree, path: &Path, field: usize, value: Value)
         tree.set(path, field, value);
     }
 }
+
+/// Takes the value of a field, which is a number then, of a context that is there.
+pub fn lift_field(tree: &mut Tree, path: &Path, field: usize) -> Value
+    requires { is_there tree.old path.now ≡ true }
+    ensures value { (shape : Shape) → result ≡ get_or ((tree_of shape tree.old).fields path.now) field nothing }
+    ensures rest { (shape : Shape) → tree_of shape tree.new ≡ with_field (tree_of shape tree.old) path.now field nothing }
+{
+    if has_field(tree, path, field) {
+        tree.replace(path, field, Value::Int(0))
+    } else {
+        Value::Int(0)
+    }
+}

@@ -1,31 +1,20 @@
 //! What statements do once their expressions have their values.
 
-ghost use Rattle.std.specs.Prelude.{◌≡◌, ◌∷◌, [], IfOk};
-ghost use Rattle.resolved_service.specs.Meaning.{row_put, row_cut};
 ghost use Rattle.resolved_service.specs.Steps.{steps_in};
-ghost use Rattle.service_eval.specs.Answers.{Gives};
 ghost use Rattle.service_eval.specs.Items as i;
 ghost use Rattle.service_eval.specs.Items.{end_of};
-ghost use Rattle.service_eval.specs.Machines.{own};
 ghost use Rattle.service_eval.specs.Turns.{IsNext, Goes};
-ghost use Rattle.value_ops.specs.Operators.{apply_row};
-ghost use Rattle.wave_base.specs.declared.value.Value.{Value};
 
 use crate::code::Code;
-use crate::fields::{field, item, set_field};
+use crate::edits::{cut, put};
+use crate::fields::{lift_field, set_field};
 use crate::machine::Machine;
-use crate::rows::apply_any;
 use crate::stop::Stop;
 use crate::trace::trapped;
 use crate::work::{Ending, Work};
 use context_tree::Tree;
 use resolved_service::Stmt;
-use wave_base::{OutOfMemory, Span, TrapKind, Txt, Value};
-
-/// The operator rows of statements that change a map.
-const PUT: usize = 20;
-
-const CUT: usize = 21;
+use wave_base::{Span, TrapKind, Txt};
 
 /// The rest of a statement.
 pub fn finish<'s>(
@@ -100,15 +89,11 @@ fn put_slot<'s>(
     requires { IsNext code contexts.now m.old (i.Finish at (i.PutLocal slot) base) }
     ensures { Goes code.entry contexts.now m.old (i.Finish at (i.PutLocal slot) base) result contexts.now m.new }
 {
-    let map = item(m.locals.as_slice(), slot as usize).owned(code.alloc);
-    match put(code, m, map, at, base) {
-        Ok(value) => {
-            m.cut(base);
-            m.set_local(slot as usize, value);
-            Ok(())
-        }
-        Err(e) => Err(e),
-    }
+    let mut map = m.lift(slot as usize);
+    let done = put(&mut map, m.own(base), at);
+    m.set_local(slot as usize, map);
+    m.cut(base);
+    done
 }
 
 // A field's map has the pair.
@@ -123,15 +108,11 @@ fn put_own<'s>(
     requires { IsNext code contexts.old m.old (i.Finish at (i.PutField f) base) }
     ensures { Goes code.entry contexts.old m.old (i.Finish at (i.PutField f) base) result contexts.new m.new }
 {
-    let map = field(code.shape, contexts, &m.path, f as usize).owned(code.alloc);
-    match put(code, m, map, at, base) {
-        Ok(value) => {
-            m.cut(base);
-            set_field(contexts, &m.path, f as usize, value);
-            Ok(())
-        }
-        Err(e) => Err(e),
-    }
+    let mut map = lift_field(contexts, &m.path, f as usize);
+    let done = put(&mut map, m.own(base), at);
+    set_field(contexts, &m.path, f as usize, map);
+    m.cut(base);
+    done
 }
 
 // A local map has the key no more.
@@ -146,15 +127,11 @@ fn cut_slot<'s>(
     requires { IsNext code contexts.now m.old (i.Finish at (i.CutLocal slot) base) }
     ensures { Goes code.entry contexts.now m.old (i.Finish at (i.CutLocal slot) base) result contexts.now m.new }
 {
-    let map = item(m.locals.as_slice(), slot as usize).owned(code.alloc);
-    match cut(code, m, map, at, base) {
-        Ok(value) => {
-            m.cut(base);
-            m.set_local(slot as usize, value);
-            Ok(())
-        }
-        Err(e) => Err(e),
-    }
+    let mut map = m.lift(slot as usize);
+    let done = cut(&mut map, m.own(base), at);
+    m.set_local(slot as usize, map);
+    m.cut(base);
+    done
 }
 
 // A field's map has the key no more.
@@ -169,15 +146,11 @@ fn cut_own<'s>(
     requires { IsNext code contexts.old m.old (i.Finish at (i.CutField f) base) }
     ensures { Goes code.entry contexts.old m.old (i.Finish at (i.CutField f) base) result contexts.new m.new }
 {
-    let map = field(code.shape, contexts, &m.path, f as usize).owned(code.alloc);
-    match cut(code, m, map, at, base) {
-        Ok(value) => {
-            m.cut(base);
-            set_field(contexts, &m.path, f as usize, value);
-            Ok(())
-        }
-        Err(e) => Err(e),
-    }
+    let mut map = lift_field(contexts, &m.path, f as usize);
+    let done = cut(&mut map, m.own(base), at);
+    set_field(contexts, &m.path, f as usize, map);
+    m.cut(base);
+    done
 }
 
 // The statements for the value of a test.
@@ -269,42 +242,4 @@ fn forget<'s>(
 {
     m.cut(base);
     Ok(())
-}
-
-// A map with a pair, which stands in an item's own values.
-fn put(
-    code: Code<'_>,
-    m: &Machine<'_>,
-    map: Result<Value, OutOfMemory>,
-    at: Span,
-    base: usize,
-) -> Result<Value, Stop>
-    ensures { (before : Value) → IfOk map (λ x. x ≡ before) → Gives (apply_row row_put (before ∷ own 0 base m.now.values.items ∷ own 1 base m.now.values.items ∷ [])) at result }
-{
-    let map = match map {
-        Ok(map) => map,
-        Err(_) => return Err(Stop::OutOfMemory),
-    };
-    let own = m.own(base);
-    let key = item(own, 0).owned(code.alloc)?;
-    let value = item(own, 1).owned(code.alloc)?;
-    apply_any(code.alloc, PUT, &[map, key, value], at)
-}
-
-// A map without a key, which is an item's own value.
-fn cut(
-    code: Code<'_>,
-    m: &Machine<'_>,
-    map: Result<Value, OutOfMemory>,
-    at: Span,
-    base: usize,
-) -> Result<Value, Stop>
-    ensures { (before : Value) → IfOk map (λ x. x ≡ before) → Gives (apply_row row_cut (before ∷ own 0 base m.now.values.items ∷ [])) at result }
-{
-    let map = match map {
-        Ok(map) => map,
-        Err(_) => return Err(Stop::OutOfMemory),
-    };
-    let key = item(m.own(base), 0).owned(code.alloc)?;
-    apply_any(code.alloc, CUT, &[map, key], at)
 }

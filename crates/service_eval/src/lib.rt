@@ -4,6 +4,7 @@
 mod block;
 mod calls;
 mod code;
+mod edits;
 mod eval;
 mod event;
 mod fields;

@@ -11,7 +11,7 @@ use crate::code::Code;
 use crate::fields::{field, item};
 use crate::machine::Machine;
 use crate::operand::{Operand, is_true};
-use crate::rows::{apply_any, apply_two};
+use crate::rows::{apply_any, apply_three, apply_two};
 use crate::stop::Stop;
 use context_tree::Tree;
 use resolved_service::{Expr, Node};
@@ -59,6 +59,7 @@ pub fn look_row<'v, 's>(
     match args {
         [a] => look_one(code, contexts, m, row, a, at),
         [a, b] => look_two(code, contexts, m, row, a, b, at),
+        [a, b, c] => look_three(code, contexts, m, row, a, b, c, at),
         _ => Ok(None),
     }
 }
@@ -102,6 +103,38 @@ fn look_two<'v, 's>(
                 let value = apply_two(code.alloc, row as usize, a.value(), b.value(), at)?;
                 Ok(Some(Operand::Made(value)))
             }
+            Ok(None) => Ok(None),
+            Err(e) => Err(e),
+        },
+        Ok(None) => Ok(None),
+        Err(e) => Err(e),
+    }
+}
+
+#[cycle(look)]
+fn look_three<'v, 's>(
+    code: Code<'v>,
+    contexts: &'v Tree,
+    m: &'v Machine<'s>,
+    row: u16,
+    a: &'v Expr,
+    b: &'v Expr,
+    c: &'v Expr,
+    at: Span,
+) -> Result<Option<Operand<'v>>, Stop>
+    ensures { Looks (value (called code.entry.methods.now m.now.depth) m.now.path (Op at row (tree (tree_of a.now) (tree (tree_of b.now) (tree (tree_of c.now) no_trees)))) (state_of (shown code.entry.shape.now contexts.now) m.now)) (state_of (shown code.entry.shape.now contexts.now) m.now) result }
+{
+    match look(code, contexts, m, a) {
+        Ok(Some(a)) => match look(code, contexts, m, b) {
+            Ok(Some(b)) => match look(code, contexts, m, c) {
+                Ok(Some(c)) => {
+                    let (a, b, c) = (a.value(), b.value(), c.value());
+                    let value = apply_three(code.alloc, row as usize, a, b, c, at)?;
+                    Ok(Some(Operand::Made(value)))
+                }
+                Ok(None) => Ok(None),
+                Err(e) => Err(e),
+            },
             Ok(None) => Ok(None),
             Err(e) => Err(e),
         },

@@ -12,6 +12,7 @@ ghost use Rattle.value_ops.specs.Operators.{apply_row};
 ghost use Rattle.wave_base.specs.declared.value.Value.TheVariants.{Int};
 
 use crate::code::Code;
+use crate::eval::found;
 use crate::fields::item;
 use crate::machine::Machine;
 use crate::operand::is_true;
@@ -27,7 +28,7 @@ const ADD: usize = 0;
 
 const LT: usize = 9;
 
-/// A loop's test is to have its value.
+/// A loop's test is to have its value: at once, where no call is met.
 pub fn turns<'s>(
     code: Code<'s>,
     contexts: &Tree,
@@ -41,7 +42,14 @@ pub fn turns<'s>(
     ensures { Goes code.entry contexts.now m.old (i.Turns at (tree_of test.now) (steps_in body.now) left) result contexts.now m.new }
 {
     let base = m.height();
-    m.push_two(Work::Eval(test), Work::Check(at, test, body, left, base))
+    match found(code, contexts, m, test) {
+        Ok(Some(value)) => match m.give(value) {
+            Ok(()) => check(code, contexts, m, at, test, body, left, base),
+            Err(e) => Err(e),
+        },
+        Ok(None) => m.push_two(Work::Eval(test), Work::Check(at, test, body, left, base)),
+        Err(e) => Err(e),
+    }
 }
 
 /// A turn of a loop, where the test's value is true.

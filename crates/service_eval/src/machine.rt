@@ -1,5 +1,5 @@
-ghost use Rattle.std.specs.Prelude.{◌≡◌, ◌<◌, ◌^◌, suc, length, drop, slice_set, [], OnOk, IfOk, IfErr, IsNone, IfSome};
-ghost use Rattle.resolved_service.specs.World.{is_true, key_of};
+ghost use Rattle.std.specs.Prelude.{◌≡◌, ◌<◌, ◌^◌, suc, length, drop, get_or, slice_set, [], OnOk, IfOk, IfErr, IsNone, IfSome};
+ghost use Rattle.resolved_service.specs.World.{nothing, is_true, key_of};
 ghost use Rattle.service_eval.specs.declared.stop.Stop.{Stop};
 ghost use Rattle.service_eval.specs.Items.{item_of};
 ghost use Rattle.service_eval.specs.Machines.{mach_of, on_top, with_value, cut_to, own, risen};
@@ -151,6 +151,18 @@ impl<'s> Machine<'s> {
     {
         if slot < self.locals.len() {
             self.locals[slot] = value;
+        }
+    }
+
+    /// Takes the value of a local, which is a number then.
+    pub fn lift(&mut self, slot: usize) -> Value
+        ensures value { result ≡ get_or self.old.locals.items slot nothing }
+        ensures rest { (tree : _) → mach_of tree self.new ≡ record (mach_of tree self.old) { state = record { locals = slice_set self.old.locals.items slot nothing; world = (mach_of tree self.old).state.world } } }
+    {
+        if slot < self.locals.len() {
+            mem::replace(&mut self.locals[slot], Value::Int(0))
+        } else {
+            Value::Int(0)
         }
     }
 

@@ -11,8 +11,11 @@ ghost use Rattle.wave_base.specs.Values.{kind_of};
 
 use crate::stop::Stop;
 use std::alloc::Global;
-use value_ops::{OpError, apply, apply_ints, compare_texts, read_map, wave_ops};
+use value_ops::{OpError, apply, apply_ints, apply_texts, compare_flags, part, read_map, takes_of};
 use wave_base::{Kind, OPERATORS, Span, Trap, TrapKind, Value};
+
+/// The operator row of a part of a text.
+const PART: usize = 27;
 
 /// What a row gives of any values; of others than it takes, it gives nothing.
 pub fn apply_any(alloc: Global, row: usize, args: &[Value], at: Span) -> Result<Value, Stop>
@@ -31,7 +34,7 @@ fn takes(row: usize, args: &[Value]) -> bool
     ensures kinds { IsTrue result → map kind_of args.now ≡ takes_of row }
     ensures none { result ≡ false → apply_row row args.now ≡ Err TrapKind.Absent }
 {
-    row < OPERATORS && are_kinds(&wave_ops().row(row).takes, args)
+    row < OPERATORS && are_kinds(&takes_of(row).kinds(), args)
 }
 
 // Whether the values have the kinds, of which there are three at most.
@@ -59,18 +62,43 @@ fn is_kind(kind: Option<Kind>, value: &Value) -> bool
     }
 }
 
-/// What a row gives of two values. Ints are added and compared, maps read and texts compared where they are.
+/// What a row gives of two values, which are looked at where they are.
 pub fn apply_two(alloc: Global, row: usize, a: &Value, b: &Value, at: Span) -> Result<Value, Stop>
     ensures { Gives (apply_row row (a.now ∷ b.now ∷ [])) at result }
 {
     match (a, b) {
         (Value::Int(x), Value::Int(y)) if is_ints(row) => trapping(apply_ints(row, *x, *y), at),
         (Value::Map(m), Value::Int(k)) if is_read(row) => trapping(read_map(row, m, *k), at),
-        (Value::Str(s), Value::Str(t)) if is_comparison(row) => {
-            Ok(Value::Bool(compare_texts(row, s, t)))
+        (Value::Str(s), Value::Str(t)) if is_texts(row) => {
+            placed(apply_texts(alloc, row, s, t), at)
+        }
+        (Value::Bool(x), Value::Bool(y)) if is_flags(row) => {
+            Ok(Value::Bool(compare_flags(row, *x, *y)))
         }
         _ => {
             let args = [a.copy(alloc)?, b.copy(alloc)?];
+            apply_any(alloc, row, &args, at)
+        }
+    }
+}
+
+/// What a row gives of three values, which are looked at where they are.
+pub fn apply_three(
+    alloc: Global,
+    row: usize,
+    a: &Value,
+    b: &Value,
+    c: &Value,
+    at: Span,
+) -> Result<Value, Stop>
+    ensures { Gives (apply_row row (a.now ∷ b.now ∷ c.now ∷ [])) at result }
+{
+    match (a, b, c) {
+        (Value::Str(t), Value::Int(x), Value::Int(y)) if row == PART => {
+            placed(part(alloc, t, *x, *y), at)
+        }
+        _ => {
+            let args = [a.copy(alloc)?, b.copy(alloc)?, c.copy(alloc)?];
             apply_any(alloc, row, &args, at)
         }
     }
@@ -99,14 +127,24 @@ fn is_read(row: usize) -> bool
     }
 }
 
-// Whether a row compares two texts.
-#[tactic(auto, unfolding(value_ops::specs::Operators::takes_of, value_ops::specs::Operators::gives_of, value_ops::specs::Operators::operators))]
-fn is_comparison(row: usize) -> bool
-    ensures takes { IsTrue result → takes_of row ≡ Kind.Text ∷ Kind.Text ∷ [] }
-    ensures says { IsTrue result → gives_of row ≡ Kind.Bool }
+// Whether a row takes two texts.
+#[tactic(auto, unfolding(value_ops::specs::Operators::takes_of, value_ops::specs::Operators::operators))]
+fn is_texts(row: usize) -> bool
+    ensures { IsTrue result → takes_of row ≡ Kind.Text ∷ Kind.Text ∷ [] }
 {
     match row {
-        15 | 16 | 17 => true,
+        15 | 16 | 17 | 18 => true,
+        _ => false,
+    }
+}
+
+// Whether a row takes two truth values.
+#[tactic(auto, unfolding(value_ops::specs::Operators::takes_of, value_ops::specs::Operators::operators))]
+fn is_flags(row: usize) -> bool
+    ensures { IsTrue result → takes_of row ≡ Kind.Bool ∷ Kind.Bool ∷ [] }
+{
+    match row {
+        13 | 14 => true,
         _ => false,
     }
 }

@@ -18,6 +18,14 @@ pub enum Ending<'s> {
     Drop,
 }
 
+/// What is left of a statement when its expressions have their values, which lie on `base` others.
+#[derive(Drop)]
+pub struct Tail<'s> {
+    pub at: Span,
+    pub ending: Ending<'s>,
+    pub base: usize,
+}
+
 /// A part of what is still to be done. A last number is that of the values that lie below its own ones.
 #[derive(Drop)]
 pub enum Work<'s> {

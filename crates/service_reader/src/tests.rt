@@ -4,7 +4,7 @@ use mace_parser::ParseError;
 use std::alloc::Global;
 use std::process::Abort;
 use std::test::Fail;
-use wave_base::{SERVICE_BYTES, Span};
+use wave_base::Span;
 
 fn refuses(rt: &impl Abort, alloc: Global, text: &[u8], fault: TextFault) {
     match parse_text(alloc, text) {
@@ -22,8 +22,15 @@ fn the_first_fault_decides(rt: HostRuntime) -> Result<(), Fail> {
     let at = Span { line: 1, col: 9 };
     let stuck = ParseError::Expected { token: 1, at };
     refuses(&rt, alloc, b"service { }", TextFault::Parse(stuck));
-    let long = Vec::from_elem(alloc, b' ', SERVICE_BYTES + 1)?;
-    refuses(&rt, alloc, long.as_slice(), TextFault::TooLarge);
+    let mut blanks = Vec::from_elem(alloc, b' ', 262_144)?;
+    let at = Span {
+        line: 1,
+        col: 262_145,
+    };
+    let stuck = ParseError::Expected { token: 0, at };
+    refuses(&rt, alloc, blanks.as_slice(), TextFault::Parse(stuck));
+    blanks.push(b' ')?;
+    refuses(&rt, alloc, blanks.as_slice(), TextFault::TooLarge);
     Ok(())
 }
 

@@ -1,5 +1,5 @@
 -- The classes along a path.
-use Rattle.std.proofs.Common.{◌≡◌, ℕ, zero, suc, ◌+◌, ◌-◌, ◌<◌, ◌≤◌, ◌&&◌, Bool, true, false, List, [], ◌∷◌, ◌++◌, length, Option, Some, None, ◌⊎◌, inl, inr, refl, ap, sym, ◌∙◌, arith, append_assoc}
+use Rattle.std.proofs.Common.{◌≡◌, ℕ, zero, suc, take, ◌+◌, ◌-◌, ◌<◌, ◌≤◌, ◌&&◌, Bool, true, false, List, [], ◌∷◌, ◌++◌, length, Option, Some, None, ◌⊎◌, inl, inr, refl, ap, sym, ◌∙◌, arith, append_assoc}
 use Rattle.std.specs.Prelude.{map, reverse, slice_get}
 use mathlib.Core.Bool.{true≢false}
 use Rattle.std.proofs.lemmas.Bool.{cases_lt}
@@ -14,7 +14,6 @@ use Rattle.wave_base.specs.declared.shape.Shape.{Shape}
 use Rattle.wave_base.specs.Paths.{parent_of}
 use Rattle.wave_base.specs.Shapes.{class_from, class_of, parent_in, parent_class, is_class, is_path_from, is_path, kinds_of_class, passes_root, IsShape}
 use Rattle.service_verify.specs.Rules.{classes_above, levels_above, is_child_class}
-use Rattle.service_verify.specs.Standing.{kinds_from, kinds_above}
 use Rattle.service_verify.proofs.Judged.{some_same}
 
 and_left : {P : Type 0} (a b : Bool) → (a && b) ≡ true → (a ≡ true → b ≡ true → P) → P
@@ -83,9 +82,10 @@ module _ (shape : Shape) where
   classes_on c [] = []
   classes_on c (s ∷ p) = c ∷ classes_on s.class.0 p
 
-  kinds_on : (done p : List Step) → kinds_from shape done p ≡ map (kinds_of_class shape) (classes_on (class_of done) p)
-  kinds_on done [] = refl
-  kinds_on done (s ∷ p) = ap (λ ks. kinds_of_class shape (class_of done) ∷ ks) (kinds_on (done ++ s ∷ []) p ∙ ap (λ c. map (kinds_of_class shape) (classes_on c p)) (class_of-child done s))
+  on_path : (c : ℕ) (p : List Step) (l d : ℕ) → slice_get (classes_on c p) l ≡ Some d → (l < length p) × (class_from c (take l p) ≡ d)
+  on_path c [] l d e = cc
+  on_path c (s ∷ p) zero d e = (omega arith, some_same c d e)
+  on_path c (s ∷ p) (suc l) d e = let r = on_path s.class.0 p l d e in (omega (arith, r.0), r.1)
 
   above_on : (c : ℕ) (p : List Step) (n : ℕ) → is_path_from shape c p ≡ true → classes_above shape (length p + n) (parent_class shape (class_from c p)) ≡ reverse (classes_on c p) ++ classes_above shape n (parent_class shape c)
   above_on c [] n h = let e : 0 + n ≡ n = omega arith in ap (λ m. classes_above shape m (parent_class shape c)) e
@@ -144,13 +144,6 @@ module _ (shape : Shape) where
         ∙ append-nil (reverse (classes_on 0 p)))
         ∙ reverse-reverse (classes_on 0 p)
 
-    -- the kinds at the level of an ancestor
-    pub kinds_at_level : (p : Path) (l c : ℕ) → is_path shape p ≡ true → slice_get (levels_above shape (class_of p)) l ≡ Some c → slice_get (kinds_above shape p) l ≡ Some (kinds_of_class shape c)
-    kinds_at_level p l c h e =
-        ap (λ ks. slice_get ks l) (kinds_on [] p)
-        ∙ get_map (classes_on 0 p) l (ap (λ cs. slice_get cs l) (sym (levels_are p h)) ∙ e)
-      where
-        get_map : (cs : List ℕ) (l : ℕ) → slice_get cs l ≡ Some c → slice_get (map (kinds_of_class shape) cs) l ≡ Some (kinds_of_class shape c)
-        get_map [] l e = cc
-        get_map (d ∷ cs) zero e = ap (λ n. Some (kinds_of_class shape n)) (some_same d c e)
-        get_map (d ∷ cs) (suc l) e = get_map cs l e
+    -- the context at the level of an ancestor's class
+    pub level_on : (p : Path) (l c : ℕ) → is_path shape p ≡ true → slice_get (levels_above shape (class_of p)) l ≡ Some c → (l < length p) × (class_of (take l p) ≡ c)
+    level_on p l c h e = on_path 0 p l c (ap (λ cs. slice_get cs l) (sym (levels_are p h)) ∙ e)

@@ -1,5 +1,5 @@
 -- What the verifier and the machine give of small programs, computed.
-use Rattle.std.proofs.Common.{◌≡◌, ℕ, true, false, List, [], ◌∷◌, Some, None, pos, refl}
+use Rattle.std.proofs.Common.{◌≡◌, ℕ, true, false, List, [], ◌∷◌, ◌++◌, Some, None, pos, refl}
 use Rattle.std.specs.List.{list_all}
 use Rattle.std.specs.Prelude.{Bool, is_ok, codes, Ok, Err, option_map, slice_get, Option, Result}
 use Rattle.wave_base.specs.declared.call.Call.{Call}
@@ -15,18 +15,20 @@ use Rattle.wave_base.specs.Trees.{first_tree}
 use Rattle.wave_base.specs.Tree.{Tree, shots}
 use Rattle.value_ops.specs.Operators.{operators, takes_of, gives_of, apply_row}
 use Rattle.service_code.specs.declared.instr.Instr.{Instr}
-use Rattle.service_code.specs.declared.instr.Instr.TheVariants.{PushBool, Pop, Op, Jump, Call as CallOwn, Field, End}
+use Rattle.service_code.specs.declared.instr.Instr.TheVariants.{PushInt, PushBool, Pop, Op, Jump, Tick, Call as CallOwn, CallDown, Return, Field, SetField, Go, Reply, End}
 use Rattle.service_code.specs.declared.program.Function.{Function}
 use Rattle.service_code.specs.declared.program.Program.{Program}
 use Rattle.service_verify.specs.declared.error.Rule.TheVariants as rule
 use Rattle.service_verify.specs.declared.point.Point.{Point}
 use Rattle.service_verify.specs.Boxes.{first_box}
+use Rattle.service_verify.specs.Looks.{is_quiet_function, peeks, looks_from}
 use Rattle.service_verify.specs.Points.{Table, Fault, point_after, visit, judged_from, judged_function}
+use Rattle.service_verify.specs.Reads.{kept}
 use Rattle.service_verify.specs.Rules.{levels_above, effect_of}
 use Rattle.service_verify.specs.Segments.{weight, enough, steps, segment}
 use Rattle.service_verify.specs.Steps.{acted, one_step}
 use Rattle.service_verify.specs.Tours.{Tour, tour_after, code_tour}
-use Rattle.service_verify.proofs.Samples.{function, tick, market}
+use Rattle.service_verify.proofs.Samples.{class, function, tick, market}
 
 abbrev point : List Kind → Option Point
 point ks = Some (record { class = record { 0 = 0 }; stack = ks })
@@ -134,3 +136,53 @@ keeps n (Some f) = is_ok (judged_function market n f)
 market_keeps : list_all (λ n. keeps n (slice_get market.functions n)) (0 ∷ 1 ∷ 2 ∷ 3 ∷ []) ≡ true
 unfolding judged_function judged_from visit point_after effect_of takes_of gives_of operators levels_above
 market_keeps = refl
+
+-- of the market the halls' counts alone are read from below
+market_kept : kept market 0 ∷ kept market 1 ∷ kept market 2 ∷ [] ≡ (false ∷ []) ∷ (true ∷ []) ∷ (false ∷ []) ∷ []
+unfolding kept judged_function judged_from visit point_after effect_of takes_of gives_of operators levels_above
+market_kept = refl
+
+-- a root and a context below it, a method there that sets its field, one that reads it, and events with these codes
+abbrev with_events : List Instr → Program
+with_events code = record market {
+  functions =
+      function (codes "set") 1 false [] None [] 1 (PushInt (pos 1) ∷ SetField 0 ∷ Return ∷ [])
+      ∷ function (codes "look") 1 false [] (Some k.Int) [] 1 (Field 0 ∷ Return ∷ [])
+      ∷ function (codes "event") 0 true [] (Some k.Int) [] 2 code ∷ [];
+}
+
+abbrev into_hall : List Instr
+into_hall = PushInt (pos 5) ∷ Go (class 1) ∷ []
+
+reads_at_last : peeks (with_events (into_hall ++ Tick ∷ CallOwn 1 ∷ Reply ∷ [])) 2 ≡ true
+unfolding peeks is_quiet_function
+reads_at_last = refl
+
+sets_at_last : peeks (with_events (into_hall ++ PushInt (pos 1) ∷ SetField 0 ∷ Field 0 ∷ Reply ∷ [])) 2 ≡ false
+unfolding peeks is_quiet_function
+sets_at_last = refl
+
+calls_what_sets : peeks (with_events (into_hall ++ Tick ∷ CallOwn 0 ∷ Field 0 ∷ Reply ∷ [])) 2 ≡ false
+unfolding peeks is_quiet_function
+calls_what_sets = refl
+
+calls_down : peeks (with_events (PushInt (pos 5) ∷ Tick ∷ CallDown (class 1) 1 ∷ Reply ∷ [])) 2 ≡ false
+unfolding peeks is_quiet_function
+calls_down = refl
+
+-- it sets a field, but before its last Go
+sets_before : peeks (with_events (PushInt (pos 1) ∷ SetField 0 ∷ into_hall ++ Field 0 ∷ Reply ∷ [])) 2 ≡ true
+unfolding peeks is_quiet_function
+sets_before = refl
+
+loops_back : peeks (with_events (into_hall ++ Tick ∷ Jump 0 ∷ [])) 2 ≡ false
+unfolding peeks is_quiet_function
+loops_back = refl
+
+goes_nowhere : looks_from (with_events (Field 0 ∷ Reply ∷ [])) 2 ≡ Some 0
+unfolding peeks is_quiet_function
+goes_nowhere = refl
+
+a_method : peeks (with_events []) 1 ≡ false
+unfolding peeks
+a_method = refl

@@ -66,5 +66,5 @@ module _ (program : Program) (fit : IsFit program) (verified : IsVerified progra
               created = All-nil _;
             };
             ready = subst (ReadyNext program) (sym frames_are) (no_call_first program fit f e.function e.is_there refl);
-            levels = refl;
+            levels = record { long = refl; each = λ l n kind lt. absurd (omega arith) };
           }

@@ -3,13 +3,14 @@ use Rattle.std.specs.Prelude.{ℕ, zero, suc, List, [], Option, Some, None}
 use Rattle.wave_base.specs.declared.call.Call.{Call}
 use Rattle.wave_base.specs.declared.outcome.EventResult.{EventResult}
 use Rattle.wave_base.specs.Tree.{Tree}
+use Rattle.downgrade_views.specs.Levels.{Level}
 use Rattle.service_code.specs.declared.program.Program.{Program}
 use Rattle.service_verify.specs.Segments.{Left, event_segment}
 use Rattle.service_verify.specs.Tours.{Fields, Tour, halted, first_tour}
 
 pub record Trip : Type 0 where
   pub tour : Tour
-  pub levels : List Fields
+  pub levels : List Level
 
 abbrev pub tripped : Trip → Option Left → Trip
 tripped t None = t

@@ -3,8 +3,12 @@ pub mod Boxes
 pub mod Copies
 pub mod Faults
 pub mod Fit
+pub mod inner
+pub mod Lawful
+pub mod Looks
 pub mod Nexts
 pub mod Points
+pub mod Reads
 pub mod Rules
 pub mod Segments
 pub mod Standing

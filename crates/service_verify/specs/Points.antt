@@ -1,5 +1,5 @@
 -- What a verified function has before each of its instructions: the first arrival in code order fixes it, and a later one must agree.
-use Rattle.std.specs.Prelude.{◌≡◌, ℕ, suc, Bool, true, false, ◌==◌, ◌||◌, not, nat_le, List, [], ◌∷◌, ◌++◌, length, replicate, Option, Some, None, option_to_list, Result, Ok, Err, slice_get, slice_set}
+use Rattle.std.specs.Prelude.{◌≡◌, ◌<◌, ℕ, suc, Bool, true, false, ◌==◌, ◌||◌, not, nat_le, List, [], ◌∷◌, ◌++◌, length, replicate, Option, Some, None, option_to_list, Result, Ok, Err, slice_get, slice_set}
 use Rattle.std.specs.Cmp.Lexicographic.{pointwise}
 use Rattle.wave_base.specs.declared.value.Kind.{Kind}
 use Rattle.service_code.specs.declared.instr.Instr.{Instr}
@@ -82,12 +82,29 @@ module _ (program : Program) (number : ℕ) (function : Function) where
   unfoldable pub judged_function : Result Table Fault
   judged_function = judged_from 0 function.code (first_table function)
 
+abbrev pub table_in : Result Table Fault → Table
+table_in (Ok t) = t
+table_in (Err e) = []
+
+-- what the verifier fixed for the instructions of a function
+abbrev pub points_of : Program → ℕ → Function → Table
+points_of program number f = table_in (judged_function program number f)
+
+abbrev pub point_in : Option (Option Point) → Option Point
+point_in None = None
+point_in (Some p) = p
+
+-- what the verifier fixed for an instruction
+unfoldable pub point_at : Program → ℕ → Function → ℕ → Option Point
+point_at program number f place = point_in (slice_get (points_of program number f) place)
+
 -- no instruction breaks a rule
 pub record IsVerified (program : Program) : Type 0 where
   pub each : (n : ℕ) (f : Function) → slice_get program.functions n ≡ Some f → (points : Table) × (judged_function program n f ≡ Ok points)
 
--- this instruction of this function breaks this rule
+-- this instruction of this function breaks this rule, and no function before it has one that does
 pub record Breaks (program : Program) (r : Rule) (number instruction : ℕ) : Type 0 where
   pub function : Function
   pub is_there : slice_get program.functions number ≡ Some function
+  pub before : (n : ℕ) (f : Function) → n < number → slice_get program.functions n ≡ Some f → (points : Table) × (judged_function program n f ≡ Ok points)
   pub breaks : judged_function program number function ≡ Err (record { rule = r; instruction = instruction })

@@ -281,7 +281,7 @@ fn is_child(shape: &Shape, class: Class, child: Class) -> bool
 
 // The class above a class that is at this level, the root's being 0.
 #[tactic(auto, unfolding(crate::specs::Rules::levels_above))]
-fn ancestor(shape: &Shape, class: Class, level: usize) -> Option<Class>
+pub fn ancestor(shape: &Shape, class: Class, level: usize) -> Option<Class>
     ensures { option_map (λ c. c.0) result ≡ slice_get (levels_above shape.now class.0) level }
 {
     let nearest = parent(shape, class);

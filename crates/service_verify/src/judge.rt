@@ -1,9 +1,9 @@
-ghost use Rattle.std.specs.Prelude.{◌≡◌, ◌<◌, ◌≤◌, ◌^◌, length, Some, Ok, Err, IfOk, IfErr, OnOk, MatchResult, slice_get};
+ghost use Rattle.std.specs.Prelude.{◌≡◌, ◌<◌, ◌≤◌, ◌^◌, length, Some, Ok, Err, IfOk, IfErr, MatchResult, slice_get};
 ghost use Rattle.value_ops.specs.Rows.{wave_rows};
 ghost use Rattle.service_verify.specs.Asks.{Judges, Leaves, IsUnreached};
 ghost use Rattle.service_verify.specs.Faults.{Names, IsFirst};
 ghost use Rattle.service_verify.specs.Nexts.{nexts};
-ghost use Rattle.service_verify.specs.Points.{Table, kept_stack, point_after, arrival, arrivals, visit, first_table, judged_function};
+ghost use Rattle.service_verify.specs.Points.{kept_stack, point_after, arrival, arrivals, visit, first_table, judged_function};
 ghost use Rattle.service_verify.specs.Rules.{class_after, next_of, ends};
 
 use crate::asks::Judge;
@@ -63,11 +63,11 @@ impl Judge<'_> {
         arrive_all(alloc, next_of(instr, n), point, table)
     }
 
-    /// Judges the function.
-    pub fn judge(&self, alloc: Global) -> Result<(), VerifyError>
+    /// Judges the function, and gives the points of its instructions.
+    pub fn judge(&self, alloc: Global) -> Result<Vec<Option<Point>>, VerifyError>
         requires operators { self.now.operators.now ≡ wave_rows }
         requires code { length self.now.function.now.code ≤ INSTRUCTIONS }
-        ensures ok { OnOk result ((points : Table) × (judged_function self.now.program.now self.now.number self.now.function.now ≡ Ok points)) }
+        ensures ok { IfOk result (λ points. judged_function self.now.program.now self.now.number self.now.function.now ≡ Ok points.items) }
         ensures err { IfErr result (Names (IsFirst self.now.program.now self.now.number self.now.function.now)) }
     {
         let mut table = first_table(alloc, self.function)?;
@@ -77,7 +77,7 @@ impl Judge<'_> {
                 Err(refusal) => return Err(refusal.at(self.number, n as u16)),
             }
         }
-        Ok(())
+        Ok(table)
     }
 }
 

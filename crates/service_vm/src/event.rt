@@ -1,12 +1,14 @@
-ghost use Rattle.std.specs.Prelude.{◌≡◌, ◌≤◌, ℕ, [], length, map, drop, Some, IsSome, IfOk, IfErr, slice_get};
+ghost use Rattle.std.specs.Prelude.{◌≡◌, ◌<◌, ◌≤◌, ℕ, [], length, map, drop, Some, IsSome, IfOk, IfErr, OnOk, slice_get};
 ghost use Rattle.wave_base.specs.declared.path.Path.{Path};
 ghost use Rattle.wave_base.specs.declared.limits.TheConstants.{GENERATION};
 ghost use Rattle.wave_base.specs.Scripts.{IsCall};
+ghost use Rattle.wave_base.specs.Shapes.{class_of};
 ghost use Rattle.service_verify.specs.Boxes.{first_box, blank_of};
 ghost use Rattle.service_verify.specs.Fit.{IsFit};
+ghost use Rattle.service_verify.specs.Looks.{is_peeking, frames_peek};
 ghost use Rattle.service_verify.specs.Points.{IsVerified};
 ghost use Rattle.service_verify.specs.Standing.{HasFields, Stands, Leaves};
-ghost use Rattle.service_vm.specs.Boxes.{Segment};
+ghost use Rattle.service_vm.specs.Boxes.{Segment, frames_left};
 
 use crate::act::function;
 use crate::frames::{Frames, add_blanks};
@@ -18,43 +20,46 @@ use service_code::{Function, Program};
 use service_verify::Verified;
 use std::alloc::Global;
 use std::marker::Model;
-use wave_base::{Call, OutOfMemory, Path, Pause, Record, Seq, TICKS, Ticket, Value};
+use wave_base::{Call, Class, OutOfMemory, Path, Pause, Record, Seq, TICKS, Ticket, Value};
 
 /// An event between its segments. It is of one program, which each of its calls is given.
 #[derive(Debug, Drop)]
 pub struct EventBox {
     run: Run,
     ended: bool,
+    ticket: Ticket,
+    peeking: bool,
 }
 
 impl Model for EventBox {
     ghost use Rattle.deferred_out.specs.Kept.{IsKept};
-    ghost use Rattle.service_verify.specs.Segments.{Event};
-    ghost use Rattle.service_vm.specs.Boxes.{event_in};
+    ghost use Rattle.service_vm.specs.Boxes.{Boxed, boxed};
 
-    ghost Value = { Event };
+    ghost Value = { Boxed };
 
-    ghost view = { λ e. event_in e.ended e.run };
+    ghost view = { λ e. boxed e.ended e.run e.ticket e.peeking };
 
     ghost invariant = { λ e. IsKept e.run.outputs };
 }
 
 impl EventBox {
-    /// The event that a call begins, at the root. Its ticket is the machine's business alone. Where memory is wanting the
-    /// call comes back.
+    /// The event that a call begins, at the root, under a ticket. Where memory is wanting the call comes back.
     pub fn new(
         alloc: Global,
         program: &Verified,
-        _ticket: Ticket,
+        ticket: Ticket,
         call: Call,
     ) -> Result<EventBox, (Call, OutOfMemory)>
         requires fit { IsFit program.now }
         requires call { IsCall program.now.shape call }
         requires generation { call.generation ≤ GENERATION }
-        ensures event { IfOk result (λ e. e ≡ record { box = first_box program.now call; levels = [] }) }
-        ensures stands { IfOk result (λ e. Stands program.now [] 0 e) }
+        ensures event { IfOk result (λ e. e.event ≡ record { box = first_box program.now call; levels = [] }) }
+        ensures ticket { IfOk result (λ e. e.ticket ≡ ticket) }
+        ensures peeking { IfOk result (λ e. e.peeking ≡ is_peeking program.now e.event.box) }
+        ensures stands { IfOk result (λ e. Stands program.now [] 0 e.event) }
         ensures back { IfErr result (λ e. e.0 ≡ call) }
     {
+        let verified = program;
         let program = program.program();
         let number = event_function(program, call.event);
         let function = function(program, number);
@@ -94,14 +99,35 @@ impl EventBox {
             generation,
             alloc,
         };
-        Ok(EventBox { run, ended: false })
+        let peeking = is_peeking(verified, &run, false);
+        Ok(EventBox {
+            run,
+            ended: false,
+            ticket,
+            peeking,
+        })
     }
 
     /// The context where it runs next, or where it ended.
     pub fn path(&self) -> Path
-        ensures { result ≡ self.now.box.path }
+        ensures { result ≡ self.now.event.box.path }
     {
         self.run.path
+    }
+
+    /// The ticket of its call.
+    pub fn ticket(&self) -> Ticket
+        ensures { result ≡ self.now.ticket }
+    {
+        self.ticket
+    }
+
+    /// Whether it stands after its function's last Go, and from there on only looks: its next segment changes no field,
+    /// goes into no child, and ends it.
+    pub fn peeking(&self) -> bool
+        ensures { result ≡ self.now.peeking }
+    {
+        self.peeking
     }
 }
 
@@ -113,9 +139,11 @@ pub fn segment(
     body: &mut Record,
 ) -> Result<Pause, OutOfMemory>
     requires fit { IsFit program.now }
-    requires stands { (path : Path) × (calls : ℕ) × Stands program.now path calls event.old × HasFields program.now.shape path body.old.fields }
-    ensures segment { IfOk result (λ why. Segment program.now event.old body.old.fields event.new body.new.fields why) }
-    ensures leaves { IfOk result (λ why. (path : Path) (calls : ℕ) → Stands program.now path calls event.old → HasFields program.now.shape path body.old.fields → HasFields program.now.shape path body.new.fields × Leaves program.now path calls event.new why) }
+    requires stands { (path : Path) × (calls : ℕ) × Stands program.now path calls event.old.event × HasFields program.now.shape path body.old.fields }
+    ensures segment { IfOk result (λ why. Segment program.now event.old.event body.old.fields event.new.event body.new.fields why) }
+    ensures leaves { IfOk result (λ why. (path : Path) (calls : ℕ) → Stands program.now path calls event.old.event → HasFields program.now.shape path body.old.fields → HasFields program.now.shape path body.new.fields × Leaves program.now path calls event.new.event why) }
+    ensures peeking { OnOk result (event.new.peeking ≡ is_peeking program.now event.new.event.box) }
+    ensures ticket { OnOk result (event.new.ticket ≡ event.old.ticket) }
     ensures children { body.new.children ≡ body.old.children }
 {
     run_to_pause(program, event, body)
@@ -127,18 +155,46 @@ fn run_to_pause(
     body: &mut Record,
 ) -> Result<Pause, OutOfMemory>
     requires fit { IsFit program.now }
-    requires stands { (path : Path) × (calls : ℕ) × Stands program.now path calls event.old × HasFields program.now.shape path body.old.fields }
-    ensures segment { IfOk result (λ why. Segment program.now event.old body.old.fields event.new body.new.fields why) }
+    requires stands { (path : Path) × (calls : ℕ) × Stands program.now path calls event.old.event × HasFields program.now.shape path body.old.fields }
+    ensures segment { IfOk result (λ why. Segment program.now event.old.event body.old.fields event.new.event body.new.fields why) }
+    ensures peeking { OnOk result (event.new.peeking ≡ is_peeking program.now event.new.event.box) }
+    ensures ticket { OnOk result (event.new.ticket ≡ event.old.ticket) }
     ensures children { body.new.children ≡ body.old.children }
     ensures verified { IsVerified program.now }
 {
+    let class = class_of(&event.run.path);
     let why = event.run.pause(program.program(), &mut body.fields)?;
     match &why {
-        Pause::Go(_) | Pause::Down(_) => event.run.views.leave(body)?,
+        Pause::Go(_) | Pause::Down(_) => event.run.views.leave(body, program.kept(class))?,
         Pause::Back => event.run.views.back(),
         Pause::Over(_) => event.ended = true,
     }
+    event.peeking = is_peeking(program, &event.run, event.ended);
     Ok(why)
+}
+
+// Whether it isn't over, and stands where its function only looks.
+fn is_peeking(program: &Verified, run: &Run, ended: bool) -> bool
+    ensures { result ≡ frames_peek program.now (frames_left ended run.now) }
+{
+    if ended {
+        return false;
+    }
+    match program.looks_from(run.frames.function()) {
+        Some(start) => start <= run.frames.place(),
+        None => false,
+    }
+}
+
+// The class of a context.
+fn class_of(path: &Path) -> Class
+    ensures { result.0 ≡ class_of path.now }
+{
+    let steps = path.as_slice();
+    if steps.is_empty() {
+        return Class(0);
+    }
+    steps[steps.len() - 1].class
 }
 
 // The function of an event.

@@ -1,5 +1,6 @@
 ghost use Rattle.std.specs.Prelude.{◌≡◌, [], ◌∷◌, IfOk};
 ghost use Rattle.wave_base.specs.declared.value.Value.TheVariants as v;
+ghost use Rattle.service_verify.specs.Standing.{Stands};
 ghost use Rattle.service_vm.specs.Spin.{spin};
 
 use super::*;
@@ -7,6 +8,7 @@ use service_code::{Function, Instr, Program};
 use service_verify::{Verified, verify};
 use std::alloc::Global;
 use std::test::Fail;
+use std::thread::{Threads, join};
 use wave_base::{
     Call, Children, Class, ClassInfo, EventInfo, EventResult, Kind, OutOfMemory, Outcome, Path,
     Pause, Record, Seq, Shape, Span, Ticket, Trap, TrapKind, Txt, Value,
@@ -78,15 +80,23 @@ fn call_of(alloc: Global, n: i64) -> Result<Call, OutOfMemory>
     })
 }
 
+// A call that begins to count to a number.
+fn begin(alloc: Global, program: &Verified, n: i64) -> Result<EventBox, OutOfMemory>
+    requires { program.now ≡ spin }
+    ensures { IfOk result (λ e. Stands program.now [] 0 e.event) }
+{
+    let call = call_of(alloc, n)?;
+    match EventBox::new(alloc, program, Ticket(7), call) {
+        Ok(event) => Ok(event),
+        Err((_, e)) => Err(e),
+    }
+}
+
 // The pause of a call that counts to a number.
 fn count(alloc: Global, program: &Verified, n: i64) -> Result<Pause, OutOfMemory>
     requires { program.now ≡ spin }
 {
-    let call = call_of(alloc, n)?;
-    let mut event = match EventBox::new(alloc, program, Ticket(1), call) {
-        Ok(event) => event,
-        Err((_, e)) => return Err(e),
-    };
+    let mut event = begin(alloc, program, n)?;
     let mut body = Record {
         fields: Seq::new(alloc),
         children: Children::new(alloc),
@@ -123,5 +133,22 @@ fn traps_at_tick_100_001(rt: HostRuntime) -> Result<(), Fail> {
         at: Span { line: 1, col: 1 },
     };
     assert!(rt; pause == over(alloc, Outcome::Trapped(trap)));
+    Ok(())
+}
+
+// An event goes to another thread and comes back.
+fn sent<R: Threads>(rt: &R, event: EventBox) -> EventBox {
+    join(rt, move || event, || ()).0
+}
+
+// It has no Go, and all its instructions are quiet.
+#[test]
+fn peeks_from_its_beginning(rt: HostRuntime) -> Result<(), Fail> {
+    let alloc = rt.alloc();
+    let program = verify(alloc, program(alloc)?)?;
+    let event = sent(&rt, begin(alloc, &program, 5)?);
+    assert!(rt; event.peeking());
+    assert_eq!(rt; event.ticket(), Ticket(7));
+    assert!(rt; event.path() == Path::root());
     Ok(())
 }

@@ -1,4 +1,4 @@
-pub mod Gathering
 pub mod Indexed
 pub mod Numbers
 pub mod Rows
+pub mod inner

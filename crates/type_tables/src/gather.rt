@@ -1,7 +1,7 @@
 ghost use Rattle.std.specs.Prelude.{◌≡◌, ◌+◌, ◌<◌, ◌^◌, ◌∷◌, ◌++◌, [], length, map, OnOk, IfOk};
 ghost use Rattle.mace_ast.specs.Decls.{method_tree, event_tree, context_tree, contexts_of, service_tree};
 ghost use Rattle.type_rules.specs.Known as rules;
-ghost use Rattle.type_tables.specs.Gathering.{IsGathered, Gains, known_in};
+ghost use Rattle.type_tables.specs.inner.Gathering.{IsGathered, Gains, known_in};
 
 use crate::names::Names;
 use crate::params::kinds_of;

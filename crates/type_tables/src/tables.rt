@@ -3,7 +3,7 @@ ghost use Rattle.std.specs.Option.{option_map};
 ghost use Rattle.wave_base.specs.Shapes.{declared_fields, parent_class, is_class};
 ghost use Rattle.mace_ast.specs.Decls.{service_tree};
 ghost use Rattle.type_rules.specs.Known as known;
-ghost use Rattle.type_tables.specs.Gathering.{IsGathered, known_in};
+ghost use Rattle.type_tables.specs.inner.Gathering.{IsGathered, known_in};
 
 use crate::gather::Gathered;
 use crate::names::Names;

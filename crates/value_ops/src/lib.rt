@@ -18,8 +18,9 @@ pub use laws::{quotient_and_remainder, rows_give_their_kind, str_reads_back};
 pub use maps::{put_pair, read_map};
 pub use row::OpRow;
 pub use table::{OpTable, find, wave_ops};
-pub use texts::compare_texts;
-pub use values::apply;
+pub use takes::{Takes, takes_of};
+pub use texts::{apply_texts, compare_texts, part};
+pub use values::{apply, compare_flags};
 
 #[cfg(test)]
 mod tests;

@@ -56,8 +56,8 @@ fn apply_int(alloc: Global, row: usize, a: i64) -> Result<Value, OpError>
     }
 }
 
-// What a row says of two truth values.
-fn compare_flags(row: usize, b: bool, c: bool) -> bool
+/// What a row says of two truth values.
+pub fn compare_flags(row: usize, b: bool, c: bool) -> bool
     requires { takes_of row ≡ Kind.Bool ∷ Kind.Bool ∷ [] }
     ensures { apply_row row (Value.Bool b ∷ Value.Bool c ∷ []) ≡ Ok (Value.Bool result) }
 {

@@ -16,7 +16,7 @@ impl<'s> Runner for Evaluator<'s> {
     ghost use Rattle.service_eval.specs.Worlds.{Holds};
     ghost use Rattle.meaning_laws.specs.Kept.{IsEarly};
     ghost use Rattle.wave_meaning.specs.Meaning.{call_ran, IsFit};
-    ghost use Rattle.wave_meaning.specs.Owing.{evaluator_owes};
+    ghost use Rattle.wave_meaning.specs.inner.Owing.{evaluator_owes};
 
     ghost shape = { λ e. e.shape.now };
 

@@ -5,7 +5,7 @@ ghost use Rattle.resolved_service.specs.Fits.{FitsService};
 ghost use Rattle.wave_base.specs.Scripts.{IsScript};
 ghost use Rattle.wave_base.specs.Shapes.{IsShape};
 ghost use Rattle.wave_base.specs.Starts.{IsStart};
-ghost use Rattle.wave_meaning.specs.Meaning.{results_at, results_of};
+ghost use Rattle.wave_meaning.specs.Meaning.{results_at, results_of, IsWholeAt, IsWhole};
 
 use crate::evaluator::Evaluator;
 use resolved_service::Resolved;
@@ -25,6 +25,7 @@ pub fn run_script_at(
     requires start { IsStart shape.now script.now.hosts start.now }
     requires script { IsScript shape.now script.now }
     ensures finished { IfOk result (λ f. f ≡ results_at shape.now service.now start.now script.now) }
+    ensures over { IfOk result (λ _. IsWholeAt shape.now service.now start.now script.now) }
     ensures few { IfOk result (λ f. length f.results ≤ 2 ^ 32 - 1) }
 {
     script_fold::run_script_at(alloc, &Evaluator { shape, service }, script, start)
@@ -41,6 +42,7 @@ pub fn run_script(
     requires fits { FitsService shape.now service.now }
     requires script { IsScript shape.now script.now }
     ensures finished { IfOk result (λ f. f ≡ results_of shape.now service.now script.now) }
+    ensures over { IfOk result (λ _. IsWhole shape.now service.now script.now) }
     ensures few { IfOk result (λ f. length f.results ≤ 2 ^ 32 - 1) }
 {
     script_fold::run_script(alloc, &Evaluator { shape, service }, shape, script)

@@ -290,7 +290,7 @@ by_the_lowest : enabled trips 2 1 (start_state begin stays_here) ≡ record { wo
 unfolding step enabled
 by_the_lowest = refl
 
--- Releases in reverse order: a walker holds the root and a child when it is over.
+-- Releases in reverse order: a walker holds the root and a child when it is over, and its Releases fall.
 abbrev W : Type 0
 W = State (Walker ℕ) ℕ (List (Path × ℕ)) (Unit {0})
 

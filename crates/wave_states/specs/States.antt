@@ -1,6 +1,6 @@
 -- The state of the machine. A map whose keys are tickets, hosts, numbers or paths is the function of what it has at each
 -- key: None but where a list of the state says so (the tickets admitted, the paths entered, the mails sent).
-use Rattle.std.specs.Prelude.{ℕ, Bool, true, false, nat_eq, if◌then◌else◌, List, map, Option, Some, None}
+use Rattle.std.specs.Prelude.{ℕ, Bool, true, false, if◌then◌else◌, List, map, Option, Some, None}
 use Rattle.std.specs.Map.{lookup}
 use Rattle.std.specs.BTreeMap.{is_at}
 use Rattle.wave_base.specs.declared.path.Step.{Step}
@@ -95,21 +95,6 @@ pub record State (A F R J : Type 0) : Type 0 where
   pub cells : ℕ → Cell A F R
   pub columns : Path → Column F
   pub hands : ℕ → Option (Hand A F)
-
--- the same by hosts: a host's store, its departure marks, and its mail by ticket and number
-module _ {A F R J : Type 0} (s : State A F R J) (host : ℕ) where
-  abbrev pub store : Path → Option (Entry F)
-  store p = (s.columns p).store host
-
-  abbrev pub marks : Path → Option Mark
-  marks p = (s.columns p).gone host
-
-  abbrev pub mail_here : Option (Mail F) → Option (Mail F)
-  mail_here None = None
-  mail_here (Some m) = if nat_eq m.host host then Some m else None
-
-  abbrev pub mail : ℕ → ℕ → Option (Mail F)
-  mail ticket number = mail_here ((s.cells ticket).mails number)
 
 -- where a path is held
 abbrev pub hold_at : List (Path × Hold) → Path → Option Hold

@@ -145,9 +145,6 @@ module _ {A F R : Type 0} where
   abbrev pub cell_of : Desk A F → Option R → Cell A F R
   cell_of d result = record { event = Some d.event; mails = d.mails; result = result }
 
-  abbrev pub desk_of : Cell A F R → Event A → Desk A F
-  desk_of c e = record { event = e; mails = c.mails }
-
   abbrev pub without_mail : Cell A F R → ℕ → Cell A F R
   without_mail c k = record { event = c.event; mails = set nat_eq c.mails k None; result = c.result }
 
@@ -288,16 +285,19 @@ module _ {A F R : Type 0} where
   abbrev pub desk_back : Cell A F R → Event A → A → Desk A F
   desk_back c e a = record { event = record { actor = Some a; held = e.held; sent = e.sent; status = Travelling }; mails = c.mails }
 
+  -- what a Queue leaves
   abbrev pub queued : ℕ → ℕ → Path → ℕ → Part A F R → Event A → Ask → Entry F → Part A F R
   queued t k p host x e a en = record {
     cell = with_event (without_mail x.cell k) (with_status e (Waiting p));
     column = with_entry x.column host (Some (in_line en a.number (record { ticket = t; peek = a.peek })));
   }
 
+  -- what a label leaves, with this in the hand
   abbrev pub with_hand : Option (Hand A F) → Option (Part A F R) → Option (Bench A F R)
   with_hand g o = option_map (λ x. record { part = x; hand = g }) o
 
 module _ {A F R J : Type 0} where
+  -- what a label of the ticket on the context finds, and the state with what it leaves
   abbrev pub part_of : State A F R J → ℕ → Path → Part A F R
   part_of s t p = record { cell = s.cells t; column = s.columns p }
 

@@ -2,34 +2,12 @@
 use Rattle.std.proofs.Common.{◌≡◌, ◌+◌, ◌<◌, ℕ, zero, suc, ℤ, pos, List, [], ◌∷◌, ◌++◌, length, take, get_or, slice_get, Some, IfSome, OnOk, Result, Ok, Err, refl, sym, ap, subst, ◌∙◌, append_assoc, append-nil, arith}
 use Rattle.std.specs.Prelude.{codes}
 use Rattle.std.specs.Fmt.{signed_decimal}
-use Rattle.std.specs.List.Sorted.{IsStrictlySortedBy}
-use Rattle.std.specs.Map.{keys_of}
-use Rattle.std.specs.Ordering.{int_cmp}
-use Rattle.std.proofs.lemmas.Cmp.{eq_by_cmp_equiv, int_cmp_total}
-use Rattle.std.proofs.lemmas.List.Elements.{Contains-get_or}
-use Rattle.std.proofs.lemmas.Map.Keys.{IsDistinct-from_sorted}
-use Rattle.std.proofs.lemmas.Map.Views.{lookup-from_Contains}
-use Rattle.wave_base.specs.Tables.{value_at}
 use Rattle.wave_text.specs.ValueTexts.{pair_text, comma_before, pairs_from}
-
-abbrev none : ℤ × ℤ
-none = (pos 0, pos 0)
 
 pub at_place : {A : Type 0} (xs : List A) (i : ℕ) (d : A) → i < length xs → slice_get xs i ≡ Some (get_or xs i d)
 at_place [] i d h = absurd (omega arith)
 at_place (x ∷ xs) zero d h = refl
 at_place (x ∷ xs) (suc i) d h = at_place xs i d (omega arith)
-
--- the key at a place has the value at that place
-pub value_there : (pairs : List (ℤ × ℤ)) (i : ℕ) (key : ℤ) → IsStrictlySortedBy int_cmp (keys_of pairs) → i < length pairs → IfSome (slice_get pairs i) (λ p. p.0 ≡ key)
-    → (v : ℤ) × (value_at pairs key ≡ Some v) × (slice_get pairs i ≡ Some (key, v))
-value_there pairs i key sorted within is =
-    let at : slice_get pairs i ≡ Some (get_or pairs i none) = at_place pairs i none within in
-    let key_is : (get_or pairs i none).0 ≡ key = subst (λ o. IfSome o (λ p. p.0 ≡ key)) at is in
-    let v : ℤ = (get_or pairs i none).1 in
-    let there : value_at pairs (get_or pairs i none).0 ≡ Some v =
-    lookup-from_Contains (eq_by_cmp_equiv int_cmp_total) (get_or pairs i none).0 v pairs (IsDistinct-from_sorted int_cmp (keys_of pairs) sorted) (Contains-get_or pairs i none within) in
-    (v, subst (λ k. value_at pairs k ≡ Some v) key_is there, at ∙ (λ j. Some (key_is j, v)))
 
 pub on_ok : {T E P Q : Type 0} (r : Result T E) → OnOk r P → (P → Q) → OnOk r Q
 on_ok (Ok x) p f = f p

@@ -1,14 +1,11 @@
-ghost use Rattle.std.specs.Prelude.{◌≡◌, ◌<◌, ◌++◌, length, slice_get, IfSome, OnOk};
-ghost use Rattle.std.specs.List.Sorted.{IsStrictlySortedBy};
-ghost use Rattle.std.specs.Map.{keys_of};
-ghost use Rattle.std.specs.Ordering.{int_cmp};
+ghost use Rattle.std.specs.Prelude.{◌≡◌, ◌++◌, OnOk};
 ghost use Rattle.std.specs.Fmt.{decimal, signed_decimal};
 ghost use Rattle.mace_lexer.specs.Texts.{escaped, quoted};
 ghost use Rattle.wave_text.specs.ValueTexts.{pair_text, comma_before, pairs_text, value_text};
 
+use itoa::Buffer;
 use std::alloc::Global;
-use std::string::ToString;
-use wave_base::{OutOfMemory, Table, Value};
+use wave_base::{OutOfMemory, Value};
 
 /// Appends bytes.
 pub fn put_bytes(out: &mut Vec<u8>, bytes: &[u8]) -> Result<(), OutOfMemory>
@@ -19,19 +16,19 @@ pub fn put_bytes(out: &mut Vec<u8>, bytes: &[u8]) -> Result<(), OutOfMemory>
 }
 
 /// Appends a number in decimal.
-pub fn put_number(alloc: Global, out: &mut Vec<u8>, n: u64) -> Result<(), OutOfMemory>
+pub fn put_number(_alloc: Global, out: &mut Vec<u8>, n: u64) -> Result<(), OutOfMemory>
     ensures { OnOk result (out.new.items ≡ out.old.items ++ decimal n) }
 {
-    let text = n.to_string(alloc)?;
-    put_bytes(out, text.as_bytes())
+    let mut buffer = Buffer::new();
+    put_bytes(out, buffer.format(n).as_bytes())
 }
 
 /// Appends a whole number in decimal.
-pub fn put_whole(alloc: Global, out: &mut Vec<u8>, n: i64) -> Result<(), OutOfMemory>
+pub fn put_whole(_alloc: Global, out: &mut Vec<u8>, n: i64) -> Result<(), OutOfMemory>
     ensures { OnOk result (out.new.items ≡ out.old.items ++ signed_decimal n) }
 {
-    let text = n.to_string(alloc)?;
-    put_bytes(out, text.as_bytes())
+    let mut buffer = Buffer::new();
+    put_bytes(out, buffer.format(n).as_bytes())
 }
 
 // Appends a text, with a backslash before each quote and backslash.
@@ -56,17 +53,13 @@ pub fn put_quoted(out: &mut Vec<u8>, text: &[u8]) -> Result<(), OutOfMemory>
     put_bytes(out, b"\"")
 }
 
-// Appends the pair at place `i` in the order of the keys.
-fn put_pair(alloc: Global, out: &mut Vec<u8>, table: &Table, i: usize) -> Result<(), OutOfMemory>
-    requires within { i < length table.now }
-    requires rises { IsStrictlySortedBy int_cmp (keys_of table.now) }
-    ensures { OnOk result (IfSome (slice_get table.now i) (λ p. out.new.items ≡ out.old.items ++ pair_text p)) }
+// Appends a pair.
+fn put_pair(alloc: Global, out: &mut Vec<u8>, pair: &(i64, i64)) -> Result<(), OutOfMemory>
+    ensures { OnOk result (out.new.items ≡ out.old.items ++ pair_text pair.now) }
 {
-    let key = table.key_at(i).unwrap();
-    let value = table.get(key).unwrap();
-    put_whole(alloc, out, key)?;
+    put_whole(alloc, out, pair.0)?;
     put_bytes(out, b": ")?;
-    put_whole(alloc, out, value)
+    put_whole(alloc, out, pair.1)
 }
 
 // Appends a comma before all pairs but the first.
@@ -81,12 +74,12 @@ fn put_comma(out: &mut Vec<u8>, i: usize) -> Result<(), OutOfMemory>
 }
 
 // Appends the pairs of a map in the order of their keys.
-fn put_pairs(alloc: Global, out: &mut Vec<u8>, table: &Table) -> Result<(), OutOfMemory>
-    ensures { OnOk result (out.new.items ≡ out.old.items ++ pairs_text table.now) }
+fn put_pairs(alloc: Global, out: &mut Vec<u8>, pairs: &[(i64, i64)]) -> Result<(), OutOfMemory>
+    ensures { OnOk result (out.new.items ≡ out.old.items ++ pairs_text pairs.now) }
 {
-    for i in 0..table.len() {
+    for (i, pair) in pairs.iter().enumerate() {
         put_comma(out, i)?;
-        put_pair(alloc, out, table, i)?;
+        put_pair(alloc, out, pair)?;
     }
     Ok(())
 }
@@ -102,7 +95,7 @@ pub fn put_value(alloc: Global, out: &mut Vec<u8>, value: &Value) -> Result<(), 
         Value::Str(text) => put_quoted(out, text.bytes()),
         Value::Map(table) => {
             put_bytes(out, b"{")?;
-            put_pairs(alloc, out, table)?;
+            put_pairs(alloc, out, table.pairs())?;
             put_bytes(out, b"}")
         }
     }

@@ -15,13 +15,13 @@ pub mod Desks
 pub mod Doing
 pub mod Driving
 pub mod Ending
-pub mod Generations
 pub mod Few
 pub mod Folds
 pub mod Forms
 pub mod Found
 pub mod Frames
 pub mod Freeing
+pub mod Generations
 pub mod Granting
 pub mod Halts
 pub mod Held
@@ -46,6 +46,7 @@ pub mod Queueing
 pub mod Ranks
 pub mod Reached
 pub mod Reading
+pub mod Releasing
 pub mod Rising
 pub mod Rules
 pub mod Settled

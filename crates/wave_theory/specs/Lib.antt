@@ -20,6 +20,7 @@ pub mod OneHost
 pub mod Owners
 pub mod Reads
 pub mod Records
+pub mod Releases
 pub mod Results
 pub mod Sent
 pub mod Trails

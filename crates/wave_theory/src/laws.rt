@@ -13,6 +13,7 @@ ghost use Rattle.wave_theory.specs.Numbers.{Numbers};
 ghost use Rattle.wave_theory.specs.OneHost.{OneHost};
 ghost use Rattle.wave_theory.specs.Owners.{ByOwners, OneOwner};
 ghost use Rattle.wave_theory.specs.Records.{Records};
+ghost use Rattle.wave_theory.specs.Releases.{ReleasesRise};
 ghost use Rattle.wave_theory.specs.Results.{Results, Tickets};
 ghost use Rattle.wave_theory.specs.Trails.{Traced, Trails};
 
@@ -136,4 +137,9 @@ pub fn driven<T: Acting>()
 /// Of each job a known number of jobs may come, where a job creates few, and each of them has fewer generations to come.
 pub fn families<T: Acting>()
     ensures { (c : T.Code) → Families (T.kind c) }
+{}
+
+/// The mails of a Stop are numbered: one other mail first, and then the Releases in path order.
+pub fn releases_rise<T: Acting>()
+    ensures { (c : T.Code) → AlwaysBy (T.kind c) ReleasesRise }
 {}

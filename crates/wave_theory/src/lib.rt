@@ -17,7 +17,7 @@ pub use given::{
 pub use laws::{
     bounded, bounds, by_owners, came, complete, counted, driven, empty_at_end, families,
     hands_stay, independent, listed, listed_for, never_stuck, numbers, one_host, one_owner,
-    records, results, rules_pick, sorted, tickets, traced, trails,
+    records, releases_rise, results, rules_pick, sorted, tickets, traced, trails,
 };
 pub use movers::{Movers, Walkers};
 pub use shown::{

@@ -14,7 +14,7 @@ use crate::given::{
 use crate::laws::{
     bounded, bounds, by_owners, came, complete, counted, driven, empty_at_end, families,
     hands_stay, independent, listed, listed_for, never_stuck, numbers, one_host, one_owner,
-    records, results, rules_pick, sorted, tickets, traced, trails,
+    records, releases_rise, results, rules_pick, sorted, tickets, traced, trails,
 };
 use crate::movers::{Movers, Walkers};
 
@@ -43,6 +43,7 @@ pub fn at_the_counter() {
     rules_pick::<Counter>();
     driven::<Counter>();
     families::<Counter>();
+    releases_rise::<Counter>();
     one_host::<Counter>();
 }
 
@@ -71,6 +72,7 @@ pub fn at_movers() {
     rules_pick::<Movers>();
     driven::<Movers>();
     families::<Movers>();
+    releases_rise::<Movers>();
     one_host::<Movers>();
 }
 
@@ -99,6 +101,7 @@ pub fn at_walkers() {
     rules_pick::<Walkers>();
     driven::<Walkers>();
     families::<Walkers>();
+    releases_rise::<Walkers>();
     one_host::<Walkers>();
 }
 

@@ -1,9 +1,11 @@
 //! Services at their limits, and one past them.
 
 use super::{accepts, refuses};
+use crate::{Answer, Command, Places, judge};
 use std::alloc::Global;
+use std::process::Abort;
 use std::test::Fail;
-use wave_base::OutOfMemory;
+use wave_base::{INPUT_BYTES, OutOfMemory};
 use wave_text::put_number;
 
 // A service that holds so many pieces with their numbers, each as `before` NUMBER `after`, between a front and a back.
@@ -89,5 +91,48 @@ fn a_for_has_three_locals(rt: HostRuntime) -> Result<(), Fail> {
     accepts(&rt, alloc, most.as_slice())?;
     let more = many(alloc, front, b"for v", b" in 0 to 1 { }\n", b"} }", 86)?;
     refuses(&rt, alloc, more.as_slice(), b"Y8 Limit 87:5")?;
+    Ok(())
+}
+
+#[test]
+fn two_thousand_declarations_are_read_and_typed(rt: HostRuntime) -> Result<(), Fail> {
+    let alloc = rt.alloc();
+    let events = many(alloc, b"", b"event e", b"() { }\n", b"", 2000)?;
+    accepts(&rt, alloc, events.as_slice())?;
+    let methods = many(alloc, b"", b"method m", b"() { }\n", b"", 2000)?;
+    accepts(&rt, alloc, methods.as_slice())?;
+    Ok(())
+}
+
+#[test]
+fn a_service_has_at_most_262144_bytes(rt: HostRuntime) -> Result<(), Fail> {
+    let alloc = rt.alloc();
+    let mut text = Vec::from_slice(alloc, b"service L { }")?;
+    text.extend_from_slice(Vec::from_elem(alloc, b' ', 262_131)?.as_slice())?;
+    accepts(&rt, alloc, text.as_slice())?;
+    text.push(b' ')?;
+    refuses(&rt, alloc, text.as_slice(), b"TooLarge service")?;
+    Ok(())
+}
+
+// What is due for a script of a service that says nothing.
+fn scripted(rt: &impl Abort, alloc: Global, script: &[u8]) -> Result<Answer, OutOfMemory> {
+    let mut input = Vec::from_slice(alloc, b"service L { }\n----\n")?;
+    input.extend_from_slice(script)?;
+    assert!(rt; input.len() <= INPUT_BYTES);
+    judge(alloc, Command::Seq(Places::Unlisted), input.as_slice())
+}
+
+#[test]
+fn a_script_has_at_most_1048576_bytes(rt: HostRuntime) -> Result<(), Fail> {
+    let alloc = rt.alloc();
+    let mut script = Vec::from_elem(alloc, b' ', 1_048_576)?;
+    let most = scripted(&rt, alloc, script.as_slice())?;
+    assert_eq!(rt; most.note.as_slice(), b"".as_slice());
+    assert_eq!(rt; most.text.as_slice(), b"done 0\n".as_slice());
+    script.push(b' ')?;
+    let more = scripted(&rt, alloc, script.as_slice())?;
+    assert_eq!(rt; more.note.as_slice(), b"TooLarge script".as_slice());
+    assert_eq!(rt; more.status, 4);
     Ok(())
 }

@@ -5,4 +5,4 @@ use Rattle.due_answer.proofs.script.judge_script.Goals as goal
 
 pub returns : goal.returns
 returns c = λ tree t.
-    short_if (IsDueRun c.args.engine c.args.places) c.args.text.now tree c.args.typed.now.shape c.judge_lines.result (omega arith) t.shape_is (c.judge_lines.ensures tree t)
+    short_if (IsDueRun c.args.engine c.args.report) c.args.text.now tree c.args.typed.now.shape c.judge_lines.result (omega arith) t.shape_is (c.judge_lines.ensures tree t)

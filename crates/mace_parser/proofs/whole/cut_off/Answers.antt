@@ -1,7 +1,7 @@
 use Rattle.std.proofs.Common.{◌+◌, ◌∙◌, Err, refl, sym, subst, take, arith}
 use Rattle.std.proofs.lemmas.List.{length-take}
 use Rattle.mace_ast.specs.Decls.{service_tree}
-use Rattle.mace_parser.specs.Gives.{TakesAll}
+use Rattle.mace_parser.specs.inner.Gives.{TakesAll}
 use Rattle.mace_parser.specs.Parsed.{TellsFault}
 use Rattle.mace_grammar.proofs.Judge.{judge, judge_shorter}
 use Rattle.mace_parser.proofs.Judged.{stopped_tells, read_tells}

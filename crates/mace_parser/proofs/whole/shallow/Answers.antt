@@ -1,5 +1,5 @@
 use Rattle.std.proofs.Common.{Err, refl, sym, subst}
-use Rattle.mace_parser.specs.Gives.{TakesAll}
+use Rattle.mace_parser.specs.inner.Gives.{TakesAll}
 use Rattle.mace_parser.specs.Parsed.{TellsFault}
 use Rattle.mace_grammar.proofs.Judge.{judge, judge_tree, judge_spelled, judge_shorter}
 use Rattle.mace_parser.proofs.Judged.{judge_expected}

@@ -1,6 +1,6 @@
 use Rattle.std.proofs.Common.{◌≡◌, ◌∙◌, sym, subst}
 use Rattle.path_text.specs.declared.written.Written.{Written}
-use Rattle.path_text.specs.Fronts.{IsOnlyFront}
+use Rattle.path_text.specs.inner.Fronts.{IsOnlyFront}
 use Rattle.path_text.proofs.FrontLemmas.{no_form, only_front}
 use Rattle.path_text.proofs.written.first_step.Goals as goal
 

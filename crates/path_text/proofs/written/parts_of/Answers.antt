@@ -1,5 +1,5 @@
 use Rattle.std.proofs.Common.{IfNone, sym, subst}
-use Rattle.path_text.specs.Fronts.{HasNoFront}
+use Rattle.path_text.specs.inner.Fronts.{HasNoFront}
 use Rattle.path_text.proofs.FrontLemmas.{no_close}
 use Rattle.path_text.proofs.written.parts_of.Goals as goal
 

@@ -1,6 +1,6 @@
 use Rattle.std.proofs.Common.{◌≡◌, ◌<◌, [], IfSome, IfNone, length, sym, ap, subst, ◌∙◌, arith}
 use Rattle.std.proofs.lemmas.Bool.Decides.{nat_tests}
-use Rattle.path_text.specs.Fronts.{IsOnlyFront, HasNoFront}
+use Rattle.path_text.specs.inner.Fronts.{IsOnlyFront, HasNoFront}
 use Rattle.path_text.specs.Steps.{HasSteps, HasOnlySteps}
 use Rattle.path_text.proofs.StepLemmas.{AreReadTo, step_read, all_read, none_there, is_nil}
 use Rattle.path_text.proofs.written.written_steps.Goals as goal

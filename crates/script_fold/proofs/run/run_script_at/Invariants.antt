@@ -1,6 +1,6 @@
 use Rattle.std.proofs.Common.{◌-◌}
 use Rattle.script_fold.specs.Lines.{most_jobs}
-use Rattle.script_fold.specs.Standing.{Stands}
+use Rattle.script_fold.specs.inner.Standing.{Stands}
 use Rattle.script_fold.proofs.run.run_script_at.Given as goal
 
 abbrev pub invariant-loop-folding : goal.invariant-loop-folding

@@ -1,7 +1,7 @@
 use Rattle.std.proofs.Common.{◌≡◌, ◌+◌, ◌≤◌, List, length}
 use Rattle.wave_text.specs.Lines.{lines_of}
 use Rattle.script_reader.specs.declared.taken.Taken.{Taken}
-use Rattle.script_reader.specs.Progressed.{progress_of}
+use Rattle.script_reader.specs.inner.Progressed.{progress_of}
 use Rattle.script_reader.proofs.FitLemmas.{Fits}
 use Rattle.script_reader.proofs.ReadLemmas.{AreReadTo}
 use Rattle.script_reader.proofs.read.read_after.Given as goal

@@ -1,5 +1,5 @@
 use Rattle.std.proofs.Common.{sym, subst, ◌∙◌}
-use Rattle.script_reader.specs.Steps.{IsStop}
+use Rattle.script_reader.specs.inner.Steps.{IsStop}
 use Rattle.script_reader.proofs.ReadLemmas.{refused_stop}
 use Rattle.script_reader.proofs.read.take_line.Goals as goal
 

@@ -1,6 +1,6 @@
 use Rattle.std.proofs.Common.{◌≡◌, IfSome, IfNone, sym, subst, ◌∙◌}
 use Rattle.script_reader.specs.Pieces.{AreOnlyPieces, HasNoPieces}
-use Rattle.script_reader.specs.Parts.{SpellsOnly, SpellsNone}
+use Rattle.script_reader.specs.inner.Parts.{SpellsOnly, SpellsNone}
 use Rattle.script_reader.proofs.FormLemmas.{says_no_pieces, says_no_form, says_form}
 use Rattle.script_reader.proofs.said.said_by.Goals as goal
 

@@ -1,5 +1,5 @@
 use Rattle.std.proofs.Common.{IfSome, sym, subst, arith}
-use Rattle.script_reader.specs.Parts.{IsLiteralPiece, AreOnlyLiterals}
+use Rattle.script_reader.specs.inner.Parts.{IsLiteralPiece, AreOnlyLiterals}
 use Rattle.script_reader.proofs.FormLemmas.{cons_of}
 use Rattle.script_reader.proofs.LiteralLemmas.{AreLiteralsTo, literal_read, all_read}
 use Rattle.script_reader.proofs.spelling.literals_of.Goals as goal

@@ -1,5 +1,5 @@
 use Rattle.std.proofs.Common.{IfNone, subst}
-use Rattle.script_reader.specs.Parts.{IsNoMove}
+use Rattle.script_reader.specs.inner.Parts.{IsNoMove}
 use Rattle.script_reader.proofs.FormLemmas.{no_move}
 use Rattle.script_reader.proofs.spelling.move_form.Goals as goal
 

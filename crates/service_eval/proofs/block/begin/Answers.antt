@@ -14,7 +14,7 @@ use Rattle.wave_base.specs.declared.shape.Shape.{Shape}
 use Rattle.wave_base.specs.Shapes.{class_of}
 use Rattle.resolved_service.specs.declared.service.Method.{Method}
 use Rattle.service_eval.proofs.BlockLemmas as l
-use Rattle.service_eval.proofs.BlockTurns.{step_turn, at_step}
+use Rattle.service_eval.proofs.BlockTurns.{step_turn, at_step, to_parts, from_parts}
 use Rattle.service_eval.proofs.FinishTurns.{goes_from}
 use Rattle.service_eval.proofs.ReadyLemmas.{ready_with, turned_to}
 use Rattle.service_eval.proofs.StepRows.{if_step, while_step, for_step, spawn_step}
@@ -24,54 +24,131 @@ fits_else : (shape : Shape) (methods : List Method) (class : ℕ) (other : s.Els
 fits_else shape methods class s.no_else h = tt
 fits_else shape methods class (s.otherwise ss) h = h
 
+pub with_one-requires : goal.with_one-requires
+with_one-requires c =
+    let at = c.args.stmt.now.at in
+    to_parts c.args.code c.args.contexts.now c.args.m.now c.height-base.result (step_of c.args.stmt.now) (s.SetLocal at c.in-SetLocal.slot (tree_of c.in-SetLocal.e)) (ap (λ a. action_step a at) c.in-SetLocal.is)
+    (λ h x. on_top (Eval (tree_of c.in-SetLocal.e)) (on_top (Finish at (i.SetLocal c.in-SetLocal.slot) h) x)) c.height-base.ensures
+    (λ next. ready_with _ _ _ _ _ _ next (next.items.0, (tt, next.items.1)) (omega arith)) c.requires
+
 pub returns-in-SetLocal : goal.returns-in-SetLocal
 returns-in-SetLocal c =
     let at = c.args.stmt.now.at in
-    at_step c.args.code c.args.contexts.now c.args.m.now c.push_two.new.self c.push_two.result (step_of c.args.stmt.now) (s.SetLocal at c.in-SetLocal.slot (tree_of c.in-SetLocal.e)) (ap (λ a. action_step a at) c.in-SetLocal.is)
-    (λ next. step_turn c.args.code c.args.contexts.now c.args.m.now c.push_two.new.self c.push_two.result c.height-base.result (s.SetLocal at c.in-SetLocal.slot (tree_of c.in-SetLocal.e)) (λ h x. on_top (Eval (tree_of c.in-SetLocal.e)) (on_top (Finish at (i.SetLocal c.in-SetLocal.slot) h) x)) c.height-base.ensures
-    (l.set_local_parts c.args.code.methods.now (mach c.args.code c.args.contexts.now c.args.m.now) at c.in-SetLocal.slot (tree_of c.in-SetLocal.e)) (ready_with _ _ _ _ _ _ next (next.items.0, (tt, next.items.1)) (omega arith)) (c.push_two.ensures.ok) c.push_two.ensures.err next) c.requires
+    from_parts c.args.code c.args.contexts.now c.args.m.now c.height-base.result (step_of c.args.stmt.now) (s.SetLocal at c.in-SetLocal.slot (tree_of c.in-SetLocal.e)) (ap (λ a. action_step a at) c.in-SetLocal.is)
+    (λ h x. on_top (Eval (tree_of c.in-SetLocal.e)) (on_top (Finish at (i.SetLocal c.in-SetLocal.slot) h) x)) c.height-base.ensures c.with_one.new.contexts c.with_one.new.m c.with_one.result
+    (l.set_local_parts c.args.code.methods.now (mach c.args.code c.args.contexts.now c.args.m.now) at c.in-SetLocal.slot (tree_of c.in-SetLocal.e)) c.with_one.ensures
+
+pub with_one-requires-in-SetField : goal.with_one-requires-in-SetField
+with_one-requires-in-SetField c =
+    let at = c.args.stmt.now.at in
+    to_parts c.args.code c.args.contexts.now c.args.m.now c.height-base.result (step_of c.args.stmt.now) (s.SetField at c.in-SetField.f (tree_of c.in-SetField.e)) (ap (λ a. action_step a at) c.in-SetField.is)
+    (λ h x. on_top (Eval (tree_of c.in-SetField.e)) (on_top (Finish at (i.SetField c.in-SetField.f) h) x)) c.height-base.ensures
+    (λ next. ready_with _ _ _ _ _ _ next (next.items.0.1, (tt, next.items.1)) (omega arith)) c.requires
 
 pub returns-in-SetField : goal.returns-in-SetField
 returns-in-SetField c =
     let at = c.args.stmt.now.at in
-    at_step c.args.code c.args.contexts.now c.args.m.now c.push_two-in-SetField.new.self c.push_two-in-SetField.result (step_of c.args.stmt.now) (s.SetField at c.in-SetField.f (tree_of c.in-SetField.e)) (ap (λ a. action_step a at) c.in-SetField.is)
-    (λ next. step_turn c.args.code c.args.contexts.now c.args.m.now c.push_two-in-SetField.new.self c.push_two-in-SetField.result c.height-base.result (s.SetField at c.in-SetField.f (tree_of c.in-SetField.e)) (λ h x. on_top (Eval (tree_of c.in-SetField.e)) (on_top (Finish at (i.SetField c.in-SetField.f) h) x)) c.height-base.ensures
-    (l.set_field_parts c.args.code.methods.now (mach c.args.code c.args.contexts.now c.args.m.now) at c.in-SetField.f (tree_of c.in-SetField.e)) (ready_with _ _ _ _ _ _ next (next.items.0.1, (tt, next.items.1)) (omega arith)) (c.push_two-in-SetField.ensures.ok) c.push_two-in-SetField.ensures.err next) c.requires
+    from_parts c.args.code c.args.contexts.now c.args.m.now c.height-base.result (step_of c.args.stmt.now) (s.SetField at c.in-SetField.f (tree_of c.in-SetField.e)) (ap (λ a. action_step a at) c.in-SetField.is)
+    (λ h x. on_top (Eval (tree_of c.in-SetField.e)) (on_top (Finish at (i.SetField c.in-SetField.f) h) x)) c.height-base.ensures c.with_one-in-SetField.new.contexts c.with_one-in-SetField.new.m c.with_one-in-SetField.result
+    (l.set_field_parts c.args.code.methods.now (mach c.args.code c.args.contexts.now c.args.m.now) at c.in-SetField.f (tree_of c.in-SetField.e)) c.with_one-in-SetField.ensures
+
+pub with_two-requires : goal.with_two-requires
+with_two-requires c =
+    let at = c.args.stmt.now.at in
+    to_parts c.args.code c.args.contexts.now c.args.m.now c.height-base.result (step_of c.args.stmt.now) (s.PutLocal at c.in-PutLocal.slot (tree_of c.in-PutLocal.key) (tree_of c.in-PutLocal.e)) (ap (λ a. action_step a at) c.in-PutLocal.is)
+    (λ h x. on_top (Eval (tree_of c.in-PutLocal.key)) (on_top (Eval (tree_of c.in-PutLocal.e)) (on_top (Finish at (i.PutLocal c.in-PutLocal.slot) h) x))) c.height-base.ensures
+    (λ next. ready_with _ _ _ _ _ _ next (next.items.0.0, (next.items.0.1, (tt, next.items.1))) (omega arith)) c.requires
 
 pub returns-in-PutLocal : goal.returns-in-PutLocal
 returns-in-PutLocal c =
     let at = c.args.stmt.now.at in
-    at_step c.args.code c.args.contexts.now c.args.m.now c.push_three.new.self c.push_three.result (step_of c.args.stmt.now) (s.PutLocal at c.in-PutLocal.slot (tree_of c.in-PutLocal.key) (tree_of c.in-PutLocal.e)) (ap (λ a. action_step a at) c.in-PutLocal.is)
-    (λ next. step_turn c.args.code c.args.contexts.now c.args.m.now c.push_three.new.self c.push_three.result c.height-base.result (s.PutLocal at c.in-PutLocal.slot (tree_of c.in-PutLocal.key) (tree_of c.in-PutLocal.e)) (λ h x. on_top (Eval (tree_of c.in-PutLocal.key)) (on_top (Eval (tree_of c.in-PutLocal.e)) (on_top (Finish at (i.PutLocal c.in-PutLocal.slot) h) x))) c.height-base.ensures
-    (l.put_local_parts c.args.code.methods.now (mach c.args.code c.args.contexts.now c.args.m.now) at c.in-PutLocal.slot (tree_of c.in-PutLocal.key) (tree_of c.in-PutLocal.e)) (ready_with _ _ _ _ _ _ next (next.items.0.0, (next.items.0.1, (tt, next.items.1))) (omega arith)) (c.push_three.ensures.ok) c.push_three.ensures.err next) c.requires
+    from_parts c.args.code c.args.contexts.now c.args.m.now c.height-base.result (step_of c.args.stmt.now) (s.PutLocal at c.in-PutLocal.slot (tree_of c.in-PutLocal.key) (tree_of c.in-PutLocal.e)) (ap (λ a. action_step a at) c.in-PutLocal.is)
+    (λ h x. on_top (Eval (tree_of c.in-PutLocal.key)) (on_top (Eval (tree_of c.in-PutLocal.e)) (on_top (Finish at (i.PutLocal c.in-PutLocal.slot) h) x))) c.height-base.ensures c.with_two.new.contexts c.with_two.new.m c.with_two.result
+    (l.put_local_parts c.args.code.methods.now (mach c.args.code c.args.contexts.now c.args.m.now) at c.in-PutLocal.slot (tree_of c.in-PutLocal.key) (tree_of c.in-PutLocal.e)) c.with_two.ensures
+
+pub with_two-requires-in-PutField : goal.with_two-requires-in-PutField
+with_two-requires-in-PutField c =
+    let at = c.args.stmt.now.at in
+    to_parts c.args.code c.args.contexts.now c.args.m.now c.height-base.result (step_of c.args.stmt.now) (s.PutField at c.in-PutField.f (tree_of c.in-PutField.key) (tree_of c.in-PutField.e)) (ap (λ a. action_step a at) c.in-PutField.is)
+    (λ h x. on_top (Eval (tree_of c.in-PutField.key)) (on_top (Eval (tree_of c.in-PutField.e)) (on_top (Finish at (i.PutField c.in-PutField.f) h) x))) c.height-base.ensures
+    (λ next. ready_with _ _ _ _ _ _ next (next.items.0.1, (next.items.0.2, (tt, next.items.1))) (omega arith)) c.requires
 
 pub returns-in-PutField : goal.returns-in-PutField
 returns-in-PutField c =
     let at = c.args.stmt.now.at in
-    at_step c.args.code c.args.contexts.now c.args.m.now c.push_three-in-PutField.new.self c.push_three-in-PutField.result (step_of c.args.stmt.now) (s.PutField at c.in-PutField.f (tree_of c.in-PutField.key) (tree_of c.in-PutField.e)) (ap (λ a. action_step a at) c.in-PutField.is)
-    (λ next. step_turn c.args.code c.args.contexts.now c.args.m.now c.push_three-in-PutField.new.self c.push_three-in-PutField.result c.height-base.result (s.PutField at c.in-PutField.f (tree_of c.in-PutField.key) (tree_of c.in-PutField.e)) (λ h x. on_top (Eval (tree_of c.in-PutField.key)) (on_top (Eval (tree_of c.in-PutField.e)) (on_top (Finish at (i.PutField c.in-PutField.f) h) x))) c.height-base.ensures
-    (l.put_field_parts c.args.code.methods.now (mach c.args.code c.args.contexts.now c.args.m.now) at c.in-PutField.f (tree_of c.in-PutField.key) (tree_of c.in-PutField.e)) (ready_with _ _ _ _ _ _ next (next.items.0.1, (next.items.0.2, (tt, next.items.1))) (omega arith)) (c.push_three-in-PutField.ensures.ok) c.push_three-in-PutField.ensures.err next) c.requires
+    from_parts c.args.code c.args.contexts.now c.args.m.now c.height-base.result (step_of c.args.stmt.now) (s.PutField at c.in-PutField.f (tree_of c.in-PutField.key) (tree_of c.in-PutField.e)) (ap (λ a. action_step a at) c.in-PutField.is)
+    (λ h x. on_top (Eval (tree_of c.in-PutField.key)) (on_top (Eval (tree_of c.in-PutField.e)) (on_top (Finish at (i.PutField c.in-PutField.f) h) x))) c.height-base.ensures c.with_two-in-PutField.new.contexts c.with_two-in-PutField.new.m c.with_two-in-PutField.result
+    (l.put_field_parts c.args.code.methods.now (mach c.args.code c.args.contexts.now c.args.m.now) at c.in-PutField.f (tree_of c.in-PutField.key) (tree_of c.in-PutField.e)) c.with_two-in-PutField.ensures
+
+pub with_one-requires-in-CutLocal : goal.with_one-requires-in-CutLocal
+with_one-requires-in-CutLocal c =
+    let at = c.args.stmt.now.at in
+    to_parts c.args.code c.args.contexts.now c.args.m.now c.height-base.result (step_of c.args.stmt.now) (s.CutLocal at c.in-CutLocal.slot (tree_of c.in-CutLocal.key)) (ap (λ a. action_step a at) c.in-CutLocal.is)
+    (λ h x. on_top (Eval (tree_of c.in-CutLocal.key)) (on_top (Finish at (i.CutLocal c.in-CutLocal.slot) h) x)) c.height-base.ensures
+    (λ next. ready_with _ _ _ _ _ _ next (next.items.0, (tt, next.items.1)) (omega arith)) c.requires
 
 pub returns-in-CutLocal : goal.returns-in-CutLocal
 returns-in-CutLocal c =
     let at = c.args.stmt.now.at in
-    at_step c.args.code c.args.contexts.now c.args.m.now c.push_two-in-CutLocal.new.self c.push_two-in-CutLocal.result (step_of c.args.stmt.now) (s.CutLocal at c.in-CutLocal.slot (tree_of c.in-CutLocal.key)) (ap (λ a. action_step a at) c.in-CutLocal.is)
-    (λ next. step_turn c.args.code c.args.contexts.now c.args.m.now c.push_two-in-CutLocal.new.self c.push_two-in-CutLocal.result c.height-base.result (s.CutLocal at c.in-CutLocal.slot (tree_of c.in-CutLocal.key)) (λ h x. on_top (Eval (tree_of c.in-CutLocal.key)) (on_top (Finish at (i.CutLocal c.in-CutLocal.slot) h) x)) c.height-base.ensures
-    (l.cut_local_parts c.args.code.methods.now (mach c.args.code c.args.contexts.now c.args.m.now) at c.in-CutLocal.slot (tree_of c.in-CutLocal.key)) (ready_with _ _ _ _ _ _ next (next.items.0, (tt, next.items.1)) (omega arith)) (c.push_two-in-CutLocal.ensures.ok) c.push_two-in-CutLocal.ensures.err next) c.requires
+    from_parts c.args.code c.args.contexts.now c.args.m.now c.height-base.result (step_of c.args.stmt.now) (s.CutLocal at c.in-CutLocal.slot (tree_of c.in-CutLocal.key)) (ap (λ a. action_step a at) c.in-CutLocal.is)
+    (λ h x. on_top (Eval (tree_of c.in-CutLocal.key)) (on_top (Finish at (i.CutLocal c.in-CutLocal.slot) h) x)) c.height-base.ensures c.with_one-in-CutLocal.new.contexts c.with_one-in-CutLocal.new.m c.with_one-in-CutLocal.result
+    (l.cut_local_parts c.args.code.methods.now (mach c.args.code c.args.contexts.now c.args.m.now) at c.in-CutLocal.slot (tree_of c.in-CutLocal.key)) c.with_one-in-CutLocal.ensures
+
+pub with_one-requires-in-CutField : goal.with_one-requires-in-CutField
+with_one-requires-in-CutField c =
+    let at = c.args.stmt.now.at in
+    to_parts c.args.code c.args.contexts.now c.args.m.now c.height-base.result (step_of c.args.stmt.now) (s.CutField at c.in-CutField.f (tree_of c.in-CutField.key)) (ap (λ a. action_step a at) c.in-CutField.is)
+    (λ h x. on_top (Eval (tree_of c.in-CutField.key)) (on_top (Finish at (i.CutField c.in-CutField.f) h) x)) c.height-base.ensures
+    (λ next. ready_with _ _ _ _ _ _ next (next.items.0.1, (tt, next.items.1)) (omega arith)) c.requires
 
 pub returns-in-CutField : goal.returns-in-CutField
 returns-in-CutField c =
     let at = c.args.stmt.now.at in
-    at_step c.args.code c.args.contexts.now c.args.m.now c.push_two-in-CutField.new.self c.push_two-in-CutField.result (step_of c.args.stmt.now) (s.CutField at c.in-CutField.f (tree_of c.in-CutField.key)) (ap (λ a. action_step a at) c.in-CutField.is)
-    (λ next. step_turn c.args.code c.args.contexts.now c.args.m.now c.push_two-in-CutField.new.self c.push_two-in-CutField.result c.height-base.result (s.CutField at c.in-CutField.f (tree_of c.in-CutField.key)) (λ h x. on_top (Eval (tree_of c.in-CutField.key)) (on_top (Finish at (i.CutField c.in-CutField.f) h) x)) c.height-base.ensures
-    (l.cut_field_parts c.args.code.methods.now (mach c.args.code c.args.contexts.now c.args.m.now) at c.in-CutField.f (tree_of c.in-CutField.key)) (ready_with _ _ _ _ _ _ next (next.items.0.1, (tt, next.items.1)) (omega arith)) (c.push_two-in-CutField.ensures.ok) c.push_two-in-CutField.ensures.err next) c.requires
+    from_parts c.args.code c.args.contexts.now c.args.m.now c.height-base.result (step_of c.args.stmt.now) (s.CutField at c.in-CutField.f (tree_of c.in-CutField.key)) (ap (λ a. action_step a at) c.in-CutField.is)
+    (λ h x. on_top (Eval (tree_of c.in-CutField.key)) (on_top (Finish at (i.CutField c.in-CutField.f) h) x)) c.height-base.ensures c.with_one-in-CutField.new.contexts c.with_one-in-CutField.new.m c.with_one-in-CutField.result
+    (l.cut_field_parts c.args.code.methods.now (mach c.args.code c.args.contexts.now c.args.m.now) at c.in-CutField.f (tree_of c.in-CutField.key)) c.with_one-in-CutField.ensures
+
+pub with_one-requires-in-If : goal.with_one-requires-in-If
+with_one-requires-in-If c =
+    let at = c.args.stmt.now.at in
+    to_parts c.args.code c.args.contexts.now c.args.m.now c.height-base.result (step_of c.args.stmt.now) (s.If at (tree_of c.in-If.test) (steps_in c.as_slice.result.now) (else_in c.in-If.other)) (ap (λ a. action_step a at) c.in-If.is ∙ if_step c.in-If.test c.in-If.body c.in-If.other at ∙ ap (λ b. s.If at (tree_of c.in-If.test) (steps_in b) (else_in c.in-If.other)) (sym c.as_slice.ensures.value))
+    (λ h x. on_top (Eval (tree_of c.in-If.test)) (on_top (Finish at (i.Branch (steps_in c.as_slice.result.now) (steps_in c.else_of.result.now)) h) x)) c.height-base.ensures
+    (λ next. ready_with _ _ _ _ _ _ next (next.items.0.0, ((next.items.0.1, subst (FitsSteps c.args.code.shape.now c.args.code.methods.now (class_of c.args.m.now.path)) (sym c.else_of.ensures) (fits_else c.args.code.shape.now c.args.code.methods.now (class_of c.args.m.now.path) (else_in c.in-If.other) next.items.0.2)), next.items.1)) (omega arith)) c.requires
 
 pub returns-in-If : goal.returns-in-If
 returns-in-If c =
     let at = c.args.stmt.now.at in
-    at_step c.args.code c.args.contexts.now c.args.m.now c.push_two-in-If.new.self c.push_two-in-If.result (step_of c.args.stmt.now) (s.If at (tree_of c.in-If.test) (steps_in c.as_slice.result.now) (else_in c.in-If.other)) (ap (λ a. action_step a at) c.in-If.is ∙ if_step c.in-If.test c.in-If.body c.in-If.other at ∙ ap (λ b. s.If at (tree_of c.in-If.test) (steps_in b) (else_in c.in-If.other)) (sym c.as_slice.ensures.value))
-    (λ next. step_turn c.args.code c.args.contexts.now c.args.m.now c.push_two-in-If.new.self c.push_two-in-If.result c.height-base.result (s.If at (tree_of c.in-If.test) (steps_in c.as_slice.result.now) (else_in c.in-If.other)) (λ h x. on_top (Eval (tree_of c.in-If.test)) (on_top (Finish at (i.Branch (steps_in c.as_slice.result.now) (else_steps (else_in c.in-If.other))) h) x)) c.height-base.ensures
-    (l.if_parts c.args.code.methods.now (mach c.args.code c.args.contexts.now c.args.m.now) at (tree_of c.in-If.test) (steps_in c.as_slice.result.now) (else_in c.in-If.other)) (ready_with _ _ _ _ _ _ next (next.items.0.0, ((next.items.0.1, fits_else c.args.code.shape.now c.args.code.methods.now (class_of c.args.m.now.path) (else_in c.in-If.other) next.items.0.2), next.items.1)) (omega arith)) (on_ok_weaker c.push_two-in-If.result (λ k tree. k tree ∙ ap (λ b. on_top (Eval (tree_of c.in-If.test)) (on_top (Finish at (i.Branch (steps_in c.as_slice.result.now) b) c.height-base.result) (mach_of tree c.args.m.now))) c.else_of.ensures) c.push_two-in-If.ensures.ok) c.push_two-in-If.ensures.err next) c.requires
+    from_parts c.args.code c.args.contexts.now c.args.m.now c.height-base.result (step_of c.args.stmt.now) (s.If at (tree_of c.in-If.test) (steps_in c.as_slice.result.now) (else_in c.in-If.other)) (ap (λ a. action_step a at) c.in-If.is ∙ if_step c.in-If.test c.in-If.body c.in-If.other at ∙ ap (λ b. s.If at (tree_of c.in-If.test) (steps_in b) (else_in c.in-If.other)) (sym c.as_slice.ensures.value))
+    (λ h x. on_top (Eval (tree_of c.in-If.test)) (on_top (Finish at (i.Branch (steps_in c.as_slice.result.now) (steps_in c.else_of.result.now)) h) x)) c.height-base.ensures c.with_one-in-If.new.contexts c.with_one-in-If.new.m c.with_one-in-If.result
+    (l.if_parts c.args.code.methods.now (mach c.args.code c.args.contexts.now c.args.m.now) at (tree_of c.in-If.test) (steps_in c.as_slice.result.now) (else_in c.in-If.other) ∙ ap (λ b. comes_to c.args.code.methods.now (on_top (Eval (tree_of c.in-If.test)) (on_top (Finish at (i.Branch (steps_in c.as_slice.result.now) b) (length c.args.m.now.values.items)) (mach c.args.code c.args.contexts.now c.args.m.now)))) (sym c.else_of.ensures)) c.with_one-in-If.ensures
+
+pub with_one-requires-in-Require : goal.with_one-requires-in-Require
+with_one-requires-in-Require c =
+    let at = c.args.stmt.now.at in
+    to_parts c.args.code c.args.contexts.now c.args.m.now c.height-base.result (step_of c.args.stmt.now) (s.Require at (tree_of c.in-Require.e)) (ap (λ a. action_step a at) c.in-Require.is)
+    (λ h x. on_top (Eval (tree_of c.in-Require.e)) (on_top (Finish at i.Require h) x)) c.height-base.ensures
+    (λ next. ready_with _ _ _ _ _ _ next (next.items.0, (tt, next.items.1)) (omega arith)) c.requires
+
+pub returns-in-Require : goal.returns-in-Require
+returns-in-Require c =
+    let at = c.args.stmt.now.at in
+    from_parts c.args.code c.args.contexts.now c.args.m.now c.height-base.result (step_of c.args.stmt.now) (s.Require at (tree_of c.in-Require.e)) (ap (λ a. action_step a at) c.in-Require.is)
+    (λ h x. on_top (Eval (tree_of c.in-Require.e)) (on_top (Finish at i.Require h) x)) c.height-base.ensures c.with_one-in-Require.new.contexts c.with_one-in-Require.new.m c.with_one-in-Require.result
+    (l.require_parts c.args.code.methods.now (mach c.args.code c.args.contexts.now c.args.m.now) at (tree_of c.in-Require.e)) c.with_one-in-Require.ensures
+
+pub with_one-requires-in-Send : goal.with_one-requires-in-Send
+with_one-requires-in-Send c =
+    let at = c.args.stmt.now.at in
+    to_parts c.args.code c.args.contexts.now c.args.m.now c.height-base.result (step_of c.args.stmt.now) (s.Send at c.in-Send.label (tree_of c.in-Send.e)) (ap (λ a. action_step a at) c.in-Send.is)
+    (λ h x. on_top (Eval (tree_of c.in-Send.e)) (on_top (Finish at (i.Send c.in-Send.label) h) x)) c.height-base.ensures
+    (λ next. ready_with _ _ _ _ _ _ next (next.items.0, (tt, next.items.1)) (omega arith)) c.requires
+
+pub returns-in-Send : goal.returns-in-Send
+returns-in-Send c =
+    let at = c.args.stmt.now.at in
+    from_parts c.args.code c.args.contexts.now c.args.m.now c.height-base.result (step_of c.args.stmt.now) (s.Send at c.in-Send.label (tree_of c.in-Send.e)) (ap (λ a. action_step a at) c.in-Send.is)
+    (λ h x. on_top (Eval (tree_of c.in-Send.e)) (on_top (Finish at (i.Send c.in-Send.label) h) x)) c.height-base.ensures c.with_one-in-Send.new.contexts c.with_one-in-Send.new.m c.with_one-in-Send.result
+    (l.send_parts c.args.code.methods.now (mach c.args.code c.args.contexts.now c.args.m.now) at c.in-Send.label (tree_of c.in-Send.e)) c.with_one-in-Send.ensures
 
 pub returns-in-While : goal.returns-in-While
 returns-in-While c =
@@ -80,26 +157,12 @@ returns-in-While c =
     (λ next. step_turn c.args.code c.args.contexts.now c.args.m.now c.push.new.self c.push.result c.height-base.result (s.While at (tree_of c.in-While.test) (steps_in c.as_slice-in-While.result.now)) (λ h x. on_top (Turns at (tree_of c.in-While.test) (steps_in c.as_slice-in-While.result.now) x.depth) x) c.height-base.ensures
     (refl) (ready_with _ _ _ _ _ _ next (next.items.0, next.items.1) (omega arith)) (c.push.ensures.ok) c.push.ensures.err next) c.requires
 
-pub returns-in-Require : goal.returns-in-Require
-returns-in-Require c =
-    let at = c.args.stmt.now.at in
-    at_step c.args.code c.args.contexts.now c.args.m.now c.push_two-in-Require.new.self c.push_two-in-Require.result (step_of c.args.stmt.now) (s.Require at (tree_of c.in-Require.e)) (ap (λ a. action_step a at) c.in-Require.is)
-    (λ next. step_turn c.args.code c.args.contexts.now c.args.m.now c.push_two-in-Require.new.self c.push_two-in-Require.result c.height-base.result (s.Require at (tree_of c.in-Require.e)) (λ h x. on_top (Eval (tree_of c.in-Require.e)) (on_top (Finish at i.Require h) x)) c.height-base.ensures
-    (l.require_parts c.args.code.methods.now (mach c.args.code c.args.contexts.now c.args.m.now) at (tree_of c.in-Require.e)) (ready_with _ _ _ _ _ _ next (next.items.0, (tt, next.items.1)) (omega arith)) (c.push_two-in-Require.ensures.ok) c.push_two-in-Require.ensures.err next) c.requires
-
-pub returns-in-Send : goal.returns-in-Send
-returns-in-Send c =
-    let at = c.args.stmt.now.at in
-    at_step c.args.code c.args.contexts.now c.args.m.now c.push_two-in-Send.new.self c.push_two-in-Send.result (step_of c.args.stmt.now) (s.Send at c.in-Send.label (tree_of c.in-Send.e)) (ap (λ a. action_step a at) c.in-Send.is)
-    (λ next. step_turn c.args.code c.args.contexts.now c.args.m.now c.push_two-in-Send.new.self c.push_two-in-Send.result c.height-base.result (s.Send at c.in-Send.label (tree_of c.in-Send.e)) (λ h x. on_top (Eval (tree_of c.in-Send.e)) (on_top (Finish at (i.Send c.in-Send.label) h) x)) c.height-base.ensures
-    (l.send_parts c.args.code.methods.now (mach c.args.code c.args.contexts.now c.args.m.now) at c.in-Send.label (tree_of c.in-Send.e)) (ready_with _ _ _ _ _ _ next (next.items.0, (tt, next.items.1)) (omega arith)) (c.push_two-in-Send.ensures.ok) c.push_two-in-Send.ensures.err next) c.requires
-
 pub returns-in-Spawn : goal.returns-in-Spawn
 returns-in-Spawn c =
     let at = c.args.stmt.now.at in
-    at_step c.args.code c.args.contexts.now c.args.m.now c.push_two-in-Spawn.new.self c.push_two-in-Spawn.result (step_of c.args.stmt.now) (s.Spawn at c.in-Spawn.event (trees_of (map tree_of c.as_slice-in-Spawn.result.now))) (ap (λ a. action_step a at) c.in-Spawn.is ∙ spawn_step c.in-Spawn.event c.in-Spawn.args at ∙ ap (λ l. s.Spawn at c.in-Spawn.event (trees_of (map tree_of l))) (sym c.as_slice-in-Spawn.ensures.value))
-    (λ next. step_turn c.args.code c.args.contexts.now c.args.m.now c.push_two-in-Spawn.new.self c.push_two-in-Spawn.result c.height-base.result (s.Spawn at c.in-Spawn.event (trees_of (map tree_of c.as_slice-in-Spawn.result.now))) (λ h x. on_top (Evals (trees_of (map tree_of c.as_slice-in-Spawn.result.now))) (on_top (Finish at (i.Spawn c.in-Spawn.event) h) x)) c.height-base.ensures
-    (l.spawn_parts c.args.code.methods.now (mach c.args.code c.args.contexts.now c.args.m.now) at c.in-Spawn.event (trees_of (map tree_of c.as_slice-in-Spawn.result.now))) (ready_with _ _ _ _ _ _ next (next.items.0, (tt, next.items.1)) (omega arith)) (c.push_two-in-Spawn.ensures.ok) c.push_two-in-Spawn.ensures.err next) c.requires
+    at_step c.args.code c.args.contexts.now c.args.m.now c.push_two.new.self c.push_two.result (step_of c.args.stmt.now) (s.Spawn at c.in-Spawn.event (trees_of (map tree_of c.as_slice-in-Spawn.result.now))) (ap (λ a. action_step a at) c.in-Spawn.is ∙ spawn_step c.in-Spawn.event c.in-Spawn.args at ∙ ap (λ l. s.Spawn at c.in-Spawn.event (trees_of (map tree_of l))) (sym c.as_slice-in-Spawn.ensures.value))
+    (λ next. step_turn c.args.code c.args.contexts.now c.args.m.now c.push_two.new.self c.push_two.result c.height-base.result (s.Spawn at c.in-Spawn.event (trees_of (map tree_of c.as_slice-in-Spawn.result.now))) (λ h x. on_top (Evals (trees_of (map tree_of c.as_slice-in-Spawn.result.now))) (on_top (Finish at (i.Spawn c.in-Spawn.event) h) x)) c.height-base.ensures
+    (l.spawn_parts c.args.code.methods.now (mach c.args.code c.args.contexts.now c.args.m.now) at c.in-Spawn.event (trees_of (map tree_of c.as_slice-in-Spawn.result.now))) (ready_with _ _ _ _ _ _ next (next.items.0, (tt, next.items.1)) (omega arith)) (c.push_two.ensures.ok) c.push_two.ensures.err next) c.requires
 
 pub returns-in-Do : goal.returns-in-Do
 returns-in-Do c =

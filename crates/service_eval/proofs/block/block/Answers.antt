@@ -29,7 +29,7 @@ begin-requires c =
 pub returns-in-Ok : goal.returns-in-Ok
 returns-in-Ok c =
     let T = shown c.args.code.shape.now c.args.contexts.now in
-    goes_from c.args.code (on_top (Block (steps_in c.args.stmts.now)) (mach c.args.code c.args.contexts.now c.args.m.now)) (on_top (Begin (step_of c.in-Some.first.now)) (mach c.args.code c.args.contexts.now c.push.new.self)) c.begin.result (mach c.args.code c.args.contexts.now c.begin.new.m)
+    goes_from c.args.code (on_top (Block (steps_in c.args.stmts.now)) (mach c.args.code c.args.contexts.now c.args.m.now)) (on_top (Begin (step_of c.in-Some.first.now)) (mach c.args.code c.args.contexts.now c.push.new.self)) c.begin.result (mach c.args.code c.begin.new.contexts c.begin.new.m)
     (ap (λ ss. comes_to c.args.code.methods.now (on_top (Block (steps_in ss)) (mach c.args.code c.args.contexts.now c.args.m.now))) c.in-Some.ensures.some
     ∙ l.block_parts c.args.code.methods.now (mach c.args.code c.args.contexts.now c.args.m.now) (step_of c.in-Some.first.now) (steps_in c.in-Some.others.now)
     ∙ ap (λ (x : Mach). comes_to c.args.code.methods.now (on_top (Begin (step_of c.in-Some.first.now)) x)) (sym (c.in-Ok.ensures.ok T)))

@@ -14,6 +14,9 @@ decreases-look_one l = 4 * size-Expr l.a.now + 1
 abbrev pub decreases-look_two : goal.decreases-look_two
 decreases-look_two l = 4 * max (size-Expr l.a.now) (size-Expr l.b.now) + 1
 
+abbrev pub decreases-look_three : goal.decreases-look_three
+decreases-look_three l = 4 * max (size-Expr l.a.now) (max (size-Expr l.b.now) (size-Expr l.c.now)) + 1
+
 abbrev pub decreases-look_and : goal.decreases-look_and
 decreases-look_and l = 4 * max (size-Expr l.left.now) (size-Expr l.right.now) + 1
 

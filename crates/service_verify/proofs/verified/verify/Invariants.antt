@@ -1,9 +1,6 @@
-use Rattle.std.proofs.Common.{◌≡◌, ◌<◌, ℕ, Some}
-use Rattle.std.specs.Prelude.{slice_get, Ok}
-use Rattle.service_code.specs.declared.program.Function.{Function}
-use Rattle.service_verify.specs.Points.{Table, judged_function}
+use Rattle.service_verify.specs.inner.Surveys.{Keep, IsSurveyed}
 use Rattle.service_verify.proofs.verified.verify.Given as goal
 
--- the functions so far keep the rules
+-- the functions so far keep the rules, and are surveyed
 abbrev pub invariant-loop-number : goal.invariant-loop-number
-invariant-loop-number l = (n : ℕ) (f : Function) → n < l.number → slice_get l.fn.program.functions n ≡ Some f → (points : Table) × (judged_function l.fn.program n f ≡ Ok points)
+invariant-loop-number l = Keep l.fn.program l.number × IsSurveyed l.fn.program l.number l.survey.kept.items l.survey.quiet.items l.survey.looks.items

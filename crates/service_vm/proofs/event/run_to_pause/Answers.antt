@@ -1,16 +1,36 @@
-use Rattle.std.proofs.Common.{◌<◌, sym, subst, length}
+use Rattle.std.proofs.Common.{◌≡◌, ◌∙◌, ◌<◌, ap, sym, subst, length}
+use Rattle.wave_base.specs.Shapes.{class_of}
+use Rattle.service_code.specs.declared.program.Program.{Program}
 use Rattle.service_verify.specs.Fit.{IsFit}
 use Rattle.service_verify.specs.Points.{IsVerified}
+use Rattle.service_verify.specs.Reads.{kept}
 use Rattle.service_verify.specs.Standing.{HasFields, Stands}
-use Rattle.service_vm.proofs.Events.{back_there}
+use Rattle.service_vm.specs.Boxes.{Boxed, event_in}
+use Rattle.service_vm.proofs.Events.{back_there, class_known, kept_fits}
 use Rattle.service_vm.proofs.event.run_to_pause.Goals as goal
 
 pub back-requires : goal.back-requires
 back-requires c =
     let s = c.requires.stands in
     let e = c.program.ensures.program in
-    let standing = subst (λ q. Stands q s.0 s.1 c.args.event.now) (sym e) s.2 in
+    let stands = subst (λ q. Stands q s.0 s.1 c.args.event.now.event) (sym e) s.2 in
     let has = subst (λ q. HasFields q.shape s.0 c.args.body.now.fields) (sym e) s.3 in
     let h = back_there c.program.result.now (subst IsFit (sym e) c.requires.fit) (subst IsVerified (sym e) c.program.ensures.verified) s.0 s.1 c.event.inside.ended c.event.inside.run c.pause.new.self c.args.body.now.fields c.pause.new.fields c.in_ok-why.why
-    (subst (Stands c.program.result.now s.0 s.1) (sym c.event.view_is) standing) has c.in_ok-why.ensures.did c.in-Back.is in
+    (subst (Stands c.program.result.now s.0 s.1) (sym (ap (λ (b : Boxed). b.event) c.event.view_is)) stands) has c.in_ok-why.ensures.did c.in-Back.is in
     subst (λ views. 0 < length views) (sym c.pause.ensures.stays.0) h
+
+pub kept-requires : goal.kept-requires
+kept-requires c =
+    let s = c.requires.stands in
+    subst (λ n. n < length c.args.program.now.shape.classes) (sym c.class_of-class.ensures)
+    (class_known c.args.program.now c.requires.fit s.0 s.1 (event_in c.event.inside.ended c.event.inside.run) (subst (Stands c.args.program.now s.0 s.1) (sym (ap (λ (b : Boxed). b.event) c.event.view_is)) s.2))
+
+pub leave-requires : goal.leave-requires
+leave-requires c =
+    let s = c.requires.stands in
+    let e = c.program.ensures.program in
+    let stands = subst (λ q. Stands q s.0 s.1 (event_in c.event.inside.ended c.event.inside.run)) (sym e) (subst (Stands c.args.program.now s.0 s.1) (sym (ap (λ (b : Boxed). b.event) c.event.view_is)) s.2) in
+    let has = subst (λ q. HasFields q.shape s.0 c.args.body.now.fields) (sym e) s.3 in
+    ap length (c.kept.ensures.kept ∙ ap (kept c.args.program.now) c.class_of-class.ensures)
+    ∙ ap (λ q. length (kept q (class_of c.event.inside.run.path))) (sym e)
+    ∙ kept_fits c.program.result.now (subst IsFit (sym e) c.requires.fit) (subst IsVerified (sym e) c.program.ensures.verified) s.0 s.1 c.event.inside.ended c.event.inside.run c.pause.new.self c.args.body.now.fields c.pause.new.fields c.in_ok-why.why stands has c.in_ok-why.ensures.did

@@ -5,73 +5,65 @@ use Rattle.wave_base.specs.Paths.{path_eq, parent_of}
 use Rattle.wave_base.specs.Tree.{put}
 use Rattle.wave_base.specs.Shapes.{is_path}
 use Rattle.service_code.specs.declared.program.Program.{Program}
+use Rattle.service_vm.specs.Boxes.{Boxed}
 use Rattle.code_runner.specs.Walks.{tree_into}
-use Rattle.code_runner.proofs.Stepped.{has_here, stands_on, as_many, still_there, into_child, stepped_into, stepped_back, stepped_over, has_kinds}
+use Rattle.code_runner.proofs.Putting.{put_back}
+use Rattle.code_runner.proofs.Stepped.{has_here, stands_on, still_there, into_child, stepped_into, stepped_back, stepped_over}
 use Rattle.code_runner.proofs.walk.Walk.step.Goals as goal
 
-pub segment-requires-clause-stands : goal.segment-requires-clause-stands
-segment-requires-clause-stands c = stands_on c.args.program.now c.args.self.now (tree_of c.args.program.now.shape c.args.contexts.now) c.requires.walks c.path-here.result c.in_ok-record.record.fields c.path-here.ensures (c.in_ok-record.ensures.fields c.args.program.now.shape)
-
-pub put_fields-requires-clause-many : goal.put_fields-requires-clause-many
-put_fields-requires-clause-many c other =
-    let w = c.requires.walks in
-    let p = c.args.program.now in
-    let has = has_here p c.args.self.now (tree_of p.shape c.args.contexts.now) w c.path-here.result c.in_ok-record.record.fields c.path-here.ensures (c.in_ok-record.ensures.fields p.shape) in
-    let at = c.path-here.ensures ∙ w.stands.box.path in
-    as_many p.shape other c.args.contexts.now w.path c.path-here.result c.segment.new.body.fields w.here at
-    (c.in_ok-pause.ensures.leaves w.path w.calls w.stands has).0
-    (has_kinds p (tree_of p.shape c.args.contexts.now) w.path w.fits w.here)
+pub segment-paused-requires-clause-stands : goal.segment-paused-requires-clause-stands
+segment-paused-requires-clause-stands c = stands_on c.args.program.now c.args.self.now (tree_of c.args.program.now.shape c.args.contexts.now) c.requires.walks c.path-here.result c.take_record-record.result.fields c.path-here.ensures (c.take_record-record.ensures.fields c.args.program.now.shape)
 
 pub enter-requires-clause-path : goal.enter-requires-clause-path
 enter-requires-clause-path c =
     let w = c.requires.walks in
     let p = c.args.program.now in
-    let has = has_here p c.args.self.now (tree_of p.shape c.args.contexts.now) w c.path-here.result c.in_ok-record.record.fields c.path-here.ensures (c.in_ok-record.ensures.fields p.shape) in
-    let i = into_child p w.path w.calls c.segment.new.event c.in_ok-pause.pause c.in-Go.is (c.in_ok-pause.ensures.leaves w.path w.calls w.stands has).1 in
-    subst (λ (q : Program). is_path q.shape c.segment.new.event.box.path ≡ true) (sym c.program.ensures.program) i.0
+    let has = has_here p c.args.self.now (tree_of p.shape c.args.contexts.now) w c.path-here.result c.take_record-record.result.fields c.path-here.ensures (c.take_record-record.ensures.fields p.shape) in
+    let i = into_child p w.path w.calls c.segment-paused.new.event.event c.in_ok-pause.pause c.in-Go.is (c.in_ok-pause.ensures.leaves w.path w.calls w.stands has).1 in
+    subst (λ (q : Program). is_path q.shape c.segment-paused.new.event.event.box.path ≡ true) (sym c.program.ensures.program) i.0
 
 pub enter-requires-clause-parent : goal.enter-requires-clause-parent
 enter-requires-clause-parent c =
     let w = c.requires.walks in
     let p = c.args.program.now in
-    let has = has_here p c.args.self.now (tree_of p.shape c.args.contexts.now) w c.path-here.result c.in_ok-record.record.fields c.path-here.ensures (c.in_ok-record.ensures.fields p.shape) in
-    let i = into_child p w.path w.calls c.segment.new.event c.in_ok-pause.pause c.in-Go.is (c.in_ok-pause.ensures.leaves w.path w.calls w.stands has).1 in
-    still_there p.shape c.args.contexts.now c.put_fields.new.contexts c.path-here.result w.path (parent_of c.segment.new.event.box.path) c.segment.new.body.fields c.put_fields.ensures i.1 w.here
+    let has = has_here p c.args.self.now (tree_of p.shape c.args.contexts.now) w c.path-here.result c.take_record-record.result.fields c.path-here.ensures (c.take_record-record.ensures.fields p.shape) in
+    let i = into_child p w.path w.calls c.segment-paused.new.event.event c.in_ok-pause.pause c.in-Go.is (c.in_ok-pause.ensures.leaves w.path w.calls w.stands has).1 in
+    still_there p.shape c.args.contexts.now c.put_record.new.contexts c.path-here.result w.path (parent_of c.segment-paused.new.event.event.box.path) c.segment-paused.new.body.fields (put_back c.args.contexts.now c.take_record-record.new.contexts c.put_record.new.contexts c.path-here.result c.segment-paused.new.body.fields c.take_record-record.ensures.tree c.put_record.ensures) i.1 w.here
 
 plus_one : (n : ℕ) → n + 1 ≡ suc n
 plus_one n = omega arith
 
-pub returns-in-Go-clause-next : goal.returns-in-Go-clause-next
-returns-in-Go-clause-next c =
+pub returns-in_ok-enter-in-Go-clause-next : goal.returns-in_ok-enter-in-Go-clause-next
+returns-in_ok-enter-in-Go-clause-next c =
     let p = c.args.program.now in
-    let path = c.segment.new.event.box.path in
+    let path = c.segment-paused.new.event.event.box.path in
     let entered = c.args.self.now.entered.items in
     let known = list_any (path_eq path) entered in
-    let is_put = c.put_fields.ensures p.shape ∙ ap (λ q. put (tree_of p.shape c.args.contexts.now) q c.segment.new.body.fields) c.path-here.ensures in
-    stepped_into p c.args.self.now (tree_of p.shape c.args.contexts.now) c.requires.walks c.in_ok-record.record.fields
-    (c.in_ok-record.ensures.fields p.shape ∙ ap (tree_of p.shape c.args.contexts.now).fields c.path-here.ensures)
-    c.segment.new.event c.segment.new.body.fields c.in_ok-pause.pause c.in_ok-pause.ensures.segment
-    c.enter.new.self (tree_of p.shape c.enter.new.contexts) c.in_ok-enter-in-Go.ensures.event (c.in_ok-enter-in-Go.ensures.segments ∙ plus_one c.args.self.now.segments) c.in-Go.is
+    let is_put = put_back c.args.contexts.now c.take_record-record.new.contexts c.put_record.new.contexts c.path-here.result c.segment-paused.new.body.fields c.take_record-record.ensures.tree c.put_record.ensures p.shape ∙ ap (λ q. put (tree_of p.shape c.args.contexts.now) q c.segment-paused.new.body.fields) c.path-here.ensures in
+    stepped_into p c.args.self.now (tree_of p.shape c.args.contexts.now) c.requires.walks c.take_record-record.result.fields
+    (c.take_record-record.ensures.fields p.shape ∙ ap (tree_of p.shape c.args.contexts.now).fields c.path-here.ensures)
+    c.segment-paused.new.event.event c.segment-paused.new.body.fields c.in_ok-pause.pause c.in_ok-pause.ensures.segment
+    c.enter.new.self (tree_of p.shape c.enter.new.contexts) (ap (λ (b : Boxed). b.event) c.in_ok-enter-in-Go.ensures.event) (c.in_ok-enter-in-Go.ensures.segments ∙ plus_one c.args.self.now.segments) c.in-Go.is
     c.in_ok-enter-in-Go.ensures.entered
-    (subst (λ (q : Program). tree_of q.shape c.enter.new.contexts ≡ tree_into known (tree_of q.shape c.put_fields.new.contexts) path) c.program.ensures.program c.in_ok-enter-in-Go.ensures.tree
+    (subst (λ (q : Program). tree_of q.shape c.enter.new.contexts ≡ tree_into known (tree_of q.shape c.put_record.new.contexts) path) c.program.ensures.program c.in_ok-enter-in-Go.ensures.tree
     ∙ ap (λ r. tree_into known r path) is_put)
 
 pub returns-in-Back-clause-next : goal.returns-in-Back-clause-next
 returns-in-Back-clause-next c =
     let p = c.args.program.now in
-    stepped_back p c.args.self.now (tree_of p.shape c.args.contexts.now) c.requires.walks c.in_ok-record.record.fields
-    (c.in_ok-record.ensures.fields p.shape ∙ ap (tree_of p.shape c.args.contexts.now).fields c.path-here.ensures)
-    c.segment.new.event c.segment.new.body.fields c.in_ok-pause.pause c.in_ok-pause.ensures.segment
-    (record { event = c.segment.new.event; entered = c.args.self.now.entered; segments = c.args.self.now.segments + 1 })
-    (tree_of p.shape c.put_fields.new.contexts) refl (plus_one c.args.self.now.segments) c.in-Back.is refl
-    (c.put_fields.ensures p.shape ∙ ap (λ q. put (tree_of p.shape c.args.contexts.now) q c.segment.new.body.fields) c.path-here.ensures)
+    stepped_back p c.args.self.now (tree_of p.shape c.args.contexts.now) c.requires.walks c.take_record-record.result.fields
+    (c.take_record-record.ensures.fields p.shape ∙ ap (tree_of p.shape c.args.contexts.now).fields c.path-here.ensures)
+    c.segment-paused.new.event.event c.segment-paused.new.body.fields c.in_ok-pause.pause c.in_ok-pause.ensures.segment
+    (record { event = c.segment-paused.new.event; entered = c.args.self.now.entered; segments = c.args.self.now.segments + 1 })
+    (tree_of p.shape c.put_record.new.contexts) refl (plus_one c.args.self.now.segments) c.in-Back.is refl
+    (put_back c.args.contexts.now c.take_record-record.new.contexts c.put_record.new.contexts c.path-here.result c.segment-paused.new.body.fields c.take_record-record.ensures.tree c.put_record.ensures p.shape ∙ ap (λ q. put (tree_of p.shape c.args.contexts.now) q c.segment-paused.new.body.fields) c.path-here.ensures)
 
-pub returns-clause-next : goal.returns-clause-next
-returns-clause-next c =
+pub returns-in-Over-clause-next : goal.returns-in-Over-clause-next
+returns-in-Over-clause-next c =
     let p = c.args.program.now in
-    stepped_over p c.args.self.now (tree_of p.shape c.args.contexts.now) c.requires.walks c.in_ok-record.record.fields
-    (c.in_ok-record.ensures.fields p.shape ∙ ap (tree_of p.shape c.args.contexts.now).fields c.path-here.ensures)
-    c.segment.new.event c.segment.new.body.fields c.in_ok-pause.pause c.in_ok-pause.ensures.segment
-    (record { event = c.segment.new.event; entered = c.args.self.now.entered; segments = c.args.self.now.segments + 1 })
-    (tree_of p.shape c.put_fields.new.contexts) refl (plus_one c.args.self.now.segments) c.in-Over.result c.in-Over.is refl
-    (c.put_fields.ensures p.shape ∙ ap (λ q. put (tree_of p.shape c.args.contexts.now) q c.segment.new.body.fields) c.path-here.ensures)
+    stepped_over p c.args.self.now (tree_of p.shape c.args.contexts.now) c.requires.walks c.take_record-record.result.fields
+    (c.take_record-record.ensures.fields p.shape ∙ ap (tree_of p.shape c.args.contexts.now).fields c.path-here.ensures)
+    c.segment-paused.new.event.event c.segment-paused.new.body.fields c.in_ok-pause.pause c.in_ok-pause.ensures.segment
+    (record { event = c.segment-paused.new.event; entered = c.args.self.now.entered; segments = c.args.self.now.segments + 1 })
+    (tree_of p.shape c.put_record.new.contexts) refl (plus_one c.args.self.now.segments) c.in-Over.result c.in-Over.is refl
+    (put_back c.args.contexts.now c.take_record-record.new.contexts c.put_record.new.contexts c.path-here.result c.segment-paused.new.body.fields c.take_record-record.ensures.tree c.put_record.ensures p.shape ∙ ap (λ q. put (tree_of p.shape c.args.contexts.now) q c.segment-paused.new.body.fields) c.path-here.ensures)

@@ -1,5 +1,4 @@
 use Rattle.std.proofs.Common.{◌≡◌, ◌<◌, ◌≤◌, List, [], length, map, All, ap, sym, subst, ◌∙◌, arith}
-use Rattle.wave_base.specs.declared.finished.Place.{Place}
 use Rattle.wave_base.specs.declared.script.Line.{Line}
 use Rattle.wave_base.specs.declared.script.Script.{Script}
 use Rattle.wave_base.specs.declared.shot.Shot.{Shot}
@@ -7,7 +6,6 @@ use Rattle.wave_base.specs.Fold.{Head, next_batch, first_head}
 use Rattle.context_tree.specs.Contexts.{tree_of}
 use Rattle.head_tickets.specs.Heads.{head_of}
 use Rattle.script_fold.specs.Lines.{name_of}
-use Rattle.script_fold.specs.Visiting.{IsVisited, hosts_of}
 use Rattle.script_fold.proofs.StartLemmas.{first_again, first_full}
 use Rattle.script_fold.proofs.folding.Folding.begin.Goals as goal
 
@@ -29,10 +27,10 @@ returns c =
         full = subst (All (λ (b : List Line). 0 < length b)) (sym later) (first_full c.args.script.now.batches s.full);
       };
       kept = record {
-        tree = ap (λ (xs : List Shot). tree_of shape (record { shots = xs })) (c.in_ok-contexts.ensures ∙ c.as_slice-2.ensures);
+        tree = ap (λ (xs : List Shot). tree_of shape (record { shots = xs })) (c.in_ok-contexts.ensures ∙ c.as_slice.ensures);
         results = c.new.ensures.items;
         made_is = ap (map (map (λ t. t.0))) c.new-2.ensures.items;
         names = c.new-3.ensures.items;
-        visits = subst (λ (xs : List Place). IsVisited (hosts_of xs) [] [] c.in_ok-visits.visits.contexts.entries) c.as_slice.ensures c.in_ok-visits.ensures;
+        visits = c.in_ok-visits.ensures;
       };
     }

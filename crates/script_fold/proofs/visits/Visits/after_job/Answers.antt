@@ -1,7 +1,7 @@
 use Rattle.std.proofs.Common.{[], ◌∷◌, ◌++◌, sym, subst}
 use Rattle.wave_base.specs.declared.outcome.Outcome.{Outcome}
 use Rattle.wave_base.specs.Places.{with_contexts, after_job, move_in}
-use Rattle.script_fold.specs.Visiting.{IsVisited, IsMoveWithin}
+use Rattle.script_fold.specs.inner.Visiting.{IsVisited, IsMoveWithin}
 use Rattle.script_fold.proofs.visits.Visits.after_job.Goals as goal
 
 pub returns-in-Moved : goal.returns-in-Moved

@@ -3,7 +3,7 @@ use Rattle.std.proofs.lemmas.List.{take_more}
 use Rattle.wave_base.specs.declared.path.Path.{Path}
 use Rattle.wave_base.specs.Places.{with_contexts}
 use Rattle.wave_base.specs.Tree.{Tree}
-use Rattle.script_fold.specs.Visiting.{IsVisited}
+use Rattle.script_fold.specs.inner.Visiting.{IsVisited}
 use Rattle.script_fold.proofs.VisitLemmas.{contexts_push}
 use Rattle.script_fold.proofs.visits.Visits.enter_all.Goals as goal
 

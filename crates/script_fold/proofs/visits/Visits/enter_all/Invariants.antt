@@ -2,7 +2,7 @@ use Rattle.std.proofs.Common.{◌≡◌, ℕ, suc, List, [], length, take}
 use Rattle.wave_base.specs.declared.path.Path.{Path}
 use Rattle.wave_base.specs.Places.{with_contexts}
 use Rattle.wave_base.specs.Tree.{Tree}
-use Rattle.script_fold.specs.Visiting.{IsVisited}
+use Rattle.script_fold.specs.inner.Visiting.{IsVisited}
 use Rattle.script_fold.proofs.visits.Visits.enter_all.Given as goal
 
 abbrev pub invariant-loop-path : goal.invariant-loop-path

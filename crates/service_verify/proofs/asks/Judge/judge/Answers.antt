@@ -19,4 +19,4 @@ loop-n-preserved c =
     ∙ ap (λ code. judged_from c.args.self.now.program.now c.args.self.now.number c.args.self.now.function.now (c.loop-n.n + 1) (drop (c.loop-n.n + 1) code) c.visit.new.table.items) same
 
 pub returns-clause-ok : goal.returns-clause-ok
-returns-clause-ok c = (c.loop-n.table.items, c.loop-n.invariant ∙ none_left _ _ _ c.args.self.now.function.now.code c.loop-n.n c.loop-n.table.items (subst (λ code. length code ≤ c.loop-n.n) c.as_slice-instr-items.ensures c.loop-n-test.false))
+returns-clause-ok c = c.loop-n.invariant ∙ none_left _ _ _ c.args.self.now.function.now.code c.loop-n.n c.loop-n.table.items (subst (λ code. length code ≤ c.loop-n.n) c.as_slice-instr-items.ensures c.loop-n-test.false)

@@ -2,7 +2,7 @@ use Rattle.std.proofs.Common.{◌≡◌, ◌++◌, ◌∷◌, [], length, refl, 
 use Rattle.mace_ast.specs.declared.context.ContextDecl.{out-ContextDecl}
 use Rattle.mace_ast.specs.Decls.{context_tree, contexts_of, method_tree}
 use Rattle.type_rules.specs.Known as rules
-use Rattle.type_tables.specs.Gathering.{Gains}
+use Rattle.type_tables.specs.inner.Gathering.{Gains}
 use Rattle.type_tables.proofs.Gathers.{gains_context, map_more, gains_inside, tree_parts, on_ok}
 use Rattle.type_tables.proofs.gather.Gathered.+context.Goals as goal
 

@@ -1,7 +1,7 @@
 use Rattle.std.proofs.Common.{[], map, take, length}
 use Rattle.mace_ast.specs.Decls.{context_tree, contexts_of}
 use Rattle.type_rules.specs.Known as rules
-use Rattle.type_tables.specs.Gathering.{Gains}
+use Rattle.type_tables.specs.inner.Gathering.{Gains}
 use Rattle.type_tables.proofs.gather.Gathered.+context.Given as goal
 
 abbrev pub invariant-contexts-contexts : goal.invariant-contexts-contexts

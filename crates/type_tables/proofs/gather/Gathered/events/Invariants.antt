@@ -1,7 +1,7 @@
 use Rattle.std.proofs.Common.{[], map, take}
 use Rattle.mace_ast.specs.Decls.{event_tree}
 use Rattle.type_rules.specs.Known as rules
-use Rattle.type_tables.specs.Gathering.{Gains}
+use Rattle.type_tables.specs.inner.Gathering.{Gains}
 use Rattle.type_tables.proofs.gather.Gathered.events.Given as goal
 
 abbrev pub invariant-loop-e : goal.invariant-loop-e

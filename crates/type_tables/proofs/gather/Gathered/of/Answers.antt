@@ -1,7 +1,7 @@
 use Rattle.std.proofs.Common.{[], ◌∷◌, map, length, sym, subst, refl}
 use Rattle.mace_ast.specs.Decls.{context_tree, contexts_of, method_tree, event_tree, service_tree}
 use Rattle.type_rules.specs.Known as rules
-use Rattle.type_tables.specs.Gathering.{Gains}
+use Rattle.type_tables.specs.inner.Gathering.{Gains}
 use Rattle.type_tables.proofs.Gathers.{service_gathered}
 use Rattle.type_tables.proofs.gather.Gathered.of.Goals as goal
 

@@ -1,0 +1,59 @@
+#!/usr/bin/env bash
+# bench/maps.sh [REFERENCE [RUNS]]: `seq` on maps and texts beside the reference program, by turns in one run: writes, reads, tests, walks
+# by `key`, pairs taken out and put again, texts that grow, and snapshots, at 20 and at 1,000 pairs or bytes. It prints the median times
+# in milliseconds with their ratio. PROGRAM in the environment stands for another built program.
+set -eu
+cd "$(dirname "$0")/.."
+reference=${1:-../shared/tools/reference} runs=${2:-7}
+program=${PROGRAM:-crates/eventwave_program/out/eventwave_program}
+[ -x "$program" ] || ./eventwave run <examples/counter.wave >/dev/null
+folder=$(mktemp -d); trap 'rm -rf "$folder"' EXIT
+
+cat >"$folder/service" <<'END_OF_SERVICE'
+service Maps {
+  var m: map = empty;
+  event fill(n: int) { here { for i in 0 to n { m[i * 7 % n] = i; } } }
+  event write(n: int, rounds: int) { here { for r in 0 to rounds { for i in 0 to n { m[i * 7 % n] = r; } } } }
+  event read(n: int, rounds: int): int {
+    here { let s = 0; for r in 0 to rounds { for i in 0 to n { s = s + m[i * 7 % n]; } } }
+    reply s;
+  }
+  event test(n: int, rounds: int): int {
+    here { let s = 0; for r in 0 to rounds { for i in 0 to n { if has(m, i * 2) { s = s + size(m); } } } }
+    reply s;
+  }
+  event walk(n: int, rounds: int): int {
+    here { let s = 0; for r in 0 to rounds { for i in 0 to size(m) { s = s + key(m, i); } } }
+    reply s;
+  }
+  event again(n: int, rounds: int) {
+    here { for r in 0 to rounds { for i in 0 to n { drop m[i * 7 % n]; m[i * 7 % n] = r; } } }
+  }
+  event grow(n: int, rounds: int): int {
+    here { let s = ""; for r in 0 to rounds { s = ""; for i in 0 to n { s = s + "x"; } } }
+    reply len(s);
+  }
+}
+----
+END_OF_SERVICE
+for size in 20 1000; do
+    for what in write read test walk again grow; do
+        { cat "$folder/service"; echo "request fill($size)"; for _ in 1 2 3 4 5; do echo "request $what($size,$((94000 / size)))"; done; } >"$folder/$what-$size"
+    done
+    { cat "$folder/service"; echo "request fill($size)"; for _ in $(seq $((40000 / size > 2000 ? 2000 : 40000 / size))); do echo snapshot; done; } >"$folder/snapshot-$size"
+done
+
+median() { sort -n | awk '{ all[NR] = $1 } END { print all[int((NR + 1) / 2)] }'; }
+took() { local from to; from=$(date +%s%N); "$@" >"$folder/out" 2>/dev/null || true; to=$(date +%s%N); echo $(((to - from) / 1000)); }
+printf '%14s %14s %14s %8s\n' input 'eventwave, ms' 'reference, ms' ratio
+for what in write read test walk again grow snapshot; do
+    for size in 20 1000; do
+        : >"$folder/ours"; : >"$folder/theirs"
+        for _ in $(seq "$runs"); do
+            took "$program" seq <"$folder/$what-$size" >>"$folder/ours"; cp "$folder/out" "$folder/first"
+            took "$reference" seq <"$folder/$what-$size" >>"$folder/theirs"
+            cmp "$folder/first" "$folder/out"
+        done
+        awk -v n="$what-$size" -v a="$(median <"$folder/ours")" -v b="$(median <"$folder/theirs")" 'BEGIN { printf "%14s %14.2f %14.2f %8.2f\n", n, a / 1000, b / 1000, a / b }'
+    done
+done

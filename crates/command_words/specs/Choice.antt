@@ -1,0 +1,49 @@
+-- Which command a name asks for, and what may be given with it.
+use Rattle.std.specs.Prelude.{ℕ, if◌then◌else◌, List, codes, Option, Some, None, unwrap_or, option_map, option_and_then}
+use Rattle.wave_base.specs.Names.{same_bytes}
+use Rattle.command_words.specs.declared.choice.Verb.{Verb}
+use Rattle.command_words.specs.declared.choice.Verb.TheVariants as verb
+use Rattle.command_words.specs.declared.command.Command.{Command}
+use Rattle.command_words.specs.declared.command.Command.TheVariants.{Run, Seq, Check, Print, Code, Gen, Load}
+use Rattle.command_words.specs.declared.command.Crew.{Crew}
+use Rattle.command_words.specs.declared.command.Places.{Places}
+use Rattle.command_words.specs.declared.command.Places.TheVariants.{Unlisted, Listed}
+use Rattle.command_words.specs.declared.command.Schedule.{Schedule}
+use Rattle.command_words.specs.Values.{number_of, schedule_of, workers_of}
+
+abbrev pub verb_of : List ℕ → Option Verb
+verb_of word =
+    if same_bytes word (codes "run") then Some verb.Run
+    else if same_bytes word (codes "seq") then Some verb.Seq
+    else if same_bytes word (codes "check") then Some verb.Check
+    else if same_bytes word (codes "print") then Some verb.Print
+    else if same_bytes word (codes "code") then Some verb.Code
+    else if same_bytes word (codes "gen") then Some verb.Gen
+    else if same_bytes word (codes "load") then Some verb.Load
+    else None
+
+-- four workers where none are given
+abbrev pub crew_of : Option ℕ → Option Schedule → Crew
+crew_of workers schedule = record { workers = unwrap_or workers 4; schedule = schedule }
+
+-- `run` takes workers, a schedule and the places; `seq` the places; `gen` wants a number; `load` wants one and takes workers
+abbrev pub command_with : Verb → Option ℕ → Option ℕ → Option Schedule → Places → Option Command
+command_with verb.Run None workers schedule places = Some (Run places (crew_of workers schedule))
+command_with verb.Seq None None None places = Some (Seq places)
+command_with verb.Check None None None Unlisted = Some Check
+command_with verb.Print None None None Unlisted = Some Print
+command_with verb.Code None None None Unlisted = Some Code
+command_with verb.Gen (Some n) None None Unlisted = Some (Gen n)
+command_with verb.Load (Some n) workers None Unlisted = Some (Load n (crew_of workers None))
+command_with _ _ _ _ _ = None
+
+-- what is given stands for something, or nothing is given
+abbrev pub given : {X : Type 0} → (List ℕ → Option X) → Option (List ℕ) → Option (Option X)
+given read None = Some None
+given read (Some word) = option_map Some (read word)
+
+-- the command of this name, with the number, the workers, the schedule and the places that are given
+abbrev pub chosen : List ℕ → Option (List ℕ) → Option (List ℕ) → Option (List ℕ) → Places → Option Command
+chosen name number workers schedule places =
+    option_and_then (λ v. option_and_then (λ n. option_and_then (λ w. option_and_then (λ s. command_with v n w s places)
+    (given schedule_of schedule)) (given workers_of workers)) (given number_of number)) (verb_of name)

@@ -1,0 +1,5 @@
+pub mod Values
+pub mod Choice
+pub mod Reading
+pub mod ByHand
+pub mod Inputs

@@ -1,0 +1,68 @@
+ghost use Rattle.std.specs.Prelude.{◌≡◌};
+ghost use Rattle.command_words.specs.Inputs.{reads_input};
+
+/// Whether the listing ends with the hosts of the contexts.
+#[derive(Clone, Copy, Debug, PartialEq, Eq)]
+pub enum Places {
+    Unlisted,
+    Listed,
+}
+
+/// How the machine's labels are picked where no threads run it.
+#[derive(Clone, Copy, Debug, PartialEq, Eq)]
+pub enum Schedule {
+    /// By the generator, from this seed.
+    Seed(u64),
+    /// What was given the least ticket first.
+    Oldest,
+    /// What was given the greatest ticket first.
+    Newest,
+    /// What moves contexts first.
+    Movers,
+    /// Mail last.
+    MailLast,
+}
+
+/// Who runs the machine.
+#[derive(Clone, Copy, Debug, PartialEq, Eq)]
+pub struct Crew {
+    /// 1 to 16.
+    pub workers: u8,
+    /// Where there is one, no threads run it.
+    pub schedule: Option<Schedule>,
+}
+
+/// What the words ask for.
+#[derive(Clone, Copy, Debug, PartialEq, Eq)]
+pub enum Command {
+    /// Runs the script on the service, and lists the results.
+    Run(Places, Crew),
+    /// The same, by the plain evaluator.
+    Seq(Places),
+    /// Says whether the service is typed.
+    Check,
+    /// Writes the service in canonical layout.
+    Print,
+    /// Writes the service's code.
+    Code,
+    /// Writes the generated load of a number.
+    Gen(u64),
+    /// Runs the generated load of a number, and sums it up. The crew has no schedule.
+    Load(u64, Crew),
+}
+
+impl Command {
+    /// Whether it reads standard input.
+    pub fn reads_input(&self) -> bool
+        ensures { result ≡ reads_input self.now }
+    {
+        match self {
+            Command::Run(_, _)
+            | Command::Seq(_)
+            | Command::Check
+            | Command::Print
+            | Command::Code => true,
+            Command::Gen(_) | Command::Load(_, _) => false,
+        }
+    }
+}

@@ -1,0 +1,66 @@
+-- How each keyword and each sign is written.
+use Rattle.std.specs.Prelude.{ℕ, List, [], ◌∷◌, codes}
+use Rattle.mace_lexer.specs.declared.keyword.Keyword.{Keyword}
+use Rattle.mace_lexer.specs.declared.keyword.Keyword.TheVariants as k
+use Rattle.mace_lexer.specs.declared.sign.Sign.{Sign}
+use Rattle.mace_lexer.specs.declared.sign.Sign.TheVariants as s
+
+abbrev pub keywords : List (List ℕ × Keyword)
+keywords =
+    (codes "service", k.Service)
+    ∷ (codes "context", k.Context)
+    ∷ (codes "var", k.Var)
+    ∷ (codes "method", k.Method)
+    ∷ (codes "event", k.Event)
+    ∷ (codes "here", k.Here)
+    ∷ (codes "down", k.Down)
+    ∷ (codes "reply", k.Reply)
+    ∷ (codes "let", k.Let)
+    ∷ (codes "if", k.If)
+    ∷ (codes "else", k.Else)
+    ∷ (codes "while", k.While)
+    ∷ (codes "for", k.For)
+    ∷ (codes "in", k.In)
+    ∷ (codes "to", k.To)
+    ∷ (codes "require", k.Require)
+    ∷ (codes "send", k.Send)
+    ∷ (codes "spawn", k.Spawn)
+    ∷ (codes "drop", k.Drop)
+    ∷ (codes "return", k.Return)
+    ∷ (codes "true", k.True)
+    ∷ (codes "false", k.False)
+    ∷ (codes "empty", k.Empty)
+    ∷ (codes "int", k.Int)
+    ∷ (codes "bool", k.Bool)
+    ∷ (codes "text", k.Text)
+    ∷ (codes "map", k.Map)
+    ∷ []
+
+abbrev pub signs : List (List ℕ × Sign)
+signs =
+    (codes "{", s.LeftBrace)
+    ∷ (codes "}", s.RightBrace)
+    ∷ (codes "(", s.LeftParen)
+    ∷ (codes ")", s.RightParen)
+    ∷ (codes "[", s.LeftBracket)
+    ∷ (codes "]", s.RightBracket)
+    ∷ (codes ",", s.Comma)
+    ∷ (codes ";", s.Semicolon)
+    ∷ (codes ":", s.Colon)
+    ∷ (codes ".", s.Dot)
+    ∷ (codes "=", s.Equals)
+    ∷ (codes "==", s.EqualsEquals)
+    ∷ (codes "!=", s.BangEquals)
+    ∷ (codes "<", s.Less)
+    ∷ (codes "<=", s.LessEquals)
+    ∷ (codes ">", s.Greater)
+    ∷ (codes ">=", s.GreaterEquals)
+    ∷ (codes "+", s.Plus)
+    ∷ (codes "-", s.Minus)
+    ∷ (codes "*", s.Star)
+    ∷ (codes "/", s.Slash)
+    ∷ (codes "%", s.Percent)
+    ∷ (codes "&&", s.AndAnd)
+    ∷ (codes "||", s.OrOr)
+    ∷ (codes "!", s.Bang)
+    ∷ []

@@ -1,0 +1,15 @@
+pub mod Coded
+pub mod Efforts
+pub mod Examples
+pub mod Finishing
+pub mod Folding
+pub mod Images
+pub mod Jobs
+pub mod Joining
+pub mod Meeting
+pub mod Moving
+pub mod Order
+pub mod Owing
+pub mod Spawning
+pub mod Unended
+pub mod Walking

@@ -1,0 +1,6 @@
+pub mod Calls
+pub mod Efforts
+pub mod Finishing
+pub mod PlanActors
+pub mod Plans
+pub mod Renamed

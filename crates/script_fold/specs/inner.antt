@@ -1,0 +1,4 @@
+pub mod Visiting
+pub mod Standing
+pub mod Greeting
+pub mod Greets

@@ -1,0 +1,31 @@
+-- What one line does to the reader of a script.
+use Rattle.std.specs.Prelude.{◌≡◌, ℕ, List, Ok, Err}
+use Rattle.wave_base.specs.declared.shape.Shape.{Shape}
+use Rattle.script_reader.specs.declared.error.Fault.{Fault}
+use Rattle.script_reader.specs.declared.error.ScriptError.{ScriptError}
+use Rattle.script_reader.specs.declared.error.ScriptError.TheVariants.{OutOfMemory}
+use Rattle.script_reader.specs.declared.progress.Progress.{Progress}
+use Rattle.script_reader.specs.declared.said.Said.{Said}
+use Rattle.script_reader.specs.declared.taken.Taken.{Taken}
+use Rattle.script_reader.specs.inner.Progressed.{with_taken}
+use Rattle.script_reader.specs.Scripts.{IsOnlySaid, judged, refused}
+
+-- the line is taken
+pub record IsStep (shape : Shape) (line : List ℕ) (before after : Progress) : Type 0 where
+  pub said : Said
+  pub taken : Taken
+  pub says : IsOnlySaid line said
+  pub judged_is : judged shape before.hosts before.begun before.events said ≡ Ok taken
+  pub after_is : after ≡ with_taken before taken
+
+pub record IsRefused (shape : Shape) (line : List ℕ) (before : Progress) (number : ℕ) (error : ScriptError) : Type 0 where
+  pub said : Said
+  pub fault : Fault
+  pub says : IsOnlySaid line said
+  pub judged_is : judged shape before.hosts before.begun before.events said ≡ Err fault
+  pub error_is : error ≡ refused fault number
+
+-- the line is refused; want of memory says nothing
+abbrev pub IsStop : Shape → List ℕ → Progress → ℕ → ScriptError → Type 0
+IsStop shape line before number OutOfMemory = Unit {0}
+IsStop shape line before number error = IsRefused shape line before number error
