@@ -1,0 +1,3 @@
+pub mod Sorted
+mod Boxes
+pub mod Desks

@@ -1,0 +1,3 @@
+pub mod Places
+pub mod Boxes
+pub mod Releases

@@ -1,0 +1,17 @@
+//! What the machine keeps of one ticket: its event, what that holds, and its mails under way.
+#![tactic(auto)]
+
+mod cell;
+mod held;
+mod laws;
+mod outbox;
+mod status;
+
+pub use cell::{Cell, JobKind};
+pub use held::{Held, Hold};
+pub use laws::cells_stand;
+pub use outbox::{Envelope, Outbox};
+pub use status::Status;
+
+#[cfg(test)]
+mod tests;
