@@ -1,5 +1,5 @@
 -- Those that hold an entry, and what each call makes of them.
-use Rattle.std.proofs.Common.{◌≡◌, ℕ, suc, ◌+◌, List, [], ◌∷◌, ◌++◌, Option, Some, None, Bool, true, false, cond, not, ◌||◌, ◌&&◌, ◌==◌, is_none, refl, sym, ap, subst, ◌∙◌, true≢false, arith, add-one, option_map, map}
+use Rattle.std.proofs.Common.{◌≡◌, ℕ, suc, ◌+◌, List, [], ◌∷◌, ◌++◌, Option, Some, None, Bool, true, false, cond, not, ◌||◌, ◌&&◌, ◌==◌, is_none, refl, sym, ap, subst, ◌∙◌, true≢false, add-one, option_map, map}
 use Rattle.std.specs.Prelude.{nat_eq, option_and_then, if◌then◌else◌}
 use Rattle.std.specs.List.{list_any, list_all}
 use Rattle.std.specs.Ordering.{nat_cmp, eq_by_cmp}

@@ -1,5 +1,4 @@
-use Rattle.std.proofs.Common.{◌≡◌, true, None, refl, sym, ap, ◌∙◌}
-use Rattle.std.specs.FinSet as set
+use Rattle.std.proofs.Common.{◌≡◌, refl, sym, ap, ◌∙◌}
 use Rattle.wave_states.specs.Steps.{others}
 use Rattle.context_queue.specs.inner.Admits.{is_either}
 use Rattle.context_queue.proofs.Holding.{holds, held, let_go_to, without, without_holder, without_other, either_left}

@@ -1,4 +1,4 @@
-use Rattle.std.proofs.Common.{◌≡◌, [], ◌∷◌, ◌++◌, List, refl, sym, ap, ◌∙◌}
+use Rattle.std.proofs.Common.{[], ◌∷◌, ◌++◌, List, refl, sym, ap, ◌∙◌}
 use Rattle.wave_base.specs.declared.value.Value.{Value}
 use Rattle.wave_states.specs.States as theory
 use Rattle.context_queue.specs.Entries.{StandsFor, claim_of}

@@ -1,4 +1,4 @@
-use Rattle.std.proofs.Common.{◌≡◌, sym, ap, ◌∙◌, Some}
+use Rattle.std.proofs.Common.{sym, ap, ◌∙◌, Some}
 use Rattle.wave_states.specs.Steps.{only_if}
 use Rattle.context_queue.specs.Entries.{claim_of}
 use Rattle.context_queue.proofs.Holding.{next_is}

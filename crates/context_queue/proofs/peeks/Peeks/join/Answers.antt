@@ -1,4 +1,4 @@
-use Rattle.std.proofs.Common.{◌≡◌, ◌≤◌, sym, ap, subst, ◌∙◌, IsOk, Result, Ok, Err, OnOk}
+use Rattle.std.proofs.Common.{◌≤◌, sym, ap, subst, ◌∙◌, IsOk, Result, Ok, Err, OnOk}
 use Rattle.std.specs.FinSet as set
 use Rattle.std.specs.HashSet.{spare}
 use Rattle.context_queue.proofs.QueueMaps.{joined}
