@@ -7,7 +7,7 @@ use crate::{ScriptError, read_script, read_script_at};
 use std::alloc::Global;
 use std::test::Fail;
 use wave_base::{
-    Call, Class, ClassInfo, EventInfo, Host, Kind, Line, OutOfMemory, Path, PLACED_BYTES, Script,
+    Call, Class, ClassInfo, EventInfo, Host, Kind, Line, OutOfMemory, PLACED_BYTES, Path, Script,
     Seq, Shape, Step, Txt, Value,
 };
 
