@@ -3,22 +3,18 @@
 //! Without a word it prints the listing. With a word it prints a line for each run: its nanoseconds.
 #![tactic(auto)]
 
-ghost use Rattle.std.specs.Prelude.{IfSome};
 ghost use Rattle.wave_base.specs.Scripts.{IsScript};
-ghost use Rattle.wave_base.specs.Shapes.{IsShape};
 ghost use Rattle.code_runner.specs.Coded.{IsCode};
 
 mod coded;
 
 use code_meaning::run_script;
-use coded::{Coded, coded_service};
-use input_parts::parts_of;
+use coded::{Coded, coded_input};
 use listing_out::write_listing;
-use script_reader::read_script;
 use std::alloc::Global;
 use std::time::{Clock, Instant};
 use std::{env, io};
-use wave_base::{INPUT_BYTES, SCRIPT_BYTES, Script};
+use wave_base::INPUT_BYTES;
 use wave_io::{Sink, StdSink, StdSource, read_all};
 
 // A word of the command line, as a number.
@@ -26,45 +22,25 @@ fn number(word: Option<String>) -> Option<u32> {
     word?.as_str().parse::<u32>().ok()
 }
 
-// The script of a service.
-fn script_of(alloc: Global, coded: &Coded, text: &[u8]) -> Option<Script>
-    requires { IsShape coded.now.typed.shape }
-    ensures { IfSome result (IsScript coded.now.typed.shape) }
-{
-    if text.len() > SCRIPT_BYTES {
-        return None;
-    }
-    match read_script(alloc, &coded.typed.shape, text) {
-        Ok(script) => Some(script),
-        Err(_) => None,
-    }
-}
-
-// Writes the listing.
-fn write_results<K: Sink>(alloc: Global, out: &mut K, coded: &Coded, script: &Script) -> bool
+// Writes the listing, and says whether it is whole.
+fn write_results<K: Sink>(alloc: Global, out: &mut K, coded: &Coded) -> bool
     requires code { IsCode coded.now.typed.resolved coded.now.program }
-    requires script { IsScript coded.now.program.shape script.now }
+    requires script { IsScript coded.now.program.shape coded.now.script }
 {
-    match run_script(alloc, &coded.program, &coded.typed.resolved, script) {
-        Ok(done) => write_listing(alloc, out, &coded.typed.shape, &done, false).is_ok(),
+    match run_script(alloc, &coded.program, &coded.typed.resolved, &coded.script) {
+        Ok(done) => write_listing(alloc, out, &coded.program.program().shape, &done, false).is_ok(),
         Err(_) => false,
     }
 }
 
 // Prints how long each run takes.
-fn print_times<R: Print + Clock>(
-    rt: &R,
-    alloc: Global,
-    coded: &Coded,
-    script: &Script,
-    runs: u32,
-) -> io::Result<()>
+fn print_times<R: Print + Clock>(rt: &R, alloc: Global, coded: &Coded, runs: u32) -> io::Result<()>
     requires code { IsCode coded.now.typed.resolved coded.now.program }
-    requires script { IsScript coded.now.program.shape script.now }
+    requires script { IsScript coded.now.program.shape coded.now.script }
 {
     for _ in 0..runs {
         let start = Instant::now(rt)?;
-        let _ = run_script(alloc, &coded.program, &coded.typed.resolved, script);
+        let _ = run_script(alloc, &coded.program, &coded.typed.resolved, &coded.script);
         let took = start.elapsed(rt)?.as_nanos();
         println!(rt; "{took}")?;
     }
@@ -80,23 +56,15 @@ fn main(rt: HostRuntime) -> io::Result<()> {
     let Ok(bytes) = read_all(alloc, &mut input, INPUT_BYTES) else {
         return println!(rt; "no input");
     };
-    let (text, Some(lines)) = parts_of(bytes.as_slice()) else {
-        return println!(rt; "no script");
+    let Some(coded) = coded_input(alloc, bytes.as_slice()) else {
+        return println!(rt; "no script of a service");
     };
-    let Some(coded) = coded_service(alloc, text) else {
-        return println!(rt; "no service");
-    };
-    let Some(script) = script_of(alloc, &coded, lines) else {
-        return println!(rt; "no script of the service");
-    };
-    match runs {
-        Some(runs) => print_times(&rt, alloc, &coded, &script, runs),
-        None => {
-            let mut out = StdSink::new(rt.stdout());
-            if !write_results(alloc, &mut out, &coded, &script) {
-                return println!(rt; "no listing");
-            }
-            Ok(())
-        }
+    if let Some(runs) = runs {
+        return print_times(&rt, alloc, &coded, runs);
     }
+    let mut out = StdSink::new(rt.stdout());
+    if !write_results(alloc, &mut out, &coded) {
+        return println!(rt; "no listing");
+    }
+    Ok(())
 }
