@@ -10,6 +10,7 @@ use Rattle.bench_code.proofs.coded.code_of.Goals as goal
 
 -- the scheme's program of a typed service is its code
 is_code : (shape : Shape) (service : Resolved) (p : Program) → IsTyped shape service → FitsService shape service → p ≡ scheme_program shape service → IsCode service p
+unfolding scheme_program
 is_code shape service p typed fits e = subst (IsCode service) (sym e) (record { typed = typed; fits = fits; is = refl })
 
 pub returns-clause-code : goal.returns-clause-code
