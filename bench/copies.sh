@@ -1,12 +1,12 @@
 #!/usr/bin/env bash
 # bench/copies.sh [SALES [RUNS]]: sales in a hall of 64 texts of 1,000 bytes each, run by their code. An event that goes down from the hall to
-# a stall keeps a copy of what code below may read: here of none of the texts, of one, or of all 64, which no sale reads. By turns in one run;
-# it prints the medians of the nanoseconds a sale.
+# a stall keeps a copy of what code below may read: here of none of the texts, of one, or of all 64, and no sale comes to the place that reads
+# them, so that the three run the same instructions. By turns in one run; it prints the medians of the nanoseconds a sale.
 set -eu
 cd "$(dirname "$0")/.."
 sales=${1:-2000} runs=${2:-9}
 # Where it is not built yet, or a source is newer, `rt run` proves and builds it.
-(cd crates/bench_code; rt run >/dev/null 2>&1 || { rt run; exit 1; })
+(cd crates/bench_code; rt run <stdin >/dev/null 2>&1 || { rt run <stdin; exit 1; })
 program=crates/bench_code/out/bench_code
 folder=$(mktemp -d); trap 'rm -rf "$folder"' EXIT
 
@@ -17,7 +17,9 @@ input() {
     printf 'service Market {\n  var seen: int = 0;\n  context Hall[int] {\n'
     for i in $(seq 0 63); do printf '    var t%s: text = "";\n' "$i"; done
     printf '    context Stall[int] {\n      var stock: int = 1000000;\n      method take(n: int): int {\n'
-    for i in $(seq 0 $((reads - 1))); do printf '        if n > 1000 { stock = stock + len(Hall.t%s); }\n' "$i"; done
+    printf '        if n > 1000 {\n          stock = 0;\n'
+    for i in $(seq 0 $((reads - 1))); do printf '          stock = stock + len(Hall.t%s);\n' "$i"; done
+    printf '        }\n'
     printf '        stock = stock - n;\n        return stock;\n      }\n    }\n  }\n'
     printf '  event fill(h: int) {\n    down Hall[h] {\n      let s = "";\n      for i in 0 to 100 { s = s + "0123456789"; }\n'
     for i in $(seq 0 63); do printf '      t%s = s;\n' "$i"; done
