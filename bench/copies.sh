@@ -28,7 +28,10 @@ input() {
     for i in $(seq "$sales"); do echo 'request buy(1,1,1)'; done
 }
 
-for reads in 0 1 64; do input "$reads" >"$folder/$reads"; done
+for reads in 0 1 64; do
+    input "$reads" >"$folder/$reads"
+    [ "$("$program" <"$folder/$reads" | tail -1)" = "done $((sales + 1))" ] || { echo "the script of $sales sales does not run"; exit 1; }
+done
 for _ in $(seq "$runs"); do
     for reads in 0 1 64; do "$program" 1 <"$folder/$reads" >>"$folder/times$reads"; done
 done
