@@ -1,4 +1,4 @@
-ghost use Rattle.std.specs.Prelude.{◌≡◌, ◌<◌, ◌++◌, ◌∷◌, [], length, Some, IsSome, IfOk, OnOk, OnErr};
+ghost use Rattle.std.specs.Prelude.{◌≡◌, ◌<◌, ◌++◌, ◌∷◌, [], length, true, false, Some, IsSome, IfOk, OnOk, OnErr};
 ghost use Rattle.wave_base.specs.declared.value.Kind.TheVariants as k;
 ghost use Rattle.wave_base.specs.declared.value.Value.TheVariants as v;
 ghost use Rattle.downgrade_views.specs.Levels.{field_at, HasField, kept_level};
@@ -95,8 +95,6 @@ impl Views {
 
 #[cfg(test)]
 mod tests {
-    ghost use Rattle.std.specs.Prelude.{true, false};
-
     use super::*;
     use std::test::Fail;
     use wave_base::{Children, Txt};

@@ -1,5 +1,5 @@
 -- The statuses of what may be due: none is one of those that the call itself tells.
-use Rattle.std.proofs.Common.{◌≡◌, ◌⊎◌, inl, inr, ◌∙◌, ap, refl, ℕ, Bool, true, false, List, Option, None, Some, Result, Ok, Err}
+use Rattle.std.proofs.Common.{◌≡◌, ◌⊎◌, inl, inr, ◌∙◌, ap, refl, ℕ, Bool, true, false, cond, List, Option, None, Some, Result, Ok, Err}
 use Rattle.std.specs.Prelude.{◌==◌, ◌||◌}
 use Rattle.wave_base.specs.declared.script.Script.{Script}
 use Rattle.mace_ast.specs.Decls.{ServiceTree}
@@ -47,7 +47,7 @@ of_text P (Ok tree) due f h = typed P tree (first_wrong (service_demands tree)) 
 service : (P : ServiceTree → Answer → Type 0) (text : List ℕ) (due : Answer) → ((tree : ServiceTree) → P tree due → HasOwn due) → IsDueService P text due → HasOwn due
 service P text due f h = of_text P h.read due f h.due_is
 
-by_traps : (b : Bool) → own_status (elim b as (λ _. ℕ) [ true ↦ 1 | false ↦ 0 ]) ≡ true
+by_traps : (b : Bool) → own_status (cond b 1 0) ≡ true
 by_traps true = refl
 by_traps false = refl
 

@@ -1,4 +1,4 @@
-ghost use Rattle.std.specs.Prelude.{◌≡◌, ◌≢◌, ◌≤◌, length, IfOk};
+ghost use Rattle.std.specs.Prelude.{◌≡◌, ◌≢◌, ◌≤◌, ◌-◌, ◌^◌, length, IfOk};
 ghost use Rattle.std.specs.List.{list_all};
 ghost use Rattle.wave_base.specs.declared.limits.TheConstants.{SCRIPT_BYTES};
 ghost use Rattle.wave_base.specs.Scripts.{IsScript};
@@ -84,6 +84,7 @@ fn report_text(
     shape: &Shape,
     done: &Finished,
 ) -> Result<Seq<u8>, OutOfMemory>
+    requires { length done.now.results ≤ 2 ^ 32 - 1 }
     ensures { IfOk result (λ text. text ≡ report_text shape.now report done.now) }
 {
     match report {

@@ -2,14 +2,13 @@
 use Rattle.std.proofs.Common.{◌≡◌, ◌∙◌, ℕ, zero, suc, ◌+◌, ◌<◌, ◌≤◌, [], ◌∷◌, ◌++◌, List, map, Option, option_map, Bool, true, false, not, cond, length, take, get_or, None, Some, refl, sym, ap, subst, arith, true≢false, add-one, length-append}
 use Rattle.std.specs.Prelude.{nat_eq}
 use Rattle.std.specs.BTreeMap.{is_at, insert_entry}
-use Rattle.std.specs.Cmp.{IsTotalOrder, eq_by_cmp_equiv, unsigned_ties}
+use Rattle.std.specs.Cmp.{unsigned_ties}
 use Rattle.std.specs.List.{filter}
-use Rattle.std.specs.List.Sorted.{IsStrictlySortedBy}
-use Rattle.std.specs.Map.{keys_of, lookup, remove_entry}
+use Rattle.std.specs.Map.{lookup}
 use Rattle.std.specs.Ordering.{nat_cmp, is_eq, match_ordering}
 use Rattle.std.specs.declared.cmp.Ordering.{Ordering}
 use Rattle.std.specs.declared.cmp.Ordering.TheVariants.{Less, Equal, Greater}
-use Rattle.std.proofs.lemmas.Cmp.{nat_cmp_total, nat_eq_equiv}
+use Rattle.std.proofs.lemmas.Cmp.{nat_eq_equiv}
 use Rattle.std.proofs.lemmas.Map.Lookups.{exact_unsigned}
 use Rattle.wave_base.specs.declared.path.Path.{Path}
 use Rattle.wave_base.specs.declared.value.Value.{Value}
@@ -24,7 +23,7 @@ use Rattle.wave_states.specs.Steps.{Desk, send, release, give_up, kept_of, left_
 use Rattle.event_cells.specs.declared.held.Hold.{Hold}
 use Rattle.event_cells.specs.declared.outbox.Envelope.{Envelope}
 use Rattle.event_cells.specs.Keeps.{mail_in, hold_in}
-use Rattle.event_cells.specs.Cells.{IsEnvelope, Carries, hold_of, held_of, mail_of, letter_of}
+use Rattle.event_cells.specs.Cells.{Carries, hold_of, held_of, mail_of, letter_of}
 use Rattle.event_cells.specs.inner.Releases.{release_of, releases, sent_on}
 
 -- ---- mails

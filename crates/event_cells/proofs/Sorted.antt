@@ -1,8 +1,8 @@
 -- What a search among pairs in the order of their keys found, and that the edits there keep them in order.
-use Rattle.std.proofs.Common.{◌≡◌, ◌∙◌, ℕ, zero, suc, ◌<◌, ◌≤◌, [], ◌∷◌, ◌++◌, List, Option, Bool, true, false, cond, length, get_or, None, Some, Result, Ok, Err, refl, sym, ap, subst, arith, slice_set}
+use Rattle.std.proofs.Common.{◌≡◌, ◌∙◌, ℕ, zero, suc, ◌<◌, ◌≤◌, [], ◌∷◌, ◌++◌, List, Bool, true, false, cond, length, get_or, None, Some, Result, Ok, Err, refl, sym, ap, subst, arith}
 use Rattle.std.specs.BTreeMap.{is_at, insert_entry}
 use Rattle.std.specs.Cmp.{IsTotalOrder}
-use Rattle.std.specs.List.{AllByRecursion, filter, insert, remove, slice_get}
+use Rattle.std.specs.List.{AllByRecursion, filter, remove}
 use Rattle.std.specs.List.Sorted.{IsStrictlySortedBy, IsBinarySearchResult, IsSearchInRange}
 use Rattle.std.specs.Map.{keys_of, lookup, remove_entry}
 use Rattle.std.specs.Ordering.{is_eq, match_ordering, ordering_index, ordering_reverse}

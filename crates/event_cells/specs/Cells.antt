@@ -1,5 +1,5 @@
 -- How a cell stands for what the machine's theory has of a ticket: its event with its mails under way.
-use Rattle.std.specs.Prelude.{◌≡◌, ℕ, suc, Bool, true, false, List, [], map, Option, Some, None, option_map, nat_eq}
+use Rattle.std.specs.Prelude.{◌≡◌, ℕ, Bool, true, false, List, [], map, Option, Some, None, option_map, nat_eq}
 use Rattle.wave_base.specs.declared.path.Path.{Path}
 use Rattle.wave_base.specs.declared.value.Value.{Value}
 use Rattle.context_queue.specs.Entries.{entry_of}
@@ -14,7 +14,7 @@ use Rattle.event_cells.specs.declared.status.Status.TheVariants.{Travelling, Wai
 use Rattle.event_cells.specs.Keeps.{mail_in}
 use Rattle.wave_states.specs.States as theory
 use Rattle.wave_states.specs.States.{set}
-use Rattle.wave_states.specs.Steps.{Desk, send}
+use Rattle.wave_states.specs.Steps.{Desk}
 
 -- the hold and the status that the theory has
 abbrev pub hold_of : Hold → theory.Hold

@@ -1,5 +1,5 @@
 -- What an event holds, and its mails under way, as plain values.
-use Rattle.std.specs.Prelude.{ℕ, List, Option, refl}
+use Rattle.std.specs.Prelude.{ℕ, Bool, true, false, List, [], ◌∷◌, Option, refl}
 use Rattle.std.specs.Coded.{Coded, code_by, coded×, coded_ℕ, coded_list}
 use Rattle.std.specs.BTreeMap.{is_at}
 use Rattle.std.specs.Map.{lookup, remove_entry}
@@ -43,3 +43,8 @@ mail_in mails k = lookup (is_at (nat_cmp k)) mails
 
 abbrev pub without_in : List (ℕ × Envelope) → ℕ → List (ℕ × Envelope)
 without_in mails k = remove_entry (is_at (nat_cmp k)) mails
+
+-- no mail is under way
+abbrev pub is_empty : List (ℕ × Envelope) → Bool
+is_empty [] = true
+is_empty (m ∷ ms) = false

@@ -1,8 +1,7 @@
-ghost use Rattle.std.specs.Prelude.{◌≡◌, ◌≤◌, ◌+◌, ℕ, ◌&&◌, [], length, List, map, Some, None, IfSome, IsSome, IfOk, OnOk, false, option_copied, option_map};
+ghost use Rattle.std.specs.Prelude.{◌≡◌, ◌≤◌, ◌+◌, ◌&&◌, [], length, List, map, Some, None, IsSome, IfOk, OnOk, false, option_copied, option_map};
 ghost use Rattle.std.specs.BTreeMap.{insert_entry};
-ghost use Rattle.event_cells.specs.Keeps.{mail_in};
-ghost use Rattle.event_cells.specs.inner.Releases.{keeps, releases, sent_on, is_empty};
-ghost use Rattle.migration_core.specs.Letters.{Says};
+ghost use Rattle.event_cells.specs.Keeps.{mail_in, is_empty};
+ghost use Rattle.event_cells.specs.inner.Releases.{keeps, releases, sent_on};
 ghost use Rattle.wave_base.specs.Paths.{is_above, path_cmp};
 ghost use Rattle.wave_base.specs.declared.value.Value.{Value};
 ghost use Rattle.wave_states.specs.States as theory;

@@ -6,6 +6,7 @@ ghost use Rattle.mace_grammar.specs.Spelled.{Spelled};
 ghost use Rattle.mace_printer.specs.Canon as words;
 ghost use Rattle.mace_printer.specs.Layout.{layout};
 ghost use Rattle.mace_printer.specs.Written.{IsParsed, IsCutInto};
+ghost use Rattle.wave_base.specs.declared.limits.TheConstants.{PLACED_BYTES};
 
 use crate::field::put_vars;
 use crate::member::{put_events, put_methods};
@@ -84,8 +85,6 @@ pub fn print(alloc: Global, service: &Service) -> Result<Seq<u8>, OutOfMemory>
 
 #[cfg(test)]
 mod tests {
-    ghost use Rattle.wave_base.specs.declared.limits.TheConstants.{PLACED_BYTES};
-
     use super::*;
     use mace_lexer::lex;
     use mace_parser::parse;

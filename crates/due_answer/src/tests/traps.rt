@@ -1,7 +1,8 @@
 //! Events that trap: a row for each way to a trap, with its place; and what an event that traps leaves behind.
 
 use super::unmarked;
-use crate::{Command, Places, judge};
+use crate::judge;
+use command_words::{Command, Places};
 use std::alloc::{AllocError, Global};
 use std::process::Abort;
 use std::test::Fail;

@@ -1,5 +1,5 @@
 -- What an outbox keeps: mails in ascending order, none with a number past those that were sent.
-use Rattle.std.specs.Prelude.{ℕ, ◌-◌, ◌≤◌, ◌^◌, min, length, vec_capacity}
+use Rattle.std.specs.Prelude.{◌-◌, ◌≤◌, ◌^◌, min, length, vec_capacity}
 use Rattle.std.specs.List.{AllByRecursion}
 use Rattle.std.specs.List.Sorted.{IsStrictlySortedBy}
 use Rattle.std.specs.Map.{keys_of}

@@ -1,5 +1,5 @@
 -- Places in a list of pairs in the order of their keys, and what an edit at a place makes of the list.
-use Rattle.std.specs.Prelude.{◌≡◌, ◌≤◌, ◌<◌, ℕ, List, Option, None, Some, Result, length, slice_get, slice_set, MatchResult}
+use Rattle.std.specs.Prelude.{◌≡◌, ◌≤◌, ◌<◌, ℕ, List, None, Some, Result, length, slice_get, slice_set, MatchResult}
 use Rattle.std.specs.BTreeMap.{is_at, insert_entry}
 use Rattle.std.specs.List.{insert, remove}
 use Rattle.std.specs.Map.{lookup, remove_entry}

@@ -1,5 +1,5 @@
 -- The Releases that an event sends.
-use Rattle.std.specs.Prelude.{ℕ, suc, Bool, true, false, not, List, [], ◌∷◌, map, Option, Some, None}
+use Rattle.std.specs.Prelude.{ℕ, suc, Bool, false, not, List, [], ◌∷◌, map, Option, Some, None}
 use Rattle.std.specs.BTreeMap.{insert_entry}
 use Rattle.std.specs.List.{filter}
 use Rattle.std.specs.Ordering.{nat_cmp}
@@ -25,7 +25,3 @@ releases keep holds = map release_of (filter (λ x. not (keep x.0)) holds)
 abbrev pub sent_on : List (ℕ × Envelope) → ℕ → List Envelope → List (ℕ × Envelope)
 sent_on mails n [] = mails
 sent_on mails n (e ∷ es) = sent_on (insert_entry nat_cmp mails (suc n) e) (suc n) es
-
-abbrev pub is_empty : List (ℕ × Envelope) → Bool
-is_empty [] = true
-is_empty (m ∷ ms) = false

@@ -1,4 +1,4 @@
-use Rattle.std.proofs.Common.{◌≡◌, ◌≤◌, ◌+◌, length, true, false, ◌∙◌, sym, subst, arith}
+use Rattle.std.proofs.Common.{◌≤◌, ◌+◌, length, ◌∙◌, sym, subst, arith}
 use Rattle.std.specs.Prelude.{option_copied}
 use Rattle.event_cells.specs.inner.Releases.{keeps}
 use Rattle.event_cells.proofs.Desks.{Sends, sends_kept, sends_more}

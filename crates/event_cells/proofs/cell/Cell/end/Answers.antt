@@ -1,4 +1,4 @@
-use Rattle.std.proofs.Common.{◌≡◌, ◌∙◌, ◌+◌, length, map, List, [], ◌∷◌, Bool, false, ap, refl, sym, subst, true≢false}
+use Rattle.std.proofs.Common.{◌≡◌, ◌∙◌, ◌+◌, length, map, List, [], ◌∷◌, false, ap, refl, sym, true≢false}
 use Rattle.std.specs.List.{filter}
 use Rattle.wave_base.specs.declared.path.Path.{Path}
 use Rattle.wave_states.specs.States.{Ended}

@@ -1,4 +1,4 @@
-use Rattle.std.proofs.Common.{List, ◌≡◌, ◌≤◌, ◌∙◌, ◌+◌, length, map, ap, sym, subst}
+use Rattle.std.proofs.Common.{List, ◌∙◌, ◌+◌, length, map, ap, sym}
 use Rattle.wave_base.specs.declared.path.Path.{Path}
 use Rattle.wave_base.specs.Paths.{is_above}
 use Rattle.wave_states.specs.Steps.{give_up}

@@ -1,4 +1,4 @@
-use Rattle.std.proofs.Common.{◌≡◌, List, Bool, true, false, sym, subst, if◌then◌else◌}
+use Rattle.std.proofs.Common.{List, Bool, true, false, sym, subst, if◌then◌else◌}
 use Rattle.std.specs.List.{insert}
 use Rattle.std.specs.List.Sorted.{IsStrictlySortedBy}
 use Rattle.std.specs.Map.{keys_of}

@@ -1,4 +1,4 @@
-use Rattle.std.proofs.Common.{◌≡◌, sym, ap, subst}
+use Rattle.std.proofs.Common.{sym, subst}
 use Rattle.std.specs.Ordering.{nat_cmp}
 use Rattle.event_cells.specs.inner.Places.{IsThere, IsPlace}
 use Rattle.event_cells.proofs.Boxes.{replaced}

@@ -1,11 +1,10 @@
-use Rattle.std.proofs.Common.{◌≡◌, ◌∙◌, ℕ, Some, None, refl, sym, ap, subst}
+use Rattle.std.proofs.Common.{◌∙◌, None, refl, sym, ap, subst}
 use Rattle.std.specs.Prelude.{nat_eq, if◌then◌else◌}
-use Rattle.std.specs.List.{slice_get}
 use Rattle.std.specs.Ordering.{nat_cmp}
 use Rattle.std.proofs.lemmas.Option.{slice_get_read}
 use Rattle.event_cells.specs.Keeps.{mail_in}
 use Rattle.event_cells.specs.inner.Places.{IsThere, IsGap}
-use Rattle.event_cells.proofs.Boxes.{InOrder, removed, gone}
+use Rattle.event_cells.proofs.Boxes.{removed, gone}
 use Rattle.event_cells.proofs.outbox.Outbox.take.Goals as goal
 
 there : (c : goal.After-remove-envelope) → IsThere nat_cmp c.self.inside.mails.items c.args.number c.in-Ok.i
