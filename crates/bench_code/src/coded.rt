@@ -1,0 +1,87 @@
+ghost use Rattle.std.specs.Prelude.{IfSome};
+ghost use Rattle.wave_base.specs.Scripts.{IsScript};
+ghost use Rattle.wave_base.specs.Shapes.{IsShape};
+ghost use Rattle.resolved_service.specs.Fits.{FitsService};
+ghost use Rattle.code_scheme.specs.Typed.{IsTyped};
+ghost use Rattle.code_runner.specs.Coded.{IsCode};
+
+use context_types::{Typed, check};
+use input_parts::parts_of;
+use script_reader::read_script;
+use service_compiler::compile_verified;
+use service_reader::parse_text;
+use service_verify::Verified;
+use std::alloc::Global;
+use typed_code::typed_services_have_code;
+use wave_base::{SCRIPT_BYTES, Script};
+
+/// A script, with the code of its service.
+#[derive(Drop)]
+pub struct Coded {
+    pub typed: Typed,
+    pub program: Verified,
+    pub script: Script,
+}
+
+// A text as a typed service, if it is one.
+fn typed_service(alloc: Global, text: &[u8]) -> Option<Typed>
+    ensures shape { IfSome result (λ t. IsShape t.shape) }
+    ensures typed { IfSome result (λ t. IsTyped t.shape t.resolved) }
+    ensures fits { IfSome result (λ t. FitsService t.shape t.resolved) }
+{
+    typed_services_have_code();
+    let Ok(service) = parse_text(alloc, text) else {
+        return None;
+    };
+    let Ok(typed) = check(alloc, service) else {
+        return None;
+    };
+    Some(typed)
+}
+
+// The code of a typed service.
+fn code_of(alloc: Global, typed: &Typed) -> Option<Verified>
+    requires shape { IsShape typed.now.shape }
+    requires typed { IsTyped typed.now.shape typed.now.resolved }
+    requires fits { FitsService typed.now.shape typed.now.resolved }
+    ensures shape { IfSome result (λ p. IsShape p.shape) }
+    ensures code { IfSome result (IsCode typed.now.resolved) }
+{
+    let Ok(shape) = typed.shape.copy(alloc) else {
+        return None;
+    };
+    let Ok(program) = compile_verified(alloc, shape, &typed.resolved) else {
+        return None;
+    };
+    Some(program)
+}
+
+// The script that a text stands for, if it is one of the program's service.
+fn script_of(alloc: Global, program: &Verified, text: &[u8]) -> Option<Script>
+    requires { IsShape program.now.shape }
+    ensures { IfSome result (IsScript program.now.shape) }
+{
+    if text.len() > SCRIPT_BYTES {
+        return None;
+    }
+    match read_script(alloc, &program.program().shape, text) {
+        Ok(script) => Some(script),
+        Err(_) => None,
+    }
+}
+
+/// The script of an input with the code of its service, if the input has both.
+pub fn coded_input(alloc: Global, input: &[u8]) -> Option<Coded>
+    ensures code { IfSome result (λ c. IsCode c.typed.resolved c.program) }
+    ensures script { IfSome result (λ c. IsScript c.program.shape c.script) }
+{
+    let (text, lines) = parts_of(input);
+    let typed = typed_service(alloc, text)?;
+    let program = code_of(alloc, &typed)?;
+    let script = script_of(alloc, &program, lines?)?;
+    Some(Coded {
+        typed,
+        program,
+        script,
+    })
+}
