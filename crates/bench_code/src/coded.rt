@@ -72,6 +72,7 @@ fn script_of(alloc: Global, program: &Verified, text: &[u8]) -> Option<Script>
 
 /// The script of an input with the code of its service, if the input has both.
 pub fn coded_input(alloc: Global, input: &[u8]) -> Option<Coded>
+    ensures shape { IfSome result (λ c. IsShape c.program.shape) }
     ensures code { IfSome result (λ c. IsCode c.typed.resolved c.program) }
     ensures script { IfSome result (λ c. IsScript c.program.shape c.script) }
 {

@@ -7,6 +7,8 @@ ghost use Rattle.wave_base.specs.Scripts.{IsScript};
 ghost use Rattle.code_runner.specs.Coded.{IsCode};
 
 mod coded;
+#[cfg(test)]
+mod tests;
 
 use code_meaning::run_script;
 use coded::{Coded, coded_input};

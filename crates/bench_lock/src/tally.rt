@@ -22,6 +22,7 @@ impl Kept for Tally {
 }
 
 impl Tally {
+    /// A count of no turns.
     pub fn new() -> Tally {
         Tally { turns: 0 }
     }

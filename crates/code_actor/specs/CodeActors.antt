@@ -61,7 +61,7 @@ code_actors program = record {
   unended = no_result;
 }
 
--- a call of the shape, of a generation that an event may have
+-- a call of the program's shape, of a generation that an event may have
 abbrev pub IsJob : Program → Call → Type 0
 IsJob program call = IsCall program.shape call × (call.generation ≤ GENERATION)
 

@@ -1,1 +1,1 @@
-pub mod Owing
+pub mod inner

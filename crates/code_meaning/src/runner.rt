@@ -15,7 +15,7 @@ pub struct CodeRunner<'p> {
 
 impl<'p> Runner for CodeRunner<'p> {
     ghost use Rattle.code_runner.specs.Coded.{IsCode, IsTree, IsJob};
-    ghost use Rattle.code_meaning.specs.Owing.{code_owes};
+    ghost use Rattle.code_meaning.specs.inner.Owing.{code_owes};
     ghost use Rattle.wave_meaning.specs.Meaning.{call_ran};
 
     ghost shape = { λ r. r.program.now.shape };
@@ -26,7 +26,7 @@ impl<'p> Runner for CodeRunner<'p> {
 
     ghost fits_tree = { λ r. IsTree r.program.now.shape };
 
-    ghost fits_call = { λ r. IsJob r.program.now.shape };
+    ghost fits_call = { λ r. IsJob r.program.now };
 
     fn run(
         &self,

@@ -27,7 +27,7 @@ module _ (service : Resolved) (program : Program) (code : IsCode service program
   pub code_verified : IsVerified program
   code_verified = subst IsVerified (sym code.is) (scheme_verified program.shape service code.typed)
 
-  module _ (tree : Tree (List Value)) (call : Call) (is : IsTree program.shape tree) (job : IsJob program.shape call) where
+  module _ (tree : Tree (List Value)) (call : Call) (is : IsTree program.shape tree) (job : IsJob program call) where
     pub code_means : Means (code_tour program call tree) (call_meaning service tree call)
     code_means = subst (λ p. Means (code_tour p call tree) (call_meaning service tree call)) (sym code.is)
         (service_means program.shape service code.typed (scheme_fit program.shape service code.typed) (scheme_verified program.shape service code.typed) call tree job.0 job.1 is.0 is.1)
@@ -41,5 +41,5 @@ module _ (service : Resolved) (program : Program) (code : IsCode service program
     pub kept_tree : IsTree program.shape (call_meaning service tree call).ran.tree
     kept_tree = subst (IsTree program.shape) code_means.tree (e.fits, e.root)
 
-    pub created_jobs : All (IsJob program.shape) (call_meaning service tree call).ran.result.created
-    created_jobs = subst (λ (r : EventResult). All (IsJob program.shape) r.created) (meant_result e.result e.is) e.created
+    pub created_jobs : All (IsJob program) (call_meaning service tree call).ran.result.created
+    created_jobs = subst (λ (r : EventResult). All (IsJob program) r.created) (meant_result e.result e.is) e.created

@@ -28,7 +28,7 @@ use Rattle.code_actor.specs.Locks.{Enters, Locks, holds, has_entered}
 use Rattle.code_runner.specs.declared.walk.Walk.{Walk}
 use Rattle.code_actor.proofs.Above.{parent_child}
 use Rattle.code_runner.proofs.Walking.{at_there}
-use Rattle.code_runner.specs.Walks.{trip_of, Walks, paths_into, tree_into}
+use Rattle.code_runner.specs.inner.Walks.{trip_of, Walks, paths_into, tree_into}
 
 -- a call that begins
 pub started : (program : Program) (call call' : Call) (tree tree' : Tree Fields) (w : Walk) → call' ≡ call → w.event.event ≡ first_event program call' → w.entered.items ≡ [] ∷ [] → w.segments ≡ 0 → tree' ≡ enter tree [] → trip_of w tree' None ≡ first_trip program call tree

@@ -35,7 +35,7 @@ use Rattle.code_actor.specs.Locks.{Enters, Locks, holds, has_entered}
 use Rattle.code_actor.proofs.Above.{or_is, or_left, or_right, parent_child}
 use Rattle.code_actor.proofs.Locking.{tour_locks}
 use Rattle.code_actor.proofs.Segmented.{Runs, segment_runs, initial_has}
-use Rattle.code_runner.specs.Walks.{event_of, Walks}
+use Rattle.code_runner.specs.inner.Walks.{event_of, Walks}
 
 pub some_none : {A : Type 0} (r : EventResult) → Some r ≡ None → A
 some_none r e = cc

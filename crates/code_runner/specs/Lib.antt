@@ -1,2 +1,2 @@
+pub mod inner
 pub mod Coded
-pub mod Walks

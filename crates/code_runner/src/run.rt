@@ -40,7 +40,7 @@ pub fn run_call(
     ensures tree { IfOk result (λ ran. tree_of program.now.shape contexts.new ≡ (code_tour program.now call.now (tree_of program.now.shape contexts.old)).tree) }
     ensures entered { IfOk result (λ ran. ran.entered ≡ (code_tour program.now call.now (tree_of program.now.shape contexts.old)).entered) }
     ensures fits { OnOk result (IsTree program.now.shape (tree_of program.now.shape contexts.new)) }
-    ensures created { IfOk result (λ ran. All (IsJob program.now.shape) ran.result.created) }
+    ensures created { IfOk result (λ ran. All (IsJob program.now) ran.result.created) }
     ensures segments { IfOk result (λ ran. ran.segments ≡ (code_tour program.now call.now (tree_of program.now.shape contexts.old)).segments) }
 {
     let mut walk = Walk::start(alloc, program, contexts, call)?;

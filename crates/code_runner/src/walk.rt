@@ -9,7 +9,7 @@ ghost use Rattle.wave_base.specs.Tree.{there};
 ghost use Rattle.service_verify.specs.Copies.{first_trip, next_trip};
 ghost use Rattle.service_verify.specs.Fit.{IsFit};
 ghost use Rattle.service_verify.specs.Points.{IsVerified};
-ghost use Rattle.code_runner.specs.Walks.{Walks, trip_of, paths_into, tree_into};
+ghost use Rattle.code_runner.specs.inner.Walks.{Walks, trip_of, paths_into, tree_into};
 
 use crate::records::{put_record, take_record};
 use context_tree::Tree;

@@ -46,16 +46,6 @@ left_is None (Some x) s h = absurd h
 left_is (Some kind) None s h = absurd h
 left_is (Some kind) (Some x) s h = refl
 
-blank_same : (kind : Kind) → boxes.blank_of kind ≡ world.blank_of kind
-blank_same k.Int = refl
-blank_same k.Bool = refl
-blank_same k.Text = refl
-blank_same k.Map = refl
-
-pub blanks_same : (kinds : List Kind) → map boxes.blank_of kinds ≡ map world.blank_of kinds
-blanks_same [] = refl
-blanks_same (kind ∷ kinds) = let first = blank_same kind in let rest = blanks_same kinds in λ i. first i ∷ rest i
-
 abbrev pub Counted : ℕ → List Kind → List Value → State → Type 0
 Counted t kinds vs st = (st.world.ticks ≤ t) × (length vs ≡ length kinds)
 
@@ -162,7 +152,7 @@ module _ (program : Program) (fit : IsFit program) (verified : IsVerified progra
 
   module _ (made : AreMade) (n : ℕ) (calls : CallsFollow n) where
     begun : (h : Here) (method : Method) (vs : List Value) (w : World) (c : Tour) → At program fit verified h 0 [] (record { locals = first_locals (method_function methods program.texts method) vs; world = w }) c → At program fit verified h 0 [] (record { locals = with_blanks vs method.locals; world = w }) c
-    begun h method vs w c a = subst (λ ls. At program fit verified h 0 [] (record { locals = vs ++ ls; world = w }) c) (blanks_same (drop (length vs) method.locals)) a
+    begun h method vs w c a = a
 
     own_runs : (h : Here) (pc t m : ℕ) (method : Method) (vs s : List Value) (st : State) (c : Tour) → slice_get methods m ≡ Some method → length vs ≡ length method.params → At program fit verified h pc (pushed vs s) st c → (at : Span) → IsLine program fit verified h.fn pc (i.Call m) at → t ≤ n → suc st.world.ticks ≤ t →
         Follows program fit verified c (Back false h (suc pc) s) (Returned t method.result) (called methods n m h.at vs st)

@@ -34,7 +34,7 @@ use Rattle.code_scheme.proofs.Follow.{Here, tour_of, At, IsCode, place_is}
 use Rattle.code_scheme.proofs.Fuse.{segments_fuse}
 use Rattle.code_scheme.proofs.Instructions.{Low, Onward}
 use Rattle.code_scheme.proofs.Places.{HasAt, has_front, has_back, has_all}
-use Rattle.code_scheme.proofs.Values.{AreMade, blanks_same}
+use Rattle.code_scheme.proofs.Values.{AreMade}
 use Rattle.code_scheme.proofs.Effects.{effects_run}
 use Rattle.code_scheme.proofs.Events.{EndsAs, Finishes, calls_follow, finish, phases_finish}
 
@@ -59,8 +59,7 @@ module _ (program : Program) (fit : IsFit program) (verified : IsVerified progra
   first_is : first_tour program call tree ≡ tour_of h 0 [] first ([] ∷ [])
   unfolding first_box
   first_is =
-      (λ i. record { box = record (first_box program call) { frames = frames_are i }; tree = enter_there tree [] ordered root i; entered = [] ∷ []; segments = 0; result = None })
-      ∙ ap (λ ls. tour_of h 0 [] (record { locals = call.args ++ ls; world = first_world call.generation tree }) ([] ∷ [])) (blanks_same (drop (length call.args) event.locals))
+      λ i. record { box = record (first_box program call) { frames = frames_are i }; tree = enter_there tree [] ordered root i; entered = [] ∷ []; segments = 0; result = None }
 
   alive : Alive program fit verified (first_tour program call tree)
   alive = let s = first_stands program fit verified call tree is_call young has in record { path = []; calls = 0; box = s.box; tree = s.tree }

@@ -5,7 +5,7 @@ use Rattle.std.specs.Result.{OkIff, result_ok}
 use Rattle.std.specs.Str.Parse.{ParsesUnsigned, digits_value}
 use Rattle.std.proofs.lemmas.Bool.Decides.{nat_tests}
 use Rattle.std.proofs.lemmas.Str.Parse.{parse_digits}
-use Rattle.wave_text.specs.Words.{is_digits}
+use Rattle.wave_base.specs.Names.{is_digits}
 use Rattle.wave_text.proofs.NumberLemmas.{AreDigits, le_test, lt_test, own}
 use Rattle.command_words.specs.Values.{number_of}
 

@@ -2,8 +2,7 @@
 use Rattle.std.specs.Prelude.{ℕ, ◌^◌, ◌&&◌, Bool, nat_le, nat_lt, if◌then◌else◌, List, length, codes, Option, Some, None, option_map}
 use Rattle.std.specs.Str.Parse.{digits_value}
 use Rattle.wave_base.specs.declared.limits.TheConstants.{WORKERS}
-use Rattle.wave_base.specs.Names.{same_bytes}
-use Rattle.wave_text.specs.Words.{is_digits}
+use Rattle.wave_base.specs.Names.{is_digits, same_bytes}
 use Rattle.command_words.specs.declared.command.Schedule.{Schedule}
 use Rattle.command_words.specs.declared.command.Schedule.TheVariants.{Seed, Oldest, Newest, Movers, MailLast}
 

@@ -10,7 +10,7 @@ use Rattle.wave_base.specs.declared.value.Value.TheVariants.{Int, Bool}
 use Rattle.wave_base.specs.Paths.{path_cmp}
 use Rattle.wave_base.specs.Tree.{enter, shots}
 use Rattle.wave_base.specs.Trees.{first_tree}
-use Rattle.context_tree.specs.Contexts.{Contexts, is_there, fields_in, tree_of, with_field}
+use Rattle.context_tree.specs.Contexts.{Contexts, is_there, fields_in, tree_of, with_field, joins}
 
 abbrev step : ℕ → ℤ → Step
 step c key = record { class = record { 0 = c }; key = key }
@@ -77,6 +77,7 @@ kept = record {
       record { path = []; fields = Int (pos 3) ∷ [] }
       ∷ record { path = hall (pos 2); fields = Int (pos 9) ∷ Bool false ∷ [] }
       ∷ [];
+  joined = [] ∷ hall (pos 2) ∷ [];
 }
 
 hall_there : is_there kept (hall (pos 2)) ≡ true
@@ -91,6 +92,10 @@ hall_fields = refl
 -- one that joins has the initial fields, and one that is there stays as it is
 joined : shots (enter (enter (tree_of market kept) (hall (negsuc 1))) (hall (pos 2))) ≡ ([], Int (pos 3) ∷ []) ∷ (hall (negsuc 1), Int (pos 7) ∷ Bool true ∷ []) ∷ (hall (pos 2), Int (pos 9) ∷ Bool false ∷ []) ∷ []
 joined = refl
+
+-- last of those that joined, whatever its place in path order
+joined_last : joins (joins kept.joined (hall (negsuc 1))) (hall (pos 2)) ≡ [] ∷ hall (pos 2) ∷ hall (negsuc 1) ∷ []
+joined_last = refl
 
 -- a field that is set, and no other
 changed : shots (with_field (tree_of market kept) (hall (pos 2)) 0 (Int (pos 1))) ≡ ([], Int (pos 3) ∷ []) ∷ (hall (pos 2), Int (pos 1) ∷ Bool false ∷ []) ∷ []

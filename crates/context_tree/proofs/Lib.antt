@@ -3,3 +3,5 @@ pub mod Examples
 pub mod FitLemmas
 pub mod KeptLemmas
 pub mod OrderLemmas
+pub mod Ordered
+pub mod SlotLemmas

@@ -1,24 +1,28 @@
 -- Contexts put into the map in path order stand in it in that order.
-use Rattle.std.proofs.Common.{◌≡◌, if◌then◌else◌, ℕ, ◌+◌, ◌<◌, suc, List, [], ◌∷◌, ◌++◌, length, map, take, drop, get_or, refl, sym, ap, subst, ◌∙◌}
-use Rattle.std.proofs.lemmas.List.{take_more, take-append-drop}
+use Rattle.std.proofs.Common.{◌≡◌, if◌then◌else◌, ℕ, ◌+◌, ◌<◌, ◌≤◌, zero, suc, Bool, true, false, ◌||◌, List, [], ◌∷◌, ◌++◌, length, map, take, drop, get_or, refl, sym, ap, subst, ◌∙◌, arith}
+use Rattle.std.proofs.lemmas.List.{map-append, take_more, take_all, take-append-drop}
 use Rattle.std.proofs.Math.Seq.{drop-cons}
-use Rattle.std.specs.BTreeMap.{insert_entry}
-use Rattle.std.specs.List.{AllByRecursion}
+use Rattle.indexmap.specs.IndexMap.{insert_entry}
+use Rattle.std.specs.List.{AllByRecursion, list_any}
 use Rattle.std.specs.List.Sorted.{IsStrictlySortedBy}
 use Rattle.std.specs.Map.{keys_of}
-use Rattle.std.specs.Ordering.{ordering_reverse, match_ordering, is_eq}
+use Rattle.std.specs.Ordering.{is_eq}
 use Rattle.std.specs.declared.cmp.Ordering.{Ordering}
 use Rattle.std.specs.declared.cmp.Ordering.TheVariants.{Less}
 use Rattle.wave_base.specs.declared.path.Path.{Path}
 use Rattle.wave_base.specs.declared.record.Record.{Record}
 use Rattle.wave_base.specs.declared.shape.Shape.{Shape}
 use Rattle.wave_base.specs.declared.shot.Shot.{Shot}
-use Rattle.wave_base.specs.Paths.{path_cmp}
-use Rattle.wave_base.specs.PathLaws.{path_cmp_total, path_eq_ties, path_eq_equiv}
+use Rattle.wave_base.specs.declared.value.Value.{Value}
+use Rattle.wave_base.specs.Paths.{path_eq, path_cmp}
+use Rattle.wave_base.specs.PathLaws.{path_eq_ties, path_eq_equiv}
+use Rattle.wave_base.specs.Shapes.{fields_of_class, initial_fields}
 use Rattle.wave_base.specs.Starts.{shown_fields}
 use Rattle.wave_base.specs.Tree.{shots}
-use Rattle.context_tree.specs.Contexts.{Contexts, shot_at, as_pair, tree_of, IsOrdered}
-use Rattle.context_tree.proofs.KeptLemmas.{Entries, kept, paths_are_keys}
+use Rattle.wave_base.specs.Trees.{first_tree}
+use Rattle.context_tree.specs.Contexts.{Contexts, shot_at, kept, as_pair, tree_of, IsOrdered}
+use Rattle.context_tree.proofs.KeptLemmas.{paths_are_keys, paths_rise}
+use Rattle.context_tree.proofs.Ordered.{Entries, ordered_already}
 
 at_end : {K : Type 0} (P : K → Type 0) (t : List K) (e : K) (u : List K) → AllByRecursion P (t ++ e ∷ u) → P e
 at_end P [] e u h = h.0
@@ -29,18 +33,15 @@ unfolding IsStrictlySortedBy
 all_before R [] e u h = tt
 all_before R (x ∷ t) e u h = (at_end (λ y. R x y ≡ Less) t e u h.0, all_before R t e u h.1)
 
-insert_last : (es : Entries) (p : Path) (r : Record) → AllByRecursion (λ q. path_cmp q p ≡ Less) (keys_of es) → insert_entry path_cmp es p r ≡ es ++ (p, r) ∷ []
+-- a path above all that are there is none of them
+insert_last : (es : Entries) (p : Path) (r : Record) → AllByRecursion (λ q. path_cmp q p ≡ Less) (keys_of es) → insert_entry path_eq es p r ≡ es ++ (p, r) ∷ []
 insert_last [] p r h = refl
 insert_last (e ∷ es) p r h =
-    let above = path_cmp_total.antisymm p e.0 ∙ ap ordering_reverse h.0 in
-    ap (λ o. match_ordering o ((p, r) ∷ e ∷ es) ((e.0, r) ∷ es) (e ∷ insert_entry path_cmp es p r)) above ∙ ap (λ es. e ∷ es) (insert_last es p r h.1)
-
-map-append : {A B : Type 0} (f : A → B) (xs ys : List A) → map f (xs ++ ys) ≡ map f xs ++ map f ys
-map-append f [] ys = refl
-map-append f (x ∷ xs) ys = ap (λ zs. f x ∷ zs) (map-append f xs ys)
+    let other : path_eq p e.0 ≡ false = path_eq_equiv.symm p e.0 ∙ path_eq_ties e.0 p ∙ ap is_eq h.0 in
+    ap (λ b. if b then (e.0, r) ∷ es else e ∷ insert_entry path_eq es p r) other ∙ ap (λ es. e ∷ es) (insert_last es p r h.1)
 
 -- one context more
-next_shot : (shots front : List Shot) (s : Shot) (back : List Shot) (es : Entries) (r : Record) → shots ≡ front ++ s ∷ back → IsOrdered shots → map shot_at es ≡ front → r.fields ≡ s.fields → map shot_at (insert_entry path_cmp es s.path r) ≡ front ++ s ∷ []
+next_shot : (shots front : List Shot) (s : Shot) (back : List Shot) (es : Entries) (r : Record) → shots ≡ front ++ s ∷ back → IsOrdered shots → map shot_at es ≡ front → r.fields ≡ s.fields → map shot_at (insert_entry path_eq es s.path r) ≡ front ++ s ∷ []
 next_shot shots front s back es r split ordered so_far same =
     let sorted = subst (IsStrictlySortedBy path_cmp) (map-append (λ s. s.path) front (s ∷ back)) (subst IsOrdered split ordered) in
     let before = all_before path_cmp (map (λ s. s.path) front) s.path (map (λ s. s.path) back) sorted in
@@ -49,14 +50,37 @@ next_shot shots front s back es r split ordered so_far same =
     ∙ map-append shot_at es ((s.path, r) ∷ [])
     ∙ (λ i. so_far i ++ record { path = s.path; fields = same i } ∷ [])
 
-pub shots_more : (shots : List Shot) (i : ℕ) (s : Shot) (es : Entries) (r : Record) → i < length shots → s ≡ get_or shots i s → IsOrdered shots → map shot_at es ≡ take i shots → r.fields ≡ s.fields → map shot_at (insert_entry path_cmp es s.path r) ≡ take (i + 1) shots
+pub shots_more : (shots : List Shot) (i : ℕ) (s : Shot) (es : Entries) (r : Record) → i < length shots → s ≡ get_or shots i s → IsOrdered shots → map shot_at es ≡ take i shots → r.fields ≡ s.fields → map shot_at (insert_entry path_eq es s.path r) ≡ take (i + 1) shots
 shots_more shots i s es r l is ordered so_far same =
     let split = sym (take-append-drop i shots) ∙ ap (λ back. take i shots ++ back) (drop-cons shots i s l ∙ ap (λ x. x ∷ drop (suc i) shots) (sym is)) in
     next_shot shots (take i shots) s (drop (suc i) shots) es r split ordered so_far same
     ∙ ap (λ x. take i shots ++ x ∷ []) is ∙ sym (take_more shots i s l)
 
-pub ordered_kept : (es : Entries) (t : Contexts) → kept es ≡ t → IsStrictlySortedBy path_cmp (keys_of es) → IsOrdered t.shots
-ordered_kept es t view h = subst (λ (t : Contexts). IsOrdered t.shots) view (subst (IsStrictlySortedBy path_cmp) (sym (paths_are_keys es)) h)
+-- entries that joined in path order are kept as they stand
+module _ (es : Entries) (shots : List Shot) (same : map shot_at es ≡ shots) (ordered : IsOrdered shots) where
+  keys_are : keys_of es ≡ map (λ s. s.path) shots
+  keys_are = sym (paths_are_keys es) ∙ ap (map (λ s. s.path)) same
+
+  pub kept_as_they_stand : kept es ≡ record { shots = shots; joined = map (λ s. s.path) shots }
+  kept_as_they_stand =
+      let already = ordered_already es (subst (IsStrictlySortedBy path_cmp) (sym keys_are) ordered) in
+      λ i. record { shots = (ap (map shot_at) already ∙ same) i; joined = keys_are i }
+
+-- the root alone
+one_path : IsOrdered (record { path = []; fields = [] } ∷ [])
+unfolding IsStrictlySortedBy
+one_path = (tt, tt)
+
+pub first_kept : (shape : Shape) (es : Entries) (r : Record) → es ≡ ([], r) ∷ [] → r.fields ≡ fields_of_class shape 0 → tree_of shape (kept es) ≡ first_tree shape
+first_kept shape es r e initial =
+    ap (λ es. tree_of shape (kept es)) e ∙ ap (tree_of shape) (kept_as_they_stand (([], r) ∷ []) (record { path = []; fields = r.fields } ∷ []) refl one_path) ∙ (λ i. record { paths = [] ∷ []; fields = λ q. shown q i })
+  where
+    shown : (q : Path) → (if path_eq [] q then r.fields else initial_fields shape q) ≡ initial_fields shape q
+    shown [] = initial
+    shown (s ∷ q) = refl
+
+pub ordered_kept : (es : Entries) (t : Contexts) → kept es ≡ t → IsOrdered t.shots
+ordered_kept es t view = subst (λ (t : Contexts). IsOrdered t.shots) view (paths_rise es)
 
 abbrev pub paired : {A B : Type 0} → (A → B) → A → A × B
 paired f x = (x, f x)
@@ -82,7 +106,7 @@ shown_in_order shape (s ∷ shots) h =
     let here : shown_fields shape (s ∷ shots) s.path ≡ s.fields = ap (λ b. if b then s.fields else shown_fields shape shots s.path) (path_eq_equiv.refl s.path) in
     λ i. (s.path, sym here i) ∷ (shown_in_order shape shots h.1 ∙ sym (map_along (shown_fields shape (s ∷ shots)) (shown_fields shape shots) (map (λ s. s.path) shots) (all_later shape s shots (map (λ s. s.path) shots) h.0))) i
 
-pairs_tell : (xs ys : List Shot) → map as_pair xs ≡ map as_pair ys → xs ≡ ys
+pub pairs_tell : (xs ys : List Shot) → map as_pair xs ≡ map as_pair ys → xs ≡ ys
 pairs_tell [] [] e = refl
 pairs_tell [] (y ∷ ys) e = cc
 pairs_tell (x ∷ xs) [] e = cc
@@ -92,10 +116,34 @@ pairs_tell (x ∷ xs) (y ∷ ys) e =
     let same : x ≡ y = λ i. record { path = (first i).0; fields = (first i).1 } in
     λ i. same i ∷ pairs_tell xs ys others i
 
-pub tree_tells : (shape : Shape) (t u : Contexts) → IsOrdered t.shots → IsOrdered u.shots → tree_of shape t ≡ tree_of shape u → t ≡ u
-tree_tells shape t u h k e =
-    let same = pairs_tell t.shots u.shots (shown_in_order shape t.shots h ∙ ap shots e ∙ sym (shown_in_order shape u.shots k)) in
-    λ i. record { shots = same i }
+module _ (shape : Shape) (t u : Contexts) (h : IsOrdered t.shots) (k : IsOrdered u.shots) (e : tree_of shape t ≡ tree_of shape u) where
+  pub tree_tells_shots : t.shots ≡ u.shots
+  tree_tells_shots = pairs_tell t.shots u.shots (shown_in_order shape t.shots h ∙ ap shots e ∙ sym (shown_in_order shape u.shots k))
+
+  pub tree_tells : t.joined ≡ u.joined → t ≡ u
+  tree_tells joined i = record { shots = tree_tells_shots i; joined = joined i }
+
+-- contexts found at their paths, one after the other
+module _ (f : Path → List Value) (ps qs : List Path) (same : ps ≡ qs) (i : ℕ) where
+  pub shown_more : (p : Path) (shots : List Shot) (s : Shot) → i < length ps → p ≡ get_or ps i p → map as_pair shots ≡ map (paired f) (take i qs) → s.path ≡ p → s.fields ≡ f p → map as_pair (shots ++ s ∷ []) ≡ map (paired f) (take (i + 1) qs)
+  shown_more p shots s l is so_far path fields =
+      let more = take_more ps i p l ∙ ap (λ x. take i ps ++ x ∷ []) (sym is) in
+      map-append as_pair shots (s ∷ [])
+      ∙ (λ j. (so_far ∙ ap (λ ps. map (paired f) (take i ps)) (sym same)) j ++ (path j, fields j) ∷ [])
+      ∙ sym (map-append (paired f) (take i ps) (p ∷ []))
+      ∙ ap (map (paired f)) (sym more ∙ ap (take (i + 1)) same)
+
+  pub shown_all : (shots : List Shot) → length ps ≤ i → map as_pair shots ≡ map (paired f) (take i qs) → map as_pair shots ≡ map (paired f) qs
+  shown_all shots l e = e ∙ ap (map (paired f)) (take_all i qs (subst (λ ps. length ps ≤ i) same l))
+
+pub any_at : (ps : List Path) (i : ℕ) (p : Path) → i < length ps → p ≡ get_or ps i p → list_any (path_eq p) ps ≡ true
+any_at [] i p l is = absurd (omega arith)
+any_at (x ∷ ps) zero p l is = ap (λ b. b || list_any (path_eq p) ps) (ap (path_eq p) (sym is) ∙ path_eq_equiv.refl p)
+any_at (x ∷ ps) (suc i) p l is = ap (λ b. path_eq p x || b) (any_at ps i p (omega arith) is) ∙ or_true (path_eq p x)
+  where
+    or_true : (b : Bool) → (b || true) ≡ true
+    or_true true = refl
+    or_true false = refl
 
 pub two_ordered : (xs : List Shot) (a b : Shot) → xs ≡ a ∷ b ∷ [] → path_cmp a.path b.path ≡ Less → IsOrdered xs
 unfolding IsStrictlySortedBy

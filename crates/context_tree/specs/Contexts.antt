@@ -1,7 +1,9 @@
 -- The tree of contexts as it is kept, and the tree that it stands for.
-use Rattle.std.specs.Prelude.{◌<◌, ℕ, Bool, if◌then◌else◌, List, [], ◌∷◌, length, map, Option, Some, None, IsSomeAnd, slice_set}
+use Rattle.std.specs.Prelude.{◌<◌, ℕ, Bool, if◌then◌else◌, List, [], ◌∷◌, ◌++◌, length, map, Option, Some, None, IsSomeAnd, slice_set}
+use Rattle.std.specs.FinMap as table
 use Rattle.std.specs.List.{list_any}
 use Rattle.std.specs.List.Sorted.{IsStrictlySortedBy}
+use Rattle.std.specs.Map.{keys_of}
 use Rattle.wave_base.specs.declared.path.Path.{Path}
 use Rattle.wave_base.specs.declared.record.Record.{Record}
 use Rattle.wave_base.specs.declared.shape.Shape.{Shape}
@@ -11,13 +13,26 @@ use Rattle.wave_base.specs.Paths.{path_eq, path_cmp}
 use Rattle.wave_base.specs.Starts.{shown_fields}
 use Rattle.wave_base.specs.Tree.{Tree, put}
 
--- a finite map from paths to the values of fields: each context that is there, in path order
+-- a finite map from paths to the values of fields: each context that is there, in path order; and the paths in the order in
+-- which they joined
 pub record Contexts : Type 0 where
   pub shots : List Shot
+  pub joined : List Path
 
 -- a context as it is kept at its path, without what it keeps of its children
 abbrev pub shot_at : Path × Record → Shot
 shot_at e = record { path = e.0; fields = e.1.fields }
+
+-- what a map of records keeps, whose entries stand in the order in which they joined
+abbrev pub in_order : List (Path × Record) → List (Path × Record)
+in_order es = table.entries (table.from_entries {R = path_cmp} es)
+
+abbrev pub kept : List (Path × Record) → Contexts
+kept es = record { shots = map shot_at (in_order es); joined = keys_of es }
+
+-- a path joins last, unless it is there
+abbrev pub joins : List Path → Path → List Path
+joins ps p = if list_any (path_eq p) ps then ps else ps ++ p ∷ []
 
 abbrev pub as_pair : Shot → Path × List Value
 as_pair s = (s.path, s.fields)

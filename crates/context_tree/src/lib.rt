@@ -4,7 +4,7 @@
 mod laws;
 mod tree;
 
-pub use laws::{trees_tell_contexts, trees_that_fit};
+pub use laws::{slots_stay, trees_tell_contexts, trees_that_fit};
 pub use tree::Tree;
 
 #[cfg(test)]

@@ -57,10 +57,20 @@ fn shot(alloc: Global, path: Path, count: i64) -> Result<Shot, OutOfMemory>
     Ok(Shot { path, fields })
 }
 
+// A hall joins, where the root is there.
+fn join(alloc: Global, shape: &Shape, tree: &mut Tree, key: i64) -> Result<(), OutOfMemory>
+    requires { parent_class shape.now 1 ≡ Some (record { 0 = 0 }) }
+{
+    if tree.get(&Path::root()).is_some() {
+        tree.enter(alloc, shape, &hall(key))?;
+    }
+    Ok(())
+}
+
 // Two contexts in path order.
 fn two(alloc: Global) -> Result<Seq<Shot>, OutOfMemory>
     ensures ordered { IfOk result IsOrdered }
-    ensures field { IfOk result (λ shots. HasField (record { shots = shots }) (record { class = record { 0 = 1 }; key = pos 2 } ∷ []) 0) }
+    ensures field { IfOk result (λ shots. HasField (record { shots = shots; joined = [] }) (record { class = record { 0 = 1 }; key = pos 2 } ∷ []) 0) }
 {
     let low = shot(alloc, hall(-5), 1)?;
     let high = shot(alloc, hall(2), 9)?;
@@ -80,6 +90,43 @@ fn contexts_join_with_initial_fields(rt: HostRuntime) -> Result<(), Fail> {
     assert!(rt; tree.get(&hall(-2)).is_none());
     let shots = tree.shots(alloc)?;
     assert!(rt; shots.len() == 2);
+    Ok(())
+}
+
+#[test]
+fn a_context_keeps_its_slot(rt: HostRuntime) -> Result<(), Fail> {
+    let alloc = rt.alloc();
+    let shape = halls(alloc)?;
+    let mut tree = Tree::start(alloc, &shape)?;
+    tree.enter(alloc, &shape, &hall(2))?;
+    let shots = [shot(alloc, Path::root(), 3)?, shot(alloc, hall(2), 7)?];
+    assert!(rt; tree.shots(alloc)?.as_slice() == shots.as_slice());
+    assert!(rt; tree.slot(&Path::root()) == Some(0));
+    assert!(rt; tree.slot(&hall(2)) == Some(1));
+    assert!(rt; tree.slot(&hall(-2)).is_none());
+    match tree.slot(&hall(2)) {
+        Some(slot) => { assert!(rt; tree.at(slot).fields.as_slice() == [Value::Int(7)].as_slice()) }
+        None => assert!(rt; false),
+    }
+    Ok(())
+}
+
+#[test]
+fn contexts_are_listed_in_path_order(rt: HostRuntime) -> Result<(), Fail> {
+    let alloc = rt.alloc();
+    let shape = halls(alloc)?;
+    let mut tree = Tree::start(alloc, &shape)?;
+    for key in [2, -7, 9, -1] {
+        join(alloc, &shape, &mut tree, key)?;
+    }
+    let mut keys = Vec::new(alloc);
+    for shot in tree.shots(alloc)?.as_slice() {
+        if let [step] = shot.path.as_slice() {
+            keys.push(step.key)?;
+        }
+    }
+    assert!(rt; keys.as_slice() == [-7, -1, 2, 9].as_slice());
+    assert!(rt; tree.slot(&hall(-1)) == Some(4));
     Ok(())
 }
 

@@ -21,7 +21,7 @@ use Rattle.type_rules.specs.Exprs.{kind_of, resolve, demands, demands_as, of_kin
 use Rattle.type_rules.proofs.First.{told_past, told_here, holds_both, fails_front, fails_behind, judges_behind, judges_same}
 use Rattle.context_types.specs.declared.exprs.Judged.{Judged}
 use Rattle.context_types.specs.declared.calls.Called.{Called}
-use Rattle.context_types.specs.Places.{IsJudged, IsCalled}
+use Rattle.context_types.specs.inner.Places.{IsJudged, IsCalled}
 
 -- the answer to an expression
 abbrev pub Answers : Here → ExprTree → Result Judged TypeError → Type 0

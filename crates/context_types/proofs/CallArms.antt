@@ -22,7 +22,7 @@ use Rattle.type_rules.specs.Exprs.{resolve, resolve_all, count, args_demands, ca
 use Rattle.type_rules.proofs.First.{told_past, told_here, fails_front, fails_behind, fails_same, holds_both}
 use Rattle.context_types.specs.declared.calls.Called.{Called}
 use Rattle.context_types.specs.inner.Children.{asks_of_child, gives_of_child, child_tree_of}
-use Rattle.context_types.specs.Places.{IsCalled}
+use Rattle.context_types.specs.inner.Places.{IsCalled}
 use Rattle.context_types.proofs.TreeRows.{op_node, call_node, child_node}
 
 -- the arguments of a call, and their number

@@ -17,7 +17,7 @@ use Rattle.type_rules.specs.Kinds.{row_of_two, rows_of_sign}
 use Rattle.type_rules.specs.Exprs.{row_tree, binary_kind, binary_tree, two}
 use Rattle.type_rules.proofs.First.{told_past}
 use Rattle.context_types.specs.declared.exprs.Judged.{Judged}
-use Rattle.context_types.specs.Places.{IsJudged}
+use Rattle.context_types.specs.inner.Places.{IsJudged}
 use Rattle.context_types.proofs.TreeRows.{op_node}
 
 pub operation : (kind : Option Kind) (whole : Tree) (o : Option ℕ) (row : ℕ) (at : Span) (args : Vec Expr Global) (ts : Trees) (judged : Judged) (gives : Kind)

@@ -17,7 +17,7 @@ use Rattle.type_rules.specs.Exprs.{resolve, demands_as}
 use Rattle.type_rules.specs.Stmts.{after, after_all, after_else, resolve_stmt, resolve_stmts, resolve_else, local_asks, stmt_demands, stmts_demands, else_demands}
 use Rattle.type_rules.proofs.First.{fails_front, fails_behind, fails_same, holds_both}
 use Rattle.context_types.specs.declared.here.Here as place
-use Rattle.context_types.specs.Places.{IsStep}
+use Rattle.context_types.specs.inner.Places.{IsStep}
 
 -- the answer to a statement, which leads on to a place
 abbrev pub Walks : Here → place.Here → StmtTree → Result Stmt TypeError → Type 0

@@ -18,7 +18,7 @@ use Rattle.resolved_service.specs.declared.stmt.Action.TheVariants as done
 use Rattle.resolved_service.specs.Steps as r
 use Rattle.resolved_service.specs.Steps.{Step, action_step, row_steps, step_of, steps_of, steps_in}
 use Rattle.resolved_service.specs.View.{tree_of}
-use Rattle.context_types.specs.Places.{else_in}
+use Rattle.context_types.specs.inner.Places.{else_in}
 
 -- ---- the syntax tree
 

@@ -7,7 +7,7 @@ ghost use Rattle.type_rules.specs.Known as known;
 ghost use Rattle.type_rules.specs.Here as names;
 ghost use Rattle.type_rules.specs.Exprs as rules;
 ghost use Rattle.context_types.specs.inner.Children.{asks_of_child, gives_of_child, child_tree_of};
-ghost use Rattle.context_types.specs.Places.{here_of, IsJudged, IsCalled};
+ghost use Rattle.context_types.specs.inner.Places.{here_of, IsJudged, IsCalled};
 
 use crate::exprs::Judged;
 use crate::here::Here;
@@ -25,7 +25,7 @@ pub struct Called {
 }
 
 impl Called {
-    ghost use Rattle.context_types.specs.Places.{IsJudged};
+    ghost use Rattle.context_types.specs.inner.Places.{IsJudged};
 
     fn new(at: Span, gives: Option<Kind>, node: Resolved) -> Called
         ensures gives { result.gives ≡ gives }

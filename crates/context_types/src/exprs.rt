@@ -10,7 +10,7 @@ ghost use Rattle.type_rules.specs.Demands.{Judges, ask};
 ghost use Rattle.type_rules.specs.Kinds.{has_kind, row_of_one, row_of_two, rows_of_index, rows_before};
 ghost use Rattle.type_rules.specs.Exprs as rules;
 ghost use Rattle.type_rules.specs.Exprs.{row_tree};
-ghost use Rattle.context_types.specs.Places.{here_of, IsJudged};
+ghost use Rattle.context_types.specs.inner.Places.{here_of, IsJudged};
 
 use crate::here::Here;
 use mace_ast::{BinaryOp, Expr, Node, UnaryOp};

@@ -9,7 +9,7 @@ ghost use Rattle.type_rules.specs.Known as known;
 ghost use Rattle.type_rules.specs.Stmts.{after_all, resolve_stmts, stmts_demands};
 ghost use Rattle.type_rules.specs.Functions as rules;
 ghost use Rattle.type_rules.specs.Views.{last_view, method_view, phase_view, event_view};
-ghost use Rattle.context_types.specs.Places.{here_of, AreSteps};
+ghost use Rattle.context_types.specs.inner.Places.{here_of, AreSteps};
 
 use crate::here::Here;
 use mace_ast::{EventDecl, Last as LastDecl, MethodDecl, Name, Phase as PhaseDecl, Stmt};

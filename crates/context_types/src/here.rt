@@ -2,7 +2,7 @@ ghost use Rattle.std.specs.Prelude.{◌≡◌, IfSome};
 ghost use Rattle.std.specs.Option.{option_copied};
 ghost use Rattle.type_rules.specs.Here as rules;
 ghost use Rattle.type_rules.specs.Known as known;
-ghost use Rattle.context_types.specs.Places.{here_of};
+ghost use Rattle.context_types.specs.inner.Places.{here_of};
 ghost use Rattle.type_tables.specs.Rows.{IsCallable};
 
 use type_rules::{Callee, Local, Variable};

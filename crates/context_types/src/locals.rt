@@ -2,7 +2,7 @@ ghost use Rattle.std.specs.Prelude.{◌≡◌, ◌≤◌, length, OnOk};
 ghost use Rattle.type_rules.specs.Demands.{Judges};
 ghost use Rattle.type_rules.specs.Here as rules;
 ghost use Rattle.type_rules.specs.Stmts.{local_asks};
-ghost use Rattle.context_types.specs.Places.{here_of};
+ghost use Rattle.context_types.specs.inner.Places.{here_of};
 
 use crate::here::Here;
 use mace_ast::Name;

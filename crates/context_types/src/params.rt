@@ -2,7 +2,7 @@ ghost use Rattle.std.specs.Prelude.{◌≡◌};
 ghost use Rattle.type_rules.specs.Demands.{Judges};
 ghost use Rattle.type_rules.specs.Here.{declared};
 ghost use Rattle.type_rules.specs.Functions as rules;
-ghost use Rattle.context_types.specs.Places.{here_of};
+ghost use Rattle.context_types.specs.inner.Places.{here_of};
 
 use crate::here::Here;
 use mace_ast::Param;

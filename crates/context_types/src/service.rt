@@ -15,7 +15,7 @@ use mace_ast::{ContextDecl, EventDecl, Literal, MethodDecl, Name, Service, VarDe
 use resolved_service::{Event, Method, Resolved};
 use std::alloc::Global;
 use type_rules::{TypeError, Which};
-use type_tables::{Tables, same_kind};
+use type_tables::{DECLARATIONS, Tables, same_kind};
 use wave_base::{CLASS_DEPTH, FIELDS, Kind, Seq, Shape};
 
 /// A service that is typed, with what it declares, and with its names resolved.
@@ -97,7 +97,7 @@ fn context(
 {
     class_name(tables, class, &c.name)?;
     fields(tables, class, c.vars.as_slice())?;
-    if class == 65_535 {
+    if class as usize == DECLARATIONS {
         return Err(TypeError::OutOfMemory);
     }
     let next = contexts(alloc, tables, class + 1, &c.contexts, made)?;

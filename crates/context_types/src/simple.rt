@@ -7,7 +7,7 @@ ghost use Rattle.type_rules.specs.Demands.{Judges};
 ghost use Rattle.type_rules.specs.Here.{variable_kind};
 ghost use Rattle.type_rules.specs.Exprs.{resolve};
 ghost use Rattle.type_rules.specs.Stmts as rules;
-ghost use Rattle.context_types.specs.Places.{here_of};
+ghost use Rattle.context_types.specs.inner.Places.{here_of};
 
 use crate::here::Here;
 use mace_ast::{Expr, Target};
@@ -19,6 +19,7 @@ use wave_base::{Kind, Seq, Span, Txt};
 
 // Statements that change nothing of what may be named behind them.
 impl Here<'_> {
+    /// A `require`, whose test has to be a truth value.
     pub fn require(&self, alloc: Global, at: Span, test: &Expr) -> Result<Step, TypeError>
         ensures { let h = here_of self.now in let s = syntax.Require at (expr_tree test.now) in
             Judges (rules.stmt_demands h s) (λ step. rules.resolve_stmt h s ≡ step_of step) result }
@@ -31,6 +32,7 @@ impl Here<'_> {
         Ok(Step { at, action })
     }
 
+    /// A `send` of a value under a label.
     pub fn send(
         &self,
         alloc: Global,
@@ -47,6 +49,7 @@ impl Here<'_> {
         Ok(Step { at, action })
     }
 
+    /// A `spawn` of an event, with arguments of the kinds that it takes.
     pub fn spawn(
         &self,
         alloc: Global,

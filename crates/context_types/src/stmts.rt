@@ -7,7 +7,7 @@ ghost use Rattle.resolved_service.specs.Steps.{step_of};
 ghost use Rattle.type_rules.specs.Demands.{Judges};
 ghost use Rattle.type_rules.specs.Here.{behind, counted};
 ghost use Rattle.type_rules.specs.Stmts as rules;
-ghost use Rattle.context_types.specs.Places.{here_of, IsStep, AreSteps, IsOther};
+ghost use Rattle.context_types.specs.inner.Places.{here_of, IsStep, AreSteps, IsOther};
 
 use crate::here::Here;
 use mace_ast::{Action, Expr, Name, Stmt};

@@ -2,6 +2,7 @@
 use Rattle.std.proofs.Common.{◌≡◌, ℕ, ◌≤◌, ◌<◌, ◌⊎◌, ◌++◌, inl, inr, List, zero, suc, [], ◌∷◌, length, All, codes, Option, Some, None, slice_get, refl, sym, ◌∙◌, subst, ap, arith}
 use Rattle.std.proofs.lemmas.Bool.{cases_lt}
 use Rattle.std.proofs.lemmas.List.Elements.{All-head, All-tail}
+use Rattle.wave_base.proofs.Lists.{all_at}
 use Rattle.wave_base.specs.declared.limits.TheConstants.{INSTRUCTIONS}
 use Rattle.wave_base.specs.declared.shape.Shape.{Shape}
 use Rattle.mace_ast.specs.Decls.{ServiceTree}
@@ -16,14 +17,9 @@ use Rattle.service_code.specs.Listing.{function_name, program_text}
 use Rattle.code_scheme.specs.Programs.{IsTooLong, scheme_program}
 use Rattle.code_views.proofs.SameCode.{same_programs}
 use Rattle.due_answer.specs.declared.answer.Answer.{Answer}
-use Rattle.due_answer.specs.Coded.{IsCoded}
+use Rattle.due_answer.specs.inner.Coded.{IsCoded}
 use Rattle.due_answer.specs.Due.{Only, AreShort, IsDueCoded, IsListedCode, IsLong, refusal, written}
-use Rattle.due_answer.specs.Served.{IsTypedTree}
-
-all_at : {A : Type 0} (P : A → Type 0) (xs : List A) (n : ℕ) (x : A) → slice_get xs n ≡ Some x → All P xs → P x
-all_at P [] n x e h = cc
-all_at P (y ∷ ys) zero x e h = let same : y ≡ x = cc in subst P same (All-head P y ys h)
-all_at P (y ∷ ys) (suc n) x e h = all_at P ys n x e (All-tail P y ys h)
+use Rattle.due_answer.specs.inner.Served.{IsTypedTree}
 
 same_functions : (shape : Shape) (a b : Resolved) → resolved_view a ≡ resolved_view b → (scheme_program shape a).functions ≡ (scheme_program shape b).functions
 same_functions shape a b e = ap (λ (p : Program). p.functions) (same_programs shape a b e)

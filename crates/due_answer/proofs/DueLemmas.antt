@@ -16,19 +16,17 @@ use Rattle.service_reader.specs.declared.fault.TextFault.{TextFault}
 use Rattle.service_reader.specs.Parsing.{IsOnlyParse}
 use Rattle.due_answer.specs.declared.answer.Answer.{Answer}
 use Rattle.command_words.specs.declared.command.Command.{Command}
-use Rattle.due_answer.specs.declared.report.Engine.{Engine}
 use Rattle.due_answer.specs.declared.report.Report.{Report}
 use Rattle.input_parts.specs.Parts.{service_of}
 use Rattle.command_words.specs.Inputs.{reads_input}
 use Rattle.command_words.specs.declared.command.Command.TheVariants.{Run, Seq, Check, Print, Code, Gen, Load}
-use Rattle.due_answer.specs.declared.report.Engine.TheVariants.{Workers, Evaluator}
 use Rattle.due_answer.specs.declared.report.Report.TheVariants.{Listing}
-use Rattle.due_answer.specs.Due.{Only, IsDueBoth, IsDueScripted, IsDueSized, IsListedCode, IsPrinted, approved, IsDueService, IsDueOf, IsDueTyped, IsDueScript, IsDueLines, IsDueRun, IsDueWhere, IsDueFold, IsOnlyDue, is_unbuilt, reported, too_large_input}
+use Rattle.due_answer.specs.Due.{Only, IsDueBoth, IsDueScripted, IsDueSized, IsListedCode, IsPrinted, approved, IsDueService, IsDueOf, IsDueTyped, IsDueScript, IsDueLines, IsDueFold, IsOnlyDue, reported, too_large_input}
 use Rattle.service_code.specs.declared.program.Program.{Program}
-use Rattle.due_answer.specs.Coded.{IsCoded}
+use Rattle.due_answer.specs.inner.Coded.{IsCoded}
 use Rattle.due_answer.specs.declared.service.Judged.{Judged}
 use Rattle.due_answer.specs.declared.service.Judged.TheVariants as judged
-use Rattle.due_answer.specs.Served.{IsTypedTree, IsRefusal, IsRead, IsServed, IsTypedRead}
+use Rattle.due_answer.specs.inner.Served.{IsTypedTree, IsRefusal, IsRead, IsServed, IsTypedRead}
 use Rattle.due_answer.proofs.CodeLemmas.{only_coded, only_long}
 
 -- ---- a typed service
@@ -89,15 +87,11 @@ only_fold report tree typed script t whole = record {
       ∙ ap (λ s. reported s report (results_of s typed.resolved script)) (sym t.shape_is);
 }
 
-only_built : (engine : Engine) (report : Report) (tree : ServiceTree) (typed : Typed) (script : Script) → is_unbuilt engine script ≡ false → IsTypedTree tree typed → IsWhole typed.shape typed.resolved script →
-    Only (IsDueRun engine report tree script) (reported typed.shape report (results_of typed.shape typed.resolved script))
-only_built engine report tree typed script h t whole = subst (λ w. Only (IsDueWhere report tree script w) (reported typed.shape report (results_of typed.shape typed.resolved script))) (sym h) (only_fold report tree typed script t whole)
-
--- the listing of a script that wants no machine
-pub built_if : {E : Type 0} (engine : Engine) (report : Report) (tree : ServiceTree) (typed : Typed) (script : Script) (r : Result Answer E) → is_unbuilt engine script ≡ false → IsTypedTree tree typed → IfOk r (λ _. IsWhole typed.shape typed.resolved script) →
-    IfOk r (λ a. a ≡ reported typed.shape report (results_of typed.shape typed.resolved script)) → IfOk r (Only (IsDueRun engine report tree script))
-built_if engine report tree typed script (Ok a) h t whole e = subst (Only (IsDueRun engine report tree script)) (sym e) (only_built engine report tree typed script h t whole)
-built_if engine report tree typed script (Err e) h t whole is = tt
+-- what is told of a script
+pub folded_if : {E : Type 0} (report : Report) (tree : ServiceTree) (typed : Typed) (script : Script) (r : Result Answer E) → IsTypedTree tree typed → IfOk r (λ _. IsWhole typed.shape typed.resolved script) →
+    IfOk r (λ a. a ≡ reported typed.shape report (results_of typed.shape typed.resolved script)) → IfOk r (Only (IsDueFold report tree script))
+folded_if report tree typed script (Ok a) t whole e = subst (Only (IsDueFold report tree script)) (sym e) (only_fold report tree typed script t whole)
+folded_if report tree typed script (Err e) t whole is = tt
 
 only_short : (P : ServiceTree → Script → Answer → Type 0) (text : List ℕ) (tree : ServiceTree) (shape : Shape) (due : Answer) → length text ≤ SCRIPT_BYTES → shape ≡ shape_of tree →
     Only (IsDueLines (P tree) shape text) due → Only (IsDueScript P text tree) due
@@ -143,8 +137,8 @@ sized_if P bytes (Err e) small o = tt
 
 -- a command that reads its input is told so where there is too much of it
 pub only_too_large : (c : Command) (bytes : List ℕ) → reads_input c ≡ true → INPUT_BYTES < length bytes → IsOnlyDue c bytes too_large_input
-only_too_large (Run places crew) bytes reads long = sized_long (IsDueScripted Workers (Listing places)) bytes long
-only_too_large (Seq places) bytes reads long = sized_long (IsDueScripted Evaluator (Listing places)) bytes long
+only_too_large (Run places crew) bytes reads long = sized_long (IsDueScripted (Listing places)) bytes long
+only_too_large (Seq places) bytes reads long = sized_long (IsDueScripted (Listing places)) bytes long
 only_too_large Check bytes reads long = sized_long (λ b. IsDueService (λ tree a. a ≡ approved) (service_of b)) bytes long
 only_too_large Code bytes reads long = sized_long (λ b. IsDueService IsListedCode (service_of b)) bytes long
 only_too_large Print bytes reads long = sized_long (λ b. IsDueService IsPrinted (service_of b)) bytes long

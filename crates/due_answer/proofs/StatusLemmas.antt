@@ -14,14 +14,12 @@ use Rattle.wave_meaning.specs.Meaning.{results_of}
 use Rattle.command_words.specs.declared.command.Command.{Command}
 use Rattle.command_words.specs.declared.command.Command.TheVariants.{Run, Seq, Check, Print, Code, Gen, Load}
 use Rattle.due_answer.specs.declared.answer.Answer.{Answer}
-use Rattle.due_answer.specs.declared.report.Engine.{Engine}
-use Rattle.due_answer.specs.declared.report.Engine.TheVariants.{Workers, Evaluator}
 use Rattle.due_answer.specs.declared.report.Report.{Report}
 use Rattle.due_answer.specs.declared.report.Report.TheVariants.{Listing, Summary}
-use Rattle.due_answer.specs.Due.{IsDue, IsDueBoth, IsDueOf, IsDueRead, IsDueRun, IsDueScript, IsDueScripted, IsDueService, IsDueSized, IsDueTyped, IsDueWhere, IsListedCode, IsPrinted, any_trap, approved, is_unbuilt, reported}
+use Rattle.due_answer.specs.Due.{IsDue, IsDueBoth, IsDueOf, IsDueRead, IsDueFold, IsDueScript, IsDueScripted, IsDueService, IsDueSized, IsDueTyped, IsListedCode, IsPrinted, any_trap, approved, reported}
 
 abbrev pub own_status : ℕ → Bool
-own_status n = n == 0 || n == 1 || n == 3 || n == 4 || n == 9
+own_status n = n == 0 || n == 1 || n == 3 || n == 4
 
 abbrev pub HasOwn : Answer → Type 0
 HasOwn due = own_status due.status ≡ true
@@ -51,9 +49,8 @@ by_traps : (b : Bool) → own_status (cond b 1 0) ≡ true
 by_traps true = refl
 by_traps false = refl
 
-where_built : (report : Report) (tree : ServiceTree) (script : Script) (b : Bool) (due : Answer) → IsDueWhere report tree script b due → HasOwn due
-where_built report tree script true due h = of_answer due _ h refl
-where_built report tree script false due h = of_answer due _ h.due_is (by_traps (any_trap (results_of (shape_of tree) h.service script).results))
+folded : (report : Report) (tree : ServiceTree) (script : Script) (due : Answer) → IsDueFold report tree script due → HasOwn due
+folded report tree script due h = of_answer due _ h.due_is (by_traps (any_trap (results_of (shape_of tree) h.service script).results))
 
 read : (P : Script → Answer → Type 0) (r : Result Script ScriptError) (due : Answer) → ((script : Script) → P script due → HasOwn due) → IsDueRead P r due → HasOwn due
 read P (Err e) due f h = of_answer due _ h refl
@@ -63,23 +60,22 @@ script_text : (P : ServiceTree → Script → Answer → Type 0) (text : List �
 script_text P text tree due f (inl h) = of_answer due _ h.1 refl
 script_text P text tree due f (inr h) = read (P tree) h.1.read due f h.1.due_is
 
-both : (engine : Engine) (report : Report) (text : List ℕ) (found : Option (List ℕ)) (due : Answer) → IsDueBoth (IsDueRun engine report) text found due → HasOwn due
-both engine report text None due h = of_answer due _ h refl
-both engine report text (Some script) due h =
-    service (IsDueScript (IsDueRun engine report) script) text due
-    (λ tree k. script_text (IsDueRun engine report) script tree due (λ s j. where_built report tree s (is_unbuilt engine s) due j) k) h
+both : (report : Report) (text : List ℕ) (found : Option (List ℕ)) (due : Answer) → IsDueBoth (IsDueFold report) text found due → HasOwn due
+both report text None due h = of_answer due _ h refl
+both report text (Some script) due h =
+    service (IsDueScript (IsDueFold report) script) text due (λ tree k. script_text (IsDueFold report) script tree due (λ s j. folded report tree s due j) k) h
 
-scripted : (engine : Engine) (report : Report) (bytes : List ℕ) (due : Answer) → IsDueSized (IsDueScripted engine report) bytes due → HasOwn due
-scripted engine report bytes due = sized (IsDueScripted engine report) bytes due (both engine report (service_of bytes) (script_of bytes) due)
+scripted : (report : Report) (bytes : List ℕ) (due : Answer) → IsDueSized (IsDueScripted report) bytes due → HasOwn due
+scripted report bytes due = sized (IsDueScripted report) bytes due (both report (service_of bytes) (script_of bytes) due)
 
 approves : (due : Answer) → due ≡ approved → HasOwn due
 approves due h = of_answer due approved h refl
 
 pub statuses : (c : Command) (bytes : List ℕ) (due : Answer) → IsDue c bytes due → HasOwn due
-statuses (Run places crew) bytes due h = scripted Workers (Listing places) bytes due h
-statuses (Seq places) bytes due h = scripted Evaluator (Listing places) bytes due h
+statuses (Run places crew) bytes due h = scripted (Listing places) bytes due h
+statuses (Seq places) bytes due h = scripted (Listing places) bytes due h
 statuses Check bytes due h = sized (λ b. IsDueService (λ tree a. a ≡ approved) (service_of b)) bytes due (service (λ tree a. a ≡ approved) (service_of bytes) due (λ tree k. approves due k)) h
 statuses Code bytes due h = sized (λ b. IsDueService IsListedCode (service_of b)) bytes due (service IsListedCode (service_of bytes) due (λ tree k. of_answer due _ k.due_is refl)) h
 statuses Print bytes due h = sized (λ b. IsDueService IsPrinted (service_of b)) bytes due (service IsPrinted (service_of bytes) due (λ tree k. of_answer due _ k.due_is refl)) h
 statuses (Gen n) bytes due h = of_answer due _ h refl
-statuses (Load n crew) bytes due h = scripted Evaluator Summary _ due h
+statuses (Load n crew) bytes due h = scripted Summary _ due h

@@ -1,13 +1,11 @@
 -- What is due for a command and the bytes of its input. Statuses, notes and output are read off it.
-use Rattle.std.specs.Prelude.{◌≡◌, ℕ, ◌<◌, ◌≤◌, ◌⊎◌, ◌||◌, Bool, true, false, if◌then◌else◌, nat_lt, not, List, [], ◌∷◌, ◌++◌, length, codes, All, Option, Some, None, Result, Ok, Err}
-use Rattle.std.specs.List.{list_any, list_all}
+use Rattle.std.specs.Prelude.{◌≡◌, ℕ, ◌<◌, ◌≤◌, ◌⊎◌, Bool, true, false, if◌then◌else◌, List, [], ◌∷◌, ◌++◌, length, codes, All, Option, Some, None, Result, Ok, Err}
+use Rattle.std.specs.List.{list_any}
 use Rattle.wave_base.specs.declared.limits.TheConstants.{INPUT_BYTES, INSTRUCTIONS, SCRIPT_BYTES}
 use Rattle.wave_base.specs.declared.finished.Finished.{Finished}
 use Rattle.wave_base.specs.declared.outcome.EventResult.{EventResult}
 use Rattle.wave_base.specs.declared.outcome.Outcome.{Outcome}
 use Rattle.wave_base.specs.declared.outcome.Outcome.TheVariants.{Trapped}
-use Rattle.wave_base.specs.declared.script.Line.{Line}
-use Rattle.wave_base.specs.declared.script.Line.TheVariants.{Request}
 use Rattle.wave_base.specs.declared.script.Script.{Script}
 use Rattle.wave_base.specs.declared.shape.Shape.{Shape}
 use Rattle.input_parts.specs.Parts.{service_of, script_of}
@@ -41,8 +39,6 @@ use Rattle.command_words.specs.declared.command.Places.{Places}
 use Rattle.command_words.specs.declared.command.Places.TheVariants.{Unlisted, Listed}
 use Rattle.wave_gen.specs.Load.{load_text}
 use Rattle.wave_gen.specs.Summary.{summary_text}
-use Rattle.due_answer.specs.declared.report.Engine.{Engine}
-use Rattle.due_answer.specs.declared.report.Engine.TheVariants.{Workers, Evaluator}
 use Rattle.due_answer.specs.declared.report.Report.{Report}
 use Rattle.due_answer.specs.declared.report.Report.TheVariants.{Listing, Summary}
 
@@ -60,10 +56,6 @@ no_script = refusal 3 (codes "NoScript")
 
 abbrev pub too_large_script : Answer
 too_large_script = refusal 4 (codes "TooLarge script")
-
--- what is asked for isn't built yet
-abbrev pub not_yet : Answer
-not_yet = refusal 9 (codes "NotYet")
 
 abbrev pub written : List ℕ → Answer
 written text = record { status = 0; note = []; text = text }
@@ -135,25 +127,6 @@ pub record IsDueFold (report : Report) (tree : ServiceTree) (script : Script) (d
   pub whole : IsWhole (shape_of tree) service script
   pub due_is : due ≡ reported (shape_of tree) report (results_of (shape_of tree) service script)
 
-abbrev pub is_request : Line → Bool
-is_request (Request call) = true
-is_request _ = false
-
--- hosts that are more than one, moves and snapshots want the machine, which isn't built yet
-abbrev pub wants_machine : Script → Bool
-wants_machine script = nat_lt 1 script.hosts || not (list_all (list_all is_request) script.batches)
-
-abbrev pub is_unbuilt : Engine → Script → Bool
-is_unbuilt Workers script = wants_machine script
-is_unbuilt Evaluator script = false
-
-abbrev pub IsDueWhere : Report → ServiceTree → Script → Bool → Answer → Type 0
-IsDueWhere report tree script true due = due ≡ not_yet
-IsDueWhere report tree script false due = IsDueFold report tree script due
-
-abbrev pub IsDueRun : Engine → Report → ServiceTree → Script → Answer → Type 0
-IsDueRun engine report tree script due = IsDueWhere report tree script (is_unbuilt engine script) due
-
 abbrev pub IsDueRead : (Script → Answer → Type 0) → Result Script ScriptError → Answer → Type 0
 IsDueRead P (Err e) due = due ≡ refusal 4 (script_note e)
 IsDueRead P (Ok script) due = P script due
@@ -193,22 +166,23 @@ pub record IsListedCode (tree : ServiceTree) (due : Answer) : Type 0 where
   pub due_is : due ≡ written (program_text (scheme_program (shape_of tree) service))
 
 -- of the bytes of a service and a script
-abbrev pub IsDueScripted : Engine → Report → List ℕ → Answer → Type 0
-IsDueScripted engine report bytes due = IsDueBoth (IsDueRun engine report) (service_of bytes) (script_of bytes) due
+abbrev pub IsDueScripted : Report → List ℕ → Answer → Type 0
+IsDueScripted report bytes due = IsDueBoth (IsDueFold report) (service_of bytes) (script_of bytes) due
 
 -- of bytes, which may be too many
 abbrev pub IsDueSized : (List ℕ → Answer → Type 0) → List ℕ → Answer → Type 0
 IsDueSized P bytes due = ((INPUT_BYTES < length bytes) × (due ≡ too_large_input)) ⊎ ((length bytes ≤ INPUT_BYTES) × P bytes due)
 
--- `gen` writes the load of a number, and `load` runs it and sums it up, whatever the input is; all others are about their input
+-- What runs a script, and how many workers or which schedule, is nothing to the answer: `run` and `seq` owe the same. `gen` writes the load of a
+-- number, and `load` runs it and sums it up, whatever the input is; all others are about their input.
 abbrev pub IsDue : Command → List ℕ → Answer → Type 0
-IsDue (Run places crew) bytes due = IsDueSized (IsDueScripted Workers (Listing places)) bytes due
-IsDue (Seq places) bytes due = IsDueSized (IsDueScripted Evaluator (Listing places)) bytes due
+IsDue (Run places crew) bytes due = IsDueSized (IsDueScripted (Listing places)) bytes due
+IsDue (Seq places) bytes due = IsDueSized (IsDueScripted (Listing places)) bytes due
 IsDue Check bytes due = IsDueSized (λ b. IsDueService (λ tree a. a ≡ approved) (service_of b)) bytes due
 IsDue Code bytes due = IsDueSized (λ b. IsDueService IsListedCode (service_of b)) bytes due
 IsDue Print bytes due = IsDueSized (λ b. IsDueService IsPrinted (service_of b)) bytes due
 IsDue (Gen n) bytes due = due ≡ written (load_text n)
-IsDue (Load n crew) bytes due = IsDueSized (IsDueScripted Evaluator Summary) (load_text n) due
+IsDue (Load n crew) bytes due = IsDueSized (IsDueScripted Summary) (load_text n) due
 
 -- it is so of this answer, and of no other
 pub record Only (P : Answer → Type 0) (due : Answer) : Type 0 where

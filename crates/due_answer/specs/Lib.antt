@@ -1,3 +1,2 @@
+pub mod inner
 pub mod Due
-pub mod Served
-pub mod Coded

@@ -2,8 +2,7 @@
 
 ghost use Rattle.std.specs.Prelude.{◌≡◌, ◌++◌, IfOk, OnOk, codes};
 ghost use Rattle.code_scheme.specs.Typed.{IsTyped};
-ghost use Rattle.service_code.specs.Listing.{class_name};
-ghost use Rattle.due_answer.specs.Coded.{IsCompiled, IsLongNamed, name_at};
+ghost use Rattle.due_answer.specs.inner.Coded.{IsCompiled, IsLongNamed, name_at};
 
 use crate::answer::{Answer, refused};
 use context_types::Typed;
@@ -19,15 +18,6 @@ pub enum Compiled {
     TooLong(Answer),
 }
 
-fn class_name(shape: &Shape, class: Class) -> &[u8]
-    ensures { result.now ≡ class_name shape.now class.0 }
-{
-    match shape.classes.get(class.0 as usize) {
-        Some(info) => info.name.bytes(),
-        None => b"",
-    }
-}
-
 // Writes a function's name: `Class.method` or `event`.
 fn put_name(note: &mut Vec<u8>, typed: &Typed, number: u16) -> Result<(), AllocError>
     ensures { OnOk result (note.new.items ≡ note.old.items ++ name_at typed.now.shape typed.now.resolved number) }
@@ -36,7 +26,7 @@ fn put_name(note: &mut Vec<u8>, typed: &Typed, number: u16) -> Result<(), AllocE
     let number = number as usize;
     match methods.get(number) {
         Some(method) => {
-            note.extend_from_slice(class_name(&typed.shape, method.class))?;
+            note.extend_from_slice(typed.shape.class_name(method.class))?;
             note.push(b'.')?;
             note.extend_from_slice(method.name.bytes())
         }

@@ -5,11 +5,10 @@ ghost use Rattle.mace_printer.specs.Written.{IsParsed};
 ghost use Rattle.service_code.specs.Listing.{CanList, program_text};
 ghost use Rattle.wave_gen.specs.Load.{load_text};
 ghost use Rattle.due_answer.specs.Due.{Only, IsDueScripted, IsDueService, IsDueSized, IsListedCode, IsOnlyDue, IsPrinted, approved, written};
-ghost use Rattle.due_answer.specs.declared.report.Engine.{Engine};
 ghost use Rattle.due_answer.specs.declared.report.Report.{Report};
 
 use crate::answer::{Answer, refused, written};
-use crate::report::{Engine, Report};
+use crate::report::Report;
 use crate::script::judge_script;
 use crate::service::{Judged, served};
 use command_words::Command;
@@ -27,11 +26,8 @@ pub fn judge(alloc: Global, command: Command, input: &[u8]) -> Result<Answer, Ou
     ensures { IfOk result (IsOnlyDue command input.now) }
 {
     match command {
-        Command::Run(places, _) => {
-            judge_both(alloc, Engine::Workers, Report::Listing(places), input)
-        }
-        Command::Seq(places) => {
-            judge_both(alloc, Engine::Evaluator, Report::Listing(places), input)
+        Command::Run(places, _) | Command::Seq(places) => {
+            judge_both(alloc, Report::Listing(places), input)
         }
         Command::Check => judge_check(alloc, input),
         Command::Print => judge_print(alloc, input),
@@ -50,13 +46,13 @@ fn judge_gen(alloc: Global, n: u64) -> Result<Answer, OutOfMemory>
 
 // What is due for one that is to be run and summed up.
 fn judge_load(alloc: Global, n: u64) -> Result<Answer, OutOfMemory>
-    ensures { IfOk result (Only (IsDueSized (IsDueScripted Engine.Evaluator Report.Summary) (load_text n))) }
+    ensures { IfOk result (Only (IsDueSized (IsDueScripted Report.Summary) (load_text n))) }
 {
     let load = generate(alloc, n)?;
     if load.len() > INPUT_BYTES {
         return refused(alloc, 3, b"TooLarge input");
     }
-    judge_both(alloc, Engine::Evaluator, Report::Summary, load.as_slice())
+    judge_both(alloc, Report::Summary, load.as_slice())
 }
 
 // What is due where a service is typed and nothing more is asked.
@@ -117,20 +113,15 @@ fn judge_code(alloc: Global, input: &[u8]) -> Result<Answer, OutOfMemory>
 }
 
 // What is due for a service and a script, which has to be there.
-fn judge_both(
-    alloc: Global,
-    engine: Engine,
-    report: Report,
-    input: &[u8],
-) -> Result<Answer, OutOfMemory>
-    ensures { IfOk result (Only (IsDueScripted engine report input.now)) }
+fn judge_both(alloc: Global, report: Report, input: &[u8]) -> Result<Answer, OutOfMemory>
+    ensures { IfOk result (Only (IsDueScripted report input.now)) }
 {
     let (text, script) = parts_of(input);
     let Some(script) = script else {
         return refused(alloc, 3, b"NoScript");
     };
     match served(alloc, text)? {
-        Judged::Typed(typed, _) => judge_script(alloc, engine, report, &typed, script),
+        Judged::Typed(typed, _) => judge_script(alloc, report, &typed, script),
         Judged::Refused(answer) => Ok(answer),
     }
 }

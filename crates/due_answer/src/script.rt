@@ -1,5 +1,4 @@
 ghost use Rattle.std.specs.Prelude.{◌≡◌, ◌≢◌, ◌≤◌, ◌-◌, ◌^◌, length, IfOk};
-ghost use Rattle.std.specs.List.{list_all};
 ghost use Rattle.wave_base.specs.declared.limits.TheConstants.{SCRIPT_BYTES};
 ghost use Rattle.wave_base.specs.Scripts.{IsScript};
 ghost use Rattle.wave_base.specs.Shapes.{IsShape};
@@ -8,11 +7,11 @@ ghost use Rattle.wave_meaning.specs.Meaning.{results_of, IsWhole};
 ghost use Rattle.mace_ast.specs.Decls.{ServiceTree};
 ghost use Rattle.fault_notes.specs.Notes.{script_note};
 ghost use Rattle.script_reader.specs.declared.error.ScriptError.{ScriptError};
-ghost use Rattle.due_answer.specs.Due.{Only, IsDueRun, IsDueLines, IsDueScript, any_trap, is_listed, is_request, is_unbuilt, not_yet, refusal, report_text, reported, wants_machine};
-ghost use Rattle.due_answer.specs.Served.{IsTypedTree};
+ghost use Rattle.due_answer.specs.Due.{Only, IsDueFold, IsDueLines, IsDueScript, any_trap, is_listed, refusal, report_text, reported};
+ghost use Rattle.due_answer.specs.inner.Served.{IsTypedTree};
 
 use crate::answer::{Answer, refused};
-use crate::report::{Engine, Report};
+use crate::report::Report;
 use command_words::Places;
 use context_types::Typed;
 use fault_notes::script_note;
@@ -20,7 +19,7 @@ use listing_out::listing;
 use script_reader::{ScriptError, read_script};
 use std::alloc::Global;
 use wave_base::{
-    EventResult, Finished, Line, OutOfMemory, Outcome, SCRIPT_BYTES, Script, Seq, Shape, Ticket,
+    EventResult, Finished, OutOfMemory, Outcome, SCRIPT_BYTES, Script, Seq, Shape, Ticket,
 };
 use wave_gen::summarize;
 use wave_meaning::run_script;
@@ -41,40 +40,6 @@ fn any_trap(results: &[EventResult]) -> bool
     results
         .iter()
         .any(|result_| matches!(result_.outcome, Outcome::Trapped(_)))
-}
-
-fn is_request(line: &Line) -> bool
-    ensures { result ≡ is_request line.now }
-{
-    matches!(line, Line::Request(_))
-}
-
-fn are_requests(batch: &Seq<Line>) -> bool
-    ensures { result ≡ list_all is_request batch.now }
-{
-    batch.as_slice().iter().all(is_request)
-}
-
-fn are_all_requests(batches: &[Seq<Line>]) -> bool
-    ensures { result ≡ list_all (list_all is_request) batches.now }
-{
-    batches.iter().all(are_requests)
-}
-
-// Hosts, moves and snapshots want the machine.
-fn wants_machine(script: &Script) -> bool
-    ensures { result ≡ wants_machine script.now }
-{
-    script.hosts > 1 || !are_all_requests(script.batches.as_slice())
-}
-
-fn is_unbuilt(engine: Engine, script: &Script) -> bool
-    ensures { result ≡ is_unbuilt engine script.now }
-{
-    match engine {
-        Engine::Workers => wants_machine(script),
-        Engine::Evaluator => false,
-    }
 }
 
 // What is told of all that was done.
@@ -122,7 +87,6 @@ fn reported(
 // What is due for a script that was read.
 fn judge_read(
     alloc: Global,
-    engine: Engine,
     report: Report,
     typed: &Typed,
     script: &Script,
@@ -130,11 +94,8 @@ fn judge_read(
     requires shape { IsShape typed.now.shape }
     requires service { FitsService typed.now.shape typed.now.resolved }
     requires script { IsScript typed.now.shape script.now }
-    ensures { (tree : ServiceTree) → IsTypedTree tree typed.now → IfOk result (Only (IsDueRun engine report tree script.now)) }
+    ensures { (tree : ServiceTree) → IsTypedTree tree typed.now → IfOk result (Only (IsDueFold report tree script.now)) }
 {
-    if is_unbuilt(engine, script) {
-        return refused(alloc, 9, b"NotYet");
-    }
     reported(alloc, report, typed, script)
 }
 
@@ -149,7 +110,6 @@ fn refused_script(alloc: Global, error: &ScriptError) -> Result<Answer, OutOfMem
 // What is due for the text of a script that isn't too long.
 fn judge_lines(
     alloc: Global,
-    engine: Engine,
     report: Report,
     typed: &Typed,
     text: &[u8],
@@ -157,10 +117,10 @@ fn judge_lines(
     requires shape { IsShape typed.now.shape }
     requires service { FitsService typed.now.shape typed.now.resolved }
     requires short { length text.now ≤ SCRIPT_BYTES }
-    ensures { (tree : ServiceTree) → IsTypedTree tree typed.now → IfOk result (Only (IsDueLines (IsDueRun engine report tree) typed.now.shape text.now)) }
+    ensures { (tree : ServiceTree) → IsTypedTree tree typed.now → IfOk result (Only (IsDueLines (IsDueFold report tree) typed.now.shape text.now)) }
 {
     match read_script(alloc, &typed.shape, text) {
-        Ok(script) => judge_read(alloc, engine, report, typed, &script),
+        Ok(script) => judge_read(alloc, report, typed, &script),
         Err(error) => refused_script(alloc, &error),
     }
 }
@@ -168,17 +128,16 @@ fn judge_lines(
 /// What is due for a typed service and the text of a script.
 pub fn judge_script(
     alloc: Global,
-    engine: Engine,
     report: Report,
     typed: &Typed,
     text: &[u8],
 ) -> Result<Answer, OutOfMemory>
     requires shape { IsShape typed.now.shape }
     requires service { FitsService typed.now.shape typed.now.resolved }
-    ensures { (tree : ServiceTree) → IsTypedTree tree typed.now → IfOk result (Only (IsDueScript (IsDueRun engine report) text.now tree)) }
+    ensures { (tree : ServiceTree) → IsTypedTree tree typed.now → IfOk result (Only (IsDueScript (IsDueFold report) text.now tree)) }
 {
     if text.len() > SCRIPT_BYTES {
         return refused(alloc, 4, b"TooLarge script");
     }
-    judge_lines(alloc, engine, report, typed, text)
+    judge_lines(alloc, report, typed, text)
 }

@@ -4,7 +4,7 @@ ghost use Rattle.service_reader.specs.declared.fault.TextFault.{TextFault};
 ghost use Rattle.fault_notes.specs.Notes.{text_note, type_note};
 ghost use Rattle.type_rules.specs.declared.error.TypeError.{TypeError};
 ghost use Rattle.due_answer.specs.Due.{refusal};
-ghost use Rattle.due_answer.specs.Served.{IsChecked, IsServed, IsTypedTree};
+ghost use Rattle.due_answer.specs.inner.Served.{IsChecked, IsServed, IsTypedTree};
 
 use crate::answer::{Answer, refused};
 use crate::code::{Compiled, code_of};

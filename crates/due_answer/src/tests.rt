@@ -1,7 +1,9 @@
-//! What is told of services by `check`: each thing that is asked of one, and its limits at the number and one past it.
+//! What is told of services by `check`: each thing that is asked of one, and its limits at the number and one past it; of
+//! the lines of scripts; and of events that trap.
 
 mod limits;
 mod rows;
+mod scripts;
 mod traps;
 
 use crate::{Answer, judge};

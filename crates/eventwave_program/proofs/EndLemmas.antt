@@ -8,7 +8,8 @@ use Rattle.due_answer.specs.declared.answer.Answer.{Answer}
 use Rattle.command_words.specs.declared.command.Command.{Command}
 use Rattle.command_words.specs.Inputs.{reads_input}
 use Rattle.due_answer.specs.Due.{IsOnlyDue, too_large_input}
-use Rattle.eventwave_program.specs.Ends.{Ended, Gave, SomeDue, SomeInputDue, IsInput, IsInputWhere, IsLeft, IsLong, WritesFront, note_for, note_of, status_of}
+use Rattle.eventwave_program.specs.Ends.{SomeDue, IsInput, IsInputWhere, IsLeft, IsLong, WritesFront, note_for}
+use Rattle.eventwave_program.specs.inner.Parts.{Ended, Gave, SomeInputDue, note_of, status_of}
 use Rattle.eventwave_program.specs.declared.ending.Ending.{Ending}
 use Rattle.eventwave_program.specs.declared.ending.Ending.TheVariants.{WordsRefused, ReadFault, WriteFault, NoMemory, Answered}
 use Rattle.command_words.specs.Reading.{command_of}

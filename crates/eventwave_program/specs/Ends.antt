@@ -5,8 +5,6 @@ use Rattle.wave_base.specs.declared.limits.TheConstants.{INPUT_BYTES}
 use Rattle.wave_io.specs.Causes.{Rose}
 use Rattle.wave_io.specs.Streams.{AppendsFront}
 use Rattle.due_answer.specs.declared.answer.Answer.{Answer}
-use Rattle.eventwave_program.specs.declared.ending.Ending.{Ending}
-use Rattle.eventwave_program.specs.declared.ending.Ending.TheVariants.{WordsRefused, ReadFault, WriteFault, NoMemory, Answered}
 use Rattle.command_words.specs.declared.command.Command.{Command}
 use Rattle.command_words.specs.Inputs.{reads_input}
 use Rattle.command_words.specs.Reading.{command_of}
@@ -61,12 +59,6 @@ pub record SomeDue (words : List (List ℕ)) (left : Option (List ℕ)) (P : Ans
   pub only : IsOnlyDue command bytes due
   pub holds : P due
 
--- there are bytes of a command's input for which this answer alone is due
-pub record SomeInputDue (c : Command) (left : Option (List ℕ)) (due : Answer) : Type 0 where
-  pub bytes : List ℕ
-  pub input : IsInput c left bytes
-  pub only : IsOnlyDue c bytes due
-
 -- a note is a line, and no note is none
 abbrev pub note_line : List ℕ → List ℕ
 note_line [] = []
@@ -93,45 +85,3 @@ pub record Unread (before now : ℕ) (old new : Option (List ℕ)) : Type 0 wher
 -- nothing was written, or a front of what is due
 abbrev pub WritesFront : List (List ℕ) → Option (List ℕ) → Option (List ℕ) → Option (List ℕ) → Type 0
 WritesFront words left old new = Keeps old new ⊎ SomeDue words left (λ due. AppendsFront old new due.text)
-
--- ---- the parts of the call
-
-abbrev pub status_of : Ending → ℕ
-status_of WordsRefused = 2
-status_of ReadFault = 5
-status_of WriteFault = 6
-status_of NoMemory = 7
-status_of (Answered status note) = status
-
-abbrev pub note_of : Ending → List ℕ
-note_of WordsRefused = codes "words"
-note_of ReadFault = codes "ReadFault"
-note_of WriteFault = codes "WriteFault"
-note_of NoMemory = codes "OutOfMemory"
-note_of (Answered status note) = note
-
--- how giving an answer may end
-abbrev pub Gave : Answer → Option (List ℕ) → Option (List ℕ) → Ending → Type 0
-Gave due old new WriteFault = AppendsFront old new due.text
-Gave due old new (Answered status note) = (status ≡ due.status) × (note ≡ due.note) × Appends old new due.text
-Gave due old new WordsRefused = ⊥
-Gave due old new ReadFault = ⊥
-Gave due old new NoMemory = ⊥
-
--- how a call may end
-abbrev pub Ended : List (List ℕ) → Option (List ℕ) → Option (List ℕ) → Option (List ℕ) → Ending → Type 0
-Ended words left old new WordsRefused = (command_of words ≡ None) × Keeps old new
-Ended words left old new ReadFault = ((c : Command) × (command_of words ≡ Some c)) × Keeps old new
-Ended words left old new NoMemory = Keeps old new
-Ended words left old new WriteFault = SomeDue words left (λ due. Gave due old new WriteFault)
-Ended words left old new (Answered status note) = SomeDue words left (λ due. Gave due old new (Answered status note))
-
--- an answer that is given has read the input, where it is read
-abbrev pub ReadsDue : Bool → Option (List ℕ) → Option (List ℕ) → Ending → Type 0
-ReadsDue true old new (Answered status note) = ReadsAll old new
-ReadsDue _ old new ending = Unit {0}
-
--- a command that reads no input never ends so
-abbrev pub is_read_fault : Ending → Bool
-is_read_fault ReadFault = true
-is_read_fault _ = false

@@ -374,12 +374,24 @@ fn services_and_words(rt: HostRuntime) -> Result<(), Fail> {
     let alloc = rt.alloc();
     let hit =
         b"function 0 hit args 0 locals 0 stack 2\n0 Field 0 @1:62\n1 PushInt 1 @1:66\n2 Op add @1:62\n3 SetField 0 @1:58\n4 Field 0 @1:77\n5 Reply @1:71\n";
+    let printed =
+        b"service Tick {\nvar n : int = 0 ;\nevent hit ( ) : int {\nhere {\nn = n + 1 ;\n}\nreply n ;\n}\n}\n";
+    let past =
+        b"service Tick { var n: int = 9223372036854775807; event hit(): int { here { n = n + 1; } reply n; } }\n----\nrequest hit()\n";
     let lifted =
         b"service Market {\n  var seen: int = 0;\n  context Hall[int] {\n    method lift() { Market.seen = 1; }\n  }\n}\n";
     let rows = [
         plain("code", TICK, 0, hit, b""),
         plain("check", MARKET, 0, b"ok\n", b""),
         plain("print", b"service A { }", 0, b"service A {\n}\n", b""),
+        plain("print", TICK, 0, printed, b""),
+        plain(
+            "run",
+            past,
+            1,
+            b"#1 hit trap Overflow at 1:80\ndone 1\n",
+            b"",
+        ),
         plain("check", lifted, 3, b"", b"Y5 NotDownward 4:21\n"),
         plain(
             "check",
@@ -396,7 +408,6 @@ fn services_and_words(rt: HostRuntime) -> Result<(), Fail> {
             b"P1 Expected 1:29\n",
         ),
         plain("run", b"service A { }", 3, b"", b"NoScript\n"),
-        plain("run", MOVED, 9, b"", b"NotYet\n"),
         plain("walk", TICK, 2, b"", b"words\n"),
         plain("gen", TICK, 2, b"", b"words\n"),
         plain("seq --workers 2", TICK, 2, b"", b"words\n"),
@@ -426,7 +437,30 @@ fn loads_read_nothing(rt: HostRuntime) -> Result<(), Fail> {
     Ok(())
 }
 
-/// A missing script comes before a fault of the service, that before one of the script, and that before `NotYet`.
+/// An input of the greatest size, its service and its script too, and one byte more.
+#[test]
+fn the_greatest_input(rt: HostRuntime) -> Result<(), Fail> {
+    let alloc = rt.alloc();
+    let mut input = Vec::from_slice(alloc, b"service A { }\n")?;
+    input.extend_from_slice(Vec::from_elem(alloc, b'\n', 262_130)?.as_slice())?;
+    input.extend_from_slice(b"----\n")?;
+    input.extend_from_slice(Vec::from_elem(alloc, b'\n', 1_048_576)?.as_slice())?;
+    assert_eq!(rt; input.len(), 1_310_725);
+    holds(
+        &rt,
+        alloc,
+        &plain("seq", input.as_slice(), 0, b"done 0\n", b""),
+    )?;
+    input.push(b'\n')?;
+    holds(
+        &rt,
+        alloc,
+        &plain("seq", input.as_slice(), 3, b"", b"TooLarge input\n"),
+    )?;
+    Ok(())
+}
+
+/// A missing script comes before a fault of the service, and that before one of the script.
 #[test]
 fn refusals_in_order(rt: HostRuntime) -> Result<(), Fail> {
     let alloc = rt.alloc();
@@ -449,9 +483,9 @@ fn refusals_in_order(rt: HostRuntime) -> Result<(), Fail> {
         plain(
             "run",
             b"service A { }\n----\nhosts 2\n",
-            9,
+            0,
+            b"done 0\n",
             b"",
-            b"NotYet\n",
         ),
         plain("check", b"service A { }\n----\nmiss\n", 0, b"ok\n", b""),
     ];

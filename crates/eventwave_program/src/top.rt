@@ -6,7 +6,8 @@ ghost use Rattle.command_words.specs.declared.command.Command.{Command};
 ghost use Rattle.command_words.specs.Inputs.{reads_input};
 ghost use Rattle.command_words.specs.Reading.{command_of};
 ghost use Rattle.due_answer.specs.Due.{IsDue};
-ghost use Rattle.eventwave_program.specs.Ends.{note_for, is_given, read_by, IsTold, SomeInputDue, SomeDue, Told, ReadsAll, Unread, WritesFront, status_of, note_of, Gave, Ended, ReadsDue, is_read_fault};
+ghost use Rattle.eventwave_program.specs.Ends.{note_for, is_given, read_by, IsTold, SomeDue, Told, ReadsAll, Unread, WritesFront};
+ghost use Rattle.eventwave_program.specs.inner.Parts.{SomeInputDue, status_of, note_of, Gave, Ended, ReadsDue, is_read_fault};
 
 use crate::ending::Ending;
 use command_words::{Command, command_of};

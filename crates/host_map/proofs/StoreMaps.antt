@@ -1,5 +1,6 @@
 -- The lemmas of tables at paths.
-use Rattle.std.proofs.Common.{◌≡◌, ℕ, zero, suc, true, List, [], ◌∷◌, Option, Some, None, cond, position, slice_get, get_or, sym, ap, ◌∙◌}
+use Rattle.std.proofs.Common.{◌≡◌, ◌||◌, ℕ, zero, suc, Bool, true, false, List, [], ◌∷◌, Option, Some, None, is_some, cond, position, slice_get, get_or, refl, sym, ap, ◌∙◌}
+use Rattle.std.specs.List.{list_any}
 use Rattle.std.proofs.lemmas.List.Quantifiers.{position-Some}
 use Rattle.std.specs.Option.{unwrap_or}
 use Rattle.std.specs.Map.{lookup, keys_of, values_of}
@@ -45,3 +46,18 @@ module _ {X : Type 0} where
     written w =
         let key : get_or (keys m) i p ≡ p = key_at p (get_or (keys m) i p) (position-Some (path_eq p) (keys m) i p at).1 in
         inserted m.entries (with_value_at m i w).entries p w (updates-with_value_at m i w path_eq_equiv unique p v (entry_at m.entries i p v key value)).0
+
+-- ---- the paths
+
+module _ {X : Type 0} where
+  looked_up : (q : Path) (es : List (Path × X)) → is_some (lookup (path_eq q) es) ≡ list_any (path_eq q) (keys_of es)
+  looked_up q [] = refl
+  looked_up q (e ∷ es) = by_test (path_eq q e.0) (looked_up q es)
+    where
+      by_test : (b : Bool) → is_some (lookup (path_eq q) es) ≡ list_any (path_eq q) (keys_of es) → is_some (cond b (Some e.1) (lookup (path_eq q) es)) ≡ (b || list_any (path_eq q) (keys_of es))
+      by_test true h = refl
+      by_test false h = h
+
+  -- a path is among the keys exactly where the table has it
+  pub among_keys : (q : Path) (es : List (Path × X)) → list_any (path_eq q) (keys_of es) ≡ table.contains_key (table.from_entries {R = path_cmp} es) q
+  among_keys q es = sym (looked_up q es) ∙ ap is_some (sym (get_is_lookup q es))

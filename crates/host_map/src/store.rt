@@ -1,10 +1,14 @@
-ghost use Rattle.std.specs.Prelude.{◌≡◌, ◌≤◌, ◌+◌, OnOk, option_copied, option_map, position, length, IfSome, ◌<◌};
+ghost use Rattle.std.specs.Prelude.{◌≡◌, ◌≤◌, ◌+◌, OnOk, IfOk, option_copied, option_map, position, length, IfSome, ◌<◌};
+ghost use Rattle.std.specs.List.{list_any};
 ghost use Rattle.std.specs.FinMap as map;
 ghost use Rattle.host_map.specs.Stores.{find_in, has};
+ghost use Rattle.indexmap.specs.IndexMap.{keys};
+ghost use Rattle.wave_base.specs.declared.path.Path as path;
+ghost use Rattle.wave_base.specs.Paths.{path_eq};
 
 use context_queue::Entry;
 use indexmap::IndexMap;
-use std::alloc::Global;
+use std::alloc::{AllocError, Global};
 use std::marker::Model;
 use wave_base::{Host, OutOfMemory, Path};
 
@@ -70,8 +74,8 @@ impl HostStore {
         }
     }
 
-    // The mark of a context.
-    fn departure(&self, path: &Path) -> Option<Mark>
+    /// The mark that a context left here when it went to another host.
+    pub fn departure(&self, path: &Path) -> Option<Mark>
         ensures { result ≡ map.get self.now.gone path.now }
     {
         match self.gone.get(path) {
@@ -92,6 +96,14 @@ impl HostStore {
         ensures { option_copied result ≡ map.get self.now.store path.now }
     {
         self.store.get(path)
+    }
+
+    /// The paths of the contexts that are here, in any order.
+    pub fn paths(&self, alloc: Global) -> Result<Vec<Path>, OutOfMemory>
+        ensures { IfOk result (λ paths. (p : path.Path) → list_any (path_eq p) paths.items ≡ has p self.now) }
+    {
+        let paths = keys_in(alloc, &self.store)?;
+        Ok(paths)
     }
 
     /// Makes room for one more entry and for one more mark.
@@ -150,6 +162,13 @@ impl HostStore {
     {
         let _ = self.gone.swap_remove(path);
     }
+}
+
+// The keys of a table, in its order.
+fn keys_in(alloc: Global, table: &IndexMap<Path, Entry>) -> Result<Vec<Path>, AllocError>
+    ensures { IfOk result (λ paths. paths.items ≡ keys table.now) }
+{
+    table.keys().copied().collect(alloc)
 }
 
 /// The first host whose store has the entry of a context.

@@ -1,16 +1,8 @@
 ghost use Rattle.std.specs.Prelude.{◌≡◌, ◌<◌, ◌≤◌, [], ◌∷◌, ◌++◌, length};
-ghost use Rattle.std.specs.List.{prefix_len};
-ghost use Rattle.wave_text.specs.Lines.{is_inside};
 ghost use Rattle.input_parts.specs.inner.Firsts.{IsFirst};
 ghost use Rattle.input_parts.specs.Parts.{is_dashes};
 
-// The number of bytes before the first line feed.
-fn line_len(text: &[u8]) -> usize
-    ensures len { result ≡ prefix_len is_inside text.now }
-    ensures within { result ≤ length text.now }
-{
-    text.iter().take_while(|b| **b != b'\n').count()
-}
+use wave_text::line_len;
 
 /// The first line with all that it has before its line feed, and the text behind that.
 pub fn first_line(text: &[u8]) -> (&[u8], &[u8])

@@ -56,6 +56,7 @@ impl<'p> Counter<'p> {
         }
     }
 
+    /// Adds an amount in the name of one who adds, and writes it down. After want of memory nothing has changed.
     pub fn add(&mut self, by: u64, amount: u64) -> Result<(), AllocError>
         requires { StandsFor self.old self.old.plan }
         ensures { Added self.old by amount result self.new }

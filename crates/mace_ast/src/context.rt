@@ -17,6 +17,7 @@ pub struct ContextDecl {
 }
 
 impl ContextDecl {
+    /// A context class, declared with its fields, the classes below it and its methods.
     pub fn new(
         at: Span,
         name: Name,

@@ -6,26 +6,43 @@ use crate::name::Name;
 use std::alloc::Global;
 use wave_base::{OutOfMemory, Span, Txt};
 
+/// An operator before one operand.
 #[derive(Clone, Copy, Debug, PartialEq, Eq)]
 pub enum UnaryOp {
+    /// `-`
     Neg,
+    /// `!`
     Not,
 }
 
+/// An operator between two operands.
 #[derive(Clone, Copy, Debug, PartialEq, Eq)]
 pub enum BinaryOp {
+    /// `||`
     Or,
+    /// `&&`
     And,
+    /// `==`
     Eq,
+    /// `!=`
     Ne,
+    /// `<`
     Lt,
+    /// `<=`
     Le,
+    /// `>`
     Gt,
+    /// `>=`
     Ge,
+    /// `+`
     Add,
+    /// `-`
     Sub,
+    /// `*`
     Mul,
+    /// `/`
     Div,
+    /// `%`
     Rem,
 }
 
@@ -38,6 +55,7 @@ pub struct Expr {
     pub node: Node,
 }
 
+/// What an expression is, without its place.
 #[derive(Debug, Drop)]
 #[cycle(expr)]
 pub enum Node {
@@ -62,6 +80,7 @@ pub enum Node {
 }
 
 impl Expr {
+    /// A number.
     pub fn number(at: Span, n: i64) -> Expr
         ensures { expr_tree result ≡ tree.Number at n }
     {
@@ -69,6 +88,7 @@ impl Expr {
         Expr { at, node }
     }
 
+    /// A text.
     pub fn text(at: Span, text: Txt) -> Expr
         ensures { expr_tree result ≡ tree.Text at text }
     {
@@ -76,6 +96,7 @@ impl Expr {
         Expr { at, node }
     }
 
+    /// A truth value.
     pub fn boolean(at: Span, value: bool) -> Expr
         ensures { expr_tree result ≡ tree.Boolean at value }
     {
@@ -83,6 +104,7 @@ impl Expr {
         Expr { at, node }
     }
 
+    /// The empty map.
     pub fn empty(at: Span) -> Expr
         ensures { expr_tree result ≡ tree.Empty at }
     {
@@ -152,6 +174,7 @@ impl Expr {
         Ok(Expr { at: class.at, node })
     }
 
+    /// An operator and its operand.
     pub fn unary(alloc: Global, at: Span, op: UnaryOp, operand: Expr) -> Result<Expr, OutOfMemory>
         ensures { IfOk result (λ e. expr_tree e ≡ tree.Unary at op (expr_tree operand)) }
     {

@@ -17,6 +17,7 @@ pub struct Initial {
     pub value: Literal,
 }
 
+/// A value that is written out.
 #[derive(Debug, Drop, PartialEq, Eq)]
 pub enum Literal {
     Number(i64),

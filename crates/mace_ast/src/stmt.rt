@@ -23,6 +23,7 @@ pub struct Stmt {
     pub action: Action,
 }
 
+/// What a statement does, without its place.
 #[derive(Debug, Drop)]
 #[cycle(stmt)]
 pub enum Action {
@@ -44,6 +45,7 @@ pub enum Action {
 }
 
 impl Stmt {
+    /// An `if`, with what is done otherwise, if anything.
     pub fn if_else(at: Span, test: Expr, body: Vec<Stmt>, other: Option<Vec<Stmt>>) -> Stmt
         ensures { stmt_tree result ≡ tree.If at (expr_tree test) (stmts_of (map stmt_tree body.items))
             (else_of (option_map (λ b. map stmt_tree b.items) other)) }
@@ -52,6 +54,7 @@ impl Stmt {
         Stmt { at, action }
     }
 
+    /// A `while`.
     pub fn while_do(at: Span, test: Expr, body: Vec<Stmt>) -> Stmt
         ensures { stmt_tree result ≡ tree.While at (expr_tree test) (stmts_of (map stmt_tree body.items)) }
     {
@@ -59,6 +62,7 @@ impl Stmt {
         Stmt { at, action }
     }
 
+    /// A `for`, whose local goes from `low` up to below `high`.
     pub fn for_in(at: Span, name: Name, low: Expr, high: Expr, body: Vec<Stmt>) -> Stmt
         ensures { stmt_tree result ≡ tree.For at name (expr_tree low) (expr_tree high) (stmts_of (map stmt_tree body.items)) }
     {

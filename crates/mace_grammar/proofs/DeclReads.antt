@@ -5,11 +5,11 @@ use Rattle.mace_lexer.specs.declared.keyword.Keyword.TheVariants as k
 use Rattle.mace_lexer.specs.declared.sign.Sign.TheVariants as s
 use Rattle.mace_ast.specs.Decls.{ContextTree, Context, contexts_of}
 use Rattle.mace_grammar.specs.Part.{Part, ◌>>◌, many, maybe}
-use Rattle.mace_grammar.specs.Run.{Reader}
-use Rattle.mace_grammar.specs.Classes.{name_class, kind}
+use Rattle.mace_grammar.specs.inner.Run.{Reader}
+use Rattle.mace_grammar.specs.inner.Classes.{name_class, kind}
 use Rattle.mace_grammar.specs.Words as w
 use Rattle.mace_grammar.specs.Grammar as g
-use Rattle.mace_grammar.specs.Readers as r
+use Rattle.mace_grammar.specs.inner.Readers as r
 use Rattle.mace_grammar.proofs.Reading.{Reads, reads_pure, next_part, inside, repeated, optional, reads_deep}
 use Rattle.mace_grammar.proofs.Productions.{key, sign, name, type, vars}
 use Rattle.mace_grammar.proofs.ExprReads.{any_expr, any_key}

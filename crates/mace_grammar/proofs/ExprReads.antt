@@ -8,11 +8,11 @@ use Rattle.mace_ast.specs.declared.expr.BinaryOp.{BinaryOp}
 use Rattle.mace_ast.specs.Exprs as e
 use Rattle.mace_ast.specs.Exprs.{ExprTree, exprs_of}
 use Rattle.mace_grammar.specs.Part.{Part, pure, ◌>>=◌, ◌or◌}
-use Rattle.mace_grammar.specs.Run.{Reader, Outcome, and_then, give, sees}
-use Rattle.mace_grammar.specs.Classes.{name_class, sign_class, kind}
+use Rattle.mace_grammar.specs.inner.Run.{Reader, Outcome, and_then, give, sees}
+use Rattle.mace_grammar.specs.inner.Classes.{name_class, sign_class, kind}
 use Rattle.mace_grammar.specs.Words as w
 use Rattle.mace_grammar.specs.Grammar as g
-use Rattle.mace_grammar.specs.Readers as r
+use Rattle.mace_grammar.specs.inner.Readers as r
 use Rattle.mace_grammar.proofs.Reading.{Reads, reads_pure, next_part, inside, either, repeated, optional, wider, another, reads_same, reads_deep}
 use Rattle.mace_grammar.proofs.Same.{Same, same_refl, same_trans, same_or, same_behind}
 use Rattle.mace_grammar.proofs.Factors.{two_fronts, six_fronts, same_six}

@@ -7,11 +7,11 @@ use Rattle.mace_lexer.specs.declared.token.Token.{Token}
 use Rattle.mace_lexer.specs.declared.token.Word.{Word}
 use Rattle.mace_lexer.specs.declared.keyword.Keyword.TheVariants as key
 use Rattle.mace_ast.specs.Decls.{ServiceTree, bare_service, SameUpToSpans}
-use Rattle.mace_grammar.specs.Run.{Outcome, Reader}
-use Rattle.mace_grammar.specs.Classes.{kind}
+use Rattle.mace_grammar.specs.inner.Run.{Outcome, Reader}
+use Rattle.mace_grammar.specs.inner.Classes.{kind}
 use Rattle.mace_grammar.specs.Grammar as g
-use Rattle.mace_grammar.specs.Readers as r
-use Rattle.mace_grammar.specs.Run.{rest_of}
+use Rattle.mace_grammar.specs.inner.Readers as r
+use Rattle.mace_grammar.specs.inner.Run.{rest_of}
 use Rattle.mace_grammar.specs.Nest.{nest_after, IsShallow}
 use Rattle.mace_grammar.specs.Spelled.{words, plain, Spelled, Begun}
 use Rattle.mace_grammar.proofs.Reading.{Reads, whole_found, whole_only, left, ok_or_rest, shorter}

@@ -3,8 +3,8 @@ use Rattle.std.proofs.Common.{◌≡◌, ℕ, zero, suc, List, [], ◌∷◌, ma
 use Rattle.std.specs.Prelude.{if◌then◌else◌}
 use Rattle.std.specs.Option.{option_map}
 use Rattle.mace_lexer.specs.declared.token.Token.{Token}
-use Rattle.mace_grammar.specs.Run.{Reader, Outcome, and_then, give, after, taken, word, sees, choice, each, each_of, some, with_front, deeper}
-use Rattle.mace_grammar.specs.Classes.{kind}
+use Rattle.mace_grammar.specs.inner.Run.{Reader, Outcome, and_then, give, after, taken, word, sees, choice, each, each_of, some, with_front, deeper}
+use Rattle.mace_grammar.specs.inner.Classes.{kind}
 use Rattle.mace_grammar.specs.Spelled.{plain}
 
 -- the same words, standing nowhere

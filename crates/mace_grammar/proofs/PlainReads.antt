@@ -22,11 +22,11 @@ use Rattle.mace_ast.specs.Exprs.{ExprTree, exprs_of, expr_and, bare_expr, bare_e
 use Rattle.mace_ast.specs.Stmts as st
 use Rattle.mace_ast.specs.Stmts.{StmtTree, stmts_of, stmt_and, else_of, bare_stmt, bare_stmts, bare_else, bare_name}
 use Rattle.mace_ast.specs.Decls.{ContextTree, Context, contexts_of, context_and, bare_var, bare_param, bare_last, bare_method, bare_phase, bare_event, bare_context, bare_contexts, bare_service}
-use Rattle.mace_grammar.specs.Run.{Reader}
-use Rattle.mace_grammar.specs.Classes.{name_class}
+use Rattle.mace_grammar.specs.inner.Run.{Reader}
+use Rattle.mace_grammar.specs.inner.Classes.{name_class}
 use Rattle.mace_grammar.specs.Words as w
 use Rattle.mace_grammar.specs.Grammar as g
-use Rattle.mace_grammar.specs.Readers as r
+use Rattle.mace_grammar.specs.inner.Readers as r
 use Rattle.mace_grammar.proofs.Plain.{Natural, erased, same_length, natural_give, natural_then, natural_word, natural_choice, natural_each, natural_each_of, natural_maybe, natural_deeper}
 
 -- ---- one token

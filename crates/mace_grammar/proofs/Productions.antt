@@ -12,11 +12,11 @@ use Rattle.mace_lexer.specs.Codes.{key_code, sign_code}
 use Rattle.mace_ast.specs.declared.expr.BinaryOp.{BinaryOp}
 use Rattle.mace_ast.specs.declared.field.Literal.TheVariants as literal
 use Rattle.mace_grammar.specs.Part.{one, many}
-use Rattle.mace_grammar.specs.Run.{word as token, has, each}
-use Rattle.mace_grammar.specs.Classes.{name_class, number_class, text_class, key_class, sign_class, class_of, kind}
+use Rattle.mace_grammar.specs.inner.Run.{word as token, has, each}
+use Rattle.mace_grammar.specs.inner.Classes.{name_class, number_class, text_class, key_class, sign_class, class_of, kind}
 use Rattle.mace_grammar.specs.Words as w
 use Rattle.mace_grammar.specs.Grammar as g
-use Rattle.mace_grammar.specs.Readers as r
+use Rattle.mace_grammar.specs.inner.Readers as r
 use Rattle.mace_grammar.proofs.Reading.{Reads, reads_word, reads_pure, next_part, either, repeated, wider}
 
 -- ---- one token

@@ -2,7 +2,7 @@
 use Rattle.std.proofs.Common.{◌≡◌, ℕ, zero, suc, ◌<◌, ◌≤◌, ◌⊎◌, inl, inr, List, [], ◌∷◌, ◌++◌, length, Option, Some, None, IsSome, Ok, Err, Bool, true, false, ◌||◌, ◌&&◌, not, refl, sym, ◌∙◌, ap, subst, arith, le_refl, eqb-true, ⊎_elim, append_assoc, append-nil, length-append}
 use Rattle.std.specs.Prelude.{◌==◌, if◌then◌else◌}
 use Rattle.mace_lexer.specs.declared.token.Token.{Token}
-use Rattle.mace_grammar.specs.Run.{Outcome, Reader, and_then, give, after, taken, word, has, sees, choice, with_front, each, each_of, some, deeper}
+use Rattle.mace_grammar.specs.inner.Run.{Outcome, Reader, and_then, give, after, taken, word, has, sees, choice, with_front, each, each_of, some, deeper}
 use Rattle.mace_grammar.proofs.Same.{Same}
 use Rattle.mace_grammar.specs.Part.{Part, never, pure, one, ◌>>=◌, ◌or◌, many, maybe, nested, deep, SpellsAll, SpellsMaybe}
 

@@ -7,11 +7,11 @@ use Rattle.mace_ast.specs.Exprs.{ExprTree}
 use Rattle.mace_ast.specs.Stmts as st
 use Rattle.mace_ast.specs.Stmts.{StmtTree, stmts_of, else_of}
 use Rattle.mace_grammar.specs.Part.{Part, pure, ◌>>=◌, ◌>>◌, ◌or◌, many, maybe}
-use Rattle.mace_grammar.specs.Run.{Reader}
-use Rattle.mace_grammar.specs.Classes.{name_class, kind}
+use Rattle.mace_grammar.specs.inner.Run.{Reader}
+use Rattle.mace_grammar.specs.inner.Classes.{name_class, kind}
 use Rattle.mace_grammar.specs.Words as w
 use Rattle.mace_grammar.specs.Grammar as g
-use Rattle.mace_grammar.specs.Readers as r
+use Rattle.mace_grammar.specs.inner.Readers as r
 use Rattle.mace_grammar.proofs.Reading.{Reads, reads_pure, next_part, inside, either, repeated, optional, wider, reads_same, reads_deep}
 use Rattle.mace_grammar.proofs.Same.{Same, same_refl, same_trans, same_or, same_behind, same_maybe}
 use Rattle.mace_grammar.proofs.Factors.{two_fronts, three_fronts, same_five}

@@ -3,7 +3,7 @@ use Rattle.std.proofs.Common.{◌≡◌, ℕ, suc, ◌+◌, ◌-◌, ◌<◌, �
 use Rattle.std.proofs.lemmas.List.{take_at, append-nil}
 use Rattle.mace_lexer.specs.declared.token.Token.{Token}
 use Rattle.mace_grammar.specs.Part.{Part}
-use Rattle.mace_grammar.specs.Run.{Outcome, Reader}
+use Rattle.mace_grammar.specs.inner.Run.{Outcome, Reader}
 use Rattle.mace_grammar.proofs.Reading.{Reads, left, ok_or_rest, whole_only, front_begins, front_ends}
 
 -- The first k tokens begin the part. With the token behind them they don't; and where there is none, they are no spelling of it.

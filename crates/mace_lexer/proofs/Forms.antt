@@ -6,6 +6,7 @@ use Rattle.std.specs.List.{list_all}
 use Rattle.std.specs.Str.{bytes_eq}
 use Rattle.std.proofs.lemmas.Bool.Decides.{nat_tests}
 use Rattle.std.proofs.lemmas.Slice.Eq.{bytes_eq-Decides}
+use Rattle.wave_base.specs.Names.{is_digits, is_name_start, is_name_byte, is_word}
 use Rattle.wave_base.specs.Text.{IsPrintable}
 use Rattle.mace_lexer.specs.declared.cut.Form.{Form}
 use Rattle.mace_lexer.specs.declared.cut.Form.TheVariants as form
@@ -14,7 +15,7 @@ use Rattle.mace_lexer.specs.declared.sign.Sign.{Sign}
 use Rattle.mace_lexer.specs.declared.token.Word.TheVariants as word
 use Rattle.mace_lexer.specs.declared.fault.LexFault.TheVariants.{BadByte, NumberRange, OpenText, NameLong, TextLong}
 use Rattle.mace_lexer.specs.Spellings.{keywords, signs}
-use Rattle.mace_lexer.specs.Words.{is_blank, is_inside_line, is_comment, is_letter, is_name_byte, is_name, is_number, entry_of, keyword, sign, form_by, form_of}
+use Rattle.mace_lexer.specs.Words.{is_blank, is_inside_line, is_comment, entry_of, keyword, sign, form_by, form_of}
 use Rattle.mace_lexer.specs.Texts.{quoted}
 use Rattle.mace_lexer.specs.Pieces.{Piece, Gap, Spell, Wrong, IsPiece}
 
@@ -68,12 +69,12 @@ FormAt form.Blank bs = length bs ≡ 1
 FormAt form.LineEnd bs = length bs ≡ 2
 FormAt form.Comment bs = is_comment bs ≡ true
 FormAt form.Text bs = (t : List ℕ) × (bs ≡ quoted t) × All IsPrintable t
-FormAt form.Name bs = is_name bs ≡ true
-FormAt form.Number bs = is_number bs ≡ true
+FormAt form.Name bs = is_word bs ≡ true
+FormAt form.Number bs = is_digits bs ≡ true
 FormAt form.Sign bs = (s : Sign) × (sign bs ≡ Some s)
 
 first_test : (a b : ℕ) → (a == 32 || a == 9 || a == 10) ≡ true → form_by a b ≡ form.Blank
-first_test a b h = ap (λ t. if t then form.Blank else if a == 13 && b == 10 then form.LineEnd else if a == 47 && b == 47 then form.Comment else if a == 34 then form.Text else if is_letter a then form.Name else if is_ascii_digit a then form.Number else form.Sign) h
+first_test a b h = ap (λ t. if t then form.Blank else if a == 13 && b == 10 then form.LineEnd else if a == 47 && b == 47 then form.Comment else if a == 34 then form.Text else if is_name_start a then form.Name else if is_ascii_digit a then form.Number else form.Sign) h
 
 line_end : (a b : ℕ) → (a == 13 && b == 10) ≡ true → form_by a b ≡ form.LineEnd
 line_end a b h =
@@ -100,27 +101,27 @@ comment_form [] h = cc
 comment_form (a ∷ []) h = cc
 comment_form (a ∷ b ∷ bs) h = subst (λ f. FormAt f (a ∷ b ∷ bs)) (sym (two_slashes a b (and_cases (a == 47 && b == 47) (list_all is_inside_line bs) h).0)) h
 
-letter_form : (a b : ℕ) → is_letter a ≡ true → form_by a b ≡ form.Name
-letter_form a b h = rw (differs is_letter a 32 h refl, differs is_letter a 9 h refl, differs is_letter a 10 h refl, differs is_letter a 13 h refl, differs is_letter a 47 h refl, differs is_letter a 34 h refl, h) refl
+letter_form : (a b : ℕ) → is_name_start a ≡ true → form_by a b ≡ form.Name
+letter_form a b h = rw (differs is_name_start a 32 h refl, differs is_name_start a 9 h refl, differs is_name_start a 10 h refl, differs is_name_start a 13 h refl, differs is_name_start a 47 h refl, differs is_name_start a 34 h refl, h) refl
 
-name_is : (bs : List ℕ) → is_name bs ≡ true → form_of bs ≡ form.Name
+name_is : (bs : List ℕ) → is_word bs ≡ true → form_of bs ≡ form.Name
 name_is [] h = cc
-name_is (a ∷ bs) h = letter_form a (get_or bs 0 0) (and_cases (is_letter a) (list_all is_name_byte bs) h).0
+name_is (a ∷ bs) h = letter_form a (get_or bs 0 0) (and_cases (is_name_start a) (list_all is_name_byte bs) h).0
 
-name_form : (bs : List ℕ) → is_name bs ≡ true → FormAt (form_of bs) bs
+name_form : (bs : List ℕ) → is_word bs ≡ true → FormAt (form_of bs) bs
 name_form bs h = subst (λ f. FormAt f bs) (sym (name_is bs h)) h
 
-digit_no_letter : (a : ℕ) → is_ascii_digit a ≡ true → is_letter a ≡ false
+digit_no_letter : (a : ℕ) → is_ascii_digit a ≡ true → is_name_start a ≡ false
 digit_no_letter a h = grind (arith, nat_tests)
 
 digit_form : (a b : ℕ) → is_ascii_digit a ≡ true → form_by a b ≡ form.Number
 digit_form a b h = rw (differs is_ascii_digit a 32 h refl, differs is_ascii_digit a 9 h refl, differs is_ascii_digit a 10 h refl, differs is_ascii_digit a 13 h refl, differs is_ascii_digit a 47 h refl, differs is_ascii_digit a 34 h refl, digit_no_letter a h, h) refl
 
-number_is : (bs : List ℕ) → is_number bs ≡ true → form_of bs ≡ form.Number
+number_is : (bs : List ℕ) → is_digits bs ≡ true → form_of bs ≡ form.Number
 number_is [] h = cc
 number_is (a ∷ bs) h = digit_form a (get_or bs 0 0) (and_cases (is_ascii_digit a) (list_all is_ascii_digit bs) h).0
 
-number_form : (bs : List ℕ) → is_number bs ≡ true → FormAt (form_of bs) bs
+number_form : (bs : List ℕ) → is_digits bs ≡ true → FormAt (form_of bs) bs
 number_form bs h = subst (λ f. FormAt f bs) (sym (number_is bs h)) h
 
 text_is : (bs t : List ℕ) → bs ≡ quoted t → form_of bs ≡ form.Text
@@ -157,7 +158,7 @@ sign_form bs s h = subst (λ f. FormAt f bs) (sym (sign_is bs s h)) (s, h)
 pub formed : (p : Piece) (bs : List ℕ) → IsPiece p bs → FormAt (form_of bs) bs
 formed Gap bs h = ⊎_elim (blank_form bs) (comment_form bs) h
 formed (Spell (word.Name t)) bs h = name_form bs h.0
-formed (Spell (word.Key k)) bs h = name_form bs (keyword_passes is_name bs k refl h)
+formed (Spell (word.Key k)) bs h = name_form bs (keyword_passes is_word bs k refl h)
 formed (Spell (word.Number n)) bs h = number_form bs h.0
 formed (Spell (word.Text t)) bs h = text_form bs t h.0 h.1
 formed (Spell (word.Sign s)) bs h = sign_form bs s h
@@ -205,7 +206,7 @@ comment_tag (a ∷ b ∷ bs) h = ap form_tag (two_slashes a b (and_cases (a == 4
 pub tagged : (p : Piece) (bs : List ℕ) → IsPiece p bs → form_tag (form_of bs) ≡ tag p
 tagged Gap bs h = ⊎_elim (blank_tag bs) (comment_tag bs) h
 tagged (Spell (word.Name t)) bs h = ap form_tag (name_is bs h.0)
-tagged (Spell (word.Key k)) bs h = ap form_tag (name_is bs (keyword_passes is_name bs k refl h))
+tagged (Spell (word.Key k)) bs h = ap form_tag (name_is bs (keyword_passes is_word bs k refl h))
 tagged (Spell (word.Number n)) bs h = ap form_tag (number_is bs h.0)
 tagged (Spell (word.Text t)) bs h = ap form_tag (text_is bs t h.0)
 tagged (Spell (word.Sign s)) bs h = ap form_tag (sign_is bs s h)

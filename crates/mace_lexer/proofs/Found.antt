@@ -6,6 +6,7 @@ use Rattle.std.proofs.lemmas.List.{length-take, drop_at, drop-drop}
 use Rattle.std.proofs.lemmas.List.Elements.{All-push, All-nil}
 use Rattle.std.proofs.lemmas.List.Sums.{AllPass-from_list_all, prefix_len-le-length}
 use Rattle.std.proofs.lemmas.Bool.Decides.{nat_tests}
+use Rattle.wave_base.specs.Names.{is_digits, is_name_byte, is_word}
 use Rattle.wave_base.specs.Text.{IsPrintable, IsText}
 use Rattle.mace_lexer.specs.declared.cut.Cut.TheVariants as cut
 use Rattle.mace_lexer.specs.declared.cut.Form.TheVariants as form
@@ -15,7 +16,7 @@ use Rattle.mace_lexer.specs.declared.quoted.Inside.TheVariants.{Byte, Close, Ope
 use Rattle.mace_lexer.specs.declared.sign.Sign.{Sign}
 use Rattle.mace_lexer.specs.declared.token.Word.TheVariants as word
 use Rattle.mace_lexer.specs.declared.fault.LexFault.TheVariants.{BadByte, NumberRange, OpenText, NameLong, TextLong}
-use Rattle.mace_lexer.specs.Words.{is_inside_line, is_name_byte, is_name, is_number, value_of, greatest, keyword, sign, form_of}
+use Rattle.mace_lexer.specs.Words.{is_inside_line, value_of, greatest, keyword, sign, form_of}
 use Rattle.mace_lexer.specs.Texts.{escaped_byte, escaped, quoted, inside_of}
 use Rattle.mace_lexer.specs.Pieces.{Piece, Spell, Wrong, IsPiece, IsLongest}
 use Rattle.mace_lexer.specs.Cuts.{IsCut, IsBody, StopsInside}
@@ -29,8 +30,8 @@ module _ (text : List ℕ) (n : ℕ) where
   -- ---- names
 
   module _ (some : 0 < length text) (h : form_of text ≡ form.Name) (e : n ≡ prefix_len is_name_byte text) where
-    pub whole_name : is_name (take n text) ≡ true
-    whole_name = subst (λ k. is_name (take k text) ≡ true) (sym e) (name_front text some h)
+    pub whole_name : is_word (take n text) ≡ true
+    whole_name = subst (λ k. is_word (take k text) ≡ true) (sym e) (name_front text some h)
 
     pub name_size : length (take n text) ≡ n
     name_size = omega (arith, length-take n text, prefix_len-le-length is_name_byte text)
@@ -59,8 +60,8 @@ module _ (text : List ℕ) (n : ℕ) where
   -- ---- numbers
 
   module _ (some : 0 < length text) (h : form_of text ≡ form.Number) (e : n ≡ prefix_len is_ascii_digit text) where
-    pub whole_number : is_number (take n text) ≡ true
-    whole_number = subst (λ k. is_number (take k text) ≡ true) (sym e) (number_front text some h)
+    pub whole_number : is_digits (take n text) ≡ true
+    whole_number = subst (λ k. is_digits (take k text) ≡ true) (sym e) (number_front text some h)
 
     pub longest_number : (p : Piece) → IsPiece p (take n text) → (0 < n) × IsLongest text n p
     longest_number p k = subst (λ m. IsPiece p (take m text) → (0 < m) × IsLongest text m p) (sym e) (λ x. (number_some text some h, number_cut text p some h x)) k

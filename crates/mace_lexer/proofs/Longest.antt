@@ -7,13 +7,14 @@ use Rattle.std.proofs.Math.Numerals.{one-add}
 use Rattle.std.proofs.lemmas.List.{get_or-take, length-take, take_at, take-append-drop, append_cancel_left}
 use Rattle.std.proofs.lemmas.List.Sums.{prefix_len-le-length}
 use Rattle.std.proofs.lemmas.Bool.Decides.{nat_tests}
+use Rattle.wave_base.specs.Names.{is_digits, is_name_start, is_name_byte, is_word}
 use Rattle.wave_base.specs.Text.{IsPrintable}
 use Rattle.mace_lexer.specs.declared.cut.Form.{Form}
 use Rattle.mace_lexer.specs.declared.cut.Form.TheVariants as form
 use Rattle.mace_lexer.specs.declared.quoted.Inside.TheVariants.{Close}
 use Rattle.mace_lexer.specs.declared.sign.Sign.{Sign}
 use Rattle.mace_lexer.specs.declared.token.Word.TheVariants as word
-use Rattle.mace_lexer.specs.Words.{is_blank, is_inside_line, is_comment, is_letter, is_name_byte, is_name, is_number, sign, form_by, form_of}
+use Rattle.mace_lexer.specs.Words.{is_blank, is_inside_line, is_comment, sign, form_by, form_of}
 use Rattle.mace_lexer.specs.Texts.{escaped, quoted, inside_of, is_byte}
 use Rattle.mace_lexer.specs.Pieces.{Piece, Gap, Spell, IsPiece, IsLongest, HasNone}
 use Rattle.mace_lexer.specs.Cuts.{IsBody}
@@ -51,10 +52,10 @@ told false false false false false true = refl
 told false false false false false false = (refl, refl, refl, refl)
 
 abbrev Tests : Form → ℕ → ℕ → Type 0
-Tests f a b = Told f (a == 32 || a == 9 || a == 10) (a == 13 && b == 10) (a == 47 && b == 47) (a == 34) (is_letter a) (is_ascii_digit a)
+Tests f a b = Told f (a == 32 || a == 9 || a == 10) (a == 13 && b == 10) (a == 47 && b == 47) (a == 34) (is_name_start a) (is_ascii_digit a)
 
 pub tests : (f : Form) (a b : ℕ) → form_by a b ≡ f → Tests f a b
-tests f a b h = subst (λ g. Tests g a b) h (told (a == 32 || a == 9 || a == 10) (a == 13 && b == 10) (a == 47 && b == 47) (a == 34) (is_letter a) (is_ascii_digit a))
+tests f a b h = subst (λ g. Tests g a b) h (told (a == 32 || a == 9 || a == 10) (a == 13 && b == 10) (a == 47 && b == 47) (a == 34) (is_name_start a) (is_ascii_digit a))
 
 -- ---- a longest piece, by its form
 
@@ -125,24 +126,24 @@ some_run p (a ∷ bs) l h = rw h (omega arith)
 
 -- ---- names
 
-letter_in_name : (a : ℕ) → is_letter a ≡ true → is_name_byte a ≡ true
+letter_in_name : (a : ℕ) → is_name_start a ≡ true → is_name_byte a ≡ true
 letter_in_name a h = grind (arith, nat_tests)
 
-pub name_all : (bs : List ℕ) → is_name bs ≡ true → list_all is_name_byte bs ≡ true
+pub name_all : (bs : List ℕ) → is_word bs ≡ true → list_all is_name_byte bs ≡ true
 name_all [] h = cc
-name_all (a ∷ bs) h = let both = and_cases (is_letter a) (list_all is_name_byte bs) h in rw (letter_in_name a both.0) both.1
+name_all (a ∷ bs) h = let both = and_cases (is_name_start a) (list_all is_name_byte bs) h in rw (letter_in_name a both.0) both.1
 
-name_by : (bs : List ℕ) → 0 < length bs → is_letter (get_or bs 0 0) ≡ true → list_all is_name_byte bs ≡ true → is_name bs ≡ true
+name_by : (bs : List ℕ) → 0 < length bs → is_name_start (get_or bs 0 0) ≡ true → list_all is_name_byte bs ≡ true → is_word bs ≡ true
 name_by [] l h k = absurd (omega arith)
 name_by (a ∷ bs) l h k = rw h (and_cases (is_name_byte a) (list_all is_name_byte bs) k).1
 
-name_letter : (text : List ℕ) → form_of text ≡ form.Name → is_letter (get_or text 0 0) ≡ true
+name_letter : (text : List ℕ) → form_of text ≡ form.Name → is_name_start (get_or text 0 0) ≡ true
 name_letter text h = tests form.Name (get_or text 0 0) (get_or text 1 0) h
 
 pub name_some : (text : List ℕ) → 0 < length text → form_of text ≡ form.Name → 0 < prefix_len is_name_byte text
 name_some text l h = some_run is_name_byte text l (letter_in_name (get_or text 0 0) (name_letter text h))
 
-pub name_front : (text : List ℕ) → 0 < length text → form_of text ≡ form.Name → is_name (take (prefix_len is_name_byte text) text) ≡ true
+pub name_front : (text : List ℕ) → 0 < length text → form_of text ≡ form.Name → is_word (take (prefix_len is_name_byte text) text) ≡ true
 name_front text l h =
     let n = prefix_len is_name_byte text in
     let some : 0 < n = name_some text l h in
@@ -154,11 +155,11 @@ name_cut text p l h piece = longest_by text (prefix_len is_name_byte text) p for
 
 -- ---- numbers
 
-pub number_all : (bs : List ℕ) → is_number bs ≡ true → list_all is_ascii_digit bs ≡ true
+pub number_all : (bs : List ℕ) → is_digits bs ≡ true → list_all is_ascii_digit bs ≡ true
 number_all [] h = cc
 number_all (a ∷ bs) h = h
 
-number_by : (bs : List ℕ) → 0 < length bs → list_all is_ascii_digit bs ≡ true → is_number bs ≡ true
+number_by : (bs : List ℕ) → 0 < length bs → list_all is_ascii_digit bs ≡ true → is_digits bs ≡ true
 number_by [] l h = absurd (omega arith)
 number_by (a ∷ bs) l h = h
 
@@ -168,7 +169,7 @@ number_digit text h = tests form.Number (get_or text 0 0) (get_or text 1 0) h
 pub number_some : (text : List ℕ) → 0 < length text → form_of text ≡ form.Number → 0 < prefix_len is_ascii_digit text
 number_some text l h = some_run is_ascii_digit text l (number_digit text h)
 
-pub number_front : (text : List ℕ) → 0 < length text → form_of text ≡ form.Number → is_number (take (prefix_len is_ascii_digit text) text) ≡ true
+pub number_front : (text : List ℕ) → 0 < length text → form_of text ≡ form.Number → is_digits (take (prefix_len is_ascii_digit text) text) ≡ true
 number_front text l h =
     let n = prefix_len is_ascii_digit text in
     let some : 0 < n = number_some text l h in

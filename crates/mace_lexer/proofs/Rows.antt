@@ -1,9 +1,10 @@
 -- The definitions on small texts.
 use Rattle.std.proofs.Common.{◌≡◌, [], ◌∷◌, true, false, Some, None, refl}
+use Rattle.wave_base.specs.Names.{is_word}
 use Rattle.mace_lexer.specs.declared.keyword.Keyword.TheVariants as k
 use Rattle.mace_lexer.specs.declared.sign.Sign.TheVariants as s
 use Rattle.mace_lexer.specs.declared.quoted.Inside.TheVariants.{Byte, Open, Bad}
-use Rattle.mace_lexer.specs.Words.{is_blank, is_name, value_of, keyword, sign}
+use Rattle.mace_lexer.specs.Words.{is_blank, value_of, keyword, sign}
 use Rattle.mace_lexer.specs.Texts.{quoted, inside_of}
 use Rattle.mace_lexer.specs.Cuts.{past}
 use Rattle.mace_lexer.specs.Lexed.{start}
@@ -29,10 +30,10 @@ lone_return : is_blank (13 ∷ []) ≡ false
 lone_return = refl
 
 -- "_1" is a name, "1_" is none, and "007" is 7
-underscore_name : is_name (95 ∷ 49 ∷ []) ≡ true
+underscore_name : is_word (95 ∷ 49 ∷ []) ≡ true
 underscore_name = refl
 
-digit_first : is_name (49 ∷ 95 ∷ []) ≡ false
+digit_first : is_word (49 ∷ 95 ∷ []) ≡ false
 digit_first = refl
 
 seven : value_of (48 ∷ 48 ∷ 55 ∷ []) ≡ 7

@@ -1,12 +1,13 @@
 -- The piece at the front of a text: the longest front that is one.
 use Rattle.std.specs.Prelude.{◌≡◌, ℕ, pos, ◌<◌, ◌≤◌, ◌⊎◌, true, List, length, take, All, Some, None}
+use Rattle.wave_base.specs.Names.{is_digits, is_word}
 use Rattle.wave_base.specs.declared.limits.TheConstants.{NAME_BYTES, LITERAL_BYTES}
 use Rattle.wave_base.specs.Text.{IsPrintable}
 use Rattle.mace_lexer.specs.declared.token.Word.{Word}
 use Rattle.mace_lexer.specs.declared.token.Word.TheVariants as word
 use Rattle.mace_lexer.specs.declared.fault.LexFault.{LexFault}
 use Rattle.mace_lexer.specs.declared.fault.LexFault.TheVariants.{BadByte, NumberRange, OpenText, NameLong, TextLong}
-use Rattle.mace_lexer.specs.Words.{is_blank, is_comment, is_name, is_number, value_of, greatest, keyword, sign}
+use Rattle.mace_lexer.specs.Words.{is_blank, is_comment, value_of, greatest, keyword, sign}
 use Rattle.mace_lexer.specs.Texts.{quoted}
 
 -- a blank or a comment, a word, or what has the form of a word and is too large for one
@@ -18,13 +19,13 @@ pub data Piece : Type 0 where
 -- these bytes are this piece
 abbrev pub IsPiece : Piece → List ℕ → Type 0
 IsPiece Gap bs = (is_blank bs ≡ true) ⊎ (is_comment bs ≡ true)
-IsPiece (Spell (word.Name t)) bs = (is_name bs ≡ true) × (length bs ≤ NAME_BYTES) × (keyword bs ≡ None) × (t ≡ bs)
+IsPiece (Spell (word.Name t)) bs = (is_word bs ≡ true) × (length bs ≤ NAME_BYTES) × (keyword bs ≡ None) × (t ≡ bs)
 IsPiece (Spell (word.Key k)) bs = keyword bs ≡ Some k
-IsPiece (Spell (word.Number n)) bs = (is_number bs ≡ true) × (value_of bs ≤ greatest) × (n ≡ pos (value_of bs))
+IsPiece (Spell (word.Number n)) bs = (is_digits bs ≡ true) × (value_of bs ≤ greatest) × (n ≡ pos (value_of bs))
 IsPiece (Spell (word.Text t)) bs = (bs ≡ quoted t) × All IsPrintable t × (length t ≤ LITERAL_BYTES)
 IsPiece (Spell (word.Sign s)) bs = sign bs ≡ Some s
-IsPiece (Wrong NameLong) bs = (is_name bs ≡ true) × (NAME_BYTES < length bs)
-IsPiece (Wrong NumberRange) bs = (is_number bs ≡ true) × (greatest < value_of bs)
+IsPiece (Wrong NameLong) bs = (is_word bs ≡ true) × (NAME_BYTES < length bs)
+IsPiece (Wrong NumberRange) bs = (is_digits bs ≡ true) × (greatest < value_of bs)
 IsPiece (Wrong TextLong) bs = (t : List ℕ) × (bs ≡ quoted t) × All IsPrintable t × (LITERAL_BYTES < length t)
 IsPiece (Wrong BadByte) bs = ⊥
 IsPiece (Wrong OpenText) bs = ⊥

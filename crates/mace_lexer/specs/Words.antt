@@ -1,8 +1,9 @@
--- Which bytes make a name, a keyword, a number and a sign.
+-- Which bytes make a blank, a comment, a keyword and a sign, and the number that digits make.
 use Rattle.std.specs.Prelude.{ℕ, ◌+◌, ◌-◌, ◌*◌, Bool, false, not, ◌&&◌, ◌||◌, ◌==◌, if◌then◌else◌, List, [], ◌∷◌, map, fold, slice_index, get_or, Option, Some, None}
-use Rattle.std.specs.Char.{is_ascii_digit, is_ascii_alphabetic, is_ascii_alphanumeric}
+use Rattle.std.specs.Char.{is_ascii_digit}
 use Rattle.std.specs.List.{list_all}
 use Rattle.std.specs.Str.{bytes_eq}
+use Rattle.wave_base.specs.Names.{is_name_start, is_name_byte}
 use Rattle.mace_lexer.specs.Codes.{key_code, sign_code}
 use Rattle.mace_lexer.specs.declared.cut.Class.{Class}
 use Rattle.mace_lexer.specs.declared.cut.Class.TheVariants as class
@@ -30,25 +31,7 @@ is_comment [] = false
 is_comment (a ∷ []) = false
 is_comment (a ∷ b ∷ bs) = a == 47 && b == 47 && list_all is_inside_line bs
 
--- ---- names
-
-abbrev pub is_letter : ℕ → Bool
-is_letter b = is_ascii_alphabetic b || b == 95
-
-abbrev pub is_name_byte : ℕ → Bool
-is_name_byte b = is_ascii_alphanumeric b || b == 95
-
--- a letter or `_`, and then letters, digits and `_`
-abbrev pub is_name : List ℕ → Bool
-is_name [] = false
-is_name (a ∷ bs) = is_letter a && list_all is_name_byte bs
-
 -- ---- numbers
-
--- one or more digits
-abbrev pub is_number : List ℕ → Bool
-is_number [] = false
-is_number (a ∷ bs) = is_ascii_digit a && list_all is_ascii_digit bs
 
 abbrev pub with_digit : ℕ → ℕ → ℕ
 with_digit value digit = 10 * value + (digit - 48)
@@ -100,7 +83,7 @@ form_by a b =
     else if a == 13 && b == 10 then form.LineEnd
     else if a == 47 && b == 47 then form.Comment
     else if a == 34 then form.Text
-    else if is_letter a then form.Name
+    else if is_name_start a then form.Name
     else if is_ascii_digit a then form.Number
     else form.Sign
 

@@ -5,7 +5,7 @@ ghost use Rattle.mace_lexer.specs.Lexed.{start};
 
 use wave_base::Span;
 
-// The place behind these bytes.
+/// The place behind these bytes.
 pub fn past(at: Span, bytes: &[u8]) -> Span
     requires line { at.line + length bytes.now < 2 ^ 32 }
     requires col { at.col + length bytes.now < 2 ^ 32 }

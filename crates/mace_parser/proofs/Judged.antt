@@ -10,7 +10,7 @@ use Rattle.mace_ast.specs.Decls.{ServiceTree, service_tree, bare_service}
 use Rattle.mace_parser.specs.declared.fault.ParseError.{ParseError}
 use Rattle.mace_parser.specs.declared.fault.ParseError.TheVariants.{Expected, TooDeep, OutOfMemory}
 use Rattle.mace_grammar.specs.Grammar as g
-use Rattle.mace_grammar.specs.Run.{rest_of}
+use Rattle.mace_grammar.specs.inner.Run.{rest_of}
 use Rattle.mace_grammar.specs.Nest.{nest_after, IsShallow, IsFirstDeep}
 use Rattle.mace_grammar.specs.Spelled.{words, plain, Spelled, Begun, IsExpected, IsTooDeep, place_in}
 use Rattle.mace_parser.specs.Parsed.{TellsFault, AnswersTree, AnswersFault}

@@ -16,9 +16,9 @@ use Rattle.wave_base.specs.declared.span.Span.{Span}
 use Rattle.mace_parser.specs.declared.fault.Fault.{Fault}
 use Rattle.mace_parser.specs.declared.fault.Fault.TheVariants.{Memory, Stuck}
 use Rattle.mace_parser.specs.inner.Gives.{Fails}
-use Rattle.mace_grammar.specs.Run.{Reader, Outcome, and_then, give, choice, sees, deeper, ◌>>=◌}
-use Rattle.mace_grammar.specs.Classes.{kind}
-use Rattle.mace_grammar.specs.Readers.{if_sign, field_at, bracketed_at, above_at, key_at, sign_at, name_at, any_expr_at, block_at, else_at, if_at, while_at, for_at, vars_at, contexts_in, methods_at, one_context_at}
+use Rattle.mace_grammar.specs.inner.Run.{Reader, Outcome, and_then, give, choice, sees, deeper, ◌>>=◌}
+use Rattle.mace_grammar.specs.inner.Classes.{kind}
+use Rattle.mace_grammar.specs.inner.Readers.{if_sign, field_at, bracketed_at, above_at, key_at, sign_at, name_at, any_expr_at, block_at, else_at, if_at, while_at, for_at, vars_at, contexts_in, methods_at, one_context_at}
 use Rattle.mace_grammar.specs.Nest.{Pieces, no_pieces, past_word, nest, nest_after, IsShallow, IsFirstDeep}
 use Rattle.mace_grammar.specs.Spelled.{words, place_in}
 use Rattle.std.proofs.Math.Seq.{take-suc}

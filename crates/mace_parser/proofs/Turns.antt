@@ -8,9 +8,9 @@ use Rattle.mace_parser.specs.declared.fault.Fault.{Fault}
 use Rattle.mace_parser.specs.declared.fault.Fault.TheVariants.{Memory, Stuck}
 use Rattle.mace_parser.specs.inner.Gives.{Fails}
 use Rattle.mace_grammar.specs.Grammar.{joined}
-use Rattle.mace_grammar.specs.Run.{Outcome, Reader, and_then, give, after, sees, each, each_of, with_front}
-use Rattle.mace_grammar.specs.Classes.{kind}
-use Rattle.mace_grammar.specs.Readers.{operators_of, operator_at, operand_at, operands_at, turns_of, level_at}
+use Rattle.mace_grammar.specs.inner.Run.{Outcome, Reader, and_then, give, after, sees, each, each_of, with_front}
+use Rattle.mace_grammar.specs.inner.Classes.{kind}
+use Rattle.mace_grammar.specs.inner.Readers.{operators_of, operator_at, operand_at, operands_at, turns_of, level_at}
 
 suc_sub : (n k : ℕ) → k < n → n - k ≡ suc (n - (k + 1))
 suc_sub n k h = omega arith

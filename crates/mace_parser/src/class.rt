@@ -1,9 +1,9 @@
 // The class of a token, which tells the words apart that the grammar tells apart.
 
 ghost use Rattle.std.specs.Prelude.{◌≡◌, ◌<◌, [], ◌∷◌};
-ghost use Rattle.mace_grammar.specs.Classes as spec;
-ghost use Rattle.mace_grammar.specs.Run.{sees};
-ghost use Rattle.mace_grammar.specs.Readers as reader;
+ghost use Rattle.mace_grammar.specs.inner.Classes as spec;
+ghost use Rattle.mace_grammar.specs.inner.Run.{sees};
+ghost use Rattle.mace_grammar.specs.inner.Readers as reader;
 
 use mace_lexer::{Keyword, Sign, Token, Word};
 
@@ -90,36 +90,42 @@ fn sees_any(set: &[u8], tokens: &[Token]) -> bool
     }
 }
 
+/// Whether this keyword is next.
 pub fn sees_key(want: Keyword, tokens: &[Token]) -> bool
     ensures { result ≡ sees spec.kind (reader.if_key want) tokens.now }
 {
     sees_any(&[KEYS + want.code()], tokens)
 }
 
+/// Whether this sign is next.
 pub fn sees_sign(want: Sign, tokens: &[Token]) -> bool
     ensures { result ≡ sees spec.kind (reader.if_sign want) tokens.now }
 {
     sees_any(&[SIGNS + want.code()], tokens)
 }
 
+/// Whether a name is next.
 pub fn sees_name(tokens: &[Token]) -> bool
     ensures { result ≡ sees spec.kind (spec.name_class ∷ []) tokens.now }
 {
     sees_any(&[NAME], tokens)
 }
 
+/// Whether what begins a value that is written out is next.
 pub fn sees_literal(tokens: &[Token]) -> bool
     ensures { result ≡ sees spec.kind reader.initials tokens.now }
 {
     sees_any(&INITIALS, tokens)
 }
 
+/// Whether what begins an expression is next.
 pub fn begins_expr(tokens: &[Token]) -> bool
     ensures { result ≡ sees spec.kind reader.starts tokens.now }
 {
     sees_any(&EXPR_STARTS, tokens)
 }
 
+/// Whether an operator before one operand is next.
 pub fn sees_unary(tokens: &[Token]) -> bool
     ensures { result ≡ sees spec.kind reader.unary_ops tokens.now }
 {
@@ -140,6 +146,7 @@ pub fn sees_operator(level: u8, tokens: &[Token]) -> bool
     }
 }
 
+/// Whether what begins a statement is next.
 pub fn begins_stmt(tokens: &[Token]) -> bool
     ensures { result ≡ sees spec.kind reader.stmt_starts tokens.now }
 {

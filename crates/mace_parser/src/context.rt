@@ -2,7 +2,7 @@
 
 ghost use Rattle.std.specs.Prelude.{◌≡◌, map};
 ghost use Rattle.mace_ast.specs.Decls.{context_tree, service_tree};
-ghost use Rattle.mace_grammar.specs.Readers as reader;
+ghost use Rattle.mace_grammar.specs.inner.Readers as reader;
 ghost use Rattle.mace_parser.specs.inner.Gives.{Gives};
 
 use crate::class::sees_key;
@@ -17,7 +17,7 @@ use std::alloc::Global;
 use wave_base::Seq;
 
 #[cycle(context)]
-#[tactic(auto, unfolding(mace_grammar::specs::Readers::one_context_at))]
+#[tactic(auto, unfolding(mace_grammar::specs::inner::Readers::one_context_at))]
 fn context<'a>(alloc: Global, depth: usize, tokens: &'a [Token]) -> Read<'a, ContextDecl>
     ensures { Gives (λ x. (context_tree x.0, x.1.now)) result (reader.context_at depth tokens.now) }
 {
@@ -40,7 +40,7 @@ fn context<'a>(alloc: Global, depth: usize, tokens: &'a [Token]) -> Read<'a, Con
 
 // Contexts, one behind the other.
 #[cycle(context)]
-#[tactic(auto, unfolding(mace_grammar::specs::Readers::contexts_in))]
+#[tactic(auto, unfolding(mace_grammar::specs::inner::Readers::contexts_in))]
 fn contexts<'a>(alloc: Global, depth: usize, tokens: &'a [Token]) -> Read<'a, Vec<ContextDecl>>
     ensures { Gives (λ x. (map context_tree x.0.items, x.1.now)) result (reader.contexts_in (reader.context_at depth) tokens.now) }
 {
@@ -58,7 +58,7 @@ fn contexts<'a>(alloc: Global, depth: usize, tokens: &'a [Token]) -> Read<'a, Ve
 }
 
 /// A service. `depth` is more than the tokens.
-#[tactic(auto, unfolding(mace_grammar::specs::Readers::service_at))]
+#[tactic(auto, unfolding(mace_grammar::specs::inner::Readers::service_at))]
 pub fn service<'a>(alloc: Global, depth: usize, tokens: &'a [Token]) -> Read<'a, Service>
     ensures { Gives (λ x. (service_tree x.0, x.1.now)) result (reader.service_at depth tokens.now) }
 {

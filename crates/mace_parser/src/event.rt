@@ -4,7 +4,7 @@ ghost use Rattle.std.specs.Prelude.{◌≡◌, map};
 ghost use Rattle.std.specs.Option.{option_map};
 ghost use Rattle.mace_ast.specs.Decls.{event_tree, phase_tree};
 ghost use Rattle.mace_ast.specs.Stmts.{stmt_tree};
-ghost use Rattle.mace_grammar.specs.Readers as reader;
+ghost use Rattle.mace_grammar.specs.inner.Readers as reader;
 ghost use Rattle.mace_parser.specs.inner.Gives.{Gives};
 
 use crate::class::sees_key;
@@ -17,7 +17,7 @@ use mace_lexer::{Keyword, Sign, Token};
 use std::alloc::Global;
 use wave_base::Seq;
 
-#[tactic(auto, unfolding(mace_grammar::specs::Readers::any_block_at))]
+#[tactic(auto, unfolding(mace_grammar::specs::inner::Readers::any_block_at))]
 fn body<'a>(alloc: Global, depth: usize, tokens: &'a [Token]) -> Read<'a, Seq<Stmt>>
     ensures { Gives (λ x. (map stmt_tree x.0, x.1.now)) result (reader.any_block_at depth tokens.now) }
 {
@@ -25,7 +25,7 @@ fn body<'a>(alloc: Global, depth: usize, tokens: &'a [Token]) -> Read<'a, Seq<St
     Ok((Seq::from_vec(found), rest))
 }
 
-#[tactic(auto, unfolding(mace_grammar::specs::Readers::down_at))]
+#[tactic(auto, unfolding(mace_grammar::specs::inner::Readers::down_at))]
 fn phase<'a>(alloc: Global, depth: usize, tokens: &'a [Token]) -> Read<'a, Phase>
     ensures { Gives (λ x. (phase_tree x.0, x.1.now)) result (reader.down_at depth tokens.now) }
 {
@@ -43,7 +43,7 @@ fn phase<'a>(alloc: Global, depth: usize, tokens: &'a [Token]) -> Read<'a, Phase
 }
 
 // Phases, one behind the other.
-#[tactic(auto, unfolding(mace_grammar::specs::Readers::phases_at))]
+#[tactic(auto, unfolding(mace_grammar::specs::inner::Readers::phases_at))]
 fn phases<'a>(alloc: Global, depth: usize, tokens: &'a [Token]) -> Read<'a, Seq<Phase>>
     ensures { Gives (λ x. (map phase_tree x.0, x.1.now)) result (reader.phases_at depth tokens.now) }
 {
@@ -61,7 +61,7 @@ fn phases<'a>(alloc: Global, depth: usize, tokens: &'a [Token]) -> Read<'a, Seq<
 }
 
 // The statements at the root, where `here` is there.
-#[tactic(auto, unfolding(mace_grammar::specs::Readers::here_at))]
+#[tactic(auto, unfolding(mace_grammar::specs::inner::Readers::here_at))]
 fn here<'a>(alloc: Global, depth: usize, tokens: &'a [Token]) -> Read<'a, Option<Seq<Stmt>>>
     ensures { Gives (λ x. (option_map (map stmt_tree) x.0, x.1.now)) result (reader.here_at depth tokens.now) }
 {
@@ -73,7 +73,7 @@ fn here<'a>(alloc: Global, depth: usize, tokens: &'a [Token]) -> Read<'a, Option
     Ok((Some(body), rest))
 }
 
-#[tactic(auto, unfolding(mace_grammar::specs::Readers::event_at))]
+#[tactic(auto, unfolding(mace_grammar::specs::inner::Readers::event_at))]
 fn event<'a>(alloc: Global, depth: usize, tokens: &'a [Token]) -> Read<'a, EventDecl>
     ensures { Gives (λ x. (event_tree x.0, x.1.now)) result (reader.event_at depth tokens.now) }
 {
@@ -99,7 +99,7 @@ fn event<'a>(alloc: Global, depth: usize, tokens: &'a [Token]) -> Read<'a, Event
 }
 
 /// Events, one behind the other.
-#[tactic(auto, unfolding(mace_grammar::specs::Readers::events_at))]
+#[tactic(auto, unfolding(mace_grammar::specs::inner::Readers::events_at))]
 pub fn events<'a>(alloc: Global, depth: usize, tokens: &'a [Token]) -> Read<'a, Seq<EventDecl>>
     ensures { Gives (λ x. (map event_tree x.0, x.1.now)) result (reader.events_at depth tokens.now) }
 {

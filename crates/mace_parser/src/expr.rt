@@ -4,7 +4,7 @@ ghost use Rattle.std.specs.Prelude.{◌≡◌, ◌<◌, ◌≤◌, map};
 ghost use Rattle.std.specs.Option.{option_map};
 ghost use Rattle.mace_ast.specs.Exprs.{expr_tree};
 ghost use Rattle.mace_grammar.specs.Words as words;
-ghost use Rattle.mace_grammar.specs.Readers as reader;
+ghost use Rattle.mace_grammar.specs.inner.Readers as reader;
 ghost use Rattle.mace_parser.specs.inner.Gives.{Gives};
 
 use crate::class::{begins_expr, sees_literal, sees_operator, sees_sign, sees_unary};
@@ -165,7 +165,7 @@ fn most_operands(level: u8, tokens: &[Token]) -> usize
 // ---- the cycle
 
 #[cycle(expr)]
-#[tactic(auto, unfolding(mace_grammar::specs::Readers::signed_or_primary_at))]
+#[tactic(auto, unfolding(mace_grammar::specs::inner::Readers::signed_or_primary_at))]
 fn unary<'a>(alloc: Global, depth: usize, tokens: &'a [Token]) -> Read<'a, Expr>
     ensures { Gives (λ x. (expr_tree x.0, x.1.now)) result (reader.unary_at depth tokens.now) }
 {
@@ -179,7 +179,7 @@ fn unary<'a>(alloc: Global, depth: usize, tokens: &'a [Token]) -> Read<'a, Expr>
 }
 
 #[cycle(expr)]
-#[tactic(auto, unfolding(mace_grammar::specs::Readers::signed_at))]
+#[tactic(auto, unfolding(mace_grammar::specs::inner::Readers::signed_at))]
 fn signed<'a>(alloc: Global, depth: usize, tokens: &'a [Token]) -> Read<'a, Expr>
     ensures { Gives (λ x. (expr_tree x.0, x.1.now)) result (reader.signed_at (reader.unary_at depth) tokens.now) }
 {
@@ -189,7 +189,7 @@ fn signed<'a>(alloc: Global, depth: usize, tokens: &'a [Token]) -> Read<'a, Expr
 }
 
 #[cycle(expr)]
-#[tactic(auto, unfolding(mace_grammar::specs::Readers::primary_at))]
+#[tactic(auto, unfolding(mace_grammar::specs::inner::Readers::primary_at))]
 fn primary<'a>(alloc: Global, depth: usize, tokens: &'a [Token]) -> Read<'a, Expr>
     ensures { Gives (λ x. (expr_tree x.0, x.1.now)) result (reader.primary_at (reader.unary_at depth) tokens.now) }
 {
@@ -203,7 +203,7 @@ fn primary<'a>(alloc: Global, depth: usize, tokens: &'a [Token]) -> Read<'a, Exp
 }
 
 #[cycle(expr)]
-#[tactic(auto, unfolding(mace_grammar::specs::Readers::parenthesized_at))]
+#[tactic(auto, unfolding(mace_grammar::specs::inner::Readers::parenthesized_at))]
 fn parenthesized<'a>(alloc: Global, depth: usize, tokens: &'a [Token]) -> Read<'a, Expr>
     ensures { Gives (λ x. (expr_tree x.0, x.1.now)) result (reader.parenthesized_at (reader.unary_at depth) tokens.now) }
 {
@@ -215,7 +215,7 @@ fn parenthesized<'a>(alloc: Global, depth: usize, tokens: &'a [Token]) -> Read<'
 
 /// `[k]`
 #[cycle(expr)]
-#[tactic(auto, unfolding(mace_grammar::specs::Readers::bracketed_at))]
+#[tactic(auto, unfolding(mace_grammar::specs::inner::Readers::bracketed_at))]
 pub fn bracketed<'a>(alloc: Global, depth: usize, tokens: &'a [Token]) -> Read<'a, Expr>
     ensures { Gives (λ x. (expr_tree x.0, x.1.now)) result (reader.bracketed_at (reader.unary_at depth) tokens.now) }
 {
@@ -226,7 +226,7 @@ pub fn bracketed<'a>(alloc: Global, depth: usize, tokens: &'a [Token]) -> Read<'
 }
 
 #[cycle(expr)]
-#[tactic(auto, unfolding(mace_grammar::specs::Readers::named_at))]
+#[tactic(auto, unfolding(mace_grammar::specs::inner::Readers::named_at))]
 fn named<'a>(alloc: Global, depth: usize, tokens: &'a [Token]) -> Read<'a, Expr>
     ensures { Gives (λ x. (expr_tree x.0, x.1.now)) result (reader.named_at (reader.unary_at depth) tokens.now) }
 {
@@ -245,7 +245,7 @@ fn named<'a>(alloc: Global, depth: usize, tokens: &'a [Token]) -> Read<'a, Expr>
 
 // `f(..)`, behind the name.
 #[cycle(expr)]
-#[tactic(auto, unfolding(mace_grammar::specs::Readers::call_at))]
+#[tactic(auto, unfolding(mace_grammar::specs::inner::Readers::call_at))]
 fn call<'a>(alloc: Global, depth: usize, method: Name, tokens: &'a [Token]) -> Read<'a, Expr>
     ensures { Gives (λ x. (expr_tree x.0, x.1.now)) result (reader.call_at (reader.unary_at depth) method tokens.now) }
 {
@@ -255,7 +255,7 @@ fn call<'a>(alloc: Global, depth: usize, method: Name, tokens: &'a [Token]) -> R
 
 // `C.f` or `C.f[k]`, behind the class.
 #[cycle(expr)]
-#[tactic(auto, unfolding(mace_grammar::specs::Readers::above_at))]
+#[tactic(auto, unfolding(mace_grammar::specs::inner::Readers::above_at))]
 fn above<'a>(alloc: Global, depth: usize, class: Name, tokens: &'a [Token]) -> Read<'a, Expr>
     ensures { Gives (λ x. (expr_tree x.0, x.1.now)) result (reader.above_at (reader.unary_at depth) class tokens.now) }
 {
@@ -269,7 +269,7 @@ fn above<'a>(alloc: Global, depth: usize, class: Name, tokens: &'a [Token]) -> R
 
 // `m[k]` or `C[k].f(..)`, behind the name.
 #[cycle(expr)]
-#[tactic(auto, unfolding(mace_grammar::specs::Readers::index_at, mace_grammar::specs::Readers::child_call_at))]
+#[tactic(auto, unfolding(mace_grammar::specs::inner::Readers::index_at, mace_grammar::specs::inner::Readers::child_call_at))]
 fn index<'a>(alloc: Global, depth: usize, first: Name, tokens: &'a [Token]) -> Read<'a, Expr>
     ensures { Gives (λ x. (expr_tree x.0, x.1.now)) result (reader.index_at (reader.unary_at depth) first tokens.now) }
 {
@@ -284,7 +284,7 @@ fn index<'a>(alloc: Global, depth: usize, first: Name, tokens: &'a [Token]) -> R
 
 /// `(..)`
 #[cycle(expr)]
-#[tactic(auto, unfolding(mace_grammar::specs::Readers::arguments_at, mace_grammar::specs::Readers::separated_at))]
+#[tactic(auto, unfolding(mace_grammar::specs::inner::Readers::arguments_at, mace_grammar::specs::inner::Readers::separated_at))]
 pub fn arguments<'a>(alloc: Global, depth: usize, tokens: &'a [Token]) -> Read<'a, Vec<Expr>>
     ensures { Gives (λ x. (map expr_tree x.0.items, x.1.now)) result (reader.arguments_at (reader.unary_at depth) tokens.now) }
 {
@@ -299,7 +299,7 @@ pub fn arguments<'a>(alloc: Global, depth: usize, tokens: &'a [Token]) -> Read<'
 }
 
 #[cycle(expr)]
-#[tactic(auto, unfolding(mace_grammar::specs::Readers::list_at))]
+#[tactic(auto, unfolding(mace_grammar::specs::inner::Readers::list_at))]
 fn list<'a>(alloc: Global, depth: usize, tokens: &'a [Token]) -> Read<'a, Vec<Expr>>
     ensures { Gives (λ x. (map expr_tree x.0.items, x.1.now)) result (reader.list_at (reader.expr_at (reader.unary_at depth)) tokens.now) }
 {
@@ -318,7 +318,7 @@ fn list<'a>(alloc: Global, depth: usize, tokens: &'a [Token]) -> Read<'a, Vec<Ex
 }
 
 #[cycle(expr)]
-#[tactic(auto, unfolding(mace_grammar::specs::Readers::next_at))]
+#[tactic(auto, unfolding(mace_grammar::specs::inner::Readers::next_at))]
 fn next_expr<'a>(alloc: Global, depth: usize, tokens: &'a [Token]) -> Read<'a, Expr>
     ensures { Gives (λ x. (expr_tree x.0, x.1.now)) result (reader.next_at (reader.expr_at (reader.unary_at depth)) tokens.now) }
 {
@@ -327,7 +327,7 @@ fn next_expr<'a>(alloc: Global, depth: usize, tokens: &'a [Token]) -> Read<'a, E
 }
 
 #[cycle(expr)]
-#[tactic(auto, unfolding(mace_grammar::specs::Readers::operand_at))]
+#[tactic(auto, unfolding(mace_grammar::specs::inner::Readers::operand_at))]
 fn operand<'a>(
     alloc: Global,
     depth: usize,
@@ -345,7 +345,7 @@ fn operand<'a>(
 
 // A chain of operators of a level, and all that is tighter.
 #[cycle(expr)]
-#[tactic(auto, unfolding(mace_grammar::specs::Readers::operands_at))]
+#[tactic(auto, unfolding(mace_grammar::specs::inner::Readers::operands_at))]
 fn chain<'a>(alloc: Global, depth: usize, level: u8, tokens: &'a [Token]) -> Read<'a, Expr>
     requires { level ≤ 5 }
     ensures { Gives (λ x. (expr_tree x.0, x.1.now)) result (reader.level_at (reader.unary_at depth) level tokens.now) }
@@ -367,7 +367,7 @@ fn chain<'a>(alloc: Global, depth: usize, level: u8, tokens: &'a [Token]) -> Rea
 
 /// An expression. `depth` is more than the tokens that are left.
 #[cycle(expr)]
-#[tactic(auto, unfolding(mace_grammar::specs::Readers::expr_at))]
+#[tactic(auto, unfolding(mace_grammar::specs::inner::Readers::expr_at))]
 pub fn expr<'a>(alloc: Global, depth: usize, tokens: &'a [Token]) -> Read<'a, Expr>
     ensures { Gives (λ x. (expr_tree x.0, x.1.now)) result (reader.expr_at (reader.unary_at depth) tokens.now) }
 {

@@ -3,7 +3,7 @@
 ghost use Rattle.std.specs.Prelude.{◌≡◌, ◌+◌, ◌-◌};
 ghost use Rattle.std.specs.Option.{option_map};
 ghost use Rattle.mace_grammar.specs.Words as words;
-ghost use Rattle.mace_grammar.specs.Readers as reader;
+ghost use Rattle.mace_grammar.specs.inner.Readers as reader;
 ghost use Rattle.mace_parser.specs.inner.Gives.{Gives};
 
 use crate::class::{sees_key, sees_literal};
@@ -58,7 +58,7 @@ fn literal<'a>(alloc: Global, tokens: &'a [Token]) -> Read<'a, Initial>
     }
 }
 
-#[tactic(auto, unfolding(mace_grammar::specs::Readers::minus_number_at))]
+#[tactic(auto, unfolding(mace_grammar::specs::inner::Readers::minus_number_at))]
 fn minus_number(tokens: &[Token]) -> Read<'_, Initial>
     ensures { Gives (λ x. (x.0, x.1.now)) result (reader.minus_number_at tokens.now) }
 {
@@ -68,7 +68,7 @@ fn minus_number(tokens: &[Token]) -> Read<'_, Initial>
     Ok((Initial { at, value }, rest))
 }
 
-#[tactic(auto, unfolding(mace_grammar::specs::Readers::initial_at))]
+#[tactic(auto, unfolding(mace_grammar::specs::inner::Readers::initial_at))]
 fn initial<'a>(alloc: Global, tokens: &'a [Token]) -> Read<'a, Initial>
     ensures { Gives (λ x. (x.0, x.1.now)) result (reader.initial_at tokens.now) }
 {
@@ -78,7 +78,7 @@ fn initial<'a>(alloc: Global, tokens: &'a [Token]) -> Read<'a, Initial>
     minus_number(tokens)
 }
 
-#[tactic(auto, unfolding(mace_grammar::specs::Readers::var_at))]
+#[tactic(auto, unfolding(mace_grammar::specs::inner::Readers::var_at))]
 fn var<'a>(alloc: Global, tokens: &'a [Token]) -> Read<'a, VarDecl>
     ensures { Gives (λ x. (x.0, x.1.now)) result (reader.var_at tokens.now) }
 {
@@ -99,7 +99,7 @@ fn var<'a>(alloc: Global, tokens: &'a [Token]) -> Read<'a, VarDecl>
 }
 
 /// Fields, one behind the other.
-#[tactic(auto, unfolding(mace_grammar::specs::Readers::vars_at))]
+#[tactic(auto, unfolding(mace_grammar::specs::inner::Readers::vars_at))]
 pub fn vars<'a>(alloc: Global, tokens: &'a [Token]) -> Read<'a, Seq<VarDecl>>
     ensures { Gives (λ x. (x.0, x.1.now)) result (reader.vars_at tokens.now) }
 {

@@ -4,7 +4,7 @@ ghost use Rattle.std.specs.Prelude.{◌≡◌, map};
 ghost use Rattle.std.specs.Option.{option_map};
 ghost use Rattle.mace_ast.specs.Decls.{last_tree, method_tree};
 ghost use Rattle.mace_ast.specs.Stmts.{stmt_tree};
-ghost use Rattle.mace_grammar.specs.Readers as reader;
+ghost use Rattle.mace_grammar.specs.inner.Readers as reader;
 ghost use Rattle.mace_parser.specs.inner.Gives.{Gives};
 
 use crate::class::{sees_key, sees_name, sees_sign};
@@ -16,7 +16,7 @@ use mace_lexer::{Keyword, Sign, Token};
 use std::alloc::Global;
 use wave_base::{Kind, Seq};
 
-#[tactic(auto, unfolding(mace_grammar::specs::Readers::param_at))]
+#[tactic(auto, unfolding(mace_grammar::specs::inner::Readers::param_at))]
 fn param<'a>(alloc: Global, tokens: &'a [Token]) -> Read<'a, Param>
     ensures { Gives (λ x. (x.0, x.1.now)) result (reader.param_at tokens.now) }
 {
@@ -26,7 +26,7 @@ fn param<'a>(alloc: Global, tokens: &'a [Token]) -> Read<'a, Param>
     Ok((Param { name, kind }, rest))
 }
 
-#[tactic(auto, unfolding(mace_grammar::specs::Readers::next_at))]
+#[tactic(auto, unfolding(mace_grammar::specs::inner::Readers::next_at))]
 fn next_param<'a>(alloc: Global, tokens: &'a [Token]) -> Read<'a, Param>
     ensures { Gives (λ x. (x.0, x.1.now)) result (reader.next_at reader.param_at tokens.now) }
 {
@@ -34,7 +34,7 @@ fn next_param<'a>(alloc: Global, tokens: &'a [Token]) -> Read<'a, Param>
     param(alloc, rest)
 }
 
-#[tactic(auto, unfolding(mace_grammar::specs::Readers::list_at))]
+#[tactic(auto, unfolding(mace_grammar::specs::inner::Readers::list_at))]
 fn list<'a>(alloc: Global, tokens: &'a [Token]) -> Read<'a, Vec<Param>>
     ensures { Gives (λ x. (x.0.items, x.1.now)) result (reader.list_at reader.param_at tokens.now) }
 {
@@ -53,7 +53,7 @@ fn list<'a>(alloc: Global, tokens: &'a [Token]) -> Read<'a, Vec<Param>>
 }
 
 /// Parameters in their parentheses.
-#[tactic(auto, unfolding(mace_grammar::specs::Readers::params_at, mace_grammar::specs::Readers::separated_at))]
+#[tactic(auto, unfolding(mace_grammar::specs::inner::Readers::params_at, mace_grammar::specs::inner::Readers::separated_at))]
 pub fn params<'a>(alloc: Global, tokens: &'a [Token]) -> Read<'a, Seq<Param>>
     ensures { Gives (λ x. (x.0, x.1.now)) result (reader.params_at tokens.now) }
 {
@@ -68,7 +68,7 @@ pub fn params<'a>(alloc: Global, tokens: &'a [Token]) -> Read<'a, Seq<Param>>
 }
 
 /// `: T`, where it is there.
-#[tactic(auto, unfolding(mace_grammar::specs::Readers::result_at))]
+#[tactic(auto, unfolding(mace_grammar::specs::inner::Readers::result_at))]
 pub fn result_kind(tokens: &[Token]) -> Read<'_, Option<Kind>>
     ensures { Gives (λ x. (x.0, x.1.now)) result (reader.result_at tokens.now) }
 {
@@ -80,7 +80,7 @@ pub fn result_kind(tokens: &[Token]) -> Read<'_, Option<Kind>>
     Ok((Some(kind), rest))
 }
 
-#[tactic(auto, unfolding(mace_grammar::specs::Readers::last_at))]
+#[tactic(auto, unfolding(mace_grammar::specs::inner::Readers::last_at))]
 fn last<'a>(alloc: Global, want: Keyword, depth: usize, tokens: &'a [Token]) -> Read<'a, Last>
     ensures { Gives (λ x. (last_tree x.0, x.1.now)) result (reader.last_at want depth tokens.now) }
 {
@@ -91,7 +91,7 @@ fn last<'a>(alloc: Global, want: Keyword, depth: usize, tokens: &'a [Token]) -> 
 }
 
 /// The value at the end, where there is one.
-#[tactic(auto, unfolding(mace_grammar::specs::Readers::maybe_last_at))]
+#[tactic(auto, unfolding(mace_grammar::specs::inner::Readers::maybe_last_at))]
 pub fn maybe_last<'a>(
     alloc: Global,
     want: Keyword,
@@ -107,7 +107,7 @@ pub fn maybe_last<'a>(
     Ok((Some(last), rest))
 }
 
-#[tactic(auto, unfolding(mace_grammar::specs::Readers::stmts_at))]
+#[tactic(auto, unfolding(mace_grammar::specs::inner::Readers::stmts_at))]
 fn body<'a>(alloc: Global, depth: usize, tokens: &'a [Token]) -> Read<'a, Seq<Stmt>>
     ensures { Gives (λ x. (map stmt_tree x.0, x.1.now)) result (reader.stmts_at depth tokens.now) }
 {
@@ -115,7 +115,7 @@ fn body<'a>(alloc: Global, depth: usize, tokens: &'a [Token]) -> Read<'a, Seq<St
     Ok((Seq::from_vec(found), rest))
 }
 
-#[tactic(auto, unfolding(mace_grammar::specs::Readers::method_at))]
+#[tactic(auto, unfolding(mace_grammar::specs::inner::Readers::method_at))]
 fn method<'a>(alloc: Global, depth: usize, tokens: &'a [Token]) -> Read<'a, MethodDecl>
     ensures { Gives (λ x. (method_tree x.0, x.1.now)) result (reader.method_at depth tokens.now) }
 {
@@ -139,7 +139,7 @@ fn method<'a>(alloc: Global, depth: usize, tokens: &'a [Token]) -> Read<'a, Meth
 }
 
 /// Methods, one behind the other.
-#[tactic(auto, unfolding(mace_grammar::specs::Readers::methods_at))]
+#[tactic(auto, unfolding(mace_grammar::specs::inner::Readers::methods_at))]
 pub fn methods<'a>(alloc: Global, depth: usize, tokens: &'a [Token]) -> Read<'a, Seq<MethodDecl>>
     ensures { Gives (λ x. (map method_tree x.0, x.1.now)) result (reader.methods_at depth tokens.now) }
 {

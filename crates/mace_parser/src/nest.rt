@@ -9,7 +9,7 @@ use std::alloc::Global;
 use std::marker::Model;
 use wave_base::{NEST, OutOfMemory};
 
-// The operators of the current piece and of those under it, and the nest that they make.
+/// The operators of the current piece and of those under it, and the nest that they make.
 #[derive(Drop)]
 pub struct Pieces {
     current: usize,
@@ -29,6 +29,7 @@ impl Model for Pieces {
 }
 
 impl Pieces {
+    /// Nothing is open.
     pub fn new(alloc: Global) -> Pieces
         ensures { result ≡ spec.no_pieces }
     {

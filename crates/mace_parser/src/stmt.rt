@@ -5,7 +5,7 @@ ghost use Rattle.std.specs.Option.{option_map};
 ghost use Rattle.mace_ast.specs.Exprs.{expr_tree};
 ghost use Rattle.mace_ast.specs.Stmts.{stmt_tree};
 ghost use Rattle.mace_grammar.specs.Grammar.{target};
-ghost use Rattle.mace_grammar.specs.Readers as reader;
+ghost use Rattle.mace_grammar.specs.inner.Readers as reader;
 ghost use Rattle.mace_parser.specs.inner.Gives.{Gives};
 
 use crate::class::{begins_stmt, sees_key, sees_sign};
@@ -19,21 +19,23 @@ use wave_base::{Seq, Span};
 
 // ---- expressions behind which a statement goes on
 
-#[tactic(auto, unfolding(mace_grammar::specs::Readers::any_expr_at))]
+/// An expression of any level.
+#[tactic(auto, unfolding(mace_grammar::specs::inner::Readers::any_expr_at))]
 pub fn any_expr<'a>(alloc: Global, depth: usize, tokens: &'a [Token]) -> Read<'a, Expr>
     ensures { Gives (λ x. (expr_tree x.0, x.1.now)) result (reader.any_expr_at depth tokens.now) }
 {
     expr(alloc, depth, tokens)
 }
 
-#[tactic(auto, unfolding(mace_grammar::specs::Readers::any_key_at))]
+/// A key in brackets.
+#[tactic(auto, unfolding(mace_grammar::specs::inner::Readers::any_key_at))]
 pub fn any_key<'a>(alloc: Global, depth: usize, tokens: &'a [Token]) -> Read<'a, Expr>
     ensures { Gives (λ x. (expr_tree x.0, x.1.now)) result (reader.any_key_at depth tokens.now) }
 {
     bracketed(alloc, depth, tokens)
 }
 
-#[tactic(auto, unfolding(mace_grammar::specs::Readers::any_arguments_at))]
+#[tactic(auto, unfolding(mace_grammar::specs::inner::Readers::any_arguments_at))]
 fn any_arguments<'a>(alloc: Global, depth: usize, tokens: &'a [Token]) -> Read<'a, Seq<Expr>>
     ensures { Gives (λ x. (map expr_tree x.0, x.1.now)) result (reader.any_arguments_at depth tokens.now) }
 {
@@ -43,7 +45,7 @@ fn any_arguments<'a>(alloc: Global, depth: usize, tokens: &'a [Token]) -> Read<'
 
 // ---- statements without a block
 
-#[tactic(auto, unfolding(mace_grammar::specs::Readers::let_at))]
+#[tactic(auto, unfolding(mace_grammar::specs::inner::Readers::let_at))]
 fn let_stmt<'a>(alloc: Global, depth: usize, tokens: &'a [Token]) -> Read<'a, Stmt>
     ensures { Gives (λ x. (stmt_tree x.0, x.1.now)) result (reader.let_at depth tokens.now) }
 {
@@ -56,7 +58,7 @@ fn let_stmt<'a>(alloc: Global, depth: usize, tokens: &'a [Token]) -> Read<'a, St
     Ok((Stmt { at, action }, rest))
 }
 
-#[tactic(auto, unfolding(mace_grammar::specs::Readers::require_at))]
+#[tactic(auto, unfolding(mace_grammar::specs::inner::Readers::require_at))]
 fn require<'a>(alloc: Global, depth: usize, tokens: &'a [Token]) -> Read<'a, Stmt>
     ensures { Gives (λ x. (stmt_tree x.0, x.1.now)) result (reader.require_at depth tokens.now) }
 {
@@ -67,7 +69,7 @@ fn require<'a>(alloc: Global, depth: usize, tokens: &'a [Token]) -> Read<'a, Stm
     Ok((Stmt { at, action }, rest))
 }
 
-#[tactic(auto, unfolding(mace_grammar::specs::Readers::send_at))]
+#[tactic(auto, unfolding(mace_grammar::specs::inner::Readers::send_at))]
 fn send<'a>(alloc: Global, depth: usize, tokens: &'a [Token]) -> Read<'a, Stmt>
     ensures { Gives (λ x. (stmt_tree x.0, x.1.now)) result (reader.send_at depth tokens.now) }
 {
@@ -80,7 +82,7 @@ fn send<'a>(alloc: Global, depth: usize, tokens: &'a [Token]) -> Read<'a, Stmt>
     Ok((Stmt { at, action }, rest))
 }
 
-#[tactic(auto, unfolding(mace_grammar::specs::Readers::spawn_at))]
+#[tactic(auto, unfolding(mace_grammar::specs::inner::Readers::spawn_at))]
 fn spawn<'a>(alloc: Global, depth: usize, tokens: &'a [Token]) -> Read<'a, Stmt>
     ensures { Gives (λ x. (stmt_tree x.0, x.1.now)) result (reader.spawn_at depth tokens.now) }
 {
@@ -118,7 +120,7 @@ fn maybe_field<'a>(alloc: Global, tokens: &'a [Token]) -> Read<'a, Option<Name>>
     Ok((Some(field), rest))
 }
 
-#[tactic(auto, unfolding(mace_grammar::specs::Readers::drop_at))]
+#[tactic(auto, unfolding(mace_grammar::specs::inner::Readers::drop_at))]
 fn cut<'a>(alloc: Global, depth: usize, tokens: &'a [Token]) -> Read<'a, Stmt>
     ensures { Gives (λ x. (stmt_tree x.0, x.1.now)) result (reader.drop_at depth tokens.now) }
 {
@@ -133,7 +135,7 @@ fn cut<'a>(alloc: Global, depth: usize, tokens: &'a [Token]) -> Read<'a, Stmt>
 
 // ---- statements that begin with a name, behind what was read of them
 
-#[tactic(auto, unfolding(mace_grammar::specs::Readers::set_at))]
+#[tactic(auto, unfolding(mace_grammar::specs::inner::Readers::set_at))]
 fn set<'a>(
     alloc: Global,
     depth: usize,
@@ -151,7 +153,7 @@ fn set<'a>(
     Ok((Stmt { at, action }, rest))
 }
 
-#[tactic(auto, unfolding(mace_grammar::specs::Readers::call_stmt_at))]
+#[tactic(auto, unfolding(mace_grammar::specs::inner::Readers::call_stmt_at))]
 fn call<'a>(alloc: Global, depth: usize, method: Name, tokens: &'a [Token]) -> Read<'a, Stmt>
     ensures { Gives (λ x. (stmt_tree x.0, x.1.now)) result (reader.call_stmt_at depth method tokens.now) }
 {
@@ -162,7 +164,7 @@ fn call<'a>(alloc: Global, depth: usize, method: Name, tokens: &'a [Token]) -> R
     Ok((Stmt { at, action }, rest))
 }
 
-#[tactic(auto, unfolding(mace_grammar::specs::Readers::child_stmt_at))]
+#[tactic(auto, unfolding(mace_grammar::specs::inner::Readers::child_stmt_at))]
 fn child_call<'a>(
     alloc: Global,
     depth: usize,
@@ -190,7 +192,7 @@ fn maybe_key<'a>(alloc: Global, depth: usize, tokens: &'a [Token]) -> Read<'a, O
     Ok((Some(place), rest))
 }
 
-#[tactic(auto, unfolding(mace_grammar::specs::Readers::above_stmt_at))]
+#[tactic(auto, unfolding(mace_grammar::specs::inner::Readers::above_stmt_at))]
 fn above<'a>(alloc: Global, depth: usize, class: Name, tokens: &'a [Token]) -> Read<'a, Stmt>
     ensures { Gives (λ x. (stmt_tree x.0, x.1.now)) result (reader.above_stmt_at depth class tokens.now) }
 {
@@ -200,7 +202,7 @@ fn above<'a>(alloc: Global, depth: usize, class: Name, tokens: &'a [Token]) -> R
     set(alloc, depth, at, target_of(class, Some(field)), place, rest)
 }
 
-#[tactic(auto, unfolding(mace_grammar::specs::Readers::index_stmt_at))]
+#[tactic(auto, unfolding(mace_grammar::specs::inner::Readers::index_stmt_at))]
 fn index<'a>(alloc: Global, depth: usize, first: Name, tokens: &'a [Token]) -> Read<'a, Stmt>
     ensures { Gives (λ x. (stmt_tree x.0, x.1.now)) result (reader.index_stmt_at depth first tokens.now) }
 {
@@ -212,7 +214,7 @@ fn index<'a>(alloc: Global, depth: usize, first: Name, tokens: &'a [Token]) -> R
     set(alloc, depth, at, target_of(first, None), Some(place), rest)
 }
 
-#[tactic(auto, unfolding(mace_grammar::specs::Readers::named_stmt_at))]
+#[tactic(auto, unfolding(mace_grammar::specs::inner::Readers::named_stmt_at))]
 fn named<'a>(alloc: Global, depth: usize, tokens: &'a [Token]) -> Read<'a, Stmt>
     ensures { Gives (λ x. (stmt_tree x.0, x.1.now)) result (reader.named_stmt_at depth tokens.now) }
 {
@@ -230,7 +232,7 @@ fn named<'a>(alloc: Global, depth: usize, tokens: &'a [Token]) -> Read<'a, Stmt>
     set(alloc, depth, at, target_of(first, None), None, rest)
 }
 
-#[tactic(auto, unfolding(mace_grammar::specs::Readers::simple_stmt_at))]
+#[tactic(auto, unfolding(mace_grammar::specs::inner::Readers::simple_stmt_at))]
 fn simple<'a>(alloc: Global, depth: usize, tokens: &'a [Token]) -> Read<'a, Stmt>
     ensures { Gives (λ x. (stmt_tree x.0, x.1.now)) result (reader.simple_stmt_at depth tokens.now) }
 {
@@ -252,7 +254,7 @@ fn simple<'a>(alloc: Global, depth: usize, tokens: &'a [Token]) -> Read<'a, Stmt
 // ---- statements with blocks
 
 #[cycle(stmt)]
-#[tactic(auto, unfolding(mace_grammar::specs::Readers::any_stmt_at))]
+#[tactic(auto, unfolding(mace_grammar::specs::inner::Readers::any_stmt_at))]
 fn stmt<'a>(alloc: Global, depth: usize, tokens: &'a [Token]) -> Read<'a, Stmt>
     ensures { Gives (λ x. (stmt_tree x.0, x.1.now)) result (reader.stmt_at depth tokens.now) }
 {
@@ -276,7 +278,7 @@ fn stmt<'a>(alloc: Global, depth: usize, tokens: &'a [Token]) -> Read<'a, Stmt>
 }
 
 #[cycle(stmt)]
-#[tactic(auto, unfolding(mace_grammar::specs::Readers::if_at))]
+#[tactic(auto, unfolding(mace_grammar::specs::inner::Readers::if_at))]
 fn if_stmt<'a>(alloc: Global, depth: usize, tokens: &'a [Token]) -> Read<'a, Stmt>
     ensures { Gives (λ x. (stmt_tree x.0, x.1.now)) result (reader.if_at depth (reader.stmt_at depth) tokens.now) }
 {
@@ -288,7 +290,7 @@ fn if_stmt<'a>(alloc: Global, depth: usize, tokens: &'a [Token]) -> Read<'a, Stm
 }
 
 #[cycle(stmt)]
-#[tactic(auto, unfolding(mace_grammar::specs::Readers::else_at))]
+#[tactic(auto, unfolding(mace_grammar::specs::inner::Readers::else_at))]
 fn maybe_else<'a>(alloc: Global, depth: usize, tokens: &'a [Token]) -> Read<'a, Option<Vec<Stmt>>>
     ensures { Gives (λ x. (option_map (λ b. map stmt_tree b.items) x.0, x.1.now)) result (reader.else_at (reader.block_at (reader.stmt_at depth)) tokens.now) }
 {
@@ -301,7 +303,7 @@ fn maybe_else<'a>(alloc: Global, depth: usize, tokens: &'a [Token]) -> Read<'a, 
 }
 
 #[cycle(stmt)]
-#[tactic(auto, unfolding(mace_grammar::specs::Readers::while_at))]
+#[tactic(auto, unfolding(mace_grammar::specs::inner::Readers::while_at))]
 fn while_stmt<'a>(alloc: Global, depth: usize, tokens: &'a [Token]) -> Read<'a, Stmt>
     ensures { Gives (λ x. (stmt_tree x.0, x.1.now)) result (reader.while_at depth (reader.stmt_at depth) tokens.now) }
 {
@@ -312,7 +314,7 @@ fn while_stmt<'a>(alloc: Global, depth: usize, tokens: &'a [Token]) -> Read<'a, 
 }
 
 #[cycle(stmt)]
-#[tactic(auto, unfolding(mace_grammar::specs::Readers::for_at))]
+#[tactic(auto, unfolding(mace_grammar::specs::inner::Readers::for_at))]
 fn for_stmt<'a>(alloc: Global, depth: usize, tokens: &'a [Token]) -> Read<'a, Stmt>
     ensures { Gives (λ x. (stmt_tree x.0, x.1.now)) result (reader.for_at depth (reader.stmt_at depth) tokens.now) }
 {
@@ -328,7 +330,7 @@ fn for_stmt<'a>(alloc: Global, depth: usize, tokens: &'a [Token]) -> Read<'a, St
 
 /// Statements in braces.
 #[cycle(stmt)]
-#[tactic(auto, unfolding(mace_grammar::specs::Readers::block_at))]
+#[tactic(auto, unfolding(mace_grammar::specs::inner::Readers::block_at))]
 pub fn block<'a>(alloc: Global, depth: usize, tokens: &'a [Token]) -> Read<'a, Vec<Stmt>>
     ensures { Gives (λ x. (map stmt_tree x.0.items, x.1.now)) result (reader.block_at (reader.stmt_at depth) tokens.now) }
 {
@@ -340,7 +342,7 @@ pub fn block<'a>(alloc: Global, depth: usize, tokens: &'a [Token]) -> Read<'a, V
 
 /// Statements, one behind the other.
 #[cycle(stmt)]
-#[tactic(auto, unfolding(mace_grammar::specs::Readers::stmts_in))]
+#[tactic(auto, unfolding(mace_grammar::specs::inner::Readers::stmts_in))]
 pub fn stmts<'a>(alloc: Global, depth: usize, tokens: &'a [Token]) -> Read<'a, Vec<Stmt>>
     ensures { Gives (λ x. (map stmt_tree x.0.items, x.1.now)) result (reader.stmts_in (reader.stmt_at depth) tokens.now) }
 {

@@ -3,7 +3,7 @@
 ghost use Rattle.std.specs.Prelude.{◌≡◌};
 ghost use Rattle.mace_ast.specs.Exprs.{expr_tree};
 ghost use Rattle.mace_grammar.specs.Words as words;
-ghost use Rattle.mace_grammar.specs.Readers as reader;
+ghost use Rattle.mace_grammar.specs.inner.Readers as reader;
 ghost use Rattle.mace_parser.specs.inner.Gives.{Gives};
 
 use crate::fault::{Fault, Read};
@@ -12,6 +12,7 @@ use mace_lexer::{Keyword, Sign, Token, Word};
 use std::alloc::Global;
 use wave_base::{Kind, Span, Txt};
 
+/// This keyword, and its place.
 pub fn key<'a>(want: Keyword, tokens: &'a [Token]) -> Read<'a, Span>
     ensures { Gives (λ x. (x.0, x.1.now)) result (reader.key_at want tokens.now) }
 {
@@ -24,6 +25,7 @@ pub fn key<'a>(want: Keyword, tokens: &'a [Token]) -> Read<'a, Span>
     }
 }
 
+/// This sign, and its place.
 pub fn sign<'a>(want: Sign, tokens: &'a [Token]) -> Read<'a, Span>
     ensures { Gives (λ x. (x.0, x.1.now)) result (reader.sign_at want tokens.now) }
 {
@@ -36,6 +38,7 @@ pub fn sign<'a>(want: Sign, tokens: &'a [Token]) -> Read<'a, Span>
     }
 }
 
+/// A name.
 pub fn name<'a>(alloc: Global, tokens: &'a [Token]) -> Read<'a, Name>
     ensures { Gives (λ x. (x.0, x.1.now)) result (reader.name_at tokens.now) }
 {
@@ -51,6 +54,7 @@ pub fn name<'a>(alloc: Global, tokens: &'a [Token]) -> Read<'a, Name>
     }
 }
 
+/// A number.
 pub fn number(tokens: &[Token]) -> Read<'_, i64>
     ensures { Gives (λ x. (x.0, x.1.now)) result (reader.number_at tokens.now) }
 {
@@ -63,6 +67,7 @@ pub fn number(tokens: &[Token]) -> Read<'_, i64>
     }
 }
 
+/// A text.
 pub fn text<'a>(alloc: Global, tokens: &'a [Token]) -> Read<'a, Txt>
     ensures { Gives (λ x. (x.0, x.1.now)) result (reader.text_at tokens.now) }
 {
@@ -87,6 +92,7 @@ fn kind_of_key(key: Keyword) -> Option<Kind>
     }
 }
 
+/// The keyword of a kind.
 pub fn kind(tokens: &[Token]) -> Read<'_, Kind>
     ensures { Gives (λ x. (x.0, x.1.now)) result (reader.type_at tokens.now) }
 {
@@ -102,7 +108,7 @@ pub fn kind(tokens: &[Token]) -> Read<'_, Kind>
     }
 }
 
-// `.f`
+/// `.f`
 pub fn field<'a>(alloc: Global, tokens: &'a [Token]) -> Read<'a, Name>
     ensures { Gives (λ x. (x.0, x.1.now)) result (reader.field_at tokens.now) }
 {

@@ -8,7 +8,7 @@ ghost use Rattle.mace_parser.specs.inner.Gives.{TakesAll};
 ghost use Rattle.mace_grammar.specs.Grammar.{service};
 ghost use Rattle.mace_grammar.specs.Nest.{IsShallow, IsFirstDeep};
 ghost use Rattle.mace_parser.specs.Parsed.{TellsFault, AnswersTree, AnswersFault};
-ghost use Rattle.mace_grammar.specs.Readers as reader;
+ghost use Rattle.mace_grammar.specs.inner.Readers as reader;
 ghost use Rattle.mace_grammar.specs.Spelled.{words, Spelled, IsExpected, IsTooDeep, place_in};
 
 use crate::context::service;

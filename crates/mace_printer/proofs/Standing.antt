@@ -10,6 +10,7 @@ use Rattle.std.proofs.lemmas.Fmt.{decimal_by_steps}
 use Rattle.std.proofs.lemmas.List.{take_at}
 use Rattle.std.proofs.lemmas.List.Folds.{list_all-append}
 use Rattle.std.proofs.lemmas.List.Sums.{fold-append}
+use Rattle.wave_base.specs.Names.{is_digits, is_name_start, is_name_byte, is_word}
 use Rattle.wave_base.specs.declared.span.Span.{Span}
 use Rattle.wave_base.specs.Text.{IsPrintable}
 use Rattle.mace_lexer.specs.declared.cut.Form.TheVariants as form
@@ -19,7 +20,7 @@ use Rattle.mace_lexer.specs.declared.sign.Sign.TheVariants as s
 use Rattle.mace_lexer.specs.declared.token.Token.{Token}
 use Rattle.mace_lexer.specs.declared.token.Word.{Word}
 use Rattle.mace_lexer.specs.declared.token.Word.TheVariants as word
-use Rattle.mace_lexer.specs.Words.{is_letter, is_name_byte, is_name, is_number, with_digit, value_of, greatest, keyword, keyword_bytes, sign, sign_bytes, form_by, form_of}
+use Rattle.mace_lexer.specs.Words.{with_digit, value_of, greatest, keyword, keyword_bytes, sign, sign_bytes, form_by, form_of}
 use Rattle.mace_lexer.specs.Texts.{escaped, quoted, inside_of, is_byte}
 use Rattle.mace_lexer.specs.Pieces.{Spell, IsPiece, IsLongest}
 use Rattle.mace_lexer.specs.Cuts.{Cuts, at_end, past, IsBody}
@@ -34,7 +35,7 @@ use Rattle.mace_printer.specs.Layout.{spelling, gap_of, gap_behind, layout}
 
 -- the word has a spelling that is read as it
 abbrev pub CanStand : Word → Type 0
-CanStand (word.Name t) = (is_name t ≡ true) × (length t ≤ 64) × (keyword t ≡ None)
+CanStand (word.Name t) = (is_word t ≡ true) × (length t ≤ 64) × (keyword t ≡ None)
 CanStand (word.Key k) = Unit {0}
 CanStand (word.Number n) = (v : ℕ) × (v ≤ greatest) × (n ≡ pos v)
 CanStand (word.Text t) = All IsPrintable t × (length t ≤ 200)
@@ -42,7 +43,7 @@ CanStand (word.Sign j) = Unit {0}
 
 -- what is read can stand
 pub read_stands : (w : Word) (bs : List ℕ) → IsPiece (Spell w) bs → CanStand w
-read_stands (word.Name t) bs h = let e : bs ≡ t = sym h.3 in (subst (λ l. is_name l ≡ true) e h.0, subst (λ l. length l ≤ 64) e h.1, subst (λ l. keyword l ≡ None) e h.2)
+read_stands (word.Name t) bs h = let e : bs ≡ t = sym h.3 in (subst (λ l. is_word l ≡ true) e h.0, subst (λ l. length l ≤ 64) e h.1, subst (λ l. keyword l ≡ None) e h.2)
 read_stands (word.Key k) bs h = tt
 read_stands (word.Number n) bs h = (value_of bs, h.1, h.2)
 read_stands (word.Text t) bs h = (h.1, h.2)
@@ -51,7 +52,7 @@ read_stands (word.Sign j) bs h = tt
 -- ---- numbers
 
 abbrev Digits : ℕ → List ℕ → Type 0
-Digits n ds = (is_number ds ≡ true) × (value_of ds ≡ n)
+Digits n ds = (is_digits ds ≡ true) × (value_of ds ≡ n)
 
 is_digit : (d : ℕ) → d < 10 → is_ascii_digit (48 + d) ≡ true
 is_digit d h = grind (arith, nat_tests)
@@ -62,7 +63,7 @@ true_and a b h k = rw (h, k) refl
 one_digit : (n : ℕ) → n < 10 → Digits n ((48 + n) ∷ [])
 one_digit n h = (true_and (is_ascii_digit (48 + n)) true (is_digit n h) refl, omega arith)
 
-number_more : (ds : List ℕ) (d : ℕ) → is_number ds ≡ true → is_ascii_digit d ≡ true → is_number (ds ++ d ∷ []) ≡ true
+number_more : (ds : List ℕ) (d : ℕ) → is_digits ds ≡ true → is_ascii_digit d ≡ true → is_digits (ds ++ d ∷ []) ≡ true
 number_more [] d h k = cc
 number_more (a ∷ ds) d h k =
     let both = and_cases (is_ascii_digit a) (list_all is_ascii_digit ds) h in
@@ -97,20 +98,20 @@ differs p a n h k = go (a == n) refl
     go false e = e
     go true e = let same : a ≡ n = eqb-true a n e in let l : p n ≡ true = subst (λ x. p x ≡ true) same h in cc
 
-letter_form : (a b : ℕ) → is_letter a ≡ true → form_by a b ≡ form.Name
-letter_form a b h = rw (differs is_letter a 32 h refl, differs is_letter a 9 h refl, differs is_letter a 10 h refl, differs is_letter a 13 h refl, differs is_letter a 47 h refl, differs is_letter a 34 h refl, h) refl
+letter_form : (a b : ℕ) → is_name_start a ≡ true → form_by a b ≡ form.Name
+letter_form a b h = rw (differs is_name_start a 32 h refl, differs is_name_start a 9 h refl, differs is_name_start a 10 h refl, differs is_name_start a 13 h refl, differs is_name_start a 47 h refl, differs is_name_start a 34 h refl, h) refl
 
-digit_no_letter : (a : ℕ) → is_ascii_digit a ≡ true → is_letter a ≡ false
+digit_no_letter : (a : ℕ) → is_ascii_digit a ≡ true → is_name_start a ≡ false
 digit_no_letter a h = grind (arith, nat_tests)
 
 digit_form : (a b : ℕ) → is_ascii_digit a ≡ true → form_by a b ≡ form.Number
 digit_form a b h = rw (differs is_ascii_digit a 32 h refl, differs is_ascii_digit a 9 h refl, differs is_ascii_digit a 10 h refl, differs is_ascii_digit a 13 h refl, differs is_ascii_digit a 47 h refl, differs is_ascii_digit a 34 h refl, digit_no_letter a h, h) refl
 
-name_text : (t rest : List ℕ) → is_name t ≡ true → form_of (t ++ rest) ≡ form.Name
+name_text : (t rest : List ℕ) → is_word t ≡ true → form_of (t ++ rest) ≡ form.Name
 name_text [] rest h = cc
-name_text (a ∷ bs) rest h = letter_form a (get_or (bs ++ rest) 0 0) (and_cases (is_letter a) (list_all is_name_byte bs) h).0
+name_text (a ∷ bs) rest h = letter_form a (get_or (bs ++ rest) 0 0) (and_cases (is_name_start a) (list_all is_name_byte bs) h).0
 
-number_text : (t rest : List ℕ) → is_number t ≡ true → form_of (t ++ rest) ≡ form.Number
+number_text : (t rest : List ℕ) → is_digits t ≡ true → form_of (t ++ rest) ≡ form.Number
 number_text [] rest h = cc
 number_text (a ∷ bs) rest h = digit_form a (get_or (bs ++ rest) 0 0) (and_cases (is_ascii_digit a) (list_all is_ascii_digit bs) h).0
 
@@ -142,8 +143,8 @@ sign_text s.AndAnd rest = refl
 sign_text s.OrOr rest = refl
 sign_text s.Bang rest = refl
 
-keyword_name : (k : Keyword) → is_name (keyword_bytes k) ≡ true
-keyword_name k = keyword_passes is_name (keyword_bytes k) k refl (keyword_again k)
+keyword_name : (k : Keyword) → is_word (keyword_bytes k) ≡ true
+keyword_name k = keyword_passes is_word (keyword_bytes k) k refl (keyword_again k)
 
 abbrev is_solid : List ℕ → Bool
 is_solid bs = list_all (λ b. not (b == 32) && not (b == 10)) bs
@@ -158,11 +159,11 @@ no_gap p bs b rest zero h l e = omega arith
 no_gap p [] b rest (suc m) h l e = let k : p b ≡ true = (and_cases (p b) (list_all p (take m rest)) e).0 in cc
 no_gap p (c ∷ bs) b rest (suc m) h l e = no_gap p bs b rest m h (omega arith) (and_cases (p c) (list_all p (take m (bs ++ b ∷ rest))) e).1
 
-some_name : (t : List ℕ) → is_name t ≡ true → 0 < length t
+some_name : (t : List ℕ) → is_word t ≡ true → 0 < length t
 some_name [] h = cc
 some_name (a ∷ bs) h = omega arith
 
-some_number : (t : List ℕ) → is_number t ≡ true → 0 < length t
+some_number : (t : List ℕ) → is_digits t ≡ true → 0 < length t
 some_number [] h = cc
 some_number (a ∷ bs) h = omega arith
 
@@ -182,7 +183,7 @@ gap_blank (word.Sign s.Semicolon) = refl
 gap_blank _ = refl
 
 blank_form : (a b : ℕ) → (a == 32 || a == 9 || a == 10) ≡ true → form_by a b ≡ form.Blank
-blank_form a b h = ap (λ t. if t then form.Blank else if a == 13 && b == 10 then form.LineEnd else if a == 47 && b == 47 then form.Comment else if a == 34 then form.Text else if is_letter a then form.Name else if is_ascii_digit a then form.Number else form.Sign) h
+blank_form a b h = ap (λ t. if t then form.Blank else if a == 13 && b == 10 then form.LineEnd else if a == 47 && b == 47 then form.Comment else if a == 34 then form.Text else if is_name_start a then form.Name else if is_ascii_digit a then form.Number else form.Sign) h
 
 -- a word behind which a gap stands
 module _ (bs : List ℕ) (b : ℕ) (rest : List ℕ) where
@@ -195,11 +196,11 @@ module _ (bs : List ℕ) (b : ℕ) (rest : List ℕ) where
   within : length bs ≤ length followed
   within = omega (arith, length-append bs (b ∷ rest))
 
-  named : (w : Word) → is_name bs ≡ true → is_name_byte b ≡ false → IsPiece (Spell w) bs → IsLongest followed (length bs) (Spell w)
+  named : (w : Word) → is_word bs ≡ true → is_name_byte b ≡ false → IsPiece (Spell w) bs → IsLongest followed (length bs) (Spell w)
   named w h g piece = longest_by followed (length bs) (Spell w) form.Name (name_text bs (b ∷ rest) h) (some_name bs h) within (subst (λ l. IsPiece (Spell w) l) (sym front) piece)
       (λ m lt le e. no_gap is_name_byte bs b rest m g lt (name_all (take m followed) e))
 
-  numbered : (w : Word) → is_number bs ≡ true → is_ascii_digit b ≡ false → IsPiece (Spell w) bs → IsLongest followed (length bs) (Spell w)
+  numbered : (w : Word) → is_digits bs ≡ true → is_ascii_digit b ≡ false → IsPiece (Spell w) bs → IsLongest followed (length bs) (Spell w)
   numbered w h g piece = longest_by followed (length bs) (Spell w) form.Number (number_text bs (b ∷ rest) h) (some_number bs h) within (subst (λ l. IsPiece (Spell w) l) (sym front) piece)
       (λ m lt le e. no_gap is_ascii_digit bs b rest m g lt (number_all (take m followed) e))
 

@@ -72,7 +72,7 @@ fn unary_sign_of(op: UnaryOp) -> Sign
     }
 }
 
-// `C.f`
+/// `C.f`
 pub fn put_above(out: &mut Vec<u8>, class: &Txt, name: &Txt) -> Result<(), OutOfMemory>
     ensures { OnOk result (out.new.items ≡ out.old.items ++ layout (words.above_words class.now name.now)) }
 {
@@ -109,7 +109,7 @@ pub fn put_expr(alloc: Global, out: &mut Vec<u8>, expr: &Expr, level: u8) -> Res
     }
 }
 
-// `[k]`
+/// `[k]`
 #[cycle(expr)]
 pub fn put_index(alloc: Global, out: &mut Vec<u8>, key: &Expr) -> Result<(), OutOfMemory>
     ensures { OnOk result (out.new.items ≡ out.old.items ++ layout (words.index_words (expr_tree key.now))) }

@@ -10,6 +10,7 @@ use mace_lexer::{Keyword, Sign};
 use std::alloc::Global;
 use wave_base::{Kind, OutOfMemory};
 
+/// The keyword of a kind.
 pub fn kind_key(kind: Kind) -> Keyword
     ensures { result ≡ words.kind_key kind }
 {

@@ -15,7 +15,7 @@ use mace_lexer::{Keyword, Sign};
 use std::alloc::Global;
 use wave_base::{OutOfMemory, Txt};
 
-// An expression and a semicolon.
+/// An expression and a semicolon.
 pub fn put_ended(alloc: Global, out: &mut Vec<u8>, value: &Expr) -> Result<(), OutOfMemory>
     ensures { OnOk result (out.new.items ≡ out.old.items ++ layout (words.ended_words (expr_tree value.now))) }
 {

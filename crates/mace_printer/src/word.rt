@@ -9,6 +9,7 @@ use std::alloc::Global;
 use wave_base::{OutOfMemory, Txt};
 use wave_text::{put_bytes, put_quoted, put_whole};
 
+/// Writes a keyword and the blank behind it.
 #[tactic(auto, unfolding(crate::specs::Layout::layout))]
 pub fn put_key(out: &mut Vec<u8>, key: Keyword) -> Result<(), OutOfMemory>
     ensures { OnOk result (out.new.items ≡ out.old.items ++ layout (words.key key)) }
@@ -27,6 +28,7 @@ fn gap(sign: Sign) -> u8
     }
 }
 
+/// Writes a sign and the byte behind it.
 #[tactic(auto, unfolding(crate::specs::Layout::layout))]
 pub fn put_sign(out: &mut Vec<u8>, sign: Sign) -> Result<(), OutOfMemory>
     ensures { OnOk result (out.new.items ≡ out.old.items ++ layout (words.sign sign)) }
@@ -36,6 +38,7 @@ pub fn put_sign(out: &mut Vec<u8>, sign: Sign) -> Result<(), OutOfMemory>
     Ok(())
 }
 
+/// Writes a name and the blank behind it.
 #[tactic(auto, unfolding(crate::specs::Layout::layout))]
 pub fn put_name(out: &mut Vec<u8>, name: &Txt) -> Result<(), OutOfMemory>
     ensures { OnOk result (out.new.items ≡ out.old.items ++ layout (words.name name.now)) }
@@ -44,6 +47,7 @@ pub fn put_name(out: &mut Vec<u8>, name: &Txt) -> Result<(), OutOfMemory>
     put_bytes(out, b" ")
 }
 
+/// Writes a number and the blank behind it.
 #[tactic(auto, unfolding(crate::specs::Layout::layout))]
 pub fn put_number(alloc: Global, out: &mut Vec<u8>, n: i64) -> Result<(), OutOfMemory>
     ensures { OnOk result (out.new.items ≡ out.old.items ++ layout (words.number n)) }
@@ -52,6 +56,7 @@ pub fn put_number(alloc: Global, out: &mut Vec<u8>, n: i64) -> Result<(), OutOfM
     put_bytes(out, b" ")
 }
 
+/// Writes a text in quotes and the blank behind it.
 #[tactic(auto, unfolding(crate::specs::Layout::layout))]
 pub fn put_text(out: &mut Vec<u8>, text: &Txt) -> Result<(), OutOfMemory>
     ensures { OnOk result (out.new.items ≡ out.old.items ++ layout (words.text text.now)) }
@@ -67,7 +72,7 @@ pub fn boolean_key(value: bool) -> Keyword
     if value { Keyword::True } else { Keyword::False }
 }
 
-// A comma before all items but the first.
+/// A comma before all items but the first.
 #[tactic(auto, unfolding(crate::specs::Layout::layout))]
 pub fn put_comma(out: &mut Vec<u8>, i: usize) -> Result<(), OutOfMemory>
     ensures { OnOk result (out.new.items ≡ out.old.items ++ layout (words.comma_before i)) }

@@ -3,6 +3,7 @@ use Rattle.std.proofs.Common.{◌≡◌, ◌||◌, ℕ, suc, Bool, true, false, 
 use Rattle.std.specs.Prelude.{slice_get}
 use Rattle.std.specs.List.{list_any}
 use Rattle.std.proofs.lemmas.List.Elements.{All-nil, All-cons}
+use Rattle.wave_base.proofs.Lists.{all_at}
 use Rattle.wave_base.specs.declared.limits.TheConstants.{TICKS}
 use Rattle.wave_base.specs.declared.call.Call.{Call}
 use Rattle.wave_base.specs.declared.call.Message.{Message}
@@ -21,7 +22,7 @@ use Rattle.resolved_service.specs.Meaning.{Outcome, Done, Trapped, Left, event_r
 use Rattle.service_eval.specs.Worlds.{Holds}
 use Rattle.meaning_laws.specs.Kept.{IsEarly, IsKept}
 use Rattle.meaning_laws.proofs.Keeping.{At, Ends}
-use Rattle.meaning_laws.proofs.Safely.{all_at, ends_event}
+use Rattle.meaning_laws.proofs.Safely.{ends_event}
 
 module _ (shape : Shape) (t : Tree (List Value)) (g : ℕ) where
   no_move : (reply : Option Value) (messages : List Message) (created : List Call) → move_of (record { outcome = replied reply; messages = messages; created = created }) ≡ None

@@ -2,6 +2,7 @@
 use Rattle.std.proofs.Common.{◌≡◌, ℕ, zero, suc, ◌+◌, ◌≤◌, Bool, true, false, List, [], ◌∷◌, length, All, Option, Some, None, Ok, Err, refl, sym, ap, subst}
 use Rattle.std.specs.Prelude.{slice_get}
 use Rattle.std.proofs.lemmas.List.Elements.{All-head, All-tail}
+use Rattle.wave_base.proofs.Lists.{all_at}
 use Rattle.wave_base.specs.declared.path.Path.{Path}
 use Rattle.wave_base.specs.declared.path.Step.{Step as PathStep}
 use Rattle.wave_base.specs.declared.shape.Shape.{Shape}
@@ -22,11 +23,6 @@ use Rattle.resolved_service.specs.View.{Tree, Const, Local, Field, Above, Op, An
 use Rattle.resolved_service.specs.World.{World, is_true, key_of, child, releasing}
 use Rattle.service_eval.proofs.PathLemmas.{class_of-child}
 use Rattle.meaning_laws.proofs.Keeping.{At, Good, Safe, Ends, ends_good, ends_then, then_at, safe_then, safe_answer, safe_choose, safe_demand, safe_tick, enters_child, rises, releases, puts, sends, spawns}
-
-pub all_at : {A : Type 0} (P : A → Type 0) (xs : List A) (n : ℕ) (x : A) → slice_get xs n ≡ Some x → All P xs → P x
-all_at P [] n x e h = cc
-all_at P (y ∷ ys) zero x e h = let same : y ≡ x = cc in subst P same (All-head P y ys h)
-all_at P (y ∷ ys) (suc n) x e h = all_at P ys n x e (All-tail P y ys h)
 
 module _ (shape : Shape) (first : Contexts (List Value)) (g : ℕ) (methods : List Method) where
   abbrev pub IsFine : (ℕ → Path → List Value → Act (Option Value)) → Type 0

@@ -8,6 +8,7 @@ ghost use Rattle.wave_states.specs.Steps.{route};
 
 use crate::mail::{Letter, Mail, Route};
 use host_map::{Found, HostStore};
+use wave_base::Path;
 
 /// Where an Enter goes that lies at the host with this store.
 pub fn route(store: &HostStore, mail: &Mail) -> Route
@@ -15,9 +16,17 @@ pub fn route(store: &HostStore, mail: &Mail) -> Route
     ensures { (c : theory.Column (List Value)) (host : ℕ) → IsAt store.now mail.now.path c host → IfSome (asked mail.now.letter) (λ a. route_of result ≡ route c host a.followed) }
 {
     match mail.letter {
-        Letter::Enter { followed, .. } => route_after(store.find(&mail.path), followed),
+        Letter::Enter { followed, .. } => route_at(store, &mail.path, followed),
         _ => unreachable!(),
     }
+}
+
+/// Where an Enter for this path goes that lies at the host with this store. `followed` is the number of the last departure mark that
+/// it followed, from 1; 0 where none was.
+pub fn route_at(store: &HostStore, path: &Path, followed: u64) -> Route
+    ensures { (c : theory.Column (List Value)) (host : ℕ) → IsAt store.now path.now c host → route_of result ≡ route c host followed }
+{
+    route_after(store.find(path), followed)
 }
 
 // By what is here, and the mark that was followed.

@@ -3,7 +3,7 @@ use Rattle.std.proofs.Common.{◌≡◌, ◌+◌, ◌≤◌, ℕ, zero, suc, Boo
 use Rattle.std.specs.Prelude.{◌&&◌, ◌||◌, not, nat_le, option_map}
 use Rattle.std.specs.Fmt.{signed_decimal}
 use Rattle.std.specs.List.{list_all, list_any, position_from}
-use Rattle.std.specs.Option.{option_and_then, option_map_or}
+use Rattle.std.specs.Option.{option_and_then}
 use Rattle.std.specs.Cmp.Lexicographic.{nat_list_eq_equiv}
 use Rattle.std.proofs.lemmas.Bool.{and_parts}
 use Rattle.std.proofs.lemmas.Bool.Decides.{nat_tests}
@@ -13,20 +13,19 @@ use Rattle.std.proofs.lemmas.List.Elements.{All-head, All-tail}
 use Rattle.wave_base.specs.declared.path.Step.{Step}
 use Rattle.wave_base.specs.declared.shape.ClassInfo.{ClassInfo}
 use Rattle.wave_base.specs.declared.shape.Shape.{Shape}
-use Rattle.wave_base.specs.Names.{is_name, is_name_start, is_name_byte, same_bytes, all_differ, HasNames}
-use Rattle.wave_base.specs.Shapes.{is_class, parent_class, parent_in, is_path_from, is_path}
+use Rattle.wave_base.specs.Names.{is_word, is_name, HasNames, all_differ, same_bytes}
+use Rattle.wave_base.specs.Shapes.{name_in, class_name, is_class, parent_class, parent_in, is_path_from, is_path}
 use Rattle.wave_text.specs.Numbers.{whole_of}
-use Rattle.wave_text.specs.Words.{is_word, without_minus}
+use Rattle.wave_text.specs.Words.{without_minus}
 use Rattle.wave_text.proofs.ReadBack.{whole_again}
 use Rattle.path_text.specs.Paths.{is_child, child_class, step_with, step_below, steps_below}
-use Rattle.path_text.specs.PathTexts.{class_name, written_step, path_text, IsPathText}
+use Rattle.path_text.specs.PathTexts.{written_step, path_text, IsPathText}
 use Rattle.path_text.specs.Steps.{is_step}
 
 -- ---- names
 
 name_is_word : (n : List ℕ) → is_name n ≡ true → is_word n ≡ true
-name_is_word [] h = cc
-name_is_word (b ∷ bs) h = (and_parts (is_name_start b && list_all is_name_byte bs) (nat_le (length (b ∷ bs)) 64) h).0
+name_is_word bs h = (and_parts (is_word bs) (nat_le (length bs) 64) h).0
 
 name_at : (classes : List ClassInfo) (n : ℕ) (info : ClassInfo) → slice_get classes n ≡ Some info → list_all is_name (map (λ c. c.name) classes) ≡ true → is_name info.name ≡ true
 name_at [] n info e h = cc
@@ -77,7 +76,7 @@ class_there shape c n h =
 
 module _ (shape : Shape) (names : HasNames shape) where
   name_of : (n : ℕ) (info : ClassInfo) → slice_get shape.classes n ≡ Some info → class_name shape n ≡ info.name
-  name_of n info e = ap (λ o. option_map_or (λ (i : ClassInfo). i.name) o []) e
+  name_of n info e = ap name_in e
 
   step_again : (c : ℕ) (s : Step) → is_class c (parent_class shape s.class.0) ≡ true → FitsSigned w64 s.key → step_below shape c (written_step shape s) ≡ Some s
   step_again c s p f =

@@ -1,12 +1,13 @@
 -- Where a byte first stands, and the step at the front of a text.
 use Rattle.std.proofs.Common.{◌≡◌, ◌+◌, ◌-◌, ◌<◌, ◌≤◌, ℕ, suc, Bool, true, false, cond, List, [], ◌∷◌, ◌++◌, length, take, drop, refl, sym, ap, subst, ◌∙◌, append_assoc, length-drop, arith}
 use Rattle.std.specs.Prelude.{◌==◌, ◌&&◌, ◌||◌, nat_le}
+use Rattle.std.specs.Char.{is_ascii_digit}
 use Rattle.std.specs.List.{list_all, prefix_len}
 use Rattle.std.proofs.lemmas.Bool.{and_parts}
 use Rattle.std.proofs.lemmas.Bool.Decides.{nat_tests}
 use Rattle.std.proofs.lemmas.List.{take_all}
-use Rattle.wave_base.specs.Names.{is_digit, is_name_start, is_name_byte}
-use Rattle.wave_text.specs.Words.{is_word, is_digits, is_whole, without_minus}
+use Rattle.wave_base.specs.Names.{is_digits, is_name_start, is_name_byte, is_word}
+use Rattle.wave_text.specs.Words.{is_whole, without_minus}
 use Rattle.path_text.specs.declared.written.Written.{Written}
 use Rattle.path_text.specs.inner.Fronts.{is_other, HasNone, IsSplit, AreParts, IsFront, IsOnlyFront, HasNoFront}
 use Rattle.path_text.specs.Steps.{is_key, is_step, step_text}
@@ -83,7 +84,7 @@ nowhere b (x ∷ xs) ys h = nowhere b xs ys (others b x (xs ++ b ∷ ys) h)
 word_byte : (b : ℕ) → is_name_byte b ≡ true → is_other 91 b ≡ true
 word_byte b h = grind (arith, nat_tests)
 
-key_digit : (b : ℕ) → is_digit b ≡ true → is_other 93 b ≡ true
+key_digit : (b : ℕ) → is_ascii_digit b ≡ true → is_other 93 b ≡ true
 key_digit b h = grind (arith, nat_tests)
 
 head_of_all : (p : ℕ → Bool) (b : ℕ) (bs : List ℕ) → list_all p (b ∷ bs) ≡ true → (p b ≡ true) × (list_all p bs ≡ true)
@@ -96,7 +97,7 @@ all_imply p q f (b ∷ bs) h =
     (λ i. f b k.0 i && list_all q bs) ∙ all_imply p q f bs k.1
 
 start_is_byte : (b : ℕ) → is_name_start b ≡ true → is_name_byte b ≡ true
-start_is_byte b h = ap (λ t. t || is_digit b) h
+start_is_byte b h = grind (arith, nat_tests)
 
 pub word_has_none : (w : List ℕ) → is_word w ≡ true → HasNone 91 w
 word_has_none [] h = cc
@@ -106,7 +107,7 @@ word_has_none (b ∷ bs) h =
 
 digits_have_none : (bs : List ℕ) → is_digits bs ≡ true → HasNone 93 bs
 digits_have_none [] h = cc
-digits_have_none (b ∷ bs) h = all_imply is_digit (is_other 93) key_digit (b ∷ bs) h
+digits_have_none (b ∷ bs) h = all_imply is_ascii_digit (is_other 93) key_digit (b ∷ bs) h
 
 pub key_has_none : (k : List ℕ) → is_key k ≡ true → HasNone 93 k
 key_has_none k h = whole k (and_parts (is_whole k) (nat_le (length (without_minus k)) 19) h).0

@@ -8,10 +8,10 @@ use Rattle.std.proofs.lemmas.Iterator.Adapters.{position_from-zero}
 use Rattle.std.proofs.lemmas.List.{drop_all}
 use Rattle.wave_base.specs.declared.path.Step.{Step}
 use Rattle.wave_base.specs.declared.shape.Shape.{Shape}
-use Rattle.wave_base.specs.Names.{same_bytes}
+use Rattle.wave_base.specs.Names.{is_word, same_bytes}
 use Rattle.wave_base.specs.Shapes.{is_class, parent_class, parent_in, is_path_from, is_path}
 use Rattle.wave_text.specs.Numbers.{whole_of}
-use Rattle.wave_text.specs.Words.{is_word, is_whole, without_minus}
+use Rattle.wave_text.specs.Words.{is_whole, without_minus}
 use Rattle.path_text.specs.declared.written.Written.{Written}
 use Rattle.path_text.specs.Paths.{is_child, child_class, step_with, step_below, steps_below, path_of}
 use Rattle.path_text.specs.Steps.{is_step, is_key}

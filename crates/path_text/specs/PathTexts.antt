@@ -1,17 +1,13 @@
 -- The text of a path.
 use Rattle.std.specs.Prelude.{◌≡◌, ℕ, List, [], map, Some, None, slice_get}
 use Rattle.std.specs.Fmt.{signed_decimal}
-use Rattle.std.specs.Option.{option_map_or}
+use Rattle.wave_base.specs.Shapes.{class_name}
 use Rattle.wave_base.specs.declared.path.Path.{Path}
 use Rattle.wave_base.specs.declared.path.Step.{Step}
-use Rattle.wave_base.specs.declared.shape.ClassInfo.{ClassInfo}
 use Rattle.wave_base.specs.declared.shape.Shape.{Shape}
 use Rattle.path_text.specs.declared.written.Written.{Written}
 use Rattle.path_text.specs.Steps.{HasSteps, written_text}
 use Rattle.path_text.specs.Paths.{path_of}
-
-abbrev pub class_name : Shape → ℕ → List ℕ
-class_name shape c = option_map_or (λ (info : ClassInfo). info.name) (slice_get shape.classes c) []
 
 abbrev pub written_step : Shape → Step → Written
 written_step shape s = record { name = class_name shape s.class.0; key = signed_decimal s.key }

@@ -1,7 +1,8 @@
 -- The form of a path's text: `/`, or `/Class[key]` for each step.
 use Rattle.std.specs.Prelude.{◌≡◌, ℕ, Bool, true, ◌&&◌, nat_le, List, [], ◌∷◌, ◌++◌, length}
 use Rattle.std.specs.List.{list_all}
-use Rattle.wave_text.specs.Words.{is_whole, is_word, without_minus}
+use Rattle.wave_base.specs.Names.{is_word}
+use Rattle.wave_text.specs.Words.{is_whole, without_minus}
 use Rattle.path_text.specs.declared.written.Written.{Written}
 
 -- an optional minus and 1 to 19 digits

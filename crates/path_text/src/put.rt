@@ -3,22 +3,13 @@ ghost use Rattle.std.specs.Int.{w64};
 ghost use Rattle.wave_base.specs.Names.{HasNames};
 ghost use Rattle.wave_base.specs.Shapes.{IsShape, is_path, class_of, declared_fields};
 ghost use Rattle.wave_base.specs.declared.path.Step.{Step};
-ghost use Rattle.path_text.specs.PathTexts.{class_name, written_step, path_text, IsPathText};
+ghost use Rattle.path_text.specs.PathTexts.{written_step, path_text, IsPathText};
 ghost use Rattle.path_text.specs.ShotTexts.{field_text, fields_text, shot_text};
 ghost use Rattle.path_text.specs.Steps.{step_text};
 
 use std::alloc::Global;
 use wave_base::{CLASS_DEPTH, Class, FieldInfo, OutOfMemory, Path, Seq, Shape, Shot, Step, Value};
 use wave_text::{put_bytes, put_value, put_whole};
-
-fn class_name(shape: &Shape, class: Class) -> &[u8]
-    ensures { result.now ≡ class_name shape.now class.0 }
-{
-    match shape.classes.as_slice().get(usize::from(class.0)) {
-        Some(info) => info.name.bytes(),
-        None => &[],
-    }
-}
 
 // Appends one step of a path.
 fn put_step(alloc: Global, out: &mut Vec<u8>, shape: &Shape, step: &Step) -> Result<(), OutOfMemory>
@@ -27,7 +18,7 @@ fn put_step(alloc: Global, out: &mut Vec<u8>, shape: &Shape, step: &Step) -> Res
 {
     let key = step.key;
     put_bytes(out, b"/")?;
-    put_bytes(out, class_name(shape, step.class))?;
+    put_bytes(out, shape.class_name(step.class))?;
     put_bytes(out, b"[")?;
     put_whole(alloc, out, key)?;
     put_bytes(out, b"]")

@@ -1,6 +1,6 @@
 ghost use Rattle.std.specs.Prelude.{◌≡◌, ◌≤◌, ◌∷◌, ◌&&◌, [], ℕ, List, length, IsTrue, ◌↔◌, IfOk, IfSome, IfNone};
 ghost use Rattle.std.specs.List.{prefix_len};
-ghost use Rattle.wave_text.specs.Words.{is_word};
+ghost use Rattle.wave_base.specs.Names.{is_word};
 ghost use Rattle.path_text.specs.Steps.{is_key, HasSteps, HasOnlySteps, HasNoSteps};
 ghost use Rattle.path_text.specs.inner.Fronts.{is_other, HasNone, IsSplit, AreParts, IsOnlyFront, HasNoFront};
 

@@ -14,13 +14,14 @@ use Rattle.script_fold.specs.Lines.{FitsJob, line_by}
 use Rattle.service_code.specs.declared.program.Program.{Program}
 use Rattle.service_verify.specs.Fit.{IsFit}
 use Rattle.service_verify.specs.Points.{IsVerified}
+use Rattle.wave_states.specs.Results.{end_of, shots_of}
 use Rattle.wave_states.specs.Alone.{run_alone, first_alone, ended_alone, count_from, segments_of}
 use Rattle.wave_states.specs.Movers as mover
 use Rattle.code_actor.specs.CodeActors as code
 use Rattle.code_actor.specs.CodeActors.{Fields, no_result, code_actors}
 use Rattle.code_actor.proofs.Whole as coded
 use Rattle.plan_actors.specs.Calls.{code_ran, IsTree, segments_on}
-use Rattle.plan_actors.specs.PlanActors.{Serves, Moves, Walks, end_of, shots_of, same, move_to, moving, walking, plan_actors}
+use Rattle.plan_actors.specs.PlanActors.{Serves, Moves, Walks, same, move_to, moving, walking, plan_actors}
 use Rattle.plan_actors.proofs.Coded.{alone_is}
 use Rattle.plan_actors.proofs.Images.{run_same, segments_same}
 use Rattle.plan_actors.proofs.Moving.{Gone, moved_whole, entered_whole, counted_whole}

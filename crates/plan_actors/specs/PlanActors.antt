@@ -1,8 +1,7 @@
 -- The jobs of a plan as actors of the machine: an event runs its code, a move goes down to its context, a snapshot walks through all.
-use Rattle.std.specs.Prelude.{◌≡◌, ◌<◌, ℕ, true, Bool, List, map}
+use Rattle.std.specs.Prelude.{◌≡◌, ◌<◌, ℕ, true, Bool, List}
 use Rattle.wave_base.specs.declared.numbers.Host.{Host}
 use Rattle.wave_base.specs.declared.outcome.EventResult.{EventResult}
-use Rattle.wave_base.specs.declared.outcome.Outcome.TheVariants as out
 use Rattle.wave_base.specs.declared.path.Path.{Path}
 use Rattle.wave_base.specs.declared.path.Step.{Step}
 use Rattle.wave_base.specs.declared.script.Line.{Line}
@@ -11,7 +10,6 @@ use Rattle.wave_base.specs.Fold.{created_lines}
 use Rattle.wave_base.specs.Places.{move_of}
 use Rattle.wave_base.specs.Shapes.{is_path, initial_fields}
 use Rattle.wave_base.specs.Tree.{Tree}
-use Rattle.resolved_service.specs.Jobs.{only, shot_of}
 use Rattle.service_code.specs.declared.program.Program.{Program}
 use Rattle.service_verify.specs.Segments.{Event}
 use Rattle.service_verify.specs.Standing.{HasFields}
@@ -19,6 +17,7 @@ use Rattle.wave_states.specs.Actors.{Actors, Left}
 use Rattle.wave_states.specs.Kinds.{Kind}
 use Rattle.wave_states.specs.Movers as mover
 use Rattle.wave_states.specs.Movers.{Mover, MoveEnd, movers, IsMover}
+use Rattle.wave_states.specs.Results.{end_of, shots_of}
 use Rattle.wave_states.specs.Walkers.{Walker, walkers, IsWalker}
 use Rattle.code_actor.specs.CodeActors as code
 use Rattle.code_actor.specs.CodeActors.{Fields, no_result, code_actors}
@@ -28,15 +27,6 @@ pub data Actor : Type 0 where
   Serves : Event → Actor
   Moves : Mover → Actor
   Walks : Walker Fields → Actor
-
--- a mover's end: Moved where it came to its context, else Absent
-abbrev pub end_of : MoveEnd → EventResult
-end_of (mover.Moved p h) = only (out.Moved p (record { 0 = h }))
-end_of (mover.Absent p) = only (out.Absent p)
-
--- a walker's copies are the shots of a snapshot
-abbrev pub shots_of : List (Path × Fields) → EventResult
-shots_of copied = only (out.Shots (map shot_of copied))
 
 abbrev pub same : EventResult → EventResult
 same r = r
@@ -98,10 +88,6 @@ module _ (program : Program) where
   IsFine hosts (Moves a) p n = IsMover hosts a p n
   IsFine hosts (Walks a) p n = IsWalker a p n
 
-  -- the fields that a context may have
-  abbrev pub HasKinds : Path → Fields → Type 0
-  HasKinds p fields = HasFields program.shape p fields
-
   -- as a kind of actors
   abbrev pub plan_kind : ℕ → Kind Actor Fields EventResult Line
-  plan_kind hosts = record { system = plan_actors; hosts = hosts; fits = HasKinds; is_job = IsJob hosts; may_run = IsFine hosts }
+  plan_kind hosts = record { system = plan_actors; hosts = hosts; fits = HasFields program.shape; is_job = IsJob hosts; may_run = IsFine hosts }

@@ -1,6 +1,6 @@
 //! Laws of plans whose program is the code of a service: each is the contract of a function that does nothing.
 
-ghost use Rattle.std.specs.Prelude.{◌≡◌, ◌↔◌, List, Some, suc};
+ghost use Rattle.std.specs.Prelude.{◌≡◌, ◌≤◌, ◌-◌, ◌^◌, ◌↔◌, List, Some, length, suc};
 ghost use Rattle.wave_base.specs.declared.call.Call.{Call};
 ghost use Rattle.wave_base.specs.declared.finished.Finished.{Finished};
 ghost use Rattle.wave_base.specs.declared.outcome.EventResult.{EventResult};
@@ -15,7 +15,7 @@ ghost use Rattle.resolved_service.specs.Jobs.{call_meaning};
 ghost use Rattle.script_fold.specs.Runs.{finished_of};
 ghost use Rattle.service_code.specs.declared.program.Program.{Program};
 ghost use Rattle.service_verify.specs.Tours.{code_tour};
-ghost use Rattle.wave_meaning.specs.Meaning.{call_ran, results_at};
+ghost use Rattle.wave_meaning.specs.Meaning.{call_ran, results_at, IsWholeAt};
 ghost use Rattle.wave_states.specs.Begins.{start_state};
 ghost use Rattle.wave_states.specs.Labels.{Label};
 ghost use Rattle.wave_states.specs.Runs as runs;
@@ -31,13 +31,19 @@ use plan_actors::finished_states_tell;
 
 /// What a call does by its code is what the service says, in one segment more than its changes of place.
 pub fn calls_mean()
-    ensures same { (service : Resolved) (program : Program) (tree : Tree Fields) (call : Call) → IsCode service program → IsTree program.shape tree → IsJob program.shape call → code_ran program tree call ≡ call_ran service tree call }
-    ensures segments { (service : Resolved) (program : Program) (tree : Tree Fields) (call : Call) → IsCode service program → IsTree program.shape tree → IsJob program.shape call → (code_tour program call tree).segments ≡ suc (call_meaning service tree call).changes }
+    ensures same { (service : Resolved) (program : Program) (tree : Tree Fields) (call : Call) → IsCode service program → IsTree program.shape tree → IsJob program call → code_ran program tree call ≡ call_ran service tree call }
+    ensures segments { (service : Resolved) (program : Program) (tree : Tree Fields) (call : Call) → IsCode service program → IsTree program.shape tree → IsJob program call → (code_tour program call tree).segments ≡ suc (call_meaning service tree call).changes }
 {}
 
 /// What a script gives with calls run by their code is what it means for the service.
 pub fn plans_mean()
     ensures { (service : Resolved) (program : Program) (start : Start) (script : Script) → IsCode service program → IsStart program.shape script.hosts start → IsScript program.shape script → finished_of (code_ran program) program.shape start script ≡ results_at program.shape service start script }
+{}
+
+/// It comes to its end, and there is a ticket for each of its results.
+pub fn plans_end()
+    ensures over { (service : Resolved) (program : Program) (start : Start) (script : Script) → IsCode service program → IsStart program.shape script.hosts start → IsScript program.shape script → IsWholeAt program.shape service start script }
+    ensures few { (service : Resolved) (program : Program) (start : Start) (script : Script) → IsCode service program → IsStart program.shape script.hosts start → IsScript program.shape script → length (results_at program.shape service start script).results ≤ 2 ^ 32 - 1 }
 {}
 
 /// What a finished state of the machine tells is exactly what the script means for the service.

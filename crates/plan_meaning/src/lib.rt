@@ -3,4 +3,4 @@
 
 mod laws;
 
-pub use laws::{calls_mean, finished_states_mean, plans_mean};
+pub use laws::{calls_mean, finished_states_mean, plans_end, plans_mean};

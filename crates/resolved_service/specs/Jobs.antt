@@ -82,9 +82,3 @@ move_ran tree p h = record { tree = tree; result = only (if there tree p then ou
 -- a snapshot enters all contexts and leaves the tree as it is
 abbrev pub snapshot_ran : Tree (List Value) → Ran (List Value) EventResult
 snapshot_ran tree = record { tree = tree; result = only (out.Shots (map shot_of (shots tree))); entered = tree.paths }
-
--- the job of a ticket; the ticket makes no difference
-abbrev pub line_ran : Resolved → ℕ → Tree (List Value) → Line → Ran (List Value) EventResult
-line_ran service ticket tree (Request call) = (call_meaning service tree call).ran
-line_ran service ticket tree (Move p h) = move_ran tree p h
-line_ran service ticket tree Snapshot = snapshot_ran tree

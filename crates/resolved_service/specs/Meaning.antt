@@ -9,6 +9,7 @@ use Rattle.wave_base.specs.declared.value.Value.{Value}
 use Rattle.wave_base.specs.declared.value.Value.TheVariants.{Int, Bool as Truth}
 use Rattle.value_ops.specs.Kinds.{Answer}
 use Rattle.value_ops.specs.Operators.{apply_row}
+pub use Rattle.value_ops.specs.Operators.{row_add, row_lt, row_put, row_cut}
 use Rattle.resolved_service.specs.declared.service.Event.{Event}
 use Rattle.resolved_service.specs.declared.service.Last.{Last}
 use Rattle.resolved_service.specs.declared.service.Method.{Method}
@@ -94,19 +95,6 @@ put_field f p value st = Done tt (record { locals = st.locals; world = set_field
 abbrev pub demand : Bool → Span → Act (Unit {0})
 demand true at st = Done tt st
 demand false at st = Trapped trap.Require at st.world
-
--- the rows of the operator table that statements use
-abbrev pub row_add : ℕ
-row_add = 0
-
-abbrev pub row_lt : ℕ
-row_lt = 9
-
-abbrev pub row_put : ℕ
-row_put = 20
-
-abbrev pub row_cut : ℕ
-row_cut = 21
 
 -- what a call is worth as an operand: a checked one has a value
 abbrev pub worth : Option Value → Value

@@ -6,20 +6,12 @@ use Rattle.wave_base.specs.declared.call.Call.{Call}
 use Rattle.wave_base.specs.declared.call.Message.{Message}
 use Rattle.wave_base.specs.declared.path.Path.{Path}
 use Rattle.wave_base.specs.declared.trap.TrapKind.TheVariants.{Ticks, Reach, Sends, Spawns, Generation}
-use Rattle.wave_base.specs.declared.value.Kind.{Kind}
-use Rattle.wave_base.specs.declared.value.Kind.TheVariants as k
 use Rattle.wave_base.specs.declared.value.Value.{Value}
 use Rattle.wave_base.specs.declared.value.Value.TheVariants as v
 use Rattle.wave_base.specs.Paths.{path_eq, is_above}
 use Rattle.wave_base.specs.Tree.{Tree, enter, put}
+pub use Rattle.wave_base.specs.Values.{blank_of}
 use Rattle.value_ops.specs.Kinds.{Answer}
-
--- what the locals of each kind begin with
-abbrev pub blank_of : Kind → Value
-blank_of k.Int = v.Int (pos 0)
-blank_of k.Bool = v.Bool false
-blank_of k.Text = v.Str []
-blank_of k.Map = v.Map []
 
 -- what is read where nothing is, so that each reading has a value
 abbrev pub nothing : Value

@@ -4,7 +4,7 @@ use Rattle.std.specs.Prelude.{codes}
 use Rattle.std.specs.List.{list_all}
 use Rattle.std.proofs.lemmas.Bool.{and_parts}
 use Rattle.std.proofs.lemmas.List.{take_all}
-use Rattle.wave_text.specs.Words.{is_digits}
+use Rattle.wave_base.specs.Names.{is_digits}
 use Rattle.path_text.specs.Steps.{is_step, written_text}
 use Rattle.script_reader.specs.declared.form.Form.{Form}
 use Rattle.script_reader.specs.declared.form.Form.TheVariants.{Hosts, Request, Move, Snapshot, Settle}

@@ -1,7 +1,8 @@
 -- The forms of a script line.
 use Rattle.std.specs.Prelude.{◌≡◌, ℕ, Bool, true, ◌&&◌, ◌==◌, if◌then◌else◌, List, [], ◌∷◌, codes}
 use Rattle.std.specs.List.{list_all}
-use Rattle.wave_text.specs.Words.{is_word, is_digits, is_whole}
+use Rattle.wave_base.specs.Names.{is_digits, is_word}
+use Rattle.wave_text.specs.Words.{is_whole}
 use Rattle.path_text.specs.Steps.{is_step, written_text}
 use Rattle.script_reader.specs.declared.form.Form.{Form}
 use Rattle.script_reader.specs.declared.form.Form.TheVariants.{Hosts, Request, Move, Snapshot, Settle}

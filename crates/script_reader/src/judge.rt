@@ -1,8 +1,8 @@
 ghost use Rattle.std.specs.Prelude.{◌≡◌, ◌<◌, ◌≤◌, true, position, slice_get, IfOk, IfSome, IfNone};
 ghost use Rattle.std.specs.List.{list_all};
+ghost use Rattle.wave_base.specs.Names.{is_digits};
 ghost use Rattle.wave_base.specs.Shapes.{IsShape};
 ghost use Rattle.wave_text.specs.Numbers.{number_of};
-ghost use Rattle.wave_text.specs.Words.{is_digits};
 ghost use Rattle.path_text.specs.Paths.{path_of};
 ghost use Rattle.path_text.specs.Steps.{is_step};
 ghost use Rattle.script_reader.specs.Forms.{is_literal, is_form};

@@ -23,6 +23,7 @@ impl Model for Quote {
 }
 
 impl Quote {
+    /// These bytes, all of which can be printed.
     pub fn new(bytes: Vec<u8>) -> Quote
         requires { All IsPrintable bytes.items }
         ensures { result ≡ bytes.items }
@@ -30,6 +31,7 @@ impl Quote {
         Quote { bytes }
     }
 
+    /// Its bytes.
     pub fn bytes(&self) -> &[u8]
         ensures bytes { result.now ≡ self.now }
         ensures printable { All IsPrintable result.now }

@@ -1,7 +1,7 @@
 -- The code listing: a line per function, and then one per instruction.
 use Rattle.std.specs.Prelude.{◌≡◌, ◌<◌, ℕ, suc, if◌then◌else◌, List, [], ◌∷◌, ◌++◌, length, codes, All, Option, Some, None, slice_get}
 use Rattle.std.specs.Fmt.{decimal}
-use Rattle.wave_base.specs.declared.shape.ClassInfo.{ClassInfo}
+use Rattle.wave_base.specs.Shapes.{class_name}
 use Rattle.wave_base.specs.declared.shape.Shape.{Shape}
 use Rattle.wave_base.specs.declared.span.Span.{Span}
 use Rattle.service_code.specs.declared.instr.Instr.{Instr}
@@ -27,13 +27,6 @@ abbrev pub lines_text : ℕ → List Instr → List Span → List ℕ
 lines_text n [] ps = []
 lines_text n (i ∷ is) [] = []
 lines_text n (i ∷ is) (p ∷ ps) = line_text n i p ++ lines_text (suc n) is ps
-
-abbrev pub class_name_in : Option ClassInfo → List ℕ
-class_name_in None = []
-class_name_in (Some c) = c.name
-
-abbrev pub class_name : Shape → ℕ → List ℕ
-class_name shape c = class_name_in (slice_get shape.classes c)
 
 -- an event's name, or `Class.method`
 abbrev pub function_name : Shape → Function → List ℕ

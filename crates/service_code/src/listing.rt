@@ -1,7 +1,7 @@
 ghost use Rattle.std.specs.Prelude.{◌≡◌, ◌++◌, ◌∷◌, [], ◌<◌, ℕ, length, All, IfOk, OnOk, codes};
 ghost use Rattle.std.specs.Fmt.{decimal};
 ghost use Rattle.service_code.specs.Instructions.{operands_of, HasOperator};
-ghost use Rattle.service_code.specs.Listing.{spaced, place_text, line_text, lines_text, class_name, function_name, head_words, function_text, program_text, CanList};
+ghost use Rattle.service_code.specs.Listing.{spaced, place_text, line_text, lines_text, function_name, head_words, function_text, program_text, CanList};
 
 use crate::instr::Instr;
 use crate::program::{Function, Program};
@@ -65,17 +65,10 @@ fn put_name(text: &mut Vec<u8>, shape: &Shape, function: &Function) -> Result<()
     if function.is_event {
         return put_word(text, function.name.bytes());
     }
-    put_word(text, name_of_class(shape, function.class))?;
+    put_word(text, shape.class_name(function.class))?;
     text.push(b'.')?;
     text.extend_from_slice(function.name.bytes())?;
     Ok(())
-}
-
-fn name_of_class(shape: &Shape, class: Class) -> &[u8]
-    requires { class.0 < length shape.now.classes }
-    ensures { result.now ≡ class_name shape.now class.0 }
-{
-    shape.classes.as_slice()[class.0 as usize].name.bytes()
 }
 
 // A line per instruction.

@@ -11,7 +11,7 @@ use Rattle.service_code.specs.declared.instr.Instr.TheVariants as i
 use Rattle.code_scheme.specs.declared.line.Line.{Line}
 use Rattle.code_scheme.specs.Scheme.{line, tree_code, steps_code, return_code, reply_code, phases_code, method_code, event_code}
 use Rattle.code_scheme.specs.Texts.{Text}
-use Rattle.service_compiler.specs.Fronts.{phase_code, phases_front}
+use Rattle.service_compiler.specs.inner.Fronts.{phase_code, phases_front}
 use Rattle.service_compiler.specs.Wrapped.{wrapped}
 use Rattle.service_compiler.proofs.Emits.{emits_then, emits_one}
 use Rattle.service_compiler.proofs.Notes.{item_more}

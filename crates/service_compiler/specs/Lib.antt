@@ -1,4 +1,4 @@
+pub mod inner
 pub mod Kept
 pub mod Wrapped
 pub mod Faults
-pub mod Fronts

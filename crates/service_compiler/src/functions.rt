@@ -2,7 +2,7 @@
 
 ghost use Rattle.std.specs.Prelude.{◌≡◌, ◌<◌, ◌^◌, ◌++◌, length, IfOk, OnOk};
 ghost use Rattle.code_scheme.specs.Scheme.{return_code, reply_code, method_code, event_code};
-ghost use Rattle.service_compiler.specs.Fronts.{phase_code, phases_front};
+ghost use Rattle.service_compiler.specs.inner.Fronts.{phase_code, phases_front};
 ghost use Rattle.service_compiler.specs.Wrapped.{wrapped};
 
 use crate::emit::{emit_expr, put};

@@ -13,12 +13,8 @@ use crate::texts::Texts;
 use code_scheme::Line;
 use resolved_service::{Action, Expr, Method, Node, Stmt};
 use service_code::Instr;
+use value_ops::rows::{ADD, LT};
 use wave_base::{OutOfMemory, Span};
-
-// The rows of the operator table that a loop over numbers uses.
-const ADD: u16 = 0;
-
-const LESS: u16 = 9;
 
 /// Whether an expression leaves a value: a call of a method without a result does not.
 pub fn leaves(methods: &[Method], expr: &Expr) -> bool
@@ -205,7 +201,7 @@ fn emit_test(code: &mut Vec<Line>, counter: u16, at: Span) -> Result<(), OutOfMe
     let bound = slot(counter, 1)?;
     put(code, Instr::Load(counter), at)?;
     put(code, Instr::Load(bound), at)?;
-    put(code, Instr::Op(LESS), at)
+    put(code, Instr::Op(LT as u16), at)
 }
 
 // The next number.
@@ -214,7 +210,7 @@ fn emit_next(code: &mut Vec<Line>, counter: u16, at: Span) -> Result<(), OutOfMe
 {
     put(code, Instr::Load(counter), at)?;
     put(code, Instr::PushInt(1), at)?;
-    put(code, Instr::Op(ADD), at)?;
+    put(code, Instr::Op(ADD as u16), at)?;
     put(code, Instr::Store(counter), at)
 }
 

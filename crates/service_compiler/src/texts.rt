@@ -33,6 +33,7 @@ impl Texts {
         }
     }
 
+    /// How many texts there are.
     pub fn len(&self) -> usize
         ensures { result ≡ length self.now }
     {

@@ -11,10 +11,10 @@ use Rattle.mace_lexer.specs.Lexed as lexed
 use Rattle.mace_lexer.proofs.CutLemmas.{one_cutting, no_fault, one_fault}
 use Rattle.mace_ast.specs.declared.service.Service.{Service}
 use Rattle.mace_ast.specs.Decls.{ServiceTree, service_tree}
-use Rattle.mace_grammar.specs.Classes.{kind}
+use Rattle.mace_grammar.specs.inner.Classes.{kind}
 use Rattle.mace_grammar.specs.Grammar as g
-use Rattle.mace_grammar.specs.Readers as r
-use Rattle.mace_grammar.specs.Run.{Outcome}
+use Rattle.mace_grammar.specs.inner.Readers as r
+use Rattle.mace_grammar.specs.inner.Run.{Outcome}
 use Rattle.mace_grammar.specs.Nest.{IsShallow}
 use Rattle.mace_grammar.specs.Spelled.{words, Spelled, IsExpected, IsTooDeep, place_in}
 use Rattle.mace_grammar.proofs.Reading.{Reads, whole_only}

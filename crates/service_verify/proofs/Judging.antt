@@ -12,7 +12,7 @@ use Rattle.service_verify.specs.declared.error.Rule.{Rule}
 use Rattle.service_verify.specs.declared.error.VerifyError.{VerifyError}
 use Rattle.service_verify.specs.declared.error.VerifyError.TheVariants as e
 use Rattle.service_verify.specs.declared.error.Rule.TheVariants as rule
-use Rattle.service_verify.specs.Asks.{Judges}
+use Rattle.service_verify.specs.inner.Asks.{Judges}
 use Rattle.service_verify.specs.Faults.{Names, IsNamed, Refuses, IsFirst}
 use Rattle.service_verify.specs.Points.{Table, visit, visited_then, judged_from, judged_function}
 

@@ -6,7 +6,7 @@ use Rattle.std.proofs.lemmas.List.{reverse-append, take_more}
 use Rattle.wave_base.specs.declared.value.Kind.{Kind}
 use Rattle.service_verify.specs.declared.error.Rule.{Rule}
 use Rattle.service_verify.specs.declared.error.Rule.TheVariants as rule
-use Rattle.service_verify.specs.Asks.{Leaves, row_operands}
+use Rattle.service_verify.specs.inner.Asks.{Leaves, row_operands}
 use Rattle.service_verify.specs.Rules.{judged_then, must, operands, suits, left_below}
 
 -- one after the other

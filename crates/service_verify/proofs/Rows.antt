@@ -4,7 +4,7 @@ use Rattle.std.specs.Prelude.{slice_get}
 use Rattle.wave_base.specs.Operators.{operator_names}
 use Rattle.value_ops.specs.Operators.{Operator, operators, no_operator, takes_of, gives_of}
 use Rattle.value_ops.specs.Rows.{Row, named, three, wave_rows}
-use Rattle.service_verify.specs.Asks.{row_operands}
+use Rattle.service_verify.specs.inner.Asks.{row_operands}
 use Rattle.service_verify.specs.Rules.{operands}
 
 -- an operator takes at most three

@@ -1,4 +1,3 @@
-pub mod Asks
 pub mod Boxes
 pub mod Copies
 pub mod Faults
@@ -6,7 +5,6 @@ pub mod Fit
 pub mod inner
 pub mod Lawful
 pub mod Looks
-pub mod Nexts
 pub mod Points
 pub mod Reads
 pub mod Rules

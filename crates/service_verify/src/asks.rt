@@ -1,7 +1,7 @@
 ghost use Rattle.std.specs.Prelude.{◌≡◌, ◌≤◌, Some, None, length, slice_get, option_map};
 ghost use Rattle.value_ops.specs.Rows.{wave_rows};
 ghost use Rattle.wave_base.specs.Shapes.{kinds_of_class, parent_class};
-ghost use Rattle.service_verify.specs.Asks.{asked, takes_in, Finds, Has};
+ghost use Rattle.service_verify.specs.inner.Asks.{asked, takes_in, Finds, Has};
 ghost use Rattle.service_verify.specs.Rules.{effect_of, is_child_class, classes_above, levels_above, takes_for_map};
 
 use crate::error::Rule;
@@ -279,7 +279,7 @@ fn is_child(shape: &Shape, class: Class, child: Class) -> bool
     }
 }
 
-// The class above a class that is at this level, the root's being 0.
+/// The class above a class that is at this level, the root's being 0.
 #[tactic(auto, unfolding(crate::specs::Rules::levels_above))]
 pub fn ancestor(shape: &Shape, class: Class, level: usize) -> Option<Class>
     ensures { option_map (λ c. c.0) result ≡ slice_get (levels_above shape.now class.0) level }

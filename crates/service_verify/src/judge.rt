@@ -1,8 +1,8 @@
 ghost use Rattle.std.specs.Prelude.{◌≡◌, ◌<◌, ◌≤◌, ◌^◌, length, Some, Ok, Err, IfOk, IfErr, MatchResult, slice_get};
 ghost use Rattle.value_ops.specs.Rows.{wave_rows};
-ghost use Rattle.service_verify.specs.Asks.{Judges, Leaves, IsUnreached};
+ghost use Rattle.service_verify.specs.inner.Asks.{Judges, Leaves, IsUnreached};
 ghost use Rattle.service_verify.specs.Faults.{Names, IsFirst};
-ghost use Rattle.service_verify.specs.Nexts.{nexts};
+ghost use Rattle.service_verify.specs.inner.Nexts.{nexts};
 ghost use Rattle.service_verify.specs.Points.{kept_stack, point_after, arrival, arrivals, visit, first_table, judged_function};
 ghost use Rattle.service_verify.specs.Rules.{class_after, next_of, ends};
 

@@ -1,5 +1,5 @@
 ghost use Rattle.std.specs.Prelude.{◌≡◌, ◌≤◌, [], ◌∷◌, ◌++◌, Some, length, map};
-ghost use Rattle.service_verify.specs.Asks.{takes_in, row_operands, Leaves};
+ghost use Rattle.service_verify.specs.inner.Asks.{takes_in, row_operands, Leaves};
 ghost use Rattle.service_verify.specs.Rules.{kind_eq, suits, operands, left_below};
 
 use crate::asks::Takes;
@@ -7,6 +7,7 @@ use crate::error::Rule;
 use crate::stack::Stack;
 use wave_base::Kind;
 
+/// Whether two kinds are the same.
 pub fn same_kind(a: Kind, b: Kind) -> bool
     ensures { result ≡ kind_eq a b }
 {

@@ -28,6 +28,7 @@ impl<T> Stack<T> {
         }
     }
 
+    /// How many values lie on it.
     pub fn len(&self) -> usize
         ensures { result ≡ length self.now }
     {

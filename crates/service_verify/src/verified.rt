@@ -36,6 +36,7 @@ impl Model for Verified {
 }
 
 impl Verified {
+    /// The program, which keeps all rules.
     pub fn program(&self) -> &Program
         ensures program { result.now ≡ self.now }
         ensures verified { IsVerified self.now }

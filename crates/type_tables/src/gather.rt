@@ -164,12 +164,16 @@ impl Gathered {
     }
 }
 
-// A number as it is kept: there is room for 65,535 of each kind of declaration, more than a service text can hold.
+/// So many classes, methods, events or fields of a class have numbers. More are refused as want of memory: each takes five
+/// bytes of text and more, so that no text of at most `SERVICE_BYTES` has as many.
+pub const DECLARATIONS: usize = 65_535;
+
+// A number as it is kept.
 fn number(n: usize) -> Result<u16, OutOfMemory>
     ensures same { IfOk result (λ m. m ≡ n) }
     ensures room { IfOk result (λ m. m + 1 < 2 ^ 16) }
 {
-    if n < 65_535 {
+    if n < DECLARATIONS {
         Ok(n as u16)
     } else {
         Err(OutOfMemory)

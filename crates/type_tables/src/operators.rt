@@ -16,6 +16,7 @@ pub struct Operators {
 }
 
 impl Operators {
+    /// The table of the language.
     pub fn new() -> Operators {
         Operators { table: wave_ops() }
     }

@@ -97,6 +97,7 @@ impl Tables {
         shape
     }
 
+    /// The operators.
     pub fn operators(&self) -> &Operators {
         &self.operators
     }

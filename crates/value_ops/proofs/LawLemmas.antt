@@ -1,5 +1,5 @@
 -- Laws of the operators.
-use Rattle.std.proofs.Common.{◌≡◌, ℕ, ◌+◌, ◌%◌, ◌<◌, ◌≤◌, ◌^◌, ◌==◌, ℤ, pos, negsuc, zero, suc, Bool, true, false, if◌then◌else◌, List, [], ◌∷◌, Ok, Err, neg_ℤ, ◌+ℤ◌, ◌*ℤ◌, ◌≤ℤ◌, unsigned_abs, refl, sym, ap, subst, ◌∙◌, arith, w64, FitsSigned}
+use Rattle.std.proofs.Common.{◌≡◌, ℕ, ◌+◌, ◌%◌, ◌<◌, ◌≤◌, ◌^◌, ◌==◌, ℤ, pos, negsuc, zero, suc, Bool, true, false, if◌then◌else◌, List, [], ◌∷◌, Ok, Err, neg_ℤ, ◌+ℤ◌, ◌*ℤ◌, ◌≤ℤ◌, unsigned_abs, refl, sym, ap, subst, ◌∙◌, arith, w64, FitsSigned, length, get_or, slice_get, Some}
 use Rattle.std.proofs.lemmas.Bool.Decides.{nat_tests}
 use Rattle.std.proofs.lemmas.Fmt.{decimal_by_steps, decimal_is_IsNumeral}
 use Rattle.std.proofs.lemmas.Int.{ints, quot-rem, rem_below}
@@ -13,11 +13,13 @@ use Rattle.wave_base.specs.declared.value.Kind.{Kind}
 use Rattle.wave_base.specs.declared.value.Kind.TheVariants as k
 use Rattle.wave_base.specs.declared.value.Value.{Value}
 use Rattle.wave_base.specs.declared.value.Value.TheVariants.{Int, Str}
+use Rattle.wave_base.specs.Operators.{operator_names, name_of_operator}
 use Rattle.wave_base.specs.Values.{kind_of}
 use Rattle.value_ops.specs.Kinds.{Answer, Of, value_of, answer_of}
 use Rattle.value_ops.specs.Meanings.{is_int, is_zero}
 use Rattle.value_ops.specs.Numbers.{number_in}
-use Rattle.value_ops.specs.Operators.{operators, operator_at, gives_of, apply_row}
+use Rattle.value_ops.specs.Rows.{wave_rows, three, row_with, named}
+use Rattle.value_ops.specs.Operators.{Operator, no_operator, takes_of, operators, operator_at, gives_of, apply_row}
 
 kind_of-value_of : (kind : Kind) (x : Of kind) → kind_of (value_of kind x) ≡ kind
 kind_of-value_of k.Int x = refl
@@ -104,3 +106,13 @@ text_is s t e = cc
 pub str_reads : (z : ℤ) (t : List ℕ) → FitsSigned w64 z → apply_row 26 (Int z ∷ []) ≡ Ok (Str t) → number_in t ≡ z
 unfolding apply_row operators
 str_reads z t h e = ap number_in (sym (text_is (signed_decimal z) t e)) ∙ number_in-signed_decimal z h
+
+named_at : (names : List (List ℕ)) (os : List Operator) (i : ℕ) → i < length names → i < length os → slice_get (named names os) i ≡ Some (row_with (get_or names i []) (get_or os i no_operator))
+named_at [] os i h k = absurd (omega arith)
+named_at (name ∷ names) [] i h k = absurd (omega arith)
+named_at (name ∷ names) (o ∷ os) zero h k = refl
+named_at (name ∷ names) (o ∷ os) (suc i) h k = named_at names os i (omega arith) (omega arith)
+
+pub row_at : (row : ℕ) → row < 28 → slice_get wave_rows row ≡ Some (record { name = name_of_operator row; builtin = (operator_at row).builtin; takes = three (takes_of row); gives = gives_of row })
+unfolding wave_rows operators takes_of gives_of
+row_at row h = named_at operator_names operators row h h

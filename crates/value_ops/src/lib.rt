@@ -7,6 +7,7 @@ mod laws;
 mod maps;
 mod operands;
 mod row;
+pub mod rows;
 mod table;
 mod takes;
 mod texts;
@@ -14,7 +15,7 @@ mod values;
 
 pub use error::OpError;
 pub use ints::apply_ints;
-pub use laws::{quotient_and_remainder, rows_give_their_kind, str_reads_back};
+pub use laws::{quotient_and_remainder, rows_give_their_kind, rows_of_operators, str_reads_back};
 pub use maps::{put_pair, read_map};
 pub use row::OpRow;
 pub use table::{OpTable, find, wave_ops};

@@ -10,6 +10,7 @@ ghost use Rattle.wave_base.specs.declared.value.Kind.{Kind};
 ghost use Rattle.wave_base.specs.declared.value.Value.{Value};
 
 use crate::error::OpError;
+use crate::rows::{AT, CUT, HAS, PUT};
 use wave_base::{PutError, TABLE_PAIRS, Table, TrapKind, Value};
 
 /// What a row reads from a map at an int: the value of a key, whether a key is there, or the key at a place.
@@ -19,8 +20,8 @@ pub fn read_map(row: usize, map: &Table, key: i64) -> Result<Value, TrapKind>
     ensures { result ≡ apply_row row (Value.Map map.now ∷ Value.Int key ∷ []) }
 {
     match row {
-        19 => number_at(map.get(key)),
-        22 => Ok(Value::Bool(map.get(key).is_some())),
+        AT => number_at(map.get(key)),
+        HAS => Ok(Value::Bool(map.get(key).is_some())),
         _ => number_at(key_at(map, key)),
     }
 }
@@ -51,7 +52,7 @@ pub fn apply_map(row: usize, map: &Table, key: i64) -> Result<Value, OpError>
     requires { takes_of row ≡ Kind.Map ∷ Kind.Int ∷ [] }
     ensures { Answers (apply_row row (Value.Map map.now ∷ Value.Int key ∷ [])) result }
 {
-    if row == 21 {
+    if row == CUT {
         cut(map, key)
     } else {
         Ok(read_map(row, map, key)?)
@@ -59,7 +60,7 @@ pub fn apply_map(row: usize, map: &Table, key: i64) -> Result<Value, OpError>
 }
 
 fn cut(map: &Table, key: i64) -> Result<Value, OpError>
-    ensures { Answers (apply_row 21 (Value.Map map.now ∷ Value.Int key ∷ [])) result }
+    ensures { Answers (apply_row CUT (Value.Map map.now ∷ Value.Int key ∷ [])) result }
 {
     let mut copy = map.copy()?;
     copy.cut(key);
@@ -68,7 +69,7 @@ fn cut(map: &Table, key: i64) -> Result<Value, OpError>
 
 /// A map with the pair.
 pub fn put(map: &Table, key: i64, value: i64) -> Result<Value, OpError>
-    ensures { Answers (apply_row 20 (Value.Map map.now ∷ Value.Int key ∷ Value.Int value ∷ [])) result }
+    ensures { Answers (apply_row PUT (Value.Map map.now ∷ Value.Int key ∷ Value.Int value ∷ [])) result }
 {
     if is_full(map, key) {
         return Err(OpError::Trap(TrapKind::Full));
@@ -89,8 +90,8 @@ fn is_full(map: &Table, key: i64) -> bool
 
 /// Puts a pair into a map, which stays as it is where that traps or memory is wanting. A key that is there wants none.
 pub fn put_pair(map: &mut Table, key: i64, value: i64) -> Result<(), OpError>
-    ensures ok { OnOk result (apply_row 20 (Value.Map map.old ∷ Value.Int key ∷ Value.Int value ∷ []) ≡ Ok (Value.Map map.new)) }
-    ensures trap { (trap : TrapKind) → (result ≡ Err (OpError.Trap trap)) ↔ (apply_row 20 (Value.Map map.old ∷ Value.Int key ∷ Value.Int value ∷ []) ≡ Err trap) }
+    ensures ok { OnOk result (apply_row PUT (Value.Map map.old ∷ Value.Int key ∷ Value.Int value ∷ []) ≡ Ok (Value.Map map.new)) }
+    ensures trap { (trap : TrapKind) → (result ≡ Err (OpError.Trap trap)) ↔ (apply_row PUT (Value.Map map.old ∷ Value.Int key ∷ Value.Int value ∷ []) ≡ Err trap) }
     ensures err { OnErr result (map.new ≡ map.old) }
     ensures memory { result ≡ Err OpError.OutOfMemory → value_at map.old key ≡ None }
 {

@@ -1,7 +1,12 @@
 ghost use Rattle.std.specs.Prelude.{◌≡◌, ◌<◌, length, map, Some, slice_get};
-ghost use Rattle.value_ops.specs.Rows.{row_of, wave_rows, first_builtin};
+ghost use Rattle.value_ops.specs.Operators.{takes_of};
+ghost use Rattle.value_ops.specs.Rows.{row_of, kept_row, three, wave_rows, first_builtin};
+ghost use Rattle.wave_base.specs.Operators.{name_of_operator};
+ghost use Rattle.wave_base.specs.declared.operators.TheConstants.{OPERATORS};
 
 use crate::row::{KeptRow, OpRow};
+use crate::rows::*;
+use crate::takes::takes_of;
 use std::marker::Model;
 use wave_base::Kind;
 
@@ -52,17 +57,17 @@ pub fn find<const N: usize>(table: &OpTable<N>, name: &[u8]) -> Option<usize>
     None
 }
 
-// At most three kinds.
-macro_rules! kinds {
-    ($a:ident) => {
-        [Some(Kind::$a), None, None]
-    };
-    ($a:ident $b:ident) => {
-        [Some(Kind::$a), Some(Kind::$b), None]
-    };
-    ($a:ident $b:ident $c:ident) => {
-        [Some(Kind::$a), Some(Kind::$b), Some(Kind::$c)]
-    };
+// A row by its operator, whether it is written as a call, and the kind that it gives.
+fn kept(operator: usize, builtin: bool, gives: Kind) -> KeptRow
+    requires { operator < OPERATORS }
+    ensures { kept_row result ≡ record { name = name_of_operator operator; builtin = builtin; takes = three (takes_of operator); gives = gives } }
+{
+    KeptRow {
+        operator,
+        builtin,
+        takes: takes_of(operator).kinds(),
+        gives,
+    }
 }
 
 // Whether a row is written as a call.
@@ -75,15 +80,10 @@ macro_rules! builtin {
     };
 }
 
-// Rows with their number, how they are written, the kinds that they take, and the kind that they give.
+// Rows by their operator, how they are written, and the kind that they give.
 macro_rules! rows {
-    ($($operator:literal $written:ident ($($kind:ident)*) $gives:ident;)*) => {
-        [$(KeptRow {
-            operator: $operator,
-            builtin: builtin!($written),
-            takes: kinds!($($kind)*),
-            gives: Kind::$gives,
-        }),*]
+    ($($operator:ident $written:ident $gives:ident;)*) => {
+        [$(kept($operator, builtin!($written), Kind::$gives)),*]
     };
 }
 
@@ -93,34 +93,34 @@ pub fn wave_ops() -> OpTable<28>
     ensures { result ≡ wave_rows }
 {
     let rows = rows! {
-        0 sign (Int Int) Int;
-        1 sign (Int Int) Int;
-        2 sign (Int Int) Int;
-        3 sign (Int Int) Int;
-        4 sign (Int Int) Int;
-        5 sign (Int) Int;
-        6 sign (Bool) Bool;
-        7 sign (Int Int) Bool;
-        8 sign (Int Int) Bool;
-        9 sign (Int Int) Bool;
-        10 sign (Int Int) Bool;
-        11 sign (Int Int) Bool;
-        12 sign (Int Int) Bool;
-        13 sign (Bool Bool) Bool;
-        14 sign (Bool Bool) Bool;
-        15 sign (Text Text) Bool;
-        16 sign (Text Text) Bool;
-        17 sign (Text Text) Bool;
-        18 sign (Text Text) Text;
-        19 sign (Map Int) Int;
-        20 sign (Map Int Int) Map;
-        21 sign (Map Int) Map;
-        22 call (Map Int) Bool;
-        23 call (Map) Int;
-        24 call (Map Int) Int;
-        25 call (Text) Int;
-        26 call (Int) Text;
-        27 call (Text Int Int) Text;
+        ADD sign Int;
+        SUB sign Int;
+        MUL sign Int;
+        DIV sign Int;
+        REM sign Int;
+        NEG sign Int;
+        NOT sign Bool;
+        EQ sign Bool;
+        NE sign Bool;
+        LT sign Bool;
+        LE sign Bool;
+        GT sign Bool;
+        GE sign Bool;
+        BEQ sign Bool;
+        BNE sign Bool;
+        TEQ sign Bool;
+        TNE sign Bool;
+        TLT sign Bool;
+        CAT sign Text;
+        AT sign Int;
+        PUT sign Map;
+        CUT sign Map;
+        HAS call Bool;
+        SIZE call Int;
+        KEY call Int;
+        LEN call Int;
+        STR call Text;
+        PART call Text;
     };
     OpTable { rows }
 }

@@ -4,6 +4,7 @@ ghost use Rattle.std.specs.Prelude.{◌≡◌, ◌<◌, ◌∷◌, []};
 ghost use Rattle.value_ops.specs.Operators.{takes_of};
 ghost use Rattle.wave_base.specs.declared.value.Kind.{Kind};
 
+use super::rows::*;
 use super::*;
 use std::alloc::Global;
 use std::process::Abort;
@@ -29,7 +30,7 @@ fn flag(b: bool) -> Result<Value, OpError> {
 // A number as a text.
 #[tactic(auto, unfolding(crate::specs::Operators::takes_of, crate::specs::Operators::operators))]
 fn digits(alloc: Global, n: i64) -> Result<Txt, OpError> {
-    match apply(alloc, 26, &[Value::Int(n)])? {
+    match apply(alloc, STR, &[Value::Int(n)])? {
         Value::Str(text) => Ok(text),
         _ => Err(OpError::OutOfMemory),
     }
@@ -41,7 +42,7 @@ fn text(alloc: Global, n: i64) -> Result<Value, OpError> {
 
 #[tactic(auto, unfolding(crate::specs::Operators::takes_of, crate::specs::Operators::operators))]
 fn joined(alloc: Global, s: Txt, t: Txt) -> Result<Txt, OpError> {
-    match apply(alloc, 18, &[Value::Str(s), Value::Str(t)])? {
+    match apply(alloc, CAT, &[Value::Str(s), Value::Str(t)])? {
         Value::Str(text) => Ok(text),
         _ => Err(OpError::OutOfMemory),
     }
@@ -105,19 +106,19 @@ fn of_map(alloc: Global, row: usize, map: Table, key: i64) -> Result<Value, OpEr
 #[tactic(auto, unfolding(crate::specs::Operators::takes_of, crate::specs::Operators::operators))]
 fn rows_of_ints(rt: HostRuntime) -> Result<(), Fail> {
     let alloc = rt.alloc();
-    of_ints(&rt, alloc, 0, GREATEST, 1, trap(TrapKind::Overflow));
-    of_ints(&rt, alloc, 1, LEAST, 1, trap(TrapKind::Overflow));
-    of_ints(&rt, alloc, 2, 4294967296, -2147483648, int(LEAST));
-    of_ints(&rt, alloc, 3, LEAST, -1, trap(TrapKind::Overflow));
-    of_ints(&rt, alloc, 4, -7, 2, int(-1));
-    of_ints(&rt, alloc, 4, 1, 0, trap(TrapKind::DivZero));
-    of_ints(&rt, alloc, 7, -5, 5, flag(false));
-    of_ints(&rt, alloc, 8, -5, 5, flag(true));
-    of_ints(&rt, alloc, 9, -1, 0, flag(true));
-    of_ints(&rt, alloc, 10, 3, 3, flag(true));
-    of_ints(&rt, alloc, 11, 3, 3, flag(false));
-    of_ints(&rt, alloc, 12, LEAST, GREATEST, flag(false));
-    assert!(rt; apply_ints(3, 7, -2) == Ok(Value::Int(-3)));
+    of_ints(&rt, alloc, ADD, GREATEST, 1, trap(TrapKind::Overflow));
+    of_ints(&rt, alloc, SUB, LEAST, 1, trap(TrapKind::Overflow));
+    of_ints(&rt, alloc, MUL, 4294967296, -2147483648, int(LEAST));
+    of_ints(&rt, alloc, DIV, LEAST, -1, trap(TrapKind::Overflow));
+    of_ints(&rt, alloc, REM, -7, 2, int(-1));
+    of_ints(&rt, alloc, REM, 1, 0, trap(TrapKind::DivZero));
+    of_ints(&rt, alloc, EQ, -5, 5, flag(false));
+    of_ints(&rt, alloc, NE, -5, 5, flag(true));
+    of_ints(&rt, alloc, LT, -1, 0, flag(true));
+    of_ints(&rt, alloc, LE, 3, 3, flag(true));
+    of_ints(&rt, alloc, GT, 3, 3, flag(false));
+    of_ints(&rt, alloc, GE, LEAST, GREATEST, flag(false));
+    assert!(rt; apply_ints(DIV, 7, -2) == Ok(Value::Int(-3)));
     Ok(())
 }
 
@@ -125,12 +126,12 @@ fn rows_of_ints(rt: HostRuntime) -> Result<(), Fail> {
 #[tactic(auto, unfolding(crate::specs::Operators::takes_of, crate::specs::Operators::operators))]
 fn rows_of_one_operand(rt: HostRuntime) -> Result<(), Fail> {
     let alloc = rt.alloc();
-    assert!(rt; apply(alloc, 5, &[Value::Int(LEAST)]) == trap(TrapKind::Overflow));
-    assert!(rt; apply(alloc, 6, &[Value::Bool(true)]) == flag(false));
-    assert!(rt; apply(alloc, 13, &[Value::Bool(false), Value::Bool(false)]) == flag(true));
-    assert!(rt; apply(alloc, 14, &[Value::Bool(false), Value::Bool(false)]) == flag(false));
-    assert!(rt; apply(alloc, 23, &[Value::Map(sample(alloc)?)]) == int(2));
-    assert!(rt; apply(alloc, 25, &[Value::Str(digits(alloc, LEAST)?)]) == int(20));
+    assert!(rt; apply(alloc, NEG, &[Value::Int(LEAST)]) == trap(TrapKind::Overflow));
+    assert!(rt; apply(alloc, NOT, &[Value::Bool(true)]) == flag(false));
+    assert!(rt; apply(alloc, BEQ, &[Value::Bool(false), Value::Bool(false)]) == flag(true));
+    assert!(rt; apply(alloc, BNE, &[Value::Bool(false), Value::Bool(false)]) == flag(false));
+    assert!(rt; apply(alloc, SIZE, &[Value::Map(sample(alloc)?)]) == int(2));
+    assert!(rt; apply(alloc, LEN, &[Value::Str(digits(alloc, LEAST)?)]) == int(20));
     Ok(())
 }
 
@@ -138,14 +139,14 @@ fn rows_of_one_operand(rt: HostRuntime) -> Result<(), Fail> {
 #[tactic(auto, unfolding(crate::specs::Operators::takes_of, crate::specs::Operators::gives_of, crate::specs::Operators::operators))]
 fn rows_of_texts(rt: HostRuntime) -> Result<(), Fail> {
     let alloc = rt.alloc();
-    assert!(rt; of_texts(alloc, 15, 7, 7) == flag(true));
-    assert!(rt; of_texts(alloc, 16, 7, 7) == flag(false));
-    assert!(rt; of_texts(alloc, 17, 10, 9) == flag(true));
-    assert!(rt; of_texts(alloc, 18, -12, 34) == text(alloc, -1234));
+    assert!(rt; of_texts(alloc, TEQ, 7, 7) == flag(true));
+    assert!(rt; of_texts(alloc, TNE, 7, 7) == flag(false));
+    assert!(rt; of_texts(alloc, TLT, 10, 9) == flag(true));
+    assert!(rt; of_texts(alloc, CAT, -12, 34) == text(alloc, -1234));
     assert!(rt; part_of(alloc, 12345, 1, 3) == text(alloc, 23));
     assert!(rt; part_of(alloc, 12, 1, 3) == trap(TrapKind::Absent));
     let one = digits(alloc, 1)?;
-    assert!(rt; compare_texts(15, &one, &one));
+    assert!(rt; compare_texts(TEQ, &one, &one));
     Ok(())
 }
 
@@ -166,15 +167,15 @@ fn longest_text(rt: HostRuntime) -> Result<(), Fail> {
 #[tactic(auto, unfolding(crate::specs::Operators::takes_of, crate::specs::Operators::gives_of, crate::specs::Operators::operators))]
 fn rows_of_maps(rt: HostRuntime) -> Result<(), Fail> {
     let alloc = rt.alloc();
-    assert!(rt; of_map(alloc, 19, sample(alloc)?, 2) == int(8));
-    assert!(rt; of_map(alloc, 19, sample(alloc)?, 8) == trap(TrapKind::Absent));
-    assert!(rt; of_map(alloc, 22, sample(alloc)?, 7) == flag(false));
-    assert!(rt; of_map(alloc, 24, sample(alloc)?, 0) == int(-3));
-    assert!(rt; of_map(alloc, 24, sample(alloc)?, 2) == trap(TrapKind::Absent));
+    assert!(rt; of_map(alloc, AT, sample(alloc)?, 2) == int(8));
+    assert!(rt; of_map(alloc, AT, sample(alloc)?, 8) == trap(TrapKind::Absent));
+    assert!(rt; of_map(alloc, HAS, sample(alloc)?, 7) == flag(false));
+    assert!(rt; of_map(alloc, KEY, sample(alloc)?, 0) == int(-3));
+    assert!(rt; of_map(alloc, KEY, sample(alloc)?, 2) == trap(TrapKind::Absent));
     let mut cut = Table::new(alloc);
     cut.put(-3, 1)?;
-    assert!(rt; of_map(alloc, 21, sample(alloc)?, 2) == Ok(Value::Map(cut)));
-    assert!(rt; read_map(24, &sample(alloc)?, 1) == Ok(Value::Int(2)));
+    assert!(rt; of_map(alloc, CUT, sample(alloc)?, 2) == Ok(Value::Map(cut)));
+    assert!(rt; read_map(KEY, &sample(alloc)?, 1) == Ok(Value::Int(2)));
     Ok(())
 }
 
@@ -191,7 +192,7 @@ fn full_map(rt: HostRuntime) -> Result<(), Fail> {
     assert!(rt; put_pair(&mut map, 1000, 0) == Err(OpError::Trap(TrapKind::Full)));
     put_pair(&mut map, 999, 0)?;
     let full = [Value::Map(map), Value::Int(-1), Value::Int(0)];
-    assert!(rt; apply(alloc, 20, &full) == trap(TrapKind::Full));
+    assert!(rt; apply(alloc, PUT, &full) == trap(TrapKind::Full));
     Ok(())
 }
 

@@ -7,6 +7,7 @@ ghost use Rattle.wave_base.specs.declared.value.Kind.{Kind};
 ghost use Rattle.wave_base.specs.declared.value.Value.{Value};
 
 use crate::error::OpError;
+use crate::rows::{CAT, PART, STR, TEQ, TNE};
 use itoa::Buffer;
 use std::alloc::Global;
 use wave_base::{OutOfMemory, TEXT_BYTES, TrapKind, Txt, Value};
@@ -18,8 +19,8 @@ pub fn compare_texts(row: usize, s: &Txt, t: &Txt) -> bool
     ensures { apply_row row (Value.Str s.now ∷ Value.Str t.now ∷ []) ≡ Ok (Value.Bool result) }
 {
     match row {
-        15 => s.bytes() == t.bytes(),
-        16 => s.bytes() != t.bytes(),
+        TEQ => s.bytes() == t.bytes(),
+        TNE => s.bytes() != t.bytes(),
         _ => s.bytes().cmp(t.bytes()).is_lt(),
     }
 }
@@ -29,7 +30,7 @@ pub fn apply_texts(alloc: Global, row: usize, s: &Txt, t: &Txt) -> Result<Value,
     requires { takes_of row ≡ Kind.Text ∷ Kind.Text ∷ [] }
     ensures { Answers (apply_row row (Value.Str s.now ∷ Value.Str t.now ∷ [])) result }
 {
-    if row == 18 {
+    if row == CAT {
         cat(alloc, s, t)
     } else {
         Ok(Value::Bool(compare_texts(row, s, t)))
@@ -38,7 +39,7 @@ pub fn apply_texts(alloc: Global, row: usize, s: &Txt, t: &Txt) -> Result<Value,
 
 // One text after the other, in one block of memory.
 fn cat(alloc: Global, s: &Txt, t: &Txt) -> Result<Value, OpError>
-    ensures { Answers (apply_row 18 (Value.Str s.now ∷ Value.Str t.now ∷ [])) result }
+    ensures { Answers (apply_row CAT (Value.Str s.now ∷ Value.Str t.now ∷ [])) result }
 {
     if s.bytes().len() + t.bytes().len() > TEXT_BYTES {
         return Err(OpError::Trap(TrapKind::TooLong));
@@ -58,7 +59,7 @@ fn joined(alloc: Global, s: &Txt, t: &Txt) -> Result<Txt, OutOfMemory>
 
 /// Bytes `from` up to, not including, `to`.
 pub fn part(alloc: Global, t: &Txt, from: i64, to: i64) -> Result<Value, OpError>
-    ensures { Answers (apply_row 27 (Value.Str t.now ∷ Value.Int from ∷ Value.Int to ∷ [])) result }
+    ensures { Answers (apply_row PART (Value.Str t.now ∷ Value.Int from ∷ Value.Int to ∷ [])) result }
 {
     match part_of(t.bytes(), from, to) {
         Some(bytes) => Ok(Value::Str(Txt::from_bytes(alloc, bytes)?)),
@@ -81,7 +82,7 @@ fn part_of(bytes: &[u8], from: i64, to: i64) -> Option<&[u8]>
 
 /// An int as a decimal number.
 pub fn written(alloc: Global, n: i64) -> Result<Value, OpError>
-    ensures { Answers (apply_row 26 (Value.Int n ∷ [])) result }
+    ensures { Answers (apply_row STR (Value.Int n ∷ [])) result }
 {
     let mut buffer = Buffer::new();
     Ok(Value::Str(Txt::from_bytes(alloc, buffer.format(n).as_bytes())?))

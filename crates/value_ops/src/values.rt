@@ -10,6 +10,7 @@ use crate::error::OpError;
 use crate::ints::{apply_ints, number};
 use crate::maps::{apply_map, put};
 use crate::operands::{flag, int, table, text};
+use crate::rows::{BEQ, NEG};
 use crate::takes::{Takes, takes_of};
 use crate::texts::{apply_texts, part, written};
 use std::alloc::Global;
@@ -49,7 +50,7 @@ fn apply_int(alloc: Global, row: usize, a: i64) -> Result<Value, OpError>
     requires { takes_of row ≡ Kind.Int ∷ [] }
     ensures { Answers (apply_row row (Value.Int a ∷ [])) result }
 {
-    if row == 5 {
+    if row == NEG {
         Ok(number(a.checked_neg())?)
     } else {
         written(alloc, a)
@@ -61,5 +62,5 @@ pub fn compare_flags(row: usize, b: bool, c: bool) -> bool
     requires { takes_of row ≡ Kind.Bool ∷ Kind.Bool ∷ [] }
     ensures { apply_row row (Value.Bool b ∷ Value.Bool c ∷ []) ≡ Ok (Value.Bool result) }
 {
-    if row == 13 { b == c } else { b != c }
+    if row == BEQ { b == c } else { b != c }
 }

@@ -1,29 +1,33 @@
--- Names of classes, events and fields.
+-- Words, digits, and names of classes, events and fields.
 use Rattle.std.specs.Prelude.{◌≡◌, ℕ, Bool, true, false, not, ◌&&◌, ◌||◌, ◌==◌, nat_le, nat_eq, List, [], ◌∷◌, length, map, All}
+use Rattle.std.specs.Char.{is_ascii_digit, is_ascii_alphabetic, is_ascii_alphanumeric}
 use Rattle.std.specs.List.{list_any, list_all}
 use Rattle.std.specs.Cmp.Lexicographic.{pointwise}
 use Rattle.wave_base.specs.declared.limits.TheConstants.{NAME_BYTES}
 use Rattle.wave_base.specs.declared.shape.ClassInfo.{ClassInfo}
 use Rattle.wave_base.specs.declared.shape.Shape.{Shape}
 
--- from one byte to another
-abbrev pub is_among : ℕ → ℕ → ℕ → Bool
-is_among low high b = nat_le low b && nat_le b high
-
-abbrev pub is_digit : ℕ → Bool
-is_digit b = is_among 48 57 b
+-- one or more digits
+abbrev pub is_digits : List ℕ → Bool
+is_digits [] = false
+is_digits (b ∷ bs) = is_ascii_digit b && list_all is_ascii_digit bs
 
 -- a letter or `_`
 abbrev pub is_name_start : ℕ → Bool
-is_name_start b = is_among 65 90 b || is_among 97 122 b || b == 95
+is_name_start b = is_ascii_alphabetic b || b == 95
 
+-- a letter, a digit or `_`
 abbrev pub is_name_byte : ℕ → Bool
-is_name_byte b = is_name_start b || is_digit b
+is_name_byte b = is_ascii_alphanumeric b || b == 95
 
--- a letter or `_`, then letters, digits and `_`, at most 64 bytes in all
+-- a letter or `_`, then letters, digits and `_`, as many as there are
+abbrev pub is_word : List ℕ → Bool
+is_word [] = false
+is_word (b ∷ bs) = is_name_start b && list_all is_name_byte bs
+
+-- a word of at most 64 bytes
 abbrev pub is_name : List ℕ → Bool
-is_name [] = false
-is_name (b ∷ bs) = is_name_start b && list_all is_name_byte bs && nat_le (length (b ∷ bs)) NAME_BYTES
+is_name bs = is_word bs && nat_le (length bs) NAME_BYTES
 
 abbrev pub same_bytes : List ℕ → List ℕ → Bool
 same_bytes = pointwise nat_eq

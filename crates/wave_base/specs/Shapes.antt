@@ -19,6 +19,14 @@ class_from c (s ∷ p) = class_from s.class.0 p
 abbrev pub class_of : List Step → ℕ
 class_of p = class_from 0 p
 
+abbrev pub name_in : Option ClassInfo → List ℕ
+name_in None = []
+name_in (Some c) = c.name
+
+-- the name of a class
+abbrev pub class_name : Shape → ℕ → List ℕ
+class_name shape c = name_in (slice_get shape.classes c)
+
 abbrev pub parent_in : Option ClassInfo → Option Class
 parent_in None = None
 parent_in (Some c) = c.parent

@@ -79,6 +79,18 @@ impl EventInfo {
 }
 
 impl Shape {
+    ghost use Rattle.wave_base.specs.Shapes.{class_name};
+
+    /// The name of a class, or no bytes where the shape has no such class.
+    pub fn class_name(&self, class: Class) -> &[u8]
+        ensures { result.now ≡ class_name self.now class.0 }
+    {
+        match self.classes.as_slice().get(usize::from(class.0)) {
+            Some(info) => info.name.bytes(),
+            None => &[],
+        }
+    }
+
     /// A shape equal to this one.
     pub fn copy(&self, alloc: Global) -> Result<Shape, OutOfMemory>
         ensures { IfOk result (λ s. s ≡ self.now) }

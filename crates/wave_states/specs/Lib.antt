@@ -8,6 +8,7 @@ pub mod Labels
 pub mod Movers
 pub mod Owes
 pub mod Owners
+pub mod Results
 pub mod Runs
 pub mod States
 pub mod Steps

@@ -2,11 +2,12 @@
 use Rattle.std.proofs.Common.{◌≡◌, pos, negsuc, true, false, [], ◌∷◌, Some, None, refl}
 use Rattle.std.specs.Prelude.{codes}
 use Rattle.std.specs.Fmt.{digits}
+use Rattle.wave_base.specs.Names.{is_digits, is_word}
 use Rattle.wave_base.specs.declared.value.Value.TheVariants.{Str, Map}
 use Rattle.wave_text.specs.Lines.{lines_of}
 use Rattle.wave_text.specs.Numbers.{whole_of}
 use Rattle.wave_text.specs.ValueTexts.{value_text}
-use Rattle.wave_text.specs.Words.{is_word, is_whole, is_digits}
+use Rattle.wave_text.specs.Words.{is_whole}
 
 words_are : is_word (codes "_a9") ≡ true
 words_are = refl

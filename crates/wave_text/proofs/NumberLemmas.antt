@@ -1,6 +1,7 @@
 -- Whole numbers as digits: how they are read.
 use Rattle.std.proofs.Common.{◌≡◌, ◌≢◌, ◌<◌, ◌≤◌, ◌^◌, ℕ, zero, suc, ℤ, pos, Bool, true, false, cond, List, [], ◌∷◌, length, Some, None, Result, Ok, Err, refl, sym, ap, subst, ◌∙◌, arith, rules}
 use Rattle.std.specs.Prelude.{◌==◌, nat_lt, nat_le, neg_ℤ, slice_index}
+use Rattle.std.specs.Char.{is_ascii_digit}
 use Rattle.std.specs.Int.{w64}
 use Rattle.std.specs.List.{list_all}
 use Rattle.std.specs.Result.{OkIff, result_ok}
@@ -8,12 +9,12 @@ use Rattle.std.specs.Str.{IsAscii}
 use Rattle.std.specs.Str.Parse.{ParsesSigned, digits_value}
 use Rattle.std.proofs.lemmas.Bool.Decides.{nat_tests}
 use Rattle.std.proofs.lemmas.Str.Parse.{IsNumeralModel, numerals_by_value, parse_signed_plain, parse_signed_minus}
-use Rattle.wave_base.specs.Names.{is_digit}
+use Rattle.wave_base.specs.Names.{is_digits}
 use Rattle.wave_text.specs.Numbers.{number_of, positive, negative, whole_of}
-use Rattle.wave_text.specs.Words.{is_digits, is_whole}
+use Rattle.wave_text.specs.Words.{is_whole}
 
 abbrev pub AreDigits : List ℕ → Type 0
-AreDigits ds = list_all is_digit ds ≡ true
+AreDigits ds = list_all is_ascii_digit ds ≡ true
 
 pub own : IsNumeralModel AreDigits (digits_value 10)
 own = numerals_by_value AreDigits (search rules)

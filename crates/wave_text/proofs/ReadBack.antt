@@ -4,8 +4,9 @@ use Rattle.std.specs.Prelude.{◌==◌, nat_lt, nat_le, neg_ℤ}
 use Rattle.std.specs.Fmt.{decimal, signed_decimal}
 use Rattle.std.proofs.lemmas.Bool.Decides.{nat_tests}
 use Rattle.std.proofs.lemmas.Fmt.{digits_decimal, digits_value-decimal, decimal_nonempty, length-decimal-le}
+use Rattle.wave_base.specs.Names.{is_digits}
 use Rattle.wave_text.specs.Numbers.{number_of, positive, negative, whole_of}
-use Rattle.wave_text.specs.Words.{is_digits, is_whole, without_minus}
+use Rattle.wave_text.specs.Words.{is_whole, without_minus}
 use Rattle.wave_text.proofs.NumberLemmas.{AreDigits, own, lt_test, le_test, first_digit}
 
 from_all : (ds : List ℕ) → AreDigits ds → 0 < length ds → is_digits ds ≡ true

@@ -9,7 +9,7 @@ mod quotes;
 mod tests;
 mod words;
 
-pub use lines::first_line;
+pub use lines::{first_line, line_len};
 pub use numbers::{whole_of, written_numbers_are_read};
 pub use put::{put_bytes, put_number, put_quoted, put_value, put_whole};
 pub use quotes::read_quoted;

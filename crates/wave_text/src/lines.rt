@@ -11,8 +11,8 @@ fn without_return(line: &[u8]) -> &[u8]
     }
 }
 
-// The number of bytes before the first line feed.
-fn line_len(text: &[u8]) -> usize
+/// The number of bytes before the first line feed.
+pub fn line_len(text: &[u8]) -> usize
     ensures len { result ≡ prefix_len is_inside text.now }
     ensures within { result ≤ length text.now }
 {

@@ -1,7 +1,8 @@
 ghost use Rattle.std.specs.Prelude.{◌≡◌};
+ghost use Rattle.std.specs.Char.{is_ascii_digit};
 ghost use Rattle.std.specs.List.{list_all};
-ghost use Rattle.wave_base.specs.Names.{is_digit, is_name_start, is_name_byte};
-ghost use Rattle.wave_text.specs.Words.{is_blank, is_word, is_digits, is_whole, without_minus};
+ghost use Rattle.wave_base.specs.Names.{is_digits, is_name_byte, is_word};
+ghost use Rattle.wave_text.specs.Words.{is_blank, is_whole, without_minus};
 
 /// Whether a byte is a space or a tab.
 pub fn is_blank(b: u8) -> bool
@@ -10,22 +11,10 @@ pub fn is_blank(b: u8) -> bool
     b == b' ' || b == b'\t'
 }
 
-fn is_digit(b: u8) -> bool
-    ensures { result ≡ is_digit b }
-{
-    48 <= b && b <= 57
-}
-
-fn is_name_start(b: u8) -> bool
-    ensures { result ≡ is_name_start b }
-{
-    (65 <= b && b <= 90) || (97 <= b && b <= 122) || b == b'_'
-}
-
 fn is_name_byte(b: u8) -> bool
     ensures { result ≡ is_name_byte b }
 {
-    is_name_start(b) || is_digit(b)
+    b.is_ascii_alphanumeric() || b == b'_'
 }
 
 fn are_name_bytes(bytes: &[u8]) -> bool
@@ -35,9 +24,9 @@ fn are_name_bytes(bytes: &[u8]) -> bool
 }
 
 fn are_digits(bytes: &[u8]) -> bool
-    ensures { result ≡ list_all is_digit bytes.now }
+    ensures { result ≡ list_all is_ascii_digit bytes.now }
 {
-    bytes.iter().all(|b| is_digit(*b))
+    bytes.iter().all(|b| b.is_ascii_digit())
 }
 
 /// Whether a text is a letter or `_` and then letters, digits and `_`.
@@ -46,7 +35,7 @@ pub fn is_word(text: &[u8]) -> bool
 {
     match text {
         [] => false,
-        [b, rest @ ..] => is_name_start(*b) && are_name_bytes(rest),
+        [b, rest @ ..] => (b.is_ascii_alphabetic() || *b == b'_') && are_name_bytes(rest),
     }
 }
 
@@ -56,7 +45,7 @@ pub fn is_digits(text: &[u8]) -> bool
 {
     match text {
         [] => false,
-        [b, rest @ ..] => is_digit(*b) && are_digits(rest),
+        [b, rest @ ..] => b.is_ascii_digit() && are_digits(rest),
     }
 }
 

@@ -43,6 +43,64 @@ fn nested(alloc: Global, count: usize) -> Result<Vec<u8>, OutOfMemory> {
     )
 }
 
+// A service of one declaration, which has so many equal bytes between a front and a back.
+fn repeated(
+    alloc: Global,
+    front: &[u8],
+    byte: u8,
+    count: usize,
+    back: &[u8],
+) -> Result<Vec<u8>, OutOfMemory> {
+    let mut text = Vec::from_slice(alloc, front)?;
+    text.extend_from_slice(Vec::from_elem(alloc, byte, count)?.as_slice())?;
+    many(alloc, text.as_slice(), b"", b"", back, 0)
+}
+
+#[test]
+fn a_name_has_at_most_64_bytes(rt: HostRuntime) -> Result<(), Fail> {
+    let alloc = rt.alloc();
+    let most = repeated(alloc, b"event ", b'n', 64, b"() { }")?;
+    accepts(&rt, alloc, most.as_slice())?;
+    let more = repeated(alloc, b"event ", b'n', 65, b"() { }")?;
+    refuses(&rt, alloc, more.as_slice(), b"L4 NameLong 1:19")?;
+    Ok(())
+}
+
+#[test]
+fn a_text_in_a_service_has_at_most_200_bytes(rt: HostRuntime) -> Result<(), Fail> {
+    let alloc = rt.alloc();
+    let most = repeated(alloc, b"var t: text = \"", b'x', 200, b"\";")?;
+    accepts(&rt, alloc, most.as_slice())?;
+    let more = repeated(alloc, b"var t: text = \"", b'x', 201, b"\";")?;
+    refuses(&rt, alloc, more.as_slice(), b"L5 TextLong 1:27")?;
+    Ok(())
+}
+
+// A service whose event replies a number in so many parentheses.
+fn in_parentheses(alloc: Global, count: usize) -> Result<Vec<u8>, OutOfMemory> {
+    let closing = Vec::from_elem(alloc, b')', count)?;
+    let mut back = Vec::from_slice(alloc, b"1")?;
+    back.extend_from_slice(closing.as_slice())?;
+    back.extend_from_slice(b"; }")?;
+    repeated(
+        alloc,
+        b"event e(): int { reply ",
+        b'(',
+        count,
+        back.as_slice(),
+    )
+}
+
+#[test]
+fn parentheses_are_at_most_62_deep_in_an_event(rt: HostRuntime) -> Result<(), Fail> {
+    let alloc = rt.alloc();
+    let most = in_parentheses(alloc, 62)?;
+    accepts(&rt, alloc, most.as_slice())?;
+    let more = in_parentheses(alloc, 63)?;
+    refuses(&rt, alloc, more.as_slice(), b"P2 TooDeep 1:98")?;
+    Ok(())
+}
+
 #[test]
 fn classes_are_at_most_eight_deep(rt: HostRuntime) -> Result<(), Fail> {
     let alloc = rt.alloc();

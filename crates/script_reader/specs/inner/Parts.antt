@@ -1,7 +1,7 @@
 -- The parts of a script line, as its reader finds them.
 use Rattle.std.specs.Prelude.{◌≡◌, ℕ, true, List, [], ◌∷◌, codes}
 use Rattle.std.specs.List.{list_all}
-use Rattle.wave_text.specs.Words.{is_word, is_digits}
+use Rattle.wave_base.specs.Names.{is_digits, is_word}
 use Rattle.script_reader.specs.declared.form.Form.{Form}
 use Rattle.script_reader.specs.declared.form.Literal.{Literal}
 use Rattle.script_reader.specs.declared.piece.Piece.{Piece}

@@ -5,7 +5,7 @@ use Rattle.wave_base.specs.declared.outcome.EventResult.{EventResult}
 use Rattle.service_verify.specs.Copies.{Trip, trip_after, first_trip}
 use Rattle.service_verify.specs.Tours.{Tour, most_segments}
 use Rattle.code_runner.specs.Coded.{IsTree, IsJob}
-use Rattle.code_runner.specs.Walks.{Walks, trip_of}
+use Rattle.code_runner.specs.inner.Walks.{Walks, trip_of}
 use Rattle.code_runner.proofs.Walking.{walks, few, follows_on, is_all, ended}
 use Rattle.code_runner.proofs.Meant.{same_result}
 use Rattle.code_runner.proofs.run.run_call.Goals as goal
@@ -92,7 +92,7 @@ returns-in-Some-clause-created c =
     (trip_of c.step.new.self (tree_of p.shape c.step.new.contexts) (Some c.in-Some.result)) c.in-Some.result
     c.under_way.invariant.follows (ap (trip_of c.step.new.self (tree_of p.shape c.step.new.contexts)) (sym c.in-Some.is) ∙ c.in_ok-result.ensures.next) c.in_ok-result.ensures.segments refl in
     let e = ended p c.requires.fit c.under_way.invariant.verified c.args.call.now (tree_of p.shape c.args.contexts.now) (c.requires.call, c.requires.generation) c.requires.tree c.requires.root in
-    subst (λ (r : EventResult). All (IsJob p.shape) r.created) (same_result e.result c.in-Some.result (sym e.is ∙ sym (ap (λ (t : Tour). t.result) whole))) e.created
+    subst (λ (r : EventResult). All (IsJob p) r.created) (same_result e.result c.in-Some.result (sym e.is ∙ sym (ap (λ (t : Tour). t.result) whole))) e.created
 
 pub returns-in-Some-clause-segments : goal.returns-in-Some-clause-segments
 returns-in-Some-clause-segments c =

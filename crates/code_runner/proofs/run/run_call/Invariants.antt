@@ -3,7 +3,7 @@ use Rattle.context_tree.specs.Contexts.{tree_of}
 use Rattle.service_verify.specs.Copies.{trip_after, first_trip}
 use Rattle.service_verify.specs.Points.{IsVerified}
 use Rattle.service_verify.specs.Tours.{most_segments}
-use Rattle.code_runner.specs.Walks.{trip_of}
+use Rattle.code_runner.specs.inner.Walks.{trip_of}
 use Rattle.code_runner.proofs.run.run_call.Given as goal
 
 -- so far it has gone where its code leads it

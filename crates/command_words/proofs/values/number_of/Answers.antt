@@ -1,5 +1,5 @@
 use Rattle.std.proofs.Common.{rules, ◌≡◌, ◌∙◌, true, arith}
-use Rattle.wave_text.specs.Words.{is_digits}
+use Rattle.wave_base.specs.Names.{is_digits}
 use Rattle.command_words.proofs.NumberLemmas.{reads_number}
 use Rattle.command_words.proofs.values.number_of.Goals as goal
 

@@ -8,7 +8,7 @@ use Rattle.type_rules.specs.Known.{none_before}
 use Rattle.type_rules.specs.Here.{start}
 use Rattle.type_rules.specs.Functions.{after_params, event_params_demands, phases_demands, event_end, resolve_phases, event_demands}
 use Rattle.type_rules.specs.Views.{last_view, phase_view}
-use Rattle.context_types.specs.Places.{here_of}
+use Rattle.context_types.specs.inner.Places.{here_of}
 use Rattle.context_types.proofs.Exits.{exit}
 use Rattle.context_types.proofs.FunctionArms.{event_taken, event_params_fail, first_fails, phases_fail, reply_fails, event_holds, event_made}
 use Rattle.context_types.proofs.functions.event.Goals as goal

@@ -9,7 +9,7 @@ use Rattle.type_rules.specs.Here.{start}
 use Rattle.type_rules.specs.Stmts.{after_all, stmts_demands, resolve_stmts}
 use Rattle.type_rules.specs.Functions.{after_params, method_params_demands, method_demands}
 use Rattle.type_rules.specs.Views.{last_view}
-use Rattle.context_types.specs.Places.{here_of}
+use Rattle.context_types.specs.inner.Places.{here_of}
 use Rattle.context_types.proofs.Exits.{exit}
 use Rattle.context_types.proofs.FunctionArms.{method_taken, params_fail, body_fails, last_fails, method_holds, method_made}
 use Rattle.context_types.proofs.functions.method.Goals as goal

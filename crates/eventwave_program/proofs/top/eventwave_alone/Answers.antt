@@ -1,6 +1,7 @@
 use Rattle.std.proofs.Common.{◌≡◌, ◌⊎◌, inl, inr, ℕ, false, Some, IfSome, ◌∙◌, sym, subst}
 use Rattle.eventwave_program.specs.declared.ending.Ending.TheVariants.{ReadFault}
-use Rattle.eventwave_program.specs.Ends.{Told, is_read_fault, note_for}
+use Rattle.eventwave_program.specs.Ends.{Told, note_for}
+use Rattle.eventwave_program.specs.inner.Parts.{is_read_fault}
 use Rattle.eventwave_program.proofs.EndLemmas.{is_refused, is_fault, is_write_fault, writes_nothing, writes_front, tells_note}
 use Rattle.eventwave_program.proofs.top.eventwave_alone.Goals as goal
 

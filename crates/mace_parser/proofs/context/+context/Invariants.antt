@@ -1,7 +1,7 @@
 use Rattle.std.proofs.Common.{◌≡◌, ◌+◌, ◌*◌, ◌-◌, map}
 use Rattle.mace_lexer.specs.declared.keyword.Keyword.TheVariants as k
 use Rattle.mace_ast.specs.Decls.{context_tree}
-use Rattle.mace_grammar.specs.Readers as reader
+use Rattle.mace_grammar.specs.inner.Readers as reader
 use Rattle.mace_parser.proofs.Turns.{list_from}
 use Rattle.mace_parser.proofs.context.+context.Given as goal
 

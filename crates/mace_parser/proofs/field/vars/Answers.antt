@@ -1,9 +1,9 @@
 use Rattle.std.proofs.Common.{◌≡◌, ◌-◌, true, length, Ok, sym, ◌∙◌, ap, arith}
 use Rattle.std.proofs.lemmas.Result.{err_from_is_err_and}
 use Rattle.mace_lexer.specs.declared.keyword.Keyword.TheVariants as k
-use Rattle.mace_grammar.specs.Classes.{kind}
-use Rattle.mace_grammar.specs.Run.{sees}
-use Rattle.mace_grammar.specs.Readers as reader
+use Rattle.mace_grammar.specs.inner.Classes.{kind}
+use Rattle.mace_grammar.specs.inner.Run.{sees}
+use Rattle.mace_grammar.specs.inner.Readers as reader
 use Rattle.mace_parser.proofs.Turns.{list_goes_on, list_ends, list_done, list_done_at}
 use Rattle.mace_parser.proofs.field.vars.Goals as goal
 use Rattle.mace_parser.proofs.field.vars.Goals.{else-turns-test, then-turns-test+then-not-sees_key}

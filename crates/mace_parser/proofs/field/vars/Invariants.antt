@@ -1,6 +1,6 @@
 use Rattle.std.proofs.Common.{◌≡◌, ◌-◌}
 use Rattle.mace_lexer.specs.declared.keyword.Keyword.TheVariants as k
-use Rattle.mace_grammar.specs.Readers as reader
+use Rattle.mace_grammar.specs.inner.Readers as reader
 use Rattle.mace_parser.proofs.Turns.{list_from}
 use Rattle.mace_parser.proofs.field.vars.Given as goal
 

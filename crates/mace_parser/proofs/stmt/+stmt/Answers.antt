@@ -2,9 +2,9 @@ use Rattle.std.proofs.Common.{◌≡◌, ◌-◌, true, length, Ok, sym, ◌∙�
 use Rattle.std.proofs.lemmas.Result.{err_from_is_err_and}
 use Rattle.std.proofs.lemmas.List.{map_push}
 use Rattle.mace_ast.specs.Stmts.{stmt_tree}
-use Rattle.mace_grammar.specs.Classes.{kind}
-use Rattle.mace_grammar.specs.Run.{sees}
-use Rattle.mace_grammar.specs.Readers as reader
+use Rattle.mace_grammar.specs.inner.Classes.{kind}
+use Rattle.mace_grammar.specs.inner.Run.{sees}
+use Rattle.mace_grammar.specs.inner.Readers as reader
 use Rattle.mace_parser.proofs.Turns.{list_goes_on, list_ends, list_done, list_done_at}
 use Rattle.mace_parser.proofs.Steps.{if_fails, else_fails, if_gives, while_fails, while_gives, for_fails, for_gives}
 use Rattle.mace_parser.proofs.stmt.+stmt.Goals as goal

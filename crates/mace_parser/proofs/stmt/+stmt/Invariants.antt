@@ -1,6 +1,6 @@
 use Rattle.std.proofs.Common.{◌≡◌, ◌+◌, ◌*◌, ◌-◌, map}
 use Rattle.mace_ast.specs.Stmts.{stmt_tree}
-use Rattle.mace_grammar.specs.Readers as reader
+use Rattle.mace_grammar.specs.inner.Readers as reader
 use Rattle.mace_parser.proofs.Turns.{list_from}
 use Rattle.mace_parser.proofs.stmt.+stmt.Given as goal
 

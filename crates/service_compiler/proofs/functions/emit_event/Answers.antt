@@ -1,7 +1,7 @@
 use Rattle.std.proofs.Common.{◌++◌, length, ap, ◌∙◌}
 use Rattle.resolved_service.specs.Steps.{steps_in}
 use Rattle.code_scheme.specs.Scheme.{steps_code}
-use Rattle.service_compiler.specs.Fronts.{phases_front}
+use Rattle.service_compiler.specs.inner.Fronts.{phases_front}
 use Rattle.service_compiler.specs.Wrapped.{wrapped}
 use Rattle.service_compiler.proofs.Fronting.{event_emitted}
 use Rattle.service_compiler.proofs.functions.emit_event.Goals as goal

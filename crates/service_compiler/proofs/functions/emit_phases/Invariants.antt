@@ -1,5 +1,5 @@
 use Rattle.std.proofs.Common.{◌≡◌, ◌++◌, length, take}
-use Rattle.service_compiler.specs.Fronts.{phases_front}
+use Rattle.service_compiler.specs.inner.Fronts.{phases_front}
 use Rattle.service_compiler.specs.Wrapped.{wrapped}
 use Rattle.service_compiler.proofs.functions.emit_phases.Given as goal
 

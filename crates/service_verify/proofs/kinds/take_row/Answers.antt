@@ -1,6 +1,6 @@
 use Rattle.std.proofs.Common.{◌≡◌, [], ◌∷◌, ◌+◌, ◌-◌, None, length, take, get_or, ap, ◌∙◌, arith}
 use Rattle.std.proofs.lemmas.Result.{err_from_is_err_and}
-use Rattle.service_verify.specs.Asks.{row_operands}
+use Rattle.service_verify.specs.inner.Asks.{row_operands}
 use Rattle.service_verify.specs.Rules.{left_below}
 use Rattle.service_verify.proofs.Operands.{row_operands_step, left_on, left_off}
 use Rattle.service_verify.proofs.kinds.take_row.Goals as goal

@@ -1,5 +1,5 @@
 use Rattle.std.proofs.Common.{◌≡◌, ◌-◌, length, take}
-use Rattle.service_verify.specs.Asks.{row_operands}
+use Rattle.service_verify.specs.inner.Asks.{row_operands}
 use Rattle.service_verify.specs.Rules.{left_below}
 use Rattle.service_verify.proofs.kinds.take_row.Given as goal
 

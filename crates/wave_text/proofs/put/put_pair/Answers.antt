@@ -1,4 +1,4 @@
-use Rattle.std.proofs.Common.{rules, ◌≡◌, ◌++◌, FitsSigned, w64, to_z, of_z, sym, ap, ◌∙◌}
+use Rattle.std.proofs.Common.{rules, ◌++◌, FitsSigned, w64, ap, ◌∙◌}
 use Rattle.std.proofs.lemmas.Int.{to_z-of_z}
 use Rattle.std.specs.Fmt.{signed_decimal}
 use Rattle.wave_text.proofs.PairLemmas.{on_ok, three_parts}

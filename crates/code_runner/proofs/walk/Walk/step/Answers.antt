@@ -6,7 +6,7 @@ use Rattle.wave_base.specs.Tree.{put}
 use Rattle.wave_base.specs.Shapes.{is_path}
 use Rattle.service_code.specs.declared.program.Program.{Program}
 use Rattle.service_vm.specs.Boxes.{Boxed}
-use Rattle.code_runner.specs.Walks.{tree_into}
+use Rattle.code_runner.specs.inner.Walks.{tree_into}
 use Rattle.code_runner.proofs.Putting.{put_back}
 use Rattle.code_runner.proofs.Stepped.{has_here, stands_on, still_there, into_child, stepped_into, stepped_back, stepped_over}
 use Rattle.code_runner.proofs.walk.Walk.step.Goals as goal

@@ -1,12 +1,11 @@
 use Rattle.std.proofs.Common.{◌≡◌, subst, sym, ap, ◌∙◌, Some, slice_get, slice_set, IsSome, is_some}
-use Rattle.std.specs.BTreeMap.{is_at}
 use Rattle.std.specs.Map.{lookup}
 use Rattle.wave_base.specs.declared.record.Record.{Record}
-use Rattle.wave_base.specs.Paths.{path_cmp}
+use Rattle.wave_base.specs.Paths.{path_eq}
 use Rattle.wave_base.specs.Starts.{shown_fields}
 use Rattle.wave_base.specs.Tree.{put}
-use Rattle.context_tree.specs.Contexts.{Contexts, HasField, tree_of, with_field}
-use Rattle.context_tree.proofs.KeptLemmas.{kept, shown_record, has_field, no_field, tree_changed}
+use Rattle.context_tree.specs.Contexts.{Contexts, HasField, kept, tree_of, with_field}
+use Rattle.context_tree.proofs.KeptLemmas.{shown_record, has_field, no_field, tree_changed}
 use Rattle.context_tree.proofs.tree.Tree.replace.Goals as goal
 
 pub set-requires : goal.set-requires
@@ -25,10 +24,17 @@ returns-clause-before c =
 pub returns-clause-set : goal.returns-clause-set
 returns-clause-set c =
     λ shape.
+    let es = c.self.inside.contexts.entries in
     let w : Record = record { fields = c.set.new.self; children = c.in-Some.record.now.children } in
-    let here : IsSome (lookup (is_at (path_cmp c.args.path.now)) c.self.inside.contexts.entries) = ap is_some (sym c.in-Some.ensures.value) in
-    let new : tree_of shape (kept (c.get_mut.follows.lender w).entries) ≡ put (tree_of shape (kept c.self.inside.contexts.entries)) c.args.path.now c.set.new.self =
-    ap (λ es. tree_of shape (kept es)) (c.get_mut.follows.holds w).0 ∙ tree_changed shape c.args.path.now w c.self.inside.contexts.entries here in
-    let set : c.set.new.self ≡ slice_set (shown_fields shape (kept c.self.inside.contexts.entries).shots c.args.path.now) c.args.field c.args.value =
-    c.set.ensures.put ∙ ap (λ fs. slice_set fs c.args.field c.args.value) (sym (shown_record c.self.inside.contexts.entries c.args.path.now c.in-Some.record.now (sym c.in-Some.ensures.value) shape)) in
-    new ∙ ap (put (tree_of shape (kept c.self.inside.contexts.entries)) c.args.path.now) set ∙ ap (λ t. with_field (tree_of shape t) c.args.path.now c.args.field c.args.value) c.self.view_is
+    let written = c.get_mut.follows.holds w in
+    let here : IsSome (lookup (path_eq c.args.path.now) es) = ap is_some (sym c.in-Some.ensures.value) in
+    let set : c.set.new.self ≡ slice_set (shown_fields shape (kept es).shots c.args.path.now) c.args.field c.args.value =
+    c.set.ensures.put ∙ ap (λ fs. slice_set fs c.args.field c.args.value) (sym (shown_record es c.args.path.now c.in-Some.record.now (sym c.in-Some.ensures.value) shape)) in
+    tree_changed shape es (c.get_mut.follows.lender w).entries c.args.path.now w (written.3 here).0 here
+    ∙ ap (put (tree_of shape (kept es)) c.args.path.now) set
+    ∙ ap (λ t. with_field (tree_of shape t) c.args.path.now c.args.field c.args.value) c.self.view_is
+
+pub returns-clause-joined : goal.returns-clause-joined
+returns-clause-joined c =
+    let w : Record = record { fields = c.set.new.self; children = c.in-Some.record.now.children } in
+    (c.get_mut.follows.holds w).1 ∙ ap (λ (t : Contexts). t.joined) c.self.view_is

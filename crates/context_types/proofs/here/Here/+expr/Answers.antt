@@ -15,7 +15,7 @@ use Rattle.type_rules.specs.Exprs.{count, demands, demands_as, of_kind, typed, a
 use Rattle.type_rules.proofs.First.{fails_at, fails_past, fails_same, fails_front, fails_behind, told_past}
 use Rattle.type_tables.proofs.Walks.{differ}
 use Rattle.context_types.specs.inner.Children.{asks_of_child}
-use Rattle.context_types.specs.Places.{here_of}
+use Rattle.context_types.specs.inner.Places.{here_of}
 use Rattle.context_types.proofs.Arms.{unary_arm, binary_arm, index_arm, above_index_arm, as_arm, as_fails, worth, place_node}
 use Rattle.context_types.proofs.CallArms.{args_asks, call_same, builtin_called, method_called, child_same, child_called, child_holds, child_fails, child_is, key_fails}
 use Rattle.context_types.proofs.Exits.{exit, exit_front}

@@ -1,7 +1,7 @@
 use Rattle.std.proofs.Common.{◌≡◌, ◌+◌, ◌*◌, map, take, None}
 use Rattle.resolved_service.specs.View.{tree_of}
 use Rattle.type_rules.specs.Demands.{first_wrong}
-use Rattle.context_types.specs.Places.{here_of}
+use Rattle.context_types.specs.inner.Places.{here_of}
 use Rattle.context_types.proofs.Lists.{next_number, arg_asks, arg_made}
 use Rattle.context_types.proofs.Walking.{walk, makes}
 use Rattle.context_types.proofs.here.Here.+expr.Given as goal

@@ -14,7 +14,7 @@ use Rattle.type_rules.specs.Here.{behind, counted}
 use Rattle.type_rules.specs.Exprs.{resolve, resolve_all, child_demands, child_tree}
 use Rattle.type_rules.specs.Stmts.{stmt_demands, stmts_demands}
 use Rattle.type_rules.proofs.First.{fails_same}
-use Rattle.context_types.specs.Places.{here_of, else_in}
+use Rattle.context_types.specs.inner.Places.{here_of, else_in}
 use Rattle.context_types.proofs.CallArms.{child_holds, child_fails, child_is, key_fails}
 use Rattle.context_types.proofs.Exits.{exit}
 use Rattle.context_types.proofs.Lists.{next_stmt, stmt_asks, stmt_made, stmts_walk, stmts_ends, stmts_made}

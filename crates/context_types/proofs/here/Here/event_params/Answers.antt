@@ -7,7 +7,7 @@ use Rattle.type_rules.specs.Kinds.{same_kind}
 use Rattle.type_rules.specs.Demands.{first_wrong, Fails}
 use Rattle.type_rules.specs.Functions.{param_asks, no_map, event_params_demands}
 use Rattle.type_rules.proofs.First.{fails_same, fails_front, fails_behind, fails_at, holds_both, told_past}
-use Rattle.context_types.specs.Places.{here_of}
+use Rattle.context_types.specs.inner.Places.{here_of}
 use Rattle.context_types.proofs.Exits.{exit}
 use Rattle.context_types.proofs.Lists.{next_param, event_param_asks, event_params_walk, params_ends}
 use Rattle.context_types.proofs.Walking.{walk, ends, ends_more, walk_more, walk_fails, walk_whole}

@@ -6,7 +6,7 @@ use Rattle.type_rules.specs.Here.{declared}
 use Rattle.type_rules.specs.Exprs.{demands}
 use Rattle.type_rules.specs.Stmts.{kind_or_int, local_asks}
 use Rattle.type_rules.proofs.First.{holds_both}
-use Rattle.context_types.specs.Places.{here_of}
+use Rattle.context_types.specs.inner.Places.{here_of}
 use Rattle.context_types.proofs.Exits.{exit_front, exit_behind}
 use Rattle.context_types.proofs.here.Here.let_in.Goals as goal
 

@@ -8,7 +8,7 @@ use Rattle.type_rules.specs.Demands.{first_wrong, Fails}
 use Rattle.type_rules.specs.Here.{in_class}
 use Rattle.type_rules.specs.Stmts.{after_all, stmts_demands, resolve_stmts}
 use Rattle.type_rules.specs.Functions.{phase_demands}
-use Rattle.context_types.specs.Places.{here_of}
+use Rattle.context_types.specs.inner.Places.{here_of}
 use Rattle.context_types.proofs.Exits.{exit}
 use Rattle.context_types.proofs.FunctionArms.{phase_class_fails, phase_key_fails, phase_body_fails, phase_holds, phase_ends, phase_made}
 use Rattle.context_types.proofs.here.Here.phase.Goals as goal

@@ -6,7 +6,7 @@ use Rattle.type_rules.specs.Demands.{first_wrong, Fails}
 use Rattle.type_rules.specs.Functions.{phases_demands}
 use Rattle.type_rules.specs.Views.{phase_view}
 use Rattle.type_rules.proofs.First.{fails_same}
-use Rattle.context_types.specs.Places.{here_of}
+use Rattle.context_types.specs.inner.Places.{here_of}
 use Rattle.context_types.proofs.Exits.{exit}
 use Rattle.context_types.proofs.Lists.{next_phase, phase_asks, phase_made, phases_walk, phases_ends, phases_made}
 use Rattle.context_types.proofs.Walking.{walk, ends, ends_more, walk_more, walk_fails, walk_whole, makes, made_more}

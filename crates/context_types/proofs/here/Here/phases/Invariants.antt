@@ -1,7 +1,7 @@
 use Rattle.std.proofs.Common.{◌≡◌, map, take, None}
 use Rattle.type_rules.specs.Demands.{first_wrong}
 use Rattle.type_rules.specs.Views.{phase_view}
-use Rattle.context_types.specs.Places.{here_of}
+use Rattle.context_types.specs.inner.Places.{here_of}
 use Rattle.context_types.proofs.Lists.{next_phase, phase_asks, phase_made}
 use Rattle.context_types.proofs.Walking.{walk, ends, makes}
 use Rattle.context_types.proofs.here.Here.phases.Given as goal

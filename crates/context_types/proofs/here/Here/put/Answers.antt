@@ -10,7 +10,7 @@ use Rattle.type_rules.specs.Here.{variable_kind}
 use Rattle.type_rules.specs.Exprs.{demands_as}
 use Rattle.type_rules.specs.Stmts.{target_asks, target_kind, key_demands, set_demands, set_step}
 use Rattle.type_rules.proofs.First.{fails_front, fails_behind}
-use Rattle.context_types.specs.Places.{here_of}
+use Rattle.context_types.specs.inner.Places.{here_of}
 use Rattle.context_types.proofs.Exits.{exit}
 use Rattle.context_types.proofs.Puts.{put_key_fails, put_value_fails, put_holds, put_made}
 use Rattle.context_types.proofs.here.Here.put.Goals as goal

@@ -8,7 +8,7 @@ use Rattle.type_rules.specs.Demands.{ask}
 use Rattle.type_rules.specs.Kinds.{has_kind}
 use Rattle.type_rules.specs.Exprs.{kind_of, demands}
 use Rattle.type_rules.proofs.First.{holds_both, told_past, fails_at, fails_behind}
-use Rattle.context_types.specs.Places.{here_of}
+use Rattle.context_types.specs.inner.Places.{here_of}
 use Rattle.context_types.proofs.Exits.{exit_front}
 use Rattle.context_types.proofs.here.Here.require.Goals as goal
 

@@ -6,7 +6,7 @@ use Rattle.type_rules.specs.Demands.{first_wrong}
 use Rattle.type_rules.specs.Exprs.{or_zero, resolve_all}
 use Rattle.type_rules.specs.Stmts.{spawn_demands}
 use Rattle.type_rules.proofs.First.{fails_same}
-use Rattle.context_types.specs.Places.{here_of}
+use Rattle.context_types.specs.inner.Places.{here_of}
 use Rattle.context_types.proofs.CallArms.{args_asks}
 use Rattle.context_types.proofs.Exits.{exit}
 use Rattle.context_types.proofs.Spawns.{spawn_same}

@@ -27,7 +27,7 @@ returns c =
         full = subst (All (λ (b : List Line). 0 < length b)) (sym later) (first_full c.args.script.now.batches s.full);
       };
       kept = record {
-        tree = ap (λ (xs : List Shot). tree_of shape (record { shots = xs })) (c.in_ok-contexts.ensures ∙ c.as_slice.ensures);
+        tree = ap (λ (xs : List Shot). tree_of shape (record { shots = xs; joined = [] })) (c.in_ok-contexts.ensures.shots ∙ c.as_slice.ensures);
         results = c.new.ensures.items;
         made_is = ap (map (map (λ t. t.0))) c.new-2.ensures.items;
         names = c.new-3.ensures.items;

@@ -1,0 +1,71 @@
+-- Slots: the order in which contexts join.
+use Rattle.std.proofs.Common.{◌≡◌, ◌+◌, ◌<◌, ℕ, suc, Bool, true, false, not, cond, nat_lt, if◌then◌else◌, List, [], ◌∷◌, ◌++◌, length, position, slice_get, Some, None, option_map, is_some, unwrap_or, refl, sym, ap, subst, ◌∙◌, arith}
+use mathlib.Core.Bool.{true≢false}
+use Rattle.std.proofs.lemmas.Bool.{ltb-true, lt-ltb}
+use Rattle.std.proofs.lemmas.List.{length-append}
+use Rattle.std.proofs.lemmas.Option.{slice_get-map}
+use Rattle.std.specs.List.{position_or_len}
+use Rattle.std.specs.List.{list_any}
+use Rattle.std.specs.Map.{lookup, keys_of}
+use Rattle.wave_base.specs.declared.path.Path.{Path}
+use Rattle.wave_base.specs.declared.record.Record.{Record}
+use Rattle.wave_base.specs.declared.shape.Shape.{Shape}
+use Rattle.wave_base.specs.Paths.{path_eq}
+use Rattle.wave_base.specs.Starts.{shown_fields}
+use Rattle.context_tree.specs.Contexts.{Contexts, kept, joins}
+use Rattle.context_tree.proofs.KeptLemmas.{shown_record}
+use Rattle.context_tree.proofs.Ordered.{Entries, any_found}
+
+-- what is found in a list is found there when more stand behind
+first_stays : (p : Path → Bool) (xs ys : List Path) → position_or_len p xs < length xs → position_or_len p (xs ++ ys) ≡ position_or_len p xs
+first_stays p [] ys h = absurd (omega arith)
+first_stays p (x ∷ xs) ys h = by_test (p x) (first_stays p xs ys) h
+  where
+    by_test : (b : Bool) → (position_or_len p xs < length xs → position_or_len p (xs ++ ys) ≡ position_or_len p xs) → cond (not b) (1 + position_or_len p xs) 0 < suc (length xs)
+        → cond (not b) (1 + position_or_len p (xs ++ ys)) 0 ≡ cond (not b) (1 + position_or_len p xs) 0
+    by_test true rest l = refl
+    by_test false rest l = ap (λ n. 1 + n) (rest (omega arith))
+
+position_stays : (p : Path → Bool) (xs ys : List Path) (i : ℕ) → position p xs ≡ Some i → position p (xs ++ ys) ≡ Some i
+position_stays p xs ys i h = by_test (nat_lt (position_or_len p xs) (length xs)) refl h
+  where
+    by_test : (b : Bool) → nat_lt (position_or_len p xs) (length xs) ≡ b → cond b (Some (position_or_len p xs)) None ≡ Some i → position p (xs ++ ys) ≡ Some i
+    by_test false e k = absurd (true≢false (ap is_some (sym k)))
+    by_test true e k =
+        let within = ltb-true (position_or_len p xs) (length xs) e in
+        let same = first_stays p xs ys within in
+        let further : position_or_len p (xs ++ ys) < length (xs ++ ys) = rw (same, length-append) (omega arith) in
+        ap (λ b. cond b (Some (position_or_len p (xs ++ ys))) None) (lt-ltb (position_or_len p (xs ++ ys)) (length (xs ++ ys)) further) ∙ ap Some same ∙ k
+
+pub slot_stays : (joined : List Path) (p q : Path) (slot : ℕ) → position (path_eq q) joined ≡ Some slot → position (path_eq q) (joins joined p) ≡ Some slot
+slot_stays joined p q slot h = by_test (list_any (path_eq p) joined)
+  where
+    by_test : (b : Bool) → position (path_eq q) (if b then joined else joined ++ p ∷ []) ≡ Some slot
+    by_test true = h
+    by_test false = position_stays (path_eq q) joined (p ∷ []) slot h
+
+-- a path that is not there joins last
+module _ (p : Path) (r : Record) where
+  map-append : (es : Entries) → keys_of (es ++ (p, r) ∷ []) ≡ keys_of es ++ p ∷ []
+  map-append [] = refl
+  map-append (e ∷ es) = ap (λ ks. e.0 ∷ ks) (map-append es)
+
+  pub joins_last : (es fs : Entries) → lookup (path_eq p) es ≡ None → fs ≡ es ++ (p, r) ∷ [] → keys_of fs ≡ joins (keys_of es) p
+  joins_last es fs none e =
+      ap keys_of e ∙ map-append es
+      ∙ ap (λ b. if b then keys_of es else keys_of es ++ p ∷ []) (sym (any_found p es ∙ ap is_some none))
+
+-- one that is there stays where it is
+pub joins_kept : (es : Entries) (p : Path) (t : Contexts) → kept es ≡ t → is_some (lookup (path_eq p) es) ≡ true → t.joined ≡ joins t.joined p
+joins_kept es p t view h =
+    subst (λ (t : Contexts). t.joined ≡ joins t.joined p) view (ap (λ b. if b then keys_of es else keys_of es ++ p ∷ []) (sym (any_found p es ∙ h)))
+
+-- the record in a slot is that of the path that stands there
+same_Some : {A : Type 0} (x y : A) → Some x ≡ Some y → x ≡ y
+same_Some x y e = ap (λ o. unwrap_or o x) e
+
+pub found_in_slot : (shape : Shape) (es : Entries) (slot : ℕ) (p q : Path) (r : Record) → Some (q, r) ≡ slice_get es slot → lookup (path_eq q) es ≡ Some r → slice_get (keys_of es) slot ≡ Some p
+    → r.fields ≡ shown_fields shape (kept es).shots p
+found_in_slot shape es slot p q r entry value is =
+    let same : q ≡ p = same_Some q p (ap (option_map (λ (e : Path × Record). e.0)) entry ∙ sym (slice_get-map (λ (e : Path × Record). e.0) es slot) ∙ is) in
+    sym (shown_record es p r (subst (λ k. lookup (path_eq k) es ≡ Some r) same value) shape)

@@ -1,0 +1,55 @@
+-- The parts of a call: what is due for an input, and how each part may end.
+use Rattle.std.specs.Prelude.{◌≡◌, ℕ, Bool, true, false, Option, Some, None, unwrap_or, List, []}
+use Rattle.std.specs.Io.KnownBytes.{Appends, Keeps}
+use Rattle.wave_io.specs.Streams.{AppendsFront}
+use Rattle.command_words.specs.declared.command.Command.{Command}
+use Rattle.command_words.specs.Reading.{command_of}
+use Rattle.due_answer.specs.declared.answer.Answer.{Answer}
+use Rattle.due_answer.specs.Due.{IsOnlyDue}
+use Rattle.eventwave_program.specs.declared.ending.Ending.{Ending}
+use Rattle.eventwave_program.specs.declared.ending.Ending.TheVariants.{WordsRefused, ReadFault, WriteFault, NoMemory, Answered}
+use Rattle.eventwave_program.specs.Ends.{note_for, IsInput, SomeDue, ReadsAll}
+
+-- there are bytes of a command's input for which this answer alone is due
+pub record SomeInputDue (c : Command) (left : Option (List ℕ)) (due : Answer) : Type 0 where
+  pub bytes : List ℕ
+  pub input : IsInput c left bytes
+  pub only : IsOnlyDue c bytes due
+
+abbrev pub status_of : Ending → ℕ
+status_of WordsRefused = 2
+status_of ReadFault = 5
+status_of WriteFault = 6
+status_of NoMemory = 7
+status_of (Answered status note) = status
+
+-- the note of an answer is its own
+abbrev pub note_of : Ending → List ℕ
+note_of (Answered status note) = note
+note_of e = unwrap_or (note_for (status_of e)) []
+
+-- how giving an answer may end
+abbrev pub Gave : Answer → Option (List ℕ) → Option (List ℕ) → Ending → Type 0
+Gave due old new WriteFault = AppendsFront old new due.text
+Gave due old new (Answered status note) = (status ≡ due.status) × (note ≡ due.note) × Appends old new due.text
+Gave due old new WordsRefused = ⊥
+Gave due old new ReadFault = ⊥
+Gave due old new NoMemory = ⊥
+
+-- how a call may end
+abbrev pub Ended : List (List ℕ) → Option (List ℕ) → Option (List ℕ) → Option (List ℕ) → Ending → Type 0
+Ended words left old new WordsRefused = (command_of words ≡ None) × Keeps old new
+Ended words left old new ReadFault = ((c : Command) × (command_of words ≡ Some c)) × Keeps old new
+Ended words left old new NoMemory = Keeps old new
+Ended words left old new WriteFault = SomeDue words left (λ due. Gave due old new WriteFault)
+Ended words left old new (Answered status note) = SomeDue words left (λ due. Gave due old new (Answered status note))
+
+-- an answer that is given has read the input, where it is read
+abbrev pub ReadsDue : Bool → Option (List ℕ) → Option (List ℕ) → Ending → Type 0
+ReadsDue true old new (Answered status note) = ReadsAll old new
+ReadsDue _ old new ending = Unit {0}
+
+-- a command that reads no input never ends so
+abbrev pub is_read_fault : Ending → Bool
+is_read_fault ReadFault = true
+is_read_fault _ = false

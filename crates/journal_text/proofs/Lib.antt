@@ -1,0 +1,14 @@
+pub mod ActLemmas
+pub mod CountLemmas
+pub mod HeadLemmas
+pub mod LabelLemmas
+pub mod LineLemmas
+pub mod MailLemmas
+pub mod PassLemmas
+pub mod PathLemmas
+pub mod SampleNames
+pub mod SolidLemmas
+pub mod TailLemmas
+pub mod VerdictLemmas
+pub mod WordLemmas
+pub mod WriteLemmas

@@ -1,0 +1,36 @@
+-- The one text of a journal: a head that tells how many lines follow, and a line for each label.
+use Rattle.std.specs.Prelude.{◌≡◌, ℕ, ◌+◌, ◌==◌, if◌then◌else◌, List, [], ◌∷◌, ◌++◌, length, codes, count_by, All}
+use Rattle.std.specs.Fmt.{decimal}
+use Rattle.wave_base.specs.declared.shape.Shape.{Shape}
+use Rattle.wave_labels.specs.declared.label.Label.{Label}
+use Rattle.journal_text.specs.Fits.{IsLabel}
+use Rattle.journal_text.specs.LabelTexts.{line_text}
+
+-- journal n
+abbrev pub head_text : ℕ → List ℕ
+head_text n = codes "journal " ++ decimal n
+
+-- a line for each label, the first of them with this number; each ends with a line feed
+abbrev pub labels_text : Shape → ℕ → List Label → List ℕ
+labels_text shape i [] = []
+labels_text shape i (l ∷ ls) = line_text shape i l ++ 10 ∷ labels_text shape (i + 1) ls
+
+abbrev pub journal_text : Shape → List Label → List ℕ
+journal_text shape ls = head_text (length ls) ++ 10 ∷ labels_text shape 1 ls
+
+-- the text is that of these labels
+pub record IsJournalText (shape : Shape) (text : List ℕ) (labels : List Label) : Type 0 where
+  pub spelled : text ≡ journal_text shape labels
+  pub fit : All (IsLabel shape) labels
+
+-- ---- lines of any text
+
+-- one where something stands behind the last line feed
+abbrev pub left_over : List ℕ → ℕ
+left_over [] = 0
+left_over (b ∷ []) = if b == 10 then 0 else 1
+left_over (b ∷ c ∷ bs) = left_over (c ∷ bs)
+
+-- what stands behind the last line feed is a line too
+abbrev pub line_count : List ℕ → ℕ
+line_count text = count_by (λ b. b == 10) text + left_over text

@@ -1,0 +1,21 @@
+//! The text of a journal: how it is written, and how it is read.
+#![tactic(auto)]
+
+mod error;
+mod head;
+mod label;
+mod line;
+mod number;
+mod operands;
+mod put;
+mod read;
+#[cfg(test)]
+mod tests;
+mod verb;
+mod word;
+mod write;
+
+pub use error::JournalError;
+pub use put::put_label;
+pub use read::read_journal;
+pub use write::write_journal;

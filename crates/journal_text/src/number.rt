@@ -1,0 +1,65 @@
+ghost use Rattle.journal_text.specs.inner.Parts.{IsNumberOf, IsMarkedOf, IsTicketOf, IsMailOf};
+
+use crate::word::parts_at;
+use wave_base::Ticket;
+use wave_labels::MailId;
+
+// The number that a text is written for.
+fn number_of(text: &[u8]) -> Option<u32>
+    ensures { IsNumberOf 32 text.now result }
+{
+    match std::str::from_utf8(text) {
+        Ok(text) => text.parse::<u32>().ok(),
+        Err(_) => None,
+    }
+}
+
+/// The same for a number of one byte.
+pub(crate) fn byte_of(text: &[u8]) -> Option<u8>
+    ensures { IsNumberOf 8 text.now result }
+{
+    match std::str::from_utf8(text) {
+        Ok(text) => text.parse::<u8>().ok(),
+        Err(_) => None,
+    }
+}
+
+/// The number of one byte behind a mark.
+pub(crate) fn marked_byte(text: &[u8]) -> Option<u8>
+    ensures { IsMarkedOf 8 text.now result }
+{
+    match text {
+        [_, digits @ ..] => byte_of(digits),
+        [] => None,
+    }
+}
+
+// The number behind a mark.
+fn marked_number(text: &[u8]) -> Option<u32>
+    ensures { IsMarkedOf 32 text.now result }
+{
+    match text {
+        [_, digits @ ..] => number_of(digits),
+        [] => None,
+    }
+}
+
+/// The ticket that a text is written for.
+pub(crate) fn ticket_of(text: &[u8]) -> Option<Ticket>
+    ensures { IsTicketOf text.now result }
+{
+    match marked_number(text) {
+        Some(number) => Some(Ticket(number)),
+        None => None,
+    }
+}
+
+/// The mail that a text is written for.
+pub(crate) fn mail_of(text: &[u8]) -> Option<MailId>
+    ensures { IsMailOf text.now result }
+{
+    let (ticket, number) = parts_at(text, b'.');
+    let ticket = ticket_of(ticket)?;
+    let number = number_of(number)?;
+    Some(MailId { ticket, number })
+}

@@ -1,0 +1,46 @@
+ghost use Rattle.std.specs.Prelude.{◌≡◌};
+ghost use Rattle.journal_text.specs.inner.Verbs.{verb_of};
+
+/// An act by its word.
+#[derive(Clone, Copy)]
+pub(crate) enum Verb {
+    Admit,
+    Queue,
+    Grant,
+    Visit,
+    Start,
+    Stop,
+    Free,
+    Pass,
+    Land,
+    Commit,
+}
+
+/// The act of a word.
+pub(crate) fn verb_of(word: &[u8]) -> Option<Verb>
+    ensures { result ≡ verb_of word.now }
+{
+    if word == b"Admit".as_slice() {
+        Some(Verb::Admit)
+    } else if word == b"Queue".as_slice() {
+        Some(Verb::Queue)
+    } else if word == b"Grant".as_slice() {
+        Some(Verb::Grant)
+    } else if word == b"Visit".as_slice() {
+        Some(Verb::Visit)
+    } else if word == b"Start".as_slice() {
+        Some(Verb::Start)
+    } else if word == b"Stop".as_slice() {
+        Some(Verb::Stop)
+    } else if word == b"Free".as_slice() {
+        Some(Verb::Free)
+    } else if word == b"Pass".as_slice() {
+        Some(Verb::Pass)
+    } else if word == b"Land".as_slice() {
+        Some(Verb::Land)
+    } else if word == b"Commit".as_slice() {
+        Some(Verb::Commit)
+    } else {
+        None
+    }
+}

@@ -1,0 +1,45 @@
+-- A label as programs have it, and the act that it is.
+use Rattle.std.proofs.Common.{◌≡◌, ℕ, Some, sym, subst}
+use Rattle.wave_base.specs.declared.pause.Pause.{Pause}
+use Rattle.wave_labels.specs.declared.label.Act.{Act}
+use Rattle.wave_labels.specs.declared.label.Label.{Label}
+use Rattle.wave_labels.specs.Labels.{act_of, label_of}
+use Rattle.wave_states.specs.Labels as theory
+use Rattle.wave_states.specs.Steps.{step}
+use Rattle.plan_actors.specs.PlanActors.{plan_actors}
+use Rattle.plan_actors.specs.Plans.{Plan}
+use Rattle.wave_machine.specs.declared.lease.Lease.{Lease}
+use Rattle.wave_machine.specs.Machines.{Kept, IsEnabled, Keeps, Takes}
+use Rattle.wave_machine.specs.Prepared.{IsStood}
+use Rattle.wave_machine.specs.Running.{CanStop, IsStopping, Leases, Stops, stop_of}
+use Rattle.wave_machine.proofs.Queueing.{some_is}
+
+module _ (m m' : Kept) (l : Label) (a : Act) (is : l.act ≡ a) where
+  pub takes_it : Takes m m' (record { worker = l.worker.0; host = l.host.0; act = act_of a }) → Takes m m' (label_of l)
+  takes_it h = subst (λ x. Takes m m' (record { worker = l.worker.0; host = l.host.0; act = act_of x })) (sym is) h
+
+  pub leases_it : (lease : Lease) → Leases m (record { worker = l.worker.0; host = l.host.0; act = act_of a }) lease → Leases m (label_of l) lease
+  leases_it lease h = subst (λ x. Leases m (record { worker = l.worker.0; host = l.host.0; act = act_of x }) lease) (sym is) h
+
+-- a label that is taken leads to a state for which the machine stands
+pub stood_after : (m m' : Kept) (l : Label) → IsEnabled m (label_of l) → Takes m m' (label_of l) → IsStood m'
+stood_after m m' l on takes = record { start = on.start; state = on.next; stands = takes on.start on.state on.next on.stands on.enabled }
+
+pub stood_kept : (m m' : Kept) → IsStood m → Keeps m m' → IsStood m'
+stood_kept m m' on keeps = record { start = on.start; state = on.state; stands = keeps on.start on.state on.stands }
+
+-- a label that is enabled still is where the machine stands for all that it stood for
+pub enabled_kept : (m m' : Kept) (l : theory.Label) → IsEnabled m l → Keeps m m' → m'.plan ≡ m.plan → IsEnabled m' l
+enabled_kept m m' l on keeps plan = record {
+  start = on.start;
+  state = on.state;
+  next = on.next;
+  stands = keeps on.start on.state on.stands;
+  enabled = subst (λ (x : Plan). step (plan_actors x.program) x.workers on.state l ≡ Some on.next) (sym plan) on.enabled;
+}
+
+-- and so does a Stop
+pub stood_stopped : (m m' : Kept) (lease : Lease) (why : Pause) (host : ℕ) → IsStopping m lease why → CanStop m lease why host → Stops m lease why host m' → IsStood m'
+stood_stopped m m' lease why host on can stops =
+    let next = some_is (step (plan_actors m.plan.program) m.plan.workers on.state (stop_of lease host)) (can on.start on.state on.stands on.back) in
+    record { start = on.start; state = next.0; stands = stops on.start on.state next.0 on.stands on.back next.1 }

@@ -1,0 +1,15 @@
+pub mod Actors
+pub mod Leases
+pub mod Plans
+pub mod Kinds
+pub mod Machines
+pub mod Keeping
+pub mod Rules
+pub mod inner
+pub mod Rooms
+pub mod Running
+pub mod Heading
+pub mod Prepared
+pub mod Ending
+pub mod Always
+pub mod Showing

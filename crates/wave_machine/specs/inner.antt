@@ -1,0 +1,13 @@
+pub mod Asking
+pub mod Listable
+pub mod Asks
+pub mod Joins
+pub mod Moving
+pub mod Taken
+pub mod Leaving
+pub mod Spare
+pub mod Beginnings
+pub mod Endings
+pub mod Driving
+pub mod Drivable
+pub mod Lines

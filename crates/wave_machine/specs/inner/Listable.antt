@@ -1,0 +1,14 @@
+-- What is known of a state that labels lead to, as its listing needs it.
+use Rattle.wave_base.specs.declared.start.Start.{Start}
+use Rattle.wave_theory.specs.Doable.{Doable}
+use Rattle.wave_theory.specs.Hands.{Stoppable}
+use Rattle.wave_theory.specs.Owners.{OneOwner}
+use Rattle.plan_actors.specs.PlanActors.{plan_kind}
+use Rattle.plan_actors.specs.Plans.{Plan, begin_in}
+use Rattle.wave_machine.specs.Machines.{TheState}
+
+-- what there is to do can be done, a segment that is out can be stopped, and no context has two owners
+pub record CanList (plan : Plan) (start : Start) (s : TheState) : Type 0 where
+  pub doable : Doable (plan_kind plan.program plan.script.hosts) plan.workers (begin_in plan start) plan.script.batches s
+  pub stoppable : Stoppable (plan_kind plan.program plan.script.hosts) plan.workers (begin_in plan start) plan.script.batches s
+  pub owner : OneOwner (plan_kind plan.program plan.script.hosts) plan.workers (begin_in plan start) plan.script.batches s

@@ -1,0 +1,30 @@
+ghost use Rattle.std.specs.Prelude.{◌≡◌};
+
+use migration_core::Mover;
+use service_vm::EventBox;
+use snapshot_events::Walker;
+
+/// The code of a ticket, between its segments.
+#[derive(Drop)]
+pub enum Actor {
+    /// An event of the service.
+    Service(EventBox),
+    /// A move.
+    Mover(Mover),
+    /// A snapshot.
+    Walker(Walker),
+}
+
+impl Actor {
+    ghost use Rattle.wave_machine.specs.Actors.{peeks_now};
+
+    /// Whether all that is left of it only looks at the one context where it is, or where it goes next.
+    pub fn peeking(&self) -> bool
+        ensures { result ≡ peeks_now self.now }
+    {
+        match self {
+            Actor::Service(event) => event.peeking(),
+            Actor::Mover(_) | Actor::Walker(_) => false,
+        }
+    }
+}

@@ -1,0 +1,196 @@
+//! What is asked for, label by label.
+
+ghost use Rattle.std.specs.Prelude.{◌≡◌, ◌≤◌, ◌<◌, ◌+◌, ◌^◌, true, length, is_some, IsSome, IfSome, Some, option_copied, option_map, slice_get};
+ghost use Rattle.commit_order.specs.Commits.{ready_result};
+ghost use Rattle.wave_labels.specs.Labels.{act_of};
+ghost use Rattle.context_queue.specs.Entries.{entry_of, next_in};
+ghost use Rattle.migration_core.specs.Letters.{asked, route_of};
+ghost use Rattle.wave_machine.specs.inner.Asking.{labels_in, enter_act, route_at, is_claim, is_next, runs_out, mail_labels, place_in, grant_labels, start_labels, status_labels, stop_if, admit_labels, commit_labels};
+
+use crate::engine::Engine;
+use crate::kept::Out;
+use context_queue::{Entry, entries_stand};
+use event_cells::{Envelope, Status};
+use host_map::{HostStore, place_of, stores_stand};
+use migration_core::{Letter, Mail, Route, route};
+use wave_base::{Host, Path, Ticket, Worker};
+use wave_labels::{Act, Label, MailId};
+
+impl<'p> Engine<'p> {
+    pub(crate) fn admit_label(&self, worker: Worker) -> Option<Label>
+        ensures { labels_in result ≡ admit_labels worker.0 self.now.head }
+    {
+        match self.head.next() {
+            Some(ticket) => Some(Label {
+                worker,
+                host: Host(0),
+                act: Act::Admit(ticket),
+            }),
+            None => None,
+        }
+    }
+
+    pub(crate) fn commit_label(&self, worker: Worker) -> Option<Label>
+        requires { is_some (ready_result self.now.commits) ≡ true → self.now.first + length self.now.settled.items < 2 ^ 32 }
+        ensures { labels_in result ≡ commit_labels worker.0 (self.now.first + length self.now.settled.items) self.now.commits }
+    {
+        match self.commits.ready() {
+            Some(_) => Some(Label {
+                worker,
+                host: Host(0),
+                act: Act::Commit(Ticket(self.first + self.settled.len() as u32)),
+            }),
+            None => None,
+        }
+    }
+
+    pub(crate) fn status_label(
+        &self,
+        worker: Worker,
+        ticket: Ticket,
+        status: Status,
+    ) -> Option<Label>
+        requires { length self.now.stores.items ≤ 8 }
+        ensures { labels_in result ≡ status_labels self.now.stores.items worker.0 ticket.0 status }
+    {
+        match status {
+            Status::Waiting(path) => self.grant_label(worker, ticket, path),
+            Status::Ready(path) => self.start_label(worker, ticket, path),
+            Status::Travelling | Status::Running(_) | Status::Ended => None,
+        }
+    }
+
+    // One that waits gets in where it is the next in line.
+    fn grant_label(&self, worker: Worker, ticket: Ticket, path: Path) -> Option<Label>
+        requires { length self.now.stores.items ≤ 8 }
+        ensures { labels_in result ≡ grant_labels self.now.stores.items worker.0 ticket.0 path (place_in self.now.stores.items path) }
+    {
+        let host = place_of(&self.stores, &path)?;
+        let store = self.store(host)?;
+        if !is_next(store, ticket, &path) {
+            return None;
+        }
+        Some(Label {
+            worker,
+            host,
+            act: Act::Grant(ticket, path),
+        })
+    }
+
+    fn store(&self, host: Host) -> Option<&HostStore>
+        ensures { option_copied result ≡ slice_get self.now.stores.items host.0 }
+    {
+        self.stores.get(host.0 as usize)
+    }
+
+    fn start_label(&self, worker: Worker, ticket: Ticket, path: Path) -> Option<Label>
+        requires { length self.now.stores.items ≤ 8 }
+        ensures { labels_in result ≡ start_labels self.now.stores.items worker.0 ticket.0 path (place_in self.now.stores.items path) }
+    {
+        let host = place_of(&self.stores, &path)?;
+        Some(Label {
+            worker,
+            host,
+            act: Act::Start(ticket, path),
+        })
+    }
+
+    pub(crate) fn mail_label(
+        &self,
+        worker: Worker,
+        id: MailId,
+        envelope: &Envelope,
+    ) -> Option<Label>
+        ensures { labels_in result ≡ mail_labels self.now.stores.items worker.0 id.ticket.0 id.number (Some envelope.now) }
+    {
+        let path = envelope.path;
+        let act = match envelope.letter {
+            Letter::Enter {
+                number,
+                followed,
+                peek,
+            } => {
+                let letter = Letter::Enter {
+                    number,
+                    followed,
+                    peek,
+                };
+                enter_act(id, path, self.way(envelope.to, Mail { id, path, letter }))?
+            }
+            Letter::Visit | Letter::Back => Act::Visit(id, path),
+            Letter::Release => Act::Free(id, path),
+            Letter::Transfer(_) => Act::Land(id, path),
+        };
+        Some(Label {
+            worker,
+            host: envelope.to,
+            act,
+        })
+    }
+
+    // Where an Enter goes from a host.
+    fn way(&self, to: Host, mail: Mail) -> Route
+        requires { IsSome (asked mail.letter) }
+        ensures { IfSome (asked mail.letter) (λ a. route_of result ≡ route_at (slice_get self.now.stores.items to.0) mail.path a.followed) }
+    {
+        stores_stand();
+        match self.store(to) {
+            Some(store) => route(store, &mail),
+            None => Route::Wait,
+        }
+    }
+
+    pub(crate) fn stop_label(&self, worker: Worker, host: Host, out: &Out) -> Option<Label>
+        ensures { labels_in result ≡ stop_if (runs_out (slice_get self.now.hands.items worker.0) out.now.ticket.0 out.now.path) worker.0 host.0 out.now.ticket.0 out.now.path }
+    {
+        if !self.has_out(worker, out) {
+            return None;
+        }
+        Some(Label {
+            worker,
+            host,
+            act: Act::Stop(out.ticket, out.path),
+        })
+    }
+
+    // Whether a worker has this segment out.
+    fn has_out(&self, worker: Worker, out: &Out) -> bool
+        ensures { result ≡ runs_out (slice_get self.now.hands.items worker.0) out.now.ticket.0 out.now.path }
+    {
+        match self.hands.get(worker.0 as usize) {
+            Some(Some(held)) => held.ticket == out.ticket && held.path == out.path,
+            Some(None) | None => false,
+        }
+    }
+}
+
+// What an Enter can do, by its route.
+fn enter_act(id: MailId, path: Path, way: Route) -> Option<Act>
+    ensures { option_map act_of result ≡ enter_act id.ticket.0 id.number path (route_of way) }
+{
+    match way {
+        Route::Deliver | Route::Born => Some(Act::Queue(id, path)),
+        Route::Forward(host) => Some(Act::Pass(id, path, host)),
+        Route::Wait => None,
+    }
+}
+
+// Whether a ticket is the next in the line of a context, and gets in.
+fn is_next(store: &HostStore, ticket: Ticket, path: &Path) -> bool
+    ensures { result ≡ is_next ticket.0 path.now (Some store.now) }
+{
+    match store.entry(path) {
+        Some(entry) => gets_in(entry, ticket),
+        None => false,
+    }
+}
+
+fn gets_in(entry: &Entry, ticket: Ticket) -> bool
+    ensures { result ≡ is_claim ticket.0 (next_in (entry_of entry.now)) }
+{
+    entries_stand();
+    match entry.upcoming() {
+        Some(claim) => claim.ticket.0 == ticket.0,
+        None => false,
+    }
+}

@@ -1,0 +1,20 @@
+//! What is known of the states that are listed: the contract of a function that does nothing.
+
+ghost use Rattle.std.specs.Prelude.{List};
+ghost use Rattle.wave_base.specs.declared.start.Start.{Start};
+ghost use Rattle.plan_actors.specs.Plans.{Plan, Fits, FitsStart};
+ghost use Rattle.wave_states.specs.Labels.{Label};
+ghost use Rattle.wave_machine.specs.Machines.{IsReached, TheState};
+ghost use Rattle.wave_machine.specs.inner.Listable.{CanList};
+
+use plan_actors::PlanActors;
+use wave_theory::{doable, one_owner, stoppable};
+
+// A state that labels lead to has what its listing needs.
+pub(crate) fn states_list()
+    ensures { (plan : Plan) (start : Start) (labels : List Label) (s : TheState) → Fits plan → FitsStart plan start → IsReached plan start labels s → CanList plan start s }
+{
+    doable::<PlanActors>();
+    one_owner::<PlanActors>();
+    stoppable::<PlanActors>();
+}

@@ -1,0 +1,202 @@
+//! How a drive picks from what can be done.
+
+ghost use Rattle.std.specs.Prelude.{◌≡◌, ℕ, ◌<◌, ◌/◌, ◌%◌, ◌^◌, nat_lt, nat_le, if◌then◌else◌, map, option_map, length};
+ghost use Rattle.wave_labels.specs.Labels.{act_of, label_of};
+ghost use Rattle.wave_states.specs.Labels.{takes_mail, ticket_of};
+ghost use Rattle.wave_states.specs.Runs.{next_draw, seed, oldest, newest, mail_last, last_of};
+ghost use Rattle.wave_machine.specs.Machines.{TheState};
+
+use wave_labels::{Act, Label};
+
+/// How a drive picks from what can be done, which is in the canonical order. A label's ticket is that of its act, or of its mail.
+#[derive(Clone, Copy, Debug, PartialEq, Eq)]
+pub enum PickRule {
+    /// By draws of a generator that begins with this number, one for each pick among two labels and more.
+    Seed(u64),
+    /// The first label of the least ticket.
+    Oldest,
+    /// The last label of the greatest ticket.
+    Newest,
+    /// The first label whose ticket is a move's, else the first.
+    Movers,
+    /// The first label that takes no mail, else the last.
+    MailLast,
+}
+
+// The generator's multiplier and increment, modulo 2^64.
+const MULTIPLIER: u64 = 6_364_136_223_846_793_005;
+
+const INCREMENT: u64 = 1_442_695_040_888_963_407;
+
+fn next_draw(draw: u64) -> u64
+    ensures { result ≡ next_draw draw }
+{
+    MULTIPLIER.wrapping_mul(draw).wrapping_add(INCREMENT)
+}
+
+// By a draw, where there are two labels and more.
+pub(crate) fn by_seed(draw: &mut u64, labels: &[Label]) -> Option<Label>
+    ensures { (s : TheState) → seed draw.old s (map label_of labels.now) ≡ (draw.new, option_map label_of result) }
+{
+    if labels.len() < 2 {
+        return labels.first().copied();
+    }
+    *draw = next_draw(*draw);
+    Some(labels[place_below(*draw, labels.len())])
+}
+
+fn place_below(draw: u64, many: usize) -> usize
+    requires { 0 < many }
+    ensures below { result < many }
+    ensures drawn { result ≡ (draw / 2 ^ 33) % many }
+{
+    (draw / (1 << 33)) as usize % many
+}
+
+// The first label of the least ticket.
+pub(crate) fn by_oldest(labels: &[Label]) -> Option<Label>
+    ensures { (x : ℕ) (s : TheState) → oldest x s (map label_of labels.now) ≡ (x, option_map label_of result) }
+{
+    let mut least = *labels.first()?;
+    for label in labels {
+        least = older(&least, label);
+    }
+    Some(least)
+}
+
+fn older(least: &Label, label: &Label) -> Label
+    ensures { label_of result ≡ (if nat_lt (ticket_of (act_of label.now.act)) (ticket_of (act_of least.now.act)) then label_of label.now else label_of least.now) }
+{
+    if ticket_of(&label.act) < ticket_of(&least.act) {
+        *label
+    } else {
+        *least
+    }
+}
+
+// The last label of the greatest ticket.
+pub(crate) fn by_newest(labels: &[Label]) -> Option<Label>
+    ensures { (x : ℕ) (s : TheState) → newest x s (map label_of labels.now) ≡ (x, option_map label_of result) }
+{
+    let mut greatest = *labels.first()?;
+    for label in labels {
+        greatest = newer(&greatest, label);
+    }
+    Some(greatest)
+}
+
+fn newer(greatest: &Label, label: &Label) -> Label
+    ensures { label_of result ≡ (if nat_le (ticket_of (act_of greatest.now.act)) (ticket_of (act_of label.now.act)) then label_of label.now else label_of greatest.now) }
+{
+    if ticket_of(&greatest.act) <= ticket_of(&label.act) {
+        *label
+    } else {
+        *greatest
+    }
+}
+
+// The first label that takes no mail, else the last.
+pub(crate) fn by_mail_last(labels: &[Label]) -> Option<Label>
+    ensures { (x : ℕ) (s : TheState) → mail_last x s (map label_of labels.now) ≡ (x, option_map label_of result) }
+{
+    for label in labels {
+        if !takes_mail(&label.act) {
+            return Some(*label);
+        }
+    }
+    last(labels)
+}
+
+fn last(labels: &[Label]) -> Option<Label>
+    ensures { option_map label_of result ≡ last_of (map label_of labels.now) }
+{
+    labels.last().copied()
+}
+
+// The ticket of a label: that of its mail, where it has one.
+pub(crate) fn ticket_of(act: &Act) -> u32
+    ensures { result ≡ ticket_of (act_of act.now) }
+{
+    match act {
+        Act::Admit(ticket)
+        | Act::Grant(ticket, _)
+        | Act::Start(ticket, _)
+        | Act::Stop(ticket, _)
+        | Act::Commit(ticket) => ticket.0,
+        Act::Queue(mail, _)
+        | Act::Visit(mail, _)
+        | Act::Free(mail, _)
+        | Act::Pass(mail, _, _)
+        | Act::Land(mail, _) => mail.ticket.0,
+    }
+}
+
+fn takes_mail(act: &Act) -> bool
+    ensures { result ≡ takes_mail (act_of act.now) }
+{
+    match act {
+        Act::Queue(..) | Act::Visit(..) | Act::Free(..) | Act::Pass(..) | Act::Land(..) => true,
+        Act::Admit(_) | Act::Grant(..) | Act::Start(..) | Act::Stop(..) | Act::Commit(_) => false,
+    }
+}
+
+#[cfg(test)]
+mod tests {
+    use super::*;
+    use std::test::Fail;
+    use wave_base::{Host, Path, Ticket, Worker};
+    use wave_labels::MailId;
+
+    fn label(act: Act) -> Label {
+        Label {
+            worker: Worker(0),
+            host: Host(0),
+            act,
+        }
+    }
+
+    fn queue(ticket: u32) -> Label {
+        let ticket = Ticket(ticket);
+        label(Act::Queue(MailId { ticket, number: 1 }, Path::root()))
+    }
+
+    fn free(ticket: u32) -> Label {
+        let ticket = Ticket(ticket);
+        label(Act::Free(MailId { ticket, number: 2 }, Path::root()))
+    }
+
+    fn grant(ticket: u32) -> Label {
+        label(Act::Grant(Ticket(ticket), Path::root()))
+    }
+
+    #[test]
+    fn tickets_are_compared(rt: HostRuntime) -> Result<(), Fail> {
+        let labels = [queue(2), queue(3), grant(2), free(3)];
+        assert!(rt; by_oldest(&labels) == Some(queue(2)));
+        assert!(rt; by_newest(&labels) == Some(free(3)));
+        assert!(rt; by_oldest(&[grant(4)]) == Some(grant(4)));
+        assert!(rt; by_newest(&[grant(4)]) == Some(grant(4)));
+        assert!(rt; by_oldest(&[]).is_none() && by_newest(&[]).is_none());
+        Ok(())
+    }
+
+    #[test]
+    fn mail_comes_last(rt: HostRuntime) -> Result<(), Fail> {
+        assert!(rt; by_mail_last(&[queue(2), queue(3), grant(5), grant(4)]) == Some(grant(5)));
+        assert!(rt; by_mail_last(&[queue(2), free(3)]) == Some(free(3)));
+        assert!(rt; by_mail_last(&[]).is_none());
+        Ok(())
+    }
+
+    #[test]
+    fn a_draw_picks_among_two_and_more(rt: HostRuntime) -> Result<(), Fail> {
+        let mut draw = 7;
+        assert!(rt; by_seed(&mut draw, &[]).is_none());
+        assert!(rt; by_seed(&mut draw, &[grant(1)]) == Some(grant(1)));
+        assert!(rt; draw == 7);
+        let labels = [grant(1), grant(2), grant(3)];
+        assert!(rt; by_seed(&mut draw, &labels) == Some(grant(3)));
+        assert!(rt; draw == 9_098_160_460_397_411_210);
+        Ok(())
+    }
+}
