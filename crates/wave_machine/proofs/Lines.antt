@@ -22,7 +22,7 @@ use Rattle.plan_actors.specs.PlanActors.{plan_actors, plan_kind}
 use Rattle.plan_actors.specs.Plans.{Plan, begin_in}
 use Rattle.plan_actors.proofs.Meeting.{one_before}
 use Rattle.wave_machine.specs.declared.kept.Settled.{Settled}
-use Rattle.wave_machine.specs.declared.shown.Shown.{Shown}
+use Rattle.wave_base.specs.declared.shown.Shown.{Shown}
 use Rattle.wave_machine.specs.Heading.{KnownHead}
 use Rattle.wave_machine.specs.inner.Lines.{IsKept}
 use Rattle.wave_machine.specs.Kinds.{kind_of, name_in}

@@ -1,7 +1,7 @@
 -- What is shown of a committed ticket.
 use Rattle.std.specs.Prelude.{◌≡◌, ℕ, Some, slice_get}
 use Rattle.wave_base.specs.declared.finished.Finished.{Finished}
-use Rattle.wave_machine.specs.declared.shown.Shown.{Shown}
+use Rattle.wave_base.specs.declared.shown.Shown.{Shown}
 
 -- it is what the whole run gives of the ticket
 pub record IsLineOf (f : Finished) (i : ℕ) (x : Shown) : Type 0 where

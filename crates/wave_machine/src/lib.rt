@@ -56,4 +56,3 @@ pub use plan::Plan;
 pub use refused::Refused;
 pub use rules::PickRule;
 pub use runs::run_lease;
-pub use shown::Shown;

@@ -21,11 +21,10 @@ use crate::lease::Lease;
 use crate::plan::Plan;
 use crate::prepared::Prepared;
 use crate::refused::Refused;
-use crate::shown::Shown;
 use context_tree::trees_that_fit;
 use std::alloc::Global;
 use std::marker::Model;
-use wave_base::{Finished, OutOfMemory, Pause, Seq, Start, Worker};
+use wave_base::{Finished, OutOfMemory, Pause, Seq, Shown, Start, Worker};
 use wave_labels::Label;
 
 /// A machine that runs a plan. It stands for a state of the theory that labels lead to from a start state of its plan, and keeps all of

@@ -16,15 +16,7 @@ use crate::makes::name_in;
 use event_cells::JobKind;
 use plan_actors::folds_end;
 use std::alloc::Global;
-use wave_base::{EventResult, OutOfMemory, Seq, Ticket};
-
-/// A committed ticket: its event's number, where it is one, its result, and the tickets of what it created.
-#[derive(PartialEq, Eq, Debug, Drop)]
-pub struct Shown {
-    pub name: Option<u16>,
-    pub result: EventResult,
-    pub made: Seq<Ticket>,
-}
+use wave_base::{EventResult, OutOfMemory, Seq, Shown, Ticket};
 
 impl<'p> Engine<'p> {
     ghost use Rattle.wave_machine.specs.Keeping.{kept_of};

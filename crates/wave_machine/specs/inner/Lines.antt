@@ -2,7 +2,7 @@
 use Rattle.std.specs.Prelude.{◌≡◌, ℕ, List, Some, slice_get}
 use Rattle.event_cells.specs.declared.cell.JobKind.{JobKind}
 use Rattle.wave_machine.specs.declared.kept.Settled.{Settled}
-use Rattle.wave_machine.specs.declared.shown.Shown.{Shown}
+use Rattle.wave_base.specs.declared.shown.Shown.{Shown}
 use Rattle.wave_machine.specs.Kinds.{name_in}
 
 pub record IsKept (settled : List Settled) (kinds : List JobKind) (i : ℕ) (x : Shown) : Type 0 where

@@ -1,6 +1,6 @@
 use Rattle.std.proofs.Common.{◌≡◌, ◌∙◌, ◌+◌, ◌⊎◌, inl, inr, ℕ, Some, length, sym, ap, subst, arith}
 use Rattle.std.specs.Prelude.{slice_get}
-use Rattle.wave_machine.specs.declared.shown.Shown.{Shown}
+use Rattle.wave_base.specs.declared.shown.Shown.{Shown}
 use Rattle.wave_machine.specs.inner.Lines.{IsKept}
 use Rattle.wave_machine.proofs.Pushing.{at_push}
 use Rattle.wave_machine.proofs.shown.copies.Goals as goal

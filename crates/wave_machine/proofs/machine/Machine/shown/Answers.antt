@@ -3,7 +3,7 @@ use Rattle.std.specs.Prelude.{IfOk, slice_get}
 use Rattle.script_fold.specs.Runs.{finished_of}
 use Rattle.wave_base.specs.declared.start.Start.{Start}
 use Rattle.plan_actors.specs.Calls.{code_ran}
-use Rattle.wave_machine.specs.declared.shown.Shown.{Shown as Line}
+use Rattle.wave_base.specs.declared.shown.Shown.{Shown as Line}
 use Rattle.wave_machine.specs.Machines.{Stands, TheState}
 use Rattle.wave_machine.specs.Prepared.{Shown}
 use Rattle.wave_machine.specs.Showing.{IsLineOf}
