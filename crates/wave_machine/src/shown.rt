@@ -16,7 +16,7 @@ use crate::makes::name_in;
 use event_cells::JobKind;
 use plan_actors::folds_end;
 use std::alloc::Global;
-use wave_base::{EventResult, OutOfMemory, Seq, Shown, Ticket};
+use wave_base::{OutOfMemory, Seq, Shown};
 
 impl<'p> Engine<'p> {
     ghost use Rattle.wave_machine.specs.Keeping.{kept_of};
