@@ -1,0 +1,130 @@
+//! Runs of the top call, and what each has to come to.
+
+use crate::top::eventwave_alone;
+use std::alloc::Global;
+use std::process::Abort;
+use std::test::Fail;
+use wave_base::{OutOfMemory, Seq, Words};
+use wave_io::{MemSink, MemSource};
+
+pub fn bytes(alloc: Global, text: &[u8]) -> Result<Seq<u8>, OutOfMemory> {
+    Ok(Seq::from_vec(Vec::from_slice(alloc, text)?))
+}
+
+pub fn calls(alloc: Global, numbers: &[u64]) -> Result<Seq<u64>, OutOfMemory> {
+    Ok(Seq::from_vec(Vec::from_slice(alloc, numbers)?))
+}
+
+pub fn words(alloc: Global, text: &str) -> Result<Words, OutOfMemory> {
+    let mut words = Words::new(alloc);
+    for word in text.split(' ') {
+        words.push(word)?;
+    }
+    Ok(words)
+}
+
+/// A run on some words: what comes in, which read and write fail (0 is none), and what has to come out.
+#[derive(Clone, Copy)]
+pub struct Row<'a> {
+    pub words: &'a str,
+    pub input: &'a [u8],
+    pub failing_read: u64,
+    pub failing_write: u64,
+    pub status: u8,
+    pub out: &'a [u8],
+    pub note: &'a [u8],
+}
+
+pub fn holds(rt: &impl Abort, alloc: Global, row: &Row) -> Result<(), OutOfMemory> {
+    let words = words(alloc, row.words)?;
+    let mut source = MemSource::new(
+        bytes(alloc, row.input)?,
+        16,
+        calls(alloc, &[row.failing_read])?,
+    );
+    let mut out = MemSink::new(alloc, 10_000, 4, calls(alloc, &[row.failing_write])?)?;
+    let mut notes = MemSink::new(alloc, 10_000, 4, Seq::new(alloc))?;
+    let got = eventwave_alone(alloc, &words, &mut source, &mut out, &mut notes);
+    assert_eq!(rt; got, Some(row.status));
+    assert_eq!(rt; out.bytes(), row.out);
+    assert_eq!(rt; notes.bytes(), row.note);
+    Ok(())
+}
+
+pub fn plain<'a>(
+    words: &'a str,
+    input: &'a [u8],
+    status: u8,
+    out: &'a [u8],
+    note: &'a [u8],
+) -> Row<'a> {
+    Row {
+        words,
+        input,
+        failing_read: 0,
+        failing_write: 0,
+        status,
+        out,
+        note,
+    }
+}
+
+/// A service, a script, and what they come to.
+#[derive(Clone, Copy)]
+pub struct Case<'a> {
+    pub words: &'a str,
+    pub service: &'a [u8],
+    pub script: &'a [u8],
+    pub status: u8,
+    pub out: &'a [u8],
+    pub note: &'a [u8],
+}
+
+pub fn works<'a>(words: &'a str, service: &'a [u8], script: &'a [u8], out: &'a [u8]) -> Case<'a> {
+    Case {
+        words,
+        service,
+        script,
+        status: 0,
+        out,
+        note: b"",
+    }
+}
+
+pub fn traps<'a>(words: &'a str, service: &'a [u8], script: &'a [u8], out: &'a [u8]) -> Case<'a> {
+    Case {
+        status: 1,
+        ..works(words, service, script, out)
+    }
+}
+
+pub fn refuses<'a>(service: &'a [u8], script: &'a [u8], note: &'a [u8]) -> Case<'a> {
+    Case {
+        status: 4,
+        note,
+        ..works("seq", service, script, b"")
+    }
+}
+
+/// A service, a `----` line, and a script.
+fn joined(alloc: Global, service: &[u8], script: &[u8]) -> Result<Vec<u8>, OutOfMemory> {
+    let mut input = Vec::from_slice(alloc, service)?;
+    input.extend_from_slice(b"----\n")?;
+    input.extend_from_slice(script)?;
+    Ok(input)
+}
+
+pub fn all_hold(rt: &impl Abort, alloc: Global, cases: &[Case]) -> Result<(), Fail> {
+    for case in cases {
+        let input = joined(alloc, case.service, case.script)?;
+        let row = plain(
+            case.words,
+            input.as_slice(),
+            case.status,
+            case.out,
+            case.note,
+        );
+        holds(rt, alloc, &row)?;
+    }
+    Ok(())
+}

@@ -1,0 +1,96 @@
+//! The services of the tests.
+
+pub const TICK: &[u8] =
+    b"service Tick { var n: int = 0; event hit(): int { here { n = n + 1; } reply n; } }\n----\nrequest hit()\n";
+
+pub const MARKET: &[u8] = b"service Market {
+  var seen: int = 0;
+  context Hall[int] {
+    var count: int = 0;
+    context Stall[int] {
+      var stock: int = 10;
+      method take(n: int): int { stock = stock - n; return stock; }
+    }
+    method both(a: int, b: int): int { return Stall[a].take(1) + Stall[b].take(1); }
+  }
+  event buy(h: int, s: int, n: int): int {
+    here { seen = seen + 1; }
+    down Hall[h] { count = count + n; }
+    down Stall[s] { let left = take(n); send \"till\", Hall.count; }
+    reply left;
+  }
+  event pair(h: int): int { down Hall[h] { let t = both(1, 2); } reply t; }
+  event same(h: int): int { down Hall[h] { let t = both(1, 1); } reply t; }
+}
+";
+
+pub const EDGE: &[u8] = b"service Edge {
+  var seen: int = 0;
+  context Hall[int] {
+    var top: int = 9223372036854775807;
+  }
+  event bump(h: int): int {
+    here { seen = seen + 1; send \"first\", seen; }
+    down Hall[h] { top = top + 1; }
+    reply top;
+  }
+}
+";
+
+pub const CHAIN: &[u8] = b"service Chain {
+  var n: int = 0;
+  event two(): int {
+    here { n = n + 1; spawn one(); spawn one(); }
+    reply n;
+  }
+  event one(): int { here { n = n + 10; } reply n; }
+  event again() { here { n = n + 1; spawn again(); } }
+}
+";
+
+pub const LOOP: &[u8] = b"service Loop {
+  event turns(k: int): int {
+    here { let s = 0; for i in 0 to k { s = s + i; } }
+    reply s;
+  }
+}
+";
+
+pub const CALC: &[u8] = b"service Calc {
+  event div(a: int, b: int): int { reply a / b; }
+  event rem(a: int, b: int): int { reply a % b; }
+}
+";
+
+pub const WIDE: &[u8] = b"service Wide {
+  context Cell[int] {
+    var v: int = 0;
+    method set() { v = 1; }
+  }
+  event fill(k: int) { here { for i in 0 to k { Cell[i].set(); } } }
+}
+";
+
+/// A hundred thousand turns of ten statements.
+pub const LONG: &[u8] = b"service Long {
+  event turns(k: int): int {
+    here {
+      let s = 0;
+      for i in 0 to k {
+        s = s + 1; s = s + 1; s = s + 1; s = s + 1; s = s + 1;
+        s = s + 1; s = s + 1; s = s + 1; s = s + 1; s = s + 1;
+      }
+    }
+    reply s;
+  }
+}
+";
+
+/// A value of each kind is sent.
+pub const SENDS: &[u8] = b"service Sends {
+  var m: map = empty;
+  event all() {
+    here { m[2] = 6; m[1] = 5; send \"n\", -1; send \"b\", true; send \"t\", \"a \\\"b\\\"\"; send \"m\", m; }
+  }
+}
+";
