@@ -1,6 +1,7 @@
 //! The listing of a run, as bytes and onto a sink.
 #![tactic(auto)]
 
+mod law;
 mod line_texts;
 mod lines;
 #[cfg(test)]
@@ -8,5 +9,6 @@ mod tests;
 mod whole;
 mod write;
 
+pub use law::parts_make_a_listing;
 pub use whole::listing;
-pub use write::{ListError, write_listing, write_listing_at};
+pub use write::{ListError, write_end, write_lines, write_listing, write_listing_at};

@@ -1,13 +1,11 @@
-ghost use Rattle.std.specs.Prelude.{◌≡◌, ◌++◌, ◌≤◌, ◌-◌, ◌+◌, ◌^◌, length, map, OnOk, IfOk};
+ghost use Rattle.std.specs.Prelude.{◌≡◌, ◌++◌, map, option_copied, OnOk, IfOk};
 ghost use Rattle.path_text.specs.ShotTexts.{shot_text};
 ghost use Rattle.listing_out.specs.LineTexts.{message_text, made_text, ticket_line, place_line};
 ghost use Rattle.listing_out.specs.Listing.{shots_in, result_lines, end_lines};
 
 use crate::line_texts::{done_line, made_line, message_line, outcome_line, place_line, shot_line};
 use std::alloc::Global;
-use wave_base::{
-    EventResult, Finished, Message, OutOfMemory, Outcome, Place, Seq, Shape, Shot, Ticket,
-};
+use wave_base::{EventResult, Message, OutOfMemory, Outcome, Place, Seq, Shape, Shot, Ticket};
 
 fn shots_in(outcome: &Outcome) -> &[Shot]
     ensures { result.now ≡ shots_in outcome.now }
@@ -98,19 +96,15 @@ fn add_places(
 pub(crate) fn end_lines(
     alloc: Global,
     shape: &Shape,
-    first: Ticket,
-    done: &Finished,
-    map: bool,
+    places: Option<&Seq<Place>>,
+    last: u64,
 ) -> Result<Vec<Seq<u8>>, OutOfMemory>
-    requires first { 1 ≤ first.0 }
-    requires few { length done.now.results ≤ 2 ^ 32 - 1 }
-    ensures { IfOk result (λ lines. lines.items ≡ end_lines shape.now first.0 done.now map) }
+    ensures { IfOk result (λ lines. lines.items ≡ end_lines shape.now (option_copied places.entry) last) }
 {
     let mut lines = Vec::new(alloc);
-    if map {
-        add_places(alloc, &mut lines, shape, done.places.as_slice())?;
+    if let Some(places) = places {
+        add_places(alloc, &mut lines, shape, places.as_slice())?;
     }
-    let last = u64::from(first.0) + done.results.len() as u64 - 1;
     lines.push(done_line(alloc, last)?)?;
     Ok(lines)
 }

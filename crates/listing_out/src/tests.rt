@@ -1,13 +1,13 @@
 ghost use Rattle.std.specs.Prelude.{◌≡◌, ◌≤◌, ◌-◌, ◌^◌, length, IfOk};
 ghost use Rattle.wave_base.specs.Text.{IsText};
 
-use crate::{ListError, listing, write_listing, write_listing_at};
+use crate::{ListError, listing, write_end, write_lines, write_listing, write_listing_at};
 use std::alloc::Global;
 use std::test::Fail;
 use wave_base::{
     Class, ClassInfo, EventInfo, EventResult, FieldInfo, Finished, Host, Kind, Message,
-    OutOfMemory, Outcome, Path, Place, Seq, Shape, Shot, Span, Step, Table, Ticket, Trap, TrapKind,
-    Txt, Value,
+    OutOfMemory, Outcome, Path, Place, Seq, Shape, Shot, Shown, Span, Step, Table, Ticket, Trap,
+    TrapKind, Txt, Value,
 };
 use wave_io::MemSink;
 
@@ -185,6 +185,34 @@ fn lists_every_kind_of_line(rt: HostRuntime) -> Result<(), Fail> {
     let mut sink = MemSink::new(alloc, 400, 7, Seq::new(alloc))?;
     assert!(rt; write_listing_at(alloc, &mut sink, &shape, Ticket(7), &done, true) == Ok(()));
     assert!(rt; sink.bytes() == FROM_7);
+    Ok(())
+}
+
+// A ticket that ended, of an event or none.
+fn done_by(alloc: Global, name: Option<u16>) -> Shown {
+    Shown {
+        name,
+        result: ended(alloc, Outcome::Done),
+        made: Seq::new(alloc),
+    }
+}
+
+#[test]
+fn writes_part_by_part(rt: HostRuntime) -> Result<(), Fail> {
+    let alloc = rt.alloc();
+    let shape = shape(alloc)?;
+    let mut sink = MemSink::new(alloc, 400, 7, Seq::new(alloc))?;
+    let mut part = Seq::new(alloc);
+    assert!(rt; part.push(done_by(alloc, Some(0))).is_ok());
+    assert!(rt; write_lines(alloc, &mut sink, &shape, Ticket(1), &part) == Ok(()));
+    assert!(rt; write_lines(alloc, &mut sink, &shape, Ticket(2), &part) == Ok(()));
+    let place = Place {
+        path: Path::root(),
+        host: Host(0),
+    };
+    let places = Seq::from_vec(vec![in alloc; place]?);
+    assert!(rt; write_end(alloc, &mut sink, &shape, Some(&places), 2) == Ok(()));
+    assert!(rt; sink.bytes() == b"#1 buy ok\n#2 buy ok\nplace / 0\ndone 2\n".as_slice());
     Ok(())
 }
 

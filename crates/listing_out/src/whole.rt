@@ -1,10 +1,10 @@
-ghost use Rattle.std.specs.Prelude.{◌≡◌, ◌++◌, ◌+◌, ◌-◌, ◌^◌, ◌≤◌, ◌<◌, length, IfOk, OnOk};
+ghost use Rattle.std.specs.Prelude.{◌≡◌, ◌++◌, ◌+◌, ◌-◌, ◌^◌, ◌≤◌, ◌<◌, length, option_copied, IfOk, OnOk};
 ghost use Rattle.std.specs.List.{concat};
-ghost use Rattle.listing_out.specs.Listing.{name_at, made_at, listing};
+ghost use Rattle.listing_out.specs.Listing.{name_at, made_at, places_of, last_ticket, listing};
 
 use crate::lines::{end_lines, result_lines};
 use std::alloc::Global;
-use wave_base::{Finished, OutOfMemory, Seq, Shape, Ticket};
+use wave_base::{Finished, OutOfMemory, Place, Seq, Shape, Ticket};
 use wave_text::put_bytes;
 
 pub(crate) fn name_at(done: &Finished, i: usize) -> Option<u16>
@@ -23,6 +23,20 @@ pub(crate) fn made_at(done: &Finished, i: usize) -> &[Ticket]
         Some(made) => made.as_slice(),
         None => &[],
     }
+}
+
+pub(crate) fn places_of(done: &Finished, map: bool) -> Option<&Seq<Place>>
+    ensures { option_copied result ≡ places_of done.now map }
+{
+    if map { Some(&done.places) } else { None }
+}
+
+pub(crate) fn last_ticket(first: Ticket, done: &Finished) -> u64
+    requires first { 1 ≤ first.0 }
+    requires few { length done.now.results ≤ 2 ^ 32 - 1 }
+    ensures { result ≡ last_ticket first.0 done.now }
+{
+    u64::from(first.0) + done.results.len() as u64 - 1
 }
 
 // The ticket of the result at place `i`.
@@ -61,7 +75,8 @@ pub fn listing(
         let lines = result_lines(alloc, shape, n, name_at(done, i), result_, made_at(done, i))?;
         put_lines(&mut out, lines.as_slice())?;
     }
-    let lines = end_lines(alloc, shape, first, done, map)?;
+    let last = last_ticket(first, done);
+    let lines = end_lines(alloc, shape, places_of(done, map), last)?;
     put_lines(&mut out, lines.as_slice())?;
     Ok(Seq::from_vec(out))
 }

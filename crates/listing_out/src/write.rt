@@ -1,15 +1,15 @@
-ghost use Rattle.std.specs.Prelude.{◌≡◌, ◌-◌, ◌^◌, ◌≤◌, length, OnOk, OnErr, IsErrOf};
+ghost use Rattle.std.specs.Prelude.{◌≡◌, ◌+◌, ◌-◌, ◌^◌, ◌≤◌, length, option_copied, OnOk, OnErr, IsErrOf};
 ghost use Rattle.std.specs.List.{concat};
 ghost use Rattle.std.specs.Io.KnownBytes.{Appends};
 ghost use Rattle.wave_io.specs.Causes.{HasCause, Rose};
 ghost use Rattle.wave_io.specs.Streams.{AppendsFront};
-ghost use Rattle.listing_out.specs.Listing.{listing};
+ghost use Rattle.listing_out.specs.Listing.{lines_from, end_lines, listing};
 
 use crate::lines::{end_lines, result_lines};
-use crate::whole::{made_at, name_at, ticket_at};
+use crate::whole::{last_ticket, made_at, name_at, places_of, ticket_at};
 use std::alloc::Global;
 use thiserror::Error;
-use wave_base::{Finished, OutOfMemory, Seq, Shape, Ticket};
+use wave_base::{Finished, OutOfMemory, Place, Seq, Shape, Shown, Ticket};
 use wave_io::{Failed, Sink, write_all};
 
 /// Why a listing was not written whole. A front of it was.
@@ -45,7 +45,7 @@ impl From<Failed> for ListError {
 }
 
 // Writes lines, each as a whole.
-fn write_lines<K: Sink>(sink: &mut K, lines: &[Seq<u8>]) -> Result<(), Failed>
+fn write_each<K: Sink>(sink: &mut K, lines: &[Seq<u8>]) -> Result<(), Failed>
     ensures ok { OnOk result (Appends (K.written sink.old) (K.written sink.new) (concat lines.now)) }
     ensures err { OnErr result (AppendsFront (K.written sink.old) (K.written sink.new) (concat lines.now)) }
     ensures cause { HasCause (K.faults sink.old) (K.faults sink.new) result }
@@ -54,6 +54,64 @@ fn write_lines<K: Sink>(sink: &mut K, lines: &[Seq<u8>]) -> Result<(), Failed>
         write_all(sink, line.as_slice())?;
     }
     Ok(())
+}
+
+/// Writes the lines of tickets, of which the first is `from`, line by line.
+pub fn write_lines<K: Sink>(
+    alloc: Global,
+    sink: &mut K,
+    shape: &Shape,
+    from: Ticket,
+    part: &Seq<Shown>,
+) -> Result<(), ListError>
+    requires last { from.0 + length part.now ≤ 2 ^ 32 }
+    ensures ok { OnOk result (Appends (K.written sink.old) (K.written sink.new) (concat (lines_from shape.now from.0 part.now))) }
+    ensures err { OnErr result (AppendsFront (K.written sink.old) (K.written sink.new) (concat (lines_from shape.now from.0 part.now))) }
+    ensures fault { IsErrOf result ListError.WriteFault → Rose (K.faults sink.old) (K.faults sink.new) }
+    ensures later { K.faults sink.old ≤ K.faults sink.new }
+{
+    for (i, shown) in part.as_slice().iter().enumerate() {
+        let n = ticket_at(from, i);
+        let made = shown.made.as_slice();
+        let lines = result_lines(alloc, shape, n, shown.name, &shown.result, made)?;
+        write_each(sink, lines.as_slice())?;
+    }
+    Ok(())
+}
+
+// Writes the last lines.
+fn write_last<K: Sink>(
+    alloc: Global,
+    sink: &mut K,
+    shape: &Shape,
+    places: Option<&Seq<Place>>,
+    last: u64,
+) -> Result<(), ListError>
+    ensures ok { OnOk result (Appends (K.written sink.old) (K.written sink.new) (concat (end_lines shape.now (option_copied places.entry) last))) }
+    ensures err { OnErr result (AppendsFront (K.written sink.old) (K.written sink.new) (concat (end_lines shape.now (option_copied places.entry) last))) }
+    ensures fault { IsErrOf result ListError.WriteFault → Rose (K.faults sink.old) (K.faults sink.new) }
+    ensures later { K.faults sink.old ≤ K.faults sink.new }
+{
+    let lines = end_lines(alloc, shape, places, last)?;
+    write_each(sink, lines.as_slice())?;
+    Ok(())
+}
+
+/// Writes what stands behind the lines of the tickets: the hosts of the contexts, if there are any, and the last line, which names
+/// the last ticket.
+pub fn write_end<K: Sink>(
+    alloc: Global,
+    sink: &mut K,
+    shape: &Shape,
+    places: Option<&Seq<Place>>,
+    last: u32,
+) -> Result<(), ListError>
+    ensures ok { OnOk result (Appends (K.written sink.old) (K.written sink.new) (concat (end_lines shape.now (option_copied places.entry) last))) }
+    ensures err { OnErr result (AppendsFront (K.written sink.old) (K.written sink.new) (concat (end_lines shape.now (option_copied places.entry) last))) }
+    ensures fault { IsErrOf result ListError.WriteFault → Rose (K.faults sink.old) (K.faults sink.new) }
+    ensures later { K.faults sink.old ≤ K.faults sink.new }
+{
+    write_last(alloc, sink, shape, places, u64::from(last))
 }
 
 /// Writes the listing of a run whose first ticket is `first`, line by line.
@@ -75,11 +133,10 @@ pub fn write_listing_at<K: Sink>(
     for (i, result_) in done.results.as_slice().iter().enumerate() {
         let n = ticket_at(first, i);
         let lines = result_lines(alloc, shape, n, name_at(done, i), result_, made_at(done, i))?;
-        write_lines(sink, lines.as_slice())?;
+        write_each(sink, lines.as_slice())?;
     }
-    let lines = end_lines(alloc, shape, first, done, map)?;
-    write_lines(sink, lines.as_slice())?;
-    Ok(())
+    let last = last_ticket(first, done);
+    write_last(alloc, sink, shape, places_of(done, map), last)
 }
 
 /// Writes the listing of a run that begins with ticket 1, line by line.

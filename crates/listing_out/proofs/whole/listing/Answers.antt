@@ -1,6 +1,6 @@
 use Rattle.std.proofs.Common.{◌≡◌, ◌+◌, ◌<◌, ◌++◌, length, get_or, ap, ◌∙◌, arith}
 use Rattle.std.specs.List.{concat}
-use Rattle.listing_out.specs.Listing.{name_at, made_at, result_lines, lines_from}
+use Rattle.listing_out.specs.Listing.{name_at, made_at, result_lines, lines_from, shown_of, end_lines, places_of, last_ticket}
 use Rattle.listing_out.proofs.ListingLemmas.{next_result, no_result, whole_listing, result_put, end_put}
 use Rattle.listing_out.proofs.whole.listing.Goals as goal
 
@@ -14,7 +14,8 @@ loop-i-preserved c =
 
 pub returns : goal.returns
 returns c =
-    let lines = c.as_slice-2.ensures.value ∙ c.in_ok-lines-2.ensures in
+    let lines : c.as_slice-2.result.now ≡ end_lines c.args.shape.now (places_of c.args.done.now c.args.map) (last_ticket c.args.first.0 c.args.done.now) =
+    cc (c.as_slice-2.ensures.value, c.in_ok-lines-2.ensures, c.last_ticket-last.ensures, c.places_of.ensures) in
     c.from_vec.ensures
-    ∙ end_put _ _ _ _ _ _ c.in_ok-put_lines-2.ensures (no_result c.args.shape.now c.args.first.0 c.args.done.now c.loop-i.i c.loop-i.i (omega (arith, c.loop-i-test.false, ap length c.as_slice-result_-items.ensures))) c.loop-i.invariant
-    (ap (λ z. concat (lines_from c.args.shape.now c.args.first.0 c.args.done.now 0 c.args.done.now.results) ++ concat z) lines ∙ whole_listing c.args.shape.now c.args.first.0 c.args.done.now c.args.map)
+    ∙ end_put _ _ _ _ _ _ c.in_ok-put_lines-2.ensures (no_result c.args.shape.now (c.args.first.0 + c.loop-i.i) c.args.done.now c.loop-i.i (omega (arith, c.loop-i-test.false, ap length c.as_slice-result_-items.ensures))) c.loop-i.invariant
+    (ap (λ z. concat (lines_from c.args.shape.now c.args.first.0 (shown_of c.args.done.now)) ++ concat z) lines ∙ whole_listing c.args.shape.now c.args.first.0 c.args.done.now c.args.map)

@@ -1,11 +1,11 @@
-use Rattle.std.proofs.Common.{◌≤◌, drop}
+use Rattle.std.proofs.Common.{◌+◌, ◌≤◌, drop}
 use Rattle.std.specs.List.{concat}
-use Rattle.listing_out.specs.Listing.{lines_from}
+use Rattle.listing_out.specs.Listing.{lines_from, shown_of}
 use Rattle.listing_out.proofs.SinkLemmas.{IsWritten}
 use Rattle.listing_out.proofs.write.write_listing_at.Given as goal
 
 abbrev pub invariant-loop-i : goal.invariant-loop-i
 invariant-loop-i g l = record {
-  written : IsWritten (g.K.Sink.written l.fn.sink) (g.K.Sink.written l.sink) (concat (lines_from l.shape l.first.0 l.done l.i (drop l.i l.done.results))) (concat (lines_from l.shape l.first.0 l.done 0 l.done.results));
+  written : IsWritten (g.K.Sink.written l.fn.sink) (g.K.Sink.written l.sink) (concat (lines_from l.shape (l.first.0 + l.i) (drop l.i (shown_of l.done)))) (concat (lines_from l.shape l.first.0 (shown_of l.done)));
   later : g.K.Sink.faults l.fn.sink ≤ g.K.Sink.faults l.sink;
 }
