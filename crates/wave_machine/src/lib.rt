@@ -8,7 +8,7 @@ mod always;
 mod asking;
 mod begin;
 mod drivable;
-mod drive;
+mod drives;
 mod ends;
 mod engine;
 mod finds;
@@ -45,7 +45,7 @@ pub use actor::Actor;
 pub use always::{
     contexts_have_owners, labels_are_apart, machines_come_to_an_end, machines_follow_the_fold,
 };
-pub use drive::{drive_at, drive_with};
+pub use drives::{drive, drive_at, drive_with};
 pub use hands::segments_are_known;
 pub use kept::{Out, Settled};
 pub use known::heads_are_known;

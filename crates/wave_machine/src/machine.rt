@@ -199,6 +199,14 @@ impl<'p> Machine<'p> {
         }
     }
 
+    /// How many tickets of this run are committed.
+    pub fn committed(&self) -> usize
+        ensures settled { result ≡ length self.now.kept.settled.results }
+        ensures done { (start : Start) (s : TheState) → Stands self.now.kept start s → s.head.done ≡ result }
+    {
+        self.engine.settled.len()
+    }
+
     /// The committed tickets without the first `from`, at most so many: what the whole run gives of each of them, whatever comes yet.
     pub fn shown(&self, from: u32, most: usize) -> Result<Seq<Shown>, OutOfMemory>
         requires { from ≤ length self.now.kept.settled.results }

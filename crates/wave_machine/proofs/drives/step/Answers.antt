@@ -4,7 +4,7 @@ use Rattle.wave_machine.specs.declared.plan.Plan.{Plan}
 use Rattle.wave_machine.specs.Keeping.{kept_of}
 use Rattle.wave_machine.specs.Plans.{plan_of}
 use Rattle.wave_machine.proofs.Driven.{calm_leads, enabled_of, keeps_enabled, keeps_takes, step_is_calm}
-use Rattle.wave_machine.proofs.drive.step.Goals as goal
+use Rattle.wave_machine.proofs.drives.step.Goals as goal
 
 pub act-requires-clause-enabled : goal.act-requires-clause-enabled
 act-requires-clause-enabled c =

@@ -1,7 +1,7 @@
 use Rattle.std.proofs.Common.{◌≡◌, ◌∙◌, map, sym, ap}
 use Rattle.wave_labels.specs.Labels.{label_of}
 use Rattle.wave_machine.specs.Rules.{rule_of}
-use Rattle.wave_machine.proofs.drive.next.Goals as goal
+use Rattle.wave_machine.proofs.drives.next.Goals as goal
 
 pub returns : goal.returns
 returns c = λ start s stands.

@@ -14,7 +14,7 @@ use Rattle.wave_machine.specs.Keeping.{kept_of}
 use Rattle.wave_machine.specs.Rules.{number_of, rule_of}
 use Rattle.wave_machine.specs.inner.Driving.{IsDriving, first_state}
 use Rattle.wave_machine.proofs.Driven.{drive_done, drive_run, driving_more, next_taking, nothing_left}
-use Rattle.wave_machine.proofs.drive.drive_on.Goals as goal
+use Rattle.wave_machine.proofs.drives.drive_on.Goals as goal
 
 pub take-requires : goal.take-requires
 take-requires c =

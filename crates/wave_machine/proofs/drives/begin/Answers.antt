@@ -11,7 +11,7 @@ use Rattle.wave_machine.specs.Keeping.{kept_of}
 use Rattle.wave_machine.specs.Leases.{HasRun, StandsFor}
 use Rattle.wave_machine.specs.Plans.{plan_of}
 use Rattle.wave_machine.proofs.Driven.{begun_leads, enabled_of, keeps_enabled, keeps_takes, lease_may_run, lease_ran, within_ends}
-use Rattle.wave_machine.proofs.drive.begin.Goals as goal
+use Rattle.wave_machine.proofs.drives.begin.Goals as goal
 
 pub act_start-lease-requires-clause-enabled : goal.act_start-lease-requires-clause-enabled
 act_start-lease-requires-clause-enabled c =

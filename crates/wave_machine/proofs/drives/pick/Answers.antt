@@ -5,7 +5,7 @@ use Rattle.wave_machine.specs.declared.rules.PickRule.{PickRule}
 use Rattle.wave_machine.specs.Keeping.{kept_of}
 use Rattle.wave_machine.specs.Rules.{rule_of}
 use Rattle.wave_machine.proofs.JobKinds.{movers_is}
-use Rattle.wave_machine.proofs.drive.pick.Goals as goal
+use Rattle.wave_machine.proofs.drives.pick.Goals as goal
 
 pub returns-in-Seed : goal.returns-in-Seed
 returns-in-Seed c = λ start s stands same. subst (λ (r : PickRule). rule_of r c.args.draw.now s (map label_of c.args.labels.now) ≡ (c.by_seed.new.draw, option_map label_of c.by_seed.result)) (sym c.in-Seed.is) (c.by_seed.ensures s)

@@ -2,6 +2,7 @@
 
 ghost use Rattle.std.specs.Prelude.{◌≡◌, true, length, map, IfOk, OnOk, option_map};
 ghost use Rattle.wave_base.specs.declared.start.Start as start;
+ghost use Rattle.wave_base.specs.Starts.{first_start};
 ghost use Rattle.wave_states.specs.Begins.{start_state};
 ghost use Rattle.wave_states.specs.Runs as runs;
 ghost use Rattle.wave_states.specs.Runs.{IsDrive};
@@ -30,6 +31,7 @@ use crate::listable::states_list;
 use crate::plan::Plan;
 use crate::rules::{PickRule, by_mail_last, by_newest, by_oldest, by_seed};
 use crate::runs::run_lease;
+use context_tree::trees_that_fit;
 use plan_actors::{PlanActors, runs_are_short};
 use std::alloc::Global;
 use wave_base::{Finished, Host, OutOfMemory, Path, Seq, Start, Ticket, Worker};
@@ -226,4 +228,19 @@ pub fn drive_at(
     ensures driven { IfOk result (λ r. IsDrive (plan_actors plan.now.program) plan.now.workers plan.now.script.hosts (rule_of (rule.Seed seed)) seed (start_state (begin_in (plan_of plan.now) start.now) plan.now.script.batches) (map label_of r.1)) }
 {
     drive_with(alloc, plan, start, PickRule::Seed(seed))
+}
+
+/// The same, from where every run begins that no other went before: the root alone, on host 0, and ticket 1.
+pub fn drive(
+    alloc: Global,
+    plan: &Plan,
+    seed: u64,
+) -> Result<(Finished, Seq<Label>), OutOfMemory>
+    requires { Fits (plan_of plan.now) }
+    ensures told { IfOk result (λ r. r.0 ≡ finished_of (code_ran plan.now.program) plan.now.program.shape (first_start plan.now.program.shape) plan.now.script) }
+    ensures driven { IfOk result (λ r. IsDrive (plan_actors plan.now.program) plan.now.workers plan.now.script.hosts (rule_of (rule.Seed seed)) seed (start_state (begin_in (plan_of plan.now) (first_start plan.now.program.shape)) plan.now.script.batches) (map label_of r.1)) }
+{
+    trees_that_fit();
+    let start = Start::first(alloc, &plan.program.program().shape)?;
+    drive_at(alloc, plan, &start, seed)
 }

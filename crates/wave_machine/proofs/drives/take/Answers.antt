@@ -4,7 +4,7 @@ use Rattle.wave_labels.specs.declared.label.Act.{Act}
 use Rattle.wave_labels.specs.Labels.{act_of}
 use Rattle.wave_machine.specs.Keeping.{kept_of}
 use Rattle.wave_machine.specs.inner.Driving.{Leads}
-use Rattle.wave_machine.proofs.drive.take.Goals as goal
+use Rattle.wave_machine.proofs.drives.take.Goals as goal
 
 pub returns-in-Stop-clause-leads : goal.returns-in-Stop-clause-leads
 returns-in-Stop-clause-leads c =

@@ -9,7 +9,7 @@ use Rattle.wave_machine.specs.Keeping.{kept_of}
 use Rattle.wave_machine.specs.Plans.{plan_of}
 use Rattle.wave_machine.specs.inner.Driving.{IsEnd, Leads}
 use Rattle.wave_machine.proofs.Driven.{back_of, has_end, stopped_by, stopped_leads, within_ends}
-use Rattle.wave_machine.proofs.drive.stop.Goals as goal
+use Rattle.wave_machine.proofs.drives.stop.Goals as goal
 
 pub index_mut-requires : goal.index_mut-requires
 index_mut-requires c =

@@ -10,7 +10,7 @@ use Rattle.wave_machine.specs.Machines.{Stands}
 use Rattle.wave_machine.specs.Plans.{plan_of}
 use Rattle.wave_machine.specs.Rules.{number_of, rule_of}
 use Rattle.wave_machine.specs.inner.Driving.{first_state}
-use Rattle.wave_machine.proofs.drive.drive_with.Goals as goal
+use Rattle.wave_machine.proofs.drives.drive_with.Goals as goal
 
 pub drive_on-requires : goal.drive_on-requires
 drive_on-requires c =
