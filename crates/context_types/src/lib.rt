@@ -13,6 +13,3 @@ mod stmts;
 
 pub use service::{Typed, check};
 pub use type_rules::{TypeError, Which};
-
-#[cfg(test)]
-mod tests;

@@ -1,12 +1,11 @@
 // Contexts and the service.
 
-ghost use Rattle.std.specs.Prelude.{◌≡◌, ◌++◌, ◌≤◌, length, map, OnOk, IfOk};
+ghost use Rattle.std.specs.Prelude.{◌≡◌, ◌++◌, map, OnOk, IfOk};
 ghost use Rattle.mace_ast.specs.Decls.{ServiceTree, context_tree, service_tree, SameUpToSpans};
 ghost use Rattle.mace_grammar.specs.Spelled.{Spelled};
 ghost use Rattle.mace_printer.specs.Canon as words;
 ghost use Rattle.mace_printer.specs.Layout.{layout};
 ghost use Rattle.mace_printer.specs.Written.{IsParsed, IsCutInto};
-ghost use Rattle.wave_base.specs.declared.limits.TheConstants.{PLACED_BYTES};
 
 use crate::field::put_vars;
 use crate::member::{put_events, put_methods};
@@ -81,38 +80,4 @@ pub fn print(alloc: Global, service: &Service) -> Result<Seq<u8>, OutOfMemory>
     let mut out = Vec::new(alloc);
     put_service(alloc, &mut out, service)?;
     Ok(Seq::from_vec(out))
-}
-
-#[cfg(test)]
-mod tests {
-    use super::*;
-    use mace_lexer::lex;
-    use mace_parser::parse;
-    use std::process::Abort;
-    use std::test::Fail;
-
-    fn prints(rt: &impl Abort, alloc: Global, text: &[u8], wanted: &[u8]) -> Result<(), Fail>
-        requires { length text.now ≤ PLACED_BYTES }
-    {
-        let tokens = lex(alloc, text)?;
-        let Ok(service) = parse(alloc, text, tokens.as_slice()) else {
-            return Err(Fail::from("a service"));
-        };
-        let out = print(alloc, &service)?;
-        assert!(rt; out.as_slice() == wanted);
-        Ok(())
-    }
-
-    #[test]
-    fn prints_an_empty_service(rt: HostRuntime) -> Result<(), Fail> {
-        prints(&rt, rt.alloc(), b"service A { }", b"service A {\n}\n")
-    }
-
-    #[test]
-    fn keeps_the_parentheses_that_are_needed(rt: HostRuntime) -> Result<(), Fail> {
-        let text = b"service A { event e() { reply (1 + (2)) * 3 - (x - (y < -z)); } }";
-        let wanted =
-            b"service A {\nevent e ( ) {\nreply ( 1 + 2 ) * 3 - ( x - ( y < - z ) ) ;\n}\n}\n";
-        prints(&rt, rt.alloc(), text, wanted)
-    }
 }

@@ -9,4 +9,3 @@ pub mod StepLemmas
 pub mod StartLemmas
 pub mod MoveLemmas
 pub mod AgainLemmas
-pub mod GreetingLemmas

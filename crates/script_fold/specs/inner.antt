@@ -1,4 +1,2 @@
 pub mod Visiting
 pub mod Standing
-pub mod Greeting
-pub mod Greets

@@ -12,6 +12,3 @@ mod visits;
 pub use laws::{moves_change_no_other_result, runs_go_on};
 pub use run::{run_script, run_script_at};
 pub use runner::Runner;
-
-#[cfg(test)]
-mod tests;

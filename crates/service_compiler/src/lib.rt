@@ -20,6 +20,3 @@ pub use program::compile;
 pub use statements::{emit_stmts, leaves};
 pub use texts::Texts;
 pub use verified::compile_verified;
-
-#[cfg(test)]
-mod tests;

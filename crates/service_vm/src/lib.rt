@@ -13,6 +13,3 @@ mod step;
 mod values;
 
 pub use event::{EventBox, segment};
-
-#[cfg(test)]
-mod tests;

@@ -1,7 +1,7 @@
 //! How calls end: words, refusals in their order, faults of streams, the greatest input.
 
 use super::rows::{Row, bytes, calls, holds, plain, words};
-use super::services::{MARKET, TICK};
+use super::services::{FORMS, FORMS_PRINTED, MARKET, TICK};
 use crate::top::{eventwave_alone, start};
 use std::test::Fail;
 use wave_base::{OutOfMemory, Seq};
@@ -50,6 +50,50 @@ fn services(rt: HostRuntime) -> Result<(), Fail> {
     ];
     for row in &rows {
         holds(&rt, alloc, row)?;
+    }
+    Ok(())
+}
+
+/// Words that are no service, at the first of them.
+#[test]
+fn unexpected_words(rt: HostRuntime) -> Result<(), Fail> {
+    let rows: [(&[u8], &[u8]); 6] = [
+        (b"", b"P1 Expected 1:1\n"),
+        (b"service let { }", b"P1 Expected 1:9\n"),
+        (b"service A { event e() { down", b"P1 Expected 1:29\n"),
+        (b"service A { }\n}", b"P1 Expected 2:1\n"),
+        (
+            b"service A { event e() { reply f(1,); } }",
+            b"P1 Expected 1:35\n",
+        ),
+        (
+            b"service A { event e() { reply a < b < c; } }\n",
+            b"P1 Expected 1:37\n",
+        ),
+    ];
+    for (text, note) in &rows {
+        holds(&rt, rt.alloc(), &plain("check", text, 3, b"", note))?;
+    }
+    Ok(())
+}
+
+/// Parentheses that are needed stay, and no others; every form of a service is read and written.
+#[test]
+fn printed_services(rt: HostRuntime) -> Result<(), Fail> {
+    let written =
+        b"service A {\nevent e ( x : int , y : int , z : int ) : int {\nreply ( 1 + 2 ) * 3 - ( x - ( y - z ) ) - - z ;\n}\n}\n";
+    let rows = [
+        plain(
+            "print",
+            b"service A { event e(x: int, y: int, z: int): int { reply (1 + (2)) * 3 - (x - (y - z)) - (-z); } }",
+            0,
+            written,
+            b"",
+        ),
+        plain("print", FORMS, 0, FORMS_PRINTED, b""),
+    ];
+    for row in &rows {
+        holds(&rt, rt.alloc(), row)?;
     }
     Ok(())
 }
