@@ -106,10 +106,55 @@ pub const FORMS: &[u8] =
   event e(k: int): int {
     here { let z = (1 + 2) * 3; C[z].g(k); a = m[1] % 2; }
     down C[k] { n = S.a; }
-    reply C.n;
+    reply n + S.a;
   }
 }
 ";
 
 /// The same in canonical layout.
-pub const FORMS_PRINTED: &[u8] = b"";
+pub const FORMS_PRINTED: &[u8] = b"service S {
+var a : int = - 1 ;
+var t : text = \"x\" ;
+var b : bool = true ;
+var m : map = empty ;
+context C [ int ] {
+var n : int = 0 ;
+context D [ int ] {
+}
+method g ( x : int ) : int {
+n = n + x ;
+return n ;
+}
+}
+method f ( x : int , y : text ) : int {
+if x < 1 && ! b {
+a = 0 ;
+}
+else {
+while x > 0 {
+x = x - 1 ;
+}
+}
+for i in 0 to 3 {
+m [ i ] = - i ;
+}
+require x >= 0 || b ;
+send \"l\" , y ;
+spawn e ( 1 ) ;
+drop m [ 1 ] ;
+C [ 2 ] . g ( a ) ;
+return x ;
+}
+event e ( k : int ) : int {
+here {
+let z = ( 1 + 2 ) * 3 ;
+C [ z ] . g ( k ) ;
+a = m [ 1 ] % 2 ;
+}
+down C [ k ] {
+n = S . a ;
+}
+reply n + S . a ;
+}
+}
+";
