@@ -231,11 +231,7 @@ pub fn drive_at(
 }
 
 /// The same, from where every run begins that no other went before: the root alone, on host 0, and ticket 1.
-pub fn drive(
-    alloc: Global,
-    plan: &Plan,
-    seed: u64,
-) -> Result<(Finished, Seq<Label>), OutOfMemory>
+pub fn drive(alloc: Global, plan: &Plan, seed: u64) -> Result<(Finished, Seq<Label>), OutOfMemory>
     requires { Fits (plan_of plan.now) }
     ensures told { IfOk result (λ r. r.0 ≡ finished_of (code_ran plan.now.program) plan.now.program.shape (first_start plan.now.program.shape) plan.now.script) }
     ensures driven { IfOk result (λ r. IsDrive (plan_actors plan.now.program) plan.now.workers plan.now.script.hosts (rule_of (rule.Seed seed)) seed (start_state (begin_in (plan_of plan.now) (first_start plan.now.program.shape)) plan.now.script.batches) (map label_of r.1)) }
