@@ -68,7 +68,7 @@ feeds_none (b ∷ bs) h =
     zero true h n e = cc
     zero false h n e = omega arith
 
-left_behind : (xs ys : List ℕ) → left_over (xs ++ 10 ∷ ys) ≡ left_over (10 ∷ ys)
+pub left_behind : (xs ys : List ℕ) → left_over (xs ++ 10 ∷ ys) ≡ left_over (10 ∷ ys)
 left_behind [] ys = refl
 left_behind (x ∷ []) ys = refl
 left_behind (x ∷ z ∷ xs) ys = left_behind (z ∷ xs) ys
@@ -77,7 +77,7 @@ left_feed : (ys : List ℕ) → left_over (10 ∷ ys) ≡ left_over ys
 left_feed [] = refl
 left_feed (y ∷ ys) = refl
 
-line_more : (xs ys : List ℕ) → HasNone 10 xs → line_count (xs ++ 10 ∷ ys) ≡ 1 + line_count ys
+pub line_more : (xs ys : List ℕ) → HasNone 10 xs → line_count (xs ++ 10 ∷ ys) ≡ 1 + line_count ys
 line_more xs ys h =
     let feeds : count_by is_feed (xs ++ 10 ∷ ys) ≡ count_by is_feed xs + count_by is_feed (10 ∷ ys) = sum_by-append (λ x. cond (is_feed x) 1 0) xs (10 ∷ ys) in
     let one : count_by is_feed (10 ∷ ys) ≡ 1 + count_by is_feed ys = sum_by-cons (λ x. cond (is_feed x) 1 0) 10 ys in

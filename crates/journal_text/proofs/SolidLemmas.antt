@@ -24,7 +24,7 @@ use Rattle.journal_text.specs.Fits.{HasKeys, IsTicket, IsMail}
 use Rattle.journal_text.specs.LabelTexts.{ticket_text, mail_text}
 
 -- above the space
-abbrev is_solid : ℕ → Bool
+abbrev pub is_solid : ℕ → Bool
 is_solid b = nat_le 33 b
 
 abbrev pub IsSolid : List ℕ → Type 0
@@ -33,7 +33,7 @@ IsSolid bs = list_all is_solid bs ≡ true
 head_of : (p : ℕ → Bool) (b : ℕ) (bs : List ℕ) → list_all p (b ∷ bs) ≡ true → (p b ≡ true) × (list_all p bs ≡ true)
 head_of p b bs h = and_parts (p b) (list_all p bs) h
 
-all_imply : (p q : ℕ → Bool) → ((b : ℕ) → p b ≡ true → q b ≡ true) → (bs : List ℕ) → list_all p bs ≡ true → list_all q bs ≡ true
+pub all_imply : (p q : ℕ → Bool) → ((b : ℕ) → p b ≡ true → q b ≡ true) → (bs : List ℕ) → list_all p bs ≡ true → list_all q bs ≡ true
 all_imply p q f [] h = refl
 all_imply p q f (b ∷ bs) h =
     let k = head_of p b bs h in
@@ -84,7 +84,7 @@ digits_solid (b ∷ bs) h = all_imply is_ascii_digit is_solid digit_solid (b ∷
 minus_solid : (b : ℕ) → b == 45 ≡ true → is_solid b ≡ true
 minus_solid b h = grind (arith, nat_tests)
 
-whole_solid : (bs : List ℕ) → is_whole bs ≡ true → IsSolid bs
+pub whole_solid : (bs : List ℕ) → is_whole bs ≡ true → IsSolid bs
 whole_solid [] h = refl
 whole_solid (b ∷ bs) h =
     elim (b == 45) as (λ t. b == 45 ≡ t → is_digits (cond t bs (b ∷ bs)) ≡ true → IsSolid (b ∷ bs)) [
@@ -97,10 +97,10 @@ whole_solid (b ∷ bs) h =
 name_byte_solid : (b : ℕ) → is_name_byte b ≡ true → is_solid b ≡ true
 name_byte_solid b h = grind (arith, nat_tests)
 
-start_is_byte : (b : ℕ) → is_name_start b ≡ true → is_name_byte b ≡ true
+pub start_is_byte : (b : ℕ) → is_name_start b ≡ true → is_name_byte b ≡ true
 start_is_byte b h = grind (arith, nat_tests)
 
-word_solid : (w : List ℕ) → is_word w ≡ true → IsSolid w
+pub word_solid : (w : List ℕ) → is_word w ≡ true → IsSolid w
 word_solid [] h = refl
 word_solid (b ∷ bs) h =
     let k = and_parts (is_name_start b) (list_all is_name_byte bs) h in
@@ -118,7 +118,7 @@ steps_solid (s ∷ ss) h =
     let k = and_parts (is_step s) (list_all is_step ss) h in
     solid-append (step_text s) (steps_text ss) (step_solid s k.0) (steps_solid ss k.1)
 
-written_solid : (steps : List Written) → list_all is_step steps ≡ true → IsSolid (written_text steps)
+pub written_solid : (steps : List Written) → list_all is_step steps ≡ true → IsSolid (written_text steps)
 written_solid [] h = refl
 written_solid (s ∷ ss) h = steps_solid (s ∷ ss) h
 

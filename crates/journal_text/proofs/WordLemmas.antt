@@ -3,17 +3,24 @@ use Rattle.std.proofs.Common.{◌≡◌, ℕ, List, [], ◌∷◌, Option, Some,
 use Rattle.path_text.specs.inner.Fronts.{HasNone, IsSplit}
 use Rattle.path_text.proofs.FrontLemmas.{one_split, nowhere}
 use Rattle.journal_text.specs.LabelTexts.{spaced}
-use Rattle.journal_text.specs.inner.Parts.{ArePartsAt, IsWordOf}
+use Rattle.journal_text.specs.Splits.{ArePartsAt}
+use Rattle.journal_text.specs.inner.Parts.{IsWordOf}
 
 pub parts_split : (b : ℕ) (text front rest : List ℕ) → IsSplit b text front rest → ArePartsAt b text front rest
-parts_split b text front rest s f r none e = one_split b front rest f r s.first none (sym s.spelled ∙ e)
+parts_split b text front rest s = record {
+  cut = λ f r none e. one_split b front rest f r s.first none (sym s.spelled ∙ e);
+  whole = λ none. absurd (nowhere b front rest (subst (HasNone b) s.spelled none));
+}
 
 pub parts_none : (b : ℕ) (text : List ℕ) → HasNone b text → ArePartsAt b text text []
-parts_none b text h f r none e = absurd (nowhere b f r (subst (HasNone b) e h))
+parts_none b text h = record {
+  cut = λ f r none e. absurd (nowhere b f r (subst (HasNone b) e h));
+  whole = λ none. (refl, refl);
+}
 
 pub word_split : (text front rest : List ℕ) → IsSplit 32 text front rest → IsWordOf text front rest
 word_split text front rest s w [] none e = absurd (nowhere 32 front rest (subst (HasNone 32) (sym e ∙ s.spelled) none))
-word_split text front rest s w (v ∷ ws) none e = parts_split 32 text front rest s w (spaced (v ∷ ws)) none e
+word_split text front rest s w (v ∷ ws) none e = (parts_split 32 text front rest s).cut w (spaced (v ∷ ws)) none e
 
 pub word_none : (text : List ℕ) → HasNone 32 text → IsWordOf text text []
 word_none text h w [] none e = (e, refl)

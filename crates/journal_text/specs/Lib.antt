@@ -1,5 +1,6 @@
 pub mod Fits
 pub mod JournalTexts
 pub mod LabelTexts
+pub mod Splits
 pub mod Verdicts
 pub mod inner

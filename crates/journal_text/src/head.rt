@@ -30,7 +30,7 @@ fn feeds(text: &[u8]) -> usize
 }
 
 /// The number of lines of a text: what stands behind its last line feed is a line too.
-pub(crate) fn line_count(text: &[u8]) -> usize
+pub fn line_count(text: &[u8]) -> usize
     ensures { result ≡ line_count text.now }
 {
     feeds(text) + left_over(text)

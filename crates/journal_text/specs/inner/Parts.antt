@@ -15,10 +15,6 @@ use Rattle.journal_text.specs.Fits.{IsTicket, IsMail, HasKeys, HasPath, HasNumbe
 use Rattle.journal_text.specs.LabelTexts.{spaced, ticket_text, mail_text, act_words, line_text}
 use Rattle.journal_text.specs.inner.Verbs.{verb_in, operands}
 
--- the parts before and behind the first such byte
-abbrev pub ArePartsAt : ℕ → List ℕ → List ℕ → List ℕ → Type 0
-ArePartsAt b text front rest = (f r : List ℕ) → HasNone b f → text ≡ f ++ b ∷ r → (front ≡ f) × (rest ≡ r)
-
 -- the first word, and the words behind it
 abbrev pub IsWordOf : List ℕ → List ℕ → List ℕ → Type 0
 IsWordOf text word rest = (w : List ℕ) (ws : List (List ℕ)) → HasNone 32 w → text ≡ spaced (w ∷ ws) → (word ≡ w) × (rest ≡ spaced ws)

@@ -1,0 +1,55 @@
+ghost use Rattle.std.specs.Prelude.{◌≡◌, true, [], List, IfOk, IfErr};
+ghost use Rattle.wave_base.specs.Names.{HasNames};
+ghost use Rattle.wave_base.specs.Shapes.{IsShape};
+ghost use Rattle.wave_base.specs.declared.shot.Shot.{Shot};
+ghost use Rattle.snapshot_text.specs.Shots.{are_in_order, paths_of};
+ghost use Rattle.snapshot_text.specs.Verdicts.{IsLineOfNone};
+ghost use Rattle.snapshot_text.specs.inner.Tails.{IsNextLine, IsOnlyFault, IsRefusal};
+
+use crate::error::{Fault, ShotError, refused};
+use crate::form::form_of;
+use crate::order::comes_next;
+use crate::shot::shot_of;
+use path_text::resolve_steps;
+use std::alloc::Global;
+use wave_base::{OutOfMemory, Shape, Shot};
+
+// What is wrong with a line that is none of a shot.
+fn fault_of(alloc: Global, shape: &Shape, line: &[u8]) -> Result<Fault, OutOfMemory>
+    requires shape { IsShape shape.now }
+    requires none { IsLineOfNone shape.now line.now }
+    ensures { IfOk result (λ f. (before : List Shot) → IsOnlyFault shape.now before line.now f) }
+{
+    let Some(steps) = form_of(alloc, line)? else {
+        return Ok(Fault::Syntax);
+    };
+    match resolve_steps(shape, steps.as_slice()) {
+        Some(_) => Ok(Fault::Field),
+        None => Ok(Fault::Class),
+    }
+}
+
+/// The shot of the next line, or what is wrong with that line, which has this number.
+pub(crate) fn read_line(
+    alloc: Global,
+    shape: &Shape,
+    before: &[Shot],
+    number: u32,
+    line: &[u8],
+) -> Result<Shot, ShotError>
+    requires shape { IsShape shape.now }
+    requires names { HasNames shape.now }
+    requires order { are_in_order [] (paths_of before.now) ≡ true }
+    ensures ok { IfOk result (IsNextLine shape.now before.now line.now) }
+    ensures err { IfErr result (IsRefusal shape.now before.now line.now number) }
+{
+    let Some(shot) = shot_of(alloc, shape, line)? else {
+        let fault = fault_of(alloc, shape, line)?;
+        return Err(refused(fault, number));
+    };
+    if comes_next(before, &shot.path) {
+        Ok(shot)
+    } else {
+        Err(ShotError::Order { line: number })
+    }
+}

@@ -1,0 +1,80 @@
+ghost use Rattle.std.specs.Prelude.{◌≡◌, ◌≤◌, ◌++◌, ◌∷◌, [], length, OnOk, IfOk, IfSome, IfNone};
+ghost use Rattle.wave_base.specs.declared.limits.TheConstants.{PLACED_BYTES};
+ghost use Rattle.wave_base.specs.Names.{HasNames};
+ghost use Rattle.wave_base.specs.Shapes.{IsShape};
+ghost use Rattle.snapshot_text.specs.Verdicts.{HasNoHead, IsOnlyVerdict};
+ghost use Rattle.snapshot_text.specs.inner.Tails.{IsBehindHead, AreRead};
+
+use crate::error::ShotError;
+use crate::head::put_head;
+use crate::line::read_line;
+use journal_text::{line_count, split_at};
+use std::alloc::Global;
+use wave_base::{OutOfMemory, Seq, Shape, Shot};
+
+// What stands behind the head, where the text begins with one that tells the number of lines behind it.
+fn behind_head(alloc: Global, text: &[u8]) -> Result<Option<&[u8]>, OutOfMemory>
+    ensures some { IfOk result (λ o. IfSome o (λ rest. IsBehindHead text.now rest.now)) }
+    ensures none { IfOk result (λ o. IfNone o (HasNoHead text.now)) }
+{
+    let Some((head, rest)) = split_at(text, b'\n') else {
+        return Ok(None);
+    };
+    let mut written = Vec::new(alloc);
+    put_head(alloc, &mut written, line_count(rest) as u64)?;
+    if written.as_slice() == head {
+        Ok(Some(rest))
+    } else {
+        Ok(None)
+    }
+}
+
+// Appends a shot.
+fn add(shots: &mut Seq<Shot>, shot: Shot) -> Result<(), OutOfMemory>
+    ensures { OnOk result (shots.new ≡ shots.old ++ shot ∷ []) }
+{
+    match shots.push(shot) {
+        Ok(()) => Ok(()),
+        Err(_) => Err(OutOfMemory),
+    }
+}
+
+// The shots of the lines behind a head, or the first of these lines that has a fault.
+fn read_shots(alloc: Global, shape: &Shape, tail: &[u8]) -> Result<Seq<Shot>, ShotError>
+    requires shape { IsShape shape.now }
+    requires names { HasNames shape.now }
+    requires short { length tail.now ≤ PLACED_BYTES }
+    ensures { AreRead shape.now tail.now result }
+{
+    let mut shots = Seq::new(alloc);
+    let mut number = 1u32;
+    let mut rest = tail;
+    while !rest.is_empty() {
+        let Some((line, after)) = split_at(rest, b'\n') else {
+            return Err(ShotError::Syntax { line: number + 1 });
+        };
+        match read_line(alloc, shape, shots.as_slice(), number + 1, line) {
+            Ok(shot) => add(&mut shots, shot)?,
+            Err(error) => return Err(error),
+        }
+        rest = after;
+        number += 1;
+    }
+    Ok(shots)
+}
+
+/// The shots of a snapshot's text, or its first line that is not as it has to be.
+pub fn read_snapshot(alloc: Global, shape: &Shape, text: &[u8]) -> Result<Seq<Shot>, ShotError>
+    requires shape { IsShape shape.now }
+    requires names { HasNames shape.now }
+    requires short { length text.now ≤ PLACED_BYTES }
+    ensures { IsOnlyVerdict shape.now text.now result }
+{
+    let Some(tail) = behind_head(alloc, text)? else {
+        return Err(ShotError::Syntax { line: 1 });
+    };
+    if tail.is_empty() {
+        return Err(ShotError::Order { line: 1 });
+    }
+    read_shots(alloc, shape, tail)
+}

@@ -1,0 +1,117 @@
+ghost use Rattle.std.specs.Prelude.{◌≡◌, true, map, All, IfOk, IfSome, IfNone};
+ghost use Rattle.std.specs.List.{list_all};
+ghost use Rattle.wave_base.specs.Names.{HasNames, is_word};
+ghost use Rattle.wave_base.specs.Shapes.{IsShape, declared_fields, class_of};
+ghost use Rattle.wave_base.specs.Values.{kind_of};
+ghost use Rattle.snapshot_text.specs.Shots.{IsValue};
+ghost use Rattle.snapshot_text.specs.Verdicts.{IsLineOfNone};
+ghost use Rattle.snapshot_text.specs.inner.Guesses.{AreGoodFor, AreValuesOf, IsPathOf, IsPath, IsShotOf, IsOnlyLineOf};
+ghost use Rattle.snapshot_text.specs.Shots.{IsShot};
+
+use crate::value::value_of;
+use journal_text::parts_at;
+use path_text::{PathError, parse_path, put_shot};
+use std::alloc::Global;
+use wave_base::{Class, FieldInfo, OutOfMemory, Path, Seq, Shape, Shot, Value};
+
+// The values that fields are written with.
+fn values_of(
+    alloc: Global,
+    fields: &[FieldInfo],
+    text: &[u8],
+) -> Result<Option<Seq<Value>>, OutOfMemory>
+    requires { list_all is_word (map (λ f. f.name) fields.now) ≡ true }
+    ensures only { IfOk result (AreValuesOf fields.now text.now) }
+    ensures good { IfOk result (λ o. IfSome o (AreGoodFor fields.now)) }
+{
+    let mut values = Vec::new(alloc);
+    let mut rest = text;
+    for field in fields {
+        let (_, value) = parts_at(rest, b'=');
+        match value_of(alloc, field.kind, value) {
+            Ok(Some((value, after))) => {
+                values.push(value)?;
+                rest = after;
+            }
+            Ok(None) => return Ok(None),
+            Err(_) => return Err(OutOfMemory),
+        }
+    }
+    Ok(Some(Seq::from_vec(values)))
+}
+
+// The class of the context at a path.
+fn class_of(path: &Path) -> Class
+    ensures { result.0 ≡ class_of path.now }
+{
+    match path.as_slice().last() {
+        Some(step) => step.class,
+        None => Class(0),
+    }
+}
+
+fn declared_fields(shape: &Shape, class: Class) -> &[FieldInfo]
+    ensures { result.now ≡ declared_fields shape.now class.0 }
+{
+    match shape.classes.as_slice().get(usize::from(class.0)) {
+        Some(info) => info.fields.as_slice(),
+        None => &[],
+    }
+}
+
+// The path that a text is written for.
+fn path_of(alloc: Global, shape: &Shape, text: &[u8]) -> Result<Option<Path>, OutOfMemory>
+    requires shape { IsShape shape.now }
+    requires names { HasNames shape.now }
+    ensures only { IfOk result (IsPathOf shape.now text.now) }
+    ensures path { IfOk result (λ o. IfSome o (IsPath shape.now)) }
+{
+    match parse_path(alloc, shape, text) {
+        Ok(path) => Ok(Some(path)),
+        Err(PathError::Syntax) => Ok(None),
+        Err(PathError::UnknownClass) => Ok(None),
+        Err(PathError::OutOfMemory) => Err(OutOfMemory),
+    }
+}
+
+// The one shot that a line can be written for.
+fn shot_in(alloc: Global, shape: &Shape, line: &[u8]) -> Result<Option<Shot>, OutOfMemory>
+    requires shape { IsShape shape.now }
+    requires names { HasNames shape.now }
+    ensures only { IfOk result (IsShotOf shape.now line.now) }
+    ensures fits { IfOk result (λ o. IfSome o (IsShot shape.now)) }
+{
+    let (_, rest) = parts_at(line, b' ');
+    let (path, rest) = parts_at(rest, b' ');
+    let Some(path) = path_of(alloc, shape, path)? else {
+        return Ok(None);
+    };
+    let fields = declared_fields(shape, class_of(&path));
+    match values_of(alloc, fields, rest)? {
+        Some(fields) => Ok(Some(Shot { path, fields })),
+        None => Ok(None),
+    }
+}
+
+/// The shot of a line, where the line is written just so.
+pub(crate) fn shot_of(
+    alloc: Global,
+    shape: &Shape,
+    line: &[u8],
+) -> Result<Option<Shot>, OutOfMemory>
+    requires shape { IsShape shape.now }
+    requires names { HasNames shape.now }
+    ensures some { IfOk result (λ o. IfSome o (IsOnlyLineOf shape.now line.now)) }
+    ensures none { IfOk result (λ o. IfNone o (IsLineOfNone shape.now line.now)) }
+{
+    let Some(shot) = shot_in(alloc, shape, line)? else {
+        return Ok(None);
+    };
+    let mut written = Vec::new(alloc);
+    put_shot(alloc, &mut written, shape, &shot)?;
+    if written.as_slice() == line {
+        Ok(Some(shot))
+    } else {
+        Ok(None)
+    }
+}
