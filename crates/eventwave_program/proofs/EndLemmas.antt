@@ -1,15 +1,16 @@
 -- Where too much was read, one answer is due.
-use Rattle.std.proofs.Common.{◌≡◌, ◌≢◌, ◌⊎◌, inl, inr, ◌∙◌, ℕ, ◌<◌, true, false, IfSome, List, [], length, Option, None, Some, ap, arith, refl, sym, subst, length-append}
+use Rattle.std.proofs.Common.{◌≡◌, ◌≢◌, ◌⊎◌, inl, inr, ◌∙◌, ℕ, ◌<◌, Bool, true, false, IfSome, List, [], length, Option, None, Some, ap, arith, refl, sym, subst, length-append}
 use Rattle.std.specs.Prelude.{◌==◌}
 use Rattle.std.proofs.lemmas.Bool.Decides.{nat_tests}
-use Rattle.std.specs.Io.KnownBytes.{Consumes, Keeps}
+use Rattle.std.specs.Io.KnownBytes.{Appends, Consumes, Keeps}
+use Rattle.wave_io.specs.Causes.{Rose}
 use Rattle.wave_base.specs.declared.limits.TheConstants.{INPUT_BYTES}
 use Rattle.due_answer.specs.declared.answer.Answer.{Answer}
 use Rattle.command_words.specs.declared.command.Command.{Command}
 use Rattle.command_words.specs.Inputs.{reads_input}
-use Rattle.due_answer.specs.Due.{IsOnlyDue, too_large_input}
-use Rattle.eventwave_program.specs.Ends.{SomeDue, IsInput, IsInputWhere, IsLeft, IsLong, WritesFront, note_for}
-use Rattle.eventwave_program.specs.inner.Parts.{Ended, Gave, SomeInputDue, note_of, status_of}
+use Rattle.due_answer.specs.Due.{IsDue, IsOnlyDue, too_large_input}
+use Rattle.eventwave_program.specs.Ends.{Change, Ends, SomeDue, IsInput, IsInputWhere, IsLeft, IsLong, IsTold, IsToldWhere, ReadsAll, Told, WritesFront, is_given, note_for, read_by, reads_where}
+use Rattle.eventwave_program.specs.inner.Parts.{Did, Ended, Gave, ReadsDue, SomeInputDue, is_read_fault, note_of, status_of}
 use Rattle.eventwave_program.specs.declared.ending.Ending.{Ending}
 use Rattle.eventwave_program.specs.declared.ending.Ending.TheVariants.{WordsRefused, ReadFault, WriteFault, NoMemory, Answered}
 use Rattle.command_words.specs.Reading.{command_of}
@@ -76,7 +77,7 @@ module _ (words : List (List ℕ)) (left old new : Option (List ℕ)) where
   pub writes_nothing : (e : Ending) → Ended words left old new e → (status_of e ≡ 2) ⊎ (status_of e ≡ 5) → Keeps old new
   writes_nothing WordsRefused h e = h.1
   writes_nothing ReadFault h e = h.1
-  writes_nothing NoMemory h e = h
+  writes_nothing NoMemory h e = elim e [ inl x ↦ absurd (omega arith) | inr x ↦ absurd (omega arith) ]
   writes_nothing WriteFault h e = elim e [ inl x ↦ absurd (omega arith) | inr x ↦ absurd (omega arith) ]
   writes_nothing (Answered status note) h e =
       let own = answered words left old new status note h in
@@ -85,7 +86,7 @@ module _ (words : List (List ℕ)) (left old new : Option (List ℕ)) where
   pub writes_front : (e : Ending) → Ended words left old new e → (status_of e ≡ 6) ⊎ (status_of e ≡ 7) → WritesFront words left old new
   writes_front WordsRefused h e = inl h.1
   writes_front ReadFault h e = inl h.1
-  writes_front NoMemory h e = inl h
+  writes_front NoMemory h e = h
   writes_front WriteFault h e = inr h
   writes_front (Answered status note) h e =
       let own = answered words left old new status note h in
@@ -105,3 +106,99 @@ module _ (words : List (List ℕ)) (left old new : Option (List ℕ)) where
   tells_note WriteFault P h p = p
   tells_note NoMemory P h p = p
   tells_note (Answered status note) P h p = subst (λ o. IfSome o P) (sym (tells_none status (answered words left old new status note h))) tt
+
+-- ---- a whole call
+
+some_same : {X : Type 0} (x y : X) → Some x ≡ Some y → x ≡ y
+some_same x y e = cc
+
+known_bytes : (reads : Bool) (left : Option (List ℕ)) (told bytes : List ℕ) → IsToldWhere reads left told → IsInputWhere reads left bytes → bytes ≡ told
+known_bytes true left told bytes t i = sym (subst (λ l. IsLeft l bytes) t i)
+known_bytes false left told bytes t i = i ∙ sym t
+
+-- what is due is the answer that was given
+same_due : (words : List (List ℕ)) (left : Option (List ℕ)) (P : Answer → Type 0) (s : SomeDue words left P) (c : Command) (bytes : List ℕ) (due : Answer)
+    → command_of words ≡ Some c → IsTold c left bytes → IsDue c bytes due → due ≡ s.due
+same_due words left P s c bytes due accepted told is_due =
+    let same : s.command ≡ c = some_same s.command c (sym s.accepted ∙ accepted) in
+    let input : IsInput c left s.bytes = subst (λ k. IsInput k left s.bytes) same s.input in
+    let equal : s.bytes ≡ bytes = known_bytes (reads_input c) left bytes s.bytes told input in
+    let only : IsOnlyDue c bytes s.due = subst (λ b. IsOnlyDue c b s.due) equal (subst (λ k. IsOnlyDue k s.bytes s.due) same s.only) in
+    only.only due is_due
+
+sure_true : (b : Bool) → (b ≡ false → ⊥) → b ≡ true
+sure_true true h = refl
+sure_true false h = absurd (h refl)
+
+no_command : {X : Type 0} (words : List (List ℕ)) (c : Command) → command_of words ≡ Some c → command_of words ≡ None → X
+no_command words c some none = (let bad : Some c ≡ None = sym some ∙ none in absurd cc)
+
+module _ (words : List (List ℕ)) (input out : Change) where
+  wrong_words : (e : Ending) → Ended words input.bytes out.bytes out.bytes_now e → command_of words ≡ None → (status_of e ≡ 2) ⊎ (status_of e ≡ 7)
+  wrong_words WordsRefused h none = inl refl
+  wrong_words ReadFault h none = no_command words h.0.0 h.0.1 none
+  wrong_words WriteFault h none = no_command words h.command h.accepted none
+  wrong_words NoMemory h none = inr refl
+  wrong_words (Answered status note) h none = no_command words h.command h.accepted none
+
+  no_fault : (e : Ending) → Did words input out e → read_by words ≡ false → status_of e ≢ 5
+  no_fault e d unread = λ five.
+      let fault : e ≡ ReadFault = is_fault words input.bytes out.bytes out.bytes_now e d.ended five in
+      let bad : is_read_fault ReadFault ≡ false = subst (λ x. is_read_fault x ≡ false) fault (d.sure unread) in
+      cc
+
+  -- what ended with a read fault reads
+  reading : Did words input out ReadFault → (c : Command) → command_of words ≡ Some c → reads_input c ≡ true
+  reading d c accepted = sure_true (reads_input c) (λ unread.
+      let by : read_by words ≡ false = ap reads_where accepted ∙ unread in
+      let bad : is_read_fault ReadFault ≡ false = d.sure by in
+      cc)
+
+  read_whole : (e : Ending) → Did words input out e → is_given (status_of e) ≡ true → read_by words ≡ true → ReadsAll input.bytes input.bytes_now
+  read_whole WordsRefused d given reads = absurd cc
+  read_whole ReadFault d given reads = absurd cc
+  read_whole WriteFault d given reads = absurd cc
+  read_whole NoMemory d given reads = absurd cc
+  read_whole (Answered status note) d given reads = subst (λ b. ReadsDue b input.bytes input.bytes_now (Answered status note)) reads d.read
+
+  module _ (notes : Change) where
+    Noted : List ℕ → Type 0
+    Noted note = Told notes.faults notes.faults_now notes.bytes notes.bytes_now note
+
+    given_due : (e : Ending) → Did words input out e → Noted (note_of e) → is_given (status_of e) ≡ true
+        → SomeDue words input.bytes (λ due. (status_of e ≡ due.status) × Appends out.bytes out.bytes_now due.text × Noted due.note)
+    given_due WordsRefused d told given = absurd cc
+    given_due ReadFault d told given = absurd cc
+    given_due WriteFault d told given = absurd cc
+    given_due NoMemory d told given = absurd cc
+    given_due (Answered status note) d told given =
+        let s = d.ended in
+        record { command = s.command; accepted = s.accepted; bytes = s.bytes; input = s.input; due = s.due; only = s.only; holds = (s.holds.0, s.holds.2, subst Noted s.holds.1 told) }
+
+    due_given : (e : Ending) → Did words input out e → (c : Command) (bytes : List ℕ) (due : Answer) → command_of words ≡ Some c → IsTold c input.bytes bytes → IsDue c bytes due
+        → (reads_input c ≡ true → Rose input.faults input.faults_now → ⊥) → (Rose out.faults out.faults_now → ⊥)
+        → (status_of e ≡ 7) ⊎ ((status_of e ≡ due.status) × Appends out.bytes out.bytes_now due.text)
+    due_given WordsRefused d c bytes due accepted told is_due reads writes = no_command words c accepted d.ended.0
+    due_given ReadFault d c bytes due accepted told is_due reads writes = absurd (reads (reading d c accepted) (d.read_fault refl))
+    due_given WriteFault d c bytes due accepted told is_due reads writes = absurd (writes (d.write_fault refl))
+    due_given NoMemory d c bytes due accepted told is_due reads writes = inl refl
+    due_given (Answered status note) d c bytes due accepted told is_due reads writes =
+        let s = d.ended in
+        let same : due ≡ s.due = same_due words input.bytes (λ a. Gave a out.bytes out.bytes_now (Answered status note)) s c bytes due accepted told is_due in
+        inr (s.holds.0 ∙ ap (λ (a : Answer). a.status) (sym same), subst (λ (a : Answer). Appends out.bytes out.bytes_now a.text) (sym same) s.holds.2)
+
+    pub ends_of : (e : Ending) → Did words input out e → Noted (note_of e) → Ends words input out notes (status_of e)
+    ends_of e d told = record {
+      words = is_refused words input.bytes out.bytes out.bytes_now e d.ended;
+      wrong = wrong_words e d.ended;
+      unread = d.unread;
+      sure = no_fault e d;
+      read_fault = λ five. d.read_fault (is_fault words input.bytes out.bytes out.bytes_now e d.ended five);
+      write_fault = λ six. d.write_fault (is_write_fault words input.bytes out.bytes out.bytes_now e d.ended six);
+      given = given_due e d told;
+      end = read_whole e d;
+      nothing = writes_nothing words input.bytes out.bytes out.bytes_now e d.ended;
+      front = writes_front words input.bytes out.bytes out.bytes_now e d.ended;
+      noted = tells_note words input.bytes out.bytes out.bytes_now e Noted d.ended told;
+      complete = due_given e d;
+    }

@@ -1,5 +1,5 @@
 -- How a call ends: statuses, notes, and what was read and written.
-use Rattle.std.specs.Prelude.{◌≡◌, ℕ, ◌⊎◌, ◌==◌, ◌||◌, Bool, true, false, not, if◌then◌else◌, Option, Some, None, List, [], ◌∷◌, ◌++◌, codes, length, ◌<◌}
+use Rattle.std.specs.Prelude.{◌≡◌, ◌≢◌, ℕ, ◌⊎◌, ◌==◌, ◌||◌, Bool, true, false, not, if◌then◌else◌, Option, Some, None, IfSome, List, [], ◌∷◌, ◌++◌, codes, length, ◌<◌}
 use Rattle.std.specs.Io.KnownBytes.{Appends, Keeps, IsAtEnd}
 use Rattle.wave_base.specs.declared.limits.TheConstants.{INPUT_BYTES}
 use Rattle.wave_io.specs.Causes.{Rose}
@@ -8,7 +8,7 @@ use Rattle.due_answer.specs.declared.answer.Answer.{Answer}
 use Rattle.command_words.specs.declared.command.Command.{Command}
 use Rattle.command_words.specs.Inputs.{reads_input}
 use Rattle.command_words.specs.Reading.{command_of}
-use Rattle.due_answer.specs.Due.{IsOnlyDue}
+use Rattle.due_answer.specs.Due.{IsDue, IsOnlyDue}
 
 -- wrong words, a read fault, a write fault, want of memory
 abbrev pub note_for : ℕ → Option (List ℕ)
@@ -77,11 +77,56 @@ pub record IsLong (left : Option (List ℕ)) : Type 0 where
 abbrev pub ReadsAll : Option (List ℕ) → Option (List ℕ) → Type 0
 ReadsAll old new = IsLong old ⊎ IsAtEnd new
 
--- nothing was taken from the source
-pub record Unread (before now : ℕ) (old new : Option (List ℕ)) : Type 0 where
+-- nothing was done to a stream
+pub record Untouched (before now : ℕ) (old new : Option (List ℕ)) : Type 0 where
   pub kept : Keeps old new
   pub faults : now ≡ before
 
 -- nothing was written, or a front of what is due
 abbrev pub WritesFront : List (List ℕ) → Option (List ℕ) → Option (List ℕ) → Option (List ℕ) → Type 0
 WritesFront words left old new = Keeps old new ⊎ SomeDue words left (λ due. AppendsFront old new due.text)
+
+-- ---- a whole call
+
+-- What a call did to a stream: how often it had failed before and after, and the bytes that a source had left, or that were written
+-- on a sink, where they are told.
+pub record Change : Type 0 where
+  pub faults : ℕ
+  pub faults_now : ℕ
+  pub bytes : Option (List ℕ)
+  pub bytes_now : Option (List ℕ)
+
+abbrev pub change : ℕ → ℕ → Option (List ℕ) → Option (List ℕ) → Change
+change faults faults_now bytes bytes_now = record { faults = faults; faults_now = faults_now; bytes = bytes; bytes_now = bytes_now }
+
+abbrev pub IsUntouched : Change → Type 0
+IsUntouched c = Untouched c.faults c.faults_now c.bytes c.bytes_now
+
+-- There was no memory for the words: that is told, and nothing is read or written.
+pub record NoWords (input out notes : Change) (n : ℕ) : Type 0 where
+  pub status : n ≡ 7
+  pub input : IsUntouched input
+  pub out : IsUntouched out
+  pub told : Told notes.faults notes.faults_now notes.bytes notes.bytes_now (codes "OutOfMemory")
+
+-- What a status says of the words, and of what the call did to its source, to `out` and to the notes.
+pub record Ends (words : List (List ℕ)) (input out notes : Change) (n : ℕ) : Type 0 where
+  -- Wrong words, and no others; where these or the command read nothing, nothing is taken from the source.
+  pub words : n ≡ 2 → command_of words ≡ None
+  pub wrong : command_of words ≡ None → (n ≡ 2) ⊎ (n ≡ 7)
+  pub unread : read_by words ≡ false → IsUntouched input
+  pub sure : read_by words ≡ false → n ≢ 5
+  -- A fault of the source or of `out`.
+  pub read_fault : n ≡ 5 → Rose input.faults input.faults_now
+  pub write_fault : n ≡ 6 → Rose out.faults out.faults_now
+  -- Each other status but 7 is that of the one answer that is due, whose text and note were written.
+  pub given : is_given n ≡ true → SomeDue words input.bytes (λ due. (n ≡ due.status) × Appends out.bytes out.bytes_now due.text × Told notes.faults notes.faults_now notes.bytes notes.bytes_now due.note)
+  pub end : is_given n ≡ true → read_by words ≡ true → ReadsAll input.bytes input.bytes_now
+  -- What is written where no answer was given.
+  pub nothing : (n ≡ 2) ⊎ (n ≡ 5) → Keeps out.bytes out.bytes_now
+  pub front : (n ≡ 6) ⊎ (n ≡ 7) → WritesFront words input.bytes out.bytes out.bytes_now
+  pub noted : IfSome (note_for n) (Told notes.faults notes.faults_now notes.bytes notes.bytes_now)
+  -- What is due is given, unless memory, the source or `out` fails.
+  pub complete : (c : Command) (bytes : List ℕ) (due : Answer) → command_of words ≡ Some c → IsTold c input.bytes bytes → IsDue c bytes due
+      → (reads_input c ≡ true → Rose input.faults input.faults_now → ⊥) → (Rose out.faults out.faults_now → ⊥)
+      → (n ≡ 7) ⊎ ((n ≡ due.status) × Appends out.bytes out.bytes_now due.text)

@@ -1,7 +1,9 @@
 //! Runs a service: reads a service and a script from standard input, and writes what its events answer.
 #![tactic(auto)]
 
+mod alone;
 mod ending;
+mod giving;
 #[cfg(test)]
 mod tests;
 mod top;

@@ -1,6 +1,7 @@
 -- The parts of a call: what is due for an input, and how each part may end.
 use Rattle.std.specs.Prelude.{◌≡◌, ℕ, Bool, true, false, Option, Some, None, unwrap_or, List, []}
 use Rattle.std.specs.Io.KnownBytes.{Appends, Keeps}
+use Rattle.wave_io.specs.Causes.{Rose}
 use Rattle.wave_io.specs.Streams.{AppendsFront}
 use Rattle.command_words.specs.declared.command.Command.{Command}
 use Rattle.command_words.specs.Reading.{command_of}
@@ -8,7 +9,7 @@ use Rattle.due_answer.specs.declared.answer.Answer.{Answer}
 use Rattle.due_answer.specs.Due.{IsOnlyDue}
 use Rattle.eventwave_program.specs.declared.ending.Ending.{Ending}
 use Rattle.eventwave_program.specs.declared.ending.Ending.TheVariants.{WordsRefused, ReadFault, WriteFault, NoMemory, Answered}
-use Rattle.eventwave_program.specs.Ends.{note_for, IsInput, SomeDue, ReadsAll}
+use Rattle.eventwave_program.specs.Ends.{note_for, Change, IsInput, SomeDue, ReadsAll, IsUntouched, WritesFront, read_by}
 
 -- there are bytes of a command's input for which this answer alone is due
 pub record SomeInputDue (c : Command) (left : Option (List ℕ)) (due : Answer) : Type 0 where
@@ -32,15 +33,15 @@ note_of e = unwrap_or (note_for (status_of e)) []
 abbrev pub Gave : Answer → Option (List ℕ) → Option (List ℕ) → Ending → Type 0
 Gave due old new WriteFault = AppendsFront old new due.text
 Gave due old new (Answered status note) = (status ≡ due.status) × (note ≡ due.note) × Appends old new due.text
+Gave due old new NoMemory = AppendsFront old new due.text
 Gave due old new WordsRefused = ⊥
 Gave due old new ReadFault = ⊥
-Gave due old new NoMemory = ⊥
 
 -- how a call may end
 abbrev pub Ended : List (List ℕ) → Option (List ℕ) → Option (List ℕ) → Option (List ℕ) → Ending → Type 0
 Ended words left old new WordsRefused = (command_of words ≡ None) × Keeps old new
 Ended words left old new ReadFault = ((c : Command) × (command_of words ≡ Some c)) × Keeps old new
-Ended words left old new NoMemory = Keeps old new
+Ended words left old new NoMemory = WritesFront words left old new
 Ended words left old new WriteFault = SomeDue words left (λ due. Gave due old new WriteFault)
 Ended words left old new (Answered status note) = SomeDue words left (λ due. Gave due old new (Answered status note))
 
@@ -53,3 +54,12 @@ ReadsDue _ old new ending = Unit {0}
 abbrev pub is_read_fault : Ending → Bool
 is_read_fault ReadFault = true
 is_read_fault _ = false
+
+-- what an ending says of the words, and of what was done to the source and to `out`
+pub record Did (words : List (List ℕ)) (input out : Change) (e : Ending) : Type 0 where
+  pub ended : Ended words input.bytes out.bytes out.bytes_now e
+  pub read : ReadsDue (read_by words) input.bytes input.bytes_now e
+  pub read_fault : e ≡ ReadFault → Rose input.faults input.faults_now
+  pub write_fault : e ≡ WriteFault → Rose out.faults out.faults_now
+  pub unread : read_by words ≡ false → IsUntouched input
+  pub sure : read_by words ≡ false → is_read_fault e ≡ false

@@ -245,5 +245,6 @@ fn runs_by_the_top_call(rt: HostRuntime) -> Result<(), Fail> {
         &OpenGate,
     );
     assert_eq!(rt; status, 7);
+    assert_eq!(rt; notes.bytes(), b"OutOfMemory\n".as_slice());
     Ok(())
 }

@@ -1,6 +1,6 @@
 use Rattle.std.proofs.Common.{inl}
 use Rattle.eventwave_program.proofs.EndLemmas.{long_input, too_large_due}
-use Rattle.eventwave_program.proofs.top.judge_input.Goals as goal
+use Rattle.eventwave_program.proofs.alone.judge_input.Goals as goal
 
 pub returns-in-Ok-refused-clause-found : goal.returns-in-Ok-refused-clause-found
 returns-in-Ok-refused-clause-found g c =
