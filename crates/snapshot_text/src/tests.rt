@@ -68,6 +68,12 @@ fn stall_class(alloc: Global) -> Result<ClassInfo, OutOfMemory>
     class(alloc, b"Stall", Some(Class(1)), fields)
 }
 
+fn cell_class(alloc: Global) -> Result<ClassInfo, OutOfMemory>
+    ensures { IfOk result (λ c. c ≡ sample.cell_class) }
+{
+    class(alloc, b"Cell", Some(Class(0)), Vec::new(alloc))
+}
+
 // A root with a number, a Hall in it with a number, a Stall in that with one of each other kind, and a Cell with none.
 fn market_shape(alloc: Global) -> Result<Shape, OutOfMemory>
     ensures same { IfOk result (λ s. s ≡ sample.market_shape) }
@@ -78,7 +84,7 @@ fn market_shape(alloc: Global) -> Result<Shape, OutOfMemory>
     classes.push(market_class(alloc)?)?;
     classes.push(hall_class(alloc)?)?;
     classes.push(stall_class(alloc)?)?;
-    classes.push(class(alloc, b"Cell", Some(Class(0)), Vec::new(alloc))?)?;
+    classes.push(cell_class(alloc)?)?;
     Ok(Shape {
         classes: Seq::from_vec(classes),
         events: Seq::new(alloc),
