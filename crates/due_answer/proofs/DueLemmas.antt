@@ -31,7 +31,7 @@ use Rattle.due_answer.proofs.CodeLemmas.{only_coded, only_long}
 
 -- ---- a typed service
 
-of_read : (P : ServiceTree → Answer → Type 0) (text : List ℕ) (read : Result ServiceTree TextFault) (due : Answer) → IsOnlyParse text read → Only (IsDueOf P read) due → Only (IsDueService P text) due
+pub of_read : (P : ServiceTree → Answer → Type 0) (text : List ℕ) (read : Result ServiceTree TextFault) (due : Answer) → IsOnlyParse text read → Only (IsDueOf P read) due → Only (IsDueService P text) due
 of_read P text read due so o = record {
   is_due = record { read = read; parses = so.is_so; due_is = o.is_due };
   only = λ other h. o.only other (subst (λ r. IsDueOf P r other) (so.only h.read h.parses) h.due_is);
@@ -79,7 +79,7 @@ only_same x = record { is_due = refl; only = λ other h. h }
 same_results : (shape : Shape) (a b : Resolved) (script : Script) → resolved_view a ≡ resolved_view b → results_of shape a script ≡ results_of shape b script
 same_results shape a b script e = ap (λ calls. finished_of (λ tree call. (calls tree call).ran) shape (first_start shape) script) (same_calls a b e)
 
-only_fold : (report : Report) (tree : ServiceTree) (typed : Typed) (script : Script) → IsTypedTree tree typed → IsWhole typed.shape typed.resolved script →
+pub only_fold : (report : Report) (tree : ServiceTree) (typed : Typed) (script : Script) → IsTypedTree tree typed → IsWhole typed.shape typed.resolved script →
     Only (IsDueFold report tree script) (reported typed.shape report (results_of typed.shape typed.resolved script))
 only_fold report tree typed script t whole = record {
   is_due = record { service = typed.resolved; resolved = t.resolved_is; whole = subst (λ s. IsWhole s typed.resolved script) t.shape_is whole; due_is = ap (λ s. reported s report (results_of s typed.resolved script)) t.shape_is };
@@ -87,13 +87,7 @@ only_fold report tree typed script t whole = record {
       ∙ ap (λ s. reported s report (results_of s typed.resolved script)) (sym t.shape_is);
 }
 
--- what is told of a script
-pub folded_if : {E : Type 0} (report : Report) (tree : ServiceTree) (typed : Typed) (script : Script) (r : Result Answer E) → IsTypedTree tree typed → IfOk r (λ _. IsWhole typed.shape typed.resolved script) →
-    IfOk r (λ a. a ≡ reported typed.shape report (results_of typed.shape typed.resolved script)) → IfOk r (Only (IsDueFold report tree script))
-folded_if report tree typed script (Ok a) t whole e = subst (Only (IsDueFold report tree script)) (sym e) (only_fold report tree typed script t whole)
-folded_if report tree typed script (Err e) t whole is = tt
-
-only_short : (P : ServiceTree → Script → Answer → Type 0) (text : List ℕ) (tree : ServiceTree) (shape : Shape) (due : Answer) → length text ≤ SCRIPT_BYTES → shape ≡ shape_of tree →
+pub only_short : (P : ServiceTree → Script → Answer → Type 0) (text : List ℕ) (tree : ServiceTree) (shape : Shape) (due : Answer) → length text ≤ SCRIPT_BYTES → shape ≡ shape_of tree →
     Only (IsDueLines (P tree) shape text) due → Only (IsDueScript P text tree) due
 only_short P text tree shape due small e o = record { is_due = inr (small, so.is_due); only = others }
   where
@@ -104,17 +98,7 @@ only_short P text tree shape due small e o = record { is_due = inr (small, so.is
     others other (inl h) = let long = h.0 in absurd (omega arith)
     others other (inr h) = so.only other h.1
 
--- the lines of a script that isn't too long
-pub short_if : {E : Type 0} (P : ServiceTree → Script → Answer → Type 0) (text : List ℕ) (tree : ServiceTree) (shape : Shape) (r : Result Answer E) → length text ≤ SCRIPT_BYTES → shape ≡ shape_of tree →
-    IfOk r (Only (IsDueLines (P tree) shape text)) → IfOk r (Only (IsDueScript P text tree))
-short_if P text tree shape (Ok a) small e o = only_short P text tree shape a small e o
-short_if P text tree shape (Err x) small e o = tt
-
 -- ---- both, and the whole
-
-pub with_script : {E : Type 0} (P : ServiceTree → Script → Answer → Type 0) (text : List ℕ) (found : Option (List ℕ)) (script : List ℕ) (r : Result Answer E) → found ≡ Some script →
-    IfOk r (Only (IsDueService (IsDueScript P script) text)) → IfOk r (Only (IsDueBoth P text found))
-with_script P text found script r e o = subst (λ s. IfOk r (Only (IsDueBoth P text s))) (sym e) o
 
 -- bytes that are too many, and others
 pub sized_long : (P : List ℕ → Answer → Type 0) (bytes : List ℕ) → INPUT_BYTES < length bytes → Only (IsDueSized P bytes) too_large_input
@@ -124,7 +108,7 @@ sized_long P bytes long = record { is_due = inl (long, refl); only = others }
     others other (inl h) = h.1
     others other (inr h) = let small = h.0 in absurd (omega arith)
 
-sized_fine : (P : List ℕ → Answer → Type 0) (bytes : List ℕ) (due : Answer) → length bytes ≤ INPUT_BYTES → Only (P bytes) due → Only (IsDueSized P bytes) due
+pub sized_fine : (P : List ℕ → Answer → Type 0) (bytes : List ℕ) (due : Answer) → length bytes ≤ INPUT_BYTES → Only (P bytes) due → Only (IsDueSized P bytes) due
 sized_fine P bytes due small o = record { is_due = inr (small, o.is_due); only = others }
   where
     others : (other : Answer) → IsDueSized P bytes other → other ≡ due

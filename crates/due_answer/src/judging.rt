@@ -1,5 +1,6 @@
 ghost use Rattle.std.specs.Prelude.{◌≡◌, ◌≤◌, length, All, IfOk};
-ghost use Rattle.input_parts.specs.Parts.{service_of, script_of};
+ghost use Rattle.wave_base.specs.declared.limits.TheConstants.{INPUT_BYTES};
+ghost use Rattle.input_parts.specs.Parts.{service_of};
 ghost use Rattle.mace_ast.specs.Decls.{service_tree};
 ghost use Rattle.mace_printer.specs.Written.{IsParsed};
 ghost use Rattle.service_code.specs.Listing.{CanList, program_text};
@@ -7,9 +8,11 @@ ghost use Rattle.wave_gen.specs.Load.{load_text};
 ghost use Rattle.due_answer.specs.Due.{Only, IsDueScripted, IsDueService, IsDueSized, IsListedCode, IsOnlyDue, IsPrinted, approved, written};
 ghost use Rattle.due_answer.specs.declared.report.Report.{Report};
 
-use crate::answer::{Answer, refused, written};
+use crate::accepted::{Accepted, accept};
+use crate::answer::{Answer, written};
+use crate::engine::Engine;
 use crate::report::Report;
-use crate::script::judge_script;
+use crate::runs::run;
 use crate::service::{Judged, served};
 use command_words::Command;
 use input_parts::parts_of;
@@ -17,7 +20,7 @@ use mace_ast::Service;
 use mace_printer::print;
 use service_code::{Program, code_listing};
 use std::alloc::Global;
-use wave_base::{INPUT_BYTES, OutOfMemory, Seq};
+use wave_base::{OutOfMemory, Seq};
 use wave_gen::generate;
 
 /// What is due for a command and an input that is not too large; a command that reads none does not look at it.
@@ -26,8 +29,11 @@ pub fn judge(alloc: Global, command: Command, input: &[u8]) -> Result<Answer, Ou
     ensures { IfOk result (IsOnlyDue command input.now) }
 {
     match command {
-        Command::Run(places, _) | Command::Seq(places) => {
-            judge_both(alloc, Report::Listing(places), input)
+        Command::Run(places, crew) => {
+            judge_run(alloc, Engine::of_crew(crew), Report::Listing(places), input)
+        }
+        Command::Seq(places) => {
+            judge_run(alloc, Engine::Evaluator, Report::Listing(places), input)
         }
         Command::Check => judge_check(alloc, input),
         Command::Print => judge_print(alloc, input),
@@ -49,10 +55,7 @@ fn judge_load(alloc: Global, n: u64) -> Result<Answer, OutOfMemory>
     ensures { IfOk result (Only (IsDueSized (IsDueScripted Report.Summary) (load_text n))) }
 {
     let load = generate(alloc, n)?;
-    if load.len() > INPUT_BYTES {
-        return refused(alloc, 3, b"TooLarge input");
-    }
-    judge_both(alloc, Report::Summary, load.as_slice())
+    judge_run(alloc, Engine::Evaluator, Report::Summary, load.as_slice())
 }
 
 // What is due where a service is typed and nothing more is asked.
@@ -112,16 +115,17 @@ fn judge_code(alloc: Global, input: &[u8]) -> Result<Answer, OutOfMemory>
     }
 }
 
-// What is due for a service and a script, which has to be there.
-fn judge_both(alloc: Global, report: Report, input: &[u8]) -> Result<Answer, OutOfMemory>
-    ensures { IfOk result (Only (IsDueScripted report input.now)) }
+// What is due for a service and a script that are run by an engine.
+fn judge_run(
+    alloc: Global,
+    engine: Engine,
+    report: Report,
+    input: &[u8],
+) -> Result<Answer, OutOfMemory>
+    ensures { IfOk result (Only (IsDueSized (IsDueScripted report) input.now)) }
 {
-    let (text, script) = parts_of(input);
-    let Some(script) = script else {
-        return refused(alloc, 3, b"NoScript");
-    };
-    match served(alloc, text)? {
-        Judged::Typed(typed, _) => judge_script(alloc, report, &typed, script),
-        Judged::Refused(answer) => Ok(answer),
+    match accept(alloc, input)? {
+        Accepted::Ready(work) => run(alloc, engine, report, work),
+        Accepted::Refused(answer) => Ok(answer),
     }
 }

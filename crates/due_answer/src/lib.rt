@@ -1,14 +1,22 @@
 //! What is due for a command and an input: a status, a note, and a text to write.
 #![tactic(auto)]
 
+mod accepted;
 mod answer;
 mod code;
+mod engine;
 mod judging;
 mod report;
+mod runs;
 mod script;
 mod service;
 #[cfg(test)]
 mod tests;
+mod told;
+mod work;
 
+pub use accepted::{Accepted, accept};
 pub use answer::{Answer, refused};
 pub use judging::judge;
+pub use told::status_of;
+pub use work::Work;

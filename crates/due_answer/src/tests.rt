@@ -1,8 +1,9 @@
 //! What is told of services by `check`: each thing that is asked of one, and its limits at the number and one past it; of
-//! the lines of scripts; and of events that trap.
+//! the lines of scripts; of events that trap; and of what the machine runs.
 
 mod limits;
 mod rows;
+mod schedules;
 mod scripts;
 mod traps;
 

@@ -1,0 +1,90 @@
+-- From what is accepted of the parts of an input to what is accepted of the whole.
+use Rattle.std.proofs.Common.{◌≡◌, ◌≢◌, ℕ, ◌≤◌, ◌<◌, inl, inr, List, length, Option, Some, None, Result, Ok, Err, IfOk, refl, sym, subst, arith}
+use Rattle.wave_base.specs.declared.finished.Finished.{Finished}
+use Rattle.wave_base.specs.declared.limits.TheConstants.{SCRIPT_BYTES}
+use Rattle.wave_base.specs.declared.script.Script.{Script}
+use Rattle.wave_base.specs.declared.shape.Shape.{Shape}
+use Rattle.mace_ast.specs.Decls.{ServiceTree}
+use Rattle.context_types.specs.declared.Typed.{Typed}
+use Rattle.service_code.specs.declared.program.Program.{Program}
+use Rattle.service_reader.specs.declared.fault.TextFault.{TextFault}
+use Rattle.service_reader.specs.Parsing.{IsOnlyParse}
+use Rattle.script_reader.specs.declared.earlier.Earlier.{Earlier}
+use Rattle.script_reader.specs.declared.error.ScriptError.{ScriptError}
+use Rattle.script_reader.specs.declared.error.ScriptError.TheVariants as error
+use Rattle.script_reader.specs.Judged.{nothing_earlier}
+use Rattle.script_reader.specs.Scripts.{IsAnswer, IsScriptOf}
+use Rattle.due_answer.specs.declared.accepted.Accepted.{Accepted}
+use Rattle.due_answer.specs.declared.accepted.Accepted.TheVariants.{Refused, Ready}
+use Rattle.due_answer.specs.declared.answer.Answer.{Answer}
+use Rattle.due_answer.specs.declared.report.Report.{Report}
+use Rattle.due_answer.specs.declared.work.Work.{Work}
+use Rattle.due_answer.specs.Accepted.{IsAcceptedBy, IsReady, ran}
+use Rattle.due_answer.specs.Due.{Only, IsDueBoth, IsDueLines, IsDueRead, IsDueScript, IsDueService, IsDueTyped, no_script, reported, too_large_script}
+use Rattle.due_answer.specs.inner.Coded.{IsCoded}
+use Rattle.due_answer.specs.inner.Served.{IsRead, IsTypedRead, IsTypedTree}
+use Rattle.due_answer.proofs.CodeLemmas.{only_coded}
+use Rattle.due_answer.proofs.DueLemmas.{of_read, only_same}
+
+-- ---- what is accepted, from one to the other
+
+module _ (P Q : Report → Answer → Type 0) (lift : (report : Report) (due : Answer) → Only (P report) due → Only (Q report) due) where
+  pub accepted_as : (x : Accepted) → IsAcceptedBy P x → IsAcceptedBy Q x
+  accepted_as (Refused answer) h = λ report. lift report answer (h report)
+  accepted_as (Ready work) h = record {
+    can_run = h.can_run;
+    due = λ report done is. lift report (reported work.program.shape report done) (h.due report done is);
+  }
+
+  pub accepted_if : {E : Type 0} (r : Result Accepted E) → IfOk r (IsAcceptedBy P) → IfOk r (IsAcceptedBy Q)
+  accepted_if (Ok x) h = accepted_as x h
+  accepted_if (Err e) h = tt
+
+-- a refusal that was made
+pub refused_if : {E : Type 0} (P : Report → Answer → Type 0) (answer : Answer) (r : Result Accepted E) → IfOk r (λ x. x ≡ Refused answer) → ((report : Report) → Only (P report) answer) → IfOk r (IsAcceptedBy P)
+refused_if P answer (Ok x) is h = subst (IsAcceptedBy P) (sym is) h
+refused_if P answer (Err e) is h = tt
+
+-- what was run is told
+pub told_if : {E : Type 0} (P : Report → Answer → Type 0) (work : Work) (report : Report) (r : Result Answer E) → IsReady P work → IfOk r (λ a. a ≡ reported work.program.shape report (ran work)) → IfOk r (Only (P report))
+told_if P work report (Ok a) h is = subst (Only (P report)) (sym is) (h.due report (ran work) refl)
+told_if P work report (Err e) h is = tt
+
+-- ---- a service, and a script that is to be there
+
+module _ {E : Type 0} (P : Report → ServiceTree → Answer → Type 0) (text : List ℕ) (typed : Typed) (program : Program) (r : Result Accepted E) where
+  typed_as_read : (read : Result ServiceTree TextFault) → IsOnlyParse text read → IsTypedRead typed program read →
+      ((tree : ServiceTree) → IsTypedTree tree typed → IsCoded typed.shape typed.resolved program → IfOk r (IsAcceptedBy (λ report. P report tree))) → IfOk r (IsAcceptedBy (λ report. IsDueService (P report) text))
+  typed_as_read (Err e) parse is o = absurd is
+  typed_as_read (Ok tree) parse is o =
+      accepted_if (λ report. P report tree) (λ report. IsDueService (P report) text)
+      (λ report due one. of_read (P report) text (Ok tree) due parse (subst (λ w. Only (IsDueTyped (P report) tree w) due) (sym is.0.holds) (only_coded (P report) tree typed due is.0 is.1.short one)))
+      r (o tree is.0 is.1)
+
+  pub typed_accepted : IsRead text (IsTypedRead typed program) →
+      ((tree : ServiceTree) → IsTypedTree tree typed → IsCoded typed.shape typed.resolved program → IfOk r (IsAcceptedBy (λ report. P report tree))) → IfOk r (IsAcceptedBy (λ report. IsDueService (P report) text))
+  typed_accepted read o = typed_as_read read.read read.parse read.is_so o
+
+pub only_no_script : (P : ServiceTree → Script → Answer → Type 0) (text : List ℕ) (found : Option (List ℕ)) → found ≡ None → Only (IsDueBoth P text found) no_script
+only_no_script P text found is = subst (λ o. Only (IsDueBoth P text o) no_script) (sym is) (only_same no_script)
+
+-- ---- the text of a script
+
+pub only_long : (P : ServiceTree → Script → Answer → Type 0) (text : List ℕ) (tree : ServiceTree) → SCRIPT_BYTES < length text → Only (IsDueScript P text tree) too_large_script
+only_long P text tree long = record { is_due = inl (long, refl); only = others }
+  where
+    others : (other : Answer) → IsDueScript P text tree other → other ≡ too_large_script
+    others other (inl h) = h.1
+    others other (inr h) = let small = h.0 in absurd (omega arith)
+
+module _ (P : Script → Answer → Type 0) (shape : Shape) (text : List ℕ) where
+  pub only_read : (read : Result Script ScriptError) (due : Answer) → IsScriptOf shape nothing_earlier text read → Only (IsDueRead P read) due → Only (IsDueLines P shape text) due
+  only_read read due so o = record {
+    is_due = record { read = read; reads = so.read; due_is = o.is_due };
+    only = λ other h. o.only other (subst (λ r. IsDueRead P r other) (so.only h.read h.reads) h.due_is);
+  }
+
+-- a fault that is told is the text's
+pub told_fault : (shape : Shape) (earlier : Earlier) (text : List ℕ) (e : ScriptError) → e ≢ error.OutOfMemory → IsAnswer shape earlier text (Err e) → IsScriptOf shape earlier text (Err e)
+told_fault shape earlier text error.OutOfMemory told h = absurd (told refl)
+told_fault shape earlier text e told h = h
