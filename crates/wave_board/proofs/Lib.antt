@@ -1,0 +1,8 @@
+pub mod Standing
+pub mod Staying
+pub mod Idle
+pub mod Choosing
+pub mod Leased
+pub mod Telling
+pub mod Turning
+pub mod Trying

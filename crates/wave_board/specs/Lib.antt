@@ -1,0 +1,6 @@
+pub mod Boards
+pub mod Taking
+pub mod Giving
+pub mod Fresh
+pub mod Staying
+pub mod inner

@@ -1,0 +1,37 @@
+//! What is given back to a board.
+
+ghost use Rattle.std.specs.Prelude.{◌≡◌, IfErr, OnErr, OnOk};
+ghost use Rattle.wave_board.specs.Boards.{StandsStill, history_of};
+ghost use Rattle.wave_board.specs.Giving.{CanGive, Gives, IsGiven};
+
+use crate::board::Board;
+use wave_base::{OutOfMemory, Pause};
+use wave_machine::{Lease, Refused};
+
+impl<'p> Board<'p> {
+    /// Takes the Stop of a segment that is out: lease and pause are what one segment gave on what the lease's worker has in its hand.
+    /// After want of memory they come back as they were, and the board is as before.
+    pub fn give(&mut self, lease: Lease, pause: Pause) -> Result<(), Refused>
+        requires { CanGive self.old lease pause }
+        ensures stands { OnOk result (Gives self.old lease pause self.new) }
+        ensures given { OnOk result (IsGiven self.old self.new lease) }
+        ensures refused { IfErr result (λ r. (r.lease ≡ lease) × (r.pause ≡ pause)) }
+        ensures still { OnErr result (StandsStill self.old self.new) }
+        ensures same { OnErr result (history_of self.new ≡ history_of self.old) }
+    {
+        if self.journal.reserve(1).is_err() {
+            return Err(Refused {
+                lease,
+                pause,
+                error: OutOfMemory,
+            });
+        }
+        match self.machine.stop(lease, pause) {
+            Ok(label) => {
+                self.journal.push_reserved(label);
+                Ok(())
+            }
+            Err(refused) => Err(refused),
+        }
+    }
+}

@@ -1,0 +1,19 @@
+//! The machine under the lock: a board keeps a machine, the journal of its labels, and the word that stops its workers.
+#![tactic(auto)]
+
+mod board;
+mod giving;
+mod known;
+mod laws;
+mod origin;
+mod parts;
+mod showing;
+mod taking;
+mod trail;
+mod work;
+
+pub use board::{Board, StopWord};
+pub use laws::{finished_stays, leases_stay, results_stay};
+pub use origin::Origin;
+pub use trail::{StopCause, Trail};
+pub use work::Work;

@@ -1,0 +1,9 @@
+use wave_base::Start;
+use wave_machine::Plan;
+
+/// What a board stands for: the run of a plan that begins as a Start says. It is the name of the board's lock.
+#[derive(Clone, Copy)]
+pub struct Origin<'p> {
+    pub plan: &'p Plan,
+    pub start: &'p Start,
+}

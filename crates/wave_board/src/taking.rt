@@ -1,0 +1,120 @@
+//! Work from a board.
+
+ghost use Rattle.std.specs.Prelude.{◌≡◌, ◌<◌, length, true, false, None, IfOk, OnErr};
+ghost use Rattle.wave_machine.specs.Prepared.{is_start, is_step};
+ghost use Rattle.wave_board.specs.Boards.{IsStanding, StandsStill, history_of};
+ghost use Rattle.wave_board.specs.Taking.{MayTake, Took};
+ghost use Rattle.wave_board.specs.inner.Doing.{Appends, CanAppend, Chooses};
+
+use crate::board::Board;
+use crate::known::{idle_hands_are_empty, lists_are_known};
+use crate::work::Work;
+use wave_base::{Copied, OutOfMemory, Worker};
+use wave_labels::{Act, Label};
+
+impl<'p> Board<'p> {
+    /// Takes a label of this worker, where there is one. After want of memory the board is as before.
+    pub fn take(&mut self, worker: Worker) -> Result<Work, OutOfMemory>
+        requires stands { IsStanding self.old }
+        requires may { MayTake self.old worker }
+        ensures stands { StandsStill self.old self.new }
+        ensures took { IfOk result (λ work. Took self.old worker self.new work) }
+        ensures same { OnErr result (history_of self.new ≡ history_of self.old) }
+    {
+        match self.word {
+            Some(word) => Ok(Work::Stopped(word.why)),
+            None => self.go_on(worker),
+        }
+    }
+
+    // The same, where the workers were not stopped.
+    fn go_on(&mut self, worker: Worker) -> Result<Work, OutOfMemory>
+        requires stands { IsStanding self.old }
+        requires may { MayTake self.old worker }
+        requires goes_on { self.old.word ≡ None }
+        ensures stands { StandsStill self.old self.new }
+        ensures took { IfOk result (λ work. Took self.old worker self.new work) }
+        ensures same { OnErr result (history_of self.new ≡ history_of self.old) }
+    {
+        if self.machine.finished() {
+            return Ok(Work::Finished);
+        }
+        let choice = self.choice(worker)?;
+        match choice {
+            None => Ok(Work::Nothing),
+            Some(label) => self.append(label),
+        }
+    }
+
+    // What this worker takes next, where it can take something.
+    fn choice(&self, worker: Worker) -> Result<Option<Label>, OutOfMemory>
+        requires stands { IsStanding self.now }
+        requires may { MayTake self.now worker }
+        ensures { IfOk result (Chooses self.now worker) }
+    {
+        idle_hands_are_empty();
+        lists_are_known();
+        let labels = self.machine.enabled_for(worker)?;
+        let labels = labels.as_slice();
+        if labels.is_empty() {
+            return Ok(None);
+        }
+        Ok(Some(labels[choose(labels)]))
+    }
+
+    // Takes a label: all that wants memory comes first.
+    fn append(&mut self, label: Label) -> Result<Work, OutOfMemory>
+        requires can { CanAppend self.old label }
+        requires kind { is_start label.act ≡ false → is_step label.act ≡ true }
+        ensures stands { StandsStill self.old self.new }
+        ensures took { IfOk result (λ work. Appends self.old label self.new work) }
+        ensures same { OnErr result (history_of self.new ≡ history_of self.old) }
+    {
+        let written = label.copied(self.alloc)?;
+        self.journal.reserve(1)?;
+        self.machine.reserve(&label)?;
+        if is_start(&label.act) {
+            let lease = self.machine.start(&label);
+            self.journal.push_reserved(written);
+            return Ok(Work::Segment(lease));
+        }
+        self.machine.step(&label);
+        self.journal.push_reserved(written);
+        Ok(Work::Stepped(label))
+    }
+}
+
+fn is_start(act: &Act) -> bool
+    ensures { result ≡ is_start act.now }
+{
+    matches!(act, Act::Start(_, _))
+}
+
+// Which of several labels is taken is ours, and no clause rests on it: first what ends things, so that little is under way; then the first
+// Start, which is that of the least ticket; and Admit last.
+fn choose(labels: &[Label]) -> usize
+    requires { 0 < length labels.now }
+    ensures { result < length labels.now }
+{
+    let mut best = 0;
+    for i in 1..labels.len() {
+        if rank(&labels[i].act) < rank(&labels[best].act) {
+            best = i;
+        }
+    }
+    best
+}
+
+fn rank(act: &Act) -> u8 {
+    match act {
+        Act::Commit(_) => 0,
+        Act::Free(..) => 1,
+        Act::Land(..) => 2,
+        Act::Pass(..) => 3,
+        Act::Visit(..) => 4,
+        Act::Grant(..) => 5,
+        Act::Queue(..) => 6,
+        Act::Start(..) | Act::Stop(..) => 7,
+        Act::Admit(_) => 8,
+    }
+}
