@@ -162,7 +162,7 @@ module _ (words : List (List ℕ)) (input out : Change) where
   read_whole (Answered status note) d given reads = subst (λ b. ReadsDue b input.bytes input.bytes_now (Answered status note)) reads d.read
 
   module _ (notes : Change) where
-    Noted : List ℕ → Type 0
+    abbrev pub Noted : List ℕ → Type 0
     Noted note = Told notes.faults notes.faults_now notes.bytes notes.bytes_now note
 
     given_due : (e : Ending) → Did words input out e → Noted (note_of e) → is_given (status_of e) ≡ true
@@ -189,7 +189,7 @@ module _ (words : List (List ℕ)) (input out : Change) where
 
     pub ends_of : (e : Ending) → Did words input out e → Noted (note_of e) → Ends words input out notes (status_of e)
     ends_of e d told = record {
-      words = is_refused words input.bytes out.bytes out.bytes_now e d.ended;
+      refused = is_refused words input.bytes out.bytes out.bytes_now e d.ended;
       wrong = wrong_words e d.ended;
       unread = d.unread;
       sure = no_fault e d;

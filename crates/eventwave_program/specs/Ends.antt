@@ -105,14 +105,14 @@ IsUntouched c = Untouched c.faults c.faults_now c.bytes c.bytes_now
 -- There was no memory for the words: that is told, and nothing is read or written.
 pub record NoWords (input out notes : Change) (n : ℕ) : Type 0 where
   pub status : n ≡ 7
-  pub input : IsUntouched input
-  pub out : IsUntouched out
+  pub unread : IsUntouched input
+  pub unwritten : IsUntouched out
   pub told : Told notes.faults notes.faults_now notes.bytes notes.bytes_now (codes "OutOfMemory")
 
 -- What a status says of the words, and of what the call did to its source, to `out` and to the notes.
 pub record Ends (words : List (List ℕ)) (input out notes : Change) (n : ℕ) : Type 0 where
   -- Wrong words, and no others; where these or the command read nothing, nothing is taken from the source.
-  pub words : n ≡ 2 → command_of words ≡ None
+  pub refused : n ≡ 2 → command_of words ≡ None
   pub wrong : command_of words ≡ None → (n ≡ 2) ⊎ (n ≡ 7)
   pub unread : read_by words ≡ false → IsUntouched input
   pub sure : read_by words ≡ false → n ≢ 5
