@@ -1,8 +1,10 @@
+//! Notes under the lock: what comes back of it and when a nap ends, call by call.
+
 ghost use Rattle.std.specs.Prelude.{◌≡◌, ◌++◌, ◌∷◌, [], MatchResult};
 ghost use Rattle.kept_lock.specs.Locks.{known, IsPassOf};
 
-use crate::cross::{sent_lock, sent_pass, shared_lock};
-use crate::{Attempt, Kept, KeptLock, Pass, passes_share_one_history};
+use super::cross::{sent_lock, sent_pass, shared_lock};
+use kept_lock::{Attempt, Kept, KeptLock, Pass, passes_share_one_history};
 use std::alloc::{AllocError, Global};
 use std::sync::Wait;
 use std::test::Fail;
@@ -203,13 +205,16 @@ fn a_visit_gives_what_its_work_gives(rt: HostRuntime) -> Result<(), Fail> {
 #[test]
 fn locks_and_passes_cross_threads(rt: HostRuntime) -> Result<(), Fail> {
     passes_share_one_history::<Notes>();
-    let Ok((lock, pass)) = KeptLock::new(rt.alloc(), 6, Notes::new(rt.alloc(), 6)) else {
+    let Ok((lock, mut first)) = KeptLock::new(rt.alloc(), 6, Notes::new(rt.alloc(), 6)) else {
         return Err("memory".into());
     };
+    let second = lock.split(&mut first);
     let lock = sent_lock(&rt, lock);
-    assert_eq!(rt; shared_lock(&rt, &lock), (0, 0));
-    drop(sent_pass(&rt, pass));
-    drop(lock);
+    let (first, second) = shared_lock(&rt, &lock, first, second);
+    let mut pass = sent_pass(&rt, first);
+    assert_eq!(rt; look(&rt, &lock, &mut pass), (6, 0));
+    drop(second);
+    assert_eq!(rt; lock.close(&rt, pass).title, 6);
     Ok(())
 }
 
