@@ -1,10 +1,8 @@
 // That a lock may be sent and shared, and a pass sent, wherever its value may be sent, and its name sent and shared.
 // It is shown here once, for every value: a proof of it that is missing would else show only at the first use above.
 ghost use Rattle.std.specs.Prelude.{◌≡◌};
-ghost use Rattle.kept_lock.specs.Locks.{IsPassOf};
 
 use kept_lock::{Kept, KeptLock, Pass};
-use std::sync::Wait;
 use std::thread::{Threads, join};
 
 // A pass goes to another thread and comes back.
@@ -39,38 +37,22 @@ where
     .0
 }
 
-// Two threads share a lock: each goes in by a pass of its own, and out again.
-pub(crate) fn shared_lock<V: Kept + Send + Drop, R: Threads + Wait + Sync>(
+// Two threads share a lock.
+pub(crate) fn shared_lock<'a, V: Kept + Send, R: Threads>(
     rt: &R,
-    lock: &KeptLock<V>,
-    one: Pass<V>,
-    other: Pass<V>,
-) -> (Pass<V>, Pass<V>)
+    lock: &'a KeptLock<V>,
+) -> (&'a KeptLock<V>, &'a KeptLock<V>)
 where
     V::Name: Send + Sync,
-    requires one { IsPassOf lock.now one }
-    requires other { IsPassOf lock.now other }
-    ensures one { IsPassOf lock.now result.0 }
-    ensures other { IsPassOf lock.now result.1 }
+    ensures { (result.0.now ≡ lock.now) × (result.1.now ≡ lock.now) }
 {
     join(
         rt,
         move ||
-            requires { IsPassOf lock.now one }
-            ensures { IsPassOf lock.now result }
-        { in_and_out(rt, lock, one) },
+            ensures { result.now ≡ lock.entry.now }
+        { lock },
         move ||
-            requires { IsPassOf lock.now other }
-            ensures { IsPassOf lock.now result }
-        { in_and_out(rt, lock, other) },
+            ensures { result.now ≡ lock.entry.now }
+        { lock },
     )
-}
-
-fn in_and_out<V: Kept, R: Wait>(rt: &R, lock: &KeptLock<V>, mut pass: Pass<V>) -> Pass<V>
-    requires { IsPassOf lock.now pass }
-    ensures { IsPassOf lock.now result }
-{
-    let guard = lock.enter(rt, &mut pass);
-    guard.leave_unchanged();
-    pass
 }
