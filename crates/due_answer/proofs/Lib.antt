@@ -5,4 +5,5 @@ pub mod AcceptLemmas
 pub mod RunLemmas
 pub mod PathLemmas
 pub mod WorkLemmas
+pub mod TraceLemmas
 pub mod StatusLemmas
