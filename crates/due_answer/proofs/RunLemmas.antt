@@ -7,6 +7,8 @@ use Rattle.wave_base.specs.declared.outcome.EventResult.{EventResult}
 use Rattle.wave_base.specs.declared.script.Line.{Line}
 use Rattle.wave_base.specs.declared.start.Start.{Start}
 use Rattle.wave_base.specs.Starts.{first_start}
+use Rattle.context_tree.proofs.FitLemmas as trees
+use Rattle.script_fold.proofs.StartLemmas.{first_fits}
 use Rattle.command_words.specs.declared.command.Crew.{Crew}
 use Rattle.command_words.specs.declared.command.Schedule.{Schedule}
 use Rattle.wave_states.specs.Begins.{start_state}
@@ -24,6 +26,7 @@ use Rattle.wave_machine.specs.declared.rules.PickRule.{PickRule}
 use Rattle.wave_machine.specs.declared.rules.PickRule.TheVariants as rule
 use Rattle.wave_machine.specs.Kinds.{is_move, kind_of}
 use Rattle.wave_machine.specs.Rules.{number_of, rule_of}
+use Rattle.due_answer.specs.Accepted.{HasCode}
 use Rattle.due_answer.specs.Runs.{IsDriveBy, IsFinishedRun, IsRunBy, IsRunOf, nearest_workers, rule_by}
 
 -- ---- the label of a program for each label of the theory
@@ -73,6 +76,11 @@ some_nearest n = le-min (le-max_right n 1) (omega arith)
 
 pub few_nearest : (n : ℕ) → nearest_workers n ≤ WORKERS
 few_nearest n = min-le_right (max n 1) WORKERS
+
+-- ---- where a run begins
+
+pub first_begins : (plan : Plan) → HasCode plan → FitsStart plan (first_start plan.program.shape)
+first_begins plan has = first_fits plan.program.shape plan.script.hosts (trees.first_fits plan.program.shape has.code.typed.shape_is) has.fits.script.some_host
 
 -- ---- drives
 

@@ -13,7 +13,7 @@ use Rattle.wave_states.specs.Labels as theory
 use Rattle.wave_states.specs.Runs.{IsDrive}
 use Rattle.plan_actors.specs.Calls.{code_ran}
 use Rattle.plan_actors.specs.PlanActors.{plan_actors}
-use Rattle.plan_actors.specs.Plans.{Plan, FitsStart, begin_in}
+use Rattle.plan_actors.specs.Plans.{Plan, begin_in}
 use Rattle.wave_labels.specs.declared.label.Label.{Label}
 use Rattle.wave_labels.specs.Labels.{label_of}
 use Rattle.wave_machine.specs.declared.rules.PickRule.{PickRule}
@@ -21,10 +21,10 @@ use Rattle.wave_machine.specs.Rules.{number_of, rule_of}
 use Rattle.due_answer.specs.declared.answer.Answer.{Answer}
 use Rattle.due_answer.specs.declared.report.Report.TheVariants.{Listing}
 use Rattle.due_answer.specs.declared.work.Work.{Work}
-use Rattle.due_answer.specs.Accepted.{CanRun, HasCode, IsTraced, plan_with}
+use Rattle.due_answer.specs.Accepted.{HasCode, IsTraced, plan_with, ran}
 use Rattle.due_answer.specs.Due.{reported, with_text}
 use Rattle.due_answer.specs.Runs.{IsDriveBy, IsFinishedRun, IsRunOf, nearest_workers, rule_by}
-use Rattle.due_answer.proofs.RunLemmas.{PlansDrive, TheRulesPick, drive_finished, drive_of}
+use Rattle.due_answer.proofs.RunLemmas.{PlansDrive, TheRulesPick, drive_finished, drive_of, first_begins}
 
 -- the plan of what is accepted
 pub record IsPlanOf (work : Work) (workers : ℕ) (plan : Plan) : Type 0 where
@@ -33,12 +33,8 @@ pub record IsPlanOf (work : Work) (workers : ℕ) (plan : Plan) : Type 0 where
   pub workers : plan.workers ≡ nearest_workers workers
   pub code : HasCode plan
 
-module _ (work : Work) (can : CanRun work) (workers : ℕ) (plan : Plan) (of : IsPlanOf work workers plan) where
-  pub same_plan : plan ≡ plan_with work (nearest_workers workers)
-  same_plan = λ i. record { program = of.program i; script = of.script i; workers = of.workers i }
-
-  pub begins : FitsStart plan (first_start plan.program.shape)
-  begins = subst (λ (p : Plan). FitsStart p (first_start p.program.shape)) (sym same_plan) (can.begins (nearest_workers workers))
+same_plan : (work : Work) (workers : ℕ) (plan : Plan) → IsPlanOf work workers plan → plan ≡ plan_with work (nearest_workers workers)
+same_plan work workers plan of = λ i. record { program = of.program i; script = of.script i; workers = of.workers i }
 
 -- what was driven from the first Start
 pub driven_by : (plan : Plan) (start : Start) (rule : PickRule) (labels : List theory.Label) → start ≡ first_start plan.program.shape
@@ -46,12 +42,12 @@ pub driven_by : (plan : Plan) (start : Start) (rule : PickRule) (labels : List t
 driven_by plan start rule labels first is =
     subst (λ (s : Start). IsDrive (plan_actors plan.program) plan.workers plan.script.hosts (rule_of rule) (number_of rule) (start_state (begin_in plan s) plan.script.batches) labels) first is
 
-module _ (rules : TheRulesPick) (drives : PlansDrive) (work : Work) (can : CanRun work) (crew : Crew) (plan : Plan) (of : IsPlanOf work crew.workers plan) (rule : PickRule) (journal : List Label) (is : IsDriveBy rule plan (map label_of journal)) where
+module _ (rules : TheRulesPick) (drives : PlansDrive) (work : Work) (crew : Crew) (plan : Plan) (of : IsPlanOf work crew.workers plan) (rule : PickRule) (journal : List Label) (is : IsDriveBy rule plan (map label_of journal)) where
   pub finished : IsFinishedRun plan (map label_of journal)
-  finished = drive_finished rules drives plan of.code.fits (begins work can crew.workers plan of) rule (map label_of journal) is
+  finished = drive_finished rules drives plan of.code.fits (first_begins plan of.code) rule (map label_of journal) is
 
   run : ((schedule : Schedule) → crew.schedule ≡ Some schedule → rule ≡ rule_by schedule) → IsRunOf crew (plan_with work (nearest_workers crew.workers)) (map label_of journal)
-  run by = subst (λ (p : Plan). IsRunOf crew p (map label_of journal)) (same_plan work can crew.workers plan of) (drive_of rules drives plan of.code.fits (begins work can crew.workers plan of) crew rule (map label_of journal) by is)
+  run by = subst (λ (p : Plan). IsRunOf crew p (map label_of journal)) (same_plan work crew.workers plan of) (drive_of rules drives plan of.code.fits (first_begins plan of.code) crew rule (map label_of journal) by is)
 
   -- the listing with the journal's text behind it
   pub traced : {E : Type 0} (places : Places) (done : Finished) (told : Answer) (text : List ℕ) (r : Result Answer E) → ((schedule : Schedule) → crew.schedule ≡ Some schedule → rule ≡ rule_by schedule)
@@ -62,6 +58,10 @@ module _ (rules : TheRulesPick) (drives : PlansDrive) (work : Work) (can : CanRu
     run = run by;
     is =
         is_told ∙ ap (with_text told) spelled.spelled ∙ ap (λ t. with_text t (journal_text plan.program.shape journal)) (told_is ∙ ap (reported plan.program.shape (Listing places)) done_is)
-        ∙ ap (λ (p : Plan). with_text (reported p.program.shape (Listing places) (finished_of (code_ran p.program) p.program.shape (first_start p.program.shape) p.script)) (journal_text p.program.shape journal)) (same_plan work can crew.workers plan of);
+        ∙ ap (λ (p : Plan). with_text (reported p.program.shape (Listing places) (finished_of (code_ran p.program) p.program.shape (first_start p.program.shape) p.script)) (journal_text p.program.shape journal)) (same_plan work crew.workers plan of);
   }
   traced places done told text (Err e) by done_is told_is spelled is_told = tt
+
+-- what a plan's script gives is what that of what was accepted gives
+pub same_ran : (work : Work) (plan : Plan) → plan.program ≡ work.program → plan.script ≡ work.script → finished_of (code_ran plan.program) plan.program.shape (first_start plan.program.shape) plan.script ≡ ran work
+same_ran work plan p s = λ i. finished_of (code_ran (p i)) (p i).shape (first_start (p i).shape) (s i)
