@@ -39,4 +39,4 @@ returns c =
     let told_is = c.in_ok-told.ensures ∙ ap (λ (p : Program). reported p.shape (Listing c.args.places) c.in_ok-done.done) c.program.ensures.program in
     traced c.rules_pick.ensures c.plans_drive.ensures c.args.work c.args.crew plan (record { program = e.program; script = e.script; as_many = e.workers; code = e.code }) c.rule_for.result c.in_ok-done.journal
     (driven_by plan c.in_ok-start.start c.rule_for.result labels start_is c.in_ok-done.ensures.driven)
-    c.args.places c.in_ok-done.done c.in_ok-told.told c.in_ok-journal_of.field-0 c.followed_by.result c.rule_for.ensures done_is told_is c.in_ok-journal_of.ensures c.followed_by.ensures
+    c.args.places c.in_ok-done.done c.in_ok-told.told c.in_ok-journal_of.field-0 c.followed_by-2.result c.rule_for.ensures done_is told_is c.in_ok-journal_of.ensures c.followed_by-2.ensures
