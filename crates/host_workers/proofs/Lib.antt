@@ -1,0 +1,7 @@
+pub mod Entries
+pub mod Visiting
+pub mod Asking
+pub mod Giving
+pub mod Offering
+pub mod Writing
+pub mod Closing
