@@ -91,7 +91,7 @@ module _ (o : Origin) (k : Known Trail) (w : Worker) (y y' : Board) (shows : y' 
       given k' is = giving.given o k w y meets stay lease why paused z k' is r gave
 
   module _ (calm : IsCalm o k w) (why : StopCause) (z z' : Board) (leaves : z' ≡ z) (met : HasStopped y' w why z') where
-    stopped : HasStopped y w why z
+    pub stopped : HasStopped y w why z
     stopped = at_both (λ a b. HasStopped a w why b) y z y' z' shows leaves met
 
     pub keeps_stopped : StandsFor z o × Adds owner_of k.number (history_of y) (history_of z)
