@@ -5,3 +5,4 @@ pub mod Giving
 pub mod Offering
 pub mod Writing
 pub mod Closing
+pub mod Teams
