@@ -28,9 +28,6 @@ module _ (o : Origin) (k k' : Known Trail) where
     no_halts = subst NoHalts (sym (ap (λ (x : Known Trail). x.made) e)) r.no_halts;
   }
 
-  pub split_counts : k' ≡ counted_on k → k'.passes ≡ k.passes + 1
-  split_counts e = ap (λ (x : Known Trail). x.passes) e
-
   -- and the new one
   pub next_ready : (w : Worker) → k' ≡ next_pass k → k.passes ≡ w.0 → w.0 < o.plan.now.workers → IsReady o k' w
   next_ready w e count is_worker = record {
@@ -39,3 +36,6 @@ module _ (o : Origin) (k k' : Known Trail) where
     even = subst AreEven (sym (ap (λ (x : Known Trail). x.made) e)) refl;
     no_halts = subst NoHalts (sym (ap (λ (x : Known Trail). x.made) e)) no_halts_yet;
   }
+
+pub split_counts : (k k' : Known Trail) (n : ℕ) → k' ≡ counted_on k → k.passes ≡ n → k'.passes ≡ n + 1
+split_counts k k' n e count = ap (λ (x : Known Trail). x.passes) e ∙ ap (λ (m : ℕ). m + 1) count

@@ -27,7 +27,7 @@ use Rattle.host_workers.specs.Endings.{Ended, IsHalted}
 use Rattle.host_workers.specs.Lines.{event_lines}
 use Rattle.host_workers.specs.Passes.{GoesOn, IsReady, OnlyHalts}
 use Rattle.host_workers.specs.inner.Rounds.{Asked}
-use Rattle.host_workers.specs.inner.Writing.{AreCommitted, BreaksOff, HasWritten, Offered, WritesUpTo, lines_of, told_of}
+use Rattle.host_workers.specs.inner.Writing.{AreCommitted, AreNext, BreaksOff, HasWritten, Offered, WritesUpTo, lines_of, told_of}
 
 abbrev pub all_of : Origin → List ℕ
 all_of o = event_lines o.plan.now o.start.now
@@ -112,6 +112,12 @@ module _ (o : Origin) (written : ℕ) (part : List Shown) (shown : AreShownFrom 
 
   pub part_broke : AppendsFront a b (concat (lines_from shape first part)) → BreaksOff o written a b
   part_broke h = breaks_in o written part shown a b (subst (AppendsFront a b) its_bytes h)
+
+-- the next lines came whole
+pub part_written : (o : Origin) (k : Known Trail) (w : Worker) (written : ℕ) (part : List Shown) (shape : Shape) (first n : ℕ) (a b : Option (List ℕ)) (f g : ℕ) → IsReady o k w → AreNext o k written part
+    → shape ≡ o.plan.now.program.shape → first ≡ o.start.now.next.0 + written → n ≡ length part → Appends a b (concat (lines_from shape first part)) → HasWritten o k w written a b f g (Ok (written + n))
+part_written o k w written part shape first n a b f g ready next same from count came =
+    subst (λ m. HasWritten o k w written a b f g (Ok (written + m))) (sym count) (ready, next.committed, part_came o written part next.shown shape first same from a b came)
 
 module _ (o : Origin) (k : Known Trail) (w : Worker) (written : ℕ) where
   -- the work that was offered, as it was asked for
