@@ -1,3 +1,4 @@
+use Rattle.kept_lock.specs.Locks.{known}
 use Rattle.host_workers.proofs.Visited as visited
 use Rattle.host_workers.proofs.visits.give_back.Goals as goal
 
@@ -10,9 +11,9 @@ visit-requires-clause-keeps g c = λ y r z meets back. visited.keeps_given _ _ _
 pub returns-clause-on : goal.returns-clause-on
 returns-clause-on g c =
     let d = c.visit.ensures.done in
-    (visited.given _ _ _ d.0 d.3.shown.now d.3.shows d.2 c.leases_stay.ensures _ _ c.requires.paused d.1 d.3.left.now d.3.leaves _ d.3.met _ d.4).0
+    (visited.given _ _ _ d.0 d.3.shown.now d.3.shows d.2 c.leases_stay.ensures _ _ c.requires.paused d.1 d.3.left.now d.3.leaves _ d.3.met (known c.visit.new.pass) d.4).0
 
 pub returns-clause-run : goal.returns-clause-run
 returns-clause-run g c =
     let d = c.visit.ensures.done in
-    (visited.given _ _ _ d.0 d.3.shown.now d.3.shows d.2 c.leases_stay.ensures _ _ c.requires.paused d.1 d.3.left.now d.3.leaves _ d.3.met _ d.4).1
+    (visited.given _ _ _ d.0 d.3.shown.now d.3.shows d.2 c.leases_stay.ensures _ _ c.requires.paused d.1 d.3.left.now d.3.leaves _ d.3.met (known c.visit.new.pass) d.4).1
