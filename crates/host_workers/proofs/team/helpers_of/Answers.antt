@@ -1,4 +1,6 @@
-use Rattle.std.proofs.Common.{arith}
+use Rattle.std.proofs.Common.{ap, arith}
+use Rattle.kept_lock.specs.Locks.{name_of, known}
+use Rattle.wave_machine.specs.declared.plan.Plan.{Plan}
 use Rattle.host_workers.proofs.Teams.{next_ready, split_counts, split_ready}
 use Rattle.host_workers.proofs.team.helpers_of.Goals as goal
 
@@ -12,11 +14,13 @@ pub split-pass-requires-clause-first : goal.split-pass-requires-clause-first
 split-pass-requires-clause-first g c = c.loop-number.invariant.ready.number
 
 pub seated-requires : goal.seated-requires
-seated-requires g c = record {
-  of_lock = c.split-pass.ensures.new;
-  plan_is = c.requires.plan;
-  ready = next_ready _ _ _ _ c.split-pass.ensures.next c.loop-number.invariant.passes (omega (arith, c.requires.plan));
-}
+seated-requires g c =
+    let workers = ap (λ (p : Plan). p.workers) c.requires.plan in
+    record {
+      of_lock = c.split-pass.ensures.new;
+      plan_is = c.requires.plan;
+      ready = next_ready (name_of c.args.post.now.lock.now) (known c.loop-number.first) (known c.split-pass.result) _ c.split-pass.ensures.next c.loop-number.invariant.passes (omega (arith, workers));
+    }
 
 pub returns-in_err-push-clause-of_lock : goal.returns-in_err-push-clause-of_lock
 returns-in_err-push-clause-of_lock g c = c.split-pass.ensures.old
