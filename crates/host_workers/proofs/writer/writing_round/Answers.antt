@@ -1,6 +1,6 @@
 use Rattle.std.proofs.Common.{◌∙◌, Some, ap}
 use Rattle.kept_lock.specs.Locks.{name_of, known}
-use Rattle.host_workers.proofs.Rounding.{goes_on, is_calm}
+use Rattle.host_workers.proofs.Rounding.{is_calm}
 use Rattle.host_workers.proofs.Writing.{breaks_here, ends_so, no_memory, nothing_came, offered_all, offered_task, still_committed}
 use Rattle.host_workers.proofs.writer.writing_round.Goals as goal
 
@@ -19,7 +19,7 @@ give_up-requires-clause-calm g c = is_calm _ _ _ c.in-Err.ensures.offered
 pub returns-in-None-clause-written : goal.returns-in-None-clause-written
 returns-in-None-clause-written g c =
     nothing_came (name_of c.args.post.now.lock.now) (known c.carry_out.new.pass) c.args.post.now.number c.args.written _ 0 0 c.in-None.ensures.rounded
-    (still_committed _ (known c.args.pass.now) _ _ (goes_on _ (known c.ask_for_lines.new.pass) _ c.in-Ok-Task.ensures.on c.in-None.ensures.on) c.requires.committed)
+    (still_committed _ (known c.ask_for_lines.new.pass) _ _ c.in-None.ensures.on (still_committed _ (known c.args.pass.now) _ _ c.in-Ok-Task.ensures.on c.requires.committed))
 
 pub returns-in-Some-clause-written : goal.returns-in-Some-clause-written
 returns-in-Some-clause-written g c =

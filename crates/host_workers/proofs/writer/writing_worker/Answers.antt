@@ -7,7 +7,7 @@ pub loop-init : goal.loop-init
 loop-init g c = record {
   of_lock = c.requires.of_lock;
   ready = c.requires.ready;
-  committed = none_committed (name_of c.args.lock.now) _;
+  committed = none_committed (name_of c.args.lock.now) (known c.args.pass.now);
   lines = none_written (name_of c.args.lock.now) _;
   later = omega arith;
 }
