@@ -1,0 +1,163 @@
+-- What a worker knows when it has asked for work.
+use Rattle.std.proofs.Common.{◌≡◌, ◌∙◌, ◌<◌, ℕ, suc, true, false, List, [], ◌∷◌, ◌++◌, Option, Some, None, Ok, Err, Result, refl, sym, ap, subst, length, filter, map}
+use Rattle.std.specs.Prelude.{Contains, option_map}
+use Rattle.wave_base.specs.declared.memory.OutOfMemory.{OutOfMemory}
+use Rattle.wave_base.specs.declared.numbers.Worker.{Worker}
+use Rattle.kept_lock.specs.declared.attempt.Attempt.{Attempt}
+use Rattle.kept_lock.specs.declared.attempt.Attempt.TheVariants as attempt
+use Rattle.kept_lock.specs.declared.view.Known.{Known}
+use Rattle.kept_lock.specs.History.{Adds, entries_of}
+use Rattle.kept_lock.specs.Knowing.{entered, left_at}
+use Rattle.kept_lock.specs.Visits.{AddsAsTold, Meets}
+use Rattle.wave_labels.specs.declared.label.Label.{Label}
+use Rattle.wave_labels.specs.Labels.{act_of}
+use Rattle.wave_states.specs.Labels as theory
+use Rattle.wave_machine.specs.declared.lease.Lease.{Lease}
+use Rattle.wave_machine.specs.Actors.{MayRun}
+use Rattle.wave_machine.specs.Machines.{IsReached, TheState}
+use Rattle.wave_machine.specs.Running.{IsInHand}
+use Rattle.plan_actors.specs.Plans.{Plan}
+use Rattle.plan_actors.specs.PlanActors.{plan_actors}
+use Rattle.wave_states.specs.Runs as runs
+use Rattle.wave_board.specs.declared.board.Board.{Board}
+use Rattle.wave_board.specs.declared.origin.Origin.{Origin}
+use Rattle.wave_board.specs.declared.trail.StopCause.{StopCause}
+use Rattle.wave_board.specs.declared.trail.Trail.{Trail}
+use Rattle.wave_board.specs.declared.trail.Trail.TheVariants.{Step, Halt}
+use Rattle.wave_board.specs.declared.work.Work.{Work}
+use Rattle.wave_board.specs.declared.work.Work.TheVariants.{Stepped, Segment, Nothing, Finished, Stopped}
+use Rattle.wave_board.specs.Boards.{InEachState, IsAt, IsStanding, StandsFor, StandsStill, history_of, labels_in, labels_of, owner_of}
+use Rattle.wave_board.specs.Taking.{AreEven, IsFinished, MayTake, Took, begins, ends}
+use Rattle.wave_board.proofs.Staying.{labels_are}
+use Rattle.host_workers.specs.Endings.{IsFinishedRun, IsHaltedBy}
+use Rattle.host_workers.specs.Passes.{GoesOn, IsReady, NoHalts}
+use Rattle.host_workers.specs.inner.Rounds.{Asked, HasLease, HasOut, IsCalm}
+use Rattle.host_workers.specs.inner.Visits.{HasTaken, IsNews}
+use Rattle.host_workers.proofs.Entries.{even_step, no_halt_more, no_more, odd_start, own_contains, word_halts, word_why}
+use Rattle.host_workers.proofs.Visiting.{Left, adds_none, adds_one, left, left_own, left_same, made_same}
+
+module _ (o : Origin) (k : Known Trail) (w : Worker) (ready : IsReady o k w) (y : Board) (meets : Meets history_of owner_of StandsFor o k y) where
+  -- the board may be asked
+  pub standing : IsStanding y
+  standing = record { origin = o; state = meets.stands_for_name.0; at = meets.stands_for_name.1 }
+
+  pub may_take : MayTake y w
+  may_take = record {
+    is_worker = subst (λ (p : Plan). w.0 < p.workers) (sym meets.stands_for_name.1.plan) ready.is_worker;
+    gave = subst AreEven (sym (ap (λ n. entries_of owner_of n (history_of y)) (sym ready.number) ∙ meets.agrees.1)) ready.even;
+  }
+
+  module _ (z : Board) (still : StandsStill y z) where
+    pub stands_after : StandsFor z o
+    stands_after = still o meets.stands_for_name
+
+    -- what was appended is the worker's
+    pub adds : (told : Attempt (Result Work OutOfMemory)) → HasTaken y w z told → AddsAsTold owner_of k.number told (history_of y) (history_of z)
+    adds (attempt.Added (Ok (Stepped l))) h = adds_one k.number (history_of y) (history_of z) (Step l) h.1.0.history (ap (λ (v : Worker). v.0) h.1.1 ∙ sym ready.number)
+    adds (attempt.Added (Ok (Segment lease))) h = adds_one k.number (history_of y) (history_of z) (Step h.1.0) h.1.1.history (ap (λ (v : Worker). v.0) h.1.2 ∙ sym ready.number)
+    adds (attempt.Added (Ok Nothing)) h = absurd h.0
+    adds (attempt.Added (Ok Finished)) h = absurd h.0
+    adds (attempt.Added (Ok (Stopped why))) h = absurd h.0
+    adds (attempt.Added (Err e)) h = absurd h
+    adds (attempt.Nothing (Ok (Stepped l))) h = absurd (h.0 tt)
+    adds (attempt.Nothing (Ok (Segment lease))) h = absurd (h.0 tt)
+    adds (attempt.Nothing (Ok Nothing)) h = h.1.3
+    adds (attempt.Nothing (Ok Finished)) h = h.1.2
+    adds (attempt.Nothing (Ok (Stopped why))) h = h.1.1
+    adds (attempt.Nothing (Err e)) h = h
+
+    module _ (k' : Known Trail) (is : k' ≡ left_at (entered k (history_of y)) (history_of z)) where
+      same : history_of z ≡ history_of y → Left k k' z []
+      same h = left_same k k' y z is h meets.agrees.0
+
+      one : (t : Trail) → history_of z ≡ history_of y ++ t ∷ [] → Left k k' z (t ∷ [])
+      one t h = left k k' y z (t ∷ []) is h meets.agrees.0
+
+      -- it is ready where nothing was added
+      pub ready_still : history_of z ≡ history_of y → IsReady o k' w
+      ready_still h = record {
+        number = (same h).number ∙ ready.number;
+        is_worker = ready.is_worker;
+        even = subst AreEven (sym (made_same k k' z (same h))) ready.even;
+        no_halts = subst NoHalts (sym (made_same k k' z (same h))) ready.no_halts;
+      }
+
+      pub goes_still : history_of z ≡ history_of y → GoesOn k k' × IsReady o k' w
+      goes_still h = ((same h).on, ready_still h)
+
+      -- what was seen is a finished run
+      over : history_of z ≡ history_of y → InEachState y (IsFinished y) → IsFinishedRun o.plan.now o.start.now (labels_in k'.seen)
+      over h f =
+          let at = meets.stands_for_name in
+          let labels : labels_of y ≡ labels_in k'.seen = sym (labels_are y) ∙ ap labels_in (sym ((same h).seen ∙ h)) in
+          record {
+            state = at.0;
+            reached = subst (λ p. IsReached p o.start.now (labels_in k'.seen) at.0) at.1.plan (subst (λ ls. IsReached y.machine.kept.plan o.start.now ls at.0) labels at.1.reached);
+            finished = subst (λ (p : Plan). runs.Finished (plan_actors p.program) p.workers at.0) at.1.plan (f o at.0 at.1);
+          }
+
+      -- the Halt that was seen is another's
+      by_other : (why : StopCause) → history_of z ≡ history_of y → option_map (λ x. x.why) y.word ≡ Some why → IsHaltedBy k'.number why k'.seen
+      by_other why h set =
+          let x = word_why y.word why set in
+          let there : Contains (history_of y) (Halt x.0.worker why) = subst (λ c. Contains (history_of y) (Halt x.0.worker c)) x.2 (word_halts y.word x.0 (map Step y.journal.items) x.1) in (
+            x.0.worker,
+            (λ mine. ready.no_halts x.0.worker why (subst (λ ts. Contains ts (Halt x.0.worker why)) meets.agrees.1 (own_contains k.number (history_of y) (Halt x.0.worker why) (mine ∙ (same h).number) there))),
+            subst (λ ts. Contains ts (Halt x.0.worker why)) (sym ((same h).seen ∙ h)) there,
+          )
+
+      -- a segment is out
+      leased : (lease : Lease) → Took y w z (Segment lease) → HasLease o k' w lease
+      leased lease t =
+          let l = t.0 in
+          let h = t.1.history in
+          let x = one (Step l) h in
+          let at = stands_after in
+          let mine : l.worker.0 ≡ k.number = ap (λ (v : Worker). v.0) t.2 ∙ sym ready.number in
+          let holds : lease.worker ≡ w = t.3.worker ∙ t.2 in
+          let begins_here = odd_start k.made l (ap (λ a. theory.is_start (act_of a)) t.3.act) (ap (λ a. theory.is_stop (act_of a)) t.3.act) ready.even in
+          record {
+            out = record {
+              calm = record { number = x.number ∙ ready.number; no_halts = subst NoHalts (sym x.made) (no_halt_more k.made l ready.no_halts) };
+              is_worker = ready.is_worker;
+              odd = subst (λ ts. length (filter begins ts) ≡ suc (length (filter ends ts))) (sym x.made) begins_here;
+              board = z;
+              state = at.0;
+              at = at.1;
+              seen = x.seen;
+              own = left_own k k' y z (Step l) x h meets.agrees mine;
+            };
+            worker_is = holds;
+            in_hand = at_plan at.0 at.1 lease holds (t.3.in_hand o meets.stands_for_name.0 at.0 meets.stands_for_name.1 at.1);
+            may_run = subst (λ (p : Plan). MayRun p.program lease.actor lease.body) at.1.plan t.3.may_run;
+          }
+        where
+          at_plan : (s : TheState) → IsAt z o s → (lease : Lease) → lease.worker ≡ w → IsInHand z.machine.kept.plan.program lease (s.hands lease.worker.0) → IsInHand o.plan.now.program lease (s.hands w.0)
+          at_plan s at lease same i = subst (λ (v : Worker). IsInHand o.plan.now.program lease (s.hands v.0)) same (subst (λ (p : Plan). IsInHand p.program lease (s.hands lease.worker.0)) at.plan i)
+
+      -- of a visit that added something
+      pub asked_added : (r : Result Work OutOfMemory) → HasTaken y w z (attempt.Added r) → GoesOn k k' × Asked o k' w r
+      asked_added (Ok (Stepped l)) h =
+          let x = one (Step l) h.1.0.history in (
+            x.on,
+            record {
+              number = x.number ∙ ready.number;
+              is_worker = ready.is_worker;
+              even = subst AreEven (sym x.made) (even_step k.made l h.1.2 ready.even);
+              no_halts = subst NoHalts (sym x.made) (no_halt_more k.made l ready.no_halts);
+            },
+          )
+      asked_added (Ok (Segment lease)) h = ((one (Step h.1.0) h.1.1.history).on, leased lease h.1)
+      asked_added (Ok Nothing) h = absurd h.0
+      asked_added (Ok Finished) h = absurd h.0
+      asked_added (Ok (Stopped why)) h = absurd h.0
+      asked_added (Err e) h = absurd h
+
+      -- and of one that added nothing
+      pub asked_nothing : (r : Result Work OutOfMemory) → HasTaken y w z (attempt.Nothing r) → GoesOn k k' × Asked o k' w r
+      asked_nothing (Ok (Stepped l)) h = absurd (h.0 tt)
+      asked_nothing (Ok (Segment lease)) h = absurd (h.0 tt)
+      asked_nothing (Ok Nothing) h = ((same h.1.3).on, ready_still h.1.3)
+      asked_nothing (Ok Finished) h = ((same h.1.2).on, (ready_still h.1.2, over h.1.2 h.1.1))
+      asked_nothing (Ok (Stopped why)) h = ((same h.1.1).on, (ready_still h.1.1, by_other why h.1.1 h.1.0))
+      asked_nothing (Err e) h = ((same h).on, ready_still h)

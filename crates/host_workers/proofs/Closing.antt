@@ -1,0 +1,78 @@
+-- The board of a lock that is closed, once worker 0 has seen that all is done.
+use Rattle.std.proofs.Common.{◌≡◌, ◌∙◌, ℕ, List, [], ◌∷◌, ◌++◌, map, Option, Some, None, refl, sym, ap, subst}
+use Rattle.std.specs.Prelude.{option_and_then}
+use Rattle.wave_base.specs.declared.finished.Finished as declared_finished
+use Rattle.wave_base.specs.declared.start.Start.{Start}
+use Rattle.kept_lock.specs.History.{StartsWith}
+use Rattle.wave_labels.specs.declared.label.Label as declared_label
+use Rattle.wave_labels.specs.Labels.{label_of}
+use Rattle.wave_states.specs.Actors.{Actors}
+use Rattle.wave_states.specs.Begins.{start_state}
+use Rattle.wave_states.specs.Labels.{Label}
+use Rattle.wave_states.specs.Runs.{Finished, run}
+use Rattle.wave_states.specs.States.{State}
+use Rattle.wave_states.specs.Steps.{step}
+use Rattle.wave_theory.proofs.Basics.{some_same, then_some}
+use Rattle.script_fold.specs.Runs.{finished_of}
+use Rattle.plan_actors.specs.Calls.{code_ran}
+use Rattle.plan_actors.specs.PlanActors.{plan_actors}
+use Rattle.plan_actors.specs.Plans.{Plan, begin_in}
+use Rattle.wave_machine.specs.Machines.{IsReached, TheState}
+use Rattle.wave_machine.specs.Plans.{plan_of}
+use Rattle.wave_board.specs.declared.board.Board.{Board}
+use Rattle.wave_board.specs.declared.origin.Origin.{Origin}
+use Rattle.wave_board.specs.declared.trail.Trail.{Trail}
+use Rattle.wave_board.specs.declared.trail.Trail.TheVariants.{Step, Halt}
+use Rattle.wave_board.specs.Boards.{IsAt, StandsFor, history_of, labels_in, labels_of}
+use Rattle.wave_board.specs.Taking.{IsFinished}
+use Rattle.wave_board.proofs.Staying.{ends_there, labels_are}
+use Rattle.host_workers.specs.Endings.{IsFinishedRun}
+use Rattle.host_workers.specs.Lines.{told_by}
+use Rattle.host_workers.specs.Runs.{IsRun}
+
+labels_append : (xs ys : List Trail) → labels_in (xs ++ ys) ≡ labels_in xs ++ labels_in ys
+labels_append [] ys = refl
+labels_append (Step l ∷ xs) ys = ap (λ z. label_of l ∷ z) (labels_append xs ys)
+labels_append (Halt w why ∷ xs) ys = labels_append xs ys
+
+-- what follows a run goes on from where it led
+run_on : {A F R J : Type 0} (sys : Actors A F R J) (workers : ℕ) (xs ys : List Label) (s u v : State A F R J) → run sys workers s xs ≡ Some u → run sys workers s (xs ++ ys) ≡ Some v → run sys workers u ys ≡ Some v
+unfolding run
+run_on sys workers [] ys s u v e f = subst (λ z. run sys workers z ys ≡ Some v) (some_same s u e) f
+run_on sys workers (l ∷ xs) ys s u v e f =
+    let a = then_some (λ z. run sys workers z xs) (step sys workers s l) u e in
+    run_on sys workers xs ys a.0 u v a.2 (subst (λ o. option_and_then (λ z. run sys workers z (xs ++ ys)) o ≡ Some v) a.1 f)
+
+module _ (o : Origin) (b : Board) (s : TheState) (at : IsAt b o s) (seen : List Trail) (over : IsFinishedRun o.plan.now o.start.now (labels_in seen)) (begins : StartsWith (history_of b) seen) where
+  abbrev pub plan : Plan
+  plan = plan_of o.plan.now
+
+  goes_on : labels_of b ≡ labels_in seen ++ labels_in begins.0
+  goes_on = sym (labels_are b) ∙ ap labels_in begins.1 ∙ labels_append seen begins.0
+
+  reached : IsReached plan o.start.now (labels_of b) s
+  reached = subst (λ p. IsReached p o.start.now (labels_of b) s) at.plan at.reached
+
+  -- it is in the state in which all was done
+  same : s ≡ over.state
+  same = (ends_there (plan_actors plan.program) plan.workers (labels_in begins.0) over.state s over.finished
+      (run_on (plan_actors plan.program) plan.workers (labels_in seen) (labels_in begins.0) (start_state (begin_in plan o.start.now) plan.script.batches) over.state s over.reached
+      (subst (λ ls. IsReached plan o.start.now ls s) goes_on reached))).1
+
+  done : Finished (plan_actors plan.program) plan.workers s
+  done = subst (Finished (plan_actors plan.program) plan.workers) (sym same) over.finished
+
+  pub is_finished : IsFinished b s
+  is_finished = subst (λ (p : Plan). Finished (plan_actors p.program) p.workers s) (sym at.plan) done
+
+  -- and its parts are those of a run
+  pub is_run : (r : declared_finished.Finished × List declared_label.Label) → r.1 ≡ b.journal.items
+      → ((o : Origin) (s : TheState) → IsAt b o s → r.0 ≡ finished_of (code_ran o.plan.now.program) o.plan.now.program.shape o.start.now o.plan.now.script) → IsRun o.plan.now o.start.now r
+  is_run r journal told = (
+    told o s at,
+    record { state = s; reached = subst (λ js. IsReached plan o.start.now (map label_of js) s) (sym journal) reached; finished = done },
+  )
+
+-- a board that stands for the origin may be taken apart
+pub can_part : (o : Origin) (b : Board) (seen : List Trail) → StandsFor b o → IsFinishedRun o.plan.now o.start.now (labels_in seen) → StartsWith (history_of b) seen → (o : Origin) × (s : TheState) × IsAt b o s × IsFinished b s
+can_part o b seen stands over begins = (o, (stands.0, (stands.1, is_finished o b stands.0 stands.1 seen over begins)))

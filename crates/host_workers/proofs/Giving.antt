@@ -1,0 +1,129 @@
+-- What a worker knows when it has given a segment back, or stopped the workers.
+use Rattle.std.proofs.Common.{◌≡◌, ◌∙◌, ℕ, suc, true, false, List, [], ◌∷◌, ◌++◌, Option, Some, None, Ok, Err, Result, refl, sym, ap, subst, lit<, map}
+use Rattle.std.specs.Prelude.{Contains, IsSome}
+use Rattle.std.proofs.lemmas.List.Elements.{Contains-append_right}
+use Rattle.wave_base.specs.declared.memory.OutOfMemory.{OutOfMemory}
+use Rattle.wave_base.specs.declared.numbers.Worker.{Worker}
+use Rattle.wave_base.specs.declared.pause.Pause.{Pause}
+use Rattle.kept_lock.specs.declared.view.Known.{Known}
+use Rattle.kept_lock.specs.History.{Adds}
+use Rattle.kept_lock.specs.Knowing.{Agrees, entered, left_at}
+use Rattle.kept_lock.specs.Visits.{Meets}
+use Rattle.kept_lock.proofs.Entries.{starts_whole}
+use Rattle.wave_labels.specs.declared.label.Label.{Label}
+use Rattle.wave_labels.specs.Labels.{act_of, label_of}
+use Rattle.wave_states.specs.Labels as theory
+use Rattle.plan_actors.specs.Plans.{Plan}
+use Rattle.wave_machine.specs.declared.lease.Lease.{Lease}
+use Rattle.wave_machine.specs.Machines.{TheState}
+use Rattle.wave_machine.specs.Running.{IsBack}
+use Rattle.wave_board.specs.declared.board.Board.{Board}
+use Rattle.wave_board.specs.declared.board.StopWord.{StopWord}
+use Rattle.wave_board.specs.declared.origin.Origin.{Origin}
+use Rattle.wave_board.specs.declared.trail.StopCause.{StopCause}
+use Rattle.wave_board.specs.declared.trail.Trail.{Trail}
+use Rattle.wave_board.specs.declared.trail.Trail.TheVariants.{Step, Halt}
+use Rattle.wave_board.specs.Boards.{IsAt, StandsFor, history_of, owner_of}
+use Rattle.wave_board.specs.Giving.{CanGive, IsGiven, MayGive}
+use Rattle.wave_board.specs.Staying.{LeasesStay}
+use Rattle.wave_board.specs.Taking.{AreEven}
+use Rattle.host_workers.specs.Endings.{IsHalted}
+use Rattle.host_workers.specs.Passes.{GoesOn, IsReady, NoHalts, OnlyHalts}
+use Rattle.host_workers.specs.inner.Rounds.{HasOut, HasPaused, HasRun, IsCalm}
+use Rattle.host_workers.specs.inner.Visits.{HasGiven, HasStopped}
+use Rattle.host_workers.proofs.Entries.{even_stop, no_halt_more, only_more, only_none, word_halts}
+use Rattle.host_workers.proofs.Visiting.{Left, adds_none, adds_one, left, left_same, made_same}
+
+module _ (o : Origin) (k : Known Trail) (w : Worker) (y : Board) (meets : Meets history_of owner_of StandsFor o k y) where
+  module _ (stay : LeasesStay) (lease : Lease) (why : Pause) (paused : HasPaused o k w lease why) where
+    abbrev pub out : HasOut o k w
+    out = paused.out
+
+    -- what the worker has in its hand is still there
+    may_give : MayGive y lease why o meets.stands_for_name.0
+    may_give =
+        let at = meets.stands_for_name in
+        let hands = stay o out.board y out.state at.0 k out.at at.1 out.seen (starts_seen, out.own) meets.agrees in
+        let number : k.number ≡ lease.worker.0 = out.calm.number ∙ ap (λ (v : Worker). v.0) (sym paused.worker_is) in
+        record {
+          at = at.1;
+          back = subst (λ (p : Plan). IsBack p.program at.0 lease why) (sym at.1.plan) (record {
+            hand = paused.back.hand;
+            there = ap at.0.hands (sym number) ∙ hands ∙ ap out.state.hands number ∙ paused.back.there;
+            run = paused.back.run;
+          });
+        }
+      where
+        starts_seen : (rest : List Trail) × (history_of out.board ≡ k.seen ++ rest)
+        starts_seen = subst (λ ts. (rest : List Trail) × (ts ≡ k.seen ++ rest)) out.seen (starts_whole k.seen)
+
+    pub can_give : CanGive y lease why
+    can_give = record { origin = o; state = meets.stands_for_name.0; may = may_give }
+
+    module _ (z : Board) where
+      pub stands_given : (r : Result (Unit {0}) OutOfMemory) → HasGiven y lease why z r → StandsFor z o
+      stands_given (Ok u) h = h.0 o meets.stands_for_name.0 may_give
+      stands_given (Err e) h = h.0 o meets.stands_for_name
+
+      mine : (h : IsGiven y z lease) → h.label.worker.0 ≡ k.number
+      mine h = ap (λ (l : theory.Label). l.worker) h.is_stop ∙ ap (λ (v : Worker). v.0) paused.worker_is ∙ sym out.calm.number
+
+      pub adds_given : (r : Result (Unit {0}) OutOfMemory) → HasGiven y lease why z r → Adds owner_of k.number (history_of y) (history_of z)
+      adds_given (Ok u) h = adds_one k.number (history_of y) (history_of z) (Step h.1.label) h.1.history (mine h.1)
+      adds_given (Err e) h = adds_none k.number (history_of y) (history_of z) h.1
+
+      pub given : (k' : Known Trail) → k' ≡ left_at (entered k (history_of y)) (history_of z) → (r : Result (Unit {0}) OutOfMemory) → HasGiven y lease why z r → GoesOn k k' × HasRun o k' w r
+      given k' is (Ok u) h =
+          let x = left k k' y z (Step h.1.label ∷ []) is h.1.history meets.agrees.0 in
+          let act = ap (λ (l : theory.Label). l.act) h.1.is_stop in (
+            x.on,
+            record {
+              number = x.number ∙ out.calm.number;
+              is_worker = out.is_worker;
+              even = subst AreEven (sym x.made) (even_stop k.made h.1.label (ap theory.is_start act) (ap theory.is_stop act) out.odd);
+              no_halts = subst NoHalts (sym x.made) (no_halt_more k.made h.1.label out.calm.no_halts);
+            },
+          )
+      given k' is (Err e) h =
+          let x = left_same k k' y z is h.1 meets.agrees.0 in (
+            x.on,
+            record { number = x.number ∙ out.calm.number; no_halts = subst NoHalts (sym (made_same k k' z x)) out.calm.no_halts },
+          )
+
+  module _ (calm : IsCalm o k w) (why : StopCause) (z : Board) (stopped : HasStopped y w why z) where
+    pub stands_stopped : StandsFor z o
+    stands_stopped = stopped.stands o meets.stands_for_name
+
+    pub adds_stopped : Adds owner_of k.number (history_of y) (history_of z)
+    adds_stopped = by_word y.word refl
+      where
+        by_word : (x : Option StopWord) → y.word ≡ x → Adds owner_of k.number (history_of y) (history_of z)
+        by_word None e = adds_one k.number (history_of y) (history_of z) (Halt w why) (stopped.first e) (sym calm.number)
+        by_word (Some x) e = adds_none k.number (history_of y) (history_of z) (ap history_of (stopped.again (subst IsSome (sym e) refl)))
+
+    -- the pass has seen a Halt then
+    pub record Stopped (k' : Known Trail) : Type 0 where
+      pub on : GoesOn k k'
+      pub halted : IsHalted k'.seen
+      pub own : OnlyHalts k'.made why
+
+    pub halts : (k' : Known Trail) → k' ≡ left_at (entered k (history_of y)) (history_of z) → Stopped k'
+    halts k' is = by_word y.word refl
+      where
+        by_word : (x : Option StopWord) → y.word ≡ x → Stopped k'
+        by_word None e =
+            let h = stopped.first e in
+            let x = left k k' y z (Halt w why ∷ []) is h meets.agrees.0 in
+            record {
+              on = x.on;
+              halted = (w, why, subst (λ ts. Contains ts (Halt w why)) (sym (x.seen ∙ h)) (Contains-append_right (history_of y) (Halt w why ∷ []) (Halt w why) (0, lit< tt, refl)));
+              own = subst (λ ts. OnlyHalts ts why) (sym x.made) (only_more k.made w why calm.no_halts);
+            }
+        by_word (Some s) e =
+            let h = ap history_of (stopped.again (subst IsSome (sym e) refl)) in
+            let x = left_same k k' y z is h meets.agrees.0 in
+            record {
+              on = x.on;
+              halted = (s.worker, s.why, subst (λ ts. Contains ts (Halt s.worker s.why)) (sym (x.seen ∙ h)) (word_halts y.word s (map Step y.journal.items) e));
+              own = subst (λ ts. OnlyHalts ts why) (sym x.made) (only_none k.made why calm.no_halts);
+            }

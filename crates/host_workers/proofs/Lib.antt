@@ -1,0 +1,10 @@
+pub mod Entries
+pub mod Visiting
+pub mod Asking
+pub mod Giving
+pub mod Offering
+pub mod Visited
+pub mod Rounding
+pub mod Writing
+pub mod Closing
+pub mod Teams

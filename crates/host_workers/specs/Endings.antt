@@ -1,0 +1,42 @@
+-- What a worker's ending says of what its pass has seen and made.
+use Rattle.std.specs.Prelude.{◌≡◌, ◌≢◌, ℕ, List, Contains}
+use Rattle.wave_base.specs.declared.numbers.Worker.{Worker}
+use Rattle.kept_lock.specs.declared.view.Known.{Known}
+use Rattle.plan_actors.specs.PlanActors.{plan_actors}
+use Rattle.wave_states.specs.Labels.{Label}
+use Rattle.wave_states.specs.Runs as runs
+use Rattle.wave_base.specs.declared.start.Start.{Start}
+use Rattle.wave_machine.specs.declared.plan.Plan.{Plan}
+use Rattle.wave_machine.specs.Machines.{IsReached, TheState}
+use Rattle.wave_machine.specs.Plans.{plan_of}
+use Rattle.wave_board.specs.declared.origin.Origin.{Origin}
+use Rattle.wave_board.specs.declared.trail.StopCause.{StopCause}
+use Rattle.wave_board.specs.declared.trail.StopCause.TheVariants.{Memory, SinkFault}
+use Rattle.wave_board.specs.declared.trail.Trail.{Trail}
+use Rattle.wave_board.specs.declared.trail.Trail.TheVariants.{Halt}
+use Rattle.wave_board.specs.Boards.{labels_in}
+use Rattle.host_workers.specs.declared.ending.Ending.{Ending}
+use Rattle.host_workers.specs.declared.ending.Ending.TheVariants.{Finished, Stopped, WriteFault, OutOfMemory}
+use Rattle.host_workers.specs.Passes.{NoHalts, OnlyHalts}
+
+-- these labels lead from the Start to a state in which the plan is finished
+pub record IsFinishedRun (plan : Plan) (start : Start) (labels : List Label) : Type 0 where
+  pub state : TheState
+  pub reached : IsReached (plan_of plan) start labels state
+  pub finished : runs.Finished (plan_actors plan.program) plan.workers state
+
+-- the workers were stopped
+abbrev pub IsHalted : List Trail → Type 0
+IsHalted seen = (who : Worker) × (why : StopCause) × Contains seen (Halt who why)
+
+-- another worker stopped them for this cause
+abbrev pub IsHaltedBy : ℕ → StopCause → List Trail → Type 0
+IsHaltedBy worker why seen = (who : Worker) × (who.0 ≢ worker) × Contains seen (Halt who why)
+
+-- Finished: what was seen is a finished run. Stopped: another worker's Halt of that cause was seen. Else a Halt was seen, and one that the
+-- worker made has the ending's cause; with the other endings it made none.
+abbrev pub Ended : Origin → Known Trail → Ending → Type 0
+Ended origin pass Finished = IsFinishedRun origin.plan.now origin.start.now (labels_in pass.seen) × NoHalts pass.made
+Ended origin pass (Stopped why) = IsHaltedBy pass.number why pass.seen × NoHalts pass.made
+Ended origin pass WriteFault = IsHalted pass.seen × OnlyHalts pass.made SinkFault
+Ended origin pass OutOfMemory = IsHalted pass.seen × OnlyHalts pass.made Memory

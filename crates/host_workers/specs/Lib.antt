@@ -1,0 +1,5 @@
+pub mod Endings
+pub mod Lines
+pub mod Passes
+pub mod Runs
+pub mod inner

@@ -1,0 +1,4 @@
+pub mod Visits
+pub mod Rounds
+pub mod Writing
+pub mod Teams

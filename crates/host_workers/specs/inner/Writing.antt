@@ -1,0 +1,77 @@
+-- What the worker that writes knows of its lines.
+use Rattle.std.specs.Prelude.{◌≡◌, ◌+◌, ◌≤◌, ◌<◌, ◌^◌, ◌++◌, ℕ, List, [], length, Option, Result, Ok, Err}
+use Rattle.std.specs.Io.KnownBytes.{Appends}
+use Rattle.wave_base.specs.declared.finished.Finished as declared
+use Rattle.wave_base.specs.declared.memory.OutOfMemory.{OutOfMemory}
+use Rattle.wave_base.specs.declared.numbers.Worker.{Worker}
+use Rattle.wave_base.specs.declared.shown.Shown.{Shown}
+use Rattle.kept_lock.specs.declared.view.Known.{Known}
+use Rattle.kept_lock.specs.History.{StartsWith}
+use Rattle.wave_io.specs.Causes.{Rose}
+use Rattle.wave_io.specs.Streams.{AppendsFront}
+use Rattle.listing_out.specs.Parts.{AreShownFrom, first_lines}
+use Rattle.wave_machine.specs.Machines.{TheState}
+use Rattle.wave_board.specs.declared.board.Board.{Board}
+use Rattle.wave_board.specs.declared.origin.Origin.{Origin}
+use Rattle.wave_board.specs.declared.trail.Trail.{Trail}
+use Rattle.wave_board.specs.declared.work.Work.TheVariants.{Stepped, Segment, Nothing, Finished, Stopped}
+use Rattle.wave_board.specs.Boards.{IsAt, history_of}
+use Rattle.host_workers.specs.declared.ending.Ending.{Ending}
+use Rattle.host_workers.specs.declared.ending.Ending.TheVariants as ending
+use Rattle.host_workers.specs.declared.offer.Offer.{Offer}
+use Rattle.host_workers.specs.declared.offer.Offer.TheVariants.{Lines, Task}
+use Rattle.host_workers.specs.Endings.{Ended}
+use Rattle.host_workers.specs.Lines.{told_by, event_lines}
+use Rattle.host_workers.specs.Passes.{IsReady}
+use Rattle.host_workers.specs.inner.Rounds.{Asked}
+
+-- what the origin's run gives
+abbrev pub told_of : Origin → declared.Finished
+told_of origin = told_by origin.plan.now origin.start.now
+
+-- the lines of its first tickets
+abbrev pub lines_of : Origin → ℕ → List ℕ
+lines_of origin count = first_lines origin.plan.now.program.shape origin.start.now.next.0 (told_of origin) count
+
+-- in each board whose history goes on from what was seen, so many tickets are committed at least
+abbrev pub AreCommitted : Origin → Known Trail → ℕ → Type 0
+AreCommitted origin pass count = (b : Board) (s : TheState) → IsAt b origin s → StartsWith (history_of b) pass.seen → count ≤ s.head.done
+
+-- these lines come next, of tickets that are committed
+pub record AreNext (origin : Origin) (pass : Known Trail) (written : ℕ) (lines : List Shown) : Type 0 where
+  pub shown : AreShownFrom (told_of origin) written lines
+  pub committed : AreCommitted origin pass (written + length lines)
+  pub some : 0 < length lines
+  pub from_one : 1 ≤ origin.start.now.next.0
+  pub few : origin.start.now.next.0 + (written + length lines) ≤ 2 ^ 32
+
+module _ (origin : Origin) (pass : Known Trail) (worker : Worker) (written : ℕ) where
+  -- what the worker that writes was offered: where it is finished, all lines are written
+  abbrev pub Offered : Result Offer OutOfMemory → Type 0
+  Offered (Ok (Lines lines)) = IsReady origin pass worker × AreNext origin pass written lines
+  Offered (Ok (Task (Stepped l))) = Asked origin pass worker (Ok (Stepped l))
+  Offered (Ok (Task (Segment lease))) = Asked origin pass worker (Ok (Segment lease))
+  Offered (Ok (Task Nothing)) = Asked origin pass worker (Ok Nothing)
+  Offered (Ok (Task Finished)) = Asked origin pass worker (Ok Finished) × (written ≡ length (told_of origin).results)
+  Offered (Ok (Task (Stopped why))) = Asked origin pass worker (Ok (Stopped why))
+  Offered (Err e) = IsReady origin pass worker
+
+-- behind the lines of so many tickets came those up to another number
+pub record WritesUpTo (origin : Origin) (written more : ℕ) (old new : Option (List ℕ)) : Type 0 where
+  pub bytes : List ℕ
+  pub appended : Appends old new bytes
+  pub next : lines_of origin written ++ bytes ≡ lines_of origin more
+
+-- behind the lines of so many tickets came a front of the rest
+pub record BreaksOff (origin : Origin) (written : ℕ) (old new : Option (List ℕ)) : Type 0 where
+  pub rest : List ℕ
+  pub all : lines_of origin written ++ rest ≡ event_lines origin.plan.now origin.start.now
+  pub front : AppendsFront old new rest
+
+-- a round of the worker that writes: how many tickets' lines are written then, or how it ended
+abbrev pub HasWritten : Origin → Known Trail → Worker → ℕ → Option (List ℕ) → Option (List ℕ) → ℕ → ℕ → Result ℕ Ending → Type 0
+HasWritten origin pass worker written old new faults faults' (Ok more) = IsReady origin pass worker × AreCommitted origin pass more × WritesUpTo origin written more old new
+HasWritten origin pass worker written old new faults faults' (Err e) =
+    (pass.number ≡ worker.0) × Ended origin pass e × BreaksOff origin written old new
+    × (e ≡ ending.Finished → (written ≡ length (told_of origin).results) × Appends old new [])
+    × (e ≡ ending.WriteFault → Rose faults faults')

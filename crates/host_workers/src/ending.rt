@@ -1,0 +1,37 @@
+use thiserror::Error;
+use wave_base::OutOfMemory;
+use wave_board::StopCause;
+
+/// How a worker ended.
+#[derive(Clone, Copy, PartialEq, Eq, Debug)]
+pub enum Ending {
+    /// All is done.
+    Finished,
+    /// Another worker stopped the workers.
+    Stopped(StopCause),
+    /// It could not write, and stopped the others.
+    WriteFault,
+    /// It wanted memory, and stopped the others.
+    OutOfMemory,
+}
+
+/// Why a plan was not run to its end. A front of its lines was written.
+#[derive(Clone, Copy, PartialEq, Eq, Debug, Error)]
+pub enum RunError {
+    /// The sink failed.
+    #[error("a write failed")]
+    WriteFault,
+    #[error("out of memory")]
+    OutOfMemory,
+}
+
+impl From<OutOfMemory> for RunError {
+    ghost use Rattle.std.specs.Prelude.{◌≡◌};
+    ghost use Rattle.host_workers.specs.declared.ending.RunError.TheVariants as error;
+
+    ghost from_gives = { λ _ e. e ≡ error.OutOfMemory };
+
+    fn from(_e: OutOfMemory) -> RunError {
+        RunError::OutOfMemory
+    }
+}

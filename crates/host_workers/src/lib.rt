@@ -1,0 +1,17 @@
+//! The workers of a plan, each in a thread of its own, round one board under a lock.
+#![tactic(auto)]
+
+mod ending;
+mod offer;
+mod offers;
+mod post;
+mod run;
+mod team;
+mod visits;
+mod working;
+mod writer;
+
+pub use ending::{Ending, RunError};
+pub use run::{run_plan, run_plan_at};
+pub use working::worker;
+pub use writer::writing_worker;

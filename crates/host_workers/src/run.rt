@@ -1,0 +1,131 @@
+ghost use Rattle.std.specs.Prelude.{◌≡◌, ◌≤◌, IfOk, OnErr, OnOk, IsErrOf};
+ghost use Rattle.std.specs.Io.KnownBytes.{Appends};
+ghost use Rattle.wave_base.specs.Starts.{first_start};
+ghost use Rattle.wave_io.specs.Causes.{Rose};
+ghost use Rattle.wave_io.specs.Streams.{AppendsFront};
+ghost use Rattle.plan_actors.specs.Plans.{Fits, FitsStart};
+ghost use Rattle.wave_machine.specs.Plans.{plan_of};
+ghost use Rattle.kept_lock.specs.Locks.{name_of, known, IsPassOf};
+ghost use Rattle.wave_board.specs.Boards.{labels_in};
+ghost use Rattle.host_workers.specs.Endings.{IsFinishedRun};
+ghost use Rattle.host_workers.specs.Passes.{IsReady};
+ghost use Rattle.host_workers.specs.Lines.{event_lines};
+ghost use Rattle.host_workers.specs.Runs.{IsRun};
+
+use crate::ending::{Ending, RunError};
+use crate::post::Post;
+use crate::team::{helpers_of, run_team};
+use context_tree::trees_that_fit;
+use kept_lock::{KeptLock, Pass};
+use std::alloc::Global;
+use std::sync::Wait;
+use std::thread::Threads;
+use wave_base::{Finished, OutOfMemory, Seq, Start, Ticket, Worker};
+use wave_board::{Board, Origin};
+use wave_io::{Gate, Sink};
+use wave_labels::Label;
+use wave_machine::Plan;
+
+/// Runs a plan from a Start by its workers, each in a thread of its own where one can be made. It gives what the script gives, and the journal of
+/// the labels that the workers took. The lines of the events are written while the workers run; those behind them are left to the caller.
+pub fn run_plan_at<R: Threads + Wait + Sync, G: Gate + Sync, K: Sink + Send>(
+    rt: &R,
+    alloc: Global,
+    plan: &Plan,
+    start: &Start,
+    gate: &G,
+    out: &mut K,
+) -> Result<(Finished, Seq<Label>), RunError>
+    requires fits { Fits (plan_of plan.now) }
+    requires begins { FitsStart (plan_of plan.now) start.now }
+    ensures run { IfOk result (λ r. IsRun plan.now start.now r) }
+    ensures lines { OnOk result (Appends (K.written out.old) (K.written out.new) (event_lines plan.now start.now)) }
+    ensures front { OnErr result (AppendsFront (K.written out.old) (K.written out.new) (event_lines plan.now start.now)) }
+    ensures fault { IsErrOf result RunError.WriteFault → Rose (K.faults out.old) (K.faults out.new) }
+    ensures later { K.faults out.old ≤ K.faults out.new }
+{
+    let board = Board::new_at(alloc, plan, start)?;
+    let Ok((lock, mut first)) = KeptLock::new(alloc, Origin { plan, start }, board) else {
+        return Err(RunError::OutOfMemory);
+    };
+    run_workers(rt, alloc, &lock, &mut first, plan, start.next, gate, out)?;
+    match parts_of(rt, lock, first) {
+        Ok(parts) => Ok(parts),
+        Err(OutOfMemory) => Err(RunError::OutOfMemory),
+    }
+}
+
+/// The same from the first Start: the root alone, on host 0, and ticket 1.
+pub fn run_plan<R: Threads + Wait + Sync, G: Gate + Sync, K: Sink + Send>(
+    rt: &R,
+    alloc: Global,
+    plan: &Plan,
+    gate: &G,
+    out: &mut K,
+) -> Result<(Finished, Seq<Label>), RunError>
+    requires { Fits (plan_of plan.now) }
+    ensures run { IfOk result (λ r. IsRun plan.now (first_start plan.now.program.shape) r) }
+    ensures lines { OnOk result (Appends (K.written out.old) (K.written out.new) (event_lines plan.now (first_start plan.now.program.shape))) }
+    ensures front { OnErr result (AppendsFront (K.written out.old) (K.written out.new) (event_lines plan.now (first_start plan.now.program.shape))) }
+    ensures fault { IsErrOf result RunError.WriteFault → Rose (K.faults out.old) (K.faults out.new) }
+    ensures later { K.faults out.old ≤ K.faults out.new }
+{
+    trees_that_fit();
+    let start = Start::first(alloc, &plan.program.program().shape)?;
+    run_plan_at(rt, alloc, plan, &start, gate, out)
+}
+
+// Runs all workers of the plan round a new lock.
+fn run_workers<'p, R: Threads + Wait + Sync, G: Gate + Sync, K: Sink + Send>(
+    rt: &R,
+    alloc: Global,
+    lock: &KeptLock<Board<'p>>,
+    first: &mut Pass<Board<'p>>,
+    plan: &'p Plan,
+    from: Ticket,
+    gate: &G,
+    out: &mut K,
+) -> Result<(), RunError>
+    requires of_lock { IsPassOf lock.now first.old }
+    requires plan { (name_of lock.now).plan.now ≡ plan.now }
+    requires from { (name_of lock.now).start.now.next ≡ from }
+    requires ready { IsReady (name_of lock.now) (known first.old) (record { 0 = 0 }) }
+    requires one { (known first.old).passes ≡ 1 }
+    ensures of_lock { IsPassOf lock.now first.new }
+    ensures finished { OnOk result (IsFinishedRun (name_of lock.now).plan.now (name_of lock.now).start.now (labels_in (known first.new).seen)) }
+    ensures lines { OnOk result (Appends (K.written out.old) (K.written out.new) (event_lines plan.now (name_of lock.now).start.now)) }
+    ensures front { OnErr result (AppendsFront (K.written out.old) (K.written out.new) (event_lines plan.now (name_of lock.now).start.now)) }
+    ensures fault { IsErrOf result RunError.WriteFault → Rose (K.faults out.old) (K.faults out.new) }
+    ensures later { K.faults out.old ≤ K.faults out.new }
+{
+    let post = Post {
+        rt,
+        alloc,
+        lock,
+        plan,
+        number: Worker(0),
+        gate,
+    };
+    let helpers = helpers_of(&post, first)?;
+    match run_team(&post, first, helpers, from, out) {
+        Ending::Finished => Ok(()),
+        Ending::WriteFault => Err(RunError::WriteFault),
+        Ending::Stopped(_) | Ending::OutOfMemory => Err(RunError::OutOfMemory),
+    }
+}
+
+// What a finished run gives, from the lock that its workers left.
+fn parts_of<'p, R: Wait>(
+    rt: &R,
+    lock: KeptLock<Board<'p>>,
+    first: Pass<Board<'p>>,
+) -> Result<(Finished, Seq<Label>), OutOfMemory>
+    requires of_lock { IsPassOf lock first }
+    requires finished { IsFinishedRun (name_of lock).plan.now (name_of lock).start.now (labels_in (known first).seen) }
+    ensures { IfOk result (λ r. IsRun (name_of lock.entry).plan.now (name_of lock.entry).start.now r) }
+{
+    match lock.close(rt, first).into_parts() {
+        Ok(parts) => Ok(parts),
+        Err(_) => Err(OutOfMemory),
+    }
+}

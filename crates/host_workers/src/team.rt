@@ -1,0 +1,135 @@
+// The workers of a plan, each in a thread of its own where one can be made.
+ghost use Rattle.std.specs.Prelude.{◌≡◌, ◌≤◌};
+ghost use Rattle.std.specs.Io.KnownBytes.{Appends};
+ghost use Rattle.std.specs.Thread.{IsSync};
+ghost use Rattle.wave_io.specs.Causes.{Rose};
+ghost use Rattle.wave_io.specs.Streams.{AppendsFront};
+ghost use Rattle.kept_lock.specs.Locks.{name_of, known, IsPassOf};
+ghost use Rattle.host_workers.specs.Endings.{Ended};
+ghost use Rattle.host_workers.specs.Lines.{event_lines};
+ghost use Rattle.host_workers.specs.Passes.{IsReady};
+ghost use Rattle.host_workers.specs.inner.Teams.{IsSeated};
+
+use crate::ending::Ending;
+use crate::post::Post;
+use crate::working::worker;
+use crate::writer::writing_worker;
+use kept_lock::Pass;
+use std::sync::Wait;
+use std::thread::{Threads, join_mut, map_vec};
+use wave_base::{OutOfMemory, Ticket, Worker};
+use wave_board::Board;
+use wave_io::{Gate, Sink};
+
+/// A worker that has a pass of its own.
+#[derive(Drop)]
+pub(crate) struct Helper<'l, 'p, R, G> {
+    post: Post<'l, 'p, R, G>,
+    pass: Pass<Board<'p>>,
+    ghost seated: { IsSeated post.lock.now pass post.plan.now post.number },
+}
+
+/// All workers of the plan but the first, each with a new pass.
+pub(crate) fn helpers_of<'l, 'p, R, G>(
+    post: &Post<'l, 'p, R, G>,
+    first: &mut Pass<Board<'p>>,
+) -> Result<Vec<Helper<'l, 'p, R, G>>, OutOfMemory>
+    requires of_lock { IsPassOf post.now.lock.now first.old }
+    requires plan { (name_of post.now.lock.now).plan.now ≡ post.now.plan.now }
+    requires ready { IsReady (name_of post.now.lock.now) (known first.old) (record { 0 = 0 }) }
+    requires one { (known first.old).passes ≡ 1 }
+    ensures of_lock { IsPassOf post.now.lock.now first.new }
+    ensures ready { IsReady (name_of post.now.lock.now) (known first.new) (record { 0 = 0 }) }
+{
+    let mut helpers = Vec::new(post.alloc);
+    for number in 1..post.plan.workers {
+        let pass = post.lock.split(first);
+        helpers.push(seated(post, pass, Worker(number)))?;
+    }
+    Ok(helpers)
+}
+
+fn seated<'l, 'p, R, G>(
+    post: &Post<'l, 'p, R, G>,
+    pass: Pass<Board<'p>>,
+    number: Worker,
+) -> Helper<'l, 'p, R, G>
+    requires { IsSeated post.now.lock.now pass post.now.plan.now number }
+{
+    let Post {
+        rt,
+        alloc,
+        lock,
+        plan,
+        number: _,
+        gate,
+    } = post;
+    let post = Post {
+        rt: *rt,
+        alloc: *alloc,
+        lock: *lock,
+        plan: *plan,
+        number,
+        gate: *gate,
+    };
+    Helper { post, pass }
+}
+
+/// Runs worker 0, which writes, beside the others. Where no thread can be made it runs first, and finishes alone.
+pub(crate) fn run_team<'l, 'p, R: Threads + Wait + Sync, G: Gate + Sync, K: Sink + Send>(
+    post: &Post<'l, 'p, R, G>,
+    first: &mut Pass<Board<'p>>,
+    helpers: Vec<Helper<'l, 'p, R, G>>,
+    from: Ticket,
+    out: &mut K,
+) -> Ending
+    requires of_lock { IsPassOf post.now.lock.now first.old }
+    requires plan { (name_of post.now.lock.now).plan.now ≡ post.now.plan.now }
+    requires from { (name_of post.now.lock.now).start.now.next ≡ from }
+    requires ready { IsReady (name_of post.now.lock.now) (known first.old) (record { 0 = 0 }) }
+    ensures of_lock { IsPassOf post.now.lock.now first.new }
+    ensures ended { Ended (name_of post.now.lock.now) (known first.new) result }
+    ensures whole { result ≡ Ending.Finished → Appends (K.written out.old) (K.written out.new) (event_lines post.now.plan.now (name_of post.now.lock.now).start.now) }
+    ensures front { AppendsFront (K.written out.old) (K.written out.new) (event_lines post.now.plan.now (name_of post.now.lock.now).start.now) }
+    ensures fault { result ≡ Ending.WriteFault → Rose (K.faults out.old) (K.faults out.new) }
+    ensures later { K.faults out.old ≤ K.faults out.new }
+{
+    let Post {
+        rt,
+        alloc,
+        lock,
+        plan,
+        number: _,
+        gate,
+    } = post;
+    let mut helpers = Some(helpers);
+    let (ending, ()) = join_mut(
+        *rt,
+        &mut || writing_worker(*rt, *alloc, lock, first, plan, *gate, from, out),
+        &mut || help(*rt, helpers.take()),
+    );
+    ending
+}
+
+// Runs these workers. Where there is no memory for them the first does all.
+fn help<'l, 'p, R: Threads + Wait + Sync, G: Gate + Sync>(
+    rt: &R,
+    helpers: Option<Vec<Helper<'l, 'p, R, G>>>,
+) {
+    if let Some(helpers) = helpers {
+        let _ = map_vec(rt, helpers, &|helper: Helper<R, G>| run(helper));
+    }
+}
+
+fn run<'l, 'p, R: Wait, G: Gate>(helper: Helper<'l, 'p, R, G>) -> Ending {
+    let Helper { post, mut pass } = helper;
+    worker(
+        post.rt,
+        post.alloc,
+        post.lock,
+        &mut pass,
+        post.plan,
+        post.number,
+        post.gate,
+    )
+}

@@ -1,0 +1,123 @@
+ghost use Rattle.std.specs.Prelude.{◌≡◌, ◌≤◌};
+ghost use Rattle.std.specs.Io.KnownBytes.{Appends};
+ghost use Rattle.wave_io.specs.Causes.{Rose};
+ghost use Rattle.wave_io.specs.Streams.{AppendsFront};
+ghost use Rattle.kept_lock.specs.Locks.{name_of, known, IsPassOf};
+ghost use Rattle.host_workers.specs.Endings.{Ended};
+ghost use Rattle.host_workers.specs.Lines.{event_lines};
+ghost use Rattle.host_workers.specs.Passes.{IsReady};
+ghost use Rattle.host_workers.specs.inner.Writing.{AreCommitted, AreNext, HasWritten};
+
+use crate::ending::Ending;
+use crate::offer::Offer;
+use crate::offers::ask_for_lines;
+use crate::post::Post;
+use crate::visits::halt;
+use crate::working::{carry_out, give_up};
+use kept_lock::{KeptLock, Pass};
+use listing_out::{ListError, parts_make_a_listing, write_lines};
+use std::alloc::Global;
+use std::sync::Wait;
+use wave_base::{OutOfMemory, Seq, Shown, Ticket, Worker};
+use wave_board::{Board, StopCause};
+use wave_io::{Gate, Sink};
+use wave_machine::Plan;
+
+/// Worker 0, which writes the lines of the events that are committed, between its steps and outside the lock.
+pub fn writing_worker<'p, R: Wait, G: Gate, K: Sink>(
+    rt: &R,
+    alloc: Global,
+    lock: &KeptLock<Board<'p>>,
+    pass: &mut Pass<Board<'p>>,
+    plan: &'p Plan,
+    gate: &G,
+    from: Ticket,
+    out: &mut K,
+) -> Ending
+    requires of_lock { IsPassOf lock.now pass.old }
+    requires plan { (name_of lock.now).plan.now ≡ plan.now }
+    requires from { (name_of lock.now).start.now.next ≡ from }
+    requires ready { IsReady (name_of lock.now) (known pass.old) (record { 0 = 0 }) }
+    ensures of_lock { IsPassOf lock.now pass.new }
+    ensures number { (known pass.new).number ≡ 0 }
+    ensures ended { Ended (name_of lock.now) (known pass.new) result }
+    ensures whole { result ≡ Ending.Finished → Appends (K.written out.old) (K.written out.new) (event_lines plan.now (name_of lock.now).start.now) }
+    ensures front { AppendsFront (K.written out.old) (K.written out.new) (event_lines plan.now (name_of lock.now).start.now) }
+    ensures fault { result ≡ Ending.WriteFault → Rose (K.faults out.old) (K.faults out.new) }
+    ensures later { K.faults out.old ≤ K.faults out.new }
+{
+    let post = Post {
+        rt,
+        alloc,
+        lock,
+        plan,
+        number: Worker(0),
+        gate,
+    };
+    let mut written = 0;
+    for _ in rt.forever() {
+        match writing_round(&post, pass, from, written, out) {
+            Ok(more) => written = more,
+            Err(ending) => return ending,
+        }
+    }
+    unreachable!()
+}
+
+// One round of the worker that writes: new lines, or else some work. It gives how many tickets' lines are written then.
+fn writing_round<'l, 'p, R: Wait, G: Gate, K: Sink>(
+    post: &Post<'l, 'p, R, G>,
+    pass: &mut Pass<Board<'p>>,
+    from: Ticket,
+    written: u32,
+    out: &mut K,
+) -> Result<u32, Ending>
+    requires of_lock { IsPassOf post.now.lock.now pass.old }
+    requires plan { (name_of post.now.lock.now).plan.now ≡ post.now.plan.now }
+    requires from { (name_of post.now.lock.now).start.now.next ≡ from }
+    requires ready { IsReady (name_of post.now.lock.now) (known pass.old) post.now.number }
+    requires committed { AreCommitted (name_of post.now.lock.now) (known pass.old) written }
+    ensures of_lock { IsPassOf post.now.lock.now pass.new }
+    ensures written { HasWritten (name_of post.now.lock.now) (known pass.new) post.now.number written (K.written out.old) (K.written out.new) (K.faults out.old) (K.faults out.new) result }
+    ensures later { K.faults out.old ≤ K.faults out.new }
+{
+    match ask_for_lines(post, pass, written) {
+        Ok(Offer::Lines(lines)) => write_part(post, pass, from, written, &lines, out),
+        Ok(Offer::Task(work)) => match carry_out(post, pass, work) {
+            None => Ok(written),
+            Some(ending) => Err(ending),
+        },
+        Err(OutOfMemory) => Err(give_up(post, pass)),
+    }
+}
+
+// Writes the lines of the next tickets.
+fn write_part<'l, 'p, R: Wait, G, K: Sink>(
+    post: &Post<'l, 'p, R, G>,
+    pass: &mut Pass<Board<'p>>,
+    from: Ticket,
+    written: u32,
+    lines: &Seq<Shown>,
+    out: &mut K,
+) -> Result<u32, Ending>
+    requires of_lock { IsPassOf post.now.lock.now pass.old }
+    requires plan { (name_of post.now.lock.now).plan.now ≡ post.now.plan.now }
+    requires from { (name_of post.now.lock.now).start.now.next ≡ from }
+    requires ready { IsReady (name_of post.now.lock.now) (known pass.old) post.now.number }
+    requires next { AreNext (name_of post.now.lock.now) (known pass.old) written lines.now }
+    ensures of_lock { IsPassOf post.now.lock.now pass.new }
+    ensures written { HasWritten (name_of post.now.lock.now) (known pass.new) post.now.number written (K.written out.old) (K.written out.new) (K.faults out.old) (K.faults out.new) result }
+    ensures later { K.faults out.old ≤ K.faults out.new }
+{
+    parts_make_a_listing();
+    let shape = &post.plan.program.program().shape;
+    let next = Ticket(from.0 + written);
+    match write_lines(post.alloc, out, shape, next, lines) {
+        Ok(()) => Ok(written + lines.len() as u32),
+        Err(ListError::WriteFault) => {
+            halt(post, pass, StopCause::SinkFault);
+            Err(Ending::WriteFault)
+        }
+        Err(ListError::OutOfMemory) => Err(give_up(post, pass)),
+    }
+}
