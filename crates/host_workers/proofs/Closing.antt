@@ -72,3 +72,7 @@ module _ (o : Origin) (b : Board) (s : TheState) (at : IsAt b o s) (seen : List 
     told o s at,
     record { state = s; reached = subst (λ js. IsReached plan o.start.now (map label_of js) s) (sym journal) reached; finished = done },
   )
+
+-- a board that stands for the origin may be taken apart
+pub can_part : (o : Origin) (b : Board) (seen : List Trail) → StandsFor b o → IsFinishedRun o.plan.now o.start.now (labels_in seen) → StartsWith (history_of b) seen → (o : Origin) × (s : TheState) × IsAt b o s × IsFinished b s
+can_part o b seen stands over begins = (o, (stands.0, (stands.1, is_finished o b stands.0 stands.1 seen over begins)))
