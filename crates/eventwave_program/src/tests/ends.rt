@@ -200,18 +200,17 @@ fn faults(rt: HostRuntime) -> Result<(), Fail> {
         holds(&rt, alloc, &row)?;
     }
     let written = b"#1 hit = 1\ndone 1\n";
-    for failing_write in 1..6 {
-        let row = Row {
-            failing_write,
-            ..plain(
-                "run",
-                TICK,
-                6,
-                &written[..(failing_write as usize - 1) * 4],
-                b"WriteFault\n",
-            )
-        };
-        holds(&rt, alloc, &row)?;
+    for (words, fronts) in [
+        ("run", [0usize, 4, 8, 11, 15]),
+        ("seq", [0, 4, 8, 12, 16]),
+    ] {
+        for (i, front) in fronts.iter().enumerate() {
+            let row = Row {
+                failing_write: i as u64 + 1,
+                ..plain(words, TICK, 6, &written[..*front], b"WriteFault\n")
+            };
+            holds(&rt, alloc, &row)?;
+        }
     }
     Ok(())
 }
