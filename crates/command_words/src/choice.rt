@@ -13,6 +13,7 @@ const DEFAULT_WORKERS: u8 = 4;
 pub enum Verb {
     Run,
     Seq,
+    Trace,
     Check,
     Print,
     Code,
@@ -27,6 +28,8 @@ fn verb_of(word: &str) -> Option<Verb>
         Some(Verb::Run)
     } else if word == "seq" {
         Some(Verb::Seq)
+    } else if word == "trace" {
+        Some(Verb::Trace)
     } else if word == "check" {
         Some(Verb::Check)
     } else if word == "print" {
@@ -64,6 +67,7 @@ fn command_with(
     match (verb, number, workers, schedule, places) {
         (Verb::Run, None, _, _, _) => Some(Command::Run(places, crew_of(workers, schedule))),
         (Verb::Seq, None, None, None, _) => Some(Command::Seq(places)),
+        (Verb::Trace, None, _, _, _) => Some(Command::Trace(places, crew_of(workers, schedule))),
         (Verb::Check, None, None, None, Places::Unlisted) => Some(Command::Check),
         (Verb::Print, None, None, None, Places::Unlisted) => Some(Command::Print),
         (Verb::Code, None, None, None, Places::Unlisted) => Some(Command::Code),

@@ -1,5 +1,5 @@
 ghost use Rattle.std.specs.Prelude.{◌≡◌};
-ghost use Rattle.command_words.specs.Inputs.{reads_input};
+ghost use Rattle.command_words.specs.Inputs.{is_free, reads_input, runs_workers};
 
 /// Whether the listing ends with the hosts of the contexts.
 #[derive(Clone, Copy, Debug, PartialEq, Eq)]
@@ -32,6 +32,15 @@ pub struct Crew {
     pub schedule: Option<Schedule>,
 }
 
+impl Crew {
+    /// Whether no schedule binds it.
+    fn is_free(&self) -> bool
+        ensures { result ≡ is_free self.now }
+    {
+        self.schedule.is_none()
+    }
+}
+
 /// What the words ask for.
 #[derive(Clone, Copy, Debug, PartialEq, Eq)]
 pub enum Command {
@@ -39,6 +48,8 @@ pub enum Command {
     Run(Places, Crew),
     /// The same, by the plain evaluator.
     Seq(Places),
+    /// The same as `run`, and behind it the journal of the run.
+    Trace(Places, Crew),
     /// Says whether the service is typed.
     Check,
     /// Writes the service in canonical layout.
@@ -59,10 +70,26 @@ impl Command {
         match self {
             Command::Run(_, _)
             | Command::Seq(_)
+            | Command::Trace(_, _)
             | Command::Check
             | Command::Print
             | Command::Code => true,
             Command::Gen(_) | Command::Load(_, _) => false,
+        }
+    }
+
+    /// Whether workers run it, each in a thread of its own.
+    pub fn runs_workers(&self) -> bool
+        ensures { result ≡ runs_workers self.now }
+    {
+        match self {
+            Command::Run(_, crew) | Command::Trace(_, crew) => crew.is_free(),
+            Command::Load(_, _) => true,
+            Command::Seq(_)
+            | Command::Check
+            | Command::Print
+            | Command::Code
+            | Command::Gen(_) => false,
         }
     }
 }

@@ -20,11 +20,14 @@ fn run(workers: u8, schedule: Option<Schedule>) -> Command {
 }
 
 /// Words that ask for none; an empty text is one empty word.
-const REFUSED: [&str; 40] = [
+const REFUSED: [&str; 43] = [
     "",
     "walk",
     "Run",
-    "trace",
+    "Trace",
+    "traced",
+    "trace 7",
+    "trace --workers 0",
     "help",
     "run run",
     "run 7",
@@ -70,6 +73,22 @@ fn words_are_read(rt: HostRuntime) -> Result<(), Fail> {
         ("run", run(4, None)),
         ("seq", Command::Seq(Places::Unlisted)),
         ("--map seq", Command::Seq(Places::Listed)),
+        (
+            "trace",
+            Command::Trace(Places::Unlisted, crew(4, None)),
+        ),
+        (
+            "--map trace --workers 16",
+            Command::Trace(Places::Listed, crew(16, None)),
+        ),
+        (
+            "trace --schedule 0",
+            Command::Trace(Places::Unlisted, crew(4, Some(Schedule::Seed(0)))),
+        ),
+        (
+            "trace --schedule=newest --workers=2",
+            Command::Trace(Places::Unlisted, crew(2, Some(Schedule::Newest))),
+        ),
         ("check", Command::Check),
         ("print", Command::Print),
         ("code", Command::Code),

@@ -1,5 +1,5 @@
 -- What is due for a command and the bytes of its input. Statuses, notes and output are read off it.
-use Rattle.std.specs.Prelude.{◌≡◌, ℕ, ◌<◌, ◌≤◌, ◌⊎◌, Bool, true, false, if◌then◌else◌, List, [], ◌∷◌, ◌++◌, length, codes, All, Option, Some, None, Result, Ok, Err}
+use Rattle.std.specs.Prelude.{◌≡◌, ℕ, ◌<◌, ◌≤◌, ◌⊎◌, Bool, true, false, if◌then◌else◌, List, [], ◌∷◌, ◌++◌, length, codes, All, Option, Some, None, Result, Ok, Err, map}
 use Rattle.std.specs.List.{list_any}
 use Rattle.wave_base.specs.declared.limits.TheConstants.{INPUT_BYTES, INSTRUCTIONS, SCRIPT_BYTES}
 use Rattle.wave_base.specs.declared.finished.Finished.{Finished}
@@ -32,15 +32,20 @@ use Rattle.script_reader.specs.Scripts.{IsRead}
 use Rattle.wave_text.specs.Lines.{lines_of}
 use Rattle.listing_out.specs.Listing.{listing}
 use Rattle.wave_meaning.specs.Meaning.{results_of, IsWhole}
+use Rattle.journal_text.specs.JournalTexts.{journal_text}
+use Rattle.wave_labels.specs.declared.label.Label.{Label}
+use Rattle.wave_labels.specs.Labels.{label_of}
 use Rattle.due_answer.specs.declared.answer.Answer.{Answer}
 use Rattle.command_words.specs.declared.command.Command.{Command}
-use Rattle.command_words.specs.declared.command.Command.TheVariants.{Run, Seq, Check, Print, Code, Gen, Load}
+use Rattle.command_words.specs.declared.command.Command.TheVariants.{Run, Seq, Trace, Check, Print, Code, Gen, Load}
+use Rattle.command_words.specs.declared.command.Crew.{Crew}
 use Rattle.command_words.specs.declared.command.Places.{Places}
 use Rattle.command_words.specs.declared.command.Places.TheVariants.{Unlisted, Listed}
 use Rattle.wave_gen.specs.Load.{load_text}
 use Rattle.wave_gen.specs.Summary.{summary_text}
 use Rattle.due_answer.specs.declared.report.Report.{Report}
 use Rattle.due_answer.specs.declared.report.Report.TheVariants.{Listing, Summary}
+use Rattle.due_answer.specs.Runs.{IsRunOf, nearest_workers}
 
 -- ---- answers
 
@@ -127,6 +132,28 @@ pub record IsDueFold (report : Report) (tree : ServiceTree) (script : Script) (d
   pub whole : IsWhole (shape_of tree) service script
   pub due_is : due ≡ reported (shape_of tree) report (results_of (shape_of tree) service script)
 
+-- a text behind that of an answer
+abbrev pub with_text : Answer → List ℕ → Answer
+with_text a more = record { status = a.status; note = a.note; text = a.text ++ more }
+
+-- of one that is traced: the listing of that fold, and behind it the journal of a run of this crew, by the service's code
+pub record IsDueTrace (places : Places) (crew : Crew) (tree : ServiceTree) (script : Script) (due : Answer) : Type 0 where
+  pub service : Resolved
+  pub resolved : resolved_view service ≡ resolve_service tree
+  pub whole : IsWhole (shape_of tree) service script
+  pub journal : List Label
+  pub run : IsRunOf crew (record { program = scheme_program (shape_of tree) service; script = script; workers = nearest_workers crew.workers }) (map label_of journal)
+  pub due_is : due ≡ with_text (reported (shape_of tree) (Listing places) (results_of (shape_of tree) service script)) (journal_text (shape_of tree) journal)
+
+-- what is told of a script that was read: a report of its fold; or the listing, and the journal of a run of this crew
+pub data Telling : Type 0 where
+  Reports : Report → Telling
+  Traces : Places → Crew → Telling
+
+abbrev pub IsDueTold : Telling → ServiceTree → Script → Answer → Type 0
+IsDueTold (Reports report) tree script due = IsDueFold report tree script due
+IsDueTold (Traces places crew) tree script due = IsDueTrace places crew tree script due
+
 abbrev pub IsDueRead : (Script → Answer → Type 0) → Result Script ScriptError → Answer → Type 0
 IsDueRead P (Err e) due = due ≡ refusal 4 (script_note e)
 IsDueRead P (Ok script) due = P script due
@@ -166,23 +193,24 @@ pub record IsListedCode (tree : ServiceTree) (due : Answer) : Type 0 where
   pub due_is : due ≡ written (program_text (scheme_program (shape_of tree) service))
 
 -- of the bytes of a service and a script
-abbrev pub IsDueScripted : Report → List ℕ → Answer → Type 0
-IsDueScripted report bytes due = IsDueBoth (IsDueFold report) (service_of bytes) (script_of bytes) due
+abbrev pub IsDueScripted : Telling → List ℕ → Answer → Type 0
+IsDueScripted telling bytes due = IsDueBoth (IsDueTold telling) (service_of bytes) (script_of bytes) due
 
 -- of bytes, which may be too many
 abbrev pub IsDueSized : (List ℕ → Answer → Type 0) → List ℕ → Answer → Type 0
 IsDueSized P bytes due = ((INPUT_BYTES < length bytes) × (due ≡ too_large_input)) ⊎ ((length bytes ≤ INPUT_BYTES) × P bytes due)
 
--- What runs a script, and how many workers or which schedule, is nothing to the answer: `run` and `seq` owe the same. `gen` writes the load of a
--- number, and `load` runs it and sums it up, whatever the input is; all others are about their input.
+-- What runs a script, and how many workers or which schedule, is nothing to what `run` and `seq` owe, which is the same; but `trace` tells the run
+-- of its crew. `gen` writes the load of a number, and `load` runs it and sums it up, whatever the input is; all others are about their input.
 abbrev pub IsDue : Command → List ℕ → Answer → Type 0
-IsDue (Run places crew) bytes due = IsDueSized (IsDueScripted (Listing places)) bytes due
-IsDue (Seq places) bytes due = IsDueSized (IsDueScripted (Listing places)) bytes due
+IsDue (Run places crew) bytes due = IsDueSized (IsDueScripted (Reports (Listing places))) bytes due
+IsDue (Seq places) bytes due = IsDueSized (IsDueScripted (Reports (Listing places))) bytes due
+IsDue (Trace places crew) bytes due = IsDueSized (IsDueScripted (Traces places crew)) bytes due
 IsDue Check bytes due = IsDueSized (λ b. IsDueService (λ tree a. a ≡ approved) (service_of b)) bytes due
 IsDue Code bytes due = IsDueSized (λ b. IsDueService IsListedCode (service_of b)) bytes due
 IsDue Print bytes due = IsDueSized (λ b. IsDueService IsPrinted (service_of b)) bytes due
 IsDue (Gen n) bytes due = due ≡ written (load_text n)
-IsDue (Load n crew) bytes due = IsDueSized (IsDueScripted Summary) (load_text n) due
+IsDue (Load n crew) bytes due = IsDueSized (IsDueScripted (Reports Summary)) (load_text n) due
 
 -- it is so of this answer, and of no other
 pub record Only (P : Answer → Type 0) (due : Answer) : Type 0 where
@@ -192,3 +220,8 @@ pub record Only (P : Answer → Type 0) (due : Answer) : Type 0 where
 -- it is due, and nothing else is
 abbrev pub IsOnlyDue : Command → List ℕ → Answer → Type 0
 IsOnlyDue c bytes due = Only (IsDue c bytes) due
+
+-- what is told: the only answer that is due; of a trace, which another run makes another, one that is
+abbrev pub IsToldFor : Command → List ℕ → Answer → Type 0
+IsToldFor (Trace places crew) bytes due = IsDue (Trace places crew) bytes due
+IsToldFor c bytes due = IsOnlyDue c bytes due

@@ -1,3 +1,4 @@
 pub mod inner
+pub mod Runs
 pub mod Due
 pub mod Accepted

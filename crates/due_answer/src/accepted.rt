@@ -41,7 +41,7 @@ pub fn refuse(alloc: Global, status: u8, note: &[u8]) -> Result<Accepted, OutOfM
 
 // An input that is not too large: the script has to be there.
 fn accept_both(alloc: Global, input: &[u8]) -> Result<Accepted, OutOfMemory>
-    ensures { IfOk result (IsAcceptedBy (λ report. IsDueScripted report input.now)) }
+    ensures { IfOk result (IsAcceptedBy (λ telling. IsDueScripted telling input.now)) }
 {
     let (text, script) = parts_of(input);
     let Some(script) = script else {

@@ -5,7 +5,7 @@ ghost use Rattle.mace_ast.specs.Decls.{service_tree};
 ghost use Rattle.mace_printer.specs.Written.{IsParsed};
 ghost use Rattle.service_code.specs.Listing.{CanList, program_text};
 ghost use Rattle.wave_gen.specs.Load.{load_text};
-ghost use Rattle.due_answer.specs.Due.{Only, IsDueScripted, IsDueService, IsDueSized, IsListedCode, IsOnlyDue, IsPrinted, approved, written};
+ghost use Rattle.due_answer.specs.Due.{Only, Reports, Traces, IsDueScripted, IsDueService, IsDueSized, IsListedCode, IsPrinted, IsToldFor, approved, written};
 ghost use Rattle.due_answer.specs.declared.report.Report.{Report};
 
 use crate::accepted::{Accepted, accept};
@@ -14,7 +14,8 @@ use crate::engine::Engine;
 use crate::report::Report;
 use crate::runs::run;
 use crate::service::{Judged, served};
-use command_words::Command;
+use crate::traces::trace;
+use command_words::{Command, Crew, Places};
 use input_parts::parts_of;
 use mace_ast::Service;
 use mace_printer::print;
@@ -26,7 +27,7 @@ use wave_gen::generate;
 /// What is due for a command and an input that is not too large; a command that reads none does not look at it.
 pub fn judge(alloc: Global, command: Command, input: &[u8]) -> Result<Answer, OutOfMemory>
     requires { length input.now ≤ INPUT_BYTES }
-    ensures { IfOk result (IsOnlyDue command input.now) }
+    ensures { IfOk result (IsToldFor command input.now) }
 {
     match command {
         Command::Run(places, crew) => {
@@ -35,6 +36,7 @@ pub fn judge(alloc: Global, command: Command, input: &[u8]) -> Result<Answer, Ou
         Command::Seq(places) => {
             judge_run(alloc, Engine::Evaluator, Report::Listing(places), input)
         }
+        Command::Trace(places, crew) => judge_trace(alloc, places, crew, input),
         Command::Check => judge_check(alloc, input),
         Command::Print => judge_print(alloc, input),
         Command::Code => judge_code(alloc, input),
@@ -52,7 +54,7 @@ fn judge_gen(alloc: Global, n: u64) -> Result<Answer, OutOfMemory>
 
 // What is due for one that is to be run and summed up.
 fn judge_load(alloc: Global, n: u64) -> Result<Answer, OutOfMemory>
-    ensures { IfOk result (Only (IsDueSized (IsDueScripted Report.Summary) (load_text n))) }
+    ensures { IfOk result (Only (IsDueSized (IsDueScripted (Reports Report.Summary)) (load_text n))) }
 {
     let load = generate(alloc, n)?;
     judge_run(alloc, Engine::Evaluator, Report::Summary, load.as_slice())
@@ -122,10 +124,25 @@ fn judge_run(
     report: Report,
     input: &[u8],
 ) -> Result<Answer, OutOfMemory>
-    ensures { IfOk result (Only (IsDueSized (IsDueScripted report) input.now)) }
+    ensures { IfOk result (Only (IsDueSized (IsDueScripted (Reports report)) input.now)) }
 {
     match accept(alloc, input)? {
         Accepted::Ready(work) => run(alloc, engine, report, work),
+        Accepted::Refused(answer) => Ok(answer),
+    }
+}
+
+// What is due for a service and a script that are traced. A refusal is the only answer that is due.
+fn judge_trace(
+    alloc: Global,
+    places: Places,
+    crew: Crew,
+    input: &[u8],
+) -> Result<Answer, OutOfMemory>
+    ensures { IfOk result (IsDueSized (IsDueScripted (Traces places crew)) input.now) }
+{
+    match accept(alloc, input)? {
+        Accepted::Ready(work) => trace(alloc, places, crew, work),
         Accepted::Refused(answer) => Ok(answer),
     }
 }

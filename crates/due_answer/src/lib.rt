@@ -13,10 +13,13 @@ mod service;
 #[cfg(test)]
 mod tests;
 mod told;
+mod traces;
 mod work;
 
 pub use accepted::{Accepted, accept};
 pub use answer::{Answer, refused};
 pub use judging::judge;
-pub use told::status_of;
+pub use report::Report;
+pub use told::{reported, status_of};
+pub use traces::{journal_of, runs_have_paths};
 pub use work::Work;

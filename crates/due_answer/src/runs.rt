@@ -1,7 +1,6 @@
 //! What is accepted, run.
 
 ghost use Rattle.std.specs.Prelude.{◌≡◌, ◌≤◌, ◌-◌, ◌^◌, length, IfOk};
-ghost use Rattle.wave_base.specs.declared.limits.TheConstants.{WORKERS};
 ghost use Rattle.due_answer.specs.Accepted.{CanRun, ran};
 ghost use Rattle.due_answer.specs.Due.{reported};
 
@@ -11,8 +10,8 @@ use crate::report::Report;
 use crate::told::reported;
 use crate::work::Work;
 use std::alloc::Global;
-use wave_base::{OutOfMemory, Start, WORKERS};
-use wave_machine::{PickRule, Plan, drive_with};
+use wave_base::{OutOfMemory, Start};
+use wave_machine::{PickRule, drive_with};
 use wave_meaning::run_script;
 
 /// Runs what is accepted by an engine, and tells what was done.
@@ -22,9 +21,7 @@ pub fn run(alloc: Global, engine: Engine, report: Report, work: Work) -> Result<
 {
     match engine {
         Engine::Evaluator => evaluate(alloc, report, &work),
-        Engine::Machine(workers, rule) => {
-            drive(alloc, report, work, among_workers(workers), rule)
-        }
+        Engine::Machine(workers, rule) => drive(alloc, report, work, workers, rule),
     }
 }
 
@@ -46,31 +43,12 @@ fn drive(
     workers: u8,
     rule: PickRule,
 ) -> Result<Answer, OutOfMemory>
-    requires run { CanRun work }
-    requires some { 1 ≤ workers }
-    requires few { workers ≤ WORKERS }
+    requires { CanRun work }
     ensures { IfOk result (λ a. a ≡ reported work.program.shape report (ran work)) }
 {
-    let Work {
-        service: _,
-        program,
-        script,
-    } = work;
-    let plan = Plan {
-        program,
-        script,
-        workers,
-    };
+    let plan = work.into_plan(workers);
     let shape = &plan.program.program().shape;
     let start = Start::first(alloc, shape)?;
     let (done, _) = drive_with(alloc, &plan, &start, rule)?;
     reported(alloc, report, shape, &done)
-}
-
-// As many workers as a plan may have. The words of a command give no other number.
-fn among_workers(workers: u8) -> u8
-    ensures some { 1 ≤ result }
-    ensures few { result ≤ WORKERS }
-{
-    workers.clamp(1, WORKERS)
 }

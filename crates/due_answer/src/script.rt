@@ -6,7 +6,7 @@ ghost use Rattle.mace_ast.specs.Decls.{ServiceTree};
 ghost use Rattle.fault_notes.specs.Notes.{script_note};
 ghost use Rattle.script_reader.specs.declared.error.ScriptError.{ScriptError};
 ghost use Rattle.due_answer.specs.Accepted.{IsAcceptedBy, IsReady};
-ghost use Rattle.due_answer.specs.Due.{IsDueFold, IsDueLines, IsDueScript, refusal};
+ghost use Rattle.due_answer.specs.Due.{IsDueTold, IsDueLines, IsDueScript, refusal};
 ghost use Rattle.due_answer.specs.inner.Coded.{IsCoded};
 ghost use Rattle.due_answer.specs.inner.Served.{IsTypedTree};
 
@@ -15,10 +15,12 @@ use crate::answer::{Answer, refused};
 use crate::work::Work;
 use context_types::Typed;
 use fault_notes::script_note;
+use plan_actors::{PlanActors, plans_drive};
 use script_reader::{ScriptError, read_script};
 use service_verify::Verified;
 use std::alloc::Global;
 use wave_base::{OutOfMemory, SCRIPT_BYTES, Script};
+use wave_theory::rules_pick;
 
 fn refused_script(alloc: Global, error: &ScriptError) -> Result<Answer, OutOfMemory>
     ensures refused { IfOk result (λ a. a ≡ refusal 4 (script_note error.now)) }
@@ -30,8 +32,10 @@ fn refused_script(alloc: Global, error: &ScriptError) -> Result<Answer, OutOfMem
 
 // A script that was read, with its service and the code.
 fn ready(typed: Typed, program: Verified, script: Script) -> Work
-    ensures { (tree : ServiceTree) → IsTypedTree tree typed → IsCoded typed.shape typed.resolved program → IsScript typed.shape script → IsReady (λ report. IsDueFold report tree script) result }
+    ensures { (tree : ServiceTree) → IsTypedTree tree typed → IsCoded typed.shape typed.resolved program → IsScript typed.shape script → IsReady (λ telling. IsDueTold telling tree script) result }
 {
+    plans_drive();
+    rules_pick::<PlanActors>();
     let Typed {
         service: _,
         shape: _,
@@ -53,7 +57,7 @@ fn accept_lines(
 ) -> Result<Accepted, OutOfMemory>
     requires shape { IsShape typed.shape }
     requires short { length text.now ≤ SCRIPT_BYTES }
-    ensures { (tree : ServiceTree) → IsTypedTree tree typed → IsCoded typed.shape typed.resolved program → IfOk result (IsAcceptedBy (λ report. IsDueLines (IsDueFold report tree) typed.shape text.now)) }
+    ensures { (tree : ServiceTree) → IsTypedTree tree typed → IsCoded typed.shape typed.resolved program → IfOk result (IsAcceptedBy (λ telling. IsDueLines (IsDueTold telling tree) typed.shape text.now)) }
 {
     match read_script(alloc, &typed.shape, text) {
         Ok(script) => Ok(Accepted::Ready(ready(typed, program, script))),
@@ -69,7 +73,7 @@ pub fn accept_script(
     text: &[u8],
 ) -> Result<Accepted, OutOfMemory>
     requires { IsShape typed.shape }
-    ensures { (tree : ServiceTree) → IsTypedTree tree typed → IsCoded typed.shape typed.resolved program → IfOk result (IsAcceptedBy (λ report. IsDueScript (IsDueFold report) text.now tree)) }
+    ensures { (tree : ServiceTree) → IsTypedTree tree typed → IsCoded typed.shape typed.resolved program → IfOk result (IsAcceptedBy (λ telling. IsDueScript (IsDueTold telling) text.now tree)) }
 {
     if text.len() > SCRIPT_BYTES {
         return refuse(alloc, 4, b"TooLarge script");
