@@ -16,7 +16,7 @@ use Rattle.eventwave_program.specs.declared.ending.Ending.{Ending}
 use Rattle.eventwave_program.specs.declared.ending.Ending.TheVariants.{WordsRefused, ReadFault, WriteFault, NoMemory, Answered}
 use Rattle.command_words.specs.Reading.{command_of}
 use Rattle.due_answer.proofs.StatusLemmas.{own_status, statuses}
-use Rattle.due_answer.proofs.DueLemmas.{only_too_large}
+use Rattle.due_answer.proofs.DueLemmas.{only_too_large, told_only}
 
 -- where more was read than is allowed, the input is too large
 pub long_input : (old new : Option (List ℕ)) (bytes : List ℕ) → Consumes old new bytes → INPUT_BYTES < length bytes → IsLong old
@@ -32,7 +32,7 @@ pub no_bytes : (c : Command) (left : Option (List ℕ)) → reads_input c ≡ fa
 no_bytes c left reads = subst (λ b. IsInputWhere b left []) (sym reads) refl
 
 pub too_large_due : (c : Command) (left : Option (List ℕ)) (a : Answer) → reads_input c ≡ true → a ≡ too_large_input → IsLong left → SomeInputDue c left a
-too_large_due c left a reads e h = record { bytes = h.bytes; input = read_bytes c left h.bytes reads h.input; told = subst (IsToldFor c h.bytes) (sym e) (only_too_large c h.bytes reads h.long) }
+too_large_due c left a reads e h = record { bytes = h.bytes; input = read_bytes c left h.bytes reads h.input; told = subst (IsToldFor c h.bytes) (sym e) (told_only c h.bytes too_large_input (only_too_large c h.bytes reads h.long)) }
 
 -- what is told for a command is due
 due_of_told : (c : Command) (bytes : List ℕ) (due : Answer) → IsToldFor c bytes due → IsDue c bytes due

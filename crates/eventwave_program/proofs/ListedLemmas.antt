@@ -1,6 +1,6 @@
 -- What is written of a run, part by part.
-use Rattle.std.proofs.Common.{◌≡◌, ◌∙◌, ℕ, ◌≤◌, Bool, true, false, List, [], ◌++◌, map, Option, None, Some, ap, arith, refl, sym, subst, append_assoc, append-nil}
-use Rattle.std.specs.Prelude.{is_none}
+use Rattle.std.proofs.Common.{◌≡◌, ◌∙◌, ℕ, ◌≤◌, Bool, true, false, List, [], ◌++◌, map, Option, None, Some, ap, arith, inr, refl, sym, subst, append_assoc, append-nil}
+use Rattle.std.specs.Prelude.{if◌then◌else◌, is_none}
 use Rattle.std.specs.List.{concat}
 use Rattle.std.specs.Io.KnownBytes.{Appends}
 use Rattle.std.proofs.KnownBytes.{Appends-trans}
@@ -30,12 +30,13 @@ use Rattle.wave_machine.specs.Plans.{plan_of}
 use Rattle.wave_machine.specs.declared.plan.Plan.{Plan}
 use Rattle.host_workers.specs.Endings as hosts
 use Rattle.host_workers.specs.Lines.{event_lines, told_by}
+use Rattle.host_workers.specs.Runs.{IsRun}
 use Rattle.due_answer.specs.declared.answer.Answer.{Answer}
 use Rattle.due_answer.specs.declared.report.Report.TheVariants.{Listing, Summary}
 use Rattle.due_answer.specs.declared.work.Work.{Work}
 use Rattle.due_answer.specs.Accepted.{CanRun, IsAccepted, IsJournalOf, IsReady, IsTraced, plan_with, ran, trace_of}
 use Rattle.due_answer.specs.declared.accepted.Accepted.TheVariants.{Refused, Ready}
-use Rattle.due_answer.specs.Due.{IsDue, IsToldFor, Telling, Reports, Traces, is_listed, reported, with_text}
+use Rattle.due_answer.specs.Due.{any_trap, is_listed, reported, with_text}
 use Rattle.due_answer.specs.Runs.{IsFinishedRun, IsRunBy, nearest_workers}
 use Rattle.eventwave_program.specs.declared.ending.Ending.{Ending}
 use Rattle.eventwave_program.specs.declared.ending.Ending.TheVariants.{WordsRefused, ReadFault, WriteFault, NoMemory, Answered}
@@ -89,3 +90,79 @@ same_ran work plan p s = λ i. finished_of (code_ran (p i)) (p i).shape (first_s
 unfolding lines_by
 listing_is : (work : Work) (places : Places) → (reported work.program.shape (Listing places) (ran work)).text ≡ lines_of work ++ end_text places work.program.shape (ran work)
 listing_is work places = concat-append (lines_from work.program.shape 1 (shown_of (ran work))) (end_lines work.program.shape (places_of (ran work) (is_listed places)) (last_ticket 1 (ran work)))
+
+-- ---- what is told of a run
+
+-- an answer with the status of what was accepted
+as_told : Work → List ℕ → Answer
+as_told work text = record { status = if any_trap (ran work).results then 1 else 0; note = []; text = text }
+
+no_schedule : (s : Option Schedule) → is_none s ≡ true → s ≡ None
+no_schedule None h = refl
+no_schedule (Some s) h = (let bad : false ≡ true = h in absurd cc)
+
+-- a finished run of a free crew is one of its runs
+free_run : (crew : Crew) (plan : plans.Plan) (labels : List theory.Label) → is_none crew.schedule ≡ true → IsFinishedRun plan labels → IsRunBy crew.schedule plan labels
+free_run crew plan labels free run = subst (λ s. IsRunBy s plan labels) (sym (no_schedule crew.schedule free)) run
+
+-- what the workers' run is in words of plans
+pub finished_run : (plan : Plan) (labels : List theory.Label) → hosts.IsFinishedRun plan (first_start plan.program.shape) labels → IsFinishedRun (plan_of plan) labels
+finished_run plan labels h = record { state = h.state; reached = h.reached; finished = h.finished }
+
+same_plan : (work : Work) (plan : Plan) (workers : ℕ) → plan.program ≡ work.program → plan.script ≡ work.script → plan.workers ≡ workers → plan_of plan ≡ plan_with work workers
+same_plan work plan workers p s w = λ i. record { program = p i; script = s i; workers = w i }
+
+-- the lines of the events, and what stands behind them, is what is told
+unfolding as_told
+tells_rest : (behind : Behind) (places : Places) (crew : Crew) (work : Work) (journal : List Label) → runs_workers (command_with behind places crew) ≡ true
+    → IsFinishedRun (plan_with work (nearest_workers crew.workers)) (map label_of journal)
+    → TellsWith behind places crew work (with_lines (lines_of work) (rest_of (record { places = places; behind = behind; crew = crew }) work.program.shape (ran work) journal))
+tells_rest Nothing places crew work journal free run = ap (as_told work) (sym (listing_is work places))
+tells_rest Journal places crew work journal free run = record {
+  journal = journal;
+  run = free_run crew (plan_with work (nearest_workers crew.workers)) (map label_of journal) free run;
+  is = (let text : List ℕ = journal_text work.program.shape journal in
+    ap (as_told work) (sym (append_assoc (lines_of work) (end_text places work.program.shape (ran work)) text) ∙ ap (λ z. z ++ text) (sym (listing_is work places))));
+}
+
+-- where the lines broke off, they are a front of what is told of some run
+tells_front : (behind : Behind) (places : Places) (crew : Crew) (work : Work) (old new : Option (List ℕ)) (e : Ending) → CanRun work → AppendsFront old new (lines_of work)
+    → ((a : Answer) → AppendsFront old new a.text → Gave a old new e) → Gives (TellsWith behind places crew work) old new e
+tells_front Nothing places crew work old new e can front g =
+    let a : Answer = reported work.program.shape (Listing places) (ran work) in
+    record { due = a; is_so = refl; gave = g a (subst (AppendsFront old new) (sym (listing_is work places)) (front_on old new (lines_of work) (end_text places work.program.shape (ran work)) front)) }
+tells_front Journal places crew work old new e can front g =
+    let j = can.runs crew in
+    let a : Answer = trace_of work places j.0 in
+    let whole = subst (AppendsFront old new) (sym (listing_is work places)) (front_on old new (lines_of work) (end_text places work.program.shape (ran work)) front) in
+    record {
+      due = a;
+      is_so = record { journal = j.0; run = j.1; is = refl };
+      gave = g a (front_on old new (reported work.program.shape (Listing places) (ran work)).text (journal_text work.program.shape j.0) whole);
+    }
+
+module _ (task : Task) (work : Work) (plan : Plan) (p : plan.program ≡ work.program) (s : plan.script ≡ work.script) where
+  -- a run that came to its end, with all that was written behind its lines
+  pub run_gives : (done : Finished) (journal : List Label) (old mid new : Option (List ℕ)) (e : Ending) → runs_workers (command_for task) ≡ true
+      → plan.workers ≡ nearest_workers task.crew.workers → IsRun plan (first_start plan.program.shape) (done, journal)
+      → Appends old mid (event_lines plan (first_start plan.program.shape)) → Gave (rest_of task plan.program.shape done journal) mid new e → SomeGave (Tells task work) old new e
+  run_gives done journal old mid new e free w run lines gave =
+      let r : done ≡ ran work = run.0 ∙ same_ran work plan p s in
+      let rest : Answer = rest_of task work.program.shape (ran work) journal in
+      let g : Gave rest mid new e = subst (λ a. Gave a mid new e) (λ i. rest_of task (p i).shape (r i) journal) gave in
+      let l : Appends old mid (lines_of work) = subst (Appends old mid) (same_lines work plan p s) lines in
+      let labels : List theory.Label = map label_of journal in
+      let f = subst (λ x. IsFinishedRun x labels) (same_plan work plan (nearest_workers task.crew.workers) p s w) (finished_run plan labels run.1) in
+      gives_it old new (Tells task work) (with_lines (lines_of work) rest) e (tells_rest task.behind task.places task.crew work journal free f) (gave_behind old mid new (lines_of work) rest e l g)
+
+  -- a run that broke off
+  run_breaks : (old new : Option (List ℕ)) (e : Ending) → CanRun work → AppendsFront old new (event_lines plan (first_start plan.program.shape))
+      → ((a : Answer) → AppendsFront old new a.text → Gave a old new e) → Gives (Tells task work) old new e
+  run_breaks old new e can front g =
+      tells_front task.behind task.places task.crew work old new e can (subst (AppendsFront old new) (same_lines work plan p s) front) g
+
+  pub run_fails : (old new : Option (List ℕ)) → CanRun work → AppendsFront old new (event_lines plan (first_start plan.program.shape)) → SomeGave (Tells task work) old new WriteFault
+  run_fails old new can front = run_breaks old new WriteFault can front (λ a h. h)
+
+  pub run_wants : (old new : Option (List ℕ)) → CanRun work → AppendsFront old new (event_lines plan (first_start plan.program.shape)) → SomeGave (Tells task work) old new NoMemory
+  run_wants old new can front = inr (run_breaks old new NoMemory can front (λ a h. h))
