@@ -1,5 +1,7 @@
 -- From what is accepted of the parts of an input to what is accepted of the whole.
 use Rattle.std.proofs.Common.{◌≡◌, ◌≢◌, ℕ, ◌≤◌, ◌<◌, inl, inr, List, length, Option, Some, None, Result, Ok, Err, IfOk, refl, sym, subst, arith}
+use Rattle.command_words.specs.declared.command.Crew.{Crew}
+use Rattle.command_words.specs.declared.command.Places.{Places}
 use Rattle.wave_base.specs.declared.finished.Finished.{Finished}
 use Rattle.wave_base.specs.declared.limits.TheConstants.{SCRIPT_BYTES}
 use Rattle.wave_base.specs.declared.script.Script.{Script}
@@ -19,21 +21,22 @@ use Rattle.due_answer.specs.declared.accepted.Accepted.TheVariants.{Refused, Rea
 use Rattle.due_answer.specs.declared.answer.Answer.{Answer}
 use Rattle.due_answer.specs.declared.report.Report.{Report}
 use Rattle.due_answer.specs.declared.work.Work.{Work}
-use Rattle.due_answer.specs.Accepted.{IsAcceptedBy, IsReady, ran}
-use Rattle.due_answer.specs.Due.{Only, IsDueBoth, IsDueLines, IsDueRead, IsDueScript, IsDueService, IsDueTyped, no_script, reported, too_large_script}
+use Rattle.due_answer.specs.Accepted.{IsAcceptedBy, IsReady, IsTraced, ran, trace_of}
+use Rattle.due_answer.specs.Due.{Only, Reports, Telling, Traces, IsDueBoth, IsDueLines, IsDueRead, IsDueScript, IsDueService, IsDueTyped, no_script, reported, too_large_script}
 use Rattle.due_answer.specs.inner.Coded.{IsCoded}
 use Rattle.due_answer.specs.inner.Served.{IsRead, IsTypedRead, IsTypedTree}
-use Rattle.due_answer.proofs.CodeLemmas.{only_coded}
+use Rattle.due_answer.proofs.CodeLemmas.{is_coded, only_coded}
 use Rattle.due_answer.proofs.DueLemmas.{of_read, only_same}
 
 -- ---- what is accepted, from one to the other
 
-module _ (P Q : Report → Answer → Type 0) (lift : (report : Report) (due : Answer) → Only (P report) due → Only (Q report) due) where
+module _ (P Q : Telling → Answer → Type 0) (also : (telling : Telling) (due : Answer) → P telling due → Q telling due) (lift : (telling : Telling) (due : Answer) → Only (P telling) due → Only (Q telling) due) where
   pub accepted_as : (x : Accepted) → IsAcceptedBy P x → IsAcceptedBy Q x
-  accepted_as (Refused answer) h = λ report. lift report answer (h report)
+  accepted_as (Refused answer) h = λ telling. lift telling answer (h telling)
   accepted_as (Ready work) h = record {
     can_run = h.can_run;
-    due = λ report done is. lift report (reported work.program.shape report done) (h.due report done is);
+    due = λ report done is. lift (Reports report) (reported work.program.shape report done) (h.due report done is);
+    traced = λ places crew journal run. also (Traces places crew) (trace_of work places journal) (h.traced places crew journal run);
   }
 
   pub accepted_if : {E : Type 0} (r : Result Accepted E) → IfOk r (IsAcceptedBy P) → IfOk r (IsAcceptedBy Q)
@@ -41,28 +44,34 @@ module _ (P Q : Report → Answer → Type 0) (lift : (report : Report) (due : A
   accepted_if (Err e) h = tt
 
 -- a refusal that was made
-pub refused_if : {E : Type 0} (P : Report → Answer → Type 0) (answer : Answer) (r : Result Accepted E) → IfOk r (λ x. x ≡ Refused answer) → ((report : Report) → Only (P report) answer) → IfOk r (IsAcceptedBy P)
+pub refused_if : {E : Type 0} (P : Telling → Answer → Type 0) (answer : Answer) (r : Result Accepted E) → IfOk r (λ x. x ≡ Refused answer) → ((telling : Telling) → Only (P telling) answer) → IfOk r (IsAcceptedBy P)
 refused_if P answer (Ok x) is h = subst (IsAcceptedBy P) (sym is) h
 refused_if P answer (Err e) is h = tt
 
 -- what was run is told
-pub told_if : {E : Type 0} (P : Report → Answer → Type 0) (work : Work) (report : Report) (r : Result Answer E) → IsReady P work → IfOk r (λ a. a ≡ reported work.program.shape report (ran work)) → IfOk r (Only (P report))
-told_if P work report (Ok a) h is = subst (Only (P report)) (sym is) (h.due report (ran work) refl)
+pub told_if : {E : Type 0} (P : Telling → Answer → Type 0) (work : Work) (report : Report) (r : Result Answer E) → IsReady P work → IfOk r (λ a. a ≡ reported work.program.shape report (ran work)) → IfOk r (Only (P (Reports report)))
+told_if P work report (Ok a) h is = subst (Only (P (Reports report))) (sym is) (h.due report (ran work) refl)
 told_if P work report (Err e) h is = tt
+
+-- what was traced
+pub traced_if : {E : Type 0} (P : Telling → Answer → Type 0) (work : Work) (places : Places) (crew : Crew) (r : Result Answer E) → IsReady P work → IfOk r (IsTraced crew work places) → IfOk r (P (Traces places crew))
+traced_if P work places crew (Ok a) h is = subst (P (Traces places crew)) (sym is.is) (h.traced places crew is.journal is.run)
+traced_if P work places crew (Err e) h is = tt
 
 -- ---- a service, and a script that is to be there
 
-module _ {E : Type 0} (P : Report → ServiceTree → Answer → Type 0) (text : List ℕ) (typed : Typed) (program : Program) (r : Result Accepted E) where
+module _ {E : Type 0} (P : Telling → ServiceTree → Answer → Type 0) (text : List ℕ) (typed : Typed) (program : Program) (r : Result Accepted E) where
   typed_as_read : (read : Result ServiceTree TextFault) → IsOnlyParse text read → IsTypedRead typed program read →
-      ((tree : ServiceTree) → IsTypedTree tree typed → IsCoded typed.shape typed.resolved program → IfOk r (IsAcceptedBy (λ report. P report tree))) → IfOk r (IsAcceptedBy (λ report. IsDueService (P report) text))
+      ((tree : ServiceTree) → IsTypedTree tree typed → IsCoded typed.shape typed.resolved program → IfOk r (IsAcceptedBy (λ telling. P telling tree))) → IfOk r (IsAcceptedBy (λ telling. IsDueService (P telling) text))
   typed_as_read (Err e) parse is o = absurd is
   typed_as_read (Ok tree) parse is o =
-      accepted_if (λ report. P report tree) (λ report. IsDueService (P report) text)
-      (λ report due one. of_read (P report) text (Ok tree) due parse (subst (λ w. Only (IsDueTyped (P report) tree w) due) (sym is.0.holds) (only_coded (P report) tree typed due is.0 is.1.short one)))
+      accepted_if (λ telling. P telling tree) (λ telling. IsDueService (P telling) text)
+      (λ telling due h. record { read = Ok tree; parses = parse.is_so; due_is = subst (λ w. IsDueTyped (P telling) tree w due) (sym is.0.holds) (is_coded (P telling) tree typed due is.0 is.1.short h) })
+      (λ telling due one. of_read (P telling) text (Ok tree) due parse (subst (λ w. Only (IsDueTyped (P telling) tree w) due) (sym is.0.holds) (only_coded (P telling) tree typed due is.0 is.1.short one)))
       r (o tree is.0 is.1)
 
   pub typed_accepted : IsRead text (IsTypedRead typed program) →
-      ((tree : ServiceTree) → IsTypedTree tree typed → IsCoded typed.shape typed.resolved program → IfOk r (IsAcceptedBy (λ report. P report tree))) → IfOk r (IsAcceptedBy (λ report. IsDueService (P report) text))
+      ((tree : ServiceTree) → IsTypedTree tree typed → IsCoded typed.shape typed.resolved program → IfOk r (IsAcceptedBy (λ telling. P telling tree))) → IfOk r (IsAcceptedBy (λ telling. IsDueService (P telling) text))
   typed_accepted read o = typed_as_read read.read read.parse read.is_so o
 
 pub only_no_script : (P : ServiceTree → Script → Answer → Type 0) (text : List ℕ) (found : Option (List ℕ)) → found ≡ None → Only (IsDueBoth P text found) no_script

@@ -69,6 +69,9 @@ module _ (P : ServiceTree → Answer → Type 0) (tree : ServiceTree) where
       others other s e (inr h) = absurd (not_short (shape_of tree) service s (is ∙ sym e) long.number long.size long.long h.0)
 
   -- none is
+  pub is_coded : (typed : Typed) (due : Answer) → IsTypedTree tree typed → AreShort typed.shape typed.resolved → P tree due → IsDueCoded P tree due
+  is_coded typed due t short h = record { service = typed.resolved; resolved = t.resolved_is; due_is = inr (subst (λ s. AreShort s typed.resolved) t.shape_is short, h) }
+
   pub only_coded : (typed : Typed) (due : Answer) → IsTypedTree tree typed → AreShort typed.shape typed.resolved → Only (P tree) due → Only (IsDueCoded P tree) due
   only_coded typed due t short o = record {
     is_due = record { service = typed.resolved; resolved = t.resolved_is; due_is = inr (fits, o.is_due) };

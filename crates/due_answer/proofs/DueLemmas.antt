@@ -19,9 +19,9 @@ use Rattle.command_words.specs.declared.command.Command.{Command}
 use Rattle.due_answer.specs.declared.report.Report.{Report}
 use Rattle.input_parts.specs.Parts.{service_of}
 use Rattle.command_words.specs.Inputs.{reads_input}
-use Rattle.command_words.specs.declared.command.Command.TheVariants.{Run, Seq, Check, Print, Code, Gen, Load}
+use Rattle.command_words.specs.declared.command.Command.TheVariants.{Run, Seq, Trace, Check, Print, Code, Gen, Load}
 use Rattle.due_answer.specs.declared.report.Report.TheVariants.{Listing}
-use Rattle.due_answer.specs.Due.{Only, IsDueBoth, IsDueScripted, IsDueSized, IsListedCode, IsPrinted, approved, IsDueService, IsDueOf, IsDueTyped, IsDueScript, IsDueLines, IsDueFold, IsOnlyDue, reported, too_large_input}
+use Rattle.due_answer.specs.Due.{Only, Reports, Traces, IsDue, IsDueBoth, IsDueScripted, IsDueSized, IsListedCode, IsPrinted, approved, IsDueService, IsDueOf, IsDueTyped, IsDueScript, IsDueLines, IsDueFold, IsOnlyDue, IsToldFor, reported, too_large_input}
 use Rattle.service_code.specs.declared.program.Program.{Program}
 use Rattle.due_answer.specs.inner.Coded.{IsCoded}
 use Rattle.due_answer.specs.declared.service.Judged.{Judged}
@@ -121,10 +121,33 @@ sized_if P bytes (Err e) small o = tt
 
 -- a command that reads its input is told so where there is too much of it
 pub only_too_large : (c : Command) (bytes : List ℕ) → reads_input c ≡ true → INPUT_BYTES < length bytes → IsOnlyDue c bytes too_large_input
-only_too_large (Run places crew) bytes reads long = sized_long (IsDueScripted (Listing places)) bytes long
-only_too_large (Seq places) bytes reads long = sized_long (IsDueScripted (Listing places)) bytes long
+only_too_large (Run places crew) bytes reads long = sized_long (IsDueScripted (Reports (Listing places))) bytes long
+only_too_large (Seq places) bytes reads long = sized_long (IsDueScripted (Reports (Listing places))) bytes long
+only_too_large (Trace places crew) bytes reads long = sized_long (IsDueScripted (Traces places crew)) bytes long
 only_too_large Check bytes reads long = sized_long (λ b. IsDueService (λ tree a. a ≡ approved) (service_of b)) bytes long
 only_too_large Code bytes reads long = sized_long (λ b. IsDueService IsListedCode (service_of b)) bytes long
 only_too_large Print bytes reads long = sized_long (λ b. IsDueService IsPrinted (service_of b)) bytes long
 only_too_large (Gen n) bytes reads long = cc
 only_too_large (Load n crew) bytes reads long = cc
+
+-- the only answer that is due may be told
+pub told_only : (c : Command) (bytes : List ℕ) (due : Answer) → IsOnlyDue c bytes due → IsToldFor c bytes due
+told_only (Run places crew) bytes due o = o
+told_only (Seq places) bytes due o = o
+told_only (Trace places crew) bytes due o = o.is_due
+told_only Check bytes due o = o
+told_only Code bytes due o = o
+told_only Print bytes due o = o
+told_only (Gen n) bytes due o = o
+told_only (Load n crew) bytes due o = o
+
+-- and what is told is due
+pub told_due : (c : Command) (bytes : List ℕ) (due : Answer) → IsToldFor c bytes due → IsDue c bytes due
+told_due (Run places crew) bytes due o = o.is_due
+told_due (Seq places) bytes due o = o.is_due
+told_due (Trace places crew) bytes due o = o
+told_due Check bytes due o = o.is_due
+told_due Code bytes due o = o.is_due
+told_due Print bytes due o = o.is_due
+told_due (Gen n) bytes due o = o.is_due
+told_due (Load n crew) bytes due o = o.is_due

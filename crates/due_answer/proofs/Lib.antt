@@ -2,5 +2,8 @@ pub mod CodeLemmas
 pub mod NameLemmas
 pub mod DueLemmas
 pub mod AcceptLemmas
+pub mod RunLemmas
+pub mod PathLemmas
 pub mod WorkLemmas
+pub mod TraceLemmas
 pub mod StatusLemmas

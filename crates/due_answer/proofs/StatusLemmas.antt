@@ -12,11 +12,10 @@ use Rattle.type_rules.specs.Services.{service_demands}
 use Rattle.type_rules.specs.Known.{shape_of}
 use Rattle.wave_meaning.specs.Meaning.{results_of}
 use Rattle.command_words.specs.declared.command.Command.{Command}
-use Rattle.command_words.specs.declared.command.Command.TheVariants.{Run, Seq, Check, Print, Code, Gen, Load}
+use Rattle.command_words.specs.declared.command.Command.TheVariants.{Run, Seq, Trace, Check, Print, Code, Gen, Load}
 use Rattle.due_answer.specs.declared.answer.Answer.{Answer}
-use Rattle.due_answer.specs.declared.report.Report.{Report}
 use Rattle.due_answer.specs.declared.report.Report.TheVariants.{Listing, Summary}
-use Rattle.due_answer.specs.Due.{IsDue, IsDueBoth, IsDueOf, IsDueRead, IsDueFold, IsDueScript, IsDueScripted, IsDueService, IsDueSized, IsDueTyped, IsListedCode, IsPrinted, any_trap, approved, reported}
+use Rattle.due_answer.specs.Due.{Reports, Telling, Traces, IsDue, IsDueBoth, IsDueOf, IsDueRead, IsDueTold, IsDueScript, IsDueScripted, IsDueService, IsDueSized, IsDueTyped, IsListedCode, IsPrinted, any_trap, approved, reported}
 
 abbrev pub own_status : ℕ → Bool
 own_status n = n == 0 || n == 1 || n == 3 || n == 4
@@ -49,8 +48,9 @@ by_traps : (b : Bool) → own_status (cond b 1 0) ≡ true
 by_traps true = refl
 by_traps false = refl
 
-folded : (report : Report) (tree : ServiceTree) (script : Script) (due : Answer) → IsDueFold report tree script due → HasOwn due
-folded report tree script due h = of_answer due _ h.due_is (by_traps (any_trap (results_of (shape_of tree) h.service script).results))
+told : (telling : Telling) (tree : ServiceTree) (script : Script) (due : Answer) → IsDueTold telling tree script due → HasOwn due
+told (Reports report) tree script due h = of_answer due _ h.due_is (by_traps (any_trap (results_of (shape_of tree) h.service script).results))
+told (Traces places crew) tree script due h = of_answer due _ h.due_is (by_traps (any_trap (results_of (shape_of tree) h.service script).results))
 
 read : (P : Script → Answer → Type 0) (r : Result Script ScriptError) (due : Answer) → ((script : Script) → P script due → HasOwn due) → IsDueRead P r due → HasOwn due
 read P (Err e) due f h = of_answer due _ h refl
@@ -60,22 +60,23 @@ script_text : (P : ServiceTree → Script → Answer → Type 0) (text : List �
 script_text P text tree due f (inl h) = of_answer due _ h.1 refl
 script_text P text tree due f (inr h) = read (P tree) h.1.read due f h.1.due_is
 
-both : (report : Report) (text : List ℕ) (found : Option (List ℕ)) (due : Answer) → IsDueBoth (IsDueFold report) text found due → HasOwn due
-both report text None due h = of_answer due _ h refl
-both report text (Some script) due h =
-    service (IsDueScript (IsDueFold report) script) text due (λ tree k. script_text (IsDueFold report) script tree due (λ s j. folded report tree s due j) k) h
+both : (telling : Telling) (text : List ℕ) (found : Option (List ℕ)) (due : Answer) → IsDueBoth (IsDueTold telling) text found due → HasOwn due
+both telling text None due h = of_answer due _ h refl
+both telling text (Some script) due h =
+    service (IsDueScript (IsDueTold telling) script) text due (λ tree k. script_text (IsDueTold telling) script tree due (λ s j. told telling tree s due j) k) h
 
-scripted : (report : Report) (bytes : List ℕ) (due : Answer) → IsDueSized (IsDueScripted report) bytes due → HasOwn due
-scripted report bytes due = sized (IsDueScripted report) bytes due (both report (service_of bytes) (script_of bytes) due)
+scripted : (telling : Telling) (bytes : List ℕ) (due : Answer) → IsDueSized (IsDueScripted telling) bytes due → HasOwn due
+scripted telling bytes due = sized (IsDueScripted telling) bytes due (both telling (service_of bytes) (script_of bytes) due)
 
 approves : (due : Answer) → due ≡ approved → HasOwn due
 approves due h = of_answer due approved h refl
 
 pub statuses : (c : Command) (bytes : List ℕ) (due : Answer) → IsDue c bytes due → HasOwn due
-statuses (Run places crew) bytes due h = scripted (Listing places) bytes due h
-statuses (Seq places) bytes due h = scripted (Listing places) bytes due h
+statuses (Run places crew) bytes due h = scripted (Reports (Listing places)) bytes due h
+statuses (Seq places) bytes due h = scripted (Reports (Listing places)) bytes due h
+statuses (Trace places crew) bytes due h = scripted (Traces places crew) bytes due h
 statuses Check bytes due h = sized (λ b. IsDueService (λ tree a. a ≡ approved) (service_of b)) bytes due (service (λ tree a. a ≡ approved) (service_of bytes) due (λ tree k. approves due k)) h
 statuses Code bytes due h = sized (λ b. IsDueService IsListedCode (service_of b)) bytes due (service IsListedCode (service_of bytes) due (λ tree k. of_answer due _ k.due_is refl)) h
 statuses Print bytes due h = sized (λ b. IsDueService IsPrinted (service_of b)) bytes due (service IsPrinted (service_of bytes) due (λ tree k. of_answer due _ k.due_is refl)) h
 statuses (Gen n) bytes due h = of_answer due _ h refl
-statuses (Load n crew) bytes due h = scripted Summary _ due h
+statuses (Load n crew) bytes due h = scripted (Reports Summary) _ due h

@@ -3,6 +3,7 @@ use Rattle.std.specs.Prelude.{◌≡◌, ◌≤◌, ◌-◌, ◌^◌, ℕ, List,
 use Rattle.wave_base.specs.declared.finished.Finished.{Finished}
 use Rattle.wave_base.specs.declared.limits.TheConstants.{WORKERS}
 use Rattle.wave_base.specs.Starts.{first_start}
+use Rattle.resolved_service.specs.declared.service.Resolved.{Resolved}
 use Rattle.script_fold.specs.Runs.{finished_of}
 use Rattle.code_runner.specs.Coded.{IsCode}
 use Rattle.plan_actors.specs.Calls.{code_ran}
@@ -24,6 +25,12 @@ use Rattle.due_answer.specs.Runs.{IsRunOf, nearest_workers}
 -- the plan of so many workers
 abbrev pub plan_with : Work → ℕ → Plan
 plan_with work workers = record { program = work.program; script = work.script; workers = workers }
+
+-- a plan that fits, and whose program is the code of a service
+pub record HasCode (plan : Plan) : Type 0 where
+  pub service : Resolved
+  pub code : IsCode service plan.program
+  pub fits : Fits plan
 
 -- what its script gives from the root alone, with calls run by their code
 abbrev pub ran : Work → Finished

@@ -1,10 +1,11 @@
 //! What is told of services by `check`: each thing that is asked of one, and its limits at the number and one past it; of
-//! the lines of scripts; of events that trap; and of what the machine runs.
+//! the lines of scripts; of events that trap; and of what the machine runs, which is traced too.
 
 mod limits;
 mod rows;
 mod schedules;
 mod scripts;
+mod traces;
 mod traps;
 
 use crate::{Answer, judge};

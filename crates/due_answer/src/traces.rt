@@ -1,14 +1,13 @@
 //! What is accepted, traced: what was done is told, and behind it the journal of the run.
 
-ghost use Rattle.std.specs.Prelude.{◌≡◌, map, All, IfOk};
+ghost use Rattle.std.specs.Prelude.{◌≡◌, List, map, All, IfOk};
 ghost use Rattle.journal_text.specs.Fits.{HasPath};
 ghost use Rattle.journal_text.specs.JournalTexts.{IsJournalText};
-ghost use Rattle.plan_actors.specs.Plans as plans;
+ghost use Rattle.plan_actors.specs.Plans.{Plan};
 ghost use Rattle.wave_labels.specs.declared.label.Label.{Label};
 ghost use Rattle.wave_labels.specs.Labels.{label_of};
 ghost use Rattle.wave_machine.specs.Plans.{plan_of};
-ghost use Rattle.std.specs.Prelude.{List};
-ghost use Rattle.due_answer.specs.Accepted.{CanRun, IsTraced};
+ghost use Rattle.due_answer.specs.Accepted.{CanRun, HasCode, IsTraced};
 ghost use Rattle.due_answer.specs.Due.{with_text};
 ghost use Rattle.due_answer.specs.Runs.{IsFinishedRun};
 
@@ -28,7 +27,7 @@ use wave_theory::{by_owners, complete, one_owner, rules_pick, trails};
 
 /// Each context that a finished run names is one of the shape.
 pub fn runs_have_paths()
-    ensures { (plan : plans.Plan) (journal : List Label) → plans.Fits plan → IsFinishedRun plan (map label_of journal) → All (λ (l : Label). HasPath plan.program.shape l.act) journal }
+    ensures { (plan : Plan) (journal : List Label) → HasCode plan → IsFinishedRun plan (map label_of journal) → All (λ (l : Label). HasPath plan.program.shape l.act) journal }
 {
     by_owners::<PlanActors>();
     complete::<PlanActors>();
@@ -42,7 +41,7 @@ pub fn journal_of(
     plan: &Plan,
     journal: &Seq<Label>,
 ) -> Result<Seq<u8>, OutOfMemory>
-    requires fits { plans.Fits (plan_of plan.now) }
+    requires code { HasCode (plan_of plan.now) }
     requires run { IsFinishedRun (plan_of plan.now) (map label_of journal.now) }
     ensures { IfOk result (λ text. IsJournalText plan.now.program.shape text journal.now) }
 {

@@ -1,10 +1,8 @@
 //! What is accepted of an input.
 
-ghost use Rattle.std.specs.Prelude.{◌≡◌, ◌≤◌};
-ghost use Rattle.wave_base.specs.declared.limits.TheConstants.{WORKERS};
-ghost use Rattle.plan_actors.specs.Plans.{Fits};
+ghost use Rattle.std.specs.Prelude.{◌≡◌};
 ghost use Rattle.wave_machine.specs.Plans.{plan_of};
-ghost use Rattle.due_answer.specs.Accepted.{CanRun, plan_with};
+ghost use Rattle.due_answer.specs.Accepted.{CanRun, HasCode};
 ghost use Rattle.due_answer.specs.Runs.{nearest_workers};
 
 use resolved_service::Resolved;
@@ -27,7 +25,7 @@ impl Work {
         ensures program { result.program ≡ self.program }
         ensures script { result.script ≡ self.script }
         ensures workers { result.workers ≡ nearest_workers workers }
-        ensures fits { Fits (plan_of result) }
+        ensures code { HasCode (plan_of result) }
     {
         Plan {
             program: self.program,
