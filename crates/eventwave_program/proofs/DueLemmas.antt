@@ -1,5 +1,6 @@
 -- What is told of what was accepted is due.
-use Rattle.std.proofs.Common.{◌≡◌, ℕ, List, [], refl, sym, subst}
+use Rattle.std.proofs.Common.{◌≡◌, ℕ, true, IfOk, List, [], Result, Ok, Err, refl, sym, subst}
+use Rattle.command_words.specs.Inputs.{reads_input}
 use Rattle.command_words.specs.declared.command.Crew.{Crew}
 use Rattle.command_words.specs.declared.command.Places.{Places}
 use Rattle.command_words.specs.declared.command.Command.TheVariants.{Run, Trace, Load}
@@ -24,9 +25,18 @@ pub refusal_due : (behind : Behind) (places : Places) (crew : Crew) (bytes : Lis
 refusal_due Nothing places crew bytes a refused = refused (Reports (Listing places))
 refusal_due Journal places crew bytes a refused = (refused (Traces places crew)).is_due
 
+pub if_by : {E : Type 0} (P Q : Answer → Type 0) (r : Result Answer E) → ((a : Answer) → P a → Q a) → IfOk r P → IfOk r Q
+if_by P Q (Ok a) f h = f a h
+if_by P Q (Err e) f h = tt
+
 -- a generated load
 pub load_due : (n : ℕ) (crew : Crew) (work : Work) → IsAccepted (load_text n) (Ready work) → (a : Answer) → a ≡ reported work.program.shape Summary (ran work) → IsToldFor (Load n crew) [] a
 load_due n crew work ready a told = subst (IsToldFor (Load n crew) []) (sym told) (ready.due Summary (ran work) refl)
 
 pub load_refused : (n : ℕ) (crew : Crew) (a : Answer) → IsAccepted (load_text n) (Refused a) → IsToldFor (Load n crew) [] a
 load_refused n crew a refused = refused (Reports Summary)
+
+-- a script is input
+pub reads_script : (behind : Behind) (places : Places) (crew : Crew) → reads_input (command_with behind places crew) ≡ true
+reads_script Nothing places crew = refl
+reads_script Journal places crew = refl

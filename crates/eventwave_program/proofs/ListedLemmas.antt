@@ -1,5 +1,5 @@
 -- What is written of a run, part by part.
-use Rattle.std.proofs.Common.{◌≡◌, ◌∙◌, ℕ, ◌≤◌, Bool, true, false, List, [], ◌++◌, map, Option, None, Some, ap, arith, inr, refl, sym, subst, append_assoc, append-nil}
+use Rattle.std.proofs.Common.{◌≡◌, ◌∙◌, ℕ, ◌≤◌, Bool, true, false, List, [], ◌++◌, length, map, Option, None, Some, ap, arith, inr, refl, sym, subst, append_assoc, append-nil}
 use Rattle.std.specs.Prelude.{if◌then◌else◌, is_none}
 use Rattle.std.specs.List.{concat}
 use Rattle.std.specs.Io.KnownBytes.{Appends}
@@ -7,6 +7,7 @@ use Rattle.std.proofs.KnownBytes.{Appends-trans}
 use Rattle.std.proofs.lemmas.List.Folds.{concat-append}
 use Rattle.wave_base.specs.Starts.{first_start}
 use Rattle.wave_base.specs.declared.finished.Finished.{Finished}
+use Rattle.wave_base.specs.declared.finished.Place.{Place}
 use Rattle.wave_base.specs.declared.script.Script.{Script}
 use Rattle.wave_base.specs.declared.shape.Shape.{Shape}
 use Rattle.wave_io.specs.Causes.{Rose}
@@ -73,28 +74,26 @@ gave_behind old mid new lines a (Answered status note) p g = (g.0, g.1, Appends-
 
 -- ---- the lines of a run
 
-lines_by : Program → Script → List ℕ
+abbrev pub lines_by : Program → Script → List ℕ
 lines_by p s = concat (lines_from p.shape 1 (shown_of (finished_of (code_ran p) p.shape (first_start p.shape) s)))
 
 -- the lines of the events of what was accepted
 abbrev pub lines_of : Work → List ℕ
 lines_of work = lines_by work.program work.script
 
-unfolding lines_by
 pub same_lines : (work : Work) (plan : Plan) → plan.program ≡ work.program → plan.script ≡ work.script → event_lines plan (first_start plan.program.shape) ≡ lines_of work
 same_lines work plan p s = λ i. lines_by (p i) (s i)
 
 pub same_ran : (work : Work) (plan : Plan) → plan.program ≡ work.program → plan.script ≡ work.script → told_by plan (first_start plan.program.shape) ≡ ran work
 same_ran work plan p s = λ i. finished_of (code_ran (p i)) (p i).shape (first_start (p i).shape) (s i)
 
-unfolding lines_by
 listing_is : (work : Work) (places : Places) → (reported work.program.shape (Listing places) (ran work)).text ≡ lines_of work ++ end_text places work.program.shape (ran work)
 listing_is work places = concat-append (lines_from work.program.shape 1 (shown_of (ran work))) (end_lines work.program.shape (places_of (ran work) (is_listed places)) (last_ticket 1 (ran work)))
 
 -- ---- what is told of a run
 
 -- an answer with the status of what was accepted
-as_told : Work → List ℕ → Answer
+abbrev as_told : Work → List ℕ → Answer
 as_told work text = record { status = if any_trap (ran work).results then 1 else 0; note = []; text = text }
 
 no_schedule : (s : Option Schedule) → is_none s ≡ true → s ≡ None
@@ -113,7 +112,6 @@ same_plan : (work : Work) (plan : Plan) (workers : ℕ) → plan.program ≡ wor
 same_plan work plan workers p s w = λ i. record { program = p i; script = s i; workers = w i }
 
 -- the lines of the events, and what stands behind them, is what is told
-unfolding as_told
 tells_rest : (behind : Behind) (places : Places) (crew : Crew) (work : Work) (journal : List Label) → runs_workers (command_with behind places crew) ≡ true
     → IsFinishedRun (plan_with work (nearest_workers crew.workers)) (map label_of journal)
     → TellsWith behind places crew work (with_lines (lines_of work) (rest_of (record { places = places; behind = behind; crew = crew }) work.program.shape (ran work) journal))
@@ -166,3 +164,21 @@ module _ (task : Task) (work : Work) (plan : Plan) (p : plan.program ≡ work.pr
 
   pub run_wants : (old new : Option (List ℕ)) → CanRun work → AppendsFront old new (event_lines plan (first_start plan.program.shape)) → SomeGave (Tells task work) old new NoMemory
   run_wants old new can front = inr (run_breaks old new NoMemory can front (λ a h. h))
+
+-- ---- the end of a listing
+
+pub end_same : (mine p : Program) (done : Finished) (places : Places) (listed : Option (List Place)) (last : ℕ) → mine ≡ p → listed ≡ places_of done (is_listed places) → last ≡ length done.results
+    → concat (end_lines mine.shape listed last) ≡ end_text places p.shape done
+end_same mine p done places listed last m l e =
+    let same : last ≡ last_ticket 1 done = omega arith in
+    λ i. concat (end_lines (m i).shape (l i) (same i))
+
+module _ (shape : Shape) (done : Finished) (journal : List Label) (old mid new : Option (List ℕ)) where
+  -- the end broke off
+  pub end_broken : (behind : Behind) (places : Places) → AppendsFront old new (end_text places shape done) → AppendsFront old new (rest_with behind places shape done journal)
+  end_broken Nothing places front = front
+  end_broken Journal places front = front_on old new (end_text places shape done) (journal_text shape journal) front
+
+  -- the end stands there, and the journal broke off
+  pub journal_broken : (places : Places) → Appends old mid (end_text places shape done) → AppendsFront mid new (journal_text shape journal) → AppendsFront old new (rest_with Journal places shape done journal)
+  journal_broken places end front = front_behind old mid new (end_text places shape done) (journal_text shape journal) end front

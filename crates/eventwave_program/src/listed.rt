@@ -1,14 +1,15 @@
 //! A script that workers run, and what is written of it.
 
-ghost use Rattle.std.specs.Prelude.{◌≡◌, ◌≤◌, ◌-◌, ◌^◌, length, map, true, IsErrOf, OnErr, OnOk};
+ghost use Rattle.std.specs.Prelude.{◌≡◌, ◌≤◌, ◌-◌, ◌^◌, length, map, option_copied, true, IsErrOf, OnErr, OnOk};
 ghost use Rattle.std.specs.Io.KnownBytes.{Appends};
 ghost use Rattle.command_words.specs.Inputs.{runs_workers};
-ghost use Rattle.due_answer.specs.Accepted.{CanRun};
+ghost use Rattle.due_answer.specs.Accepted.{CanRun, HasCode};
+ghost use Rattle.due_answer.specs.Due.{is_listed};
 ghost use Rattle.due_answer.specs.Runs.{IsFinishedRun};
 ghost use Rattle.eventwave_program.specs.inner.Parts.{Gave, SomeGave};
 ghost use Rattle.eventwave_program.specs.inner.Tasks.{Tells, command_for, rest_of, rest_text};
 ghost use Rattle.journal_text.specs.JournalTexts.{journal_text};
-ghost use Rattle.plan_actors.specs.Plans.{Fits};
+ghost use Rattle.listing_out.specs.Listing.{places_of};
 ghost use Rattle.wave_io.specs.Causes.{Rose};
 ghost use Rattle.wave_io.specs.Streams.{AppendsFront};
 ghost use Rattle.wave_labels.specs.Labels.{label_of};
@@ -24,7 +25,7 @@ use listing_out::{ListError, write_end};
 use std::alloc::Global;
 use std::sync::Wait;
 use std::thread::Threads;
-use wave_base::{Finished, Seq};
+use wave_base::{Finished, Place, Seq};
 use wave_io::{Gate, Sink, write_all};
 use wave_labels::Label;
 use wave_machine::Plan;
@@ -59,7 +60,7 @@ fn write_rest<K: Sink>(
     out: &mut K,
 ) -> Ending
     requires few { length done.now.results ≤ 2 ^ 32 - 1 }
-    requires fits { Fits (plan_of plan.now) }
+    requires code { HasCode (plan_of plan.now) }
     requires run { IsFinishedRun (plan_of plan.now) (map label_of journal.now) }
     ensures gave { Gave (rest_of task plan.now.program.shape done.now journal.now) (K.written out.old) (K.written out.new) result }
     ensures fault { result ≡ Ending.WriteFault → Rose (K.faults out.old) (K.faults out.new) }
@@ -81,7 +82,7 @@ fn write_behind<K: Sink>(
     out: &mut K,
 ) -> Result<(), ListError>
     requires few { length done.now.results ≤ 2 ^ 32 - 1 }
-    requires fits { Fits (plan_of plan.now) }
+    requires code { HasCode (plan_of plan.now) }
     requires run { IsFinishedRun (plan_of plan.now) (map label_of journal.now) }
     ensures ok { OnOk result (Appends (K.written out.old) (K.written out.new) (rest_text task plan.now.program.shape done.now journal.now)) }
     ensures err { OnErr result (AppendsFront (K.written out.old) (K.written out.new) (rest_text task plan.now.program.shape done.now journal.now)) }
@@ -89,14 +90,21 @@ fn write_behind<K: Sink>(
     ensures later { K.faults out.old ≤ K.faults out.new }
 {
     let shape = &plan.program.program().shape;
-    let places = match task.places {
-        Places::Listed => Some(&done.places),
-        Places::Unlisted => None,
-    };
+    let places = places_of(done, task.places);
     write_end(alloc, out, shape, places, done.results.len() as u32)?;
     match task.behind {
         Behind::Nothing => Ok(()),
         Behind::Journal => write_run(alloc, plan, journal, out),
+    }
+}
+
+// The places, where they are asked for.
+fn places_of(done: &Finished, places: Places) -> Option<&Seq<Place>>
+    ensures { option_copied result ≡ places_of done.now (is_listed places) }
+{
+    match places {
+        Places::Listed => Some(&done.places),
+        Places::Unlisted => None,
     }
 }
 
@@ -107,7 +115,7 @@ fn write_run<K: Sink>(
     journal: &Seq<Label>,
     out: &mut K,
 ) -> Result<(), ListError>
-    requires fits { Fits (plan_of plan.now) }
+    requires code { HasCode (plan_of plan.now) }
     requires run { IsFinishedRun (plan_of plan.now) (map label_of journal.now) }
     ensures ok { OnOk result (Appends (K.written out.old) (K.written out.new) (journal_text plan.now.program.shape journal.now)) }
     ensures err { OnErr result (AppendsFront (K.written out.old) (K.written out.new) (journal_text plan.now.program.shape journal.now)) }

@@ -4,9 +4,9 @@ ghost use Rattle.std.specs.Prelude.{◌≡◌, List, ℕ, true, Some};
 ghost use Rattle.wave_io.specs.Causes.{Rose};
 ghost use Rattle.command_words.specs.Inputs.{runs_workers};
 ghost use Rattle.command_words.specs.Reading.{command_of};
-ghost use Rattle.due_answer.specs.Due.{IsToldFor};
+ghost use Rattle.due_answer.specs.Due.{IsToldFor, too_large_input};
 ghost use Rattle.eventwave_program.specs.Ends.{change};
-ghost use Rattle.eventwave_program.specs.inner.Parts.{Did, SomeGave};
+ghost use Rattle.eventwave_program.specs.inner.Parts.{Did, Gave, SomeGave};
 ghost use Rattle.eventwave_program.specs.inner.Tasks.{command_for};
 
 use crate::ending::Ending;
@@ -80,7 +80,10 @@ fn run_input<R: Threads + Wait + Sync, S: Source, K: Sink + Send, G: Gate + Sync
 }
 
 // Gives the refusal of an input that is too large.
-fn refuse<K: Sink>(alloc: Global, out: &mut K) -> Ending {
+fn refuse<K: Sink>(alloc: Global, out: &mut K) -> Ending
+    ensures gave { Gave too_large_input (K.written out.old) (K.written out.new) result }
+    ensures fault { result ≡ Ending.WriteFault → Rose (K.faults out.old) (K.faults out.new) }
+{
     match refused(alloc, 3, b"TooLarge input") {
         Ok(answer) => give(out, answer),
         Err(OutOfMemory) => Ending::NoMemory,

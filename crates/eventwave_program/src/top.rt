@@ -42,6 +42,25 @@ fn respond<S: Source, K: Sink>(
     }
 }
 
+// Reads the words, and does what they ask for.
+fn respond_all<R: Threads + Wait + Sync, S: Source, K: Sink + Send, G: Gate + Sync>(
+    rt: &R,
+    alloc: Global,
+    words: &Words,
+    input: &mut S,
+    out: &mut K,
+    gate: &G,
+) -> Ending
+    ensures { Did words.now (change (S.faults input.old) (S.faults input.new) (S.left input.old) (S.left input.new)) (change (K.faults out.old) (K.faults out.new) (K.written out.old) (K.written out.new)) result }
+{
+    match respond(alloc, words, input, out) {
+        Response::Done(ending) => ending,
+        Response::Crewed(command) => {
+            perform_together(&Team { rt, alloc, gate }, command, input, out)
+        }
+    }
+}
+
 /// Does what the words ask for on this thread, and answers the status. There is none exactly where it is for workers to do (or 7), and then
 /// nothing was done. It always returns.
 pub fn eventwave_alone<S: Source, K: Sink, N: Sink>(
@@ -79,12 +98,7 @@ pub fn eventwave<R: Threads + Wait + Sync, S: Source, K: Sink + Send, N: Sink, G
 ) -> u8
     ensures { Ends words.now (change (S.faults input.old) (S.faults input.new) (S.left input.old) (S.left input.new)) (change (K.faults out.old) (K.faults out.new) (K.written out.old) (K.written out.new)) (change (N.faults notes.old) (N.faults notes.new) (N.written notes.old) (N.written notes.new)) result }
 {
-    let ending = match respond(alloc, words, input, out) {
-        Response::Done(ending) => ending,
-        Response::Crewed(command) => {
-            perform_together(&Team { rt, alloc, gate }, command, input, out)
-        }
-    };
+    let ending = respond_all(rt, alloc, words, input, out, gate);
     finish(notes, &ending)
 }
 

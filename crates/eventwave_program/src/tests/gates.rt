@@ -104,9 +104,9 @@ fn two_segments_are_out_at_once(rt: HostRuntime) -> Result<(), Fail> {
     Ok(())
 }
 
-// A place that an event comes to: how a journal tells it, how often that is due, and how often it came.
+// A context that an event comes to: how a journal tells it, how often that is due, and how often it came.
 #[derive(Drop)]
-struct Count {
+struct Stop {
     ticket: Ticket,
     path: Path,
     start: &'static [u8],
@@ -114,8 +114,8 @@ struct Count {
     times: AtomicU64,
 }
 
-fn count(ticket: u32, path: Path, start: &'static [u8], due: u64) -> Count {
-    Count {
+fn stop_at(ticket: u32, path: Path, start: &'static [u8], due: u64) -> Stop {
+    Stop {
         ticket: Ticket(ticket),
         path,
         start,
@@ -128,25 +128,25 @@ fn count(ticket: u32, path: Path, start: &'static [u8], due: u64) -> Count {
 #[derive(Drop)]
 struct Counting {
     all: AtomicU64,
-    each: Vec<Count>,
+    each: Vec<Stop>,
 }
 
 impl Counting {
     fn new(alloc: Global) -> Result<Counting, AllocError> {
         let root = Path::root();
         let each = vec![in alloc;
-            count(1, root, b"Start #1 /\n", 1),
-            count(1, hall(), b"Start #1 /Hall[1]\n", 1),
-            count(1, stall(1), b"Start #1 /Hall[1]/Stall[1]\n", 1),
-            count(2, root, b"Start #2 /\n", 1),
-            count(2, hall(), b"Start #2 /Hall[1]\n", 1),
-            count(3, root, b"Start #3 /\n", 1),
-            count(3, hall(), b"Start #3 /Hall[1]\n", 1),
-            count(3, stall(2), b"Start #3 /Hall[1]/Stall[2]\n", 1),
-            count(4, root, b"Start #4 /\n", 1),
-            count(4, hall(), b"Start #4 /Hall[1]\n", 3),
-            count(4, stall(1), b"Start #4 /Hall[1]/Stall[1]\n", 1),
-            count(4, stall(2), b"Start #4 /Hall[1]/Stall[2]\n", 1),
+            stop_at(1, root, b"Start #1 /\n", 1),
+            stop_at(1, hall(), b"Start #1 /Hall[1]\n", 1),
+            stop_at(1, stall(1), b"Start #1 /Hall[1]/Stall[1]\n", 1),
+            stop_at(2, root, b"Start #2 /\n", 1),
+            stop_at(2, hall(), b"Start #2 /Hall[1]\n", 1),
+            stop_at(3, root, b"Start #3 /\n", 1),
+            stop_at(3, hall(), b"Start #3 /Hall[1]\n", 1),
+            stop_at(3, stall(2), b"Start #3 /Hall[1]/Stall[2]\n", 1),
+            stop_at(4, root, b"Start #4 /\n", 1),
+            stop_at(4, hall(), b"Start #4 /Hall[1]\n", 3),
+            stop_at(4, stall(1), b"Start #4 /Hall[1]/Stall[1]\n", 1),
+            stop_at(4, stall(2), b"Start #4 /Hall[1]/Stall[2]\n", 1),
         ]?;
         Ok(Counting {
             all: AtomicU64::new(0),
@@ -158,9 +158,9 @@ impl Counting {
 impl Gate for Counting {
     fn reach(&self, ticket: Ticket, path: &Path) {
         self.all.fetch_add(1, Ordering::SeqCst);
-        for count in &self.each {
-            if count.ticket == ticket && count.path == *path {
-                count.times.fetch_add(1, Ordering::SeqCst);
+        for stop in &self.each {
+            if stop.ticket == ticket && stop.path == *path {
+                stop.times.fetch_add(1, Ordering::SeqCst);
             }
         }
     }
@@ -183,10 +183,10 @@ fn each_segment_comes_to_the_gate_once(rt: HostRuntime) -> Result<(), Fail> {
         assert_eq!(rt; status, 0);
         assert!(rt; out.bytes().starts_with(MOVED));
         assert_eq!(rt; gate.all.load(Ordering::SeqCst), 14);
-        for count in &gate.each {
-            assert_eq!(rt; count.times.load(Ordering::SeqCst), count.due);
+        for stop in &gate.each {
+            assert_eq!(rt; stop.times.load(Ordering::SeqCst), stop.due);
             if words.starts_with("trace") {
-                assert_eq!(rt; times_in(out.bytes(), count.start) as u64, count.due);
+                assert_eq!(rt; times_in(out.bytes(), stop.start) as u64, stop.due);
             }
         }
     }
