@@ -3,5 +3,7 @@ pub mod Visiting
 pub mod Asking
 pub mod Giving
 pub mod Offering
+pub mod Visited
+pub mod Rounding
 pub mod Writing
 pub mod Closing

@@ -95,7 +95,7 @@ module _ (laws : Laws) (o : Origin) (k : Known Trail) (w : Worker) (ready : IsRe
   all_done : IsFinished y s → length (told_of o).results ≡ s.head.done
   all_done f =
       let told : Tells s o.start.now y.machine.kept.plan.script.batches (told_of o) = (laws.tell y.machine.kept.plan o.start.now at.fits at.begins (labels_of y) s at.reached f (told_of o)).1
-          (ap (λ (p : Plan). finished_of (code_ran p.program) p.program.shape o.start.now p.script) (sym at.plan)) in
+      (ap (λ (p : Plan). finished_of (code_ran p.program) p.program.shape o.start.now p.script) (sym at.plan)) in
       told.count
 
   module _ (z : Board) (still : StandsStill y z) where

@@ -1,4 +1,4 @@
-ghost use Rattle.std.specs.Prelude.{◌≡◌, ◌≢◌, Ok};
+ghost use Rattle.std.specs.Prelude.{◌≡◌, ◌≢◌, Ok, Some};
 ghost use Rattle.kept_lock.specs.Locks.{name_of, known, IsPassOf};
 ghost use Rattle.host_workers.specs.Endings.{Ended};
 ghost use Rattle.host_workers.specs.Passes.{GoesOn, IsReady};
@@ -79,6 +79,7 @@ pub(crate) fn carry_out<'l, 'p, R: Wait, G: Gate>(
     ensures of_lock { IsPassOf post.now.lock.now pass.new }
     ensures on { GoesOn (known pass.old) (known pass.new) }
     ensures rounded { Rounded (name_of post.now.lock.now) (known pass.new) post.now.number result }
+    ensures finished { result ≡ Some Ending.Finished → work ≡ Work.Finished }
 {
     match work {
         Work::Stepped(_) => None,
