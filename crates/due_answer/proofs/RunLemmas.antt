@@ -1,5 +1,5 @@
 -- Drives are finished runs, and each crew has a run.
-use Rattle.std.proofs.Common.{◌≡◌, ◌≤◌, ℕ, arith, List, [], ◌∷◌, map, Option, Some, None, refl, sym, ap, subst}
+use Rattle.std.proofs.Common.{◌≡◌, ◌∙◌, ◌≤◌, ℕ, arith, List, [], ◌∷◌, map, Option, Some, None, refl, sym, ap, subst}
 use Rattle.std.specs.Prelude.{max}
 use Rattle.std.proofs.Math.Nat.{le-max_right, le-min, min-le_right}
 use Rattle.wave_base.specs.declared.limits.TheConstants.{WORKERS}
@@ -67,7 +67,7 @@ journal_for (l ∷ ls) = label_for l ∷ journal_for ls
 
 journal_back : (ls : List theory.Label) → map label_of (journal_for ls) ≡ ls
 journal_back [] = refl
-journal_back (l ∷ ls) = λ i. label_back l i ∷ journal_back ls i
+journal_back (l ∷ ls) = ap (λ x. x ∷ map label_of (journal_for ls)) (label_back l) ∙ ap (λ xs. l ∷ xs) (journal_back ls)
 
 -- ---- how many workers a plan has
 

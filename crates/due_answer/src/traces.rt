@@ -3,7 +3,7 @@
 ghost use Rattle.std.specs.Prelude.{◌≡◌, List, map, All, IfOk};
 ghost use Rattle.journal_text.specs.Fits.{HasPath};
 ghost use Rattle.journal_text.specs.JournalTexts.{IsJournalText};
-ghost use Rattle.plan_actors.specs.Plans.{Plan};
+ghost use Rattle.plan_actors.specs.Plans as plans;
 ghost use Rattle.wave_labels.specs.declared.label.Label.{Label};
 ghost use Rattle.wave_labels.specs.Labels.{label_of};
 ghost use Rattle.wave_machine.specs.Plans.{plan_of};
@@ -27,7 +27,7 @@ use wave_theory::{by_owners, complete, one_owner, rules_pick, trails};
 
 /// Each context that a finished run names is one of the shape.
 pub fn runs_have_paths()
-    ensures { (plan : Plan) (journal : List Label) → HasCode plan → IsFinishedRun plan (map label_of journal) → All (λ (l : Label). HasPath plan.program.shape l.act) journal }
+    ensures { (plan : plans.Plan) (journal : List Label) → HasCode plan → IsFinishedRun plan (map label_of journal) → All (λ (l : Label). HasPath plan.program.shape l.act) journal }
 {
     by_owners::<PlanActors>();
     complete::<PlanActors>();
