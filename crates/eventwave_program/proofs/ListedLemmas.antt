@@ -120,7 +120,7 @@ tells_rest Journal places crew work journal free run = record {
   journal = journal;
   run = free_run crew (plan_with work (nearest_workers crew.workers)) (map label_of journal) free run;
   is = (let text : List ℕ = journal_text work.program.shape journal in
-    ap (as_told work) (sym (append_assoc (lines_of work) (end_text places work.program.shape (ran work)) text) ∙ ap (λ z. z ++ text) (sym (listing_is work places))));
+      ap (as_told work) (sym (append_assoc (lines_of work) (end_text places work.program.shape (ran work)) text) ∙ ap (λ z. z ++ text) (sym (listing_is work places))));
 }
 
 -- where the lines broke off, they are a front of what is told of some run

@@ -3,6 +3,7 @@
 mod crews;
 mod ends;
 mod gates;
+mod memory;
 mod rows;
 mod scripts;
 mod services;

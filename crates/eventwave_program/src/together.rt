@@ -11,8 +11,8 @@ ghost use Rattle.eventwave_program.specs.inner.Tasks.{command_for};
 
 use crate::ending::Ending;
 use crate::giving::give;
-use crate::loads::run_load;
 use crate::listed::run_work;
+use crate::loads::run_load;
 use crate::task::{Behind, Task};
 use crate::team::Team;
 use command_words::Command;

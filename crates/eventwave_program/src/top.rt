@@ -18,12 +18,7 @@ use wave_base::{OutOfMemory, Words};
 use wave_io::{Gate, Sink, Source};
 
 // Reads the words, and does what they ask for on this thread, unless it is for workers to do.
-fn respond<S: Source, K: Sink>(
-    alloc: Global,
-    words: &Words,
-    input: &mut S,
-    out: &mut K,
-) -> Response
+fn respond<S: Source, K: Sink>(alloc: Global, words: &Words, input: &mut S, out: &mut K) -> Response
     ensures did { Responded words.now (change (S.faults input.old) (S.faults input.new) (S.left input.old) (S.left input.new)) (change (K.faults out.old) (K.faults out.new) (K.written out.old) (K.written out.new)) result }
     ensures unread { crewed_by words.now ≡ true → input.new ≡ input.old }
     ensures unwritten { crewed_by words.now ≡ true → out.new ≡ out.old }

@@ -66,7 +66,8 @@ impl Gate for Meeting {
 
 // Where a text has these bytes first.
 fn place_of(text: &[u8], part: &[u8]) -> Option<usize> {
-    text.windows(part.len().max(1)).position(|piece| piece == part)
+    text.windows(part.len().max(1))
+        .position(|piece| piece == part)
 }
 
 // How often a text has these bytes.
