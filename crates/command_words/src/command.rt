@@ -85,11 +85,8 @@ impl Command {
         match self {
             Command::Run(_, crew) | Command::Trace(_, crew) => crew.is_free(),
             Command::Load(_, _) => true,
-            Command::Seq(_)
-            | Command::Check
-            | Command::Print
-            | Command::Code
-            | Command::Gen(_) => false,
+            Command::Seq(_) | Command::Check | Command::Print | Command::Code | Command::Gen(_) =>
+                false,
         }
     }
 }

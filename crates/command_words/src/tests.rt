@@ -73,10 +73,7 @@ fn words_are_read(rt: HostRuntime) -> Result<(), Fail> {
         ("run", run(4, None)),
         ("seq", Command::Seq(Places::Unlisted)),
         ("--map seq", Command::Seq(Places::Listed)),
-        (
-            "trace",
-            Command::Trace(Places::Unlisted, crew(4, None)),
-        ),
+        ("trace", Command::Trace(Places::Unlisted, crew(4, None))),
         (
             "--map trace --workers 16",
             Command::Trace(Places::Listed, crew(16, None)),

@@ -31,7 +31,7 @@ use Rattle.due_answer.specs.Runs.{IsDriveBy, IsFinishedRun, IsRunBy, IsRunOf, ne
 
 -- ---- the label of a program for each label of the theory
 
-act_for : theory.Act → Act
+abbrev act_for : theory.Act → Act
 act_for (theory.Admit t) = act.Admit (record { 0 = t })
 act_for (theory.Queue t k p) = act.Queue (record { ticket = record { 0 = t }; number = k }) p
 act_for (theory.Grant t p) = act.Grant (record { 0 = t }) p
@@ -55,13 +55,13 @@ act_back (theory.Pass t k p g) = refl
 act_back (theory.Land t k p) = refl
 act_back (theory.Commit t) = refl
 
-label_for : theory.Label → Label
+abbrev label_for : theory.Label → Label
 label_for l = record { worker = record { 0 = l.worker }; host = record { 0 = l.host }; act = act_for l.act }
 
 label_back : (l : theory.Label) → label_of (label_for l) ≡ l
 label_back l = λ i. record { worker = l.worker; host = l.host; act = act_back l.act i }
 
-journal_for : List theory.Label → List Label
+abbrev journal_for : List theory.Label → List Label
 journal_for [] = []
 journal_for (l ∷ ls) = label_for l ∷ journal_for ls
 

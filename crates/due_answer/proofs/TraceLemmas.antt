@@ -30,11 +30,11 @@ use Rattle.due_answer.proofs.RunLemmas.{PlansDrive, TheRulesPick, drive_finished
 pub record IsPlanOf (work : Work) (workers : ℕ) (plan : Plan) : Type 0 where
   pub program : plan.program ≡ work.program
   pub script : plan.script ≡ work.script
-  pub workers : plan.workers ≡ nearest_workers workers
+  pub as_many : plan.workers ≡ nearest_workers workers
   pub code : HasCode plan
 
 same_plan : (work : Work) (workers : ℕ) (plan : Plan) → IsPlanOf work workers plan → plan ≡ plan_with work (nearest_workers workers)
-same_plan work workers plan of = λ i. record { program = of.program i; script = of.script i; workers = of.workers i }
+same_plan work workers plan of = λ i. record { program = of.program i; script = of.script i; workers = of.as_many i }
 
 -- what was driven from the first Start
 pub driven_by : (plan : Plan) (start : Start) (rule : PickRule) (labels : List theory.Label) → start ≡ first_start plan.program.shape

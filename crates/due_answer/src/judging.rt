@@ -143,6 +143,6 @@ fn judge_trace(
 {
     match accept(alloc, input)? {
         Accepted::Ready(work) => trace(alloc, places, crew, work),
-        Accepted::Refused(answer) => Ok(answer),
+        Accepted::Refused(refusal) => Ok(refusal),
     }
 }

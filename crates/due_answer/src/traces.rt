@@ -36,11 +36,7 @@ pub fn runs_have_paths()
 }
 
 /// The text of the journal of a finished run.
-pub fn journal_of(
-    alloc: Global,
-    plan: &Plan,
-    journal: &Seq<Label>,
-) -> Result<Seq<u8>, OutOfMemory>
+pub fn journal_of(alloc: Global, plan: &Plan, journal: &Seq<Label>) -> Result<Seq<u8>, OutOfMemory>
     requires code { HasCode (plan_of plan.now) }
     requires run { IsFinishedRun (plan_of plan.now) (map label_of journal.now) }
     ensures { IfOk result (λ text. IsJournalText plan.now.program.shape text journal.now) }
@@ -50,12 +46,7 @@ pub fn journal_of(
 }
 
 /// Drives what is accepted by the schedule of a crew, and tells it with its journal; a crew that has none is driven by some rule.
-pub fn trace(
-    alloc: Global,
-    places: Places,
-    crew: Crew,
-    work: Work,
-) -> Result<Answer, OutOfMemory>
+pub fn trace(alloc: Global, places: Places, crew: Crew, work: Work) -> Result<Answer, OutOfMemory>
     requires { CanRun work }
     ensures { IfOk result (IsTraced crew work places) }
 {

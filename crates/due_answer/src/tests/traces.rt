@@ -8,7 +8,8 @@ use std::process::Abort;
 use std::test::Fail;
 use wave_base::{INPUT_BYTES, OutOfMemory};
 
-const TICK: &[u8] = b"service Tick { var n: int = 0; event hit(): int { here { n = n + 1; } reply n; } }\n----\nrequest hit()\n";
+const TICK: &[u8] =
+    b"service Tick { var n: int = 0; event hit(): int { here { n = n + 1; } reply n; } }\n----\nrequest hit()\n";
 
 /// The one journal of one event with one segment at the root, by the generator from 0.
 const SEVEN: &[u8] = b"journal 7
@@ -38,13 +39,7 @@ fn traced(
 }
 
 // The journal stands behind this listing.
-fn gives(
-    rt: &impl Abort,
-    answer: &Answer,
-    status: u8,
-    listing: &[u8],
-    journal: &[u8],
-) {
+fn gives(rt: &impl Abort, answer: &Answer, status: u8, listing: &[u8], journal: &[u8]) {
     let text = answer.text.as_slice();
     assert_eq!(rt; text.get(..listing.len()).unwrap_or(b""), listing);
     assert_eq!(rt; text.get(listing.len()..).unwrap_or(b""), journal);
@@ -71,8 +66,20 @@ fn a_trap_is_traced_too(rt: HostRuntime) -> Result<(), Fail> {
         b"service S { event e() { here { ^require 1 < 0; } } }\n----\nrequest e()\n",
     )?;
     assert_eq!(rt; column, 32);
-    let seeded = traced(&rt, alloc, Places::Unlisted, Some(Schedule::Seed(0)), input.as_slice())?;
-    gives(&rt, &seeded, 1, b"#1 e trap Require at 1:32\ndone 1\n", SEVEN);
+    let seeded = traced(
+        &rt,
+        alloc,
+        Places::Unlisted,
+        Some(Schedule::Seed(0)),
+        input.as_slice(),
+    )?;
+    gives(
+        &rt,
+        &seeded,
+        1,
+        b"#1 e trap Require at 1:32\ndone 1\n",
+        SEVEN,
+    );
     let free = traced(&rt, alloc, Places::Unlisted, None, input.as_slice())?;
     let front = b"#1 e trap Require at 1:32\ndone 1\njournal 7\n".as_slice();
     let text = free.text.as_slice();
@@ -86,7 +93,11 @@ fn a_trap_is_traced_too(rt: HostRuntime) -> Result<(), Fail> {
 fn a_refusal_has_no_journal(rt: HostRuntime) -> Result<(), Fail> {
     let alloc = rt.alloc();
     let rows = [
-        (b"service T { event e() { here { } } }\n".as_slice(), 3, b"NoScript".as_slice()),
+        (
+            b"service T { event e() { here { } } }\n".as_slice(),
+            3,
+            b"NoScript".as_slice(),
+        ),
         (
             b"service T { event e() { here { } } }\n----\nrequest f()\n".as_slice(),
             4,
