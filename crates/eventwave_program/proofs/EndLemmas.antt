@@ -7,15 +7,16 @@ use Rattle.wave_io.specs.Causes.{Rose}
 use Rattle.wave_base.specs.declared.limits.TheConstants.{INPUT_BYTES}
 use Rattle.due_answer.specs.declared.answer.Answer.{Answer}
 use Rattle.command_words.specs.declared.command.Command.{Command}
+use Rattle.command_words.specs.declared.command.Command.TheVariants.{Run, Seq, Trace, Check, Print, Code, Gen, Load}
 use Rattle.command_words.specs.Inputs.{reads_input}
-use Rattle.due_answer.specs.Due.{IsDue, IsOnlyDue, too_large_input}
-use Rattle.eventwave_program.specs.Ends.{Change, Ends, SomeDue, IsInput, IsInputWhere, IsLeft, IsLong, IsTold, IsToldWhere, ReadsAll, Told, WritesFront, is_given, note_for, read_by, reads_where}
+use Rattle.due_answer.specs.Due.{IsDue, IsToldFor, too_large_input}
+use Rattle.eventwave_program.specs.Ends.{Change, Ends, DueFor, SomeDue, IsInput, IsInputWhere, IsLeft, IsLong, IsTold, IsToldWhere, ReadsAll, Told, WritesFront, is_given, note_for, read_by, reads_where}
 use Rattle.eventwave_program.specs.inner.Parts.{Did, Ended, Gave, ReadsDue, SomeInputDue, is_read_fault, note_of, status_of}
 use Rattle.eventwave_program.specs.declared.ending.Ending.{Ending}
 use Rattle.eventwave_program.specs.declared.ending.Ending.TheVariants.{WordsRefused, ReadFault, WriteFault, NoMemory, Answered}
 use Rattle.command_words.specs.Reading.{command_of}
 use Rattle.due_answer.proofs.StatusLemmas.{own_status, statuses}
-use Rattle.due_answer.proofs.DueLemmas.{only_too_large}
+use Rattle.due_answer.proofs.DueLemmas.{only_too_large, told_only}
 
 -- where more was read than is allowed, the input is too large
 pub long_input : (old new : Option (List ℕ)) (bytes : List ℕ) → Consumes old new bytes → INPUT_BYTES < length bytes → IsLong old
@@ -31,12 +32,23 @@ pub no_bytes : (c : Command) (left : Option (List ℕ)) → reads_input c ≡ fa
 no_bytes c left reads = subst (λ b. IsInputWhere b left []) (sym reads) refl
 
 pub too_large_due : (c : Command) (left : Option (List ℕ)) (a : Answer) → reads_input c ≡ true → a ≡ too_large_input → IsLong left → SomeInputDue c left a
-too_large_due c left a reads e h = record { bytes = h.bytes; input = read_bytes c left h.bytes reads h.input; only = subst (IsOnlyDue c h.bytes) (sym e) (only_too_large c h.bytes reads h.long) }
+too_large_due c left a reads e h = record { bytes = h.bytes; input = read_bytes c left h.bytes reads h.input; told = subst (IsToldFor c h.bytes) (sym e) (told_only c h.bytes too_large_input (only_too_large c h.bytes reads h.long)) }
+
+-- what is told for a command is due
+due_of_told : (c : Command) (bytes : List ℕ) (due : Answer) → IsToldFor c bytes due → IsDue c bytes due
+due_of_told (Run places crew) bytes due h = h.is_due
+due_of_told (Seq places) bytes due h = h.is_due
+due_of_told (Trace places crew) bytes due h = h
+due_of_told Check bytes due h = h.is_due
+due_of_told Print bytes due h = h.is_due
+due_of_told Code bytes due h = h.is_due
+due_of_told (Gen n) bytes due h = h.is_due
+due_of_told (Load n crew) bytes due h = h.is_due
 
 -- ---- what a status says of how a call ended
 
 given_own : (words : List (List ℕ)) (left : Option (List ℕ)) (status : ℕ) (P : Answer → Type 0) → SomeDue words left P → ((due : Answer) → P due → status ≡ due.status) → own_status status ≡ true
-given_own words left status P s same = ap own_status (same s.due s.holds) ∙ statuses s.command s.bytes s.due s.only.is_due
+given_own words left status P s same = ap own_status (same s.found.due s.found.holds) ∙ statuses s.command s.bytes s.found.due (due_of_told s.command s.bytes s.found.due s.found.told)
 
 not_own : (status : ℕ) → own_status status ≡ true → (status ≢ 2) × (status ≢ 5) × (status ≢ 6) × (status ≢ 7)
 not_own status own = (
@@ -116,15 +128,13 @@ known_bytes : (reads : Bool) (left : Option (List ℕ)) (told bytes : List ℕ) 
 known_bytes true left told bytes t i = sym (subst (λ l. IsLeft l bytes) t i)
 known_bytes false left told bytes t i = i ∙ sym t
 
--- what is due is the answer that was given
-same_due : (words : List (List ℕ)) (left : Option (List ℕ)) (P : Answer → Type 0) (s : SomeDue words left P) (c : Command) (bytes : List ℕ) (due : Answer)
-    → command_of words ≡ Some c → IsTold c left bytes → IsDue c bytes due → due ≡ s.due
-same_due words left P s c bytes due accepted told is_due =
+-- what was given is due for the command of the words and for its bytes
+same_due : (words : List (List ℕ)) (left : Option (List ℕ)) (P : Answer → Type 0) → SomeDue words left P → (c : Command) (bytes : List ℕ) → command_of words ≡ Some c → IsTold c left bytes → DueFor c bytes P
+same_due words left P s c bytes accepted told =
     let same : s.command ≡ c = some_same s.command c (sym s.accepted ∙ accepted) in
     let input : IsInput c left s.bytes = subst (λ k. IsInput k left s.bytes) same s.input in
     let equal : s.bytes ≡ bytes = known_bytes (reads_input c) left bytes s.bytes told input in
-    let only : IsOnlyDue c bytes s.due = subst (λ b. IsOnlyDue c b s.due) equal (subst (λ k. IsOnlyDue k s.bytes s.due) same s.only) in
-    only.only due is_due
+    subst (λ b. DueFor c b P) equal (subst (λ k. DueFor k s.bytes P) same s.found)
 
 sure_true : (b : Bool) → (b ≡ false → ⊥) → b ≡ true
 sure_true true h = refl
@@ -173,19 +183,19 @@ module _ (words : List (List ℕ)) (input out : Change) where
     given_due NoMemory d told given = absurd cc
     given_due (Answered status note) d told given =
         let s = d.ended in
-        record { command = s.command; accepted = s.accepted; bytes = s.bytes; input = s.input; due = s.due; only = s.only; holds = (s.holds.0, s.holds.2, subst Noted s.holds.1 told) }
+        let f = s.found in
+        record { command = s.command; accepted = s.accepted; bytes = s.bytes; input = s.input; found = record { due = f.due; told = f.told; holds = (f.holds.0, f.holds.2, subst Noted f.holds.1 told) } }
 
-    due_given : (e : Ending) → Did words input out e → (c : Command) (bytes : List ℕ) (due : Answer) → command_of words ≡ Some c → IsTold c input.bytes bytes → IsDue c bytes due
+    due_given : (e : Ending) → Did words input out e → (c : Command) (bytes : List ℕ) → command_of words ≡ Some c → IsTold c input.bytes bytes
         → (reads_input c ≡ true → Rose input.faults input.faults_now → ⊥) → (Rose out.faults out.faults_now → ⊥)
-        → (status_of e ≡ 7) ⊎ ((status_of e ≡ due.status) × Appends out.bytes out.bytes_now due.text)
-    due_given WordsRefused d c bytes due accepted told is_due reads writes = no_command words c accepted d.ended.0
-    due_given ReadFault d c bytes due accepted told is_due reads writes = absurd (reads (reading d c accepted) (d.read_fault refl))
-    due_given WriteFault d c bytes due accepted told is_due reads writes = absurd (writes (d.write_fault refl))
-    due_given NoMemory d c bytes due accepted told is_due reads writes = inl refl
-    due_given (Answered status note) d c bytes due accepted told is_due reads writes =
-        let s = d.ended in
-        let same : due ≡ s.due = same_due words input.bytes (λ a. Gave a out.bytes out.bytes_now (Answered status note)) s c bytes due accepted told is_due in
-        inr (s.holds.0 ∙ ap (λ (a : Answer). a.status) (sym same), subst (λ (a : Answer). Appends out.bytes out.bytes_now a.text) (sym same) s.holds.2)
+        → (status_of e ≡ 7) ⊎ DueFor c bytes (λ due. (status_of e ≡ due.status) × Appends out.bytes out.bytes_now due.text)
+    due_given WordsRefused d c bytes accepted told reads writes = no_command words c accepted d.ended.0
+    due_given ReadFault d c bytes accepted told reads writes = absurd (reads (reading d c accepted) (d.read_fault refl))
+    due_given WriteFault d c bytes accepted told reads writes = absurd (writes (d.write_fault refl))
+    due_given NoMemory d c bytes accepted told reads writes = inl refl
+    due_given (Answered status note) d c bytes accepted told reads writes =
+        let f = same_due words input.bytes (λ a. Gave a out.bytes out.bytes_now (Answered status note)) d.ended c bytes accepted told in
+        inr (record { due = f.due; told = f.told; holds = (f.holds.0, f.holds.2) })
 
     pub ends_of : (e : Ending) → Did words input out e → Noted (note_of e) → Ends words input out notes (status_of e)
     ends_of e d told = record {

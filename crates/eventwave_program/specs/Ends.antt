@@ -6,9 +6,9 @@ use Rattle.wave_io.specs.Causes.{Rose}
 use Rattle.wave_io.specs.Streams.{AppendsFront}
 use Rattle.due_answer.specs.declared.answer.Answer.{Answer}
 use Rattle.command_words.specs.declared.command.Command.{Command}
-use Rattle.command_words.specs.Inputs.{reads_input}
+use Rattle.command_words.specs.Inputs.{reads_input, runs_workers}
 use Rattle.command_words.specs.Reading.{command_of}
-use Rattle.due_answer.specs.Due.{IsDue, IsOnlyDue}
+use Rattle.due_answer.specs.Due.{IsToldFor}
 
 -- wrong words, a read fault, a write fault, want of memory
 abbrev pub note_for : ℕ → Option (List ℕ)
@@ -49,15 +49,27 @@ reads_where (Some c) = reads_input c
 abbrev pub read_by : List (List ℕ) → Bool
 read_by words = reads_where (command_of words)
 
--- the words are a command, and there are bytes of its input for which this answer alone is due; P holds of it
+-- the words are a command that workers run
+abbrev pub crewed_where : Option Command → Bool
+crewed_where None = false
+crewed_where (Some c) = runs_workers c
+
+abbrev pub crewed_by : List (List ℕ) → Bool
+crewed_by words = crewed_where (command_of words)
+
+-- an answer is due for a command and these bytes, and with all commands but `trace` no other is; P holds of it
+pub record DueFor (c : Command) (bytes : List ℕ) (P : Answer → Type 0) : Type 0 where
+  pub due : Answer
+  pub told : IsToldFor c bytes due
+  pub holds : P due
+
+-- the words are a command, and there are bytes of its input for which an answer is due; P holds of it
 pub record SomeDue (words : List (List ℕ)) (left : Option (List ℕ)) (P : Answer → Type 0) : Type 0 where
   pub command : Command
   pub accepted : command_of words ≡ Some command
   pub bytes : List ℕ
   pub input : IsInput command left bytes
-  pub due : Answer
-  pub only : IsOnlyDue command bytes due
-  pub holds : P due
+  pub found : DueFor command bytes P
 
 -- a note is a line, and no note is none
 abbrev pub note_line : List ℕ → List ℕ
@@ -119,7 +131,7 @@ pub record Ends (words : List (List ℕ)) (input out notes : Change) (n : ℕ) :
   -- A fault of the source or of `out`.
   pub read_fault : n ≡ 5 → Rose input.faults input.faults_now
   pub write_fault : n ≡ 6 → Rose out.faults out.faults_now
-  -- Each other status but 7 is that of the one answer that is due, whose text and note were written.
+  -- Each other status but 7 is that of an answer that is due, with all commands but `trace` the only one, whose text and note were written.
   pub given : is_given n ≡ true → SomeDue words input.bytes (λ due. (n ≡ due.status) × Appends out.bytes out.bytes_now due.text × Told notes.faults notes.faults_now notes.bytes notes.bytes_now due.note)
   pub end : is_given n ≡ true → read_by words ≡ true → ReadsAll input.bytes input.bytes_now
   -- What is written where no answer was given.
@@ -127,6 +139,6 @@ pub record Ends (words : List (List ℕ)) (input out notes : Change) (n : ℕ) :
   pub front : (n ≡ 6) ⊎ (n ≡ 7) → WritesFront words input.bytes out.bytes out.bytes_now
   pub noted : IfSome (note_for n) (Told notes.faults notes.faults_now notes.bytes notes.bytes_now)
   -- What is due is given, unless memory, the source or `out` fails.
-  pub complete : (c : Command) (bytes : List ℕ) (due : Answer) → command_of words ≡ Some c → IsTold c input.bytes bytes → IsDue c bytes due
+  pub complete : (c : Command) (bytes : List ℕ) → command_of words ≡ Some c → IsTold c input.bytes bytes
       → (reads_input c ≡ true → Rose input.faults input.faults_now → ⊥) → (Rose out.faults out.faults_now → ⊥)
-      → (n ≡ 7) ⊎ ((n ≡ due.status) × Appends out.bytes out.bytes_now due.text)
+      → (n ≡ 7) ⊎ DueFor c bytes (λ due. (n ≡ due.status) × Appends out.bytes out.bytes_now due.text)

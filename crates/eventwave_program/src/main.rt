@@ -4,8 +4,14 @@
 mod alone;
 mod ending;
 mod giving;
+mod listed;
+mod loads;
+mod response;
+mod task;
+mod team;
 #[cfg(test)]
 mod tests;
+mod together;
 mod top;
 
 use std::env;

@@ -1,6 +1,9 @@
-//! The top call, on worked scripts, wrong words, refused inputs and failing streams.
+//! The top call, on worked scripts, wrong words, refused inputs and failing streams, by workers and without.
 
+mod crews;
 mod ends;
+mod gates;
+mod memory;
 mod rows;
 mod scripts;
 mod services;

@@ -1,21 +1,24 @@
 -- The parts of a call: what is due for an input, and how each part may end.
-use Rattle.std.specs.Prelude.{◌≡◌, ℕ, Bool, true, false, Option, Some, None, unwrap_or, List, []}
+use Rattle.std.specs.Prelude.{◌≡◌, ◌⊎◌, ℕ, Bool, true, false, Option, Some, None, unwrap_or, List, []}
 use Rattle.std.specs.Io.KnownBytes.{Appends, Keeps}
 use Rattle.wave_io.specs.Causes.{Rose}
 use Rattle.wave_io.specs.Streams.{AppendsFront}
 use Rattle.command_words.specs.declared.command.Command.{Command}
+use Rattle.command_words.specs.Inputs.{runs_workers}
 use Rattle.command_words.specs.Reading.{command_of}
 use Rattle.due_answer.specs.declared.answer.Answer.{Answer}
-use Rattle.due_answer.specs.Due.{IsOnlyDue}
+use Rattle.due_answer.specs.Due.{IsToldFor}
 use Rattle.eventwave_program.specs.declared.ending.Ending.{Ending}
 use Rattle.eventwave_program.specs.declared.ending.Ending.TheVariants.{WordsRefused, ReadFault, WriteFault, NoMemory, Answered}
+use Rattle.eventwave_program.specs.declared.response.Response.{Response}
+use Rattle.eventwave_program.specs.declared.response.Response.TheVariants.{Done, Crewed}
 use Rattle.eventwave_program.specs.Ends.{note_for, Change, IsInput, SomeDue, ReadsAll, IsUntouched, WritesFront, read_by}
 
--- there are bytes of a command's input for which this answer alone is due
+-- there are bytes of a command's input for which this answer is due, and with all commands but `trace` no other
 pub record SomeInputDue (c : Command) (left : Option (List ℕ)) (due : Answer) : Type 0 where
   pub bytes : List ℕ
   pub input : IsInput c left bytes
-  pub only : IsOnlyDue c bytes due
+  pub told : IsToldFor c bytes due
 
 abbrev pub status_of : Ending → ℕ
 status_of WordsRefused = 2
@@ -36,6 +39,17 @@ Gave due old new (Answered status note) = (status ≡ due.status) × (note ≡ d
 Gave due old new NoMemory = AppendsFront old new due.text
 Gave due old new WordsRefused = ⊥
 Gave due old new ReadFault = ⊥
+
+-- how giving an answer of which P holds may end
+pub record Gives (P : Answer → Type 0) (old new : Option (List ℕ)) (e : Ending) : Type 0 where
+  pub due : Answer
+  pub is_so : P due
+  pub gave : Gave due old new e
+
+-- the same, where memory may have been wanted before there was an answer
+abbrev pub SomeGave : (Answer → Type 0) → Option (List ℕ) → Option (List ℕ) → Ending → Type 0
+SomeGave P old new NoMemory = Keeps old new ⊎ Gives P old new NoMemory
+SomeGave P old new e = Gives P old new e
 
 -- how a call may end
 abbrev pub Ended : List (List ℕ) → Option (List ℕ) → Option (List ℕ) → Option (List ℕ) → Ending → Type 0
@@ -63,3 +77,13 @@ pub record Did (words : List (List ℕ)) (input out : Change) (e : Ending) : Typ
   pub write_fault : e ≡ WriteFault → Rose out.faults out.faults_now
   pub unread : read_by words ≡ false → IsUntouched input
   pub sure : read_by words ≡ false → is_read_fault e ≡ false
+
+-- what came of the words on one thread
+abbrev pub Responded : List (List ℕ) → Change → Change → Response → Type 0
+Responded words input out (Done e) = Did words input out e
+Responded words input out (Crewed c) = (command_of words ≡ Some c) × (runs_workers c ≡ true)
+
+-- it was left to workers, or there was no memory
+abbrev pub IsUndone : Response → Type 0
+IsUndone (Done e) = e ≡ NoMemory
+IsUndone (Crewed c) = Unit {0}

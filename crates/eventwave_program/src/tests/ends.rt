@@ -2,7 +2,7 @@
 
 use super::rows::{Row, bytes, calls, holds, plain, words};
 use super::services::{FORMS, FORMS_PRINTED, MARKET, TICK};
-use crate::top::{eventwave_alone, start};
+use crate::top::{eventwave, eventwave_alone, start};
 use std::test::Fail;
 use wave_base::{OutOfMemory, Seq};
 use wave_io::{MemSink, MemSource, OpenGate};
@@ -123,10 +123,43 @@ fn loads_read_nothing(rt: HostRuntime) -> Result<(), Fail> {
         let mut source = MemSource::new(bytes(alloc, TICK)?, 16, calls(alloc, &[1])?);
         let mut out = MemSink::new(alloc, 100_000, 4096, Seq::new(alloc))?;
         let mut notes = MemSink::new(alloc, 100, 4, Seq::new(alloc))?;
-        let got = eventwave_alone(alloc, &words, &mut source, &mut out, &mut notes);
-        assert_eq!(rt; got, Some(0));
+        let got = eventwave(
+            &rt,
+            alloc,
+            &words,
+            &mut source,
+            &mut out,
+            &mut notes,
+            &OpenGate,
+        );
+        assert_eq!(rt; got, 0);
         assert!(rt; out.bytes().starts_with(front));
         assert_eq!(rt; notes.bytes(), b"".as_slice());
+    }
+    Ok(())
+}
+
+/// What is for workers is left alone, and all else is done.
+#[test]
+fn one_thread(rt: HostRuntime) -> Result<(), Fail> {
+    let alloc = rt.alloc();
+    for (text, status) in [
+        ("run", None),
+        ("trace --map --workers 2", None),
+        ("load 7", None),
+        ("run --schedule 0", Some(0)),
+        ("trace --schedule oldest", Some(0)),
+        ("seq", Some(0)),
+        ("walk", Some(2)),
+    ] {
+        let words = words(alloc, text)?;
+        let mut source = MemSource::new(bytes(alloc, TICK)?, 16, Seq::new(alloc));
+        let mut out = MemSink::new(alloc, 1000, 100, Seq::new(alloc))?;
+        let mut notes = MemSink::new(alloc, 100, 100, Seq::new(alloc))?;
+        let got = eventwave_alone(alloc, &words, &mut source, &mut out, &mut notes);
+        assert_eq!(rt; got, status);
+        assert_eq!(rt; out.bytes().is_empty(), status != Some(0));
+        assert_eq!(rt; notes.bytes().is_empty(), status != Some(2));
     }
     Ok(())
 }
@@ -200,18 +233,14 @@ fn faults(rt: HostRuntime) -> Result<(), Fail> {
         holds(&rt, alloc, &row)?;
     }
     let written = b"#1 hit = 1\ndone 1\n";
-    for failing_write in 1..6 {
-        let row = Row {
-            failing_write,
-            ..plain(
-                "run",
-                TICK,
-                6,
-                &written[..(failing_write as usize - 1) * 4],
-                b"WriteFault\n",
-            )
-        };
-        holds(&rt, alloc, &row)?;
+    for (words, fronts) in [("run", [0usize, 4, 8, 11, 15]), ("seq", [0, 4, 8, 12, 16])] {
+        for (i, front) in fronts.iter().enumerate() {
+            let row = Row {
+                failing_write: i as u64 + 1,
+                ..plain(words, TICK, 6, &written[..*front], b"WriteFault\n")
+            };
+            holds(&rt, alloc, &row)?;
+        }
     }
     Ok(())
 }

@@ -1,11 +1,13 @@
 //! Runs of the top call, and what each has to come to.
 
-use crate::top::eventwave_alone;
+use crate::top::eventwave;
 use std::alloc::Global;
 use std::process::Abort;
+use std::sync::Wait;
 use std::test::Fail;
+use std::thread::Threads;
 use wave_base::{OutOfMemory, Seq, Words};
-use wave_io::{MemSink, MemSource};
+use wave_io::{Gate, MemSink, MemSource, OpenGate};
 
 pub fn bytes(alloc: Global, text: &[u8]) -> Result<Seq<u8>, OutOfMemory> {
     Ok(Seq::from_vec(Vec::from_slice(alloc, text)?))
@@ -35,7 +37,11 @@ pub struct Row<'a> {
     pub note: &'a [u8],
 }
 
-pub fn holds(rt: &impl Abort, alloc: Global, row: &Row) -> Result<(), OutOfMemory> {
+pub fn holds<R: Abort + Threads + Wait + Sync>(
+    rt: &R,
+    alloc: Global,
+    row: &Row,
+) -> Result<(), OutOfMemory> {
     let words = words(alloc, row.words)?;
     let mut source = MemSource::new(
         bytes(alloc, row.input)?,
@@ -44,11 +50,35 @@ pub fn holds(rt: &impl Abort, alloc: Global, row: &Row) -> Result<(), OutOfMemor
     );
     let mut out = MemSink::new(alloc, 10_000, 4, calls(alloc, &[row.failing_write])?)?;
     let mut notes = MemSink::new(alloc, 10_000, 4, Seq::new(alloc))?;
-    let got = eventwave_alone(alloc, &words, &mut source, &mut out, &mut notes);
-    assert_eq!(rt; got, Some(row.status));
+    let got = eventwave(
+        rt,
+        alloc,
+        &words,
+        &mut source,
+        &mut out,
+        &mut notes,
+        &OpenGate,
+    );
+    assert_eq!(rt; got, row.status);
     assert_eq!(rt; out.bytes(), row.out);
     assert_eq!(rt; notes.bytes(), row.note);
     Ok(())
+}
+
+/// The status of a run on these words and this input, and what it wrote.
+pub fn ran_on<R: Threads + Wait + Sync, G: Gate + Sync>(
+    rt: &R,
+    alloc: Global,
+    text: &str,
+    input: &[u8],
+    gate: &G,
+) -> Result<(u8, MemSink), OutOfMemory> {
+    let words = words(alloc, text)?;
+    let mut source = MemSource::new(bytes(alloc, input)?, 4096, Seq::new(alloc));
+    let mut out = MemSink::new(alloc, 100_000, 100, Seq::new(alloc))?;
+    let mut notes = MemSink::new(alloc, 100, 100, Seq::new(alloc))?;
+    let status = eventwave(rt, alloc, &words, &mut source, &mut out, &mut notes, gate);
+    Ok((status, out))
 }
 
 pub fn plain<'a>(
@@ -107,14 +137,18 @@ pub fn refuses<'a>(service: &'a [u8], script: &'a [u8], note: &'a [u8]) -> Case<
 }
 
 /// A service, a `----` line, and a script.
-fn joined(alloc: Global, service: &[u8], script: &[u8]) -> Result<Vec<u8>, OutOfMemory> {
+pub fn joined(alloc: Global, service: &[u8], script: &[u8]) -> Result<Vec<u8>, OutOfMemory> {
     let mut input = Vec::from_slice(alloc, service)?;
     input.extend_from_slice(b"----\n")?;
     input.extend_from_slice(script)?;
     Ok(input)
 }
 
-pub fn all_hold(rt: &impl Abort, alloc: Global, cases: &[Case]) -> Result<(), Fail> {
+pub fn all_hold<R: Abort + Threads + Wait + Sync>(
+    rt: &R,
+    alloc: Global,
+    cases: &[Case],
+) -> Result<(), Fail> {
     for case in cases {
         let input = joined(alloc, case.service, case.script)?;
         let row = plain(

@@ -3,10 +3,10 @@ use Rattle.eventwave_program.specs.Ends.{Change, Ends, change}
 use Rattle.eventwave_program.proofs.EndLemmas.{ends_of}
 use Rattle.eventwave_program.proofs.top.eventwave_alone.Goals as goal
 
-pub returns-clause-ends : goal.returns-clause-ends
-returns-clause-ends g c =
-    let input : Change = change (g.S.Source.faults c.args.input.now) (g.S.Source.faults c.respond-ending.new.input) (g.S.Source.left c.args.input.now) (g.S.Source.left c.respond-ending.new.input) in
-    let out : Change = change (g.K.Sink.faults c.args.out.now) (g.K.Sink.faults c.respond-ending.new.out) (g.K.Sink.written c.args.out.now) (g.K.Sink.written c.respond-ending.new.out) in
+pub returns-in-Done-clause-ends : goal.returns-in-Done-clause-ends
+returns-in-Done-clause-ends g c =
+    let input : Change = change (g.S.Source.faults c.args.input.now) (g.S.Source.faults c.respond.new.input) (g.S.Source.left c.args.input.now) (g.S.Source.left c.respond.new.input) in
+    let out : Change = change (g.K.Sink.faults c.args.out.now) (g.K.Sink.faults c.respond.new.out) (g.K.Sink.written c.args.out.now) (g.K.Sink.written c.respond.new.out) in
     let notes : Change = change (g.N.Sink.faults c.args.notes.now) (g.N.Sink.faults c.finish.new.notes) (g.N.Sink.written c.args.notes.now) (g.N.Sink.written c.finish.new.notes) in
     subst (Ends c.args.words.now input out notes) (sym c.finish.ensures.status)
-    (ends_of c.args.words.now input out notes c.respond-ending.result c.respond-ending.ensures c.finish.ensures.told)
+    (ends_of c.args.words.now input out notes c.in-Done.ending c.in-Done.ensures.did c.finish.ensures.told)

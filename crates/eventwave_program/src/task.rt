@@ -1,0 +1,18 @@
+use command_words::{Crew, Places};
+
+/// What is written behind the listing of a run.
+#[derive(Clone, Copy)]
+pub enum Behind {
+    Nothing,
+    /// The journal of the run.
+    Journal,
+}
+
+/// What workers do with an input: they run its script, and its listing is written, with the places of the contexts or without.
+#[derive(Clone, Copy)]
+pub struct Task {
+    pub places: Places,
+    pub behind: Behind,
+    /// It has no schedule.
+    pub crew: Crew,
+}

@@ -1,0 +1,195 @@
+//! Gates that hold events, or count them.
+
+use super::crews::{MOVED, MOVES};
+use super::rows::{joined, ran_on};
+use super::services::MARKET;
+use std::alloc::{AllocError, Global};
+use std::hint::spin_loop;
+use std::sync::atomic::{AtomicU64, Ordering};
+use std::test::Fail;
+use wave_base::{Class, Path, Step, Ticket};
+use wave_io::Gate;
+
+fn hall() -> Path {
+    let class = Class(1);
+    Path::root().child(Step { class, key: 1 })
+}
+
+fn stall(key: i64) -> Path {
+    let above = hall();
+    let class = Class(2);
+    above.child(Step { class, key })
+}
+
+// How often a gate looks at what it waits for.
+const TURNS: u32 = 10_000_000;
+
+// Holds two events at their stalls until each has reached its own.
+#[derive(Drop)]
+struct Meeting {
+    first: AtomicU64,
+    second: AtomicU64,
+    missed: AtomicU64,
+}
+
+impl Meeting {
+    fn new() -> Meeting {
+        Meeting {
+            first: AtomicU64::new(0),
+            second: AtomicU64::new(0),
+            missed: AtomicU64::new(0),
+        }
+    }
+
+    fn meet(&self, mine: &AtomicU64, other: &AtomicU64) {
+        mine.store(1, Ordering::SeqCst);
+        for _ in 0..TURNS {
+            if other.load(Ordering::SeqCst) == 1 {
+                return;
+            }
+            spin_loop();
+        }
+        self.missed.store(1, Ordering::SeqCst);
+    }
+}
+
+impl Gate for Meeting {
+    fn reach(&self, ticket: Ticket, path: &Path) {
+        if ticket.0 == 1 && *path == stall(1) {
+            self.meet(&self.first, &self.second);
+        }
+        if ticket.0 == 2 && *path == stall(2) {
+            self.meet(&self.second, &self.first);
+        }
+    }
+}
+
+// Where a text has these bytes first.
+fn place_of(text: &[u8], part: &[u8]) -> Option<usize> {
+    text.windows(part.len().max(1))
+        .position(|piece| piece == part)
+}
+
+// How often a text has these bytes.
+fn times_in(text: &[u8], part: &[u8]) -> usize {
+    text.windows(part.len().max(1))
+        .filter(|piece| *piece == part)
+        .count()
+}
+
+#[test]
+fn two_segments_are_out_at_once(rt: HostRuntime) -> Result<(), Fail> {
+    let alloc = rt.alloc();
+    let input = joined(alloc, MARKET, b"request buy(1,1,1)\nrequest buy(1,2,1)\n")?;
+    for words in ["run --workers 2", "trace --workers 2"] {
+        let gate = Meeting::new();
+        let (status, out) = ran_on(&rt, alloc, words, input.as_slice(), &gate)?;
+        assert_eq!(rt; status, 0);
+        assert_eq!(rt; gate.missed.load(Ordering::SeqCst), 0);
+        if words.starts_with("trace") {
+            for started in [
+                b"Start #1 /Hall[1]/Stall[1]\n",
+                b"Start #2 /Hall[1]/Stall[2]\n",
+            ] {
+                for stopped in [
+                    b"Stop #1 /Hall[1]/Stall[1]\n",
+                    b"Stop #2 /Hall[1]/Stall[2]\n",
+                ] {
+                    let start = place_of(out.bytes(), started).ok_or("no Start")?;
+                    let stop = place_of(out.bytes(), stopped).ok_or("no Stop")?;
+                    assert!(rt; start < stop);
+                }
+            }
+        }
+    }
+    Ok(())
+}
+
+// A context that an event comes to: how a journal tells it, how often that is due, and how often it came.
+#[derive(Drop)]
+struct Stop {
+    ticket: Ticket,
+    path: Path,
+    start: &'static [u8],
+    due: u64,
+    times: AtomicU64,
+}
+
+fn stop_at(ticket: u32, path: Path, start: &'static [u8], due: u64) -> Stop {
+    Stop {
+        ticket: Ticket(ticket),
+        path,
+        start,
+        due,
+        times: AtomicU64::new(0),
+    }
+}
+
+// Counts its calls, in all and by ticket and path.
+#[derive(Drop)]
+struct Counting {
+    all: AtomicU64,
+    each: Vec<Stop>,
+}
+
+impl Counting {
+    fn new(alloc: Global) -> Result<Counting, AllocError> {
+        let root = Path::root();
+        let each = vec![in alloc;
+            stop_at(1, root, b"Start #1 /\n", 1),
+            stop_at(1, hall(), b"Start #1 /Hall[1]\n", 1),
+            stop_at(1, stall(1), b"Start #1 /Hall[1]/Stall[1]\n", 1),
+            stop_at(2, root, b"Start #2 /\n", 1),
+            stop_at(2, hall(), b"Start #2 /Hall[1]\n", 1),
+            stop_at(3, root, b"Start #3 /\n", 1),
+            stop_at(3, hall(), b"Start #3 /Hall[1]\n", 1),
+            stop_at(3, stall(2), b"Start #3 /Hall[1]/Stall[2]\n", 1),
+            stop_at(4, root, b"Start #4 /\n", 1),
+            stop_at(4, hall(), b"Start #4 /Hall[1]\n", 3),
+            stop_at(4, stall(1), b"Start #4 /Hall[1]/Stall[1]\n", 1),
+            stop_at(4, stall(2), b"Start #4 /Hall[1]/Stall[2]\n", 1),
+        ]?;
+        Ok(Counting {
+            all: AtomicU64::new(0),
+            each,
+        })
+    }
+}
+
+impl Gate for Counting {
+    fn reach(&self, ticket: Ticket, path: &Path) {
+        self.all.fetch_add(1, Ordering::SeqCst);
+        for stop in &self.each {
+            if stop.ticket == ticket && stop.path == *path {
+                stop.times.fetch_add(1, Ordering::SeqCst);
+            }
+        }
+    }
+}
+
+#[test]
+fn each_segment_comes_to_the_gate_once(rt: HostRuntime) -> Result<(), Fail> {
+    let alloc = rt.alloc();
+    let input = joined(alloc, MARKET, MOVES)?;
+    for words in [
+        "run --map --workers 1",
+        "run --map --workers 4",
+        "run --map --workers 16",
+        "trace --map --workers 1",
+        "trace --map --workers 4",
+        "trace --map --workers 16",
+    ] {
+        let gate = Counting::new(alloc)?;
+        let (status, out) = ran_on(&rt, alloc, words, input.as_slice(), &gate)?;
+        assert_eq!(rt; status, 0);
+        assert!(rt; out.bytes().starts_with(MOVED));
+        assert_eq!(rt; gate.all.load(Ordering::SeqCst), 14);
+        for stop in &gate.each {
+            assert_eq!(rt; stop.times.load(Ordering::SeqCst), stop.due);
+            if words.starts_with("trace") {
+                assert_eq!(rt; times_in(out.bytes(), stop.start) as u64, stop.due);
+            }
+        }
+    }
+    Ok(())
+}
