@@ -1,5 +1,5 @@
 // The workers of a plan, each in a thread of its own where one can be made.
-ghost use Rattle.std.specs.Prelude.{◌≡◌, ◌≤◌};
+ghost use Rattle.std.specs.Prelude.{◌≡◌, ◌≢◌, ◌≤◌};
 ghost use Rattle.std.specs.Io.KnownBytes.{Appends};
 ghost use Rattle.std.specs.Thread.{IsSync};
 ghost use Rattle.wave_io.specs.Causes.{Rose};
@@ -119,11 +119,20 @@ fn help<'l, 'p, R: Threads + Wait + Sync, G: Gate + Sync>(
     helpers: Option<Vec<Helper<'l, 'p, R, G>>>,
 ) {
     if let Some(helpers) = helpers {
-        let _ = map_vec(rt, helpers, &|helper: Helper<R, G>| run(helper));
+        let _ = map_vec(
+            rt,
+            helpers,
+            &|helper: Helper<R, G>| -> Ending
+                ensures { result ≢ Ending.WriteFault }
+            { run(helper) },
+        );
     }
 }
 
-fn run<'l, 'p, R: Wait, G: Gate>(helper: Helper<'l, 'p, R, G>) -> Ending {
+// One of them, which writes nothing.
+fn run<'l, 'p, R: Wait, G: Gate>(helper: Helper<'l, 'p, R, G>) -> Ending
+    ensures { result ≢ Ending.WriteFault }
+{
     let Helper { post, mut pass } = helper;
     worker(
         post.rt,
