@@ -1,6 +1,7 @@
 -- The board of a lock that is closed, once worker 0 has seen that all is done.
-use Rattle.std.proofs.Common.{◌≡◌, ◌∙◌, ℕ, List, [], ◌∷◌, ◌++◌, map, Option, Some, None, refl, sym, ap, subst}
+use Rattle.std.proofs.Common.{◌≡◌, ◌∙◌, ℕ, List, [], ◌∷◌, ◌++◌, map, Option, Some, None, refl, sym, ap, append-nil, subst}
 use Rattle.std.specs.Prelude.{option_and_then}
+use Rattle.std.specs.Io.KnownBytes.{Appends}
 use Rattle.wave_base.specs.declared.finished.Finished as declared_finished
 use Rattle.wave_base.specs.declared.start.Start.{Start}
 use Rattle.kept_lock.specs.History.{StartsWith}
@@ -13,10 +14,13 @@ use Rattle.wave_states.specs.Runs.{Finished, run}
 use Rattle.wave_states.specs.States.{State}
 use Rattle.wave_states.specs.Steps.{step}
 use Rattle.wave_theory.proofs.Basics.{some_same, then_some}
+use Rattle.wave_io.specs.Streams.{AppendsFront}
+use Rattle.listing_out.proofs.SinkLemmas.{written_front}
 use Rattle.script_fold.specs.Runs.{finished_of}
 use Rattle.plan_actors.specs.Calls.{code_ran}
 use Rattle.plan_actors.specs.PlanActors.{plan_actors}
 use Rattle.plan_actors.specs.Plans.{Plan, begin_in}
+use Rattle.wave_machine.specs.declared.plan.Plan as declared_plan
 use Rattle.wave_machine.specs.Machines.{IsReached, TheState}
 use Rattle.wave_machine.specs.Plans.{plan_of}
 use Rattle.wave_board.specs.declared.board.Board.{Board}
@@ -27,7 +31,7 @@ use Rattle.wave_board.specs.Boards.{IsAt, StandsFor, history_of, labels_in, labe
 use Rattle.wave_board.specs.Taking.{IsFinished}
 use Rattle.wave_board.proofs.Staying.{ends_there, labels_are}
 use Rattle.host_workers.specs.Endings.{IsFinishedRun}
-use Rattle.host_workers.specs.Lines.{told_by}
+use Rattle.host_workers.specs.Lines.{event_lines, told_by}
 use Rattle.host_workers.specs.Runs.{IsRun}
 
 labels_append : (xs ys : List Trail) → labels_in (xs ++ ys) ≡ labels_in xs ++ labels_in ys
@@ -72,3 +76,15 @@ module _ (o : Origin) (b : Board) (s : TheState) (at : IsAt b o s) (seen : List 
     told o s at,
     record { state = s; reached = subst (λ js. IsReached plan o.start.now (map label_of js) s) (sym journal) reached; finished = done },
   )
+
+-- a board that stands for the origin may be taken apart
+pub can_part : (o : Origin) (b : Board) (seen : List Trail) → StandsFor b o → IsFinishedRun o.plan.now o.start.now (labels_in seen) → StartsWith (history_of b) seen → (o : Origin) × (s : TheState) × IsAt b o s × IsFinished b s
+can_part o b seen stands over begins = (o, stands.0, stands.1, is_finished o b stands.0 stands.1 seen over begins)
+
+-- the lines from the origin are those from its Start: a front of them, or all, which are a front too
+module _ (plan : declared_plan.Plan) (start : Start) (o : Origin) (start_is : o.start.now ≡ start) (old new : Option (List ℕ)) where
+  pub front_from : AppendsFront old new (event_lines plan o.start.now) → AppendsFront old new (event_lines plan start)
+  front_from h = subst (λ (st : Start). AppendsFront old new (event_lines plan st)) start_is h
+
+  pub all_from : Appends old new (event_lines plan o.start.now) → AppendsFront old new (event_lines plan start)
+  all_from h = front_from (written_front old new [] (event_lines plan o.start.now) (record { bytes = event_lines plan o.start.now; appended = h; whole = append-nil (event_lines plan o.start.now) }))

@@ -7,3 +7,4 @@ pub mod Visited
 pub mod Rounding
 pub mod Writing
 pub mod Closing
+pub mod Teams

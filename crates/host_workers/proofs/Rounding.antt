@@ -12,7 +12,11 @@ use Rattle.wave_machine.specs.Leases as leases
 use Rattle.wave_machine.specs.Running.{IsInHand}
 use Rattle.wave_board.specs.declared.origin.Origin.{Origin}
 use Rattle.wave_board.specs.declared.trail.Trail.{Trail}
-use Rattle.host_workers.specs.inner.Rounds.{HasLease, HasPaused}
+use Rattle.host_workers.specs.Passes.{IsReady}
+use Rattle.host_workers.specs.inner.Rounds.{HasLease, HasPaused, IsCalm}
+
+pub is_calm : (o : Origin) (k : Known Trail) (w : Worker) → IsReady o k w → IsCalm o k w
+is_calm o k w ready = record { number = ready.number; no_halts = ready.no_halts }
 
 module _ (o : Origin) (k : Known Trail) (w : Worker) (lease : Lease) (leased : HasLease o k w lease) where
   -- what ran on the lease may be given back

@@ -1,16 +1,33 @@
 -- How far the lines of a run are written.
-use Rattle.std.proofs.Common.{◌≡◌, ◌∙◌, ◌+◌, ℕ, List, [], ◌++◌, Option, length, refl, sym, ap, subst, append_assoc, append-nil}
+use Rattle.std.proofs.Common.{◌≡◌, ◌≢◌, ◌∙◌, ◌+◌, ◌≤◌, ℕ, List, [], ◌++◌, Option, Ok, Err, length, refl, sym, ap, subst, append_assoc, append-nil, arith}
 use Rattle.std.specs.Io.KnownBytes.{Appends}
 use Rattle.std.specs.List.{concat}
+use Rattle.wave_base.specs.declared.numbers.Worker.{Worker}
+use Rattle.wave_base.specs.declared.shape.Shape.{Shape}
 use Rattle.wave_base.specs.declared.shown.Shown.{Shown}
+use Rattle.wave_io.specs.Causes.{Rose}
 use Rattle.wave_io.specs.Streams.{AppendsFront}
 use Rattle.listing_out.specs.Listing.{lines_from}
 use Rattle.listing_out.specs.Parts.{AreShownFrom}
 use Rattle.listing_out.proofs.PartLemmas.{all_lines, part_on, rest_of}
 use Rattle.listing_out.proofs.SinkLemmas.{IsWritten, all_written, front_written, more_written, nothing_written, written_front}
+use Rattle.kept_lock.specs.declared.view.Known.{Known}
+use Rattle.kept_lock.specs.History.{StartsWith}
+use Rattle.kept_lock.proofs.Entries.{starts_longer}
+use Rattle.wave_machine.specs.declared.plan.Plan.{Plan}
 use Rattle.wave_board.specs.declared.origin.Origin.{Origin}
+use Rattle.wave_board.specs.declared.trail.StopCause.TheVariants.{SinkFault}
+use Rattle.wave_board.specs.declared.trail.Trail.{Trail}
+use Rattle.wave_board.specs.declared.work.Work.{Work}
+use Rattle.wave_board.specs.declared.work.Work.TheVariants.{Stepped, Segment, Nothing, Finished, Stopped}
+use Rattle.host_workers.specs.declared.ending.Ending.{Ending}
+use Rattle.host_workers.specs.declared.ending.Ending.TheVariants as ending
+use Rattle.host_workers.specs.declared.offer.Offer.TheVariants.{Task}
+use Rattle.host_workers.specs.Endings.{Ended, IsHalted}
 use Rattle.host_workers.specs.Lines.{event_lines}
-use Rattle.host_workers.specs.inner.Writing.{BreaksOff, WritesUpTo, lines_of, told_of}
+use Rattle.host_workers.specs.Passes.{GoesOn, IsReady, OnlyHalts}
+use Rattle.host_workers.specs.inner.Rounds.{Asked}
+use Rattle.host_workers.specs.inner.Writing.{AreCommitted, AreNext, BreaksOff, HasWritten, Offered, WritesUpTo, lines_of, told_of}
 
 abbrev pub all_of : Origin → List ℕ
 all_of o = event_lines o.plan.now o.start.now
@@ -72,3 +89,81 @@ module _ (o : Origin) (written : ℕ) where
 -- at the beginning there is none
 pub none_written : (o : Origin) (a : Option (List ℕ)) → AreWritten o 0 a a
 none_written o a = all_written a a [] [] (nothing_written a []) refl
+
+-- ---- what is committed
+
+pub none_committed : (o : Origin) (k : Known Trail) → AreCommitted o k 0
+none_committed o k = λ b s at on. omega arith
+
+-- it stays so
+pub still_committed : (o : Origin) (k k' : Known Trail) (n : ℕ) → GoesOn k k' → AreCommitted o k n → AreCommitted o k' n
+still_committed o k k' n on there = λ b s at starts. there b s at (subst (λ ts. StartsWith ts k.seen) (sym starts.1) (starts_longer k'.seen starts.0 k.seen on.seen))
+
+-- ---- a round of the worker that writes
+
+-- a part, its bytes told by another shape and number that are the same
+module _ (o : Origin) (written : ℕ) (part : List Shown) (shown : AreShownFrom (told_of o) written part) (shape : Shape) (first : ℕ) (same : shape ≡ o.plan.now.program.shape)
+    (next : first ≡ o.start.now.next.0 + written) (a b : Option (List ℕ)) where
+  its_bytes : concat (lines_from shape first part) ≡ bytes o written part shown
+  its_bytes = ap (λ s. concat (lines_from s first part)) same ∙ ap (λ n. concat (lines_from o.plan.now.program.shape n part)) next
+
+  pub part_came : Appends a b (concat (lines_from shape first part)) → WritesUpTo o written (written + length part) a b
+  part_came h = writes_part o written part shown a b (subst (Appends a b) its_bytes h)
+
+  pub part_broke : AppendsFront a b (concat (lines_from shape first part)) → BreaksOff o written a b
+  part_broke h = breaks_in o written part shown a b (subst (AppendsFront a b) its_bytes h)
+
+-- the next lines came whole
+pub part_written : (o : Origin) (k : Known Trail) (w : Worker) (written : ℕ) (part : List Shown) (shape : Shape) (first n : ℕ) (a b : Option (List ℕ)) (f g : ℕ) → IsReady o k w → AreNext o k written part
+    → shape ≡ o.plan.now.program.shape → first ≡ o.start.now.next.0 + written → n ≡ length part → Appends a b (concat (lines_from shape first part)) → HasWritten o k w written a b f g (Ok (written + n))
+part_written o k w written part shape first n a b f g ready next same from count came =
+    subst (λ m. HasWritten o k w written a b f g (Ok (written + m))) (sym count) (ready, next.committed, part_came o written part next.shown shape first same from a b came)
+
+module _ (o : Origin) (k : Known Trail) (w : Worker) (written : ℕ) where
+  -- the work that was offered, as it was asked for
+  pub offered_task : (work : Work) → Offered o k w written (Ok (Task work)) → Asked o k w (Ok work)
+  offered_task (Stepped l) h = h
+  offered_task (Segment lease) h = h
+  offered_task Nothing h = h
+  offered_task Finished h = h.0
+  offered_task (Stopped why) h = h
+
+  -- where it is finished all lines are written
+  pub offered_all : (work : Work) → Offered o k w written (Ok (Task work)) → work ≡ Finished → written ≡ length (told_of o).results
+  offered_all work h is = (subst (λ x. Offered o k w written (Ok (Task x))) is h).1
+
+  module _ (a b : Option (List ℕ)) (f g : ℕ) where
+    -- the sink failed
+    pub sink_failed : k.number ≡ w.0 → IsHalted k.seen → OnlyHalts k.made SinkFault → BreaksOff o written a b → Rose f g → HasWritten o k w written a b f g (Err ending.WriteFault)
+    sink_failed number halted own broke rose = (number, (halted, own), broke, (λ is. absurd cc), (λ is. rose))
+
+    -- there was no memory
+    pub no_memory : (e : Ending) → e ≡ ending.OutOfMemory → k.number ≡ w.0 → Ended o k e → BreaksOff o written a b → HasWritten o k w written a b f g (Err e)
+    no_memory e memory number ended broke = (number, ended, broke, (λ is. absurd (clash e memory is)), (λ is. absurd (fault e memory is)))
+      where
+        clash : (e : Ending) → e ≡ ending.OutOfMemory → e ≡ ending.Finished → ⊥
+        clash e p q = cc
+
+        fault : (e : Ending) → e ≡ ending.OutOfMemory → e ≡ ending.WriteFault → ⊥
+        fault e p q = cc
+
+  module _ (a : Option (List ℕ)) (f g : ℕ) where
+    -- nothing was written
+    pub nothing_came : IsReady o k w → AreCommitted o k written → HasWritten o k w written a a f g (Ok written)
+    nothing_came ready there = (ready, there, stays o written a)
+
+    pub ends_so : (e : Ending) → k.number ≡ w.0 → Ended o k e → e ≢ ending.WriteFault → (e ≡ ending.Finished → written ≡ length (told_of o).results) → HasWritten o k w written a a f g (Err e)
+    ends_so e number ended no_sink all = (number, ended, breaks_here o written a, (λ is. (all is, all_written a a [] [] (nothing_written a []) refl)), (λ sink. absurd (no_sink sink)))
+
+-- ---- the run of the worker that writes, as it ends after a round
+
+pub rose_since : (before now later : ℕ) → before ≤ now → Rose now later → Rose before later
+rose_since before now later less rose = omega (arith, less, rose)
+
+module _ (o : Origin) (k : Known Trail) (w : Worker) (written : ℕ) (plan : Plan) (is : o.plan.now ≡ plan) (a b c : Option (List ℕ)) (before : AreWritten o written a b) (f g : ℕ) (e : Ending)
+    (h : HasWritten o k w written b c f g (Err e)) where
+  pub run_whole : e ≡ ending.Finished → Appends a c (event_lines plan o.start.now)
+  run_whole over = subst (λ p. Appends a c (event_lines p o.start.now)) is (whole o written a b before c (h.3 over).0 (h.3 over).1)
+
+  pub run_front : AppendsFront a c (event_lines plan o.start.now)
+  run_front = subst (λ p. AppendsFront a c (event_lines p o.start.now)) is (breaks o written a b before c h.2)

@@ -5,6 +5,10 @@ ghost use Rattle.wave_io.specs.Causes.{Rose};
 ghost use Rattle.wave_io.specs.Streams.{AppendsFront};
 ghost use Rattle.plan_actors.specs.Plans.{Fits, FitsStart};
 ghost use Rattle.wave_machine.specs.Plans.{plan_of};
+ghost use Rattle.kept_lock.specs.Locks.{name_of, known, IsPassOf};
+ghost use Rattle.wave_board.specs.Boards.{labels_in};
+ghost use Rattle.host_workers.specs.Endings.{IsFinishedRun};
+ghost use Rattle.host_workers.specs.Passes.{IsReady};
 ghost use Rattle.host_workers.specs.Lines.{event_lines};
 ghost use Rattle.host_workers.specs.Runs.{IsRun};
 
@@ -12,12 +16,12 @@ use crate::ending::{Ending, RunError};
 use crate::post::Post;
 use crate::team::{helpers_of, run_team};
 use context_tree::trees_that_fit;
-use kept_lock::KeptLock;
+use kept_lock::{KeptLock, Pass};
 use std::alloc::Global;
 use std::sync::Wait;
 use std::thread::Threads;
-use wave_base::{Finished, Seq, Start, Worker};
-use wave_board::{Board, Origin, finished_stays};
+use wave_base::{Finished, OutOfMemory, Seq, Start, Ticket, Worker};
+use wave_board::{Board, Origin};
 use wave_io::{Gate, Sink};
 use wave_labels::Label;
 use wave_machine::Plan;
@@ -40,28 +44,14 @@ pub fn run_plan_at<R: Threads + Wait + Sync, G: Gate + Sync, K: Sink + Send>(
     ensures fault { IsErrOf result RunError.WriteFault → Rose (K.faults out.old) (K.faults out.new) }
     ensures later { K.faults out.old ≤ K.faults out.new }
 {
-    finished_stays();
     let board = Board::new_at(alloc, plan, start)?;
     let Ok((lock, mut first)) = KeptLock::new(alloc, Origin { plan, start }, board) else {
         return Err(RunError::OutOfMemory);
     };
-    let post = Post {
-        rt,
-        alloc,
-        lock: &lock,
-        plan,
-        number: Worker(0),
-        gate,
-    };
-    let helpers = helpers_of(&post, &mut first)?;
-    match run_team(&post, &mut first, helpers, start.next, out) {
-        Ending::Finished => {}
-        Ending::WriteFault => return Err(RunError::WriteFault),
-        Ending::Stopped(_) | Ending::OutOfMemory => return Err(RunError::OutOfMemory),
-    }
-    match lock.close(rt, first).into_parts() {
+    run_workers(rt, alloc, &lock, &mut first, plan, start.next, gate, out)?;
+    match parts_of(rt, lock, first) {
         Ok(parts) => Ok(parts),
-        Err(_) => Err(RunError::OutOfMemory),
+        Err(OutOfMemory) => Err(RunError::OutOfMemory),
     }
 }
 
@@ -83,4 +73,59 @@ pub fn run_plan<R: Threads + Wait + Sync, G: Gate + Sync, K: Sink + Send>(
     trees_that_fit();
     let start = Start::first(alloc, &plan.program.program().shape)?;
     run_plan_at(rt, alloc, plan, &start, gate, out)
+}
+
+// Runs all workers of the plan round a new lock.
+fn run_workers<'p, R: Threads + Wait + Sync, G: Gate + Sync, K: Sink + Send>(
+    rt: &R,
+    alloc: Global,
+    lock: &KeptLock<Board<'p>>,
+    first: &mut Pass<Board<'p>>,
+    plan: &'p Plan,
+    from: Ticket,
+    gate: &G,
+    out: &mut K,
+) -> Result<(), RunError>
+    requires of_lock { IsPassOf lock.now first.old }
+    requires plan { (name_of lock.now).plan.now ≡ plan.now }
+    requires from { (name_of lock.now).start.now.next ≡ from }
+    requires ready { IsReady (name_of lock.now) (known first.old) (record { 0 = 0 }) }
+    requires one { (known first.old).passes ≡ 1 }
+    ensures of_lock { IsPassOf lock.now first.new }
+    ensures finished { OnOk result (IsFinishedRun (name_of lock.now).plan.now (name_of lock.now).start.now (labels_in (known first.new).seen)) }
+    ensures lines { OnOk result (Appends (K.written out.old) (K.written out.new) (event_lines plan.now (name_of lock.now).start.now)) }
+    ensures front { OnErr result (AppendsFront (K.written out.old) (K.written out.new) (event_lines plan.now (name_of lock.now).start.now)) }
+    ensures fault { IsErrOf result RunError.WriteFault → Rose (K.faults out.old) (K.faults out.new) }
+    ensures later { K.faults out.old ≤ K.faults out.new }
+{
+    let post = Post {
+        rt,
+        alloc,
+        lock,
+        plan,
+        number: Worker(0),
+        gate,
+    };
+    let helpers = helpers_of(&post, first)?;
+    match run_team(&post, first, helpers, from, out) {
+        Ending::Finished => Ok(()),
+        Ending::WriteFault => Err(RunError::WriteFault),
+        Ending::Stopped(_) | Ending::OutOfMemory => Err(RunError::OutOfMemory),
+    }
+}
+
+// What a finished run gives, from the lock that its workers left.
+fn parts_of<'p, R: Wait>(
+    rt: &R,
+    lock: KeptLock<Board<'p>>,
+    first: Pass<Board<'p>>,
+) -> Result<(Finished, Seq<Label>), OutOfMemory>
+    requires of_lock { IsPassOf lock first }
+    requires finished { IsFinishedRun (name_of lock).plan.now (name_of lock).start.now (labels_in (known first).seen) }
+    ensures { IfOk result (λ r. IsRun (name_of lock.entry).plan.now (name_of lock.entry).start.now r) }
+{
+    match lock.close(rt, first).into_parts() {
+        Ok(parts) => Ok(parts),
+        Err(_) => Err(OutOfMemory),
+    }
 }

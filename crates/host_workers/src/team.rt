@@ -106,7 +106,9 @@ pub(crate) fn run_team<'l, 'p, R: Threads + Wait + Sync, G: Gate + Sync, K: Sink
     let (ending, ()) = join_mut(
         *rt,
         &mut || writing_worker(*rt, *alloc, lock, first, plan, *gate, from, out),
-        &mut || help(*rt, helpers.take()),
+        &mut ||
+            requires { IsSync R.row × IsSync G.row }
+        { help(*rt, helpers.take()) },
     );
     ending
 }
