@@ -21,6 +21,7 @@ pub enum RunError {
     /// The sink failed.
     #[error("a write failed")]
     WriteFault,
+    /// There was no memory for the board, its workers, their steps or the lines.
     #[error("out of memory")]
     OutOfMemory,
 }

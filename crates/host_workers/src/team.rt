@@ -1,14 +1,9 @@
 // The workers of a plan, each in a thread of its own where one can be made.
-ghost use Rattle.std.specs.Prelude.{◌≡◌, ◌≤◌};
-ghost use Rattle.std.specs.Io.KnownBytes.{Appends};
+ghost use Rattle.std.specs.Prelude.{◌≡◌, ◌≢◌};
 ghost use Rattle.std.specs.Thread.{IsSync};
-ghost use Rattle.wave_io.specs.Causes.{Rose};
-ghost use Rattle.wave_io.specs.Streams.{AppendsFront};
 ghost use Rattle.kept_lock.specs.Locks.{name_of, known, IsPassOf};
-ghost use Rattle.host_workers.specs.Endings.{Ended};
-ghost use Rattle.host_workers.specs.Lines.{event_lines};
 ghost use Rattle.host_workers.specs.Passes.{IsReady};
-ghost use Rattle.host_workers.specs.inner.Teams.{IsSeated};
+ghost use Rattle.host_workers.specs.inner.Teams.{HasEnded, IsSeated};
 
 use crate::ending::Ending;
 use crate::post::Post;
@@ -88,29 +83,36 @@ pub(crate) fn run_team<'l, 'p, R: Threads + Wait + Sync, G: Gate + Sync, K: Sink
     requires from { (name_of post.now.lock.now).start.now.next ≡ from }
     requires ready { IsReady (name_of post.now.lock.now) (known first.old) (record { 0 = 0 }) }
     ensures of_lock { IsPassOf post.now.lock.now first.new }
-    ensures ended { Ended (name_of post.now.lock.now) (known first.new) result }
-    ensures whole { result ≡ Ending.Finished → Appends (K.written out.old) (K.written out.new) (event_lines post.now.plan.now (name_of post.now.lock.now).start.now) }
-    ensures front { AppendsFront (K.written out.old) (K.written out.new) (event_lines post.now.plan.now (name_of post.now.lock.now).start.now) }
-    ensures fault { result ≡ Ending.WriteFault → Rose (K.faults out.old) (K.faults out.new) }
-    ensures later { K.faults out.old ≤ K.faults out.new }
+    ensures ended { HasEnded (name_of post.now.lock.now) post.now.plan.now (known first.new) (K.written out.old) (K.written out.new) (K.faults out.old) (K.faults out.new) result }
 {
-    let Post {
-        rt,
-        alloc,
-        lock,
-        plan,
-        number: _,
-        gate,
-    } = post;
     let mut helpers = Some(helpers);
     let (ending, ()) = join_mut(
-        *rt,
-        &mut || writing_worker(*rt, *alloc, lock, first, plan, *gate, from, out),
+        post.rt,
+        &mut || lead(post, first, from, out),
         &mut ||
             requires { IsSync R.row × IsSync G.row }
-        { help(*rt, helpers.take()) },
+        { help(post.rt, helpers.take()) },
     );
     ending
+}
+
+// Worker 0 at its post.
+fn lead<'l, 'p, R: Wait, G: Gate, K: Sink>(
+    post: &Post<'l, 'p, R, G>,
+    first: &mut Pass<Board<'p>>,
+    from: Ticket,
+    out: &mut K,
+) -> Ending
+    requires of_lock { IsPassOf post.now.lock.now first.old }
+    requires plan { (name_of post.now.lock.now).plan.now ≡ post.now.plan.now }
+    requires from { (name_of post.now.lock.now).start.now.next ≡ from }
+    requires ready { IsReady (name_of post.now.lock.now) (known first.old) (record { 0 = 0 }) }
+    ensures of_lock { IsPassOf post.now.lock.now first.new }
+    ensures ended { HasEnded (name_of post.now.lock.now) post.now.plan.now (known first.new) (K.written out.old) (K.written out.new) (K.faults out.old) (K.faults out.new) result }
+{
+    writing_worker(
+        post.rt, post.alloc, post.lock, first, post.plan, post.gate, from, out,
+    )
 }
 
 // Runs these workers. Where there is no memory for them the first does all.
@@ -119,11 +121,20 @@ fn help<'l, 'p, R: Threads + Wait + Sync, G: Gate + Sync>(
     helpers: Option<Vec<Helper<'l, 'p, R, G>>>,
 ) {
     if let Some(helpers) = helpers {
-        let _ = map_vec(rt, helpers, &|helper: Helper<R, G>| run(helper));
+        let _ = map_vec(
+            rt,
+            helpers,
+            &|helper: Helper<R, G>| -> Ending
+                ensures { result ≢ Ending.WriteFault }
+            { run(helper) },
+        );
     }
 }
 
-fn run<'l, 'p, R: Wait, G: Gate>(helper: Helper<'l, 'p, R, G>) -> Ending {
+// One of them, which writes nothing.
+fn run<'l, 'p, R: Wait, G: Gate>(helper: Helper<'l, 'p, R, G>) -> Ending
+    ensures { result ≢ Ending.WriteFault }
+{
     let Helper { post, mut pass } = helper;
     worker(
         post.rt,

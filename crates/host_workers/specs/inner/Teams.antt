@@ -1,6 +1,10 @@
 -- Workers that have passes of their own.
-use Rattle.std.specs.Prelude.{◌≡◌}
+use Rattle.std.specs.Prelude.{◌≡◌, ◌≤◌, ℕ, List, Option}
+use Rattle.std.specs.Io.KnownBytes.{Appends}
 use Rattle.wave_base.specs.declared.numbers.Worker.{Worker}
+use Rattle.wave_io.specs.Causes.{Rose}
+use Rattle.wave_io.specs.Streams.{AppendsFront}
+use Rattle.kept_lock.specs.declared.view.Known.{Known}
 use Rattle.kept_lock.specs.declared.lock.KeptLock.{KeptLock}
 use Rattle.kept_lock.specs.declared.lock.Pass.{Pass}
 use Rattle.kept_lock.specs.Locks.{name_of, known, IsPassOf}
@@ -8,6 +12,10 @@ use Rattle.wave_machine.specs.declared.plan.Plan.{Plan}
 use Rattle.wave_board.specs.declared.board.Board.{Board}
 use Rattle.wave_board.specs.declared.origin.Origin.{Origin}
 use Rattle.wave_board.specs.declared.trail.Trail.{Trail}
+use Rattle.host_workers.specs.declared.ending.Ending.{Ending}
+use Rattle.host_workers.specs.declared.ending.Ending.TheVariants as ending
+use Rattle.host_workers.specs.Endings.{Ended}
+use Rattle.host_workers.specs.Lines.{event_lines}
 use Rattle.host_workers.specs.Passes.{IsReady}
 
 -- the pass is of the lock, whose plan is this one, and the worker may begin with it
@@ -15,3 +23,11 @@ pub record IsSeated (lock : KeptLock Board Origin Trail) (pass : Pass Board Orig
   pub of_lock : IsPassOf lock pass
   pub plan_is : (name_of lock).plan.now ≡ plan
   pub ready : IsReady (name_of lock) (known pass) worker
+
+-- how worker 0 ended, and what was written of the lines of the plan's events
+pub record HasEnded (origin : Origin) (plan : Plan) (pass : Known Trail) (old new : Option (List ℕ)) (faults faults' : ℕ) (e : Ending) : Type 0 where
+  pub ended : Ended origin pass e
+  pub whole : e ≡ ending.Finished → Appends old new (event_lines plan origin.start.now)
+  pub front : AppendsFront old new (event_lines plan origin.start.now)
+  pub fault : e ≡ ending.WriteFault → Rose faults faults'
+  pub later : faults ≤ faults'
