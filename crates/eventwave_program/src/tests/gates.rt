@@ -10,15 +10,18 @@ use std::test::Fail;
 use wave_base::{Class, Path, Step, Ticket};
 use wave_io::Gate;
 
+const HALL: Step = Step {
+    class: Class(1),
+    key: 1,
+};
+
 fn hall() -> Path {
-    let class = Class(1);
-    Path::root().child(Step { class, key: 1 })
+    Path::root().child(HALL)
 }
 
 fn stall(key: i64) -> Path {
-    let above = hall();
     let class = Class(2);
-    above.child(Step { class, key })
+    Path::root().child(HALL).child(Step { class, key })
 }
 
 // How often a gate looks at what it waits for.
