@@ -1,0 +1,6 @@
+use Rattle.text_plans.proofs.tests.steps.told.Goals as goal
+
+pub into_finished-requires : goal.into_finished-requires
+into_finished-requires c =
+    let on = c.machine_stands.ensures in
+    (on.start, on.state, on.stands, (c.finished.ensures on.start on.state on.stands).0 c.assert.is)
