@@ -12,6 +12,3 @@ pub use held::{Held, Hold};
 pub use laws::cells_stand;
 pub use outbox::{Envelope, Outbox};
 pub use status::Status;
-
-#[cfg(test)]
-mod tests;

@@ -1,5 +1,5 @@
 ghost use Rattle.std.specs.Prelude.{◌≡◌, ◌≤◌, ◌+◌, OnOk, IfOk, option_copied, option_map, position, length, IfSome, ◌<◌};
-ghost use Rattle.std.specs.List.{list_any};
+ghost use Rattle.std.specs.List.{list_any, IsDistinct};
 ghost use Rattle.std.specs.FinMap as map;
 ghost use Rattle.host_map.specs.Stores.{find_in, has};
 ghost use Rattle.indexmap.specs.IndexMap.{keys};
@@ -98,9 +98,10 @@ impl HostStore {
         self.store.get(path)
     }
 
-    /// The paths of the contexts that are here, in any order.
+    /// The paths of the contexts that are here, each once, in any order.
     pub fn paths(&self, alloc: Global) -> Result<Vec<Path>, OutOfMemory>
-        ensures { IfOk result (λ paths. (p : path.Path) → list_any (path_eq p) paths.items ≡ has p self.now) }
+        ensures here { IfOk result (λ paths. (p : path.Path) → list_any (path_eq p) paths.items ≡ has p self.now) }
+        ensures once { IfOk result (λ paths. IsDistinct path_eq paths.items) }
     {
         let paths = keys_in(alloc, &self.store)?;
         Ok(paths)
@@ -166,7 +167,8 @@ impl HostStore {
 
 // The keys of a table, in its order.
 fn keys_in(alloc: Global, table: &IndexMap<Path, Entry>) -> Result<Vec<Path>, AllocError>
-    ensures { IfOk result (λ paths. paths.items ≡ keys table.now) }
+    ensures keys { IfOk result (λ paths. paths.items ≡ keys table.now) }
+    ensures once { IfOk result (λ paths. IsDistinct path_eq paths.items) }
 {
     table.keys().copied().collect(alloc)
 }

@@ -9,7 +9,6 @@
 mod attempt;
 mod bell;
 mod close;
-mod cross;
 mod enter;
 mod guard;
 mod kept;
@@ -21,8 +20,6 @@ mod news;
 mod open;
 mod passes;
 mod plays;
-#[cfg(test)]
-mod tests;
 mod view;
 mod visit;
 mod wait;

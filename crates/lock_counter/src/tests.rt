@@ -3,6 +3,9 @@ ghost use Rattle.kept_lock.specs.Locks.{known, IsPassOf};
 ghost use Rattle.lock_counter.specs.Passes.{IsFresh};
 ghost use Rattle.lock_counter.specs.Jobs.{IsReady, IsDone};
 
+mod cross;
+mod notes;
+
 use crate::{
     Addition, Counter, Done, Job, Order, Plan, Turn, add, add_again, add_below, add_by_four,
     add_by_two, add_one, run, run_all, total, wait_for,

@@ -1,8 +1,7 @@
 -- A mover's next step, and whether the record has that child.
-use Rattle.std.proofs.Common.{◌≡◌, ◌<◌, ℕ, zero, suc, ◌+◌, Bool, true, false, List, [], ◌∷◌, Option, Some, None, is_some, cond, ◌||◌, drop, add-one, refl, sym, ap, ◌∙◌}
+use Rattle.std.proofs.Common.{◌≡◌, ℕ, zero, suc, ◌+◌, Bool, true, false, List, [], ◌∷◌, Option, Some, None, is_some, cond, ◌||◌, drop, add-one, refl, sym, ap, ◌∙◌}
 use Rattle.std.specs.Prelude.{if◌then◌else◌}
 use Rattle.std.specs.List.{list_any}
-use Rattle.std.specs.Map.{lookup}
 use Rattle.std.specs.BTreeMap.{is_at}
 use Rattle.wave_base.specs.declared.path.Step.{Step}
 use Rattle.wave_base.specs.declared.children.Child.{Child}
@@ -12,7 +11,8 @@ use Rattle.wave_base.specs.Kids.{child_at}
 use Rattle.wave_states.specs.Actors.{Left, Go, Over}
 use Rattle.wave_states.specs.Movers.{Move, Mover, MoveEnd, Absent, advance_on}
 use Rattle.wave_states.specs.States.{steps_of}
-use Rattle.migration_core.specs.inner.Next.{first_of, without_first}
+use Rattle.wave_states.specs.Walkers.{first_of}
+use Rattle.migration_core.specs.inner.Next.{without_first}
 
 -- a child is there where its step is among the steps
 pub child_is : (children : List (Step × Child)) (s : Step) → is_some (child_at children s) ≡ list_any (step_eq s) (steps_of children)

@@ -1,13 +1,11 @@
--- Movers, and how the ends of moves are told.
-use Rattle.std.specs.Prelude.{ℕ, []}
-use Rattle.wave_base.specs.declared.numbers.Host.{Host}
-use Rattle.wave_base.specs.declared.outcome.EventResult.{EventResult}
-use Rattle.wave_base.specs.declared.outcome.Outcome.TheVariants as outcome
+-- Movers, and how their pauses are told.
+use Rattle.std.specs.Prelude.{ℕ}
 use Rattle.wave_base.specs.declared.pause.Pause.{Pause}
 use Rattle.wave_base.specs.declared.pause.Pause.TheVariants as pause
 use Rattle.wave_base.specs.declared.path.Path.{Path}
 use Rattle.wave_states.specs.Actors as theory
-use Rattle.wave_states.specs.Movers.{Move, Mover, MoveEnd, Moved, Absent}
+use Rattle.wave_states.specs.Movers.{Mover, MoveEnd}
+use Rattle.wave_states.specs.Results.{end_of}
 
 -- a mover with its ticket
 pub record Moving : Type 0 where
@@ -18,12 +16,7 @@ pub record Moving : Type 0 where
 abbrev pub start_of : Path → ℕ → Mover
 start_of p to = record { move = record { path = p; to = to }; rest = p }
 
--- the result that tells how a move ended: no messages and no calls
-abbrev pub end_of : MoveEnd → EventResult
-end_of (Moved p h) = record { outcome = outcome.Moved p (record { 0 = h }); messages = []; created = [] }
-end_of (Absent p) = record { outcome = outcome.Absent p; messages = []; created = [] }
-
--- the pause that tells one of the theory
+-- the pause that tells one of the theory: how the move ended is the result, with no messages and no calls
 abbrev pub pause_of : theory.Pause MoveEnd → Pause
 pause_of (theory.Go s) = pause.Go s
 pause_of (theory.Down s) = pause.Down s

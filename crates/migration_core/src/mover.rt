@@ -1,8 +1,9 @@
 ghost use Rattle.std.specs.Prelude.{◌≡◌, ◌<◌, [], length, drop};
 ghost use Rattle.migration_core.specs.Movers.{pause_of, start_of};
-ghost use Rattle.migration_core.specs.inner.Next.{first_of, without_first};
+ghost use Rattle.migration_core.specs.inner.Next.{without_first};
 ghost use Rattle.wave_states.specs.Movers.{advance};
 ghost use Rattle.wave_states.specs.States.{steps_of};
+ghost use Rattle.wave_states.specs.Walkers.{first_of};
 
 use std::alloc::Global;
 use std::marker::Model;

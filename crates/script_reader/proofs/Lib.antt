@@ -5,4 +5,3 @@ pub mod FrontLemmas
 pub mod LiteralLemmas
 pub mod PieceLemmas
 pub mod ReadLemmas
-pub mod SampleLemmas

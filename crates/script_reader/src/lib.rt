@@ -13,8 +13,6 @@ mod read;
 mod said;
 mod spelling;
 mod taken;
-#[cfg(test)]
-mod tests;
 
 pub use earlier::Earlier;
 pub use error::{Fault, ScriptError};

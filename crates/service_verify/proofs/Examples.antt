@@ -28,6 +28,7 @@ use Rattle.service_verify.specs.Rules.{levels_above, effect_of}
 use Rattle.service_verify.specs.Segments.{weight, enough, steps, segment}
 use Rattle.service_verify.specs.Steps.{acted, one_step}
 use Rattle.service_verify.specs.Tours.{Tour, tour_after, code_tour}
+use Rattle.service_verify.specs.inner.Surveys.{looks_by}
 use Rattle.service_verify.proofs.Samples.{class, function, tick, market}
 
 abbrev point : List Kind → Option Point
@@ -178,6 +179,10 @@ sets_before = refl
 loops_back : peeks (with_events (into_hall ++ Tick ∷ Jump 0 ∷ [])) 2 ≡ false
 unfolding peeks is_quiet_function
 loops_back = refl
+
+-- the same of the function that `verify` asks, of an event alone; no verified code is such, since the classes differ
+loops_back_alone : looks_by [] (function (codes "f") 0 true [] None (k.Int ∷ k.Int ∷ k.Int ∷ k.Int ∷ []) 4 (into_hall ++ Tick ∷ Jump 0 ∷ [])) ≡ None
+loops_back_alone = refl
 
 goes_nowhere : looks_from (with_events (Field 0 ∷ Reply ∷ [])) 2 ≡ Some 0
 unfolding peeks is_quiet_function

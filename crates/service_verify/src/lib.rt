@@ -20,6 +20,3 @@ pub use laws::{
 };
 pub use stack::Stack;
 pub use verified::{Verified, verify};
-
-#[cfg(test)]
-mod tests;

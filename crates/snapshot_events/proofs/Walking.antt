@@ -15,7 +15,8 @@ use Rattle.wave_base.specs.Paths.{step_cmp, parent_of}
 use Rattle.wave_states.specs.States.{steps_of}
 use Rattle.wave_states.specs.Actors.{Down}
 use Rattle.wave_states.specs.Walkers.{Walker, walk, walk_on, leave, copied_now, steps_left, first_of, last_step}
-use Rattle.snapshot_events.specs.Walks.{as_pair, as_shot, pause_of}
+use Rattle.wave_states.specs.Results.{as_shot}
+use Rattle.snapshot_events.specs.Walks.{as_pair, pause_of}
 use Rattle.wave_base.specs.declared.value.Value.{Value}
 use Rattle.std.specs.Prelude.{nat_lt}
 use Rattle.std.proofs.lemmas.Bool.Decides.{nat_tests}

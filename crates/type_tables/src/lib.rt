@@ -13,6 +13,3 @@ pub use kinds::{rows_before, rows_of_index, rows_of_sign, same_kind};
 pub use operators::Operators;
 pub use params::kinds_of;
 pub use tables::Tables;
-
-#[cfg(test)]
-mod tests;

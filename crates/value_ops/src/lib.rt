@@ -22,6 +22,3 @@ pub use table::{OpTable, find, wave_ops};
 pub use takes::{Takes, takes_of};
 pub use texts::{apply_texts, compare_texts, part};
 pub use values::{apply, compare_flags};
-
-#[cfg(test)]
-mod tests;

@@ -1,4 +1,4 @@
-use Rattle.std.proofs.Common.{◌≡◌, ◌<◌, ◌+◌, ◌^◌, Some, IfSome, is_some, sym, ap, subst, ◌∙◌, arith}
+use Rattle.std.proofs.Common.{◌<◌, ◌+◌, ◌^◌, IfSome, is_some, sym, ap, subst, ◌∙◌, arith}
 use Rattle.std.specs.FinMap as table
 use Rattle.migration_core.proofs.Leaving.{inserted_at}
 use Rattle.migration_core.proofs.tests.a_context_departs_and_lands.Goals as goal

@@ -25,7 +25,7 @@ loop-path-preserved c =
     let there : IsThere c.args.stores.now q c.args.host = record {
       store = c.index-stores-host.result;
       stored = stored;
-      has_it = sym (c.in_ok-paths.ensures q) ∙ ap (list_any (path_eq q)) (sym c.deref-path-items.ensures.value) ∙ in_list paths i q at;
+      has_it = sym (c.in_ok-paths.ensures.here q) ∙ ap (list_any (path_eq q)) (sym c.deref-path-items.ensures.value) ∙ in_list paths i q at;
     } in
     record {
       there = λ h. subst (AllThere c.args.stores.now) (sym entries) (all_inserted (IsThere c.args.stores.now) q c.args.host old (c.loop-path.invariant.there h) there);
@@ -46,4 +46,4 @@ returns-clause-more c = λ x p at e.
     let stored : slice_get c.args.stores.now c.args.host.0 ≡ Some c.index-stores-host.result = slice_get_read c.args.stores.now _ c.args.host.0 c.index-stores-host.result refl c.requires.within c.index-stores-host.is in
     let same : c.index-stores-host.result ≡ x = same_some c.index-stores-host.result x (sym stored ∙ at) in
     let all : take c.loop-path.path-index paths ≡ paths = ap (λ n. take n paths) (omega (arith, c.loop-path-test.false, c.loop-path.auto.path-index-end)) ∙ take-length paths in
-    c.loop-path.invariant.added p (ap (list_any (path_eq p)) (all ∙ c.deref-path-items.ensures.value) ∙ c.in_ok-paths.ensures p ∙ ap (has p) same ∙ e)
+    c.loop-path.invariant.added p (ap (list_any (path_eq p)) (all ∙ c.deref-path-items.ensures.value) ∙ c.in_ok-paths.ensures.here p ∙ ap (has p) same ∙ e)

@@ -1,4 +1,4 @@
-use Rattle.std.proofs.Common.{◌≡◌, ◌≤◌, sym, ap, subst, ◌∙◌, IsOk, Result, Ok, Err, OnOk}
+use Rattle.std.proofs.Common.{◌≤◌, sym, ap, subst, ◌∙◌, IsOk, Result, Ok, Err, OnOk}
 use Rattle.std.specs.FinMap as table
 use Rattle.std.specs.HashMap.{spare}
 use Rattle.host_map.proofs.StoreMaps.{inserted}

@@ -1,4 +1,4 @@
-use Rattle.std.proofs.Common.{◌≡◌, [], refl, ap, ◌∙◌}
+use Rattle.std.proofs.Common.{[], refl, ap, ◌∙◌}
 use Rattle.wave_states.specs.Walkers.{leave, last_step}
 use Rattle.snapshot_events.specs.Walks.{as_pair, pause_of}
 use Rattle.std.proofs.Common.{map}

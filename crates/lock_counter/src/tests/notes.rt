@@ -1,11 +1,14 @@
+//! Notes under the lock: what comes back of it and when a nap ends, call by call.
+
 ghost use Rattle.std.specs.Prelude.{◌≡◌, ◌++◌, ◌∷◌, [], MatchResult};
 ghost use Rattle.kept_lock.specs.Locks.{known, IsPassOf};
 
-use crate::cross::{sent_lock, sent_pass, shared_lock};
-use crate::{Attempt, Kept, KeptLock, Pass, passes_share_one_history};
+use super::cross::{sent_lock, sent_pass, shared_lock};
+use kept_lock::{Attempt, Kept, KeptLock, Pass, passes_share_one_history};
 use std::alloc::{AllocError, Global};
 use std::sync::Wait;
 use std::test::Fail;
+use std::thread::{Threads, join};
 
 // Notes, each with the number of the pass that made it, under a title.
 #[derive(Drop)]
@@ -200,16 +203,46 @@ fn a_visit_gives_what_its_work_gives(rt: HostRuntime) -> Result<(), Fail> {
     Ok(())
 }
 
+fn last_look<R: Wait>(rt: &R, lock: &KeptLock<Notes>, mut pass: Pass<Notes>) -> (u64, usize)
+    requires { IsPassOf lock.now pass }
+{
+    look(rt, lock, &mut pass)
+}
+
+// Two threads look, each by a pass of its own.
+fn two_look<R: Threads + Wait + Sync>(
+    rt: &R,
+    lock: &KeptLock<Notes>,
+    one: Pass<Notes>,
+    other: Pass<Notes>,
+) -> ((u64, usize), (u64, usize))
+    requires one { IsPassOf lock.now one }
+    requires other { IsPassOf lock.now other }
+{
+    join(
+        rt,
+        move ||
+            requires { IsPassOf lock.now one }
+        { last_look(rt, lock, one) },
+        move ||
+            requires { IsPassOf lock.now other }
+        { last_look(rt, lock, other) },
+    )
+}
+
 #[test]
 fn locks_and_passes_cross_threads(rt: HostRuntime) -> Result<(), Fail> {
     passes_share_one_history::<Notes>();
-    let Ok((lock, pass)) = KeptLock::new(rt.alloc(), 6, Notes::new(rt.alloc(), 6)) else {
+    let Ok((lock, mut first)) = KeptLock::new(rt.alloc(), 6, Notes::new(rt.alloc(), 6)) else {
         return Err("memory".into());
     };
+    let second = lock.split(&mut first);
+    let third = lock.split(&mut first);
     let lock = sent_lock(&rt, lock);
-    assert_eq!(rt; shared_lock(&rt, &lock), (0, 0));
-    drop(sent_pass(&rt, pass));
-    drop(lock);
+    let (here, _) = shared_lock(&rt, &lock);
+    assert_eq!(rt; two_look(&rt, here, second, third), ((6, 0), (6, 0)));
+    let first = sent_pass(&rt, first);
+    assert_eq!(rt; lock.close(&rt, first).title, 6);
     Ok(())
 }
 

@@ -1,12 +1,14 @@
 ghost use Rattle.wave_base.specs.Text.{IsText};
 
-use crate::{Operators, Tables, kinds_of, rows_before, rows_of_index, rows_of_sign, same_kind};
 use mace_ast::{
     BinaryOp, ContextDecl, EventDecl, Initial, Literal, MethodDecl, Name, Param, Service, UnaryOp,
     VarDecl,
 };
 use std::alloc::Global;
 use std::test::Fail;
+use type_tables::{
+    Operators, Tables, kinds_of, rows_before, rows_of_index, rows_of_sign, same_kind,
+};
 use wave_base::{Kind, OutOfMemory, Seq, Span, Txt};
 
 fn at(col: u32) -> Span {

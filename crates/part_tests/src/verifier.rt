@@ -1,9 +1,8 @@
 ghost use Rattle.std.specs.Prelude.{◌≡◌, ◌≤◌, length, IfOk, vec_len};
 ghost use Rattle.service_verify.specs.Fit.{IsSmall};
 
-use super::*;
-use crate::looks::looks_from;
 use service_code::{Function, Instr, Program};
+use service_verify::{Verified, VerifyError, verify};
 use std::alloc::Global;
 use std::test::Fail;
 use std::thread::{Threads, join};
@@ -301,21 +300,6 @@ fn peeks_where_it_only_looks_at_last(rt: HostRuntime) -> Result<(), Fail> {
         verify(alloc, with_event(alloc, stays)?)?.looks_from(2),
         Some(0)
     );
-    Ok(())
-}
-
-// No verified code jumps back over a Go, since the classes differ: this one is only looked at.
-#[test]
-fn a_loop_back_over_the_last_go_does_not_peek(rt: HostRuntime) -> Result<(), Fail> {
-    let alloc = rt.alloc();
-    let code = vec![in alloc;
-        Instr::PushInt(5),
-        Instr::Go(Class(1)),
-        Instr::Tick,
-        Instr::Jump(0),
-    ]?;
-    let event = function(alloc, Class(0), true, Seq::new(alloc), None, code)?;
-    assert_eq!(rt; looks_from(&event, &[]), None);
     Ok(())
 }
 

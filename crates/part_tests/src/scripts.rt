@@ -3,7 +3,7 @@ ghost use Rattle.wave_base.specs.Shapes.{IsShape};
 ghost use Rattle.wave_base.specs.Text.{IsText};
 ghost use Rattle.path_text.specs.Sample.{market_class, hall_class};
 
-use crate::{ScriptError, read_script, read_script_at};
+use script_reader::{ScriptError, read_script, read_script_at};
 use std::alloc::Global;
 use std::test::Fail;
 use wave_base::{

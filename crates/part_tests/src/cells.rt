@@ -1,6 +1,6 @@
 //! Cells, call by call.
 
-use super::*;
+use event_cells::{Cell, Envelope, Hold, JobKind, Status};
 use migration_core::Letter;
 use std::alloc::Global;
 use std::test::Fail;

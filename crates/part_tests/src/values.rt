@@ -4,11 +4,11 @@ ghost use Rattle.std.specs.Prelude.{◌≡◌, ◌<◌, ◌∷◌, []};
 ghost use Rattle.value_ops.specs.Operators.{takes_of};
 ghost use Rattle.wave_base.specs.declared.value.Kind.{Kind};
 
-use super::rows::*;
-use super::*;
 use std::alloc::Global;
 use std::process::Abort;
 use std::test::Fail;
+use value_ops::rows::*;
+use value_ops::{OpError, apply, apply_ints, compare_texts, find, put_pair, read_map, wave_ops};
 use wave_base::{Kind, OPERATORS, PutError, TABLE_PAIRS, Table, TrapKind, Txt, Value};
 
 const LEAST: i64 = -9223372036854775808;
@@ -28,7 +28,7 @@ fn flag(b: bool) -> Result<Value, OpError> {
 }
 
 // A number as a text.
-#[tactic(auto, unfolding(crate::specs::Operators::takes_of, crate::specs::Operators::operators))]
+#[tactic(auto, unfolding(value_ops::specs::Operators::takes_of, value_ops::specs::Operators::operators))]
 fn digits(alloc: Global, n: i64) -> Result<Txt, OpError> {
     match apply(alloc, STR, &[Value::Int(n)])? {
         Value::Str(text) => Ok(text),
@@ -40,7 +40,7 @@ fn text(alloc: Global, n: i64) -> Result<Value, OpError> {
     Ok(Value::Str(digits(alloc, n)?))
 }
 
-#[tactic(auto, unfolding(crate::specs::Operators::takes_of, crate::specs::Operators::operators))]
+#[tactic(auto, unfolding(value_ops::specs::Operators::takes_of, value_ops::specs::Operators::operators))]
 fn joined(alloc: Global, s: Txt, t: Txt) -> Result<Txt, OpError> {
     match apply(alloc, CAT, &[Value::Str(s), Value::Str(t)])? {
         Value::Str(text) => Ok(text),
@@ -84,7 +84,7 @@ fn of_texts(alloc: Global, row: usize, s: i64, t: i64) -> Result<Value, OpError>
     apply(alloc, row, &[Value::Str(s), Value::Str(t)])
 }
 
-#[tactic(auto, unfolding(crate::specs::Operators::takes_of, crate::specs::Operators::operators))]
+#[tactic(auto, unfolding(value_ops::specs::Operators::takes_of, value_ops::specs::Operators::operators))]
 fn part_of(alloc: Global, text: i64, from: i64, to: i64) -> Result<Value, OpError> {
     let text = digits(alloc, text)?;
     apply(
@@ -103,7 +103,7 @@ fn of_map(alloc: Global, row: usize, map: Table, key: i64) -> Result<Value, OpEr
 }
 
 #[test]
-#[tactic(auto, unfolding(crate::specs::Operators::takes_of, crate::specs::Operators::operators))]
+#[tactic(auto, unfolding(value_ops::specs::Operators::takes_of, value_ops::specs::Operators::operators))]
 fn rows_of_ints(rt: HostRuntime) -> Result<(), Fail> {
     let alloc = rt.alloc();
     of_ints(&rt, alloc, ADD, GREATEST, 1, trap(TrapKind::Overflow));
@@ -123,7 +123,7 @@ fn rows_of_ints(rt: HostRuntime) -> Result<(), Fail> {
 }
 
 #[test]
-#[tactic(auto, unfolding(crate::specs::Operators::takes_of, crate::specs::Operators::operators))]
+#[tactic(auto, unfolding(value_ops::specs::Operators::takes_of, value_ops::specs::Operators::operators))]
 fn rows_of_one_operand(rt: HostRuntime) -> Result<(), Fail> {
     let alloc = rt.alloc();
     assert!(rt; apply(alloc, NEG, &[Value::Int(LEAST)]) == trap(TrapKind::Overflow));
@@ -136,7 +136,7 @@ fn rows_of_one_operand(rt: HostRuntime) -> Result<(), Fail> {
 }
 
 #[test]
-#[tactic(auto, unfolding(crate::specs::Operators::takes_of, crate::specs::Operators::gives_of, crate::specs::Operators::operators))]
+#[tactic(auto, unfolding(value_ops::specs::Operators::takes_of, value_ops::specs::Operators::gives_of, value_ops::specs::Operators::operators))]
 fn rows_of_texts(rt: HostRuntime) -> Result<(), Fail> {
     let alloc = rt.alloc();
     assert!(rt; of_texts(alloc, TEQ, 7, 7) == flag(true));
@@ -151,7 +151,7 @@ fn rows_of_texts(rt: HostRuntime) -> Result<(), Fail> {
 }
 
 #[test]
-#[tactic(auto, unfolding(crate::specs::Operators::takes_of, crate::specs::Operators::operators))]
+#[tactic(auto, unfolding(value_ops::specs::Operators::takes_of, value_ops::specs::Operators::operators))]
 fn longest_text(rt: HostRuntime) -> Result<(), Fail> {
     let alloc = rt.alloc();
     let mut long = digits(alloc, 12345678)?;
@@ -164,7 +164,7 @@ fn longest_text(rt: HostRuntime) -> Result<(), Fail> {
 }
 
 #[test]
-#[tactic(auto, unfolding(crate::specs::Operators::takes_of, crate::specs::Operators::gives_of, crate::specs::Operators::operators))]
+#[tactic(auto, unfolding(value_ops::specs::Operators::takes_of, value_ops::specs::Operators::gives_of, value_ops::specs::Operators::operators))]
 fn rows_of_maps(rt: HostRuntime) -> Result<(), Fail> {
     let alloc = rt.alloc();
     assert!(rt; of_map(alloc, AT, sample(alloc)?, 2) == int(8));
@@ -181,7 +181,7 @@ fn rows_of_maps(rt: HostRuntime) -> Result<(), Fail> {
 
 // A map takes a thousand pairs, and then no further key.
 #[test]
-#[tactic(auto, unfolding(crate::specs::Operators::takes_of, crate::specs::Operators::operators))]
+#[tactic(auto, unfolding(value_ops::specs::Operators::takes_of, value_ops::specs::Operators::operators))]
 fn full_map(rt: HostRuntime) -> Result<(), Fail> {
     let alloc = rt.alloc();
     let mut map = Table::new(alloc);
