@@ -1,13 +1,11 @@
 -- A label that is listed can be taken, and the end of a segment that was run can be.
-use Rattle.std.proofs.Common.{◌≡◌, ◌∙◌, ℕ, inl, List, [], ◌∷◌, map, Option, Some, None, refl, sym, ap, subst}
+use Rattle.std.proofs.Common.{◌≡◌, ◌∙◌, inl, List, [], ◌∷◌, map, Option, Some, None, refl, sym, ap, subst}
 use Rattle.std.specs.Prelude.{slice_get}
 use Rattle.wave_base.specs.declared.pause.Pause.{Pause}
-use Rattle.wave_base.specs.declared.start.Start.{Start}
 use Rattle.wave_labels.specs.declared.label.Label as program
 use Rattle.wave_labels.specs.Labels.{label_of}
 use Rattle.wave_states.specs.Canonical.{enabled}
 use Rattle.wave_states.specs.Labels.{Label}
-use Rattle.wave_states.specs.Runs.{Finished}
 use Rattle.wave_states.specs.States.{Hand}
 use Rattle.wave_states.specs.Steps.{step}
 use Rattle.wave_theory.proofs.Basics.{none_not, some_same}
@@ -19,7 +17,7 @@ use Rattle.plan_actors.specs.PlanActors.{plan_actors, plan_kind}
 use Rattle.plan_actors.specs.Plans.{Plan, begin_in}
 use Rattle.wave_machine.specs.declared.lease.Lease.{Lease}
 use Rattle.wave_machine.specs.Leases.{HasRun, StandsFor}
-use Rattle.wave_machine.specs.Machines.{IsEnabled, Kept, Stands, Takes, TheState}
+use Rattle.wave_machine.specs.Machines.{IsEnabled, Kept, Takes}
 use Rattle.wave_machine.specs.Prepared.{IsStood}
 use Rattle.wave_machine.specs.Running.{IsInHand, IsStopping, Leases}
 

@@ -26,7 +26,7 @@ fn first_of(machine: &Machine) -> Result<Option<Label>, OutOfMemory>
     machine_stands(machine);
     listed::<PlanActors>();
     let labels = machine.enabled()?;
-    match labels.as_slice().first() {
+    match labels.get(0) {
         Some(label) => Ok(Some(*label)),
         None => Ok(None),
     }
@@ -60,21 +60,23 @@ fn step(machine: &mut Machine, label: &Label) -> Result<(), OutOfMemory>
     Ok(())
 }
 
-// Takes a label that can be taken, but no Stop: each is taken with its Start.
-fn take(alloc: Global, plan: &Plan, machine: &mut Machine, label: &Label) -> Result<(), OutOfMemory>
+// Takes the first label that can be taken, where there is one. It is no Stop: each of these is taken with its Start.
+fn take_next(alloc: Global, plan: &Plan, machine: &mut Machine) -> Result<(), OutOfMemory>
     requires fits { Fits (plan_of plan.now) }
     requires plan { machine.old.kept.plan ≡ plan_of plan.now }
-    requires enabled { IsEnabled machine.old.kept (label_of label.now) }
     ensures { machine.new.kept.plan ≡ machine.old.kept.plan }
 {
+    let Some(label) = first_of(machine)? else {
+        return Ok(());
+    };
     match label.act {
-        Act::Start(_, _) => run(alloc, plan, machine, label),
+        Act::Start(_, _) => run(alloc, plan, machine, &label),
         Act::Stop(_, _) => Ok(()),
-        _ => step(machine, label),
+        _ => step(machine, &label),
     }
 }
 
-// Takes so many labels, or fewer where nothing is left.
+// So many labels, or fewer where nothing is left.
 fn take_first(
     alloc: Global,
     plan: &Plan,
@@ -86,9 +88,7 @@ fn take_first(
     ensures { machine.new.kept.plan ≡ machine.old.kept.plan }
 {
     for turn in 0..count {
-        if let Some(label) = first_of(machine)? {
-            take(alloc, plan, machine, &label)?;
-        }
+        take_next(alloc, plan, machine)?;
     }
     Ok(())
 }
@@ -126,10 +126,13 @@ fn has_come_to(
 // What a machine tells that is finished.
 fn told(rt: &impl Abort, machine: Machine) -> Result<Finished, OutOfMemory> {
     machine_stands(&machine);
-    assert!(rt; machine.finished());
-    match machine.into_finished() {
-        Ok(finished) => Ok(finished),
-        Err((_, error)) => Err(error),
+    if machine.finished() {
+        match machine.into_finished() {
+            Ok(finished) => Ok(finished),
+            Err((_, error)) => Err(error),
+        }
+    } else {
+        panic!(rt; "not finished")
     }
 }
 
@@ -139,25 +142,52 @@ const ONE_HIT: Case = Case {
     workers: 2,
 };
 
+// A machine of a plan, as it begins.
+fn begun<'p>(alloc: Global, plan: &'p Plan) -> Result<Machine<'p>, OutOfMemory>
+    requires { Fits (plan_of plan.now) }
+    ensures { IfOk result (λ m. m.kept.plan ≡ plan_of plan.now) }
+{
+    Machine::new(alloc, plan)
+}
+
+// One event can be admitted, by each of the two workers, and nothing else can be done.
+fn can_admit(rt: &impl Abort, machine: &Machine) -> Result<(), OutOfMemory> {
+    many_enabled(rt, machine, 1)?;
+    many_for(rt, machine, Worker(0), 1)?;
+    many_for(rt, machine, Worker(1), 1)?;
+    many_for(rt, machine, Worker(2), 0)
+}
+
 #[test]
 fn only_the_first_event_can_be_admitted(rt: HostRuntime) -> Result<(), Fail> {
     let plan = plan_for(&rt, rt.alloc(), &ONE_HIT);
-    let machine = Machine::new(rt.alloc(), &plan)?;
-    many_enabled(&rt, &machine, 1)?;
-    many_for(&rt, &machine, Worker(1), 1)?;
-    many_for(&rt, &machine, Worker(2), 0)?;
+    let machine = begun(rt.alloc(), &plan)?;
+    can_admit(&rt, &machine)?;
     Ok(())
+}
+
+// The Admit, the Queue, the Grant, and the segment; then the Commit and the Free.
+fn goes_all_the_way(
+    rt: &impl Abort,
+    alloc: Global,
+    plan: &Plan,
+    machine: &mut Machine,
+) -> Result<(), OutOfMemory>
+    requires fits { Fits (plan_of plan.now) }
+    requires plan { machine.old.kept.plan ≡ plan_of plan.now }
+{
+    take_first(alloc, plan, machine, 4)?;
+    has_come_to(rt, machine, 0, false)?;
+    take_first(alloc, plan, machine, 2)?;
+    has_come_to(rt, machine, 1, true)
 }
 
 #[test]
 fn one_event_is_taken_label_by_label(rt: HostRuntime) -> Result<(), Fail> {
     let alloc = rt.alloc();
     let plan = plan_for(&rt, alloc, &ONE_HIT);
-    let mut machine = Machine::new(alloc, &plan)?;
-    take_first(alloc, &plan, &mut machine, 4)?;
-    has_come_to(&rt, &machine, 0, false)?;
-    take_first(alloc, &plan, &mut machine, 2)?;
-    has_come_to(&rt, &machine, 1, true)?;
+    let mut machine = begun(alloc, &plan)?;
+    goes_all_the_way(&rt, alloc, &plan, &mut machine)?;
     comes_to(&rt, &told(&rt, machine)?, &[reply(1)]);
     Ok(())
 }
