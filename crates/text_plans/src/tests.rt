@@ -1,0 +1,9 @@
+//! Plans run through the machine: by drives, and label by label.
+
+mod cases;
+mod drives;
+mod looks;
+mod moves;
+mod rules;
+mod steps;
+mod wants;

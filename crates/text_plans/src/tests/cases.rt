@@ -1,0 +1,93 @@
+//! What the tests run.
+
+ghost use Rattle.std.specs.Prelude.{IfOk};
+ghost use Rattle.plan_actors.specs.Plans.{Fits, FitsStart};
+ghost use Rattle.wave_machine.specs.Plans.{plan_of};
+
+use crate::{plan_of_texts, start_on};
+use std::alloc::Global;
+use std::process::Abort;
+use wave_base::{Finished, Host, OutOfMemory, START_TICKET, Seq, Start, Ticket, WORKERS};
+use wave_labels::Label;
+use wave_machine::{PickRule, Plan, drive, drive_at, drive_with};
+
+// A service, a script for it, and how many workers there are.
+#[derive(Clone, Copy)]
+pub(super) struct Case {
+    pub(super) service: &'static [u8],
+    pub(super) script: &'static [u8],
+    pub(super) workers: u8,
+}
+
+// Its plan.
+pub(super) fn plan_for(rt: &impl Abort, alloc: Global, case: &Case) -> Plan
+    ensures { Fits (plan_of result) }
+{
+    if case.workers < 1 || case.workers > WORKERS {
+        panic!(rt; "no workers");
+    }
+    match plan_of_texts(alloc, case.service, case.script, case.workers) {
+        Some(plan) => plan,
+        None => panic!(rt; "no plan"),
+    }
+}
+
+// A Start of a plan, with the root on a host, and a next ticket.
+pub(super) fn start_for(
+    rt: &impl Abort,
+    alloc: Global,
+    plan: &Plan,
+    host: Host,
+    next: Ticket,
+) -> Result<Start, OutOfMemory>
+    requires { Fits (plan_of plan.now) }
+    ensures { IfOk result (FitsStart (plan_of plan.now)) }
+{
+    if host.0 >= plan.script.hosts {
+        panic!(rt; "no host");
+    }
+    if next.0 < 1 || next.0 > START_TICKET {
+        panic!(rt; "no ticket");
+    }
+    start_on(alloc, plan, host, next)
+}
+
+// What a run gives, and its labels.
+type Run = (Finished, Seq<Label>);
+
+// A case from its first Start, by draws.
+pub(super) fn drawn(
+    rt: &impl Abort,
+    alloc: Global,
+    case: &Case,
+    seed: u64,
+) -> Result<Run, OutOfMemory> {
+    let plan = plan_for(rt, alloc, case);
+    drive(alloc, &plan, seed)
+}
+
+// From another Start, by draws.
+pub(super) fn drawn_at(
+    rt: &impl Abort,
+    alloc: Global,
+    case: &Case,
+    host: Host,
+    next: Ticket,
+    seed: u64,
+) -> Result<Run, OutOfMemory> {
+    let plan = plan_for(rt, alloc, case);
+    let start = start_for(rt, alloc, &plan, host, next)?;
+    drive_at(alloc, &plan, &start, seed)
+}
+
+// By a rule, with the root on host 0, and ticket 1.
+pub(super) fn driven(
+    rt: &impl Abort,
+    alloc: Global,
+    case: &Case,
+    rule: PickRule,
+) -> Result<Run, OutOfMemory> {
+    let plan = plan_for(rt, alloc, case);
+    let start = start_for(rt, alloc, &plan, Host(0), Ticket(1))?;
+    drive_with(alloc, &plan, &start, rule)
+}
