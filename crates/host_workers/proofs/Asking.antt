@@ -1,15 +1,14 @@
 -- What a worker knows when it has asked for work.
-use Rattle.std.proofs.Common.{◌≡◌, ◌∙◌, ◌<◌, ℕ, suc, true, false, List, [], ◌∷◌, ◌++◌, Option, Some, None, Ok, Err, Result, refl, sym, ap, subst, length, filter, map}
+use Rattle.std.proofs.Common.{◌≡◌, ◌∙◌, ◌<◌, suc, [], ◌∷◌, ◌++◌, Some, Ok, Err, Result, sym, ap, subst, length, filter, map}
 use Rattle.std.specs.Prelude.{Contains, option_map}
 use Rattle.wave_base.specs.declared.memory.OutOfMemory.{OutOfMemory}
 use Rattle.wave_base.specs.declared.numbers.Worker.{Worker}
 use Rattle.kept_lock.specs.declared.attempt.Attempt.{Attempt}
 use Rattle.kept_lock.specs.declared.attempt.Attempt.TheVariants as attempt
 use Rattle.kept_lock.specs.declared.view.Known.{Known}
-use Rattle.kept_lock.specs.History.{Adds, entries_of}
+use Rattle.kept_lock.specs.History.{entries_of}
 use Rattle.kept_lock.specs.Knowing.{entered, left_at}
 use Rattle.kept_lock.specs.Visits.{AddsAsTold, Meets}
-use Rattle.wave_labels.specs.declared.label.Label.{Label}
 use Rattle.wave_labels.specs.Labels.{act_of}
 use Rattle.wave_states.specs.Labels as theory
 use Rattle.wave_machine.specs.declared.lease.Lease.{Lease}
@@ -31,10 +30,10 @@ use Rattle.wave_board.specs.Taking.{AreEven, IsFinished, MayTake, Took, begins, 
 use Rattle.wave_board.proofs.Staying.{labels_are}
 use Rattle.host_workers.specs.Endings.{IsFinishedRun, IsHaltedBy}
 use Rattle.host_workers.specs.Passes.{GoesOn, IsReady, NoHalts}
-use Rattle.host_workers.specs.inner.Rounds.{Asked, HasLease, HasOut, IsCalm}
-use Rattle.host_workers.specs.inner.Visits.{HasTaken, IsNews}
-use Rattle.host_workers.proofs.Entries.{even_step, no_halt_more, no_more, odd_start, own_contains, word_halts, word_why}
-use Rattle.host_workers.proofs.Visiting.{Left, adds_none, adds_one, left, left_own, left_same, made_same}
+use Rattle.host_workers.specs.inner.Rounds.{Asked, HasLease}
+use Rattle.host_workers.specs.inner.Visits.{HasTaken}
+use Rattle.host_workers.proofs.Entries.{even_step, no_halt_more, odd_start, own_contains, word_halts, word_why}
+use Rattle.host_workers.proofs.Visiting.{Left, adds_one, left, left_own, left_same, made_same}
 
 module _ (o : Origin) (k : Known Trail) (w : Worker) (ready : IsReady o k w) (y : Board) (meets : Meets history_of owner_of StandsFor o k y) where
   -- the board may be asked

@@ -1,5 +1,5 @@
 -- The board of a lock that is closed, once worker 0 has seen that all is done.
-use Rattle.std.proofs.Common.{◌≡◌, ◌∙◌, ℕ, List, [], ◌∷◌, ◌++◌, map, Option, Some, None, refl, sym, ap, append-nil, subst}
+use Rattle.std.proofs.Common.{◌≡◌, ◌∙◌, ℕ, List, [], ◌∷◌, ◌++◌, map, Option, Some, refl, sym, ap, append-nil, subst}
 use Rattle.std.specs.Prelude.{option_and_then}
 use Rattle.std.specs.Io.KnownBytes.{Appends}
 use Rattle.wave_base.specs.declared.finished.Finished as declared_finished
@@ -31,7 +31,7 @@ use Rattle.wave_board.specs.Boards.{IsAt, StandsFor, history_of, labels_in, labe
 use Rattle.wave_board.specs.Taking.{IsFinished}
 use Rattle.wave_board.proofs.Staying.{ends_there, labels_are}
 use Rattle.host_workers.specs.Endings.{IsFinishedRun}
-use Rattle.host_workers.specs.Lines.{event_lines, told_by}
+use Rattle.host_workers.specs.Lines.{event_lines}
 use Rattle.host_workers.specs.Runs.{IsRun}
 
 labels_append : (xs ys : List Trail) → labels_in (xs ++ ys) ≡ labels_in xs ++ labels_in ys

@@ -1,5 +1,5 @@
 -- What a worker knows when it has given a segment back, or stopped the workers.
-use Rattle.std.proofs.Common.{◌≡◌, ◌∙◌, ℕ, suc, true, false, List, [], ◌∷◌, ◌++◌, Option, Some, None, Ok, Err, Result, refl, sym, ap, subst, lit<, map}
+use Rattle.std.proofs.Common.{◌≡◌, ◌∙◌, List, [], ◌∷◌, ◌++◌, Option, Some, None, Ok, Err, Result, refl, sym, ap, subst, lit<, map}
 use Rattle.std.specs.Prelude.{Contains, IsSome}
 use Rattle.std.proofs.lemmas.List.Elements.{Contains-append_right}
 use Rattle.wave_base.specs.declared.memory.OutOfMemory.{OutOfMemory}
@@ -7,15 +7,12 @@ use Rattle.wave_base.specs.declared.numbers.Worker.{Worker}
 use Rattle.wave_base.specs.declared.pause.Pause.{Pause}
 use Rattle.kept_lock.specs.declared.view.Known.{Known}
 use Rattle.kept_lock.specs.History.{Adds}
-use Rattle.kept_lock.specs.Knowing.{Agrees, entered, left_at}
+use Rattle.kept_lock.specs.Knowing.{entered, left_at}
 use Rattle.kept_lock.specs.Visits.{Meets}
 use Rattle.kept_lock.proofs.Entries.{starts_whole}
-use Rattle.wave_labels.specs.declared.label.Label.{Label}
-use Rattle.wave_labels.specs.Labels.{act_of, label_of}
 use Rattle.wave_states.specs.Labels as theory
 use Rattle.plan_actors.specs.Plans.{Plan}
 use Rattle.wave_machine.specs.declared.lease.Lease.{Lease}
-use Rattle.wave_machine.specs.Machines.{TheState}
 use Rattle.wave_machine.specs.Running.{IsBack}
 use Rattle.wave_board.specs.declared.board.Board.{Board}
 use Rattle.wave_board.specs.declared.board.StopWord.{StopWord}
@@ -23,16 +20,16 @@ use Rattle.wave_board.specs.declared.origin.Origin.{Origin}
 use Rattle.wave_board.specs.declared.trail.StopCause.{StopCause}
 use Rattle.wave_board.specs.declared.trail.Trail.{Trail}
 use Rattle.wave_board.specs.declared.trail.Trail.TheVariants.{Step, Halt}
-use Rattle.wave_board.specs.Boards.{IsAt, StandsFor, history_of, owner_of}
+use Rattle.wave_board.specs.Boards.{StandsFor, history_of, owner_of}
 use Rattle.wave_board.specs.Giving.{CanGive, IsGiven, MayGive}
 use Rattle.wave_board.specs.Staying.{LeasesStay}
 use Rattle.wave_board.specs.Taking.{AreEven}
 use Rattle.host_workers.specs.Endings.{IsHalted}
-use Rattle.host_workers.specs.Passes.{GoesOn, IsReady, NoHalts, OnlyHalts}
+use Rattle.host_workers.specs.Passes.{GoesOn, NoHalts, OnlyHalts}
 use Rattle.host_workers.specs.inner.Rounds.{HasOut, HasPaused, HasRun, IsCalm}
 use Rattle.host_workers.specs.inner.Visits.{HasGiven, HasStopped}
 use Rattle.host_workers.proofs.Entries.{even_stop, no_halt_more, only_more, only_none, word_halts}
-use Rattle.host_workers.proofs.Visiting.{Left, adds_none, adds_one, left, left_same, made_same}
+use Rattle.host_workers.proofs.Visiting.{adds_none, adds_one, left, left_same, made_same}
 
 module _ (o : Origin) (k : Known Trail) (w : Worker) (y : Board) (meets : Meets history_of owner_of StandsFor o k y) where
   module _ (stay : LeasesStay) (lease : Lease) (why : Pause) (paused : HasPaused o k w lease why) where

@@ -1,6 +1,6 @@
 -- What the worker that writes knows when it has asked for lines.
-use Rattle.std.proofs.Common.{◌≡◌, ◌∙◌, ◌↔◌, ◌<◌, ◌≤◌, ◌+◌, ◌-◌, ◌^◌, ◌⊎◌, inl, inr, ℕ, suc, List, [], ◌++◌, Some, None, Ok, Err, Result, sym, ap, subst, length, arith}
-use Rattle.std.specs.Prelude.{min, slice_get, option_and_then}
+use Rattle.std.proofs.Common.{◌≡◌, ◌∙◌, ◌↔◌, ◌<◌, ◌≤◌, ◌+◌, ◌^◌, inl, inr, ℕ, List, [], Some, Ok, Err, Result, sym, ap, subst, length, arith}
+use Rattle.std.specs.Prelude.{option_and_then}
 use Rattle.std.specs.Option.{option_map_or}
 use Rattle.std.proofs.lemmas.Bool.{cases_lt}
 use Rattle.std.proofs.lemmas.List.{length-append}
@@ -17,7 +17,7 @@ use Rattle.kept_lock.specs.declared.view.Known.{Known}
 use Rattle.kept_lock.specs.History.{StartsWith}
 use Rattle.kept_lock.specs.Knowing.{entered, left_at}
 use Rattle.kept_lock.specs.Visits.{AddsAsTold, Meets}
-use Rattle.listing_out.specs.Parts.{AreShownFrom, IsShownAt}
+use Rattle.listing_out.specs.Parts.{IsShownAt}
 use Rattle.script_fold.specs.Runs.{finished_of}
 use Rattle.plan_actors.specs.Calls.{code_ran}
 use Rattle.plan_actors.specs.Finishing.{Tells}
@@ -27,7 +27,6 @@ use Rattle.wave_states.specs.Labels.{Label}
 use Rattle.wave_states.specs.Runs as runs
 use Rattle.wave_machine.specs.Heading.{KnownHead}
 use Rattle.wave_machine.specs.Machines.{IsReached, TheState}
-use Rattle.wave_machine.specs.Plans.{plan_of}
 use Rattle.wave_machine.specs.Showing.{IsLineOf}
 use Rattle.wave_board.specs.declared.board.Board.{Board}
 use Rattle.wave_board.specs.declared.origin.Origin.{Origin}

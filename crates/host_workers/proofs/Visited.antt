@@ -1,5 +1,5 @@
 -- What a pass knows after a visit, where the work says what it made of the board that it was shown.
-use Rattle.std.proofs.Common.{◌≡◌, ℕ, Ok, Err, Result, sym, subst}
+use Rattle.std.proofs.Common.{◌≡◌, ℕ, Result, sym, subst}
 use Rattle.wave_base.specs.declared.memory.OutOfMemory.{OutOfMemory}
 use Rattle.wave_base.specs.declared.numbers.Worker.{Worker}
 use Rattle.wave_base.specs.declared.pause.Pause.{Pause}

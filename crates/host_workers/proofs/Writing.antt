@@ -10,7 +10,7 @@ use Rattle.wave_io.specs.Streams.{AppendsFront}
 use Rattle.listing_out.specs.Listing.{lines_from}
 use Rattle.listing_out.specs.Parts.{AreShownFrom}
 use Rattle.listing_out.proofs.PartLemmas.{all_lines, part_on, rest_of}
-use Rattle.listing_out.proofs.SinkLemmas.{IsWritten, all_written, front_written, more_written, nothing_written, written_front}
+use Rattle.listing_out.proofs.SinkLemmas.{all_written, front_written, more_written, nothing_written, written_front}
 use Rattle.kept_lock.specs.declared.view.Known.{Known}
 use Rattle.kept_lock.specs.History.{StartsWith}
 use Rattle.kept_lock.proofs.Entries.{starts_longer}

@@ -1,5 +1,5 @@
 -- What a worker's ending says of what its pass has seen and made.
-use Rattle.std.specs.Prelude.{◌≡◌, ◌≢◌, ℕ, List, Contains}
+use Rattle.std.specs.Prelude.{◌≢◌, ℕ, List, Contains}
 use Rattle.wave_base.specs.declared.numbers.Worker.{Worker}
 use Rattle.kept_lock.specs.declared.view.Known.{Known}
 use Rattle.plan_actors.specs.PlanActors.{plan_actors}

@@ -1,4 +1,4 @@
-use Rattle.std.proofs.Common.{◌≡◌, ◌∙◌, ◌+◌, Err, ap, arith, sym}
+use Rattle.std.proofs.Common.{◌∙◌, ◌+◌, Err, ap, arith, sym}
 use Rattle.wave_base.specs.declared.numbers.Ticket.{Ticket}
 use Rattle.kept_lock.specs.Locks.{name_of, known}
 use Rattle.service_code.specs.declared.program.Program.{Program}

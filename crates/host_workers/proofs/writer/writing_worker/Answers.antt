@@ -1,4 +1,4 @@
-use Rattle.std.proofs.Common.{◌≡◌, arith}
+use Rattle.std.proofs.Common.{arith}
 use Rattle.kept_lock.specs.Locks.{name_of, known}
 use Rattle.host_workers.proofs.Writing.{goes_further, none_committed, none_written, rose_since, run_front, run_whole}
 use Rattle.host_workers.proofs.writer.writing_worker.Goals as goal
