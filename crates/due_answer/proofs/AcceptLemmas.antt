@@ -1,8 +1,7 @@
 -- From what is accepted of the parts of an input to what is accepted of the whole.
-use Rattle.std.proofs.Common.{◌≡◌, ◌≢◌, ℕ, ◌≤◌, ◌<◌, inl, inr, List, length, Option, Some, None, Result, Ok, Err, IfOk, refl, sym, subst, arith}
+use Rattle.std.proofs.Common.{◌≡◌, ◌≢◌, ℕ, ◌<◌, inl, inr, List, length, Option, None, Result, Ok, Err, IfOk, refl, sym, subst, arith}
 use Rattle.command_words.specs.declared.command.Crew.{Crew}
 use Rattle.command_words.specs.declared.command.Places.{Places}
-use Rattle.wave_base.specs.declared.finished.Finished.{Finished}
 use Rattle.wave_base.specs.declared.limits.TheConstants.{SCRIPT_BYTES}
 use Rattle.wave_base.specs.declared.script.Script.{Script}
 use Rattle.wave_base.specs.declared.shape.Shape.{Shape}

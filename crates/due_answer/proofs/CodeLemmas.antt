@@ -1,7 +1,6 @@
 -- Only one answer is due for the code of a typed service.
-use Rattle.std.proofs.Common.{◌≡◌, ℕ, ◌≤◌, ◌<◌, ◌⊎◌, ◌++◌, inl, inr, List, zero, suc, [], ◌∷◌, length, All, codes, Option, Some, None, slice_get, refl, sym, ◌∙◌, subst, ap, arith}
+use Rattle.std.proofs.Common.{◌≡◌, ℕ, ◌≤◌, ◌<◌, ◌⊎◌, ◌++◌, inl, inr, length, codes, Some, slice_get, sym, ◌∙◌, subst, ap, arith}
 use Rattle.std.proofs.lemmas.Bool.{cases_lt}
-use Rattle.std.proofs.lemmas.List.Elements.{All-head, All-tail}
 use Rattle.wave_base.proofs.Lists.{all_at}
 use Rattle.wave_base.specs.declared.limits.TheConstants.{INSTRUCTIONS}
 use Rattle.wave_base.specs.declared.shape.Shape.{Shape}

@@ -1,5 +1,5 @@
 -- Only one answer is due for an input.
-use Rattle.std.proofs.Common.{◌≡◌, ℕ, ◌≤◌, ◌<◌, inl, inr, false, true, List, length, Option, Some, Result, Ok, Err, IfOk, refl, sym, ◌∙◌, subst, ap, arith}
+use Rattle.std.proofs.Common.{◌≡◌, ℕ, ◌≤◌, ◌<◌, inl, inr, true, List, length, Result, Ok, Err, IfOk, refl, sym, ◌∙◌, subst, ap, arith}
 use Rattle.wave_base.specs.declared.limits.TheConstants.{INPUT_BYTES, SCRIPT_BYTES}
 use Rattle.wave_base.specs.declared.script.Script.{Script}
 use Rattle.wave_base.specs.declared.shape.Shape.{Shape}
@@ -21,7 +21,7 @@ use Rattle.input_parts.specs.Parts.{service_of}
 use Rattle.command_words.specs.Inputs.{reads_input}
 use Rattle.command_words.specs.declared.command.Command.TheVariants.{Run, Seq, Trace, Check, Print, Code, Gen, Load}
 use Rattle.due_answer.specs.declared.report.Report.TheVariants.{Listing}
-use Rattle.due_answer.specs.Due.{Only, Reports, Traces, IsDue, IsDueBoth, IsDueScripted, IsDueSized, IsListedCode, IsPrinted, approved, IsDueService, IsDueOf, IsDueTyped, IsDueScript, IsDueLines, IsDueFold, IsOnlyDue, IsToldFor, reported, too_large_input}
+use Rattle.due_answer.specs.Due.{Only, Reports, Traces, IsDue, IsDueScripted, IsDueSized, IsListedCode, IsPrinted, approved, IsDueService, IsDueOf, IsDueTyped, IsDueScript, IsDueLines, IsDueFold, IsOnlyDue, IsToldFor, reported, too_large_input}
 use Rattle.service_code.specs.declared.program.Program.{Program}
 use Rattle.due_answer.specs.inner.Coded.{IsCoded}
 use Rattle.due_answer.specs.declared.service.Judged.{Judged}

@@ -1,21 +1,17 @@
 -- The name of a function, by its number; and what is asked of a service that is compiled.
-use Rattle.std.proofs.Common.{◌≡◌, ℕ, ◌+◌, ◌-◌, ◌<◌, ◌≤◌, ◌++◌, List, [], length, All, codes, Option, Some, None, slice_get, refl, sym, ◌∙◌, subst, ap, arith}
+use Rattle.std.proofs.Common.{◌≡◌, ℕ, ◌-◌, ◌≤◌, ◌++◌, length, All, codes, None, slice_get, sym, ◌∙◌, subst, ap, arith}
 use Rattle.std.proofs.lemmas.Option.{slice_get_past}
-use Rattle.wave_base.specs.Shapes.{class_name}
 use Rattle.wave_base.specs.declared.limits.TheConstants.{INSTRUCTIONS}
-use Rattle.wave_base.specs.declared.shape.EventInfo.{EventInfo}
 use Rattle.wave_base.specs.declared.shape.Shape.{Shape}
 use Rattle.wave_base.specs.Shapes.{IsShape}
 use Rattle.mace_ast.specs.Decls.{ServiceTree}
-use Rattle.resolved_service.specs.declared.service.Method.{Method}
 use Rattle.resolved_service.specs.declared.service.Resolved.{Resolved}
-use Rattle.type_rules.specs.Known.{shape_of}
 use Rattle.context_types.specs.declared.Typed.{Typed}
 use Rattle.service_code.specs.declared.program.Function.{Function}
 use Rattle.service_code.specs.declared.program.Program.{Program}
 use Rattle.service_code.specs.Listing.{CanList, function_name}
 use Rattle.service_verify.specs.Fit.{IsSmall}
-use Rattle.code_scheme.specs.Programs.{IsTooLong, method_function, event_function, scheme_program}
+use Rattle.code_scheme.specs.Programs.{IsTooLong, scheme_program}
 use Rattle.code_scheme.specs.Typed.{IsTyped}
 use Rattle.code_scheme.proofs.Fitting.{Origin, of_method, of_event, origin}
 use Rattle.typed_code.proofs.Services.{typed_code}

@@ -1,13 +1,12 @@
 -- The contexts that a finished run names are those of the shape: each has an owner from then on, so it is in the last tree.
-use Rattle.std.proofs.Common.{◌≡◌, ◌∙◌, ◌⊎◌, inl, inr, ℕ, ◌+◌, Bool, true, false, List, [], ◌∷◌, ◌++◌, map, is_some, Option, Some, None, refl, sym, ap, subst, All}
+use Rattle.std.proofs.Common.{◌≡◌, ◌∙◌, inl, inr, ℕ, ◌+◌, true, false, List, [], ◌∷◌, ◌++◌, map, is_some, Some, refl, sym, ap, subst, All}
 use Rattle.std.proofs.lemmas.List.Elements.{All-cons, All-nil, recursion_from_All}
-use Rattle.wave_base.specs.declared.call.Call.{Call}
 use Rattle.wave_base.specs.declared.outcome.EventResult.{EventResult}
 use Rattle.wave_base.specs.declared.path.Path.{Path}
 use Rattle.wave_base.specs.declared.script.Line.{Line}
 use Rattle.wave_base.specs.declared.script.Line.TheVariants.{Request, Move, Snapshot}
 use Rattle.wave_base.specs.declared.start.Start.{Start}
-use Rattle.wave_base.specs.Fold.{Progress, created_lines, first_progress, next_job}
+use Rattle.wave_base.specs.Fold.{Progress, created_lines, first_progress}
 use Rattle.wave_base.specs.Shapes.{is_path}
 use Rattle.wave_base.specs.Starts.{start_tree}
 use Rattle.wave_base.specs.Tree.{Tree, there}
@@ -24,8 +23,7 @@ use Rattle.wave_states.specs.Begins.{start_state}
 use Rattle.wave_states.specs.Labels as theory
 use Rattle.wave_states.specs.Labels.{Admit, Queue, Grant, Visit, Start as Begin, Stop, Free, Pass, Land, Commit, is_local, path_of}
 use Rattle.wave_states.specs.Owners.{IsOwner}
-use Rattle.wave_states.specs.Runs.{run, Finished}
-use Rattle.wave_states.specs.States.{State}
+use Rattle.wave_states.specs.Runs.{run}
 use Rattle.wave_states.specs.Steps.{part_of, step}
 use Rattle.wave_theory.specs.Complete.{IsComplete}
 use Rattle.wave_theory.specs.Owners.{ByOwners, OneOwner}
@@ -33,7 +31,7 @@ use Rattle.wave_theory.specs.Trails.{Trails}
 use Rattle.wave_theory.proofs.Basics.{clash, none_not, some_same, then_some}
 use Rattle.wave_theory.proofs.Opened.{passes}
 use Rattle.plan_actors.specs.Calls.{code_ran}
-use Rattle.plan_actors.specs.PlanActors.{Actor, plan_actors, plan_kind}
+use Rattle.plan_actors.specs.PlanActors.{plan_actors, plan_kind}
 use Rattle.plan_actors.specs.Plans.{Plan, Fits, FitsStart, begin_in}
 use Rattle.plan_actors.proofs.Folding.{folds_alike}
 use Rattle.plan_actors.proofs.Meeting.{folds_meet}

@@ -1,5 +1,5 @@
 -- The statuses of what may be due: none is one of those that the call itself tells.
-use Rattle.std.proofs.Common.{◌≡◌, ◌⊎◌, inl, inr, ◌∙◌, ap, refl, ℕ, Bool, true, false, cond, List, Option, None, Some, Result, Ok, Err}
+use Rattle.std.proofs.Common.{◌≡◌, inl, inr, ◌∙◌, ap, refl, ℕ, Bool, true, false, cond, List, Option, None, Some, Result, Ok, Err}
 use Rattle.std.specs.Prelude.{◌==◌, ◌||◌}
 use Rattle.wave_base.specs.declared.script.Script.{Script}
 use Rattle.mace_ast.specs.Decls.{ServiceTree}
@@ -15,7 +15,7 @@ use Rattle.command_words.specs.declared.command.Command.{Command}
 use Rattle.command_words.specs.declared.command.Command.TheVariants.{Run, Seq, Trace, Check, Print, Code, Gen, Load}
 use Rattle.due_answer.specs.declared.answer.Answer.{Answer}
 use Rattle.due_answer.specs.declared.report.Report.TheVariants.{Listing, Summary}
-use Rattle.due_answer.specs.Due.{Reports, Telling, Traces, IsDue, IsDueBoth, IsDueOf, IsDueRead, IsDueTold, IsDueScript, IsDueScripted, IsDueService, IsDueSized, IsDueTyped, IsListedCode, IsPrinted, any_trap, approved, reported}
+use Rattle.due_answer.specs.Due.{Reports, Telling, Traces, IsDue, IsDueBoth, IsDueOf, IsDueRead, IsDueTold, IsDueScript, IsDueScripted, IsDueService, IsDueSized, IsDueTyped, IsListedCode, IsPrinted, any_trap, approved}
 
 abbrev pub own_status : ℕ → Bool
 own_status n = n == 0 || n == 1 || n == 3 || n == 4

@@ -1,5 +1,5 @@
 -- What is accepted, driven as a plan: it is a run of the crew, and what is told of it with its journal is what is due.
-use Rattle.std.proofs.Common.{◌≡◌, ◌∙◌, ℕ, List, map, Some, Result, Ok, Err, IfOk, sym, ap, subst}
+use Rattle.std.proofs.Common.{◌≡◌, ◌∙◌, ℕ, List, map, Some, Result, Ok, Err, IfOk, ap, subst}
 use Rattle.wave_base.specs.declared.finished.Finished.{Finished}
 use Rattle.wave_base.specs.declared.start.Start.{Start}
 use Rattle.wave_base.specs.Starts.{first_start}

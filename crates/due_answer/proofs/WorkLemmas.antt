@@ -3,9 +3,7 @@ use Rattle.std.proofs.Common.{◌≡◌, ℕ, ◌≤◌, ◌-◌, ◌^◌, List,
 use Rattle.wave_base.specs.declared.finished.Finished.{Finished}
 use Rattle.wave_base.specs.declared.limits.TheConstants.{WORKERS}
 use Rattle.wave_base.specs.declared.script.Script.{Script}
-use Rattle.wave_base.specs.declared.shape.Shape.{Shape}
 use Rattle.wave_base.specs.Scripts.{IsScript}
-use Rattle.wave_base.specs.Shapes.{IsShape}
 use Rattle.wave_base.specs.Starts.{IsStart, first_start}
 use Rattle.context_tree.proofs.FitLemmas as trees
 use Rattle.command_words.specs.declared.command.Crew.{Crew}

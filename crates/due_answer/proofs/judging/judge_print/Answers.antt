@@ -1,4 +1,4 @@
-use Rattle.std.proofs.Common.{◌≡◌, IfOk, subst}
+use Rattle.std.proofs.Common.{IfOk, subst}
 use Rattle.input_parts.specs.Parts.{service_of}
 use Rattle.due_answer.specs.Due.{Only, IsPrinted}
 use Rattle.due_answer.proofs.DueLemmas.{refused_served, typed_text, typed_served}

@@ -4,7 +4,6 @@ use Rattle.wave_base.specs.Shapes.{IsShape}
 use Rattle.resolved_service.specs.Fits.{FitsService}
 use Rattle.service_code.specs.declared.program.Program.{Program}
 use Rattle.wave_meaning.specs.Meaning.{results_of}
-use Rattle.due_answer.specs.Accepted.{ran}
 use Rattle.due_answer.specs.Due.{reported}
 use Rattle.due_answer.proofs.WorkLemmas.{evaluated}
 use Rattle.due_answer.proofs.runs.evaluate.Goals as goal

@@ -1,7 +1,5 @@
 use Rattle.std.proofs.Common.{Err, Ok, subst, sym}
 use Rattle.script_reader.specs.Judged.{nothing_earlier}
-use Rattle.script_reader.specs.Scripts.{IsAnswer}
-use Rattle.due_answer.specs.Accepted.{IsAcceptedBy}
 use Rattle.due_answer.specs.declared.accepted.Accepted.TheVariants.{Ready}
 use Rattle.due_answer.specs.Due.{Only, IsDueTold, IsDueLines, IsDueRead}
 use Rattle.due_answer.proofs.AcceptLemmas.{accepted_as, only_read, told_fault}

@@ -1,4 +1,4 @@
-use Rattle.std.proofs.Common.{◌≡◌, ◌∙◌, IfOk, ap, map, subst, sym}
+use Rattle.std.proofs.Common.{◌≡◌, ◌∙◌, ap, map, subst, sym}
 use Rattle.wave_base.specs.Starts.{IsStart, first_start}
 use Rattle.service_code.specs.declared.program.Program.{Program}
 use Rattle.script_fold.specs.Runs.{finished_of}
@@ -8,7 +8,7 @@ use Rattle.wave_machine.specs.Plans.{plan_of}
 use Rattle.due_answer.specs.declared.report.Report.TheVariants.{Listing}
 use Rattle.due_answer.specs.Due.{reported}
 use Rattle.due_answer.proofs.RunLemmas.{first_begins}
-use Rattle.due_answer.proofs.TraceLemmas.{IsPlanOf, driven_by, finished, traced}
+use Rattle.due_answer.proofs.TraceLemmas.{driven_by, finished, traced}
 use Rattle.due_answer.proofs.traces.trace.Goals as goal
 
 pub drive_with-requires-clause-fits : goal.drive_with-requires-clause-fits
