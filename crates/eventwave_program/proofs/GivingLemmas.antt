@@ -10,7 +10,7 @@ use Rattle.due_answer.specs.Due.{IsToldFor, too_large_input}
 use Rattle.eventwave_program.specs.declared.ending.Ending.{Ending}
 use Rattle.eventwave_program.specs.declared.ending.Ending.TheVariants.{WordsRefused, ReadFault, WriteFault, NoMemory, Answered}
 use Rattle.eventwave_program.specs.Ends.{Change, IsInput, IsLeft, IsLong, IsUntouched, ReadsAll, read_by, reads_where}
-use Rattle.eventwave_program.specs.inner.Parts.{Did, Ended, Gave, Gives, ReadsDue, SomeGave, is_read_fault}
+use Rattle.eventwave_program.specs.inner.Parts.{Did, Ended, Gave, ReadsDue, SomeGave, is_read_fault}
 use Rattle.eventwave_program.proofs.EndLemmas.{read_bytes, too_large_due}
 
 module _ (old new : Option (List ℕ)) where

@@ -1,5 +1,5 @@
 -- What is written of a run, part by part.
-use Rattle.std.proofs.Common.{◌≡◌, ◌∙◌, ℕ, ◌≤◌, Bool, true, false, List, [], ◌++◌, length, map, Option, None, Some, ap, arith, inr, refl, sym, subst, append_assoc, append-nil}
+use Rattle.std.proofs.Common.{◌≡◌, ◌∙◌, ℕ, ◌≤◌, true, false, List, [], ◌++◌, length, map, Option, None, Some, ap, arith, inr, refl, sym, subst, append_assoc, append-nil}
 use Rattle.std.specs.Prelude.{if◌then◌else◌, is_none}
 use Rattle.std.specs.List.{concat}
 use Rattle.std.specs.Io.KnownBytes.{Appends}
@@ -22,22 +22,20 @@ use Rattle.plan_actors.specs.Plans as plans
 use Rattle.command_words.specs.declared.command.Crew.{Crew}
 use Rattle.command_words.specs.declared.command.Places.{Places}
 use Rattle.command_words.specs.declared.command.Schedule.{Schedule}
-use Rattle.command_words.specs.declared.command.Command.TheVariants.{Run, Trace}
 use Rattle.command_words.specs.Inputs.{runs_workers}
 use Rattle.journal_text.specs.JournalTexts.{journal_text}
 use Rattle.listing_out.specs.Listing.{end_lines, last_ticket, lines_from, places_of, shown_of}
-use Rattle.listing_out.proofs.SinkLemmas.{IsWritten, front_written, nothing_written}
+use Rattle.listing_out.proofs.SinkLemmas.{front_written, nothing_written}
 use Rattle.wave_machine.specs.Plans.{plan_of}
 use Rattle.wave_machine.specs.declared.plan.Plan.{Plan}
 use Rattle.host_workers.specs.Endings as hosts
 use Rattle.host_workers.specs.Lines.{event_lines, told_by}
 use Rattle.host_workers.specs.Runs.{IsRun}
 use Rattle.due_answer.specs.declared.answer.Answer.{Answer}
-use Rattle.due_answer.specs.declared.report.Report.TheVariants.{Listing, Summary}
+use Rattle.due_answer.specs.declared.report.Report.TheVariants.{Listing}
 use Rattle.due_answer.specs.declared.work.Work.{Work}
-use Rattle.due_answer.specs.Accepted.{CanRun, IsAccepted, IsJournalOf, IsReady, IsTraced, plan_with, ran, trace_of}
-use Rattle.due_answer.specs.declared.accepted.Accepted.TheVariants.{Refused, Ready}
-use Rattle.due_answer.specs.Due.{any_trap, is_listed, reported, with_text}
+use Rattle.due_answer.specs.Accepted.{CanRun, plan_with, ran, trace_of}
+use Rattle.due_answer.specs.Due.{any_trap, is_listed, reported}
 use Rattle.due_answer.specs.Runs.{IsFinishedRun, IsRunBy, nearest_workers}
 use Rattle.eventwave_program.specs.declared.ending.Ending.{Ending}
 use Rattle.eventwave_program.specs.declared.ending.Ending.TheVariants.{WordsRefused, ReadFault, WriteFault, NoMemory, Answered}
@@ -45,7 +43,7 @@ use Rattle.eventwave_program.specs.declared.task.Behind.{Behind}
 use Rattle.eventwave_program.specs.declared.task.Behind.TheVariants.{Nothing, Journal}
 use Rattle.eventwave_program.specs.declared.task.Task.{Task}
 use Rattle.eventwave_program.specs.inner.Parts.{Gave, Gives, SomeGave}
-use Rattle.eventwave_program.specs.inner.Tasks.{Tells, TellsWith, command_for, command_with, end_text, rest_of, rest_text, rest_with}
+use Rattle.eventwave_program.specs.inner.Tasks.{Tells, TellsWith, command_for, command_with, end_text, rest_of, rest_with}
 use Rattle.eventwave_program.proofs.GivingLemmas.{gives_it}
 
 -- ---- counts and bytes
