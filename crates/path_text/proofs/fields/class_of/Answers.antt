@@ -1,7 +1,7 @@
 use Rattle.std.proofs.Common.{◌≡◌, ◌-◌, List, Some, subst, length, slice_get}
 use Rattle.wave_base.specs.declared.path.Step.{Step}
 use Rattle.path_text.proofs.PutLemmas.{last_of}
-use Rattle.path_text.proofs.put.class_of.Goals as goal
+use Rattle.path_text.proofs.fields.class_of.Goals as goal
 
 pub returns-in-Some : goal.returns-in-Some
 returns-in-Some c =

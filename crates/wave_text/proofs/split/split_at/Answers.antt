@@ -1,5 +1,5 @@
-use Rattle.path_text.proofs.FrontLemmas.{is_split, is_nowhere}
-use Rattle.path_text.proofs.written.split_at.Goals as goal
+use Rattle.wave_text.proofs.SplitLemmas.{is_split, is_nowhere}
+use Rattle.wave_text.proofs.split.split_at.Goals as goal
 
 pub returns-then-n-text-clause-none : goal.returns-then-n-text-clause-none
 returns-then-n-text-clause-none c = is_nowhere c.args.end c.count_before-n.result c.args.text.now c.count_before-n.ensures.count c.if-n-text.true

@@ -1,6 +1,6 @@
 use Rattle.std.proofs.Common.{◌∷◌, ap, length, length-append, arith}
-use Rattle.journal_text.proofs.WordLemmas.{parts_split, parts_none}
-use Rattle.journal_text.proofs.word.parts_at.Goals as goal
+use Rattle.wave_text.proofs.SplitLemmas.{parts_split, parts_none}
+use Rattle.wave_text.proofs.split.parts_at.Goals as goal
 
 pub returns-in-Some-clause-parts : goal.returns-in-Some-clause-parts
 returns-in-Some-clause-parts c = parts_split c.args.end c.args.text.now c.in-Some.parts.0.now c.in-Some.parts.1.now c.in-Some.ensures.some
