@@ -10,7 +10,7 @@ use Rattle.wave_labels.specs.declared.label.Act.{Act}
 use Rattle.wave_labels.specs.declared.label.Act.TheVariants as act
 use Rattle.wave_labels.specs.declared.label.Label.{Label}
 use Rattle.wave_text.specs.Splits.{is_other, HasNone, IsSplit}
-use Rattle.wave_text.proofs.SplitLemmas.{one_split, nowhere}
+use Rattle.wave_text.proofs.SplitLemmas.{none-append, one_split, nowhere}
 use Rattle.journal_text.specs.Fits.{HasPath, HasNumbers, IsLabel}
 use Rattle.journal_text.specs.LabelTexts.{spaced, act_words, label_words, line_text}
 use Rattle.journal_text.specs.Verdicts.{HasNoLine}
