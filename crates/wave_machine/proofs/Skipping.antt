@@ -1,10 +1,9 @@
 -- Cells that are done ask for nothing, so a listing may begin behind them.
-use Rattle.std.proofs.Common.{◌≡◌, ◌∙◌, ℕ, zero, suc, ◌+◌, ◌<◌, ◌≤◌, ◌⊎◌, inl, inr, true, cond, List, [], ◌∷◌, ◌++◌, drop, Option, Some, refl, sym, ap, subst, arith}
+use Rattle.std.proofs.Common.{◌≡◌, ◌∙◌, ℕ, zero, suc, ◌+◌, ◌<◌, ◌≤◌, ◌⊎◌, inl, inr, true, cond, List, [], ◌∷◌, ◌++◌, drop, Option, Some, refl, sym, ap, arith}
 use Rattle.std.specs.Prelude.{slice_get}
 use Rattle.std.proofs.lemmas.Bool.{cases_lt}
 use Rattle.std.proofs.lemmas.Option.{slice_get_within}
 use Rattle.event_cells.specs.declared.cell.Cell.{Cell}
-use Rattle.wave_states.specs.Labels.{Label}
 use Rattle.wave_theory.proofs.Basics.{some_same}
 use Rattle.wave_machine.specs.declared.actor.Actor.{Actor}
 use Rattle.wave_machine.specs.Ending.{is_done}

@@ -1,5 +1,5 @@
 -- What is done stays done: no label touches a cell that has ended and has no mail under way.
-use Rattle.std.proofs.Common.{◌≡◌, ◌≢◌, ◌∙◌, ◌⊎◌, inl, inr, ℕ, zero, suc, ◌+◌, ◌<◌, ◌≤◌, true, List, ◌++◌, ◌∷◌, [], length, Option, Some, None, refl, sym, ap, subst, arith}
+use Rattle.std.proofs.Common.{◌≡◌, ◌∙◌, ℕ, zero, suc, ◌+◌, ◌<◌, ◌≤◌, true, List, ◌++◌, ◌∷◌, [], length, Option, Some, None, refl, sym, ap, subst, arith}
 use Rattle.std.specs.Prelude.{slice_get}
 use Rattle.wave_base.specs.declared.outcome.EventResult.{EventResult}
 use Rattle.wave_base.specs.declared.path.Path.{Path}
@@ -14,10 +14,9 @@ use Rattle.wave_states.specs.Labels.{Act, Label, Admit, Commit, Queue, Grant, Vi
 use Rattle.wave_states.specs.States as theory
 use Rattle.wave_states.specs.States.{Event}
 use Rattle.wave_states.specs.Steps.{part_of, step}
-use Rattle.wave_theory.proofs.Basics.{clash, number_cases, not_same}
-use Rattle.wave_theory.proofs.Opened.{frees, grants, lands, passes, queues, starts, visits}
+use Rattle.wave_theory.proofs.Basics.{clash}
+use Rattle.wave_theory.proofs.Opened.{frees, lands, passes, queues, starts, visits}
 use Rattle.wave_theory.proofs.Reading.{changes}
-use Rattle.wave_theory.specs.Reads.{SameElse}
 use Rattle.code_actor.specs.CodeActors.{Fields}
 use Rattle.plan_actors.specs.PlanActors as actors
 use Rattle.plan_actors.specs.PlanActors.{plan_actors, plan_kind}
@@ -37,7 +36,7 @@ use Rattle.wave_machine.proofs.Driven.{stopped_by}
 use Rattle.wave_machine.proofs.Ending.{all_empty, and_left, and_right, and_true, carries_none, empty_mail, is_over_by, none_carries, not_both, over_is, some_at}
 use Rattle.wave_machine.proofs.Halting.{Segments}
 use Rattle.wave_machine.proofs.Headed.{admits, commits}
-use Rattle.wave_machine.proofs.Opening.{free_found, grant_found, land_found, left_by, pass_found, queue_found, visit_found}
+use Rattle.wave_machine.proofs.Opening.{free_found, land_found, left_by, pass_found, queue_found, visit_found}
 use Rattle.wave_machine.proofs.Queueing.{some_is}
 use Rattle.wave_machine.proofs.Reached.{admitted_is}
 use Rattle.wave_machine.proofs.Starting.{start_found}

@@ -1,9 +1,9 @@
-use Rattle.std.proofs.Common.{◌≡◌, ◌∙◌, ◌++◌, ◌-◌, ◌<◌, List, ◌∷◌, [], ℕ, length, map, sym, ap, subst, arith, Option, Some, None}
+use Rattle.std.proofs.Common.{◌≡◌, ◌∙◌, ◌++◌, ◌-◌, ◌<◌, List, ◌∷◌, [], length, map, sym, ap, subst, arith}
 use Rattle.std.specs.Prelude.{option_map}
 use Rattle.std.proofs.lemmas.List.{length-append, length-map, map-append}
 use Rattle.wave_states.specs.Canonical.{enabled}
 use Rattle.wave_states.specs.Labels.{Label}
-use Rattle.wave_states.specs.Runs.{Finished, IsDrive}
+use Rattle.wave_states.specs.Runs.{Finished}
 use Rattle.wave_labels.specs.Labels.{label_of}
 use Rattle.plan_actors.specs.Efforts.{most_labels}
 use Rattle.plan_actors.specs.Plans.{Plan, Setting, begin_in}

@@ -1,5 +1,4 @@
-use Rattle.std.proofs.Common.{◌≡◌, ◌∙◌, ◌-◌, ap, position, is_none, List, map, Option, ℕ}
-use Rattle.std.specs.Prelude.{option_map}
+use Rattle.std.proofs.Common.{◌∙◌, ◌-◌, ap, position, is_none, List, Option, ℕ}
 use Rattle.wave_base.specs.Fold.{tickets_from}
 use Rattle.wave_machine.specs.Keeping.{kept_of}
 use Rattle.wave_machine.specs.declared.kept.Out.{Out}
