@@ -19,9 +19,11 @@ ghost use Rattle.wave_machine.specs.Keeping.{kept_of};
 ghost use Rattle.wave_machine.specs.Machines.{Stands, TheState};
 ghost use Rattle.wave_machine.specs.Prepared.{is_start, is_step};
 ghost use Rattle.wave_machine.specs.Rules.{number_of, rule_of};
+ghost use Rattle.wave_machine.specs.inner.Done.{AreDone};
 ghost use Rattle.wave_machine.specs.inner.Driving.{IsTaking, Leads, first_state};
 
 use crate::adding::push;
+use crate::done::done_stays;
 use crate::drivable::states_drive;
 use crate::ends::End;
 use crate::engine::Engine;
@@ -39,11 +41,17 @@ use wave_labels::{Act, Label};
 use wave_theory::{empty_at_end, rules_pick};
 
 // What the rule picks of what can be done.
-fn next(engine: &Engine, rule: PickRule, draw: &mut u64) -> Result<Option<Label>, OutOfMemory>
-    requires { (start : start.Start) × (s : TheState) × Stands (kept_of engine.now) start s }
+fn next(
+    engine: &Engine,
+    done: usize,
+    rule: PickRule,
+    draw: &mut u64,
+) -> Result<Option<Label>, OutOfMemory>
+    requires stands { (start : start.Start) × (s : TheState) × Stands (kept_of engine.now) start s }
+    requires done { AreDone (kept_of engine.now) done }
     ensures { IfOk result (λ o. (start : start.Start) (s : TheState) → Stands (kept_of engine.now) start s → rule_of rule draw.old s (enabled (plan_actors (kept_of engine.now).plan.program) (kept_of engine.now).plan.workers (kept_of engine.now).plan.script.hosts s) ≡ (draw.new, option_map label_of o)) }
 {
-    let labels = engine.enabled()?;
+    let labels = engine.enabled(done)?;
     Ok(pick(engine, rule, draw, labels.as_slice()))
 }
 
@@ -165,12 +173,15 @@ pub(crate) fn drive_on(
     runs_are_short();
     rules_pick::<PlanActors>();
     empty_at_end::<PlanActors>();
+    done_stays();
     let mut ends = no_ends(alloc, engine.hands.len())?;
     let mut draw = number_of(rule);
     let mut labels = Vec::new(alloc);
-    while let Some(label) = next(engine, rule, &mut draw)? {
+    let mut done = 0;
+    while let Some(label) = next(engine, done, rule, &mut draw)? {
         take(alloc, engine, &mut ends, &label)?;
         push(&mut labels, label.worker, label.host, label.act)?;
+        done = engine.count_done(done);
     }
     Ok(labels)
 }

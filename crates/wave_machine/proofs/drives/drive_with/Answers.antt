@@ -1,4 +1,4 @@
-use Rattle.std.proofs.Common.{◌≡◌, ◌∙◌, map, sym, ap, subst}
+use Rattle.std.proofs.Common.{◌∙◌, map, sym, ap, subst}
 use Rattle.script_fold.specs.Runs.{finished_of}
 use Rattle.wave_labels.specs.Labels.{label_of}
 use Rattle.wave_states.specs.Runs.{Finished, IsDrive}
