@@ -57,5 +57,5 @@ cut_loop h j p name ss before cut on is number cuts =
     counted_name = record { name = name; kind = Int; slot = length (h.slots ++ Int ∷ Int ∷ []) }
 
 -- the place behind a block, with the locals before it
-pub behind_is : (h p : Here) (cut : List Local) → h.locals ≡ cut → behind h p ≡ record { known = p.known; class = p.class; function = p.function; locals = cut; slots = p.slots }
-behind_is h p cut is = ap (λ l. record { known = p.known; class = p.class; function = p.function; locals = l; slots = p.slots }) is
+pub behind_is : (h p : Here) (cut : List Local) → h.locals ≡ cut → behind h p ≡ record { known = p.known; class = p.class; function = p.function; within = p.within; locals = cut; slots = p.slots }
+behind_is h p cut is = ap (λ l. record { known = p.known; class = p.class; function = p.function; within = p.within; locals = l; slots = p.slots }) is

@@ -96,7 +96,7 @@ unfoldable pub shape_of : ServiceTree → Shape
 shape_of s = record { classes = map (λ c. c.info) (service_classes s); events = map event_info s.events }
 
 unfoldable pub known_of : ServiceTree → Known
-known_of s = record { shape = shape_of s; above = map (λ c. c.above) (service_classes s); methods = service_methods s }
+known_of s = record { version = s.version; shape = shape_of s; above = map (λ c. c.above) (service_classes s); methods = service_methods s }
 
 -- ---- what a name stands for
 

@@ -1,8 +1,8 @@
 ghost use Rattle.std.specs.Prelude.{◌≡◌, ◌<◌};
-ghost use Rattle.wave_base.specs.Operators.{name_of_operator};
-ghost use Rattle.wave_base.specs.declared.operators.TheConstants.{OPERATORS};
+ghost use Rattle.value_ops.specs.declared.rows.TheConstants.{ROWS};
 
-use wave_base::{Kind, operator_name};
+use crate::rows::row_name;
+use wave_base::Kind;
 
 /// An operator or a builtin: its name, whether a service writes it as a call, the kinds of its operands, the first
 /// ones first, and the kind of what it gives.
@@ -21,7 +21,7 @@ pub struct KeptRow {
     pub builtin: bool,
     pub takes: [Option<Kind>; 3],
     pub gives: Kind,
-    ghost known: { operator < OPERATORS },
+    ghost known: { operator < ROWS },
 }
 
 impl KeptRow {
@@ -32,7 +32,7 @@ impl KeptRow {
         ensures { row_of result ≡ kept_row self.now }
     {
         OpRow {
-            name: operator_name(self.operator),
+            name: row_name(self.operator),
             builtin: self.builtin,
             takes: self.takes,
             gives: self.gives,

@@ -1,8 +1,8 @@
 ghost use Rattle.std.specs.Prelude.{◌≡◌, ◌<◌, length, map, Some, slice_get};
 ghost use Rattle.value_ops.specs.Operators.{takes_of};
-ghost use Rattle.value_ops.specs.Rows.{row_of, kept_row, three, wave_rows, first_builtin};
-ghost use Rattle.wave_base.specs.Operators.{name_of_operator};
-ghost use Rattle.wave_base.specs.declared.operators.TheConstants.{OPERATORS};
+ghost use Rattle.value_ops.specs.Names.{name_of_row};
+ghost use Rattle.value_ops.specs.Rows.{row_of, kept_row, three, wave_rows, wave_rows_2, first_builtin};
+ghost use Rattle.value_ops.specs.declared.rows.TheConstants.{ROWS};
 
 use crate::row::{KeptRow, OpRow};
 use crate::rows::*;
@@ -59,8 +59,8 @@ pub fn find<const N: usize>(table: &OpTable<N>, name: &[u8]) -> Option<usize>
 
 // A row by its operator, whether it is written as a call, and the kind that it gives.
 fn kept(operator: usize, builtin: bool, gives: Kind) -> KeptRow
-    requires { operator < OPERATORS }
-    ensures { kept_row result ≡ record { name = name_of_operator operator; builtin = builtin; takes = three (takes_of operator); gives = gives } }
+    requires { operator < ROWS }
+    ensures { kept_row result ≡ record { name = name_of_row operator; builtin = builtin; takes = three (takes_of operator); gives = gives } }
 {
     KeptRow {
         operator,
@@ -87,7 +87,7 @@ macro_rules! rows {
     };
 }
 
-/// The operators and builtins of the language.
+/// The operators and builtins of version 1 of the language.
 #[tactic(auto, unfolding(crate::specs::Rows::wave_rows, crate::specs::Operators::operators))]
 pub fn wave_ops() -> OpTable<28>
     ensures { result ≡ wave_rows }
@@ -121,6 +121,50 @@ pub fn wave_ops() -> OpTable<28>
         LEN call Int;
         STR call Text;
         PART call Text;
+    };
+    OpTable { rows }
+}
+
+/// The operators and builtins of version 2 of the language: those of version 1, and six more builtins.
+#[tactic(auto, unfolding(crate::specs::Rows::wave_rows_2, crate::specs::Operators::operators))]
+pub fn wave_ops_2() -> OpTable<34>
+    ensures { result ≡ wave_rows_2 }
+{
+    let rows = rows! {
+        ADD sign Int;
+        SUB sign Int;
+        MUL sign Int;
+        DIV sign Int;
+        REM sign Int;
+        NEG sign Int;
+        NOT sign Bool;
+        EQ sign Bool;
+        NE sign Bool;
+        LT sign Bool;
+        LE sign Bool;
+        GT sign Bool;
+        GE sign Bool;
+        BEQ sign Bool;
+        BNE sign Bool;
+        TEQ sign Bool;
+        TNE sign Bool;
+        TLT sign Bool;
+        CAT sign Text;
+        AT sign Int;
+        PUT sign Map;
+        CUT sign Map;
+        HAS call Bool;
+        SIZE call Int;
+        KEY call Int;
+        LEN call Int;
+        STR call Text;
+        PART call Text;
+        MIN call Int;
+        MAX call Int;
+        ABS call Int;
+        SUM call Int;
+        STARTS call Bool;
+        NUM call Int;
     };
     OpTable { rows }
 }
