@@ -1,5 +1,5 @@
 -- Methods and events of a service: what is asked of them, and what they are with each name resolved.
-use Rattle.std.specs.Prelude.{ℕ, ◌+◌, ◌&&◌, Bool, not, false, nat_lt, List, [], ◌∷◌, ◌++◌, map, length, Option, Some, None, is_some, is_none}
+use Rattle.std.specs.Prelude.{ℕ, ◌&&◌, Bool, not, false, nat_lt, List, [], ◌∷◌, ◌++◌, length, Option, Some, None, is_none}
 use Rattle.std.specs.Option.{option_map, option_map_or}
 use Rattle.wave_base.specs.declared.limits.TheConstants.{PARAMS}
 use Rattle.wave_base.specs.declared.span.Span.{Span}
@@ -12,13 +12,13 @@ use Rattle.mace_ast.specs.Stmts.{StmtTrees, no_stmts, stmts_of}
 use Rattle.value_ops.specs.Rows.{first_builtin}
 use Rattle.resolved_service.specs.Steps.{Steps, surely_ends}
 use Rattle.resolved_service.specs.View.{Tree}
-use Rattle.type_rules.specs.declared.error.TypeError.TheVariants.{UnknownName, Duplicate, Mismatch, NotDownward, MissingReply, Limit}
+use Rattle.type_rules.specs.declared.error.TypeError.TheVariants.{Duplicate, Mismatch, MissingReply, Limit}
 use Rattle.type_rules.specs.declared.error.Which.TheVariants.{Params}
 use Rattle.type_rules.specs.declared.known.Known.{Known}
 use Rattle.type_rules.specs.Demands.{Demand, ask}
 use Rattle.type_rules.specs.Kinds.{same_kind}
 use Rattle.type_rules.specs.Known.{kinds_of, class_named, event_named, method_named, none_before}
-use Rattle.type_rules.specs.Here.{Here, OfMethod, OfEvent, rows_of, start, declared, in_class, local_named, is_child}
+use Rattle.type_rules.specs.Here.{Here, OfMethod, OfEvent, rows_of, start, declared, in_class, local_named}
 use Rattle.type_rules.specs.Exprs.{or_zero, resolve, class_asks, demands_as}
 use Rattle.type_rules.specs.Stmts.{after_all, resolve_stmts, stmts_demands, reach_asks}
 
