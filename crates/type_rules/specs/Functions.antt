@@ -48,17 +48,12 @@ event_params_demands h (p ∷ ps) = (param_asks h p ++ no_map p) ++ event_params
 
 -- ---- the end of a function, by its type and by what is written there
 
--- behind statements that surely end, or not
+-- what stands there, behind statements that surely end, or not: nothing comes to a value behind those that do
 abbrev pub last_demands : Here → Name → Bool → Option Kind → Option LastTree → List Demand
 last_demands h name ended None None = []
 last_demands h name ended (Some kind) None = ask ended (MissingReply name.at) ∷ []
-last_demands h name ended None (Some last) = ask false (Mismatch last.at) ∷ []
-last_demands h name ended (Some kind) (Some last) = demands_as h kind last.value
-
--- `reply` may stand where something can come to it
-abbrev pub reply_asks : Bool → Option LastTree → List Demand
-reply_asks ended None = []
-reply_asks ended (Some last) = reach_asks ended last.at
+last_demands h name ended None (Some last) = reach_asks ended last.at ++ ask false (Mismatch last.at) ∷ []
+last_demands h name ended (Some kind) (Some last) = reach_asks ended last.at ++ demands_as h kind last.value
 
 pub record LastView : Type 0 where
   pub at : Span
@@ -177,8 +172,7 @@ event_demands known number e =
     ∷ (event_params_demands (start known 0 (length known.methods) (OfEvent e.result)) e.params
     ++ (stmts_demands (event_start known e) (here_stmts e)
     ++ (phases_demands (here_end known e) (surely_ends (here_body known e)) e.phases
-    ++ (reply_asks (event_ended known e) e.last
-    ++ last_demands (event_end (here_end known e) e.phases) e.name (event_ended known e) e.result e.last))))
+    ++ last_demands (event_end (here_end known e) e.phases) e.name (event_ended known e) e.result e.last)))
 
 abbrev pub resolve_phase : Here → PhaseTree → PhaseView
 resolve_phase h p = record { at = p.at; class = or_zero (class_named h.known p.class); key = resolve h p.key; body = phase_body h p }
