@@ -86,7 +86,7 @@ module _ (code : Code) (contexts : Contexts) (m m1 : Machine) (ready : Ready cod
   M = mach code contexts m
 
   at_return : Ready code.shape.now code.methods.now (record M { items = to_return M.items })
-  at_return = ready_with _ _ M (to_return M.items) M.values M.depth ready (fits_to_return _ _ M.items M.path ready.items) (omega (arith, owed_to_return M.items, downs_to_return M.items M.path))
+  at_return = ready_with code.shape.now code.methods.now M (to_return M.items) M.values M.depth ready (fits_to_return code.shape.now code.methods.now M.items M.path ready.items) (omega (arith, owed_to_return M.items, downs_to_return M.items M.path))
 
   module _ (c : Caller) (found : to_return (items_of m) ≡ return_of c ∷ items_of m1) where
     pub ready_at_caller : Ready code.shape.now code.methods.now (on_top (return_of c) (mach code contexts m1))
@@ -102,7 +102,7 @@ module _ (code : Code) (contexts : Contexts) (m m1 : Machine) (ready : Ready cod
           return_through code.methods.now M.items M.path M.depth r M.state
               ∙ ap (λ items. resume code.methods.now items M.path M.depth (Left (Returned r) M.state)) found
               ∙ ap (comes_to code.methods.now) (sym at ∙ sym same),
-          subst (Ready code.shape.now code.methods.now) (sym same) (ready_back _ _ (mach code contexts m1) c v ready_at_caller),
+          subst (Ready code.shape.now code.methods.now) (sym same) (ready_back code.shape.now code.methods.now (mach code contexts m1) c v ready_at_caller),
         )
     given_back r v m2 (Err stop.OutOfMemory) is ok err holds = (tt, holds)
     given_back r v m2 (Err (stop.Trapped t)) is ok err holds = cc
