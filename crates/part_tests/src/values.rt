@@ -12,7 +12,7 @@ use value_ops::{
     OpError, apply, apply_ints, compare_texts, find, put_pair, read_map, read_text, sum_up,
     wave_ops, wave_ops_2,
 };
-use wave_base::{Kind, PutError, TABLE_PAIRS, Table, TrapKind, Txt, Value};
+use wave_base::{Kind, OPERATORS, PutError, TABLE_PAIRS, Table, TrapKind, Txt, Value};
 
 const LEAST: i64 = -9223372036854775808;
 
@@ -68,7 +68,7 @@ fn of_ints(
     b: i64,
     wanted: Result<Value, OpError>,
 )
-    requires row { row < ROWS }
+    requires row { row < OPERATORS }
     requires kinds { takes_of row ≡ Kind.Int ∷ Kind.Int ∷ [] }
 {
     assert!(rt;
@@ -79,7 +79,7 @@ fn of_ints(
 
 // The row's answer at the texts of two numbers.
 fn of_texts(alloc: Global, row: usize, s: i64, t: i64) -> Result<Value, OpError>
-    requires row { row < ROWS }
+    requires row { row < OPERATORS }
     requires kinds { takes_of row ≡ Kind.Text ∷ Kind.Text ∷ [] }
 {
     let s = digits(alloc, s)?;
@@ -99,7 +99,7 @@ fn part_of(alloc: Global, text: i64, from: i64, to: i64) -> Result<Value, OpErro
 
 // The row's answer at a map and an int.
 fn of_map(alloc: Global, row: usize, map: Table, key: i64) -> Result<Value, OpError>
-    requires row { row < ROWS }
+    requires row { row < OPERATORS }
     requires kinds { takes_of row ≡ Kind.Map ∷ Kind.Int ∷ [] }
 {
     apply(alloc, row, &[Value::Map(map), Value::Int(key)])

@@ -4,7 +4,7 @@ use Rattle.std.specs.Cmp.Lexicographic.{pointwise}
 use Rattle.std.proofs.lemmas.List.Elements.{All-from_recursion, All-get_or}
 use Rattle.std.proofs.lemmas.List.Quantifiers.{position-Some}
 use Rattle.wave_base.specs.declared.value.Kind.{Kind}
-use Rattle.value_ops.specs.Names.{row_names}
+use Rattle.wave_base.specs.Operators.{operator_names}
 use Rattle.value_ops.specs.declared.row.OpRow.{OpRow}
 use Rattle.value_ops.specs.Operators.{Operator, operators, no_operator, takes_of, gives_of}
 use Rattle.value_ops.specs.Rows.{Row, row_of, row_with, named, three, wave_rows, wave_rows_2, first_builtin, is_builtin}
@@ -25,7 +25,7 @@ tells_named (name ∷ names) (o ∷ os) (suc n) row h = tells_named names os n r
 
 pub tells_row : (n : ℕ) (row : OpRow) → slice_get wave_rows_2 n ≡ Some (row_of row) → (row.takes ≡ three (takes_of n)) × (row.gives ≡ gives_of n)
 unfolding wave_rows_2 takes_of gives_of
-tells_row n row h = let t = tells_named row_names operators n (row_of row) h in (t.takes, t.gives)
+tells_row n row h = let t = tells_named operator_names operators n (row_of row) h in (t.takes, t.gives)
 
 -- no operator takes more than three
 short_operators : All (λ (o : Operator). length o.takes ≤ 3) operators

@@ -4,9 +4,8 @@ use Rattle.std.specs.Prelude.{codes}
 use Rattle.std.specs.Fmt.{digits}
 use Rattle.wave_base.specs.declared.trap.TrapKind.TheVariants.{Overflow, DivZero, Absent, TooLong}
 use Rattle.wave_base.specs.declared.value.Value.TheVariants.{Int, Bool as Flag, Str, Map}
-use Rattle.wave_base.specs.Operators.{operator_names}
+use Rattle.wave_base.specs.Operators.{first_names, operator_names}
 use Rattle.value_ops.specs.Operators.{operators, apply_row}
-use Rattle.value_ops.specs.Names.{row_names as all_names}
 use Rattle.value_ops.specs.Rows.{wave_rows, wave_rows_2, first_builtin}
 
 add_top : apply_row 0 (Int (pos 9223372036854775806) ∷ Int (pos 1) ∷ []) ≡ Ok (Int (pos 9223372036854775807))
@@ -310,7 +309,7 @@ unfolding apply_row operators
 num_twenty_digits = refl
 
 -- each row has its operator's name
-row_names : map (λ r. r.name) wave_rows ≡ operator_names
+row_names : map (λ r. r.name) wave_rows ≡ first_names
 unfolding wave_rows operators
 row_names = refl
 
@@ -323,7 +322,7 @@ unfolding wave_rows operators
 find_put = refl
 
 -- and in version 2
-row_names_2 : map (λ r. r.name) wave_rows_2 ≡ all_names
+row_names_2 : map (λ r. r.name) wave_rows_2 ≡ operator_names
 unfolding wave_rows_2 operators
 row_names_2 = refl
 

@@ -1,7 +1,6 @@
 pub mod Answers
 pub mod Kinds
 pub mod Meanings
-pub mod Names
 pub mod Numbers
 pub mod Operators
 pub mod Rows

@@ -2,10 +2,9 @@
 use Rattle.std.specs.Prelude.{ℕ, Bool, ◌&&◌, List, [], ◌∷◌, Option, Some, None, position}
 use Rattle.wave_base.specs.declared.value.Kind.{Kind}
 use Rattle.wave_base.specs.Names.{same_bytes}
-use Rattle.wave_base.specs.Operators.{operator_names}
+use Rattle.wave_base.specs.Operators.{first_names, operator_names, name_of_operator}
 use Rattle.value_ops.specs.declared.row.KeptRow.{KeptRow}
 use Rattle.value_ops.specs.declared.row.OpRow.{OpRow}
-use Rattle.value_ops.specs.Names.{row_names, name_of_row}
 use Rattle.value_ops.specs.Operators.{Operator, operators}
 
 pub record Row : Type 0 where
@@ -19,7 +18,7 @@ row_of r = record { name = r.name.now; builtin = r.builtin; takes = r.takes; giv
 
 -- a row as a table keeps it
 abbrev pub kept_row : KeptRow → Row
-kept_row r = record { name = name_of_row r.operator; builtin = r.builtin; takes = r.takes; gives = r.gives }
+kept_row r = record { name = name_of_operator r.operator; builtin = r.builtin; takes = r.takes; gives = r.gives }
 
 -- at most three kinds, and none behind them
 abbrev pub three : List Kind → List (Option Kind)
@@ -39,11 +38,11 @@ named (name ∷ names) (o ∷ os) = row_with name o ∷ named names os
 
 -- the rows of version 1 of the language
 unfoldable pub wave_rows : List Row
-wave_rows = named operator_names operators
+wave_rows = named first_names operators
 
 -- and those of version 2, which has them all
 unfoldable pub wave_rows_2 : List Row
-wave_rows_2 = named row_names operators
+wave_rows_2 = named operator_names operators
 
 abbrev pub is_builtin : List ℕ → Row → Bool
 is_builtin name row = row.builtin && same_bytes row.name name

@@ -1,8 +1,7 @@
 ghost use Rattle.std.specs.Prelude.{◌≡◌, ◌<◌};
-ghost use Rattle.value_ops.specs.declared.rows.TheConstants.{ROWS};
+ghost use Rattle.wave_base.specs.declared.operators.TheConstants.{OPERATORS};
 
-use crate::rows::row_name;
-use wave_base::Kind;
+use wave_base::{Kind, operator_name};
 
 /// An operator or a builtin: its name, whether a service writes it as a call, the kinds of its operands, the first
 /// ones first, and the kind of what it gives.
@@ -21,7 +20,7 @@ pub struct KeptRow {
     pub builtin: bool,
     pub takes: [Option<Kind>; 3],
     pub gives: Kind,
-    ghost known: { operator < ROWS },
+    ghost known: { operator < OPERATORS },
 }
 
 impl KeptRow {
@@ -32,7 +31,7 @@ impl KeptRow {
         ensures { row_of result ≡ kept_row self.now }
     {
         OpRow {
-            name: row_name(self.operator),
+            name: operator_name(self.operator),
             builtin: self.builtin,
             takes: self.takes,
             gives: self.gives,

@@ -1,11 +1,6 @@
 //! The rows of the operator table by name. Ints are `a` and `b`, truth values `p` and `q`, texts `s` and `t`, and `m` is
 //! a map. The rows from `MIN` on are builtins of version 2 of the language alone.
 
-ghost use Rattle.std.specs.Prelude.{◌≡◌, ◌<◌, ◌≤◌};
-ghost use Rattle.value_ops.specs.Names.{name_of_row};
-
-use wave_base::{OPERATORS, operator_name};
-
 /// `a + b`
 pub const ADD: usize = 0;
 /// `a - b`
@@ -74,34 +69,3 @@ pub const SUM: usize = 31;
 pub const STARTS: usize = 32;
 /// `num(t)`
 pub const NUM: usize = 33;
-
-/// The rows of both versions of the language: each row is below this number.
-pub const ROWS: usize = 34;
-
-/// The name of a row, as the code listing shows it. The names of the builtins are those that a service calls.
-pub fn row_name(row: usize) -> &'static [u8]
-    requires { row < ROWS }
-    ensures { result.now ≡ name_of_row row }
-{
-    if row < OPERATORS {
-        operator_name(row)
-    } else {
-        later_name(row)
-    }
-}
-
-// The name of a row of version 2 alone.
-fn later_name(row: usize) -> &'static [u8]
-    requires below { row < ROWS }
-    requires later { OPERATORS ≤ row }
-    ensures { result.now ≡ name_of_row row }
-{
-    match row {
-        MIN => b"min",
-        MAX => b"max",
-        ABS => b"abs",
-        SUM => b"sum",
-        STARTS => b"starts",
-        _ => b"num",
-    }
-}

@@ -1,8 +1,8 @@
 ghost use Rattle.std.specs.Prelude.{◌≡◌, ◌<◌, length, map, Some, slice_get};
 ghost use Rattle.value_ops.specs.Operators.{takes_of};
-ghost use Rattle.value_ops.specs.Names.{name_of_row};
 ghost use Rattle.value_ops.specs.Rows.{row_of, kept_row, three, wave_rows, wave_rows_2, first_builtin};
-ghost use Rattle.value_ops.specs.declared.rows.TheConstants.{ROWS};
+ghost use Rattle.wave_base.specs.Operators.{name_of_operator};
+ghost use Rattle.wave_base.specs.declared.operators.TheConstants.{OPERATORS};
 
 use crate::row::{KeptRow, OpRow};
 use crate::rows::*;
@@ -59,8 +59,8 @@ pub fn find<const N: usize>(table: &OpTable<N>, name: &[u8]) -> Option<usize>
 
 // A row by its operator, whether it is written as a call, and the kind that it gives.
 fn kept(operator: usize, builtin: bool, gives: Kind) -> KeptRow
-    requires { operator < ROWS }
-    ensures { kept_row result ≡ record { name = name_of_row operator; builtin = builtin; takes = three (takes_of operator); gives = gives } }
+    requires { operator < OPERATORS }
+    ensures { kept_row result ≡ record { name = name_of_operator operator; builtin = builtin; takes = three (takes_of operator); gives = gives } }
 {
     KeptRow {
         operator,

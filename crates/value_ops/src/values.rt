@@ -11,16 +11,16 @@ use crate::ints::{apply_ints, number};
 use crate::maps::{apply_map, put};
 use crate::numbers::num;
 use crate::operands::{flag, int, table, text};
-use crate::rows::{ABS, BEQ, LEN, NEG, ROWS, SIZE};
+use crate::rows::{ABS, BEQ, LEN, NEG, SIZE};
 use crate::sums::sum;
 use crate::takes::{Takes, takes_of};
 use crate::texts::{apply_texts, part, written};
 use std::alloc::Global;
-use wave_base::{Table, TrapKind, Txt, Value};
+use wave_base::{OPERATORS, Table, TrapKind, Txt, Value};
 
 /// What a row gives of these values. Ints and truth values are given without memory.
 pub fn apply(alloc: Global, row: usize, args: &[Value]) -> Result<Value, OpError>
-    requires row { row < ROWS }
+    requires row { row < OPERATORS }
     requires kinds { map kind_of args.now ≡ takes_of row }
     ensures answer { Answers (apply_row row args.now) result }
     ensures trap { (trap : TrapKind) → (result ≡ Err (OpError.Trap trap)) ↔ (apply_row row args.now ≡ Err trap) }
@@ -29,7 +29,7 @@ pub fn apply(alloc: Global, row: usize, args: &[Value]) -> Result<Value, OpError
 }
 
 fn apply_by_kinds(alloc: Global, row: usize, args: &[Value]) -> Result<Value, OpError>
-    requires row { row < ROWS }
+    requires row { row < OPERATORS }
     requires kinds { map kind_of args.now ≡ takes_of row }
     ensures { Answers (apply_row row args.now) result }
 {
