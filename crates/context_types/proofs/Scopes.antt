@@ -34,6 +34,8 @@ mutual
   after_grows h (s.Set at target key value) = same h.locals
   after_grows h (s.Call at name args) = same h.locals
   after_grows h (s.ChildCall at class key name args) = same h.locals
+  after_grows h (s.Return at value) = same h.locals
+  after_grows h (s.Finish at value) = same h.locals
 
   all_grow : (h : Here) (ss : StmtTrees) → Grows h.locals (after_all h ss).locals
   all_grow h no_stmts = same h.locals

@@ -12,7 +12,10 @@ pub fn is_end(s: &Stmt) -> bool
     match &s.action {
         Action::Return(_) => true,
         Action::Finish(_) => true,
-        Action::If(_, body, Some(other)) => surely_ends(body) && surely_ends(other),
+        Action::If(_, body, other) => match other {
+            Some(other) => surely_ends(body) && surely_ends(other),
+            None => false,
+        },
         _ => false,
     }
 }
