@@ -4,6 +4,7 @@ pub mod Follow
 pub mod Instructions
 pub mod Places
 pub mod Values
+pub mod Leaving
 pub mod Effects
 pub mod Events
 pub mod Held
@@ -13,6 +14,7 @@ pub mod Whole
 pub mod Law
 pub mod Parts
 pub mod Flow
+pub mod Shutting
 pub mod Fixed
 pub mod Flowing
 pub mod Stating

@@ -17,7 +17,7 @@ use Rattle.type_rules.specs.Known.{kinds_of, class_named, event_named, method_na
 use Rattle.type_rules.specs.Here.{Here, OfMethod, OfEvent, rows_of, start, in_class}
 use Rattle.type_rules.specs.Exprs.{or_zero, class_asks, demands_as, resolve}
 use Rattle.type_rules.specs.Stmts.{after_all, resolve_stmts, stmts_demands}
-use Rattle.type_rules.specs.Functions.{LastView, MethodView, PhaseView, EventView, after_params, method_params_demands, event_params_demands, last_demands, resolve_last, method_start, method_end, method_body, method_demands, resolve_method, event_start, here_stmts, here_end, here_body, event_ended, ended_behind, reply_asks, inside, phase_end, event_end, phase_demands, phases_demands, event_demands, resolve_phase, resolve_phases, resolve_event}
+use Rattle.type_rules.specs.Functions.{LastView, MethodView, PhaseView, EventView, after_params, method_params_demands, event_params_demands, last_demands, resolve_last, method_start, method_end, method_body, method_demands, resolve_method, event_start, here_stmts, here_end, here_body, event_ended, ended_behind, inside, phase_end, event_end, phase_demands, phases_demands, event_demands, resolve_phase, resolve_phases, resolve_event}
 use Rattle.type_rules.proofs.First.{told_past, fails_at, fails_past, fails_front, fails_behind, fails_same, holds_both}
 
 -- a demand, and three lists behind it
@@ -163,7 +163,7 @@ module _ (known : Known) (number : ℕ) (e : EventTree) where
   Phases = phases_demands (here_end known e) (surely_ends (here_body known e)) e.phases
 
   abbrev Reply : List Demand
-  Reply = reply_asks (event_ended known e) e.last ++ last_demands (event_end (here_end known e) e.phases) e.name (event_ended known e) e.result e.last
+  Reply = last_demands (event_end (here_end known e) e.phases) e.name (event_ended known e) e.result e.last
 
   pub event_taken : IsNew ≡ false → Fails (event_demands known number e) (Duplicate e.name.at)
   event_taken a = fails_at IsNew (Duplicate e.name.at) (EventParams ++ (First ++ (Phases ++ Reply))) a
@@ -199,7 +199,7 @@ module _ (known : Known) (number : ℕ) (e : EventTree) where
 
         module _ (l : Here) (ends : event_end j e.phases ≡ l) (phases : first_wrong (phases_demands j ended e.phases) ≡ None) (past : Bool) (past_is : ended_behind j ended e.phases ≡ past) where
           abbrev pub LastAsked : List Demand
-          LastAsked = reply_asks past e.last ++ last_demands l e.name past e.result e.last
+          LastAsked = last_demands l e.name past e.result e.last
 
           end_at : event_end (here_end known e) e.phases ≡ l
           end_at = ap (λ g. event_end g e.phases) here_is ∙ ends
@@ -208,7 +208,7 @@ module _ (known : Known) (number : ℕ) (e : EventTree) where
           event_past = (λ i. ended_behind (here_is i) (first_ended i) e.phases) ∙ past_is
 
           reply_same : first_wrong Reply ≡ first_wrong LastAsked
-          reply_same = (λ i. first_wrong (reply_asks (event_past i) e.last ++ last_demands (end_at i) e.name (event_past i) e.result e.last))
+          reply_same = (λ i. first_wrong (last_demands (end_at i) e.name (event_past i) e.result e.last))
 
           pub reply_fails : (w : TypeError) → Fails LastAsked w → Fails (event_demands known number e) w
           reply_fails w f =

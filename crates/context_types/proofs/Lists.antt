@@ -1,5 +1,5 @@
 -- The rules for lists, as one walk from place to place.
-use Rattle.std.proofs.Common.{◌≡◌, ◌×◌, ◌==◌, ◌<◌, ◌≤◌, ◌+◌, ℕ, Bool, false, zero, suc, List, [], ◌∷◌, ◌++◌, length, map, get_or, take, drop, Option, Some, None, refl, sym, ap, subst, ◌∙◌, arith}
+use Rattle.std.proofs.Common.{◌≡◌, ◌==◌, ◌<◌, ◌≤◌, ◌+◌, ℕ, Bool, false, zero, suc, List, [], ◌∷◌, ◌++◌, length, map, get_or, take, drop, Option, Some, None, refl, sym, ap, subst, ◌∙◌, arith}
 use Rattle.std.proofs.lemmas.List.{length-take-le}
 use Rattle.wave_base.specs.declared.value.Kind.{Kind}
 use Rattle.wave_base.specs.declared.value.Kind.TheVariants as k

@@ -1,4 +1,4 @@
-ghost use Rattle.std.specs.Prelude.{◌≡◌, ◌&&◌, ◌++◌, is_none, length, map};
+ghost use Rattle.std.specs.Prelude.{◌≡◌, ◌&&◌, is_none, length, map};
 ghost use Rattle.std.specs.Option.{option_map, option_map_or};
 ghost use Rattle.value_ops.specs.Rows.{first_builtin};
 ghost use Rattle.resolved_service.specs.Steps.{surely_ends};
@@ -91,7 +91,7 @@ pub fn event(
     let ended = surely_ends(first.as_slice());
     let made = here.phases(alloc, ended, e.phases.as_slice())?;
     let (phases, past) = made;
-    let last = here.reply(alloc, e, past)?;
+    let last = here.last(alloc, &e.name, past, e.result, &e.last)?;
     Ok(Event {
         at: e.at,
         locals: here.into_slots(),
@@ -147,23 +147,6 @@ impl<'t> Here<'t> {
         }
     }
 
-    // What an event replies, to which something can come.
-    fn reply(&self, alloc: Global, e: &EventDecl, ended: bool) -> Result<Option<Last>, TypeError>
-        ensures { let tree = event_tree e.now in
-            Judges (rules.reply_asks ended tree.last ++ rules.last_demands (here_of self.now) tree.name ended tree.result tree.last)
-            (λ made. option_map (rules.resolve_last (here_of self.now)) tree.last ≡ option_map last_view made) result }
-    {
-        match &e.last {
-            None => self.last(alloc, &e.name, ended, e.result, &e.last),
-            Some(last) => {
-                if ended {
-                    return Err(TypeError::Unreachable(last.at));
-                }
-                self.last(alloc, &e.name, ended, e.result, &e.last)
-            }
-        }
-    }
-
     // What is returned or replied, by the kind that is to be, behind statements that surely end, or not.
     fn last(
         &self,
@@ -176,20 +159,20 @@ impl<'t> Here<'t> {
         ensures { let tree = option_map last_tree last.now in
             Judges (rules.last_demands (here_of self.now) name.now ended gives tree) (λ made. option_map (rules.resolve_last (here_of self.now)) tree ≡ option_map last_view made) result }
     {
-        match (gives, last) {
-            (None, None) => Ok(None),
-            (Some(_), None) => {
-                if ended {
-                    return Ok(None);
-                }
-                Err(TypeError::MissingReply(name.at))
+        let Some(last) = last else {
+            if gives.is_some() && !ended {
+                return Err(TypeError::MissingReply(name.at));
             }
-            (None, Some(last)) => Err(TypeError::Mismatch(last.at)),
-            (Some(kind), Some(last)) => {
-                let value = self.expr_of(alloc, kind, &last.value)?;
-                Ok(Some(Last { at: last.at, value }))
-            }
+            return Ok(None);
+        };
+        if ended {
+            return Err(TypeError::Unreachable(last.at));
         }
+        let Some(kind) = gives else {
+            return Err(TypeError::Mismatch(last.at));
+        };
+        let value = self.expr_of(alloc, kind, &last.value)?;
+        Ok(Some(Last { at: last.at, value }))
     }
 
     // Phases, each behind one that does not surely end; and whether the last one does.

@@ -1,5 +1,5 @@
 -- Methods and events of a typed service, with their names resolved, fit.
-use Rattle.std.proofs.Common.{◌≡◌, ℕ, zero, suc, ◌+◌, ◌<◌, Bool, false, List, [], ◌∷◌, ◌++◌, length, map, slice_get, unwrap_or, All, Option, Some, None, is_some, refl, sym, ap, subst, ◌∙◌, arith}
+use Rattle.std.proofs.Common.{◌≡◌, ℕ, zero, suc, ◌+◌, ◌<◌, Bool, false, not, List, [], ◌∷◌, ◌++◌, length, map, slice_get, unwrap_or, All, Option, Some, None, is_some, refl, sym, ap, subst, ◌∙◌, arith}
 use Rattle.std.specs.Option.{option_map, option_map_or}
 use Rattle.std.proofs.lemmas.List.{map-append}
 use Rattle.std.proofs.lemmas.Option.{slice_get-get_or, slice_get-map}
@@ -19,13 +19,13 @@ use Rattle.resolved_service.specs.Fits.{IsChildClass, FitsTree, FitsSteps, FitsL
 use Rattle.resolved_service.specs.Steps.{steps_in, surely_ends}
 use Rattle.type_rules.specs.declared.known.Known.{Known}
 use Rattle.type_rules.specs.declared.known.Signature.{Signature}
-use Rattle.type_rules.specs.declared.error.TypeError.TheVariants.{UnknownName, Mismatch, NotDownward}
+use Rattle.type_rules.specs.declared.error.TypeError.TheVariants.{UnknownName, Mismatch, NotDownward, Unreachable}
 use Rattle.type_rules.specs.Demands.{ask, first_wrong}
 use Rattle.type_rules.specs.Known.{class_named, class_count, signature, signature_at, no_signature, methods_of, methods_in, service_methods, shape_of, known_of}
 use Rattle.type_rules.specs.Here.{Here, OfMethod, OfEvent, start, declared, is_child}
 use Rattle.type_rules.specs.Exprs.{or_zero, class_asks, demands_as}
 use Rattle.type_rules.specs.Stmts.{stmts_demands, reach_asks}
-use Rattle.type_rules.specs.Functions.{LastView, MethodView, PhaseView, EventView, after_params, method_params_demands, event_params_demands, last_demands, resolve_last, method_start, method_end, method_body, method_demands, resolve_method, event_start, here_stmts, here_end, here_body, event_ended, reply_asks, phase_body, inside, phase_end, event_end, phase_demands, phases_demands, event_demands, resolve_phase, resolve_phases, resolve_event}
+use Rattle.type_rules.specs.Functions.{LastView, MethodView, PhaseView, EventView, after_params, method_params_demands, event_params_demands, last_demands, resolve_last, method_start, method_end, method_body, method_demands, resolve_method, event_start, here_stmts, here_end, here_body, event_ended, phase_body, inside, phase_end, event_end, phase_demands, phases_demands, event_demands, resolve_phase, resolve_phases, resolve_event}
 use Rattle.type_rules.specs.Services.{ResolvedView, name_asks, fields_demands, methods_demands, context_demands, contexts_demands, events_demands, resolve_methods, resolve_context, resolve_contexts, resolve_with, resolve_service, IsTyped}
 use Rattle.type_rules.specs.Views.{last_view, method_view, phase_view, event_view, resolved_view}
 use Rattle.type_rules.proofs.First.{first_wrong_parts}
@@ -91,8 +91,8 @@ module _ (known : Known) (methods : List Method) (there : There known methods) w
   module _ (class : ℕ) where
     last_fits : (h : Here) → At known class h → (name : Name) (ended : Bool) (kind : Option Kind) (last : Option LastTree) → first_wrong (last_demands h name ended kind last) ≡ None → FitsLastView class (option_map (resolve_last h) last)
     last_fits h at name ended kind None d = tt
-    last_fits h at name ended None (Some last) d = absurd (absent (all_hold (ask false (Mismatch last.at) ∷ []) d).0)
-    last_fits h at name ended (Some kind) (Some last) d = tree_as known class methods there h at kind last.value d
+    last_fits h at name ended None (Some last) d = absurd (absent (all_hold (ask (not ended) (Unreachable last.at) ∷ ask false (Mismatch last.at) ∷ []) d).1.0)
+    last_fits h at name ended (Some kind) (Some last) d = tree_as known class methods there h at kind last.value (first_wrong_parts (reach_asks ended last.at) (demands_as h kind last.value) d).1
 
     params_at : (h : Here) → At known class h → (ps : List Param) → At known class (after_params h ps)
     params_at h at [] = at
@@ -197,20 +197,18 @@ module _ (known : Known) (methods : List Method) (there : There known methods) w
       let begins = start known 0 (length known.methods) (OfEvent e.result) in
       let ended = surely_ends (here_body known e) in
       let past = event_ended known e in
-      let reply = reply_asks past e.last in
       let ends = last_demands (event_end (here_end known e) e.phases) e.name past e.result e.last in
       let phases = phases_demands (here_end known e) ended e.phases in
       let first = stmts_demands h (here_stmts e) in
-      let a = none_wrong (event_params_demands begins e.params ++ (first ++ (phases ++ (reply ++ ends)))) (all_hold (event_demands known n e) d).1 in
-      let b = first_wrong_parts (event_params_demands begins e.params) (first ++ (phases ++ (reply ++ ends))) a in
-      let c = first_wrong_parts first (phases ++ (reply ++ ends)) b.1 in
-      let f = first_wrong_parts phases (reply ++ ends) c.1 in
-      let g = first_wrong_parts reply ends f.1 in
+      let a = none_wrong (event_params_demands begins e.params ++ (first ++ (phases ++ ends))) (all_hold (event_demands known n e) d).1 in
+      let b = first_wrong_parts (event_params_demands begins e.params) (first ++ (phases ++ ends)) a in
+      let c = first_wrong_parts first (phases ++ ends) b.1 in
+      let f = first_wrong_parts phases ends c.1 in
       let at : At known 0 h = params_at 0 begins (record { same_known = refl; same_class = refl }) e.params in
       record {
         here = subst (FitsSteps known.shape methods 0) (sym (ap (λ (v : EventView). v.here) is)) (stmts_fit known 0 methods there h at (here_stmts e) c.0);
         phases = phases_fit 0 (here_end known e) (after_all_at known 0 h at (here_stmts e)) ended past e.phases e.name e.result e.last made.phases made.last
-            (ap (λ (v : EventView). v.phases) is) (ap (λ (v : EventView). v.last) is) f.0 g.1;
+            (ap (λ (v : EventView). v.phases) is) (ap (λ (v : EventView). v.last) is) f.0 f.1;
       }
 
   all_events : (n : ℕ) (es : List EventTree) (made : List Event) → map event_view made ≡ map (resolve_event known) es → first_wrong (events_demands known n es) ≡ None → All (FitsEvent known.shape methods) made

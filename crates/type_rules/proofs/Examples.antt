@@ -3,7 +3,6 @@ use Rattle.std.proofs.Common.{◌≡◌, ℕ, ◌+◌, pos, true, List, [], ◌�
 use Rattle.wave_base.specs.declared.span.Span.{Span}
 use Rattle.wave_base.specs.declared.value.Kind.{Kind}
 use Rattle.wave_base.specs.declared.value.Kind.TheVariants as k
-use Rattle.wave_base.specs.declared.value.Value.TheVariants as v
 use Rattle.value_ops.specs.Operators.{operators, takes_of, gives_of}
 use Rattle.value_ops.specs.Rows.{wave_rows, wave_rows_2}
 use Rattle.mace_ast.specs.declared.name.Name.{Name}
@@ -15,14 +14,13 @@ use Rattle.mace_ast.specs.Exprs as e
 use Rattle.mace_ast.specs.Exprs.{ExprTree, no_exprs, expr_and}
 use Rattle.mace_ast.specs.Stmts as s
 use Rattle.mace_ast.specs.Stmts.{StmtTree}
-use Rattle.mace_ast.specs.Decls.{LastTree, MethodTree, ContextTree, Context, no_contexts, EventTree, ServiceTree}
+use Rattle.mace_ast.specs.Decls.{LastTree, Context, no_contexts, ServiceTree}
 use Rattle.resolved_service.specs.Steps as step
 use Rattle.resolved_service.specs.View as r
-use Rattle.type_rules.specs.declared.error.TypeError.{TypeError}
 use Rattle.type_rules.specs.declared.error.TypeError.TheVariants as wrong
 use Rattle.type_rules.specs.Demands.{first_wrong}
 use Rattle.type_rules.specs.Known.{shape_of, known_of}
-use Rattle.type_rules.specs.Functions.{MethodView, EventView}
+use Rattle.type_rules.specs.Functions.{MethodView}
 use Rattle.type_rules.specs.Services.{service_demands, resolve_service}
 
 abbrev at : ℕ → Span

@@ -1,5 +1,5 @@
 -- Methods and events of a service: what is asked of them, and what they are with each name resolved.
-use Rattle.std.specs.Prelude.{ℕ, ◌+◌, ◌&&◌, Bool, not, false, nat_lt, List, [], ◌∷◌, ◌++◌, map, length, Option, Some, None, is_some, is_none}
+use Rattle.std.specs.Prelude.{ℕ, ◌&&◌, Bool, not, false, nat_lt, List, [], ◌∷◌, ◌++◌, length, Option, Some, None, is_none}
 use Rattle.std.specs.Option.{option_map, option_map_or}
 use Rattle.wave_base.specs.declared.limits.TheConstants.{PARAMS}
 use Rattle.wave_base.specs.declared.span.Span.{Span}
@@ -12,13 +12,13 @@ use Rattle.mace_ast.specs.Stmts.{StmtTrees, no_stmts, stmts_of}
 use Rattle.value_ops.specs.Rows.{first_builtin}
 use Rattle.resolved_service.specs.Steps.{Steps, surely_ends}
 use Rattle.resolved_service.specs.View.{Tree}
-use Rattle.type_rules.specs.declared.error.TypeError.TheVariants.{UnknownName, Duplicate, Mismatch, NotDownward, MissingReply, Limit}
+use Rattle.type_rules.specs.declared.error.TypeError.TheVariants.{Duplicate, Mismatch, MissingReply, Limit}
 use Rattle.type_rules.specs.declared.error.Which.TheVariants.{Params}
 use Rattle.type_rules.specs.declared.known.Known.{Known}
 use Rattle.type_rules.specs.Demands.{Demand, ask}
 use Rattle.type_rules.specs.Kinds.{same_kind}
 use Rattle.type_rules.specs.Known.{kinds_of, class_named, event_named, method_named, none_before}
-use Rattle.type_rules.specs.Here.{Here, OfMethod, OfEvent, rows_of, start, declared, in_class, local_named, is_child}
+use Rattle.type_rules.specs.Here.{Here, OfMethod, OfEvent, rows_of, start, declared, in_class, local_named}
 use Rattle.type_rules.specs.Exprs.{or_zero, resolve, class_asks, demands_as}
 use Rattle.type_rules.specs.Stmts.{after_all, resolve_stmts, stmts_demands, reach_asks}
 
@@ -48,17 +48,12 @@ event_params_demands h (p ∷ ps) = (param_asks h p ++ no_map p) ++ event_params
 
 -- ---- the end of a function, by its type and by what is written there
 
--- behind statements that surely end, or not
+-- what stands there, behind statements that surely end, or not: nothing comes to a value behind those that do
 abbrev pub last_demands : Here → Name → Bool → Option Kind → Option LastTree → List Demand
 last_demands h name ended None None = []
 last_demands h name ended (Some kind) None = ask ended (MissingReply name.at) ∷ []
-last_demands h name ended None (Some last) = ask false (Mismatch last.at) ∷ []
-last_demands h name ended (Some kind) (Some last) = demands_as h kind last.value
-
--- `reply` may stand where something can come to it
-abbrev pub reply_asks : Bool → Option LastTree → List Demand
-reply_asks ended None = []
-reply_asks ended (Some last) = reach_asks ended last.at
+last_demands h name ended None (Some last) = reach_asks ended last.at ++ ask false (Mismatch last.at) ∷ []
+last_demands h name ended (Some kind) (Some last) = reach_asks ended last.at ++ demands_as h kind last.value
 
 pub record LastView : Type 0 where
   pub at : Span
@@ -177,8 +172,7 @@ event_demands known number e =
     ∷ (event_params_demands (start known 0 (length known.methods) (OfEvent e.result)) e.params
     ++ (stmts_demands (event_start known e) (here_stmts e)
     ++ (phases_demands (here_end known e) (surely_ends (here_body known e)) e.phases
-    ++ (reply_asks (event_ended known e) e.last
-    ++ last_demands (event_end (here_end known e) e.phases) e.name (event_ended known e) e.result e.last))))
+    ++ last_demands (event_end (here_end known e) e.phases) e.name (event_ended known e) e.result e.last)))
 
 abbrev pub resolve_phase : Here → PhaseTree → PhaseView
 resolve_phase h p = record { at = p.at; class = or_zero (class_named h.known p.class); key = resolve h p.key; body = phase_body h p }

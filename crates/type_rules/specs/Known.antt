@@ -1,6 +1,6 @@
 -- What a service declares, from its text alone; and what a name stands for among all that is declared. Of equal names
 -- the first one counts.
-use Rattle.std.specs.Prelude.{ℕ, ◌+◌, ◌==◌, ◌&&◌, ℤ, Bool, true, nat_le, List, [], ◌∷◌, ◌++◌, map, position, get_or, Option, Some, None, option_map, option_and_then}
+use Rattle.std.specs.Prelude.{ℕ, ◌+◌, ◌==◌, ◌&&◌, Bool, true, nat_le, List, [], ◌∷◌, ◌++◌, map, position, get_or, Option, Some, None}
 use Rattle.std.specs.Int.{w64, int_wrapping_neg}
 use Rattle.wave_base.specs.declared.path.Class.{Class}
 use Rattle.wave_base.specs.declared.shape.FieldInfo.{FieldInfo}

@@ -1,10 +1,8 @@
 -- What is gathered, one declaration after the other.
-use Rattle.std.proofs.Common.{◌≡◌, ◌≢◌, ◌+◌, ◌<◌, ◌≤◌, ◌^◌, ◌==◌, ◌&&◌, ℕ, Bool, true, false, List, [], ◌∷◌, ◌++◌, length, map, position, get_or, Option, Some, None, set, take, All, refl, sym, ap, subst, ◌∙◌, append_assoc, arith, rules, Result, Ok, Err, OnOk}
-use Rattle.std.proofs.lemmas.List.{append-nil, map-append, length-append, length-map, length-set, take_more, take_all, get_or-set_same, get_or-set_other}
-use Rattle.wave_base.specs.declared.path.Class.{Class}
+use Rattle.std.proofs.Common.{◌≡◌, ◌+◌, ◌<◌, ◌≤◌, ◌^◌, ℕ, List, [], ◌∷◌, ◌++◌, length, map, get_or, Some, None, set, take, refl, sym, ap, subst, ◌∙◌, append_assoc, arith, rules, Result, Ok, Err, OnOk}
+use Rattle.std.proofs.lemmas.List.{append-nil, map-append, length-append, length-map, length-set, take_more, take_all}
 use Rattle.wave_base.specs.declared.shape.ClassInfo.{ClassInfo}
 use Rattle.wave_base.specs.declared.shape.EventInfo.{EventInfo}
-use Rattle.wave_base.specs.Names.{same_bytes}
 use Rattle.wave_base.specs.declared.span.Span.{Span}
 use Rattle.mace_ast.specs.declared.name.Name.{Name}
 use Rattle.mace_ast.specs.declared.field.VarDecl.{VarDecl}
@@ -12,14 +10,13 @@ use Rattle.mace_ast.specs.declared.context.ContextDecl.{ContextDecl, ContextDecl
 use Rattle.mace_ast.specs.declared.method.MethodDecl.{MethodDecl}
 use Rattle.mace_ast.specs.declared.event.EventDecl.{EventDecl}
 use Rattle.mace_ast.proofs.Rows.{row_contexts-items}
-use Rattle.mace_ast.specs.Decls.{method_tree, event_tree, context_tree, MethodTree, EventTree, ContextTree, ContextTrees, Context, no_contexts, context_and, contexts_of, ServiceTree}
+use Rattle.mace_ast.specs.Decls.{method_tree, event_tree, context_tree, MethodTree, ContextTree, ContextTrees, Context, no_contexts, context_and, contexts_of, ServiceTree}
 use Rattle.type_rules.specs.declared.known.Known.{Known}
 use Rattle.type_rules.specs.declared.known.Signature.{Signature}
-use Rattle.type_rules.specs.Known.{Entry, class_count, classes_count, classes_of, classes_in, entry, methods_of, methods_in, signature, event_info, class_named, event_named, method_named, shape_of, known_of}
+use Rattle.type_rules.specs.Known.{Entry, class_count, classes_count, classes_of, classes_in, entry, methods_of, methods_in, signature, event_info, shape_of, known_of}
 use Rattle.type_tables.specs.declared.gather.Gathered.{Gathered}
 use Rattle.type_tables.specs.inner.Gathering.{known_in, IsGathered, grown, Gains}
-use Rattle.type_tables.specs.Indexed.{IsIndexed}
-use Rattle.type_tables.specs.Numbers.{first_number, noted}
+use Rattle.type_tables.specs.Numbers.{noted}
 use Rattle.type_tables.proofs.Indexing.{indexed_as, indexed_class, indexed_event, indexed_method}
 
 -- ---- growing

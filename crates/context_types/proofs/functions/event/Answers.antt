@@ -83,7 +83,7 @@ returns-in_err-last c =
     let ends = ap (λ ps. event_end j (map phase_tree ps)) all ∙ phases.1.0 in
     let phases_hold = ap (λ ps. first_wrong (phases_demands j ended (map phase_tree ps))) all ∙ phases.0 in
     let past = c.in_ok-made.made.1 in
-    let past_is = ap (λ ps. ended_behind j ended (map phase_tree ps)) all ∙ phases.1.1.1 in
+    let past_is = ap (λ ps. ended_behind j ended (map phase_tree ps)) all ∙ phases.1.2 in
     exit _ _ _ (err_from_is_err_and c.from_residual-in_err-last.result c.from_residual-in_err-last.ensures.1) (event_demands known number e)
     (reply_fails known number e new h begins params_hold j first.1.here first.0 made first.1.steps ended tells l ends phases_hold past past_is c.in_err-last.field-0.0 c.in_err-last.ensures)
 
@@ -109,9 +109,9 @@ returns c =
     let ends = ap (λ ps. event_end j (map phase_tree ps)) all ∙ phases.1.0 in
     let phases_hold = ap (λ ps. first_wrong (phases_demands j ended (map phase_tree ps))) all ∙ phases.0 in
     let past = c.in_ok-made.made.1 in
-    let past_is = ap (λ ps. ended_behind j ended (map phase_tree ps)) all ∙ phases.1.1.1 in
+    let past_is = ap (λ ps. ended_behind j ended (map phase_tree ps)) all ∙ phases.1.2 in
     let last = c.in_ok-last.ensures in
-    let phases_are = ap (λ ps. resolve_phases j (map phase_tree ps)) all ∙ phases.1.1.0 in (
+    let phases_are = ap (λ ps. resolve_phases j (map phase_tree ps)) all ∙ phases.1.1 in (
       event_holds known number e new h begins params_hold j first.1.here first.0 made first.1.steps ended tells l ends phases_hold past past_is last.0,
       event_made known number e new h begins params_hold j first.1.here first.0 made first.1.steps ended tells l ends phases_hold past past_is (map phase_view c.in_ok-made.made.0.items) (option_map last_view c.in_ok-last.last) phases_are last.1
           ∙ (λ i. record {

@@ -36,7 +36,7 @@ loop-phase-preserved c =
     record {
       holds = walk_more next_phase phase_asks (h, b) ps i p c.loop-phase-test.true c.phase-item.is is.holds (ap (λ g. first_wrong (phase_asks g p)) is.place ∙ c.in_ok-phase.ensures.0);
       place = ends_more next_phase (h, b) ps i p c.loop-phase-test.true c.phase-item.is ∙ ap (λ g. next_phase g p) is.place
-          ∙ (λ i. (made.0 i, (ap (λ v. surely_ends v.body) made.1 ∙ ap (λ l. surely_ends (steps_in l)) (sym c.as_slice.ensures) ∙ sym c.surely_ends.ensures) i));
+          ∙ (λ i. (made.0 i, (ap (λ v. surely_ends v.body) made.1 ∙ ap (λ l. surely_ends (steps_in l)) (sym c.as_slice.ensures) ∙ sym c.surely_ends-past.ensures) i));
       made = made_more next_phase phase_made phase_view (h, b) ps i p c.loop-phase.made.items c.push.new.self.items c.in_ok-phase.phase c.loop-phase-test.true c.phase-item.is is.made
           (ap (λ g. phase_made g p) is.place ∙ made.1) c.in_ok-push.ensures.items;
     }
@@ -52,9 +52,7 @@ returns c =
       ap first_wrong (phases_walk h b ps) ∙ walk_whole next_phase phase_asks (h, b) ps i c.loop-phase-test.false is.holds,
       (
         phases_ends h b ps ∙ ap (λ xs. (ends next_phase (h, b) xs).0) all ∙ ap (λ g. g.0) is.place,
-        (
-          phases_made h b ps ∙ ap (makes next_phase phase_made (h, b)) all ∙ is.made,
-          phases_ended h b ps ∙ ap (λ xs. (ends next_phase (h, b) xs).1) all ∙ ap (λ g. g.1) is.place,
-        ),
+        phases_made h b ps ∙ ap (makes next_phase phase_made (h, b)) all ∙ is.made,
+        phases_ended h b ps ∙ ap (λ xs. (ends next_phase (h, b) xs).1) all ∙ ap (λ g. g.1) is.place,
       ),
     )

@@ -1,6 +1,5 @@
-use Rattle.std.proofs.Common.{ℕ, sym, ap, ◌∙◌, ◌<◌, ◌≡◌, Some, position, length, arith}
-use Rattle.std.proofs.lemmas.List.Quantifiers.{position-Some}
-use Rattle.value_ops.specs.Rows.{wave_rows_2, first_builtin, is_builtin, row_with}
+use Rattle.std.proofs.Common.{sym, ap, ◌∙◌, arith}
+use Rattle.value_ops.specs.Rows.{first_builtin}
 use Rattle.type_tables.proofs.OperatorLemmas.{builtin_row_2}
 use Rattle.type_tables.proofs.operators.Operators.builtin_2.Goals as goal
 
