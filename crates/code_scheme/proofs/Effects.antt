@@ -1,5 +1,5 @@
 -- The code of statements does what they mean.
-use Rattle.std.proofs.Common.{◌≡◌, ℕ, zero, suc, ◌+◌, ◌-◌, ◌≤◌, ◌⊎◌, inl, inr, pos, List, [], ◌∷◌, ◌++◌, length, true, Option, None, refl, sym, ap, ◌∙◌, subst, arith, length-append}
+use Rattle.std.proofs.Common.{◌≡◌, ℕ, zero, suc, ◌+◌, ◌-◌, ◌≤◌, ◌⊎◌, inl, inr, pos, List, [], ◌∷◌, ◌++◌, length, Bool, true, false, Option, Some, None, refl, sym, ap, ◌∙◌, subst, arith, length-append}
 use Rattle.std.specs.Prelude.{slice_get, is_some}
 use Rattle.wave_base.specs.declared.span.Span.{Span}
 use Rattle.wave_base.specs.declared.value.Kind.{Kind}
@@ -8,8 +8,8 @@ use Rattle.wave_base.specs.declared.value.Value.{Value}
 use Rattle.wave_base.specs.declared.value.Value.TheVariants as v
 use Rattle.value_ops.specs.Operators.{operators, takes_of, apply_row}
 use Rattle.resolved_service.specs.declared.service.Method.{Method}
-use Rattle.resolved_service.specs.Meaning.{State, Outcome, Done, Trapped, Left, Act, and_then, give, answer, with_world, tick, choose, get_local, set_local, get_field, put_field, demand, row_add, row_lt, row_put, row_cut, value, values, called, while_turns, for_test, for_body, effect, effects, ◌>>=◌, ◌>>◌}
-use Rattle.resolved_service.specs.Steps.{Step, SetLocal, SetField, PutLocal, PutField, CutLocal, CutField, If, While, For, Require, Send, Spawn, Do, Steps, no_steps, step, no_else, otherwise}
+use Rattle.resolved_service.specs.Meaning.{State, Leave, Returned, Finished, Outcome, Done, Trapped, Left, Act, and_then, give, leave, maybe_value, answer, with_world, tick, choose, get_local, set_local, get_field, put_field, demand, row_add, row_lt, row_put, row_cut, value, values, called, while_turns, for_test, for_body, effect, effects, ◌>>=◌, ◌>>◌}
+use Rattle.resolved_service.specs.Steps.{Step, SetLocal, SetField, PutLocal, PutField, CutLocal, CutField, If, While, For, Require, Send, Spawn, Do, Return, Finish, Steps, no_steps, step, no_else, otherwise, surely_ends}
 use Rattle.resolved_service.specs.View.{Tree, Const, Local, Field, Above, Op, And, Or, Call, Child}
 use Rattle.resolved_service.specs.World as world
 use Rattle.resolved_service.specs.World.{World, nothing, is_true, sending, spawning}
@@ -19,13 +19,15 @@ use Rattle.service_code.specs.declared.program.Program.{Program}
 use Rattle.service_verify.specs.Fit.{IsFit}
 use Rattle.service_verify.specs.Points.{IsVerified}
 use Rattle.service_verify.specs.Tours.{Tour}
-use Rattle.code_scheme.specs.Scheme.{Line, line, gives_in, leaves_value, pop_code, if_code, else_code, while_code, test_code, turn_code, loop_at, block_at, tree_code, trees_code, two_code, step_code, steps_code}
+use Rattle.code_scheme.specs.Scheme.{Line, line, gives_in, leaves_value, pop_code, finish_instr, behind, if_code, else_code, while_code, test_code, turn_code, loop_at, block_at, tree_code, trees_code, two_code, maybe_code, step_code, steps_code}
 use Rattle.code_scheme.specs.Texts.{place_of_text}
-use Rattle.code_scheme.specs.Typed.{IsMethod, HasKind, IsSilent, IsTypedStep, AreTyped}
-use Rattle.code_scheme.proofs.Follow.{Here, At, Follows, place_is, lead_in, bind, ends, done, IsLine}
-use Rattle.code_scheme.proofs.Instructions.{Low, tick_runs, row_runs, load_runs, store_runs, pop_runs, set_field_runs, jump_runs, put_local_runs, cut_local_runs, put_field_runs, cut_field_runs, require_runs, send_runs, spawn_runs, push_runs, Onward}
-use Rattle.code_scheme.proofs.Places.{next, HasAt, has_front, has_back}
-use Rattle.code_scheme.proofs.Values.{Counted, AreMade, CallsFollow, OnTop, OnTops, LeftOn, picks, own_value, child_value, value_runs, values_run}
+use Rattle.code_scheme.specs.Typed.{Within, InMethod, InEvent, IsMethod, HasKind, IsSilent, IsTypedReturn, IsTypedFinish, IsTypedStep, AreTyped}
+use Rattle.code_scheme.proofs.Follow.{Here, At, Leads, Follows, stay, place_is, bind, ends, done, IsLine}
+use Rattle.code_scheme.proofs.Instructions.{Low, tick_runs, row_runs, load_runs, store_runs, pop_runs, set_field_runs, jump_runs, put_local_runs, cut_local_runs, put_field_runs, cut_field_runs, require_runs, send_runs, spawn_runs, push_runs, reply_runs, end_runs, Onward}
+use Rattle.code_scheme.proofs.Leaving.{NeverDone, never_first, never_effects, assoc, Leaving, leaving_lower, Performs, performs, lead_to, bind_to, bind_on, ends_to, never_ends, picks_on}
+use Rattle.code_scheme.proofs.Looping.{Effect, Plain, ended, then_jump, while_runs}
+use Rattle.code_scheme.proofs.Places.{next, HasAt, has_front, has_back, while_stands}
+use Rattle.code_scheme.proofs.Values.{Counted, AreMade, CallsFollow, OnTop, OnTops, LeftOn, own_value, child_value, value_runs, values_run}
 
 takes_lt : length (takes_of row_lt) ≡ 2
 unfolding takes_of operators
@@ -40,72 +42,6 @@ module _ (methods : List Method) where
   gives_same is = ap gives_in is.is_there ∙ ap is_some is.result_is
 
 module _ (program : Program) (fit : IsFit program) (verified : IsVerified program) (methods : List Method) (made : AreMade program fit verified methods) (n : ℕ) (calls : CallsFollow program fit verified methods n) where
-  -- what a piece of code does to the state
-  abbrev pub Effect : Here → List Line → ℕ → List Value → Act (Unit {0}) → Type 0
-  Effect h code pc s f =
-      (t : ℕ) (st : State) (c : Tour) → t ≤ n → st.world.ticks ≤ t → HasAt program fit verified h.fn pc code → At program fit verified h pc s st c →
-      Follows program fit verified c (Onward program fit verified h (pc + length code) s) (Low t) (f st)
-
-  ended : (h : Here) (pc pc' t : ℕ) (s : List Value) (c : Tour) (o : Outcome (Unit {0})) → pc ≡ pc' → Follows program fit verified c (Onward program fit verified h pc s) (Low t) o → Follows program fit verified c (Onward program fit verified h pc' s) (Low t) o
-  ended h pc pc' t s c o e f = subst (λ m. Follows program fit verified c (Onward program fit verified h m s) (Low t) o) e f
-
-  then_jump : (h : Here) (pc to t : ℕ) (s : List Value) (at : Span) → IsLine program fit verified h.fn pc (i.Jump to) at → (to' : ℕ) → to ≡ to' → (c : Tour) (o : Outcome (Unit {0})) → Follows program fit verified c (Onward program fit verified h pc s) (Low t) o → Follows program fit verified c (Onward program fit verified h to' s) (Low t) o
-  then_jump h pc to t s at l to' e c (Done x st) f =
-      let r = jump_runs program fit verified h pc to s st f.is.0 f.is.2 at l in
-      lead_in program fit verified c f.is.0 (Onward program fit verified h to' s) (Low t) (Done x st) f.is.1 (record { is = (r.0, r.1, place_is program fit verified h to to' s st r.0 e r.2, f.is.3) })
-  then_jump h pc to t s at l to' e c (Trapped k at' w) f = record { is = f.is }
-  then_jump h pc to t s at l to' e c (Left x st) f = absurd f.is
-
-  while_runs : (h : Here) (pc : ℕ) (at : Span) (s : List Value) (ct ca : List Line) (test : Act Value) (body : Act (Unit {0})) → HasAt program fit verified h.fn pc (while_code pc at ct ca) →
-      ((t : ℕ) → t ≤ n → (st : State) (c : Tour) → st.world.ticks ≤ t → At program fit verified h pc s st c → Follows program fit verified c (OnTop program fit verified methods h (pc + length ct) s) (Low t) (test st)) →
-      ((t : ℕ) → t ≤ n → (st : State) (c : Tour) → st.world.ticks ≤ t → At program fit verified h (pc + length ct + 1 + 1) s st c → Follows program fit verified c (Onward program fit verified h (pc + length ct + 1 + 1 + length ca) s) (Low t) (body st)) →
-      (m t : ℕ) → t ≤ m → t ≤ n → (st : State) (c : Tour) → st.world.ticks ≤ t → At program fit verified h pc s st c → Follows program fit verified c (Onward program fit verified h (pc + length (while_code pc at ct ca)) s) (Low t) (while_turns m test body at st)
-  unfolding while_turns
-  while_runs h pc at s ct ca test body has rt rb = loop
-    where
-      pt : ℕ
-      pt = pc + length ct
-
-      x : ℕ
-      x = pt + 1 + 1 + length ca + 1
-
-      end : ℕ
-      end = pc + length (while_code pc at ct ca)
-
-      After : Unit {0} → State → Tour → Type 0
-      After = Onward program fit verified h end s
-
-      l0 : HasAt program fit verified h.fn pt (line (i.JumpFalse x) at ∷ line i.Tick at ∷ (ca ++ line (i.Jump pc) at ∷ []))
-      l0 = has_back program fit verified h.fn pc ct _ has
-
-      l1 : HasAt program fit verified h.fn (pt + 1 + 1 + length ca) (line (i.Jump pc) at ∷ [])
-      l1 = has_back program fit verified h.fn (pt + 1 + 1) ca _ l0.1.1
-
-      len : x ≡ end
-      len = omega (arith, length-append ct (line (i.JumpFalse x) at ∷ line i.Tick at ∷ (ca ++ line (i.Jump pc) at ∷ [])), length-append ca (line (i.Jump pc) at ∷ []))
-
-      leave_it : (t : ℕ) (st : State) (c : Tour) → st.world.ticks ≤ t → At program fit verified h x s st c → Follows program fit verified c After (Low t) (Done tt st)
-      leave_it t st c q a = done program fit verified c After (Low t) tt st (place_is program fit verified h x end s st c len a) q
-
-      Ticked : Unit {0} → State → Tour → Type 0
-      Ticked u st d = At program fit verified h (suc (pt + 1)) s st d
-
-      loop : (m t : ℕ) → t ≤ m → t ≤ n → (st : State) (c : Tour) → st.world.ticks ≤ t → At program fit verified h pc s st c → Follows program fit verified c After (Low t) (while_turns m test body at st)
-      loop zero t le le' st c q a =
-          bind program fit verified c (OnTop program fit verified methods h pt s) (Low t) After (Low t) (test st) (λ v. choose (is_true v) (tick at) (give tt)) (rt t le' st c q a) (λ v st1 d a1 q1.
-          picks program fit verified methods h pt x v s st1 d a1 at l0.0 After (Low t) (tick at) (give tt)
-          (λ d2 a2. ends program fit verified d2 Ticked (λ u st'. suc st'.world.ticks ≤ t) After (Low t) (tick at st1) (tick_runs program fit verified h (pt + 1) t s st1 d2 a2 at l0.1.0 q1) (λ u st2 d3 a3 k. absurd (omega (arith, k, le))))
-          (λ d2 a2. leave_it t st1 d2 q1 a2))
-      loop (suc m) t le le' st c q a =
-          bind program fit verified c (OnTop program fit verified methods h pt s) (Low t) After (Low t) (test st) (λ v. choose (is_true v) (tick at >> (body >> while_turns m test body at)) (give tt)) (rt t le' st c q a) (λ v st1 d a1 q1.
-          picks program fit verified methods h pt x v s st1 d a1 at l0.0 After (Low t) (tick at >> (body >> while_turns m test body at)) (give tt)
-          (λ d2 a2. bind program fit verified d2 Ticked (λ u st'. suc st'.world.ticks ≤ t) After (Low t) (tick at st1) (λ u. body >> while_turns m test body at) (tick_runs program fit verified h (pt + 1) t s st1 d2 a2 at l0.1.0 q1) (λ u st2 d3 a3 k.
-          bind program fit verified d3 (Onward program fit verified h (pt + 1 + 1 + length ca) s) (Low (t - 1)) After (Low t) (body st2) (λ u. while_turns m test body at) (rb (t - 1) (omega (arith, le')) st2 d3 (omega (arith, k)) (place_is program fit verified h (suc (pt + 1)) (pt + 1 + 1) s st2 d3 (next (pt + 1)) a3)) (λ u st3 d4 a4 q3.
-          let r = jump_runs program fit verified h (pt + 1 + 1 + length ca) pc s st3 d4 a4 at l1.0 in
-          lead_in program fit verified d4 r.0 After (Low t) (while_turns m test body at st3) r.1
-          (ends program fit verified r.0 After (Low (t - 1)) After (Low t) (while_turns m test body at st3) (loop m (t - 1) (omega (arith, le, k)) (omega (arith, le')) st3 r.0 q3 r.2) (λ u st4 d5 a5 q4. (a5, omega (arith, q4)))))))
-          (λ d2 a2. leave_it t st1 d2 q1 a2))
-
   module _ (limit : ℕ) (locals : List Kind) (class : ℕ) where
     Kinded : Tree → Kind → Type 0
     Kinded e kind = HasKind program.shape methods limit locals class e kind
@@ -146,132 +82,159 @@ module _ (program : Program) (fit : IsFit program) (verified : IsVerified progra
     unfolding world.set_field
     field_stored h pc pc' t x s at e l y st d q a = let r = set_field_runs program fit verified h pc pc' x y s st d a at e l in record { is = (r.0, r.1, r.2, q) }
 
-    if_runs : (h : Here) (pc : ℕ) (at : Span) (s : List Value) (e : Tree) (ca : List Line) (fa : Act (Unit {0})) → HasKind program.shape methods limit locals class e k.Bool → Effect h ca (pc + length (tree_code methods program.texts pc e) + 1) s fa →
-        Effect h (if_code pc at (tree_code methods program.texts pc e) ca) pc s (λ st. and_then (value (called methods n) h.at e st) (λ v. choose (is_true v) fa (give tt)))
-    if_runs h pc at s e ca fa typed ra t st c le q has a =
-        let ct = tree_code methods program.texts pc e in
-        let x = pc + length ct + 1 + length ca in
-        let end = pc + length (if_code pc at ct ca) in
-        let l = has_back program fit verified h.fn pc ct _ has in
-        let len : x ≡ end = omega (arith, length-append ct (line (i.JumpFalse x) at ∷ ca)) in
-        bind program fit verified c (OnTop program fit verified methods h (pc + length ct) s) (Low t) (Onward program fit verified h end s) (Low t) (value (called methods n) h.at e st) (λ v. choose (is_true v) fa (give tt))
-        (value_runs program fit verified methods made n calls limit locals class h e k.Bool typed t pc s st c le q (has_front program fit verified h.fn pc ct _ has) a)
-        (λ v st1 d a1 q1. picks program fit verified methods h (pc + length ct) x v s st1 d a1 at l.0 (Onward program fit verified h end s) (Low t) fa (give tt)
-        (λ d2 a2. ended h x end t s d2 (fa st1) len (ra t st1 d2 le q1 l.1 a2))
-        (λ d2 a2. done program fit verified d2 (Onward program fit verified h end s) (Low t) tt st1 (place_is program fit verified h x end s st1 d2 len a2) q1))
+    module _ (w : Within) where
+      abbrev Leaves : Here → ℕ → List Value → Leave → State → Tour → Type 0
+      Leaves h t s = Leaving program fit verified w h t s
 
-    else_runs : (h : Here) (pc : ℕ) (at : Span) (s : List Value) (e : Tree) (ca cb : List Line) (fa fb : Act (Unit {0})) → HasKind program.shape methods limit locals class e k.Bool → Effect h ca (pc + length (tree_code methods program.texts pc e) + 1) s fa → Effect h cb (pc + length (tree_code methods program.texts pc e) + 1 + length ca + 1) s fb →
-        Effect h (else_code pc at (tree_code methods program.texts pc e) ca cb) pc s (λ st. and_then (value (called methods n) h.at e st) (λ v. choose (is_true v) fa fb))
-    else_runs h pc at s e ca cb fa fb typed ra rb t st c le q has a =
-        let ct = tree_code methods program.texts pc e in
-        let f = pc + length ct + 1 + length ca + 1 in
-        let x = f + length cb in
-        let end = pc + length (else_code pc at ct ca cb) in
-        let l = has_back program fit verified h.fn pc ct _ has in
-        let l1 = has_back program fit verified h.fn (pc + length ct + 1) ca _ l.1 in
-        let len : x ≡ end = omega (arith, length-append ct (line (i.JumpFalse f) at ∷ (ca ++ line (i.Jump x) at ∷ cb)), length-append ca (line (i.Jump x) at ∷ cb)) in
-        bind program fit verified c (OnTop program fit verified methods h (pc + length ct) s) (Low t) (Onward program fit verified h end s) (Low t) (value (called methods n) h.at e st) (λ v. choose (is_true v) fa fb)
-        (value_runs program fit verified methods made n calls limit locals class h e k.Bool typed t pc s st c le q (has_front program fit verified h.fn pc ct _ has) a)
-        (λ v st1 d a1 q1. picks program fit verified methods h (pc + length ct) f v s st1 d a1 at l.0 (Onward program fit verified h end s) (Low t) fa fb
-        (λ d2 a2. then_jump h (pc + length ct + 1 + length ca) x t s at l1.0 end len d2 (fa st1) (ra t st1 d2 le q1 (has_front program fit verified h.fn _ ca _ l.1) a2))
-        (λ d2 a2. ended h x end t s d2 (fb st1) len (rb t st1 d2 le q1 l1.1 a2)))
+      if_runs : (h : Here) (pc : ℕ) (at : Span) (s : List Value) (e : Tree) (ca : List Line) (fa : Act (Unit {0})) → HasKind program.shape methods limit locals class e k.Bool → Effect program fit verified methods n w h ca (pc + length (tree_code methods program.texts pc e) + 1) s fa →
+          Effect program fit verified methods n w h (if_code pc at (tree_code methods program.texts pc e) ca) pc s (λ st. and_then (value (called methods n) h.at e st) (λ v. choose (is_true v) fa (give tt)))
+      if_runs h pc at s e ca fa typed ra t st c le q has a =
+          let ct = tree_code methods program.texts pc e in
+          let x = pc + length ct + 1 + length ca in
+          let end = pc + length (if_code pc at ct ca) in
+          let l = has_back program fit verified h.fn pc ct _ has in
+          let len : x ≡ end = omega (arith, length-append ct (line (i.JumpFalse x) at ∷ ca)) in
+          bind_to program fit verified c (OnTop program fit verified methods h (pc + length ct) s) (Low t) (Onward program fit verified h end s) (Low t) (Leaves h t s) (value (called methods n) h.at e st) (λ v. choose (is_true v) fa (give tt))
+          (value_runs program fit verified methods made n calls limit locals class h e k.Bool typed t pc s st c le q (has_front program fit verified h.fn pc ct _ has) a)
+          (λ v st1 d a1 q1. picks_on program fit verified h (pc + length ct) x v s st1 d a1 at l.0 (Onward program fit verified h end s) (Low t) (Leaves h t s) fa (give tt)
+          (λ d2 a2. ended program fit verified methods n w h x end t s d2 (fa st1) len (ra t st1 d2 le q1 l.1 a2))
+          (λ d2 a2. performs program fit verified d2 (Onward program fit verified h end s) (Low t) (Leaves h t s) (Done tt st1) (done program fit verified d2 (Onward program fit verified h end s) (Low t) tt st1 (place_is program fit verified h x end s st1 d2 len a2) q1)))
 
-    then_runs : (h : Here) (pc : ℕ) (s : List Value) (ca cb : List Line) (fa fb : Act (Unit {0})) → Effect h ca pc s fa → Effect h cb (pc + length ca) s fb → Effect h (ca ++ cb) pc s (fa >> fb)
-    then_runs h pc s ca cb fa fb ra rb t st c le q has a =
-        let len : pc + length ca + length cb ≡ pc + length (ca ++ cb) = omega (arith, length-append ca cb) in
-        bind program fit verified c (Onward program fit verified h (pc + length ca) s) (Low t) (Onward program fit verified h (pc + length (ca ++ cb)) s) (Low t) (fa st) (λ u. fb) (ra t st c le q (has_front program fit verified h.fn pc ca _ has) a)
-        (λ u st1 d a1 q1. ended h (pc + length ca + length cb) _ t s d (fb st1) len (rb t st1 d le q1 (has_back program fit verified h.fn pc ca cb has) a1))
+      else_runs : (h : Here) (pc : ℕ) (at : Span) (s : List Value) (e : Tree) (b : Bool) (ca cb : List Line) (fa fb : Act (Unit {0})) → HasKind program.shape methods limit locals class e k.Bool → (b ≡ true → (st : State) → NeverDone (fa st)) → Effect program fit verified methods n w h ca (pc + length (tree_code methods program.texts pc e) + 1) s fa → Effect program fit verified methods n w h cb (behind b (pc + length (tree_code methods program.texts pc e) + 1 + length ca)) s fb →
+          Effect program fit verified methods n w h (else_code pc at (tree_code methods program.texts pc e) b ca cb) pc s (λ st. and_then (value (called methods n) h.at e st) (λ v. choose (is_true v) fa fb))
+      else_runs h pc at s e true ca cb fa fb typed never ra rb t st c le q has a =
+          let ct = tree_code methods program.texts pc e in
+          let f = pc + length ct + 1 + length ca in
+          let x = f + length cb in
+          let end = pc + length (else_code pc at ct true ca cb) in
+          let l = has_back program fit verified h.fn pc ct _ has in
+          let l1 = has_back program fit verified h.fn (pc + length ct + 1) ca cb l.1 in
+          let len : x ≡ end = omega (arith, length-append ct (line (i.JumpFalse f) at ∷ (ca ++ cb)), length-append ca cb) in
+          bind_to program fit verified c (OnTop program fit verified methods h (pc + length ct) s) (Low t) (Onward program fit verified h end s) (Low t) (Leaves h t s) (value (called methods n) h.at e st) (λ v. choose (is_true v) fa fb)
+          (value_runs program fit verified methods made n calls limit locals class h e k.Bool typed t pc s st c le q (has_front program fit verified h.fn pc ct _ has) a)
+          (λ v st1 d a1 q1. picks_on program fit verified h (pc + length ct) f v s st1 d a1 at l.0 (Onward program fit verified h end s) (Low t) (Leaves h t s) fa fb
+          (λ d2 a2. never_ends program fit verified d2 (Onward program fit verified h f s) (Low t) (Leaves h t s) (Onward program fit verified h end s) (Low t) (fa st1) (never refl st1) (ra t st1 d2 le q1 (has_front program fit verified h.fn _ ca cb l.1) a2))
+          (λ d2 a2. ended program fit verified methods n w h x end t s d2 (fb st1) len (rb t st1 d2 le q1 l1 a2)))
+      else_runs h pc at s e false ca cb fa fb typed never ra rb t st c le q has a =
+          let ct = tree_code methods program.texts pc e in
+          let f = pc + length ct + 1 + length ca + 1 in
+          let x = f + length cb in
+          let end = pc + length (else_code pc at ct false ca cb) in
+          let l = has_back program fit verified h.fn pc ct _ has in
+          let l1 = has_back program fit verified h.fn (pc + length ct + 1) ca _ l.1 in
+          let len : x ≡ end = omega (arith, length-append ct (line (i.JumpFalse f) at ∷ (ca ++ line (i.Jump x) at ∷ cb)), length-append ca (line (i.Jump x) at ∷ cb)) in
+          bind_to program fit verified c (OnTop program fit verified methods h (pc + length ct) s) (Low t) (Onward program fit verified h end s) (Low t) (Leaves h t s) (value (called methods n) h.at e st) (λ v. choose (is_true v) fa fb)
+          (value_runs program fit verified methods made n calls limit locals class h e k.Bool typed t pc s st c le q (has_front program fit verified h.fn pc ct _ has) a)
+          (λ v st1 d a1 q1. picks_on program fit verified h (pc + length ct) f v s st1 d a1 at l.0 (Onward program fit verified h end s) (Low t) (Leaves h t s) fa fb
+          (λ d2 a2. then_jump program fit verified methods n w h (pc + length ct + 1 + length ca) x t s at l1.0 end len d2 (fa st1) (ra t st1 d2 le q1 (has_front program fit verified h.fn _ ca _ l.1) a2))
+          (λ d2 a2. ended program fit verified methods n w h x end t s d2 (fb st1) len (rb t st1 d2 le q1 l1.1 a2)))
 
-    for_runs : (h : Here) (pc : ℕ) (at : Span) (counter : ℕ) (s : List Value) (from to : Tree) (cb : List Line) (fb : Act (Unit {0})) → HasKind program.shape methods limit locals class from k.Int → HasKind program.shape methods limit locals class to k.Int →
-        Effect h cb (block_at (loop_at pc (length (tree_code methods program.texts pc from)) (length (tree_code methods program.texts (pc + length (tree_code methods program.texts pc from) + 1) to)))) s fb →
-        Effect h (tree_code methods program.texts pc from ++ line (i.Store counter) at ∷ (tree_code methods program.texts (pc + length (tree_code methods program.texts pc from) + 1) to ++ line (i.Store (counter + 1)) at ∷ while_code (loop_at pc (length (tree_code methods program.texts pc from)) (length (tree_code methods program.texts (pc + length (tree_code methods program.texts pc from) + 1) to))) at (test_code counter at) (turn_code counter at cb))) pc s
-        (value (called methods n) h.at from >>= (λ a. set_local counter a >> (value (called methods n) h.at to >>= (λ b. set_local (counter + 1) b >> while_turns n (for_test counter at) (for_body counter at fb) at))))
-    for_runs h pc at counter s from to cb fb typed_from typed_to rb t st c le q has a =
-        bind program fit verified c (OnTop program fit verified methods h (pc + length cf) s) (Low t) After (Low t) (value (called methods n) h.at from st) (λ a. set_local counter a >> (value (called methods n) h.at to >>= (λ b. set_local (counter + 1) b >> while_turns n test body at)))
-        (value_runs program fit verified methods made n calls limit locals class h from k.Int typed_from t pc s st c le q (has_front program fit verified h.fn pc cf _ has) a)
-        (λ x st1 d1 a1 q1. bind program fit verified d1 (Onward program fit verified h p1 s) (Low t) After (Low t) (set_local counter x st1) (λ u. value (called methods n) h.at to >>= (λ b. set_local (counter + 1) b >> while_turns n test body at))
-        (stored h (pc + length cf) p1 t counter s at (next (pc + length cf)) l0.0 x st1 d1 q1 a1)
-        (λ u st2 d2 a2 q2. bind program fit verified d2 (OnTop program fit verified methods h (p1 + length ct) s) (Low t) After (Low t) (value (called methods n) h.at to st2) (λ b. set_local (counter + 1) b >> while_turns n test body at)
-        (value_runs program fit verified methods made n calls limit locals class h to k.Int typed_to t p1 s st2 d2 le q2 (has_front program fit verified h.fn p1 ct _ l0.1) a2)
-        (λ y st3 d3 a3 q3. bind program fit verified d3 (Onward program fit verified h m s) (Low t) After (Low t) (set_local (counter + 1) y st3) (λ u. while_turns n test body at)
-        (stored h (p1 + length ct) m t (counter + 1) s at (next (p1 + length ct)) l1.0 y st3 d3 q3 a3)
-        (λ u st4 d4 a4 q4. ended h (m + length loop) end t s d4 (while_turns n test body at st4) len
-        (while_runs h m at s (test_code counter at) (turn_code counter at cb) test body l1.1 test_runs body_runs n t le le st4 d4 q4 a4)))))
-      where
-        cf : List Line
-        cf = tree_code methods program.texts pc from
+      then_runs : (h : Here) (pc : ℕ) (s : List Value) (ca cb : List Line) (fa fb : Act (Unit {0})) → Effect program fit verified methods n w h ca pc s fa → Effect program fit verified methods n w h cb (pc + length ca) s fb → Effect program fit verified methods n w h (ca ++ cb) pc s (fa >> fb)
+      then_runs h pc s ca cb fa fb ra rb t st c le q has a =
+          let len : pc + length ca + length cb ≡ pc + length (ca ++ cb) = omega (arith, length-append ca cb) in
+          bind_on program fit verified c (Onward program fit verified h (pc + length ca) s) (Low t) (Leaves h t s) (Onward program fit verified h (pc + length (ca ++ cb)) s) (Low t) (Leaves h t s) (fa st) (λ u. fb) (ra t st c le q (has_front program fit verified h.fn pc ca _ has) a) (λ l st d x. x)
+          (λ u st1 d a1 q1. ended program fit verified methods n w h (pc + length ca + length cb) _ t s d (fb st1) len (rb t st1 d le q1 (has_back program fit verified h.fn pc ca cb has) a1))
 
-        p1 : ℕ
-        p1 = pc + length cf + 1
+      -- a turn of a loop over numbers
+      turn_runs : (h : Here) (b0 : ℕ) (at : Span) (counter : ℕ) (s : List Value) (b : Bool) (cb : List Line) (fb : Act (Unit {0})) → (b ≡ true → (st : State) → NeverDone (fb st)) → Effect program fit verified methods n w h cb (b0 + 1 + 1) s fb → Effect program fit verified methods n w h (turn_code counter at b cb) b0 s (for_body counter at fb)
+      turn_runs h b0 at counter s true cb fb never rb t st c le q lb a =
+          let turned = Onward program fit verified h (b0 + length (turn_code counter at true cb)) s in
+          bind_to program fit verified c (OnTop program fit verified methods h (b0 + 1) s) (Low t) turned (Low t) (Leaves h t s) (get_local counter st) (λ i. set_local (counter + 2) i >> (fb >> (get_local counter >>= (λ j. answer (apply_row row_add (j ∷ v.Int (pos 1) ∷ [])) at >>= set_local counter))))
+          (load_runs program fit verified h b0 (b0 + 1) t counter s st c a at (next b0) lb.0 q)
+          (λ x st1 d1 a1 q1. bind_to program fit verified d1 (Onward program fit verified h (b0 + 1 + 1) s) (Low t) turned (Low t) (Leaves h t s) (set_local (counter + 2) x st1) (λ u. fb >> (get_local counter >>= (λ j. answer (apply_row row_add (j ∷ v.Int (pos 1) ∷ [])) at >>= set_local counter)))
+          (stored h (b0 + 1) (b0 + 1 + 1) t (counter + 2) s at (next (b0 + 1)) lb.1.0 x st1 d1 q1 a1)
+          (λ u st2 d2 a2 q2. bind_on program fit verified d2 (λ u st d. ⊥) (Low t) (Leaves h t s) turned (Low t) (Leaves h t s) (fb st2) (λ u. get_local counter >>= (λ j. answer (apply_row row_add (j ∷ v.Int (pos 1) ∷ [])) at >>= set_local counter))
+          (never_ends program fit verified d2 (Onward program fit verified h (b0 + 1 + 1 + length cb) s) (Low t) (Leaves h t s) (λ u st d. ⊥) (Low t) (fb st2) (never refl st2) (rb t st2 d2 le q2 lb.1.1 a2)) (λ l st d x. x)
+          (λ u st3 d3 a3 q3. absurd a3)))
+      turn_runs h b0 at counter s false cb fb never rb t st c le q lb a =
+          let last_of = line (i.Load counter) at ∷ line (i.PushInt (pos 1)) at ∷ line (i.Op row_add) at ∷ line (i.Store counter) at ∷ [] in
+          let e0 = b0 + 1 + 1 + length cb in
+          let le0 = has_back program fit verified h.fn (b0 + 1 + 1) cb last_of lb.1.1 in
+          let turned = Onward program fit verified h (b0 + length (turn_code counter at false cb)) s in
+          let len' : suc (e0 + 1 + 1 + 1) ≡ b0 + length (turn_code counter at false cb) = omega (arith, length-append cb last_of) in
+          bind_to program fit verified c (OnTop program fit verified methods h (b0 + 1) s) (Low t) turned (Low t) (Leaves h t s) (get_local counter st) (λ i. set_local (counter + 2) i >> (fb >> (get_local counter >>= (λ j. answer (apply_row row_add (j ∷ v.Int (pos 1) ∷ [])) at >>= set_local counter))))
+          (load_runs program fit verified h b0 (b0 + 1) t counter s st c a at (next b0) lb.0 q)
+          (λ x st1 d1 a1 q1. bind_to program fit verified d1 (Onward program fit verified h (b0 + 1 + 1) s) (Low t) turned (Low t) (Leaves h t s) (set_local (counter + 2) x st1) (λ u. fb >> (get_local counter >>= (λ j. answer (apply_row row_add (j ∷ v.Int (pos 1) ∷ [])) at >>= set_local counter)))
+          (stored h (b0 + 1) (b0 + 1 + 1) t (counter + 2) s at (next (b0 + 1)) lb.1.0 x st1 d1 q1 a1)
+          (λ u st2 d2 a2 q2. bind_on program fit verified d2 (Onward program fit verified h e0 s) (Low t) (Leaves h t s) turned (Low t) (Leaves h t s) (fb st2) (λ u. get_local counter >>= (λ j. answer (apply_row row_add (j ∷ v.Int (pos 1) ∷ [])) at >>= set_local counter))
+          (rb t st2 d2 le q2 (has_front program fit verified h.fn (b0 + 1 + 1) cb last_of lb.1.1) a2) (λ l st d x. x)
+          (λ u st3 d3 a3 q3. performs program fit verified d3 turned (Low t) (Leaves h t s) ((get_local counter >>= (λ j. answer (apply_row row_add (j ∷ v.Int (pos 1) ∷ [])) at >>= set_local counter)) st3)
+          (bind program fit verified d3 (OnTop program fit verified methods h (e0 + 1) s) (Low t) turned (Low t) (get_local counter st3) (λ j. answer (apply_row row_add (j ∷ v.Int (pos 1) ∷ [])) at >>= set_local counter)
+          (load_runs program fit verified h e0 (e0 + 1) t counter s st3 d3 a3 at (next e0) le0.0 q3)
+          (λ y st4 d4 a4 q4. bind program fit verified d4 (OnTop program fit verified methods h (e0 + 1 + 1) (y ∷ s)) (Low t) turned (Low t) (Done (v.Int (pos 1)) st4) (λ one. answer (apply_row row_add (y ∷ one ∷ [])) at >>= set_local counter)
+          (push_runs program fit verified h (e0 + 1) (e0 + 1 + 1) (y ∷ s) st4 d4 a4 (i.PushInt (pos 1)) at le0.1.0 (v.Int (pos 1)) (Low t) (next (e0 + 1)) refl q4)
+          (λ one st5 d5 a5 q5. bind program fit verified d5 (OnTop program fit verified methods h (e0 + 1 + 1 + 1) s) (Low t) turned (Low t) (answer (apply_row row_add (y ∷ one ∷ [])) at st5) (set_local counter)
+          (row_runs program fit verified h (e0 + 1 + 1) (e0 + 1 + 1 + 1) t row_add (y ∷ one ∷ []) s st5 d5 a5 at (next (e0 + 1 + 1)) takes_add le0.1.1.0 q5)
+          (λ z st6 d6 a6 q6. stored h (e0 + 1 + 1 + 1) (b0 + length (turn_code counter at false cb)) t counter s at len' le0.1.1.1.0 z st6 d6 q6 a6)))))))
 
-        ct : List Line
-        ct = tree_code methods program.texts p1 to
+      never_turn : (counter : ℕ) (at : Span) (fb : Act (Unit {0})) → ((st : State) → NeverDone (fb st)) → (st : State) → NeverDone (for_body counter at fb st)
+      never_turn counter at fb never st = never_first (fb _) _ (never _)
 
-        m : ℕ
-        m = p1 + length ct + 1
+      for_runs : (h : Here) (pc : ℕ) (at : Span) (counter : ℕ) (s : List Value) (from to : Tree) (b : Bool) (cb : List Line) (fb : Act (Unit {0})) → HasKind program.shape methods limit locals class from k.Int → HasKind program.shape methods limit locals class to k.Int → (b ≡ true → (st : State) → NeverDone (fb st)) →
+          Effect program fit verified methods n w h cb (block_at (loop_at pc (length (tree_code methods program.texts pc from)) (length (tree_code methods program.texts (pc + length (tree_code methods program.texts pc from) + 1) to)))) s fb →
+          Effect program fit verified methods n w h (tree_code methods program.texts pc from ++ line (i.Store counter) at ∷ (tree_code methods program.texts (pc + length (tree_code methods program.texts pc from) + 1) to ++ line (i.Store (counter + 1)) at ∷ while_code (loop_at pc (length (tree_code methods program.texts pc from)) (length (tree_code methods program.texts (pc + length (tree_code methods program.texts pc from) + 1) to))) at (test_code counter at) b (turn_code counter at b cb))) pc s
+          (value (called methods n) h.at from >>= (λ a. set_local counter a >> (value (called methods n) h.at to >>= (λ b. set_local (counter + 1) b >> while_turns n (for_test counter at) (for_body counter at fb) at))))
+      for_runs h pc at counter s from to b cb fb typed_from typed_to never rb t st c le q has a =
+          bind_to program fit verified c (OnTop program fit verified methods h (pc + length cf) s) (Low t) After (Low t) (Leaves h t s) (value (called methods n) h.at from st) (λ a. set_local counter a >> (value (called methods n) h.at to >>= (λ b. set_local (counter + 1) b >> while_turns n test body at)))
+          (value_runs program fit verified methods made n calls limit locals class h from k.Int typed_from t pc s st c le q (has_front program fit verified h.fn pc cf _ has) a)
+          (λ x st1 d1 a1 q1. bind_to program fit verified d1 (Onward program fit verified h p1 s) (Low t) After (Low t) (Leaves h t s) (set_local counter x st1) (λ u. value (called methods n) h.at to >>= (λ b. set_local (counter + 1) b >> while_turns n test body at))
+          (stored h (pc + length cf) p1 t counter s at (next (pc + length cf)) l0.0 x st1 d1 q1 a1)
+          (λ u st2 d2 a2 q2. bind_to program fit verified d2 (OnTop program fit verified methods h (p1 + length ct) s) (Low t) After (Low t) (Leaves h t s) (value (called methods n) h.at to st2) (λ b. set_local (counter + 1) b >> while_turns n test body at)
+          (value_runs program fit verified methods made n calls limit locals class h to k.Int typed_to t p1 s st2 d2 le q2 (has_front program fit verified h.fn p1 ct _ l0.1) a2)
+          (λ y st3 d3 a3 q3. bind_to program fit verified d3 (Onward program fit verified h m s) (Low t) After (Low t) (Leaves h t s) (set_local (counter + 1) y st3) (λ u. while_turns n test body at)
+          (stored h (p1 + length ct) m t (counter + 1) s at (next (p1 + length ct)) l1.0 y st3 d3 q3 a3)
+          (λ u st4 d4 a4 q4. ended program fit verified methods n w h (m + length loop) end t s d4 (while_turns n test body at st4) len
+          (while_runs program fit verified methods n w h m at s (test_code counter at) b (turn_code counter at b cb) test body l1.1 (λ e. never_turn counter at fb (never e)) test_runs
+          (λ t' le' st' c' q' a'. turn_runs h (m + 3 + 1 + 1) at counter s b cb fb never rb t' st' c' le' q' stands.1 a') n t le le st4 d4 q4 a4)))))
+        where
+          cf : List Line
+          cf = tree_code methods program.texts pc from
 
-        loop : List Line
-        loop = while_code m at (test_code counter at) (turn_code counter at cb)
+          p1 : ℕ
+          p1 = pc + length cf + 1
 
-        test : Act Value
-        test = for_test counter at
+          ct : List Line
+          ct = tree_code methods program.texts p1 to
 
-        body : Act (Unit {0})
-        body = for_body counter at fb
+          m : ℕ
+          m = p1 + length ct + 1
 
-        end : ℕ
-        end = pc + length (cf ++ line (i.Store counter) at ∷ (ct ++ line (i.Store (counter + 1)) at ∷ loop))
+          loop : List Line
+          loop = while_code m at (test_code counter at) b (turn_code counter at b cb)
 
-        After : Unit {0} → State → Tour → Type 0
-        After = Onward program fit verified h end s
+          test : Act Value
+          test = for_test counter at
 
-        l0 : HasAt program fit verified h.fn (pc + length cf) (line (i.Store counter) at ∷ (ct ++ line (i.Store (counter + 1)) at ∷ loop))
-        l0 = has_back program fit verified h.fn pc cf _ has
+          body : Act (Unit {0})
+          body = for_body counter at fb
 
-        l1 : HasAt program fit verified h.fn (p1 + length ct) (line (i.Store (counter + 1)) at ∷ loop)
-        l1 = has_back program fit verified h.fn p1 ct _ l0.1
+          end : ℕ
+          end = pc + length (cf ++ line (i.Store counter) at ∷ (ct ++ line (i.Store (counter + 1)) at ∷ loop))
 
-        len : m + length loop ≡ end
-        len = omega (arith, length-append cf (line (i.Store counter) at ∷ (ct ++ line (i.Store (counter + 1)) at ∷ loop)), length-append ct (line (i.Store (counter + 1)) at ∷ loop))
+          After : Unit {0} → State → Tour → Type 0
+          After = Onward program fit verified h end s
 
-        after_test : List Line
-        after_test = line (i.JumpFalse (m + length (test_code counter at) + 1 + 1 + length (turn_code counter at cb) + 1)) at ∷ line i.Tick at ∷ (turn_code counter at cb ++ line (i.Jump m) at ∷ [])
+          l0 : HasAt program fit verified h.fn (pc + length cf) (line (i.Store counter) at ∷ (ct ++ line (i.Store (counter + 1)) at ∷ loop))
+          l0 = has_back program fit verified h.fn pc cf _ has
 
-        last_of : List Line
-        last_of = line (i.Load counter) at ∷ line (i.PushInt (pos 1)) at ∷ line (i.Op row_add) at ∷ line (i.Store counter) at ∷ []
+          l1 : HasAt program fit verified h.fn (p1 + length ct) (line (i.Store (counter + 1)) at ∷ loop)
+          l1 = has_back program fit verified h.fn p1 ct _ l0.1
 
-        test_runs : (t : ℕ) → t ≤ n → (st : State) (c : Tour) → st.world.ticks ≤ t → At program fit verified h m s st c → Follows program fit verified c (OnTop program fit verified methods h (m + 3) s) (Low t) (test st)
-        test_runs t le st c q a =
-            let lt = has_front program fit verified h.fn m (test_code counter at) after_test l1.1 in
-            let e : suc (m + 1 + 1) ≡ m + 3 = omega arith in
-            bind program fit verified c (OnTop program fit verified methods h (m + 1) s) (Low t) (OnTop program fit verified methods h (m + 3) s) (Low t) (get_local counter st) (λ i. get_local (counter + 1) >>= (λ bound. answer (apply_row row_lt (i ∷ bound ∷ [])) at))
-            (load_runs program fit verified h m (m + 1) t counter s st c a at (next m) lt.0 q)
-            (λ x st1 d1 a1 q1. bind program fit verified d1 (OnTop program fit verified methods h (m + 1 + 1) (x ∷ s)) (Low t) (OnTop program fit verified methods h (m + 3) s) (Low t) (get_local (counter + 1) st1) (λ bound. answer (apply_row row_lt (x ∷ bound ∷ [])) at)
-            (load_runs program fit verified h (m + 1) (m + 1 + 1) t (counter + 1) (x ∷ s) st1 d1 a1 at (next (m + 1)) lt.1.0 q1)
-            (λ y st2 d2 a2 q2. row_runs program fit verified h (m + 1 + 1) (m + 3) t row_lt (x ∷ y ∷ []) s st2 d2 a2 at e takes_lt lt.1.1.0 q2))
+          len : m + length loop ≡ end
+          len = omega (arith, length-append cf (line (i.Store counter) at ∷ (ct ++ line (i.Store (counter + 1)) at ∷ loop)), length-append ct (line (i.Store (counter + 1)) at ∷ loop))
 
-        body_runs : (t : ℕ) → t ≤ n → (st : State) (c : Tour) → st.world.ticks ≤ t → At program fit verified h (m + 3 + 1 + 1) s st c → Follows program fit verified c (Onward program fit verified h (m + 3 + 1 + 1 + length (turn_code counter at cb)) s) (Low t) (body st)
-        body_runs t le st c q a =
-            let b0 = m + 3 + 1 + 1 in
-            let lw = has_back program fit verified h.fn m (test_code counter at) after_test l1.1 in
-            let lb = has_front program fit verified h.fn b0 (turn_code counter at cb) (line (i.Jump m) at ∷ []) lw.1.1 in
-            let e0 = b0 + 1 + 1 + length cb in
-            let le0 = has_back program fit verified h.fn (b0 + 1 + 1) cb last_of lb.1.1 in
-            let turned = Onward program fit verified h (b0 + length (turn_code counter at cb)) s in
-            let len' : suc (e0 + 1 + 1 + 1) ≡ b0 + length (turn_code counter at cb) = omega (arith, length-append cb (line (i.Load counter) at ∷ line (i.PushInt (pos 1)) at ∷ line (i.Op row_add) at ∷ line (i.Store counter) at ∷ [])) in
-            bind program fit verified c (OnTop program fit verified methods h (b0 + 1) s) (Low t) turned (Low t) (get_local counter st) (λ i. set_local (counter + 2) i >> (fb >> (get_local counter >>= (λ j. answer (apply_row row_add (j ∷ v.Int (pos 1) ∷ [])) at >>= set_local counter))))
-            (load_runs program fit verified h b0 (b0 + 1) t counter s st c a at (next b0) lb.0 q)
-            (λ x st1 d1 a1 q1. bind program fit verified d1 (Onward program fit verified h (b0 + 1 + 1) s) (Low t) turned (Low t) (set_local (counter + 2) x st1) (λ u. fb >> (get_local counter >>= (λ j. answer (apply_row row_add (j ∷ v.Int (pos 1) ∷ [])) at >>= set_local counter)))
-            (stored h (b0 + 1) (b0 + 1 + 1) t (counter + 2) s at (next (b0 + 1)) lb.1.0 x st1 d1 q1 a1)
-            (λ u st2 d2 a2 q2. bind program fit verified d2 (Onward program fit verified h e0 s) (Low t) turned (Low t) (fb st2) (λ u. get_local counter >>= (λ j. answer (apply_row row_add (j ∷ v.Int (pos 1) ∷ [])) at >>= set_local counter))
-            (rb t st2 d2 le q2 (has_front program fit verified h.fn (b0 + 1 + 1) cb last_of lb.1.1) a2)
-            (λ u st3 d3 a3 q3. bind program fit verified d3 (OnTop program fit verified methods h (e0 + 1) s) (Low t) turned (Low t) (get_local counter st3) (λ j. answer (apply_row row_add (j ∷ v.Int (pos 1) ∷ [])) at >>= set_local counter)
-            (load_runs program fit verified h e0 (e0 + 1) t counter s st3 d3 a3 at (next e0) le0.0 q3)
-            (λ y st4 d4 a4 q4. bind program fit verified d4 (OnTop program fit verified methods h (e0 + 1 + 1) (y ∷ s)) (Low t) turned (Low t) (Done (v.Int (pos 1)) st4) (λ one. answer (apply_row row_add (y ∷ one ∷ [])) at >>= set_local counter)
-            (push_runs program fit verified h (e0 + 1) (e0 + 1 + 1) (y ∷ s) st4 d4 a4 (i.PushInt (pos 1)) at le0.1.0 (v.Int (pos 1)) (Low t) (next (e0 + 1)) refl q4)
-            (λ one st5 d5 a5 q5. bind program fit verified d5 (OnTop program fit verified methods h (e0 + 1 + 1 + 1) s) (Low t) turned (Low t) (answer (apply_row row_add (y ∷ one ∷ [])) at st5) (set_local counter)
-            (row_runs program fit verified h (e0 + 1 + 1) (e0 + 1 + 1 + 1) t row_add (y ∷ one ∷ []) s st5 d5 a5 at (next (e0 + 1 + 1)) takes_add le0.1.1.0 q5)
-            (λ z st6 d6 a6 q6. stored h (e0 + 1 + 1 + 1) (b0 + length (turn_code counter at cb)) t counter s at len' le0.1.1.1.0 z st6 d6 q6 a6))))))
+          stands : HasAt program fit verified h.fn m (test_code counter at) × HasAt program fit verified h.fn (m + 3 + 1 + 1) (turn_code counter at b cb)
+          stands = while_stands program fit verified h.fn m at (test_code counter at) b (turn_code counter at b cb) l1.1
+
+          test_runs : (t : ℕ) → t ≤ n → (st : State) (c : Tour) → st.world.ticks ≤ t → At program fit verified h m s st c → Follows program fit verified c (OnTop program fit verified methods h (m + 3) s) (Low t) (test st)
+          test_runs t le st c q a =
+              let lt = stands.0 in
+              let e : suc (m + 1 + 1) ≡ m + 3 = omega arith in
+              bind program fit verified c (OnTop program fit verified methods h (m + 1) s) (Low t) (OnTop program fit verified methods h (m + 3) s) (Low t) (get_local counter st) (λ i. get_local (counter + 1) >>= (λ bound. answer (apply_row row_lt (i ∷ bound ∷ [])) at))
+              (load_runs program fit verified h m (m + 1) t counter s st c a at (next m) lt.0 q)
+              (λ x st1 d1 a1 q1. bind program fit verified d1 (OnTop program fit verified methods h (m + 1 + 1) (x ∷ s)) (Low t) (OnTop program fit verified methods h (m + 3) s) (Low t) (get_local (counter + 1) st1) (λ bound. answer (apply_row row_lt (x ∷ bound ∷ [])) at)
+              (load_runs program fit verified h (m + 1) (m + 1 + 1) t (counter + 1) (x ∷ s) st1 d1 a1 at (next (m + 1)) lt.1.0 q1)
+              (λ y st2 d2 a2 q2. row_runs program fit verified h (m + 1 + 1) (m + 3) t row_lt (x ∷ y ∷ []) s st2 d2 a2 at e takes_lt lt.1.1.0 q2))
 
     leaves_true : (e : Tree) (kind : Kind) → HasKind program.shape methods limit locals class e kind → leaves_value methods e ≡ true
     leaves_true (Const at x) kind typed = refl
@@ -286,7 +249,7 @@ module _ (program : Program) (fit : IsFit program) (verified : IsVerified progra
 
     -- a call as a statement
     do_runs : (h : Here) (pc : ℕ) (at : Span) (s : List Value) (e : Tree) → ((kind : Kind) × HasKind program.shape methods limit locals class e kind) ⊎ IsSilent program.shape methods limit locals class e →
-        Effect h (tree_code methods program.texts pc e ++ pop_code (leaves_value methods e) at) pc s (value (called methods n) h.at e >> give tt)
+        Plain program fit verified methods n h (tree_code methods program.texts pc e ++ pop_code (leaves_value methods e) at) pc s (value (called methods n) h.at e >> give tt)
     do_runs h pc at s e (inl (kind, typed)) t st c le q has a =
         let ce = tree_code methods program.texts pc e in
         subst (λ b. Follows program fit verified c (Onward program fit verified h (pc + length (ce ++ pop_code b at)) s) (Low t) ((value (called methods n) h.at e >> give tt) st)) (sym (leaves_true e kind typed))
@@ -319,58 +282,109 @@ module _ (program : Program) (fit : IsFit program) (verified : IsVerified progra
     do_runs h pc at s (And at' x y) (inr silent) t st c le q has a = absurd silent
     do_runs h pc at s (Or at' x y) (inr silent) t st c le q has a = absurd silent
 
-    mutual
-      pub effect_runs : (h : Here) (s : List Value) (x : Step) → IsTypedStep program.shape methods limit locals class x → (pc : ℕ) → Effect h (step_code methods program.texts pc x) pc s (effect (called methods n) n h.at x)
-      effect_runs h s (SetLocal at x e) typed pc t st c le q has a = use_runs h e typed.0 typed.2 t pc at (i.Store x) s st c le q has a (set_local x) (λ pc' pc'' e' l y st' d q' a'. stored h pc' pc'' t x s at e' l y st' d q' a')
-      effect_runs h s (SetField at x e) typed pc t st c le q has a = use_runs h e typed.0 typed.2 t pc at (i.SetField x) s st c le q has a (put_field x h.at) (λ pc' pc'' e' l y st' d q' a'. field_stored h pc' pc'' t x s at e' l y st' d q' a')
-      effect_runs h s (PutLocal at x key e) typed pc t st c le q has a =
-          two_runs h key e k.Int k.Int typed.1 typed.2 t pc at (i.PutLocal x) s st c le q has a (λ x' y. get_local x >>= (λ m. answer (apply_row row_put (m ∷ x' ∷ y ∷ [])) at >>= set_local x))
-          (λ pc' pc'' e' l x' y st' d q' a'. put_local_runs program fit verified h pc' pc'' t x x' y s st' d a' at e' l q')
-      effect_runs h s (PutField at x key e) typed pc t st c le q has a =
-          two_runs h key e k.Int k.Int typed.1 typed.2 t pc at (i.PutField x) s st c le q has a (λ x' y. get_field x h.at >>= (λ m. answer (apply_row row_put (m ∷ x' ∷ y ∷ [])) at >>= put_field x h.at))
-          (λ pc' pc'' e' l x' y st' d q' a'. put_field_runs program fit verified h pc' pc'' t x x' y s st' d a' at e' l q')
-      effect_runs h s (CutLocal at x key) typed pc t st c le q has a =
-          use_runs h key k.Int typed.1 t pc at (i.CutLocal x) s st c le q has a (λ x'. get_local x >>= (λ m. answer (apply_row row_cut (m ∷ x' ∷ [])) at >>= set_local x))
-          (λ pc' pc'' e' l x' st' d q' a'. cut_local_runs program fit verified h pc' pc'' t x x' s st' d a' at e' l q')
-      effect_runs h s (CutField at x key) typed pc t st c le q has a =
-          use_runs h key k.Int typed.1 t pc at (i.CutField x) s st c le q has a (λ x'. get_field x h.at >>= (λ m. answer (apply_row row_cut (m ∷ x' ∷ [])) at >>= put_field x h.at))
-          (λ pc' pc'' e' l x' st' d q' a'. cut_field_runs program fit verified h pc' pc'' t x x' s st' d a' at e' l q')
-      effect_runs h s (If at test body no_else) typed pc t st c le q has a =
-          let pa = pc + length (tree_code methods program.texts pc test) + 1 in
-          if_runs h pc at s test (steps_code methods program.texts pa body) (effects (called methods n) n h.at body) typed.0 (effects_run h s body typed.1 pa) t st c le q has a
-      effect_runs h s (If at test body (otherwise ss)) typed pc t st c le q has a =
-          let pa = pc + length (tree_code methods program.texts pc test) + 1 in
-          let ca = steps_code methods program.texts pa body in
-          let pb = pa + length ca + 1 in
-          else_runs h pc at s test ca (steps_code methods program.texts pb ss) (effects (called methods n) n h.at body) (effects (called methods n) n h.at ss) typed.0 (effects_run h s body typed.1 pa) (effects_run h s ss typed.2 pb) t st c le q has a
-      effect_runs h s (While at test body) typed pc t st c le q has a =
-          let ct = tree_code methods program.texts pc test in
-          let ca = steps_code methods program.texts (pc + length ct + 1 + 1) body in
-          let l = has_back program fit verified h.fn pc ct _ has in
-          while_runs h pc at s ct ca (value (called methods n) h.at test) (effects (called methods n) n h.at body) has
-          (λ t' le' st' c' q' a'. value_runs program fit verified methods made n calls limit locals class h test k.Bool typed.0 t' pc s st' c' le' q' (has_front program fit verified h.fn pc ct _ has) a')
-          (λ t' le' st' c' q' a'. effects_run h s body typed.1 (pc + length ct + 1 + 1) t' st' c' le' q' (has_front program fit verified h.fn _ ca _ l.1.1) a')
-          n t le le st c q a
-      effect_runs h s (For at counter from to body) typed pc t st c le q has a =
-          let pb = block_at (loop_at pc (length (tree_code methods program.texts pc from)) (length (tree_code methods program.texts (pc + length (tree_code methods program.texts pc from) + 1) to))) in
-          for_runs h pc at counter s from to (steps_code methods program.texts pb body) (effects (called methods n) n h.at body) typed.3 typed.4 (effects_run h s body typed.5 pb) t st c le q has a
-      effect_runs h s (Require at e) typed pc t st c le q has a =
-          use_runs h e k.Bool typed t pc at i.Require s st c le q has a (λ y. demand (is_true y) at)
-          (λ pc' pc'' e' l y st' d q' a'. require_runs program fit verified h pc' pc'' t y s st' d a' at e' l q')
-      effect_runs h s (Send at label e) typed pc t st c le q has a =
-          use_runs h e typed.0 typed.1 t pc at (i.Send (place_of_text program.texts label)) s st c le q has a (λ y st. with_world (sending label y st.world) at st)
-          (λ pc' pc'' e' l y st' d q' a'. send_runs program fit verified h pc' pc'' t label y s st' d a' at e' l q')
-      effect_runs h s (Spawn at event args) typed pc t st c le q has a =
-          let ca = trees_code methods program.texts pc args in
-          let end = pc + length (ca ++ line (i.Spawn event) at ∷ []) in
-          let len : suc (pc + length ca) ≡ end = omega (arith, length-append ca (line (i.Spawn event) at ∷ [])) in
-          bind program fit verified c (OnTops program fit verified methods h (pc + length ca) s) (Counted t typed.0.params) (Onward program fit verified h end s) (Low t) (values (called methods n) h.at args st) (λ given st. with_world (spawning event given st.world) at st)
-          (values_run program fit verified methods made n calls limit locals class h args typed.0.params typed.2 t pc s st c le q (has_front program fit verified h.fn pc ca _ has) a)
-          (λ given st1 d a1 k1. spawn_runs program fit verified h (pc + length ca) end t event typed.0 given s st1 d typed.1 (sym k1.1) a1 at len (has_back program fit verified h.fn pc ca _ has).0 k1.0)
-      effect_runs h s (Do at e) typed pc t st c le q has a = do_runs h pc at s e typed t st c le q has a
+    -- a value that is given where one is due
+    module _ (w : Within) (h : Here) (pc : ℕ) (at : Span) (s : List Value) where
+      -- the value that a return or a finish gives, and then what it does
+      given_runs : (e : Tree) (kind : Kind) → HasKind program.shape methods limit locals class e kind → (ins : Instr) (why : Option Value → Leave) (t : ℕ) (st : State) (c : Tour) → t ≤ n → st.world.ticks ≤ t → HasAt program fit verified h.fn pc (tree_code methods program.texts pc e ++ line ins at ∷ []) → At program fit verified h pc s st c →
+          ((pc' : ℕ) (x : Value) (st1 : State) (d : Tour) → IsLine program fit verified h.fn pc' ins at → At program fit verified h pc' (x ∷ s) st1 d → st1.world.ticks ≤ t → (d' : Tour) × Leads program fit verified d d' × Leaving program fit verified w h t s (why (Some x)) st1 d') →
+          Performs program fit verified c (Onward program fit verified h (pc + length (tree_code methods program.texts pc e ++ line ins at ∷ [])) s) (Low t) (Leaving program fit verified w h t s) ((maybe_value (called methods n) n h.at (Some e) >>= leave why) st)
+      given_runs e kind typed ins why t st c le q has a f =
+          let ce = tree_code methods program.texts pc e in
+          let end = Onward program fit verified h (pc + length (ce ++ line ins at ∷ [])) s in
+          subst (λ o. Performs program fit verified c end (Low t) (Leaving program fit verified w h t s) o) (sym (assoc (value (called methods n) h.at e st) (λ x. give (Some x)) (leave why)))
+          (bind_to program fit verified c (OnTop program fit verified methods h (pc + length ce) s) (Low t) end (Low t) (Leaving program fit verified w h t s) (value (called methods n) h.at e st) (λ x. leave why (Some x))
+          (value_runs program fit verified methods made n calls limit locals class h e kind typed t pc s st c le q (has_front program fit verified h.fn pc ce _ has) a)
+          (λ x st1 d a1 q1. record { is = f (pc + length ce) x st1 d (has_back program fit verified h.fn pc ce _ has).0 a1 q1 }))
 
-      pub effects_run : (h : Here) (s : List Value) (ss : Steps) → AreTyped program.shape methods limit locals class ss → (pc : ℕ) → Effect h (steps_code methods program.texts pc ss) pc s (effects (called methods n) n h.at ss)
-      effects_run h s no_steps typed pc t st c le q has a = let e : pc ≡ pc + 0 = omega arith in done program fit verified c (Onward program fit verified h (pc + 0) s) (Low t) tt st (place_is program fit verified h pc (pc + 0) s st c e a) q
-      effects_run h s (step x ss) typed pc t st c le q has a =
-          let cx = step_code methods program.texts pc x in
-          then_runs h pc s cx (steps_code methods program.texts (pc + length cx) ss) (effect (called methods n) n h.at x) (effects (called methods n) n h.at ss) (effect_runs h s x typed.0 pc) (effects_run h s ss typed.1 (pc + length cx)) t st c le q has a
+    return_runs : (w : Within) (h : Here) (pc : ℕ) (at : Span) (s : List Value) (e : Option Tree) → IsTypedReturn program.shape methods limit locals class w e → Effect program fit verified methods n w h (maybe_code methods program.texts pc e ++ line i.Return at ∷ []) pc s (maybe_value (called methods n) n h.at e >>= leave Returned)
+    return_runs (InMethod None) h pc at s None typed t st c le q has a = record { is = (c, stay program fit verified c, (record { pc = pc; place = at; is_line = has.0; is_at = a }, (q, tt))) }
+    return_runs (InMethod None) h pc at s (Some e) typed t st c le q has a = absurd typed
+    return_runs (InMethod (Some kind)) h pc at s None typed t st c le q has a = absurd typed
+    return_runs (InMethod (Some kind)) h pc at s (Some e) typed t st c le q has a =
+        given_runs (InMethod (Some kind)) h pc at s e kind typed i.Return Returned t st c le q has a
+        (λ pc' x st1 d l a1 q1. (d, stay program fit verified d, (record { pc = pc'; place = at; is_line = l; is_at = a1 }, (q1, tt))))
+    return_runs (InEvent reply) h pc at s e typed t st c le q has a = absurd typed
+
+    finish_runs : (w : Within) (h : Here) (pc : ℕ) (at : Span) (s : List Value) (e : Option Tree) → IsTypedFinish program.shape methods limit locals class w e → Effect program fit verified methods n w h (maybe_code methods program.texts pc e ++ line (finish_instr e) at ∷ []) pc s (maybe_value (called methods n) n h.at e >>= leave Finished)
+    finish_runs (InMethod result) h pc at s e typed t st c le q has a = absurd typed
+    finish_runs (InEvent None) h pc at s None typed t st c le q has a = record { is = end_runs program fit verified h pc s st c a at has.0 }
+    finish_runs (InEvent None) h pc at s (Some e) typed t st c le q has a = absurd typed
+    finish_runs (InEvent (Some kind)) h pc at s None typed t st c le q has a = absurd typed
+    finish_runs (InEvent (Some kind)) h pc at s (Some e) typed t st c le q has a =
+        given_runs (InEvent (Some kind)) h pc at s e kind typed i.Reply Finished t st c le q has a (λ pc' x st1 d l a1 q1. reply_runs program fit verified h pc' x s st1 d a1 at l)
+
+    module _ (w : Within) where
+      plainly : (h : Here) (pc t : ℕ) (s : List Value) (c : Tour) (x : Step) (st : State) → Follows program fit verified c (Onward program fit verified h (pc + length (step_code methods program.texts pc x)) s) (Low t) (effect (called methods n) n h.at x st) → Performs program fit verified c (Onward program fit verified h (pc + length (step_code methods program.texts pc x)) s) (Low t) (Leaving program fit verified w h t s) (effect (called methods n) n h.at x st)
+      plainly h pc t s c x st f = performs program fit verified c (Onward program fit verified h (pc + length (step_code methods program.texts pc x)) s) (Low t) (Leaving program fit verified w h t s) (effect (called methods n) n h.at x st) f
+
+      mutual
+        pub effect_runs : (h : Here) (s : List Value) (x : Step) → IsTypedStep program.shape methods limit locals class w x → (pc : ℕ) → Effect program fit verified methods n w h (step_code methods program.texts pc x) pc s (effect (called methods n) n h.at x)
+        effect_runs h s (SetLocal at x e) typed pc t st c le q has a =
+            plainly h pc t s c (SetLocal at x e) st (
+            use_runs h e typed.0 typed.2 t pc at (i.Store x) s st c le q has a (set_local x) (λ pc' pc'' e' l y st' d q' a'. stored h pc' pc'' t x s at e' l y st' d q' a'))
+        effect_runs h s (SetField at x e) typed pc t st c le q has a =
+            plainly h pc t s c (SetField at x e) st (
+            use_runs h e typed.0 typed.2 t pc at (i.SetField x) s st c le q has a (put_field x h.at) (λ pc' pc'' e' l y st' d q' a'. field_stored h pc' pc'' t x s at e' l y st' d q' a'))
+        effect_runs h s (PutLocal at x key e) typed pc t st c le q has a =
+            plainly h pc t s c (PutLocal at x key e) st (
+            two_runs h key e k.Int k.Int typed.1 typed.2 t pc at (i.PutLocal x) s st c le q has a (λ x' y. get_local x >>= (λ m. answer (apply_row row_put (m ∷ x' ∷ y ∷ [])) at >>= set_local x))
+            (λ pc' pc'' e' l x' y st' d q' a'. put_local_runs program fit verified h pc' pc'' t x x' y s st' d a' at e' l q'))
+        effect_runs h s (PutField at x key e) typed pc t st c le q has a =
+            plainly h pc t s c (PutField at x key e) st (
+            two_runs h key e k.Int k.Int typed.1 typed.2 t pc at (i.PutField x) s st c le q has a (λ x' y. get_field x h.at >>= (λ m. answer (apply_row row_put (m ∷ x' ∷ y ∷ [])) at >>= put_field x h.at))
+            (λ pc' pc'' e' l x' y st' d q' a'. put_field_runs program fit verified h pc' pc'' t x x' y s st' d a' at e' l q'))
+        effect_runs h s (CutLocal at x key) typed pc t st c le q has a =
+            plainly h pc t s c (CutLocal at x key) st (
+            use_runs h key k.Int typed.1 t pc at (i.CutLocal x) s st c le q has a (λ x'. get_local x >>= (λ m. answer (apply_row row_cut (m ∷ x' ∷ [])) at >>= set_local x))
+            (λ pc' pc'' e' l x' st' d q' a'. cut_local_runs program fit verified h pc' pc'' t x x' s st' d a' at e' l q'))
+        effect_runs h s (CutField at x key) typed pc t st c le q has a =
+            plainly h pc t s c (CutField at x key) st (
+            use_runs h key k.Int typed.1 t pc at (i.CutField x) s st c le q has a (λ x'. get_field x h.at >>= (λ m. answer (apply_row row_cut (m ∷ x' ∷ [])) at >>= put_field x h.at))
+            (λ pc' pc'' e' l x' st' d q' a'. cut_field_runs program fit verified h pc' pc'' t x x' s st' d a' at e' l q'))
+        effect_runs h s (If at test body no_else) typed pc t st c le q has a =
+            let pa = pc + length (tree_code methods program.texts pc test) + 1 in
+            if_runs w h pc at s test (steps_code methods program.texts pa body) (effects (called methods n) n h.at body) typed.0 (effects_run h s body typed.1 pa) t st c le q has a
+        effect_runs h s (If at test body (otherwise ss)) typed pc t st c le q has a =
+            let pa = pc + length (tree_code methods program.texts pc test) + 1 in
+            let ca = steps_code methods program.texts pa body in
+            let b = surely_ends body in
+            let pb = behind b (pa + length ca) in
+            else_runs w h pc at s test b ca (steps_code methods program.texts pb ss) (effects (called methods n) n h.at body) (effects (called methods n) n h.at ss) typed.0 (never_effects (called methods n) n h.at body) (effects_run h s body typed.1 pa) (effects_run h s ss typed.2 pb) t st c le q has a
+        effect_runs h s (While at test body) typed pc t st c le q has a =
+            let ct = tree_code methods program.texts pc test in
+            let ca = steps_code methods program.texts (pc + length ct + 1 + 1) body in
+            let l = while_stands program fit verified h.fn pc at ct (surely_ends body) ca has in
+            while_runs program fit verified methods n w h pc at s ct (surely_ends body) ca (value (called methods n) h.at test) (effects (called methods n) n h.at body) has (never_effects (called methods n) n h.at body)
+            (λ t' le' st' c' q' a'. value_runs program fit verified methods made n calls limit locals class h test k.Bool typed.0 t' pc s st' c' le' q' l.0 a')
+            (λ t' le' st' c' q' a'. effects_run h s body typed.1 (pc + length ct + 1 + 1) t' st' c' le' q' l.1 a')
+            n t le le st c q a
+        effect_runs h s (For at counter from to body) typed pc t st c le q has a =
+            let pb = block_at (loop_at pc (length (tree_code methods program.texts pc from)) (length (tree_code methods program.texts (pc + length (tree_code methods program.texts pc from) + 1) to))) in
+            for_runs w h pc at counter s from to (surely_ends body) (steps_code methods program.texts pb body) (effects (called methods n) n h.at body) typed.3 typed.4 (never_effects (called methods n) n h.at body) (effects_run h s body typed.5 pb) t st c le q has a
+        effect_runs h s (Require at e) typed pc t st c le q has a =
+            plainly h pc t s c (Require at e) st (
+            use_runs h e k.Bool typed t pc at i.Require s st c le q has a (λ y. demand (is_true y) at)
+            (λ pc' pc'' e' l y st' d q' a'. require_runs program fit verified h pc' pc'' t y s st' d a' at e' l q'))
+        effect_runs h s (Send at label e) typed pc t st c le q has a =
+            plainly h pc t s c (Send at label e) st (
+            use_runs h e typed.0 typed.1 t pc at (i.Send (place_of_text program.texts label)) s st c le q has a (λ y st. with_world (sending label y st.world) at st)
+            (λ pc' pc'' e' l y st' d q' a'. send_runs program fit verified h pc' pc'' t label y s st' d a' at e' l q'))
+        effect_runs h s (Spawn at event args) typed pc t st c le q has a =
+            plainly h pc t s c (Spawn at event args) st (
+            let ca = trees_code methods program.texts pc args in
+            let end = pc + length (ca ++ line (i.Spawn event) at ∷ []) in
+            let len : suc (pc + length ca) ≡ end = omega (arith, length-append ca (line (i.Spawn event) at ∷ [])) in
+            bind program fit verified c (OnTops program fit verified methods h (pc + length ca) s) (Counted t typed.0.params) (Onward program fit verified h end s) (Low t) (values (called methods n) h.at args st) (λ given st. with_world (spawning event given st.world) at st)
+            (values_run program fit verified methods made n calls limit locals class h args typed.0.params typed.2 t pc s st c le q (has_front program fit verified h.fn pc ca _ has) a)
+            (λ given st1 d a1 k1. spawn_runs program fit verified h (pc + length ca) end t event typed.0 given s st1 d typed.1 (sym k1.1) a1 at len (has_back program fit verified h.fn pc ca _ has).0 k1.0))
+        effect_runs h s (Do at e) typed pc t st c le q has a =
+            plainly h pc t s c (Do at e) st (
+            do_runs h pc at s e typed t st c le q has a)
+        effect_runs h s (Return at e) typed pc t st c le q has a = return_runs w h pc at s e typed t st c le q has a
+        effect_runs h s (Finish at e) typed pc t st c le q has a = finish_runs w h pc at s e typed t st c le q has a
+
+        pub effects_run : (h : Here) (s : List Value) (ss : Steps) → AreTyped program.shape methods limit locals class w ss → (pc : ℕ) → Effect program fit verified methods n w h (steps_code methods program.texts pc ss) pc s (effects (called methods n) n h.at ss)
+        effects_run h s no_steps typed pc t st c le q has a = let e : pc ≡ pc + 0 = omega arith in performs program fit verified c (Onward program fit verified h (pc + 0) s) (Low t) (Leaving program fit verified w h t s) (Done tt st) (done program fit verified c (Onward program fit verified h (pc + 0) s) (Low t) tt st (place_is program fit verified h pc (pc + 0) s st c e a) q)
+        effects_run h s (step x ss) typed pc t st c le q has a =
+            let cx = step_code methods program.texts pc x in
+            then_runs w h pc s cx (steps_code methods program.texts (pc + length cx) ss) (effect (called methods n) n h.at x) (effects (called methods n) n h.at ss) (effect_runs h s x typed.0 pc) (effects_run h s ss typed.1 (pc + length cx)) t st c le q has a

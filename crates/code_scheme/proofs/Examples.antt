@@ -7,7 +7,7 @@ use Rattle.wave_base.specs.declared.value.Value.TheVariants as v
 use Rattle.resolved_service.specs.declared.expr.Node.TheVariants as node
 use Rattle.resolved_service.specs.declared.service.Last.{Last}
 use Rattle.resolved_service.specs.declared.service.Method.{Method}
-use Rattle.resolved_service.specs.Steps.{Steps, no_steps, step, SetField, If, While, For, Require, Send, Do, no_else, otherwise}
+use Rattle.resolved_service.specs.Steps.{Steps, no_steps, step, SetField, If, While, For, Require, Send, Do, Return, Finish, no_else, otherwise}
 use Rattle.resolved_service.specs.View.{Tree, Trees, no_trees, tree, Const, Local, Field, Op, And, Or, Call, Child}
 use Rattle.service_code.specs.declared.instr.Instr.TheVariants as i
 use Rattle.code_scheme.specs.Heights.{steps_height}
@@ -30,12 +30,30 @@ counts = step (SetField (at 58) 0 (Op (at 62) 0 (two (Field (at 62) 0) (Const (a
 abbrev reply_n : Last
 reply_n = record { at = at 71; value = record { at = at 77; node = node.Field 0 } }
 
-hit : body_then (steps_code [] [] 0 counts) (λ n. reply_code [] [] n (at 32) (Some reply_n))
+hit : body_then (steps_code [] [] 0 counts) (λ n. reply_code [] [] n (at 32) false (Some reply_n))
     ≡ line (i.Field 0) (at 62) ∷ line (i.PushInt (pos 1)) (at 66) ∷ line (i.Op 0) (at 62) ∷ line (i.SetField 0) (at 58) ∷ line (i.Field 0) (at 77) ∷ line (i.Reply) (at 71) ∷ []
 hit = refl
 
 hit_height : steps_height [] counts ≡ 2
 hit_height = refl
+
+-- if true { return 7; } else { require false; }, where no Jump stands behind the first block; and a method that ends so
+abbrev returns : Steps
+returns = step (Return (at 40) (Some (Const (at 47) (num 7)))) no_steps
+
+if_return : step_code [] [] 0 (If (at 9) (Const (at 12) (v.Bool true)) returns (otherwise (step (Require (at 20) (Const (at 28) (v.Bool false))) no_steps)))
+    ≡ line (i.PushBool true) (at 12) ∷ line (i.JumpFalse 4) (at 9) ∷ line (i.PushInt (pos 7)) (at 47) ∷ line i.Return (at 40) ∷ line (i.PushBool false) (at 28) ∷ line i.Require (at 20) ∷ []
+if_return = refl
+
+while_finish : step_code [] [] 0 (While (at 9) (Const (at 15) (v.Bool true)) (step (Finish (at 21) None) no_steps))
+    ≡ line (i.PushBool true) (at 15) ∷ line (i.JumpFalse 4) (at 9) ∷ line i.Tick (at 9) ∷ line i.End (at 21) ∷ []
+while_finish = refl
+
+for_return : step_code [] [] 0 (For (at 9) 4 (Const (at 18) (num 2)) (Const (at 23) (num 5)) returns)
+    ≡ line (i.PushInt (pos 2)) (at 18) ∷ line (i.Store 4) (at 9) ∷ line (i.PushInt (pos 5)) (at 23) ∷ line (i.Store 5) (at 9)
+    ∷ line (i.Load 4) (at 9) ∷ line (i.Load 5) (at 9) ∷ line (i.Op 9) (at 9) ∷ line (i.JumpFalse 13) (at 9) ∷ line i.Tick (at 9)
+    ∷ line (i.Load 4) (at 9) ∷ line (i.Store 6) (at 9) ∷ line (i.PushInt (pos 7)) (at 47) ∷ line i.Return (at 40) ∷ []
+for_return = refl
 
 -- from instruction 10 on: both operands, and what `&&` and `||` leave out
 abbrev yes : Tree

@@ -9,13 +9,14 @@ use Rattle.std.proofs.lemmas.Option.{slice_get_within}
 use Rattle.wave_base.specs.declared.shape.EventInfo.{EventInfo}
 use Rattle.wave_base.specs.declared.shape.Shape.{Shape}
 use Rattle.wave_base.specs.declared.span.Span.{Span}
+use Rattle.wave_base.specs.declared.value.Kind.{Kind}
 use Rattle.wave_base.specs.Names.{same_bytes}
 use Rattle.resolved_service.specs.declared.service.Event.{Event}
 use Rattle.resolved_service.specs.declared.service.Last.{Last}
 use Rattle.resolved_service.specs.declared.service.Method.{Method}
 use Rattle.resolved_service.specs.declared.service.Phase.{Phase}
 use Rattle.resolved_service.specs.declared.service.Resolved.{Resolved}
-use Rattle.resolved_service.specs.Steps.{steps_in}
+use Rattle.resolved_service.specs.Steps.{Step, SetLocal, SetField, PutLocal, PutField, CutLocal, CutField, If, While, For, Require, Send, Spawn, Do, Return, Finish, Steps, no_steps, step, no_else, otherwise, steps_in, is_end, surely_ends}
 use Rattle.resolved_service.specs.View.{tree_of}
 use Rattle.service_code.specs.declared.instr.Instr.{Instr}
 use Rattle.service_code.specs.declared.instr.Instr.TheVariants as i
@@ -26,15 +27,16 @@ use Rattle.service_verify.specs.declared.point.Point.{Point}
 use Rattle.service_verify.specs.Points.{Table, judged_function, IsVerified}
 use Rattle.code_scheme.specs.Heights.{steps_height, last_height, phases_height, method_height, event_height}
 use Rattle.code_scheme.specs.Programs.{method_function, event_function, event_functions, numbers_from, functions_with, scheme_program}
-use Rattle.code_scheme.specs.Scheme.{Line, line, steps_code, tree_code, return_code, reply_code, phases_code, method_code, event_code}
+use Rattle.code_scheme.specs.Scheme.{Line, line, finish_instr, maybe_code, test_then, step_code, steps_code, tree_code, return_code, reply_code, phases_code, method_code, event_code}
 use Rattle.code_scheme.specs.Texts.{Text, with_text, with_texts, steps_uses, last_uses, phases_uses, method_uses, methods_uses, event_uses, events_uses, service_texts}
-use Rattle.code_scheme.specs.Typed.{IsTypedMethod, IsTypedEvent, IsTyped}
+use Rattle.code_scheme.specs.Typed.{InMethod, InEvent, IsTypedLast, AreTypedPhases, IsTypedMethod, IsTypedEvent, IsTyped}
 use Rattle.code_scheme.proofs.Fixed.{Among, among_front, among_back, max_left, max_right, pt}
-use Rattle.code_scheme.proofs.Flow.{flow_at}
-use Rattle.code_scheme.proofs.Judging.{Ends, ends_after, return_ends, phases_ends, accepted}
+use Rattle.code_scheme.proofs.Judging.{behind_statements, return_ends, phases_none, phases_ends, accepted}
 use Rattle.code_scheme.proofs.Made.{get_back, there_is, program_shape, method_made, event_made, number_made}
 use Rattle.code_scheme.proofs.Parts.{whole_loops, whole_calls, method_part, event_part, code_is}
 use Rattle.code_scheme.proofs.Places.{StandsAt, stands_front, stands_back, stands_all}
+use Rattle.code_scheme.proofs.Shutting.{Shut, runs_at}
+use Rattle.code_scheme.proofs.Sizes.{method_some, event_some}
 use Rattle.code_scheme.proofs.Stating.{steps_flow}
 
 -- ---- the texts that are used are among the program's
@@ -115,9 +117,6 @@ origin shape service n f h = elim (cases_lt n (length service.methods)) [
 
 -- ---- the verifier accepts it
 
-ends_same : (program : Program) (number : ℕ) (function : Function) (ls : List Line) (a size size' : ℕ) (p : Point) → size ≡ size' → Ends program number function ls a size p → Ends program number function ls a size' p
-ends_same program number function ls a size size' p e x = subst (λ n. Ends program number function ls a n p) e x
-
 module _ (shape : Shape) (service : Resolved) (typed : IsTyped shape service) where
   used : Among (scheme_program shape service).texts (methods_uses service.methods ++ events_uses service.events)
   unfolding scheme_program service_texts
@@ -133,10 +132,11 @@ module _ (shape : Shape) (service : Resolved) (typed : IsTyped shape service) wh
   unfolding method_code method_height
   method_verified n m e =
       accepted program n f ls (pt m.class []) refl refl
-      (ends_same program n f ls 0 (length cb + length rest) (length ls) (pt m.class []) (sym (length-append cb rest))
-      (ends_after program n f ls 0 (length cb) (length cb + length rest) (pt m.class []) (pt m.class [])
-      (flow_at program n f ls 0 (0 + length cb) (length cb) (pt m.class []) (pt m.class []) none_more (steps_flow program n f ls service.methods (method_made shape service) n (omega arith) m.class (steps_in m.body) t.body (among_front program.texts (steps_uses (steps_in m.body)) (last_uses m.last) uses) 0 h0 (stands_front ls 0 cb rest has)))
-      (return_ends program n f ls service.methods (method_made shape service) n (omega arith) m.class m.last m.result t.last refl refl (among_back program.texts (steps_uses (steps_in m.body)) (last_uses m.last) uses) (length cb) m.at h1 (subst (λ x. StandsAt ls x rest) none_more (stands_back ls 0 cb rest has)))))
+      (subst (λ k. Shut program n f ls 0 k (pt m.class [])) (sym (length-append cb rest))
+      (behind_statements program n f ls service.methods (method_made shape service) n (omega arith) 0 (length cb) (length cb + length rest) (pt m.class []) (pt m.class []) ended
+      (runs_at program n f ls ended 0 (0 + length cb) (length cb) (pt m.class []) (pt m.class []) none_more (steps_flow program n f ls service.methods (method_made shape service) n (omega arith) m.class (InMethod m.result) (refl, refl) (steps_in m.body) t.body (among_front program.texts (steps_uses (steps_in m.body)) (last_uses m.last) uses) 0 h0 (stands_front ls 0 cb rest has)))
+      (none ended m.result m.last t.last)
+      (on ended t.last (subst (λ x. StandsAt ls x rest) none_more (stands_back ls 0 cb rest has)))))
     where
       program : Program
       program = scheme_program shape service
@@ -151,7 +151,10 @@ module _ (shape : Shape) (service : Resolved) (typed : IsTyped shape service) wh
       cb = steps_code service.methods program.texts 0 (steps_in m.body)
 
       rest : List Line
-      rest = return_code service.methods program.texts (length cb) m.at m.last
+      rest = return_code service.methods program.texts (length cb) m.at (surely_ends (steps_in m.body)) m.last
+
+      ended : Bool
+      ended = surely_ends (steps_in m.body)
 
       t : IsTypedMethod program.shape service.methods n m
       t = method_typed n m e
@@ -171,14 +174,25 @@ module _ (shape : Shape) (service : Resolved) (typed : IsTyped shape service) wh
       none_more : 0 + length cb ≡ length cb
       none_more = omega arith
 
+      none : (b : Bool) (result : Option Kind) (last : Option Last) → IsTypedLast program.shape service.methods n m.locals m.class.0 b result last → b ≡ true → length cb ≡ length cb + length (return_code service.methods program.texts (length cb) m.at b last)
+      none true result None typed e = omega arith
+      none true None (Some last) typed e = absurd typed
+      none true (Some kind) (Some last) typed e = absurd typed
+      none false result last typed e = cc
+
+      on : (b : Bool) → IsTypedLast program.shape service.methods n m.locals m.class.0 b m.result m.last → StandsAt ls (length cb) (return_code service.methods program.texts (length cb) m.at b m.last) → b ≡ false → Shut program n f ls (length cb) (length cb + length (return_code service.methods program.texts (length cb) m.at b m.last)) (pt m.class [])
+      on true last has e = cc
+      on false last has e = return_ends program n f ls service.methods (method_made shape service) n (omega arith) m.class m.last m.result last refl refl (among_back program.texts (steps_uses (steps_in m.body)) (last_uses m.last) uses) (length cb) m.at h1 has
+
   event_verified : (k : ℕ) (info : EventInfo) (x : Event) → slice_get shape.events k ≡ Some info → slice_get service.events k ≡ Some x → (u : Table) × (judged_function (scheme_program shape service) (length service.methods + k) (event_function service.methods (scheme_program shape service).texts info x) ≡ Ok u)
   unfolding event_code event_height
   event_verified k info x is_info is_event =
       accepted program n f ls p refl refl
-      (ends_same program n f ls 0 (length cb + length rest) (length ls) p (sym (length-append cb rest))
-      (ends_after program n f ls 0 (length cb) (length cb + length rest) p p
-      (flow_at program n f ls 0 (0 + length cb) (length cb) p p none_more (steps_flow program n f ls service.methods (method_made shape service) (length service.methods) (omega arith) (record { 0 = 0 }) (steps_in x.here) t.here (among_front program.texts (steps_uses (steps_in x.here)) (phases_uses x.phases) front) 0 (omega (arith, h0)) (stands_front ls 0 cb rest has)))
-      (phases_ends program n f ls service.methods (method_made shape service) (length service.methods) (omega arith) x.phases (record { 0 = 0 }) x.last info.reply t.phases refl refl (among_back program.texts (steps_uses (steps_in x.here)) (phases_uses x.phases) front) (among_back program.texts (steps_uses (steps_in x.here) ++ phases_uses x.phases) (last_uses x.last) uses) (length cb) x.at (omega (arith, h1, h2)) (omega (arith, h1, h3)) (subst (λ y. StandsAt ls y rest) none_more (stands_back ls 0 cb rest has)))))
+      (subst (λ k. Shut program n f ls 0 k p) (sym (length-append cb rest))
+      (behind_statements program n f ls service.methods (method_made shape service) (length service.methods) (omega arith) 0 (length cb) (length cb + length rest) p p ended
+      (runs_at program n f ls ended 0 (0 + length cb) (length cb) p p none_more (steps_flow program n f ls service.methods (method_made shape service) (length service.methods) (omega arith) (record { 0 = 0 }) (InEvent info.reply) (refl, refl) (steps_in x.here) t.here (among_front program.texts (steps_uses (steps_in x.here)) (phases_uses x.phases) front) 0 (omega (arith, h0)) (stands_front ls 0 cb rest has)))
+      (none ended t.phases)
+      (on ended t.phases (subst (λ y. StandsAt ls y rest) none_more (stands_back ls 0 cb rest has)))))
     where
       program : Program
       program = scheme_program shape service
@@ -199,7 +213,10 @@ module _ (shape : Shape) (service : Resolved) (typed : IsTyped shape service) wh
       cb = steps_code service.methods program.texts 0 (steps_in x.here)
 
       rest : List Line
-      rest = phases_code service.methods program.texts (length cb) x.phases x.at x.last
+      rest = phases_code service.methods program.texts (length cb) (surely_ends (steps_in x.here)) x.phases x.at x.last
+
+      ended : Bool
+      ended = surely_ends (steps_in x.here)
 
       t : IsTypedEvent program.shape service.methods info x
       t = event_typed k info x is_info is_event
@@ -237,6 +254,14 @@ module _ (shape : Shape) (service : Resolved) (typed : IsTyped shape service) wh
       none_more : 0 + length cb ≡ length cb
       none_more = omega arith
 
+      none : (b : Bool) → AreTypedPhases program.shape service.methods (length service.methods) x.locals 0 b x.phases info.reply x.last → b ≡ true → length cb ≡ length cb + length (phases_code service.methods program.texts (length cb) b x.phases x.at x.last)
+      none true typed e = omega (arith, ap length (phases_none program n f ls service.methods (method_made shape service) (length service.methods) (omega arith) x.phases 0 x.last info.reply typed (length cb) x.at))
+      none false typed e = cc
+
+      on : (b : Bool) → AreTypedPhases program.shape service.methods (length service.methods) x.locals 0 b x.phases info.reply x.last → StandsAt ls (length cb) (phases_code service.methods program.texts (length cb) b x.phases x.at x.last) → b ≡ false → Shut program n f ls (length cb) (length cb + length (phases_code service.methods program.texts (length cb) b x.phases x.at x.last)) p
+      on true typed has e = cc
+      on false typed has e = phases_ends program n f ls service.methods (method_made shape service) (length service.methods) (omega arith) x.phases (record { 0 = 0 }) x.last info.reply typed refl refl (among_back program.texts (steps_uses (steps_in x.here)) (phases_uses x.phases) front) (among_back program.texts (steps_uses (steps_in x.here) ++ phases_uses x.phases) (last_uses x.last) uses) (length cb) x.at (omega (arith, h1, h2)) (omega (arith, h1, h3)) has
+
   pub scheme_verified : IsVerified (scheme_program shape service)
   scheme_verified = record { each = λ n f h. by n f (origin shape service n f h) }
     where
@@ -250,34 +275,6 @@ module _ (shape : Shape) (service : Resolved) (typed : IsTyped shape service) wh
   map_long g [] = refl
   map_long g (k ∷ ks) = ap suc (map_long g ks)
 
-  return_some : (T : List Text) (n : ℕ) (at : Span) (last : Option Last) → 0 < length (return_code service.methods T n at last)
-  return_some T n at None = omega arith
-  return_some T n at (Some last) = omega (arith, length-append (tree_code service.methods T n (tree_of last.value)) (line i.Return last.at ∷ []))
-
-  method_some : (T : List Text) (m : Method) → 0 < length (method_code service.methods T m)
-  unfolding method_code
-  method_some T m =
-      let cb = steps_code service.methods T 0 (steps_in m.body) in
-      omega (arith, length-append cb (return_code service.methods T (length cb) m.at m.last), return_some T (length cb) m.at m.last)
-
-  reply_some : (T : List Text) (n : ℕ) (at : Span) (last : Option Last) → 0 < length (reply_code service.methods T n at last)
-  reply_some T n at None = omega arith
-  reply_some T n at (Some last) = omega (arith, length-append (tree_code service.methods T n (tree_of last.value)) (line i.Reply last.at ∷ []))
-
-  phases_some : (T : List Text) (fs : List Phase) (n : ℕ) (at : Span) (last : Option Last) → 0 < length (phases_code service.methods T n fs at last)
-  phases_some T [] n at last = reply_some T n at last
-  phases_some T (f ∷ fs) n at last =
-      let ck = tree_code service.methods T n (tree_of f.key) in
-      let cb = steps_code service.methods T (n + length ck + 1) (steps_in f.body) in
-      let rest = phases_code service.methods T (n + length ck + 1 + length cb) fs at last in
-      omega (arith, length-append ck (line (i.Go f.class) f.at ∷ (cb ++ rest)))
-
-  event_some : (T : List Text) (x : Event) → 0 < length (event_code service.methods T x)
-  unfolding event_code
-  event_some T x =
-      let cb = steps_code service.methods T 0 (steps_in x.here) in
-      omega (arith, length-append cb (phases_code service.methods T (length cb) x.phases x.at x.last), phases_some T x.phases (length cb) x.at x.last)
-
   root_below : 0 < length shape.classes
   root_below = slice_get_within shape.classes 0 typed.shape_is.root.0 typed.shape_is.root.1
 
@@ -287,7 +284,7 @@ module _ (shape : Shape) (service : Resolved) (typed : IsTyped shape service) wh
       let part = method_part service.methods T m in
       let t = typed.methods n m e in
       record {
-        some = subst (λ k. 0 < k) (sym (map_long (λ (l : Line). l.instr) ls)) (method_some T m);
+        some = subst (λ k. 0 < k) (sym (map_long (λ (l : Line). l.instr) ls)) (method_some service.methods T m);
         places = map_long (λ (l : Line). l.place) ls ∙ sym (map_long (λ (l : Line). l.instr) ls);
         class = t.class;
         root = λ h. cc;
@@ -302,7 +299,7 @@ module _ (shape : Shape) (service : Resolved) (typed : IsTyped shape service) wh
       let part = event_part service.methods T x in
       let t = typed.events k info x a b in
       record {
-        some = subst (λ k. 0 < k) (sym (map_long (λ (l : Line). l.instr) ls)) (event_some T x);
+        some = subst (λ k. 0 < k) (sym (map_long (λ (l : Line). l.instr) ls)) (event_some service.methods T x);
         places = map_long (λ (l : Line). l.place) ls ∙ sym (map_long (λ (l : Line). l.instr) ls);
         class = root_below;
         root = λ h. refl;

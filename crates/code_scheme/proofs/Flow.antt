@@ -67,7 +67,7 @@ module _ (program : Program) (number : ℕ) (function : Function) (ls : List Lin
     nexts = λ m x. let t = s.nexts m x in (omega (arith, t.0, la), omega (arith, t.1, le), same m t.0 t.1 ∙ t.2);
   }
 
-  lower : (a a' n : ℕ) → a' ≤ a → Reached a n → Reached a' n
+  pub lower : (a a' n : ℕ) → a' ≤ a → Reached a n → Reached a' n
   lower a a' n le r = record { from = r.from; line = r.line; low = omega (arith, r.low, le); earlier = r.earlier; is_line = r.is_line; is_next = r.is_next }
 
   pub flow_none : (a e : ℕ) (p : Point) → a ≡ e → Flow a e p p
@@ -92,7 +92,7 @@ module _ (program : Program) (number : ℕ) (function : Function) (ls : List Lin
       mid : x.points b ≡ y.points b
       mid = x.ends ∙ sym y.starts
 
-  line_same : (n : ℕ) (l m : Line) → slice_get ls n ≡ Some l → slice_get ls n ≡ Some m → l ≡ m
+  pub line_same : (n : ℕ) (l m : Line) → slice_get ls n ≡ Some l → slice_get ls n ≡ Some m → l ≡ m
   line_same n l m e f = let h : Some l ≡ Some m = sym e ∙ f in cc
 
   -- an instruction that goes on with the next one

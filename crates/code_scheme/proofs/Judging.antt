@@ -1,5 +1,5 @@
 -- The ends of functions, and the verifier, which accepts what flows.
-use Rattle.std.proofs.Common.{◌≡◌, ℕ, zero, suc, ◌+◌, ◌<◌, ◌≤◌, ◌⊎◌, inl, inr, ◌&&◌, not, max, List, [], ◌∷◌, ◌++◌, length, map, true, false, Option, Some, None, refl, sym, ap, ◌∙◌, subst, arith, length-append}
+use Rattle.std.proofs.Common.{◌≡◌, ℕ, zero, suc, ◌+◌, ◌<◌, ◌≤◌, ◌⊎◌, inl, inr, ◌&&◌, not, max, List, [], ◌∷◌, ◌++◌, length, map, Bool, true, false, Option, Some, None, refl, sym, ap, ◌∙◌, subst, arith, length-append}
 use Rattle.std.specs.Prelude.{slice_get, option_to_list, is_none, ◌==◌, Ok}
 use Rattle.wave_base.specs.declared.path.Class.{Class}
 use Rattle.wave_base.specs.declared.span.Span.{Span}
@@ -8,7 +8,7 @@ use Rattle.wave_base.specs.declared.value.Kind.TheVariants as k
 use Rattle.resolved_service.specs.declared.service.Last.{Last}
 use Rattle.resolved_service.specs.declared.service.Method.{Method}
 use Rattle.resolved_service.specs.declared.service.Phase.{Phase}
-use Rattle.resolved_service.specs.Steps.{steps_in}
+use Rattle.resolved_service.specs.Steps.{steps_in, surely_ends}
 use Rattle.resolved_service.specs.View.{tree_of}
 use Rattle.service_code.specs.declared.instr.Instr.TheVariants as i
 use Rattle.service_code.specs.declared.program.Function.{Function}
@@ -21,8 +21,8 @@ use Rattle.code_scheme.specs.Heights.{tree_height, steps_height, last_height, ph
 use Rattle.code_scheme.specs.Programs.{method_function}
 use Rattle.code_scheme.specs.Scheme.{Line, line, tree_code, steps_code, return_code, reply_code, phases_code}
 use Rattle.code_scheme.specs.Texts.{tree_uses, steps_uses, last_uses, phases_uses}
-use Rattle.code_scheme.specs.Typed.{IsChild, IsTypedLast, AreTypedPhases}
-use Rattle.code_scheme.proofs.Flow.{Flow, flow_none, flow_then, flow_line}
+use Rattle.code_scheme.specs.Typed.{InEvent, IsChild, IsTypedLast, AreTypedPhases}
+use Rattle.code_scheme.proofs.Flow.{flow_line}
 use Rattle.code_scheme.proofs.Places.{StandsAt, stands_front, stands_back}
 use Rattle.std.specs.Prelude.{slice_set, replicate}
 use Rattle.std.specs.Cmp.Lexicographic.{pointwise}
@@ -32,81 +32,58 @@ use Rattle.std.proofs.lemmas.Option.{slice_get_within}
 use Rattle.service_verify.specs.Points.{Table, agreed, arrived_at, arrival, arrivals, visited_then, first_point, first_table, visit, judged_from, judged_function}
 use Rattle.service_verify.specs.Rules.{is_child_class, takes_only}
 use Rattle.service_verify.proofs.Taking.{kinds_eq_refl}
-use Rattle.code_scheme.proofs.Fixed.{kind_self, number_self, max_left, max_right, Among, among_front, among_back, pt, after_line, after_end}
+use Rattle.code_scheme.proofs.Fixed.{kind_self, number_self, max_left, max_right, Among, among_front, among_back, pt, after_line}
 use Rattle.code_scheme.proofs.Flow.{IsNext}
 use Rattle.code_scheme.proofs.Flowing.{tree_flow}
 use Rattle.code_scheme.proofs.Made.{there_is}
 use Rattle.code_scheme.proofs.Places.{stands_all}
-use Rattle.code_scheme.proofs.Stating.{steps_flow}
+use Rattle.code_scheme.proofs.Shutting.{Shut, Runs, flow_shut}
+use Rattle.code_scheme.proofs.Stating.{value_shut, line_shut, return_effect, reply_effect, end_effect, steps_flow}
 
 module _ (program : Program) (number : ℕ) (function : Function) (ls : List Line) where
-  -- it flows to a last instruction, which ends the function
-  pub record Ends (a size : ℕ) (p : Point) : Type 0 where
-    pub at : ℕ
-    pub point : Point
-    pub flow : Flow program number function ls a at p point
-    pub last : Line
-    pub is_last : slice_get ls at ≡ Some last
-    pub size_is : size ≡ at + 1
-    pub no_next : (n : ℕ) → next_of last.instr n ≡ []
-    pub after : Point
-    pub ends_as : point_after program number function last.instr point ≡ Ok after
-
-  pub ends_after : (a b size : ℕ) (p q : Point) → Flow program number function ls a b p q → Ends b size q → Ends a size p
-  ends_after a b size p q f e = record { at = e.at; point = e.point; flow = flow_then program number function ls a b e.at p q e.point f e.flow; last = e.last; is_last = e.is_last; size_is = e.size_is; no_next = e.no_next; after = e.after; ends_as = e.ends_as }
-
-  ends_here : (a size : ℕ) (p after : Point) (l : Line) → slice_get ls a ≡ Some l → size ≡ a + 1 → ((n : ℕ) → next_of l.instr n ≡ []) → point_after program number function l.instr p ≡ Ok after → Ends a size p
-  ends_here a size p after l is s none e = record { at = a; point = p; flow = flow_none program number function ls a a p refl; last = l; is_last = is; size_is = s; no_next = none; after = after; ends_as = e }
-
   module _ (methods : List Method) (made : (m : ℕ) (method : Method) → slice_get methods m ≡ Some method → slice_get program.functions m ≡ Some (method_function methods program.texts method)) (limit : ℕ) (low : limit ≤ number) where
-    return_effect : (class : ℕ) → function.is_event ≡ false → (result : Option Kind) → function.result ≡ result → effect_of program number function class i.Return ≡ Ok (record { takes = map (λ k. Some k) (option_to_list result); gives = None })
-    unfolding effect_of
-    return_effect class no_event result is = ap (λ b. must rule.Call (not b) (takes_only (map (λ k. Some k) (option_to_list function.result)))) no_event ∙ ap (λ o. takes_only (map (λ k. Some k) (option_to_list o))) is
-
-    reply_effect : (class : ℕ) → function.is_event ≡ true → (kind : Kind) → function.result ≡ Some kind → effect_of program number function class i.Reply ≡ Ok (record { takes = Some kind ∷ []; gives = None })
-    unfolding effect_of
-    reply_effect class event kind is = ap (λ b. must rule.Call b (found rule.Kind function.result (λ kind. takes_only (Some kind ∷ [])))) event ∙ ap (λ o. found rule.Kind o (λ kind. takes_only (Some kind ∷ []))) is
-
-    end_effect : (class : ℕ) → function.is_event ≡ true → function.result ≡ None → effect_of program number function class i.End ≡ Ok (record { takes = []; gives = None })
-    unfolding effect_of
-    end_effect class event is = ap (λ b. must rule.Call b (must rule.Kind (is_none function.result) (takes_only []))) event ∙ ap (λ o. must rule.Kind (is_none o) (takes_only [])) is
-
     go_effect : (class : ℕ) (d : Class) → function.is_event ≡ true → IsChild program.shape class d.0 → effect_of program number function class (i.Go d) ≡ Ok (record { takes = an_int ∷ []; gives = None })
     unfolding effect_of
     go_effect class d event child = ap (λ b. must rule.Call (b && is_child_class program.shape class d.0) (takes_only (an_int ∷ []))) event ∙ ap (λ b. must rule.Call b (takes_only (an_int ∷ []))) child
 
-    same_left : (kind : Kind) → left_below (Some kind ∷ []) (kind ∷ []) ≡ Ok []
-    same_left kind = ap (λ b. must rule.Kind b (Ok [])) (kind_self kind)
-
-    pub return_ends : (c : Class) (last : Option Last) (result : Option Kind) → IsTypedLast program.shape methods limit function.locals c.0 result last → function.is_event ≡ false → function.result ≡ result → Among program.texts (last_uses last) → (pc : ℕ) (at : Span) → last_height methods last ≤ function.stack → StandsAt ls pc (return_code methods program.texts pc at last) →
-        Ends pc (pc + length (return_code methods program.texts pc at last)) (pt c [])
-    return_ends c None None typed no_event is among pc at h has = ends_here pc _ (pt c []) _ (line i.Return at) has.0 refl (λ n. refl) (after_end program number function c i.Return [] [] (return_effect c.0 no_event None is) refl)
+    pub return_ends : (c : Class) (last : Option Last) (result : Option Kind) → IsTypedLast program.shape methods limit function.locals c.0 false result last → function.is_event ≡ false → function.result ≡ result → Among program.texts (last_uses last) → (pc : ℕ) (at : Span) → last_height methods last ≤ function.stack → StandsAt ls pc (return_code methods program.texts pc at false last) →
+        Shut program number function ls pc (pc + length (return_code methods program.texts pc at false last)) (pt c [])
+    return_ends c None None typed no_event is among pc at h has = line_shut program number function ls methods made limit low c pc (line i.Return at) has.0 (return_effect program number function ls methods made limit low c no_event None is) (λ n. refl)
     return_ends c (Some last) None typed no_event is among pc at h has = absurd typed
     return_ends c None (Some kind) typed no_event is among pc at h has = absurd typed
     return_ends c (Some last) (Some kind) typed no_event is among pc at h has =
-        let ce = tree_code methods program.texts pc (tree_of last.value) in
-        ends_after pc (pc + length ce) _ (pt c []) (pt c (kind ∷ [])) (tree_flow program number function ls methods made limit low c (tree_of last.value) kind typed among pc [] (omega (arith, h)) (stands_front ls pc ce _ has))
-        (ends_here (pc + length ce) _ (pt c (kind ∷ [])) _ (line i.Return last.at) (stands_back ls pc ce _ has).0 (omega (arith, length-append ce (line i.Return last.at ∷ []))) (λ n. refl) (after_end program number function c i.Return (Some kind ∷ []) (kind ∷ []) (return_effect c.0 no_event (Some kind) is) (same_left kind)))
+        value_shut program number function ls methods made limit low c (tree_of last.value) kind typed among pc (line i.Return last.at) h has (return_effect program number function ls methods made limit low c no_event (Some kind) is) (λ n. refl)
 
-    reply_ends : (c : Class) (last : Option Last) (result : Option Kind) → IsTypedLast program.shape methods limit function.locals c.0 result last → function.is_event ≡ true → function.result ≡ result → Among program.texts (last_uses last) → (pc : ℕ) (at : Span) → last_height methods last ≤ function.stack → StandsAt ls pc (reply_code methods program.texts pc at last) →
-        Ends pc (pc + length (reply_code methods program.texts pc at last)) (pt c [])
-    reply_ends c None None typed event is among pc at h has = ends_here pc _ (pt c []) _ (line i.End at) has.0 refl (λ n. refl) (after_end program number function c i.End [] [] (end_effect c.0 event is) refl)
+    reply_ends : (c : Class) (last : Option Last) (result : Option Kind) → IsTypedLast program.shape methods limit function.locals c.0 false result last → function.is_event ≡ true → function.result ≡ result → Among program.texts (last_uses last) → (pc : ℕ) (at : Span) → last_height methods last ≤ function.stack → StandsAt ls pc (reply_code methods program.texts pc at false last) →
+        Shut program number function ls pc (pc + length (reply_code methods program.texts pc at false last)) (pt c [])
+    reply_ends c None None typed event is among pc at h has = line_shut program number function ls methods made limit low c pc (line i.End at) has.0 (end_effect program number function ls methods made limit low c event is) (λ n. refl)
     reply_ends c (Some last) None typed event is among pc at h has = absurd typed
     reply_ends c None (Some kind) typed event is among pc at h has = absurd typed
     reply_ends c (Some last) (Some kind) typed event is among pc at h has =
-        let ce = tree_code methods program.texts pc (tree_of last.value) in
-        ends_after pc (pc + length ce) _ (pt c []) (pt c (kind ∷ [])) (tree_flow program number function ls methods made limit low c (tree_of last.value) kind typed among pc [] (omega (arith, h)) (stands_front ls pc ce _ has))
-        (ends_here (pc + length ce) _ (pt c (kind ∷ [])) _ (line i.Reply last.at) (stands_back ls pc ce _ has).0 (omega (arith, length-append ce (line i.Reply last.at ∷ []))) (λ n. refl) (after_end program number function c i.Reply (Some kind ∷ []) (kind ∷ []) (reply_effect c.0 event kind is) (same_left kind)))
+        value_shut program number function ls methods made limit low c (tree_of last.value) kind typed among pc (line i.Reply last.at) h has (reply_effect program number function ls methods made limit low c event kind is) (λ n. refl)
 
-    pub phases_ends : (fs : List Phase) (c : Class) (last : Option Last) (result : Option Kind) → AreTypedPhases program.shape methods limit function.locals c.0 fs result last → function.is_event ≡ true → function.result ≡ result → Among program.texts (phases_uses fs) → Among program.texts (last_uses last) → (pc : ℕ) (at : Span) → phases_height methods fs ≤ function.stack → last_height methods last ≤ function.stack → StandsAt ls pc (phases_code methods program.texts pc fs at last) →
-        Ends pc (pc + length (phases_code methods program.texts pc fs at last)) (pt c [])
+    -- phases behind statements that surely end are none, and no reply is there
+    pub phases_none : (fs : List Phase) (class : ℕ) (last : Option Last) (result : Option Kind) → AreTypedPhases program.shape methods limit function.locals class true fs result last → (pc : ℕ) (at : Span) → phases_code methods program.texts pc true fs at last ≡ []
+    phases_none [] class None result typed pc at = refl
+    phases_none [] class (Some last) None typed pc at = absurd typed
+    phases_none [] class (Some last) (Some kind) typed pc at = absurd typed
+    phases_none (f ∷ fs) class last result typed pc at = absurd typed
+
+    -- statements, and what stands behind them
+    pub behind_statements : (a b e : ℕ) (p q : Point) (ended : Bool) → Runs program number function ls ended a b p q → (ended ≡ true → b ≡ e) → (ended ≡ false → Shut program number function ls b e q) → Shut program number function ls a e p
+    behind_statements a b e p q true x none rest = subst (λ n. Shut program number function ls a n p) (none refl) x
+    behind_statements a b e p q false x none rest = flow_shut program number function ls a b e p q x (rest refl)
+
+    pub phases_ends : (fs : List Phase) (c : Class) (last : Option Last) (result : Option Kind) → AreTypedPhases program.shape methods limit function.locals c.0 false fs result last → function.is_event ≡ true → function.result ≡ result → Among program.texts (phases_uses fs) → Among program.texts (last_uses last) → (pc : ℕ) (at : Span) → phases_height methods fs ≤ function.stack → last_height methods last ≤ function.stack → StandsAt ls pc (phases_code methods program.texts pc false fs at last) →
+        Shut program number function ls pc (pc + length (phases_code methods program.texts pc false fs at last)) (pt c [])
     phases_ends [] c last result typed event is among among' pc at h h' has = reply_ends c last result typed event is among' pc at h' has
     phases_ends (f ∷ fs) c last result typed event is among among' pc at h h' has =
         let ck = tree_code methods program.texts pc (tree_of f.key) in
         let pk = pc + length ck in
         let cb = steps_code methods program.texts (pk + 1) (steps_in f.body) in
         let pb = pk + 1 + length cb in
-        let rest = phases_code methods program.texts pb fs at last in
+        let ended = surely_ends (steps_in f.body) in
+        let rest = phases_code methods program.texts pb ended fs at last in
         let l0 = stands_back ls pc ck (line (i.Go f.class) f.at ∷ (cb ++ rest)) has in
         let a = tree_height methods (tree_of f.key) in
         let b = steps_height methods (steps_in f.body) in
@@ -116,11 +93,24 @@ module _ (program : Program) (number : ℕ) (function : Function) (ls : List Lin
         let h2 = max_left b d in
         let h3 = max_right b d in
         let am = among_front program.texts (tree_uses (tree_of f.key) ++ steps_uses (steps_in f.body)) (phases_uses fs) among in
-        subst (λ n. Ends pc n (pt c [])) (omega (arith, length-append ck (line (i.Go f.class) f.at ∷ (cb ++ rest)), length-append cb rest))
-        (ends_after pc pk (pb + length rest) (pt c []) (pt c (k.Int ∷ [])) (tree_flow program number function ls methods made limit low c (tree_of f.key) k.Int typed.1 (among_front program.texts (tree_uses (tree_of f.key)) (steps_uses (steps_in f.body)) am) pc [] (omega (arith, h, h0)) (stands_front ls pc ck _ has))
-        (ends_after pk (pk + 1) (pb + length rest) (pt c (k.Int ∷ [])) (pt f.class []) (flow_line program number function ls pk (pk + 1) (pt c (k.Int ∷ [])) (pt f.class []) (line (i.Go f.class) f.at) refl l0.0 (λ n. refl) (after_line program number function c f.class (i.Go f.class) (an_int ∷ []) None (k.Int ∷ []) [] (go_effect c.0 f.class event typed.0) refl (omega arith) refl refl))
-        (ends_after (pk + 1) pb (pb + length rest) (pt f.class []) (pt f.class []) (steps_flow program number function ls methods made limit low f.class (steps_in f.body) typed.2 (among_back program.texts (tree_uses (tree_of f.key)) (steps_uses (steps_in f.body)) am) (pk + 1) (omega (arith, h, h1, h2)) (stands_front ls (pk + 1) cb rest l0.1))
-        (phases_ends fs f.class last result typed.3 event is (among_back program.texts (tree_uses (tree_of f.key) ++ steps_uses (steps_in f.body)) (phases_uses fs) among) among' pb at (omega (arith, h, h1, h3)) h' (stands_back ls (pk + 1) cb rest l0.1)))))
+        subst (λ n. Shut program number function ls pc n (pt c [])) (omega (arith, length-append ck (line (i.Go f.class) f.at ∷ (cb ++ rest)), length-append cb rest))
+        (flow_shut program number function ls pc pk (pb + length rest) (pt c []) (pt c (k.Int ∷ [])) (tree_flow program number function ls methods made limit low c (tree_of f.key) k.Int typed.1 (among_front program.texts (tree_uses (tree_of f.key)) (steps_uses (steps_in f.body)) am) pc [] (omega (arith, h, h0)) (stands_front ls pc ck _ has))
+        (flow_shut program number function ls pk (pk + 1) (pb + length rest) (pt c (k.Int ∷ [])) (pt f.class []) (flow_line program number function ls pk (pk + 1) (pt c (k.Int ∷ [])) (pt f.class []) (line (i.Go f.class) f.at) refl l0.0 (λ n. refl) (after_line program number function c f.class (i.Go f.class) (an_int ∷ []) None (k.Int ∷ []) [] (go_effect c.0 f.class event typed.0) refl (omega arith) refl refl))
+        (behind_statements (pk + 1) pb (pb + length rest) (pt f.class []) (pt f.class []) ended
+        (steps_flow program number function ls methods made limit low f.class (InEvent result) (event, is) (steps_in f.body) typed.2 (among_back program.texts (tree_uses (tree_of f.key)) (steps_uses (steps_in f.body)) am) (pk + 1) (omega (arith, h, h1, h2)) (stands_front ls (pk + 1) cb rest l0.1))
+        (none ended pb typed.3)
+        (on ended pb typed.3 (stands_back ls (pk + 1) cb rest l0.1) (among_back program.texts (tree_uses (tree_of f.key) ++ steps_uses (steps_in f.body)) (phases_uses fs) among) (omega (arith, h, h1, h3))
+        (λ typed' has' among'' high. phases_ends fs f.class last result typed' event is among'' among' pb at high h' has')))))
+      where
+        none : (b : Bool) (pb : ℕ) → AreTypedPhases program.shape methods limit function.locals f.class.0 b fs result last → b ≡ true → pb ≡ pb + length (phases_code methods program.texts pb b fs at last)
+        none true pb typed e = omega (arith, ap length (phases_none fs f.class.0 last result typed pb at))
+        none false pb typed e = cc
+
+        on : (b : Bool) (pb : ℕ) → AreTypedPhases program.shape methods limit function.locals f.class.0 b fs result last → StandsAt ls pb (phases_code methods program.texts pb b fs at last) → Among program.texts (phases_uses fs) → phases_height methods fs ≤ function.stack →
+            (AreTypedPhases program.shape methods limit function.locals f.class.0 false fs result last → StandsAt ls pb (phases_code methods program.texts pb false fs at last) → Among program.texts (phases_uses fs) → phases_height methods fs ≤ function.stack → Shut program number function ls pb (pb + length (phases_code methods program.texts pb false fs at last)) (pt f.class [])) →
+            b ≡ false → Shut program number function ls pb (pb + length (phases_code methods program.texts pb b fs at last)) (pt f.class [])
+        on true pb typed has among high go e = cc
+        on false pb typed has among high go e = go typed has among high
 
   -- ---- the verifier
 
@@ -250,18 +240,18 @@ module _ (program : Program) (number : ℕ) (function : Function) (ls : List Lin
                 ∙ later.1,
           )
 
-  -- so the verifier accepts what flows from the first point to an end
-  pub accepted : (p : Point) → function.code ≡ map (λ (l : Line). l.instr) ls → p ≡ first_point function → Ends 0 (length ls) p → (u : Table) × (judged_function program number function ≡ Ok u)
+  -- so the verifier accepts what stays in from the first point on
+  pub accepted : (p : Point) → function.code ≡ map (λ (l : Line). l.instr) ls → p ≡ first_point function → Shut program number function ls 0 (length ls) p → (u : Table) × (judged_function program number function ≡ Ok u)
   unfolding judged_function Before
   accepted p code first e =
       let r = judges P goes ls 0 (first_table function) (stands_all ls []) (record { long = long; fixed = fixed }) (λ m h r. begun m r) in
       (r.0, ap (λ c. judged_from program number function 0 c (first_table function)) code ∙ r.1)
     where
       P : ℕ → Point
-      P = e.flow.points
+      P = e.points
 
       first_is : P 0 ≡ first_point function
-      first_is = e.flow.starts ∙ first
+      first_is = e.starts ∙ first
 
       code_long : length function.code ≡ length ls
       code_long = ap length code ∙ map_long ls
@@ -277,7 +267,7 @@ module _ (program : Program) (number : ℕ) (function : Function) (ls : List Lin
       empty_long = length-replicate (length function.code) None ∙ code_long
 
       some_there : 0 < length ls
-      some_there = omega (arith, e.size_is)
+      some_there = e.lt
 
       long : length (first_table function) ≡ length ls
       long = set_long empty 0 (Some (first_point function)) ∙ empty_long
@@ -302,17 +292,12 @@ module _ (program : Program) (number : ℕ) (function : Function) (ls : List Lin
 
       reached : (n : ℕ) → n < length ls → (n ≡ 0) ⊎ ((j : ℕ) × (k : Line) × (j < n) × (slice_get ls j ≡ Some k) × IsNext (next_of k.instr j) n)
       reached n lt = elim (cases_lt 0 n) [
-        | inl x ↦ inr (let r = e.flow.reach n x (omega (arith, lt, e.size_is)) in (r.from, r.line, r.earlier, r.is_line, r.is_next))
+        | inl x ↦ inr (let r = e.reach n x lt in (r.from, r.line, r.earlier, r.is_line, r.is_next))
         | inr x ↦ inl (omega (arith, x))
       ]
 
       goes : (n : ℕ) (l : Line) → slice_get ls n ≡ Some l → Goes P n l
-      goes n l is = elim (cases_lt n e.at) [
-        | inl x ↦ (let s = e.flow.steps n l (omega arith) x is in record { after = s.after; is = s.is; nexts = λ m y. let t = s.nexts m y in (omega (arith, t.1, e.size_is), t.2); reached = reached n (slice_get_within ls n l is) })
-        | inr x ↦ (let lt = slice_get_within ls n l is in let at : n ≡ e.at = omega (arith, x, lt, e.size_is) in let same = line_is P e.at e.last l e.is_last (ap (slice_get ls) (sym at) ∙ is) in record {
-          after = e.after;
-          is = ap (λ (k : Line). point_after program number function k.instr (P n)) same ∙ ap (λ m. point_after program number function e.last.instr (P m)) at ∙ ap (point_after program number function e.last.instr) e.flow.ends ∙ e.ends_as;
-          nexts = λ m y. absurd (subst (λ ns. IsNext ns m) (ap (λ (k : Line). next_of k.instr n) same ∙ e.no_next n) y);
-          reached = reached n lt;
-        })
-      ]
+      goes n l is =
+          let lt = slice_get_within ls n l is in
+          let s = e.steps n l (omega arith) lt is in
+          record { after = s.after; is = s.is; nexts = λ m y. let t = s.nexts m y in (t.1, t.2); reached = reached n lt }

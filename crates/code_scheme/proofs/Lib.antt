@@ -4,6 +4,8 @@ pub mod Follow
 pub mod Instructions
 pub mod Places
 pub mod Values
+pub mod Leaving
+pub mod Looping
 pub mod Effects
 pub mod Events
 pub mod Held
@@ -13,8 +15,11 @@ pub mod Whole
 pub mod Law
 pub mod Parts
 pub mod Flow
+pub mod Shutting
 pub mod Fixed
 pub mod Flowing
+pub mod Choosing
 pub mod Stating
 pub mod Judging
+pub mod Sizes
 pub mod Fitting

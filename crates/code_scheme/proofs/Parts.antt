@@ -12,14 +12,14 @@ use Rattle.resolved_service.specs.declared.service.Last.{Last}
 use Rattle.resolved_service.specs.declared.service.Method.{Method}
 use Rattle.resolved_service.specs.declared.service.Phase.{Phase}
 use Rattle.resolved_service.specs.Meaning.{row_add}
-use Rattle.resolved_service.specs.Steps.{Step, SetLocal, SetField, PutLocal, PutField, CutLocal, CutField, If, While, For, Require, Send, Spawn, Do, Steps, no_steps, step, no_else, otherwise, steps_in}
+use Rattle.resolved_service.specs.Steps.{Step, SetLocal, SetField, PutLocal, PutField, CutLocal, CutField, If, While, For, Require, Send, Spawn, Do, Return, Finish, Steps, no_steps, step, no_else, otherwise, steps_in, surely_ends}
 use Rattle.resolved_service.specs.View.{Tree, Const, Local, Field, Above, Op, And, Or, Call, Child, Trees, no_trees, tree, tree_of}
 use Rattle.service_code.specs.declared.instr.Instr.{Instr}
 use Rattle.service_code.specs.declared.instr.Instr.TheVariants as i
 use Rattle.service_verify.specs.Fit.{jump_of, is_tick, is_call_down, Jumps, TicksAt, IsTicked, IsTickedCall}
-use Rattle.code_scheme.specs.Scheme.{Line, line, leaves_value, pop_code, while_code, test_code, turn_code, loop_at, block_at, literal_instr, tree_code, trees_code, two_code, step_code, steps_code, return_code, reply_code, method_code, phases_code, event_code}
+use Rattle.code_scheme.specs.Scheme.{Line, line, leaves_value, pop_code, behind, else_code, while_code, test_code, turn_code, loop_at, block_at, literal_instr, tree_code, trees_code, two_code, step_code, steps_code, return_code, reply_code, method_code, phases_code, event_code}
 use Rattle.code_scheme.specs.Texts.{Text, place_of_text}
-use Rattle.code_scheme.proofs.Places.{StandsAt, stands_front, stands_back, stands_all}
+use Rattle.code_scheme.proofs.Places.{StandsAt, stands_front, stands_back, stands_all, while_lines, else_lines, turn_lines}
 
 some_same : (a b : ℕ) → Some a ≡ Some b → a ≡ b
 some_same a b e = cc
@@ -348,8 +348,14 @@ module _ (ls : List Line) where
           let cs = trees_code methods texts (pc + length ct) ts in
           ends_at pc (pc + length ct + length cs) _ (omega (arith, length-append ct cs)) (part_then pc (pc + length ct) _ (tree_part t pc (stands_front ls pc ct cs h)) (trees_part ts (pc + length ct) (stands_back ls pc ct cs h)))
 
-    while_part : (pc : ℕ) (at : Span) (ct ca : List Line) → StandsAt ls pc (while_code pc at ct ca) → Part pc (pc + length ct) → Part (pc + length ct + 1 + 1) (pc + length ct + 1 + 1 + length ca) → Part pc (pc + length (while_code pc at ct ca))
-    while_part pc at ct ca h x y =
+    while_part : (pc : ℕ) (at : Span) (ct : List Line) (b : Bool) (ca : List Line) → StandsAt ls pc (while_code pc at ct b ca) → Part pc (pc + length ct) → Part (pc + length ct + 1 + 1) (pc + length ct + 1 + 1 + length ca) → Part pc (pc + length (while_code pc at ct b ca))
+    while_part pc at ct true ca h x y =
+        let pt = pc + length ct in
+        let b = pt + 1 + 1 + length ca in
+        let ht = stands_back ls pc ct (line (i.JumpFalse b) at ∷ line i.Tick at ∷ ca) h in
+        ends_at pc b _ (omega (arith, length-append ct (line (i.JumpFalse b) at ∷ line i.Tick at ∷ ca)))
+        (part_then pc pt b x (jump_then pt b b _ ht.0 refl refl (omega arith) (part_then (pt + 1) (pt + 1 + 1) b (plain _ _ _ refl ht.1.0 refl refl) y) (nothing b b refl)))
+    while_part pc at ct false ca h x y =
         let pt = pc + length ct in
         let b = pt + 1 + 1 + length ca in
         let tail = line (i.Jump pc) at ∷ [] in
@@ -358,20 +364,34 @@ module _ (ls : List Line) where
         ends_at pc (b + 1) _ (omega (arith, length-append ct (line (i.JumpFalse (b + 1)) at ∷ line i.Tick at ∷ (ca ++ tail)), length-append ca tail))
         (loop_part pc pt b _ _ _ x ht.0 refl refl ht.1.0 refl (part_then (pt + 1) (pt + 1 + 1) b (plain _ _ _ refl ht.1.0 refl refl) y) hb.0 refl refl (omega arith) (omega arith))
 
+    else_part : (pc : ℕ) (at : Span) (ct : List Line) (b : Bool) (ca cb : List Line) → StandsAt ls pc (else_code pc at ct b ca cb) → Part pc (pc + length ct) → Part (pc + length ct + 1) (pc + length ct + 1 + length ca) → Part (behind b (pc + length ct + 1 + length ca)) (behind b (pc + length ct + 1 + length ca) + length cb) → Part pc (pc + length (else_code pc at ct b ca cb))
+    else_part pc at ct true ca cb h x y z =
+        let pt = pc + length ct in
+        let pa = pt + 1 + length ca in
+        let ha = stands_back ls pc ct (line (i.JumpFalse pa) at ∷ (ca ++ cb)) h in
+        ends_at pc (pa + length cb) _ (omega (arith, length-append ct (line (i.JumpFalse pa) at ∷ (ca ++ cb)), length-append ca cb))
+        (part_then pc pt _ x (jump_then pt pa _ _ ha.0 refl refl (omega arith) (part_then (pt + 1) pa _ y z) z))
+    else_part pc at ct false ca cb h x y z =
+        let pt = pc + length ct in
+        let pa = pt + 1 + length ca in
+        let e = pa + 1 + length cb in
+        let ha = stands_back ls pc ct (line (i.JumpFalse (pa + 1)) at ∷ (ca ++ line (i.Jump e) at ∷ cb)) h in
+        let hb = stands_back ls (pt + 1) ca (line (i.Jump e) at ∷ cb) ha.1 in
+        ends_at pc e _ (omega (arith, length-append ct (line (i.JumpFalse (pa + 1)) at ∷ (ca ++ line (i.Jump e) at ∷ cb)), length-append ca (line (i.Jump e) at ∷ cb)))
+        (part_then pc pt _ x (jump_then pt (pa + 1) _ _ ha.0 refl refl (omega arith) (part_then (pt + 1) pa _ y (jump_then pa e _ _ hb.0 refl refl (omega arith) z (nothing _ _ refl))) z))
+
     two_lines : (a b : ℕ) (l m : Line) → b ≡ a + 1 + 1 → StandsAt ls a (l ∷ m ∷ []) → jump_of l.instr ≡ None → is_call_down l.instr ≡ false → jump_of m.instr ≡ None → is_call_down m.instr ≡ false → Part a b
     two_lines a b l m e h u u' w w' = part_then a (a + 1) b (plain a (a + 1) l refl h.0 u u') (plain (a + 1) b m e h.1.0 w w')
 
-    for_part : (pc : ℕ) (at : Span) (counter : ℕ) (cf ct cb : List Line) → StandsAt ls pc (cf ++ line (i.Store counter) at ∷ (ct ++ line (i.Store (counter + 1)) at ∷ while_code (loop_at pc (length cf) (length ct)) at (test_code counter at) (turn_code counter at cb))) →
+    for_part : (pc : ℕ) (at : Span) (counter : ℕ) (cf ct : List Line) (b : Bool) (cb : List Line) → StandsAt ls pc (cf ++ line (i.Store counter) at ∷ (ct ++ line (i.Store (counter + 1)) at ∷ while_code (loop_at pc (length cf) (length ct)) at (test_code counter at) b (turn_code counter at b cb))) →
         Part pc (pc + length cf) → Part (pc + length cf + 1) (pc + length cf + 1 + length ct) → Part (block_at (loop_at pc (length cf) (length ct))) (block_at (loop_at pc (length cf) (length ct)) + length cb) →
-        Part pc (pc + length (cf ++ line (i.Store counter) at ∷ (ct ++ line (i.Store (counter + 1)) at ∷ while_code (loop_at pc (length cf) (length ct)) at (test_code counter at) (turn_code counter at cb))))
-    for_part pc at counter cf ct cb h x y z =
+        Part pc (pc + length (cf ++ line (i.Store counter) at ∷ (ct ++ line (i.Store (counter + 1)) at ∷ while_code (loop_at pc (length cf) (length ct)) at (test_code counter at) b (turn_code counter at b cb))))
+    for_part pc at counter cf ct b cb h x y z =
         ends_at pc (m + length loop) _ (omega (arith, length-append cf (line (i.Store counter) at ∷ (ct ++ line (i.Store (counter + 1)) at ∷ loop)), length-append ct (line (i.Store (counter + 1)) at ∷ loop)))
         (part_then pc (pc + length cf) _ x (part_then (pc + length cf) p1 _ (plain _ _ _ refl l0.0 refl refl) (part_then p1 (p1 + length ct) _ y (part_then (p1 + length ct) m _ (plain _ _ _ refl l1.0 refl refl)
-        (while_part m at test turn l1.1
-        (part_then m (m + 1 + 1) _ (two_lines m (m + 1 + 1) _ _ refl (lt.0, (lt.1.0, tt)) refl refl refl refl) (plain (m + 1 + 1) (m + 3) _ (omega arith) lt.1.1.0 refl refl))
-        (ends_at b0 (e0 + 1 + 1 + 1 + 1) _ (omega (arith, length-append cb last))
-        (part_then b0 (b0 + 1 + 1) _ (two_lines b0 (b0 + 1 + 1) _ _ refl (lb.0, (lb.1.0, tt)) refl refl refl refl) (part_then (b0 + 1 + 1) e0 _ z
-        (part_then e0 (e0 + 1 + 1) _ (two_lines e0 _ _ _ refl (le.0, (le.1.0, tt)) refl refl refl refl) (two_lines (e0 + 1 + 1) _ _ _ refl (le.1.1.0, (le.1.1.1.0, tt)) refl refl refl refl))))))))))
+        (while_part m at test b turn l1.1
+        (part_then m (m + 1 + 1) _ (two_lines m (m + 1 + 1) _ _ refl (stands.0.0, (stands.0.1.0, tt)) refl refl refl refl) (plain (m + 1 + 1) (m + 3) _ (omega arith) stands.0.1.1.0 refl refl))
+        (turns b z stands.1))))))
       where
         p1 : ℕ
         p1 = pc + length cf + 1
@@ -383,10 +403,10 @@ module _ (ls : List Line) where
         test = test_code counter at
 
         turn : List Line
-        turn = turn_code counter at cb
+        turn = turn_code counter at b cb
 
         loop : List Line
-        loop = while_code m at test turn
+        loop = while_code m at test b turn
 
         last : List Line
         last = line (i.Load counter) at ∷ line (i.PushInt (pos 1)) at ∷ line (i.Op row_add) at ∷ line (i.Store counter) at ∷ []
@@ -403,20 +423,18 @@ module _ (ls : List Line) where
         l1 : StandsAt ls (p1 + length ct) (line (i.Store (counter + 1)) at ∷ loop)
         l1 = stands_back ls p1 ct _ l0.1
 
-        after : List Line
-        after = line (i.JumpFalse (m + length test + 1 + 1 + length turn + 1)) at ∷ line i.Tick at ∷ (turn ++ line (i.Jump m) at ∷ [])
+        stands : StandsAt ls m test × StandsAt ls (m + 3 + 1 + 1) turn
+        stands = while_lines ls m at test b turn l1.1
 
-        lt : StandsAt ls m test
-        lt = stands_front ls m test after l1.1
-
-        lw : StandsAt ls (m + 3) after
-        lw = stands_back ls m test after l1.1
-
-        lb : StandsAt ls b0 turn
-        lb = stands_front ls b0 turn (line (i.Jump m) at ∷ []) lw.1.1
-
-        le : StandsAt ls e0 last
-        le = stands_back ls (b0 + 1 + 1) cb last lb.1.1
+        turns : (b : Bool) → Part (b0 + 1 + 1) (b0 + 1 + 1 + length cb) → StandsAt ls b0 (turn_code counter at b cb) → Part b0 (b0 + length (turn_code counter at b cb))
+        turns true z lb =
+            ends_at b0 (b0 + 1 + 1 + length cb) _ (omega arith)
+            (part_then b0 (b0 + 1 + 1) _ (two_lines b0 (b0 + 1 + 1) _ _ refl (lb.0, (lb.1.0, tt)) refl refl refl refl) z)
+        turns false z lb =
+            let le = stands_back ls (b0 + 1 + 1) cb last lb.1.1 in
+            ends_at b0 (e0 + 1 + 1 + 1 + 1) _ (omega (arith, length-append cb last))
+            (part_then b0 (b0 + 1 + 1) _ (two_lines b0 (b0 + 1 + 1) _ _ refl (lb.0, (lb.1.0, tt)) refl refl refl refl) (part_then (b0 + 1 + 1) e0 _ z
+            (part_then e0 (e0 + 1 + 1) _ (two_lines e0 _ _ _ refl (le.0, (le.1.0, tt)) refl refl refl refl) (two_lines (e0 + 1 + 1) _ _ _ refl (le.1.1.0, (le.1.1.1.0, tt)) refl refl refl refl))))
 
     two_part : (pc : ℕ) (a b : Tree) (l : Line) → jump_of l.instr ≡ None → is_call_down l.instr ≡ false → StandsAt ls pc (two_code methods texts pc a b l) → Part pc (pc + length (two_code methods texts pc a b l))
     two_part pc a b l no_jump not_call h =
@@ -450,39 +468,36 @@ module _ (ls : List Line) where
           (part_then pc pt _ (tree_part test pc (stands_front ls pc ct _ h)) (jump_then pt (pt + 1 + length ca) _ _ ha.0 refl refl (omega arith) (steps_part body (pt + 1) ha.1) (nothing _ _ refl)))
       step_part (If at test body (otherwise ss)) pc h =
           let ct = tree_code methods texts pc test in
-          let pt = pc + length ct in
-          let ca = steps_code methods texts (pt + 1) body in
-          let pa = pt + 1 + length ca in
-          let cb = steps_code methods texts (pa + 1) ss in
-          let x = pa + 1 + length cb in
-          let ha = stands_back ls pc ct (line (i.JumpFalse (pa + 1)) at ∷ (ca ++ line (i.Jump x) at ∷ cb)) h in
-          let hb = stands_back ls (pt + 1) ca (line (i.Jump x) at ∷ cb) ha.1 in
-          let pb = steps_part ss (pa + 1) hb.1 in
-          ends_at pc x _ (omega (arith, length-append ct (line (i.JumpFalse (pa + 1)) at ∷ (ca ++ line (i.Jump x) at ∷ cb)), length-append ca (line (i.Jump x) at ∷ cb)))
-          (part_then pc pt _ (tree_part test pc (stands_front ls pc ct _ h)) (jump_then pt (pa + 1) _ _ ha.0 refl refl (omega arith) (part_then (pt + 1) pa _ (steps_part body (pt + 1) (stands_front ls (pt + 1) ca _ ha.1)) (jump_then pa x _ _ hb.0 refl refl (omega arith) pb (nothing _ _ refl))) pb))
+          let a = surely_ends body in
+          let ca = steps_code methods texts (pc + length ct + 1) body in
+          let f = behind a (pc + length ct + 1 + length ca) in
+          let cb = steps_code methods texts f ss in
+          let l = else_lines ls pc at ct a ca cb h in
+          else_part pc at ct a ca cb h (tree_part test pc l.0) (steps_part body (pc + length ct + 1) l.1) (steps_part ss f l.2)
       step_part (While at test body) pc h =
           let ct = tree_code methods texts pc test in
           let ca = steps_code methods texts (pc + length ct + 1 + 1) body in
-          let ht = stands_back ls pc ct _ h in
-          while_part pc at ct ca h (tree_part test pc (stands_front ls pc ct _ h)) (steps_part body (pc + length ct + 1 + 1) (stands_front ls (pc + length ct + 1 + 1) ca _ ht.1.1))
+          let l = while_lines ls pc at ct (surely_ends body) ca h in
+          while_part pc at ct (surely_ends body) ca h (tree_part test pc l.0) (steps_part body (pc + length ct + 1 + 1) l.1)
       step_part (For at counter from to body) pc h =
           let cf = tree_code methods texts pc from in
           let ct = tree_code methods texts (pc + length cf + 1) to in
           let m = loop_at pc (length cf) (length ct) in
+          let b = surely_ends body in
           let cb = steps_code methods texts (block_at m) body in
-          let test = test_code counter at in
-          let turn = turn_code counter at cb in
-          let after = line (i.JumpFalse (m + length test + 1 + 1 + length turn + 1)) at ∷ line i.Tick at ∷ (turn ++ line (i.Jump m) at ∷ []) in
-          let l0 = stands_back ls pc cf (line (i.Store counter) at ∷ (ct ++ line (i.Store (counter + 1)) at ∷ while_code m at test turn)) h in
-          let l1 = stands_back ls (pc + length cf + 1) ct (line (i.Store (counter + 1)) at ∷ while_code m at test turn) l0.1 in
-          let lw = stands_back ls m test after l1.1 in
-          let lb = stands_front ls (m + 3 + 1 + 1) turn (line (i.Jump m) at ∷ []) lw.1.1 in
-          for_part pc at counter cf ct cb h (tree_part from pc (stands_front ls pc cf _ h)) (tree_part to (pc + length cf + 1) (stands_front ls (pc + length cf + 1) ct _ l0.1))
-          (steps_part body (block_at m) (stands_front ls (block_at m) cb _ lb.1.1))
+          let l0 = stands_back ls pc cf (line (i.Store counter) at ∷ (ct ++ line (i.Store (counter + 1)) at ∷ while_code m at (test_code counter at) b (turn_code counter at b cb))) h in
+          let l1 = stands_back ls (pc + length cf + 1) ct (line (i.Store (counter + 1)) at ∷ while_code m at (test_code counter at) b (turn_code counter at b cb)) l0.1 in
+          let lw = while_lines ls m at (test_code counter at) b (turn_code counter at b cb) l1.1 in
+          for_part pc at counter cf ct b cb h (tree_part from pc (stands_front ls pc cf _ h)) (tree_part to (pc + length cf + 1) (stands_front ls (pc + length cf + 1) ct _ l0.1))
+          (steps_part body (block_at m) (turn_lines ls (m + 3 + 1 + 1) at counter b cb lw.1))
       step_part (Require at e) pc h = use_part pc e (line i.Require at) refl refl h
       step_part (Send at l e) pc h = use_part pc e (line (i.Send (place_of_text texts l)) at) refl refl h
       step_part (Spawn at event args) pc h = then_line pc _ (trees_code methods texts pc args) (line (i.Spawn event) at) refl refl refl h (trees_part args pc (stands_front ls pc (trees_code methods texts pc args) _ h))
       step_part (Do at e) pc h = pop_part pc e at (leaves_value methods e) h
+      step_part (Return at None) pc h = plain pc _ (line i.Return at) (omega arith) h.0 refl refl
+      step_part (Return at (Some e)) pc h = use_part pc e (line i.Return at) refl refl h
+      step_part (Finish at None) pc h = plain pc _ (line i.End at) (omega arith) h.0 refl refl
+      step_part (Finish at (Some e)) pc h = use_part pc e (line i.Reply at) refl refl h
 
       pub steps_part : (ss : Steps) (pc : ℕ) → StandsAt ls pc (steps_code methods texts pc ss) → Part pc (pc + length (steps_code methods texts pc ss))
       steps_part no_steps pc h = nothing pc _ (omega arith)
@@ -491,25 +506,29 @@ module _ (ls : List Line) where
           let cb = steps_code methods texts (pc + length ca) ss in
           ends_at pc (pc + length ca + length cb) _ (omega (arith, length-append ca cb)) (part_then pc (pc + length ca) _ (step_part s pc (stands_front ls pc ca cb h)) (steps_part ss (pc + length ca) (stands_back ls pc ca cb h)))
 
-    pub return_part : (last : Option Last) (at : Span) (pc : ℕ) → StandsAt ls pc (return_code methods texts pc at last) → Part pc (pc + length (return_code methods texts pc at last))
-    return_part None at pc h = plain pc _ (line i.Return at) (omega arith) h.0 refl refl
-    return_part (Some last) at pc h = use_part pc (tree_of last.value) (line i.Return last.at) refl refl h
+    pub return_part : (b : Bool) (last : Option Last) (at : Span) (pc : ℕ) → StandsAt ls pc (return_code methods texts pc at b last) → Part pc (pc + length (return_code methods texts pc at b last))
+    return_part true None at pc h = nothing pc _ (omega arith)
+    return_part false None at pc h = plain pc _ (line i.Return at) (omega arith) h.0 refl refl
+    return_part true (Some last) at pc h = use_part pc (tree_of last.value) (line i.Return last.at) refl refl h
+    return_part false (Some last) at pc h = use_part pc (tree_of last.value) (line i.Return last.at) refl refl h
 
-    reply_part : (last : Option Last) (at : Span) (pc : ℕ) → StandsAt ls pc (reply_code methods texts pc at last) → Part pc (pc + length (reply_code methods texts pc at last))
-    reply_part None at pc h = plain pc _ (line i.End at) (omega arith) h.0 refl refl
-    reply_part (Some last) at pc h = use_part pc (tree_of last.value) (line i.Reply last.at) refl refl h
+    reply_part : (b : Bool) (last : Option Last) (at : Span) (pc : ℕ) → StandsAt ls pc (reply_code methods texts pc at b last) → Part pc (pc + length (reply_code methods texts pc at b last))
+    reply_part true None at pc h = nothing pc _ (omega arith)
+    reply_part false None at pc h = plain pc _ (line i.End at) (omega arith) h.0 refl refl
+    reply_part true (Some last) at pc h = use_part pc (tree_of last.value) (line i.Reply last.at) refl refl h
+    reply_part false (Some last) at pc h = use_part pc (tree_of last.value) (line i.Reply last.at) refl refl h
 
-    pub phases_part : (fs : List Phase) (last : Option Last) (at : Span) (pc : ℕ) → StandsAt ls pc (phases_code methods texts pc fs at last) → Part pc (pc + length (phases_code methods texts pc fs at last))
-    phases_part [] last at pc h = reply_part last at pc h
-    phases_part (f ∷ fs) last at pc h =
+    pub phases_part : (b : Bool) (fs : List Phase) (last : Option Last) (at : Span) (pc : ℕ) → StandsAt ls pc (phases_code methods texts pc b fs at last) → Part pc (pc + length (phases_code methods texts pc b fs at last))
+    phases_part b [] last at pc h = reply_part b last at pc h
+    phases_part b (f ∷ fs) last at pc h =
         let ck = tree_code methods texts pc (tree_of f.key) in
         let pk = pc + length ck in
         let cb = steps_code methods texts (pk + 1) (steps_in f.body) in
-        let rest = phases_code methods texts (pk + 1 + length cb) fs at last in
+        let rest = phases_code methods texts (pk + 1 + length cb) (surely_ends (steps_in f.body)) fs at last in
         let h0 = stands_back ls pc ck (line (i.Go f.class) f.at ∷ (cb ++ rest)) h in
         ends_at pc (pk + 1 + length cb + length rest) _ (omega (arith, length-append ck (line (i.Go f.class) f.at ∷ (cb ++ rest)), length-append cb rest))
         (part_then pc pk _ (tree_part (tree_of f.key) pc (stands_front ls pc ck _ h)) (part_then pk (pk + 1) _ (plain pk (pk + 1) _ refl h0.0 refl refl)
-        (part_then (pk + 1) (pk + 1 + length cb) _ (steps_part (steps_in f.body) (pk + 1) (stands_front ls (pk + 1) cb rest h0.1)) (phases_part fs last at (pk + 1 + length cb) (stands_back ls (pk + 1) cb rest h0.1)))))
+        (part_then (pk + 1) (pk + 1 + length cb) _ (steps_part (steps_in f.body) (pk + 1) (stands_front ls (pk + 1) cb rest h0.1)) (phases_part (surely_ends (steps_in f.body)) fs last at (pk + 1 + length cb) (stands_back ls (pk + 1) cb rest h0.1)))))
 
   -- of a whole function
   inside : (j i : ℕ) → Jumps code j i → j < length ls
@@ -544,21 +563,23 @@ unfolding method_code
 method_part methods texts m =
     let ls = method_code methods texts m in
     let cb = steps_code methods texts 0 (steps_in m.body) in
-    let rest = return_code methods texts (length cb) m.at m.last in
+    let b = surely_ends (steps_in m.body) in
+    let rest = return_code methods texts (length cb) m.at b m.last in
     let h = stands_all ls [] in
     let e : 0 + length cb ≡ length cb = omega arith in
     ends_at ls 0 (length cb + length rest) _ (sym (length-append cb rest))
     (part_then ls 0 (length cb) _ (ends_at ls 0 (0 + length cb) _ e (steps_part ls methods texts (steps_in m.body) 0 (stands_front ls 0 cb rest h)))
-    (return_part ls methods texts m.last m.at (length cb) (subst (λ n. StandsAt ls n rest) e (stands_back ls 0 cb rest h))))
+    (return_part ls methods texts b m.last m.at (length cb) (subst (λ n. StandsAt ls n rest) e (stands_back ls 0 cb rest h))))
 
 pub event_part : (methods : List Method) (texts : List Text) (e : Event) → Part (event_code methods texts e) 0 (length (event_code methods texts e))
 unfolding event_code
 event_part methods texts m =
     let ls = event_code methods texts m in
     let cb = steps_code methods texts 0 (steps_in m.here) in
-    let rest = phases_code methods texts (length cb) m.phases m.at m.last in
+    let b = surely_ends (steps_in m.here) in
+    let rest = phases_code methods texts (length cb) b m.phases m.at m.last in
     let h = stands_all ls [] in
     let e : 0 + length cb ≡ length cb = omega arith in
     ends_at ls 0 (length cb + length rest) _ (sym (length-append cb rest))
     (part_then ls 0 (length cb) _ (ends_at ls 0 (0 + length cb) _ e (steps_part ls methods texts (steps_in m.here) 0 (stands_front ls 0 cb rest h)))
-    (phases_part ls methods texts m.phases m.last m.at (length cb) (subst (λ n. StandsAt ls n rest) e (stands_back ls 0 cb rest h))))
+    (phases_part ls methods texts b m.phases m.last m.at (length cb) (subst (λ n. StandsAt ls n rest) e (stands_back ls 0 cb rest h))))

@@ -1,12 +1,13 @@
 -- Where lines stand in a function's code.
-use Rattle.std.proofs.Common.{◌≡◌, ℕ, suc, ◌+◌, ◌<◌, List, [], ◌∷◌, ◌++◌, length, Some, ap, ◌∙◌, subst, arith, append_assoc, length-append}
+use Rattle.std.proofs.Common.{◌≡◌, ℕ, suc, ◌+◌, ◌<◌, List, [], ◌∷◌, ◌++◌, length, Bool, true, false, Some, ap, ◌∙◌, subst, arith, append_assoc, length-append}
 use Rattle.std.specs.Prelude.{slice_get}
 use Rattle.std.proofs.Math.Seq.{get_or-append_seam}
 use Rattle.std.proofs.lemmas.Option.{slice_get-get_or}
+use Rattle.wave_base.specs.declared.span.Span.{Span}
 use Rattle.service_code.specs.declared.program.Program.{Program}
 use Rattle.service_verify.specs.Fit.{IsFit}
 use Rattle.service_verify.specs.Points.{IsVerified}
-use Rattle.code_scheme.specs.Scheme.{Line}
+use Rattle.code_scheme.specs.Scheme.{Line, behind, else_code, while_code, turn_code}
 use Rattle.code_scheme.proofs.Follow.{IsCode, IsLine, line_is}
 
 -- the lines stand in a list from a place on
@@ -23,6 +24,21 @@ stands_back code pc [] b h = let e : pc ≡ pc + 0 = omega arith in subst (λ n.
 stands_back code pc (l ∷ a) b h =
     let e : pc + 1 + length a ≡ pc + length (l ∷ a) = omega arith in
     subst (λ n. StandsAt code n b) e (stands_back code (pc + 1) a b h.1)
+
+-- a loop's test, and its block
+pub while_lines : (code : List Line) (pc : ℕ) (at : Span) (ct : List Line) (b : Bool) (ca : List Line) → StandsAt code pc (while_code pc at ct b ca) → StandsAt code pc ct × StandsAt code (pc + length ct + 1 + 1) ca
+while_lines code pc at ct true ca h = (stands_front code pc ct _ h, (stands_back code pc ct _ h).1.1)
+while_lines code pc at ct false ca h = (stands_front code pc ct _ h, stands_front code (pc + length ct + 1 + 1) ca _ (stands_back code pc ct _ h).1.1)
+
+-- a choice's test, and its two sides
+pub else_lines : (code : List Line) (pc : ℕ) (at : Span) (ct : List Line) (b : Bool) (ca cb : List Line) → StandsAt code pc (else_code pc at ct b ca cb) → StandsAt code pc ct × StandsAt code (pc + length ct + 1) ca × StandsAt code (behind b (pc + length ct + 1 + length ca)) cb
+else_lines code pc at ct true ca cb h = let l = stands_back code pc ct _ h in (stands_front code pc ct _ h, stands_front code (pc + length ct + 1) ca cb l.1, stands_back code (pc + length ct + 1) ca cb l.1)
+else_lines code pc at ct false ca cb h = let l = stands_back code pc ct _ h in (stands_front code pc ct _ h, stands_front code (pc + length ct + 1) ca _ l.1, (stands_back code (pc + length ct + 1) ca _ l.1).1)
+
+-- the block of a turn
+pub turn_lines : (code : List Line) (pc : ℕ) (at : Span) (counter : ℕ) (b : Bool) (cb : List Line) → StandsAt code pc (turn_code counter at b cb) → StandsAt code (pc + 1 + 1) cb
+turn_lines code pc at counter true cb h = h.1.1
+turn_lines code pc at counter false cb h = stands_front code (pc + 1 + 1) cb _ h.1.1
 
 pub stands_all : (ls pre : List Line) → StandsAt (pre ++ ls) (length pre) ls
 stands_all [] pre = tt
@@ -52,6 +68,11 @@ module _ (program : Program) (fit : IsFit program) (verified : IsVerified progra
   has_back fn pc (l ∷ a) b h =
       let e : pc + 1 + length a ≡ pc + length (l ∷ a) = omega arith in
       subst (λ n. HasAt fn n b) e (has_back fn (pc + 1) a b h.1)
+
+  -- a loop's test, and its block
+  pub while_stands : (fn pc : ℕ) (at : Span) (ct : List Line) (b : Bool) (ca : List Line) → HasAt fn pc (while_code pc at ct b ca) → HasAt fn pc ct × HasAt fn (pc + length ct + 1 + 1) ca
+  while_stands fn pc at ct true ca h = (has_front fn pc ct _ h, (has_back fn pc ct _ h).1.1)
+  while_stands fn pc at ct false ca h = (has_front fn pc ct _ h, has_front fn (pc + length ct + 1 + 1) ca _ (has_back fn pc ct _ h).1.1)
 
   has_stands : (fn : ℕ) (code : List Line) → IsCode program fit verified fn code → (pc : ℕ) (ls : List Line) → StandsAt code pc ls → HasAt fn pc ls
   has_stands fn code is pc [] h = tt

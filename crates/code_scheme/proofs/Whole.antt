@@ -1,5 +1,5 @@
 -- The code of a service, segment by segment on one tree, means what the service means.
-use Rattle.std.proofs.Common.{◌≡◌, ℕ, ◌+◌, ◌≤◌, List, [], ◌∷◌, ◌++◌, length, true, false, Option, Some, None, refl, ap, sym, subst, ◌∙◌, arith}
+use Rattle.std.proofs.Common.{◌≡◌, ℕ, ◌+◌, ◌≤◌, List, [], ◌∷◌, ◌++◌, length, Bool, true, false, Option, Some, None, refl, ap, sym, subst, ◌∙◌, arith}
 use Rattle.std.specs.Prelude.{slice_get, drop}
 use Rattle.std.specs.List.Sorted.{IsStrictlySortedBy}
 use Rattle.wave_base.specs.declared.call.Call.{Call}
@@ -15,8 +15,9 @@ use Rattle.resolved_service.specs.declared.service.Event.{Event}
 use Rattle.resolved_service.specs.declared.service.Method.{Method}
 use Rattle.resolved_service.specs.declared.service.Resolved.{Resolved}
 use Rattle.resolved_service.specs.Jobs.{first_world, meant_by, meant_event, call_meaning}
+use Rattle.resolved_service.specs.Meaning as m
 use Rattle.resolved_service.specs.Meaning.{State, Outcome, Done, Trapped, Left, effects, phases_run, called, with_blanks, event_run}
-use Rattle.resolved_service.specs.Steps.{steps_in}
+use Rattle.resolved_service.specs.Steps.{steps_in, surely_ends}
 use Rattle.service_code.specs.declared.program.Program.{Program}
 use Rattle.service_verify.specs.Boxes.{first_frame, event_frames, first_frames, first_box}
 use Rattle.service_verify.specs.Fit.{IsFit}
@@ -28,7 +29,7 @@ use Rattle.service_verify.proofs.Touring.{first_stands, code_ends}
 use Rattle.code_scheme.specs.Correct.{Means}
 use Rattle.code_scheme.specs.Programs.{event_function}
 use Rattle.code_scheme.specs.Scheme.{Line, steps_code, phases_code, event_code}
-use Rattle.code_scheme.specs.Typed.{IsTypedMethod, IsTypedEvent}
+use Rattle.code_scheme.specs.Typed.{InEvent, AreTypedPhases, IsTypedMethod, IsTypedEvent}
 use Rattle.code_scheme.proofs.Micro.{one_end, Alive}
 use Rattle.code_scheme.proofs.Follow.{Here, tour_of, At, IsCode, place_is}
 use Rattle.code_scheme.proofs.Fuse.{segments_fuse}
@@ -36,7 +37,8 @@ use Rattle.code_scheme.proofs.Instructions.{Low, Onward}
 use Rattle.code_scheme.proofs.Places.{HasAt, has_front, has_back, has_all}
 use Rattle.code_scheme.proofs.Values.{AreMade}
 use Rattle.code_scheme.proofs.Effects.{effects_run}
-use Rattle.code_scheme.proofs.Events.{EndsAs, Finishes, calls_follow, finish, phases_finish}
+use Rattle.code_scheme.proofs.Events.{EndsAs, Finishes, calls_follow, finish_on, phases_finish}
+use Rattle.code_scheme.proofs.Leaving.{Leaving, Performs, never_ends, never_effects}
 
 module _ (program : Program) (fit : IsFit program) (verified : IsVerified program) (service : Resolved) (made : AreMade program fit verified service.methods)
     (typed : (m : ℕ) (method : Method) → slice_get service.methods m ≡ Some method → IsTypedMethod program.shape service.methods m method)
@@ -70,25 +72,41 @@ module _ (program : Program) (fit : IsFit program) (verified : IsVerified progra
   abbrev cb : List Line
   cb = steps_code service.methods program.texts 0 (steps_in event.here)
 
-  stands : HasAt program fit verified number 0 (cb ++ phases_code service.methods program.texts (length cb) event.phases event.at event.last)
+  stands : HasAt program fit verified number 0 (cb ++ phases_code service.methods program.texts (length cb) (surely_ends (steps_in event.here)) event.phases event.at event.last)
   unfolding event_code
   stands = has_all program fit verified number _ is_code
 
   none_more : 0 + length cb ≡ length cb
   none_more = omega arith
 
+  statements : HasAt program fit verified number 0 cb → Performs program fit verified (first_tour program call tree) (Onward program fit verified h (0 + length cb) []) (Low TICKS) (Leaving program fit verified (InEvent info.reply) h TICKS []) (effects (called service.methods TICKS) TICKS [] (steps_in event.here) first)
+  statements has =
+      effects_run program fit verified service.methods made TICKS (calls_follow program fit verified service.methods made typed TICKS) (length service.methods) event.locals 0 (InEvent info.reply) h [] (steps_in event.here) event_typed.here 0 TICKS first (first_tour program call tree) (omega arith) (omega arith) has begins
+
   behaves : Finishes program fit verified service.methods made typed (first_tour program call tree) (event_run service.methods TICKS event call.args (first_world call.generation tree))
-  behaves =
-      finish program fit verified service.methods made typed (first_tour program call tree) (Onward program fit verified h (0 + length cb) []) (Low TICKS) (effects (called service.methods TICKS) TICKS [] (steps_in event.here) first) (λ u. phases_run (called service.methods TICKS) TICKS event.phases event.last [])
-      (effects_run program fit verified service.methods made TICKS (calls_follow program fit verified service.methods made typed TICKS) (length service.methods) event.locals 0 h [] (steps_in event.here) event_typed.here 0 TICKS first (first_tour program call tree) (omega arith) (omega arith) (has_front program fit verified number 0 cb _ stands) begins)
-      (λ u st1 d a1 q1. phases_finish program fit verified service.methods made typed TICKS TICKS (omega arith) (length service.methods) event.locals event.at event.phases 0 info.reply event.last event_typed.phases h (length cb) st1 d q1
-      (subst (λ x. HasAt program fit verified number x (phases_code service.methods program.texts (length cb) event.phases event.at event.last)) none_more (has_back program fit verified number 0 cb _ stands))
-      (place_is program fit verified h (0 + length cb) (length cb) [] st1 d none_more a1))
+  behaves = by (surely_ends (steps_in event.here)) refl event_typed.phases stands
+    where
+      o : Outcome (Unit {0})
+      o = effects (called service.methods TICKS) TICKS [] (steps_in event.here) first
+
+      by : (b : Bool) → surely_ends (steps_in event.here) ≡ b → AreTypedPhases program.shape service.methods (length service.methods) event.locals 0 b event.phases info.reply event.last → HasAt program fit verified number 0 (cb ++ phases_code service.methods program.texts (length cb) b event.phases event.at event.last) →
+          Finishes program fit verified service.methods made typed (first_tour program call tree) (event_run service.methods TICKS event call.args (first_world call.generation tree))
+      by true ended phases has =
+          finish_on program fit verified service.methods made typed info.reply h TICKS [] (first_tour program call tree) (λ u st d. ⊥) (Low TICKS) o (λ u. phases_run (called service.methods TICKS) TICKS event.phases event.last [])
+          (never_ends program fit verified (first_tour program call tree) (Onward program fit verified h (0 + length cb) []) (Low TICKS) (Leaving program fit verified (InEvent info.reply) h TICKS []) (λ u st d. ⊥) (Low TICKS) o (never_effects (called service.methods TICKS) TICKS [] (steps_in event.here) ended first) (statements (has_front program fit verified number 0 cb _ has)))
+          (λ u st1 d a1 q1. absurd a1)
+      by false ended phases has =
+          finish_on program fit verified service.methods made typed info.reply h TICKS [] (first_tour program call tree) (Onward program fit verified h (0 + length cb) []) (Low TICKS) o (λ u. phases_run (called service.methods TICKS) TICKS event.phases event.last [])
+          (statements (has_front program fit verified number 0 cb _ has))
+          (λ u st1 d a1 q1. phases_finish program fit verified service.methods made typed TICKS TICKS (omega arith) (length service.methods) event.locals event.at event.phases 0 info.reply event.last phases h (length cb) st1 d q1
+          (subst (λ x. HasAt program fit verified number x (phases_code service.methods program.texts (length cb) false event.phases event.at event.last)) none_more (has_back program fit verified number 0 cb _ has))
+          (place_is program fit verified h (0 + length cb) (length cb) [] st1 d none_more a1))
 
   ends_means : (o : Outcome (Option Value)) (d : Tour) → EndsAs program fit verified service.methods made typed o d → Means d (meant_by o)
   ends_means (Done r st) d e = record { result = e.result; tree = e.tree; entered = e.entered; segments = e.segments }
   ends_means (Trapped k at w) d e = record { result = e.result; tree = e.tree; entered = e.entered; segments = e.segments }
-  ends_means (Left x st) d e = absurd e
+  ends_means (Left (m.Returned r) st) d e = absurd e
+  ends_means (Left (m.Finished r) st) d e = record { result = e.result; tree = e.tree; entered = e.entered; segments = e.segments }
 
   result_of : (o : Outcome (Option Value)) (d : Tour) → EndsAs program fit verified service.methods made typed o d → (r : EventResult) × (d.result ≡ Some r)
   result_of o d e = (_, (ends_means o d e).result)

@@ -4,7 +4,7 @@ use Rattle.resolved_service.specs.declared.service.Event.{Event}
 use Rattle.resolved_service.specs.declared.service.Last.{Last}
 use Rattle.resolved_service.specs.declared.service.Method.{Method}
 use Rattle.resolved_service.specs.declared.service.Phase.{Phase}
-use Rattle.resolved_service.specs.Steps.{Step, SetLocal, SetField, PutLocal, PutField, CutLocal, CutField, If, While, For, Require, Send, Spawn, Do, Steps, no_steps, step, Else, no_else, otherwise, steps_in}
+use Rattle.resolved_service.specs.Steps.{Step, SetLocal, SetField, PutLocal, PutField, CutLocal, CutField, If, While, For, Require, Send, Spawn, Do, Return, Finish, Steps, no_steps, step, Else, no_else, otherwise, steps_in}
 use Rattle.resolved_service.specs.View.{Tree, Const, Local, Field, Above, Op, And, Or, Call, Child, Trees, no_trees, tree, tree_of}
 use Rattle.code_scheme.specs.Scheme.{leaves_value}
 
@@ -30,6 +30,10 @@ module _ (methods : List Method) where
     trees_height no_trees = 0
     trees_height (tree t ts) = max (tree_height t) (suc (trees_height ts))
 
+  abbrev pub maybe_height : Option Tree → ℕ
+  maybe_height None = 0
+  maybe_height (Some e) = tree_height e
+
   abbrev mutual
     pub step_height : Step → ℕ
     step_height (SetLocal at slot e) = tree_height e
@@ -45,6 +49,8 @@ module _ (methods : List Method) where
     step_height (Send at label e) = tree_height e
     step_height (Spawn at event args) = trees_height args
     step_height (Do at e) = tree_height e
+    step_height (Return at e) = maybe_height e
+    step_height (Finish at e) = maybe_height e
 
     pub steps_height : Steps → ℕ
     steps_height no_steps = 0

@@ -8,7 +8,7 @@ use Rattle.resolved_service.specs.declared.service.Last.{Last}
 use Rattle.resolved_service.specs.declared.service.Method.{Method}
 use Rattle.resolved_service.specs.declared.service.Phase.{Phase}
 use Rattle.resolved_service.specs.Meaning.{row_add, row_lt}
-use Rattle.resolved_service.specs.Steps.{Step, SetLocal, SetField, PutLocal, PutField, CutLocal, CutField, If, While, For, Require, Send, Spawn, Do, Steps, no_steps, step, Else, no_else, otherwise, steps_in}
+use Rattle.resolved_service.specs.Steps.{Step, SetLocal, SetField, PutLocal, PutField, CutLocal, CutField, If, While, For, Require, Send, Spawn, Do, Return, Finish, Steps, no_steps, step, Else, no_else, otherwise, steps_in, surely_ends}
 use Rattle.resolved_service.specs.View.{Tree, Const, Local, Field, Above, Op, And, Or, Call, Child, Trees, no_trees, tree, tree_of}
 use Rattle.service_code.specs.declared.instr.Instr.{Instr}
 use Rattle.service_code.specs.declared.instr.Instr.TheVariants as i
@@ -24,6 +24,11 @@ literal_instr texts (v.Int n) = i.PushInt n
 literal_instr texts (v.Bool b) = i.PushBool b
 literal_instr texts (v.Str t) = i.PushText (place_of_text texts t)
 literal_instr texts (v.Map m) = i.PushEmpty
+
+-- how a `finish` ends its event
+abbrev pub finish_instr : Option Tree → Instr
+finish_instr None = i.End
+finish_instr (Some e) = i.Reply
 
 -- whether a call of a method gives a value
 abbrev pub gives_in : Option Method → Bool
@@ -54,20 +59,31 @@ or_code n at ca cb =
 abbrev pub if_code : ℕ → Span → List Line → List Line → List Line
 if_code n at ct ca = ct ++ line (i.JumpFalse (n + length ct + 1 + length ca)) at ∷ ca
 
-abbrev pub else_code : ℕ → Span → List Line → List Line → List Line → List Line
-else_code n at ct ca cb =
+-- behind a block that surely ends no Jump stands: the number of what comes then
+abbrev pub behind : Bool → ℕ → ℕ
+behind true n = n
+behind false n = n + 1
+
+abbrev pub else_code : ℕ → Span → List Line → Bool → List Line → List Line → List Line
+else_code n at ct true ca cb =
+    ct ++ line (i.JumpFalse (n + length ct + 1 + length ca)) at ∷ (ca ++ cb)
+else_code n at ct false ca cb =
     ct ++ line (i.JumpFalse (n + length ct + 1 + length ca + 1)) at ∷ (ca ++ line (i.Jump (n + length ct + 1 + length ca + 1 + length cb)) at ∷ cb)
 
-abbrev pub while_code : ℕ → Span → List Line → List Line → List Line
-while_code n at ct ca =
+abbrev pub while_code : ℕ → Span → List Line → Bool → List Line → List Line
+while_code n at ct true ca =
+    ct ++ line (i.JumpFalse (n + length ct + 1 + 1 + length ca)) at ∷ line i.Tick at ∷ ca
+while_code n at ct false ca =
     ct ++ line (i.JumpFalse (n + length ct + 1 + 1 + length ca + 1)) at ∷ line i.Tick at ∷ (ca ++ line (i.Jump n) at ∷ [])
 
 -- a loop over numbers has three slots: the counter's, and behind it those of the bound and the name
 abbrev pub test_code : ℕ → Span → List Line
 test_code counter at = line (i.Load counter) at ∷ line (i.Load (counter + 1)) at ∷ line (i.Op row_lt) at ∷ []
 
-abbrev pub turn_code : ℕ → Span → List Line → List Line
-turn_code counter at cb =
+-- a turn of it, which counts on unless its block surely ends
+abbrev pub turn_code : ℕ → Span → Bool → List Line → List Line
+turn_code counter at true cb = line (i.Load counter) at ∷ line (i.Store (counter + 2)) at ∷ cb
+turn_code counter at false cb =
     line (i.Load counter) at ∷ line (i.Store (counter + 2)) at
     ∷ (cb ++ line (i.Load counter) at ∷ line (i.PushInt (pos 1)) at ∷ line (i.Op row_add) at ∷ line (i.Store counter) at ∷ [])
 
@@ -106,6 +122,11 @@ module _ (methods : List Method) (texts : List Text) where
   abbrev pub two_code : ℕ → Tree → Tree → Line → List Line
   two_code n a b last = tree_code n a ++ (tree_code (n + length (tree_code n a)) b ++ last ∷ [])
 
+  -- a value that may be left out
+  abbrev pub maybe_code : ℕ → Option Tree → List Line
+  maybe_code n None = []
+  maybe_code n (Some e) = tree_code n e
+
   abbrev mutual
     pub step_code : ℕ → Step → List Line
     step_code n (SetLocal at slot e) = tree_code n e ++ line (i.Store slot) at ∷ []
@@ -114,45 +135,49 @@ module _ (methods : List Method) (texts : List Text) where
     step_code n (PutField at f key e) = two_code n key e (line (i.PutField f) at)
     step_code n (CutLocal at slot key) = tree_code n key ++ line (i.CutLocal slot) at ∷ []
     step_code n (CutField at f key) = tree_code n key ++ line (i.CutField f) at ∷ []
-    step_code n (If at test body other) = test_then n at (tree_code n test) (steps_code (n + length (tree_code n test) + 1) body) other
-    step_code n (While at test body) = while_code n at (tree_code n test) (steps_code (n + length (tree_code n test) + 1 + 1) body)
+    step_code n (If at test body other) = test_then n at (tree_code n test) (surely_ends body) (steps_code (n + length (tree_code n test) + 1) body) other
+    step_code n (While at test body) = while_code n at (tree_code n test) (surely_ends body) (steps_code (n + length (tree_code n test) + 1 + 1) body)
     step_code n (For at counter from to body) =
         tree_code n from ++ line (i.Store counter) at
         ∷ (tree_code (n + length (tree_code n from) + 1) to ++ line (i.Store (counter + 1)) at
-        ∷ while_code (loop_at n (length (tree_code n from)) (length (tree_code (n + length (tree_code n from) + 1) to))) at (test_code counter at)
-        (turn_code counter at (steps_code (block_at (loop_at n (length (tree_code n from)) (length (tree_code (n + length (tree_code n from) + 1) to)))) body)))
+        ∷ while_code (loop_at n (length (tree_code n from)) (length (tree_code (n + length (tree_code n from) + 1) to))) at (test_code counter at) (surely_ends body)
+        (turn_code counter at (surely_ends body) (steps_code (block_at (loop_at n (length (tree_code n from)) (length (tree_code (n + length (tree_code n from) + 1) to)))) body)))
     step_code n (Require at e) = tree_code n e ++ line i.Require at ∷ []
     step_code n (Send at label e) = tree_code n e ++ line (i.Send (place_of_text texts label)) at ∷ []
     step_code n (Spawn at event args) = trees_code n args ++ line (i.Spawn event) at ∷ []
     step_code n (Do at e) = tree_code n e ++ pop_code (leaves_value methods e) at
+    step_code n (Return at e) = maybe_code n e ++ line i.Return at ∷ []
+    step_code n (Finish at e) = maybe_code n e ++ line (finish_instr e) at ∷ []
 
     pub steps_code : ℕ → Steps → List Line
     steps_code n no_steps = []
     steps_code n (step s ss) = step_code n s ++ steps_code (n + length (step_code n s)) ss
 
-    pub test_then : ℕ → Span → List Line → List Line → Else → List Line
-    test_then n at ct ca no_else = if_code n at ct ca
-    test_then n at ct ca (otherwise ss) = else_code n at ct ca (steps_code (n + length ct + 1 + length ca + 1) ss)
+    pub test_then : ℕ → Span → List Line → Bool → List Line → Else → List Line
+    test_then n at ct ended ca no_else = if_code n at ct ca
+    test_then n at ct ended ca (otherwise ss) = else_code n at ct ended ca (steps_code (behind ended (n + length ct + 1 + length ca)) ss)
 
-  -- how a method ends, and an event: at the word that gives its value, or at its own
-  abbrev pub return_code : ℕ → Span → Option Last → List Line
-  return_code n at None = line i.Return at ∷ []
-  return_code n at (Some last) = tree_code n (tree_of last.value) ++ line i.Return last.at ∷ []
+  -- how a method ends, and an event: at the word that gives its value, or at its own; and not at all where its statements surely end
+  abbrev pub return_code : ℕ → Span → Bool → Option Last → List Line
+  return_code n at true None = []
+  return_code n at false None = line i.Return at ∷ []
+  return_code n at ended (Some last) = tree_code n (tree_of last.value) ++ line i.Return last.at ∷ []
 
-  abbrev pub reply_code : ℕ → Span → Option Last → List Line
-  reply_code n at None = line i.End at ∷ []
-  reply_code n at (Some last) = tree_code n (tree_of last.value) ++ line i.Reply last.at ∷ []
+  abbrev pub reply_code : ℕ → Span → Bool → Option Last → List Line
+  reply_code n at true None = []
+  reply_code n at false None = line i.End at ∷ []
+  reply_code n at ended (Some last) = tree_code n (tree_of last.value) ++ line i.Reply last.at ∷ []
 
   unfoldable pub method_code : Method → List Line
-  method_code m = body_then (steps_code 0 (steps_in m.body)) (λ n. return_code n m.at m.last)
+  method_code m = body_then (steps_code 0 (steps_in m.body)) (λ n. return_code n m.at (surely_ends (steps_in m.body)) m.last)
 
-  -- each phase: its key, the way into the child, and its block
-  abbrev pub phases_code : ℕ → List Phase → Span → Option Last → List Line
-  phases_code n [] at last = reply_code n at last
-  phases_code n (f ∷ fs) at last =
+  -- each phase: its key, the way into the child, and its block; of the last block it is told whether it surely ends
+  abbrev pub phases_code : ℕ → Bool → List Phase → Span → Option Last → List Line
+  phases_code n ended [] at last = reply_code n at ended last
+  phases_code n ended (f ∷ fs) at last =
       tree_code n (tree_of f.key) ++ line (i.Go f.class) f.at
       ∷ (steps_code (n + length (tree_code n (tree_of f.key)) + 1) (steps_in f.body)
-      ++ phases_code (n + length (tree_code n (tree_of f.key)) + 1 + length (steps_code (n + length (tree_code n (tree_of f.key)) + 1) (steps_in f.body))) fs at last)
+      ++ phases_code (n + length (tree_code n (tree_of f.key)) + 1 + length (steps_code (n + length (tree_code n (tree_of f.key)) + 1) (steps_in f.body))) (surely_ends (steps_in f.body)) fs at last)
 
   unfoldable pub event_code : Event → List Line
-  event_code e = body_then (steps_code 0 (steps_in e.here)) (λ n. phases_code n e.phases e.at e.last)
+  event_code e = body_then (steps_code 0 (steps_in e.here)) (λ n. phases_code n (surely_ends (steps_in e.here)) e.phases e.at e.last)

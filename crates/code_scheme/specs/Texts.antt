@@ -9,7 +9,7 @@ use Rattle.resolved_service.specs.declared.service.Last.{Last}
 use Rattle.resolved_service.specs.declared.service.Method.{Method}
 use Rattle.resolved_service.specs.declared.service.Phase.{Phase}
 use Rattle.resolved_service.specs.declared.service.Resolved.{Resolved}
-use Rattle.resolved_service.specs.Steps.{Step, SetLocal, SetField, PutLocal, PutField, CutLocal, CutField, If, While, For, Require, Send, Spawn, Do, Steps, no_steps, step, Else, no_else, otherwise, steps_in}
+use Rattle.resolved_service.specs.Steps.{Step, SetLocal, SetField, PutLocal, PutField, CutLocal, CutField, If, While, For, Require, Send, Spawn, Do, Return, Finish, Steps, no_steps, step, Else, no_else, otherwise, steps_in}
 use Rattle.resolved_service.specs.View.{Tree, Const, Local, Field, Above, Op, And, Or, Call, Child, Trees, no_trees, tree, tree_of}
 
 abbrev pub Text : Type 0
@@ -50,6 +50,10 @@ abbrev mutual
   trees_uses no_trees = []
   trees_uses (tree t ts) = tree_uses t ++ trees_uses ts
 
+abbrev pub maybe_uses : Option Tree → List Text
+maybe_uses None = []
+maybe_uses (Some e) = tree_uses e
+
 abbrev mutual
   pub step_uses : Step → List Text
   step_uses (SetLocal at slot e) = tree_uses e
@@ -65,6 +69,8 @@ abbrev mutual
   step_uses (Send at label e) = tree_uses e ++ label ∷ []
   step_uses (Spawn at event args) = trees_uses args
   step_uses (Do at e) = tree_uses e
+  step_uses (Return at e) = maybe_uses e
+  step_uses (Finish at e) = maybe_uses e
 
   pub steps_uses : Steps → List Text
   steps_uses no_steps = []

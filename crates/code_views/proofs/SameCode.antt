@@ -10,7 +10,7 @@ use Rattle.resolved_service.specs.declared.service.Last.{Last}
 use Rattle.resolved_service.specs.declared.service.Method.{Method}
 use Rattle.resolved_service.specs.declared.service.Phase.{Phase}
 use Rattle.resolved_service.specs.declared.service.Resolved.{Resolved}
-use Rattle.resolved_service.specs.Steps.{steps_in}
+use Rattle.resolved_service.specs.Steps.{steps_in, surely_ends}
 use Rattle.resolved_service.specs.View.{tree_of}
 use Rattle.type_rules.specs.Functions.{LastView, MethodView, PhaseView, EventView}
 use Rattle.type_rules.specs.Services.{ResolvedView}
@@ -78,26 +78,28 @@ module _ (methods : List Method) where
   phases_tall (f ∷ fs) = max (tree_height methods f.key) (max (steps_height methods f.body) (phases_tall fs))
 
   module _ (texts : List Text) where
-    abbrev return_seen : ℕ → Span → Option LastView → List Line
-    return_seen n at None = line i.Return at ∷ []
-    return_seen n at (Some l) = tree_code methods texts n l.value ++ line i.Return l.at ∷ []
+    abbrev return_seen : ℕ → Span → Bool → Option LastView → List Line
+    return_seen n at true None = []
+    return_seen n at false None = line i.Return at ∷ []
+    return_seen n at ended (Some l) = tree_code methods texts n l.value ++ line i.Return l.at ∷ []
 
-    abbrev reply_seen : ℕ → Span → Option LastView → List Line
-    reply_seen n at None = line i.End at ∷ []
-    reply_seen n at (Some l) = tree_code methods texts n l.value ++ line i.Reply l.at ∷ []
+    abbrev reply_seen : ℕ → Span → Bool → Option LastView → List Line
+    reply_seen n at true None = []
+    reply_seen n at false None = line i.End at ∷ []
+    reply_seen n at ended (Some l) = tree_code methods texts n l.value ++ line i.Reply l.at ∷ []
 
-    abbrev phases_seen : ℕ → List PhaseView → Span → Option LastView → List Line
-    phases_seen n [] at last = reply_seen n at last
-    phases_seen n (f ∷ fs) at last =
+    abbrev phases_seen : ℕ → Bool → List PhaseView → Span → Option LastView → List Line
+    phases_seen n ended [] at last = reply_seen n at ended last
+    phases_seen n ended (f ∷ fs) at last =
         tree_code methods texts n f.key ++ line (i.Go (record { 0 = f.class })) f.at
         ∷ (steps_code methods texts (n + length (tree_code methods texts n f.key) + 1) f.body
-        ++ phases_seen (n + length (tree_code methods texts n f.key) + 1 + length (steps_code methods texts (n + length (tree_code methods texts n f.key) + 1) f.body)) fs at last)
+        ++ phases_seen (n + length (tree_code methods texts n f.key) + 1 + length (steps_code methods texts (n + length (tree_code methods texts n f.key) + 1) f.body)) (surely_ends f.body) fs at last)
 
     abbrev method_lines : MethodView → List Line
-    method_lines m = body_then (steps_code methods texts 0 m.body) (λ n. return_seen n m.at m.last)
+    method_lines m = body_then (steps_code methods texts 0 m.body) (λ n. return_seen n m.at (surely_ends m.body) m.last)
 
     abbrev event_lines : EventView → List Line
-    event_lines e = body_then (steps_code methods texts 0 e.here) (λ n. phases_seen n e.phases e.at e.last)
+    event_lines e = body_then (steps_code methods texts 0 e.here) (λ n. phases_seen n (surely_ends e.here) e.phases e.at e.last)
 
     abbrev method_seen : MethodView → Function
     method_seen m = record {
@@ -130,20 +132,24 @@ module _ (methods : List Method) where
     events_seen (x ∷ xs) [] = []
     events_seen (x ∷ xs) (e ∷ es) = event_seen x e ∷ events_seen xs es
 
-    return_is : (n : ℕ) (at : Span) (l : Option Last) → return_code methods texts n at l ≡ return_seen n at (option_map last_view l)
-    return_is n at None = refl
-    return_is n at (Some l) = refl
+    return_is : (n : ℕ) (at : Span) (ended : Bool) (l : Option Last) → return_code methods texts n at ended l ≡ return_seen n at ended (option_map last_view l)
+    return_is n at true None = refl
+    return_is n at false None = refl
+    return_is n at true (Some l) = refl
+    return_is n at false (Some l) = refl
 
-    reply_is : (n : ℕ) (at : Span) (l : Option Last) → reply_code methods texts n at l ≡ reply_seen n at (option_map last_view l)
-    reply_is n at None = refl
-    reply_is n at (Some l) = refl
+    reply_is : (n : ℕ) (at : Span) (ended : Bool) (l : Option Last) → reply_code methods texts n at ended l ≡ reply_seen n at ended (option_map last_view l)
+    reply_is n at true None = refl
+    reply_is n at false None = refl
+    reply_is n at true (Some l) = refl
+    reply_is n at false (Some l) = refl
 
-    phases_are : (n : ℕ) (fs : List Phase) (at : Span) (l : Option Last) → phases_code methods texts n fs at l ≡ phases_seen n (map phase_view fs) at (option_map last_view l)
-    phases_are n [] at l = reply_is n at l
-    phases_are n (f ∷ fs) at l = λ k.
+    phases_are : (n : ℕ) (ended : Bool) (fs : List Phase) (at : Span) (l : Option Last) → phases_code methods texts n ended fs at l ≡ phases_seen n ended (map phase_view fs) at (option_map last_view l)
+    phases_are n ended [] at l = reply_is n at ended l
+    phases_are n ended (f ∷ fs) at l = λ k.
         tree_code methods texts n (tree_of f.key) ++ line (i.Go f.class) f.at
         ∷ (steps_code methods texts (n + length (tree_code methods texts n (tree_of f.key)) + 1) (steps_in f.body)
-        ++ phases_are (n + length (tree_code methods texts n (tree_of f.key)) + 1 + length (steps_code methods texts (n + length (tree_code methods texts n (tree_of f.key)) + 1) (steps_in f.body))) fs at l k)
+        ++ phases_are (n + length (tree_code methods texts n (tree_of f.key)) + 1 + length (steps_code methods texts (n + length (tree_code methods texts n (tree_of f.key)) + 1) (steps_in f.body))) (surely_ends (steps_in f.body)) fs at l k)
 
     tall_last : (l : Option Last) → last_height methods l ≡ last_tall (option_map last_view l)
     tall_last None = refl
@@ -155,7 +161,7 @@ module _ (methods : List Method) where
 
     method_code_is : (m : Method) → method_code methods texts m ≡ method_lines (method_view m)
     unfolding method_code
-    method_code_is m = λ k. steps_code methods texts 0 (steps_in m.body) ++ return_is (length (steps_code methods texts 0 (steps_in m.body))) m.at m.last k
+    method_code_is m = λ k. steps_code methods texts 0 (steps_in m.body) ++ return_is (length (steps_code methods texts 0 (steps_in m.body))) m.at (surely_ends (steps_in m.body)) m.last k
 
     method_tall : (m : Method) → method_height methods m ≡ max (steps_height methods (steps_in m.body)) (last_tall (option_map last_view m.last))
     unfolding method_height
@@ -163,7 +169,7 @@ module _ (methods : List Method) where
 
     event_code_is : (e : Event) → event_code methods texts e ≡ event_lines (event_view e)
     unfolding event_code
-    event_code_is e = λ k. steps_code methods texts 0 (steps_in e.here) ++ phases_are (length (steps_code methods texts 0 (steps_in e.here))) e.phases e.at e.last k
+    event_code_is e = λ k. steps_code methods texts 0 (steps_in e.here) ++ phases_are (length (steps_code methods texts 0 (steps_in e.here))) (surely_ends (steps_in e.here)) e.phases e.at e.last k
 
     event_tall : (e : Event) → event_height methods e ≡ max (steps_height methods (steps_in e.here)) (max (phases_tall (map phase_view e.phases)) (last_tall (option_map last_view e.last)))
     unfolding event_height
@@ -207,20 +213,24 @@ module _ (methods : List Method) where
 -- ---- of the methods it asks only which of them give a value
 
 module _ (a b : List Method) (same : SameGives a b) (texts : List Text) where
-  return_same : (n : ℕ) (at : Span) (l : Option LastView) → return_seen a texts n at l ≡ return_seen b texts n at l
-  return_same n at None = refl
-  return_same n at (Some l) = λ k. same_tree a b same texts n l.value k ++ line i.Return l.at ∷ []
+  return_same : (n : ℕ) (at : Span) (ended : Bool) (l : Option LastView) → return_seen a texts n at ended l ≡ return_seen b texts n at ended l
+  return_same n at true None = refl
+  return_same n at false None = refl
+  return_same n at true (Some l) = λ k. same_tree a b same texts n l.value k ++ line i.Return l.at ∷ []
+  return_same n at false (Some l) = λ k. same_tree a b same texts n l.value k ++ line i.Return l.at ∷ []
 
-  reply_same : (n : ℕ) (at : Span) (l : Option LastView) → reply_seen a texts n at l ≡ reply_seen b texts n at l
-  reply_same n at None = refl
-  reply_same n at (Some l) = λ k. same_tree a b same texts n l.value k ++ line i.Reply l.at ∷ []
+  reply_same : (n : ℕ) (at : Span) (ended : Bool) (l : Option LastView) → reply_seen a texts n at ended l ≡ reply_seen b texts n at ended l
+  reply_same n at true None = refl
+  reply_same n at false None = refl
+  reply_same n at true (Some l) = λ k. same_tree a b same texts n l.value k ++ line i.Reply l.at ∷ []
+  reply_same n at false (Some l) = λ k. same_tree a b same texts n l.value k ++ line i.Reply l.at ∷ []
 
-  phases_same : (n : ℕ) (fs : List PhaseView) (at : Span) (l : Option LastView) → phases_seen a texts n fs at l ≡ phases_seen b texts n fs at l
-  phases_same n [] at l = reply_same n at l
-  phases_same n (f ∷ fs) at l = λ k.
+  phases_same : (n : ℕ) (ended : Bool) (fs : List PhaseView) (at : Span) (l : Option LastView) → phases_seen a texts n ended fs at l ≡ phases_seen b texts n ended fs at l
+  phases_same n ended [] at l = reply_same n at ended l
+  phases_same n ended (f ∷ fs) at l = λ k.
       same_tree a b same texts n f.key k ++ line (i.Go (record { 0 = f.class })) f.at
       ∷ (same_steps a b same texts (n + length (same_tree a b same texts n f.key k) + 1) f.body k
-      ++ phases_same (n + length (same_tree a b same texts n f.key k) + 1 + length (same_steps a b same texts (n + length (same_tree a b same texts n f.key k) + 1) f.body k)) fs at l k)
+      ++ phases_same (n + length (same_tree a b same texts n f.key k) + 1 + length (same_steps a b same texts (n + length (same_tree a b same texts n f.key k) + 1) f.body k)) (surely_ends f.body) fs at l k)
 
   last_same : (l : Option LastView) → last_tall a l ≡ last_tall b l
   last_same None = refl
@@ -231,10 +241,10 @@ module _ (a b : List Method) (same : SameGives a b) (texts : List Text) where
   phases_tall_same (f ∷ fs) = λ k. max (tall_tree a b same f.key k) (max (tall_steps a b same f.body k) (phases_tall_same fs k))
 
   method_lines_same : (m : MethodView) → method_lines a texts m ≡ method_lines b texts m
-  method_lines_same m = λ k. same_steps a b same texts 0 m.body k ++ return_same (length (same_steps a b same texts 0 m.body k)) m.at m.last k
+  method_lines_same m = λ k. same_steps a b same texts 0 m.body k ++ return_same (length (same_steps a b same texts 0 m.body k)) m.at (surely_ends m.body) m.last k
 
   event_lines_same : (e : EventView) → event_lines a texts e ≡ event_lines b texts e
-  event_lines_same e = λ k. same_steps a b same texts 0 e.here k ++ phases_same (length (same_steps a b same texts 0 e.here k)) e.phases e.at e.last k
+  event_lines_same e = λ k. same_steps a b same texts 0 e.here k ++ phases_same (length (same_steps a b same texts 0 e.here k)) (surely_ends e.here) e.phases e.at e.last k
 
   method_same : (m : MethodView) → method_seen a texts m ≡ method_seen b texts m
   method_same m = λ k. record {

@@ -1,5 +1,5 @@
 -- The rules for lists, as one walk from place to place.
-use Rattle.std.proofs.Common.{◌≡◌, ◌==◌, ◌<◌, ◌≤◌, ◌+◌, ℕ, zero, suc, List, [], ◌∷◌, ◌++◌, length, map, get_or, take, drop, Option, Some, None, refl, sym, ap, subst, ◌∙◌, arith}
+use Rattle.std.proofs.Common.{◌≡◌, ◌==◌, ◌<◌, ◌≤◌, ◌+◌, ℕ, Bool, false, zero, suc, List, [], ◌∷◌, ◌++◌, length, map, get_or, take, drop, Option, Some, None, refl, sym, ap, subst, ◌∙◌, arith}
 use Rattle.std.proofs.lemmas.List.{length-take-le}
 use Rattle.wave_base.specs.declared.value.Kind.{Kind}
 use Rattle.wave_base.specs.declared.value.Kind.TheVariants as k
@@ -13,14 +13,14 @@ use Rattle.mace_ast.specs.declared.event.EventDecl.{EventDecl}
 use Rattle.mace_ast.specs.Exprs.{expr_tree, exprs_of}
 use Rattle.mace_ast.specs.Stmts.{stmt_tree, stmts_of}
 use Rattle.mace_ast.specs.Decls.{method_tree, phase_tree, event_tree}
-use Rattle.resolved_service.specs.Steps.{Step, Steps, steps_of, step}
+use Rattle.resolved_service.specs.Steps.{Step, Steps, steps_of, step, is_end, surely_ends}
 use Rattle.resolved_service.specs.View.{Tree, Trees, trees_of, tree}
 use Rattle.type_rules.specs.declared.known.Known.{Known}
 use Rattle.type_rules.specs.Demands.{Demand, first_wrong}
 use Rattle.type_rules.specs.Here.{Here, declared}
 use Rattle.type_rules.specs.Exprs.{count, resolve, resolve_all, demands_as, args_demands}
-use Rattle.type_rules.specs.Stmts.{after, after_all, resolve_stmt, resolve_stmts, stmt_demands, stmts_demands}
-use Rattle.type_rules.specs.Functions.{MethodView, PhaseView, EventView, after_params, param_asks, no_map, method_params_demands, event_params_demands, phase_end, event_end, phase_demands, phases_demands, resolve_phase, resolve_phases, method_demands, resolve_method, event_demands, resolve_event}
+use Rattle.type_rules.specs.Stmts.{after, after_all, resolve_stmt, resolve_stmts, start_of, reach_asks, stmt_demands, stmts_demands, behind_demands}
+use Rattle.type_rules.specs.Functions.{MethodView, PhaseView, EventView, after_params, param_asks, no_map, method_params_demands, event_params_demands, phase_body, phase_end, event_end, ended_behind, phase_demands, phases_demands, resolve_phase, resolve_phases, method_demands, resolve_method, event_demands, resolve_event}
 use Rattle.type_rules.specs.Services.{field_asks, fields_demands, methods_demands, events_demands, resolve_methods}
 use Rattle.context_types.proofs.Walking.{ends, walk, makes}
 
@@ -44,51 +44,59 @@ pub params_ends : (h : Here) (ps : List Param) → after_params h ps ≡ ends ne
 params_ends h [] = refl
 params_ends h (p ∷ ps) = params_ends (next_param h p) ps
 
--- ---- statements
+-- ---- statements, each with whether the one before it surely ends
 
-abbrev pub next_stmt : Here → Stmt → Here
-next_stmt h s = after h (stmt_tree s)
+abbrev pub next_stmt : Here × Bool → Stmt → Here × Bool
+next_stmt p s = (after p.0 (stmt_tree s), is_end (resolve_stmt p.0 (stmt_tree s)))
 
-abbrev pub stmt_asks : Here → Stmt → List Demand
-stmt_asks h s = stmt_demands h (stmt_tree s)
+abbrev pub stmt_asks : Here × Bool → Stmt → List Demand
+stmt_asks p s = reach_asks p.1 (start_of (stmt_tree s)) ++ stmt_demands p.0 (stmt_tree s)
 
-abbrev pub stmt_made : Here → Stmt → Step
-stmt_made h s = resolve_stmt h (stmt_tree s)
+abbrev pub stmt_made : Here × Bool → Stmt → Step
+stmt_made p s = resolve_stmt p.0 (stmt_tree s)
 
-pub stmts_walk : (h : Here) (ss : List Stmt) → stmts_demands h (stmts_of (map stmt_tree ss)) ≡ walk next_stmt stmt_asks h ss
+behind_walk : (h : Here) (b : Bool) (ss : List Stmt) → behind_demands h b (stmts_of (map stmt_tree ss)) ≡ walk next_stmt stmt_asks (h, b) ss
+behind_walk h b [] = refl
+behind_walk h b (s ∷ ss) = ap (λ ds. stmt_asks (h, b) s ++ ds) (behind_walk (after h (stmt_tree s)) (is_end (resolve_stmt h (stmt_tree s))) ss)
+
+pub stmts_walk : (h : Here) (ss : List Stmt) → first_wrong (stmts_demands h (stmts_of (map stmt_tree ss))) ≡ first_wrong (walk next_stmt stmt_asks (h, false) ss)
 stmts_walk h [] = refl
-stmts_walk h (s ∷ ss) = ap (λ ds. stmt_asks h s ++ ds) (stmts_walk (next_stmt h s) ss)
+stmts_walk h (s ∷ ss) = ap (λ ds. first_wrong (stmt_demands h (stmt_tree s) ++ ds)) (behind_walk (after h (stmt_tree s)) (is_end (resolve_stmt h (stmt_tree s))) ss)
 
-pub stmts_ends : (h : Here) (ss : List Stmt) → after_all h (stmts_of (map stmt_tree ss)) ≡ ends next_stmt h ss
-stmts_ends h [] = refl
-stmts_ends h (s ∷ ss) = stmts_ends (next_stmt h s) ss
+pub stmts_ends : (h : Here) (b : Bool) (ss : List Stmt) → after_all h (stmts_of (map stmt_tree ss)) ≡ (ends next_stmt (h, b) ss).0
+stmts_ends h b [] = refl
+stmts_ends h b (s ∷ ss) = stmts_ends (after h (stmt_tree s)) (is_end (resolve_stmt h (stmt_tree s))) ss
 
-pub stmts_made : (h : Here) (ss : List Stmt) → resolve_stmts h (stmts_of (map stmt_tree ss)) ≡ steps_of (makes next_stmt stmt_made h ss)
-stmts_made h [] = refl
-stmts_made h (s ∷ ss) = ap (λ l. step (stmt_made h s) l) (stmts_made (next_stmt h s) ss)
+pub stmts_made : (h : Here) (b : Bool) (ss : List Stmt) → resolve_stmts h (stmts_of (map stmt_tree ss)) ≡ steps_of (makes next_stmt stmt_made (h, b) ss)
+stmts_made h b [] = refl
+stmts_made h b (s ∷ ss) = ap (λ l. step (stmt_made (h, b) s) l) (stmts_made (after h (stmt_tree s)) (is_end (resolve_stmt h (stmt_tree s))) ss)
 
--- ---- phases
+-- ---- phases, each with whether the one before it surely ends
 
-abbrev pub next_phase : Here → Phase → Here
-next_phase h p = phase_end h (phase_tree p)
+abbrev pub next_phase : Here × Bool → Phase → Here × Bool
+next_phase g p = (phase_end g.0 (phase_tree p), surely_ends (phase_body g.0 (phase_tree p)))
 
-abbrev pub phase_asks : Here → Phase → List Demand
-phase_asks h p = phase_demands h (phase_tree p)
+abbrev pub phase_asks : Here × Bool → Phase → List Demand
+phase_asks g p = phase_demands g.0 g.1 (phase_tree p)
 
-abbrev pub phase_made : Here → Phase → PhaseView
-phase_made h p = resolve_phase h (phase_tree p)
+abbrev pub phase_made : Here × Bool → Phase → PhaseView
+phase_made g p = resolve_phase g.0 (phase_tree p)
 
-pub phases_walk : (h : Here) (ps : List Phase) → phases_demands h (map phase_tree ps) ≡ walk next_phase phase_asks h ps
-phases_walk h [] = refl
-phases_walk h (p ∷ ps) = ap (λ ds. phase_asks h p ++ ds) (phases_walk (next_phase h p) ps)
+pub phases_walk : (h : Here) (b : Bool) (ps : List Phase) → phases_demands h b (map phase_tree ps) ≡ walk next_phase phase_asks (h, b) ps
+phases_walk h b [] = refl
+phases_walk h b (p ∷ ps) = ap (λ ds. phase_asks (h, b) p ++ ds) (phases_walk (phase_end h (phase_tree p)) (surely_ends (phase_body h (phase_tree p))) ps)
 
-pub phases_ends : (h : Here) (ps : List Phase) → event_end h (map phase_tree ps) ≡ ends next_phase h ps
-phases_ends h [] = refl
-phases_ends h (p ∷ ps) = phases_ends (next_phase h p) ps
+pub phases_ends : (h : Here) (b : Bool) (ps : List Phase) → event_end h (map phase_tree ps) ≡ (ends next_phase (h, b) ps).0
+phases_ends h b [] = refl
+phases_ends h b (p ∷ ps) = phases_ends (phase_end h (phase_tree p)) (surely_ends (phase_body h (phase_tree p))) ps
 
-pub phases_made : (h : Here) (ps : List Phase) → resolve_phases h (map phase_tree ps) ≡ makes next_phase phase_made h ps
-phases_made h [] = refl
-phases_made h (p ∷ ps) = ap (λ l. phase_made h p ∷ l) (phases_made (next_phase h p) ps)
+pub phases_ended : (h : Here) (b : Bool) (ps : List Phase) → ended_behind h b (map phase_tree ps) ≡ (ends next_phase (h, b) ps).1
+phases_ended h b [] = refl
+phases_ended h b (p ∷ ps) = phases_ended (phase_end h (phase_tree p)) (surely_ends (phase_body h (phase_tree p))) ps
+
+pub phases_made : (h : Here) (b : Bool) (ps : List Phase) → resolve_phases h (map phase_tree ps) ≡ makes next_phase phase_made (h, b) ps
+phases_made h b [] = refl
+phases_made h b (p ∷ ps) = ap (λ l. phase_made (h, b) p ∷ l) (phases_made (phase_end h (phase_tree p)) (surely_ends (phase_body h (phase_tree p))) ps)
 
 -- ---- what is numbered
 

@@ -34,6 +34,8 @@ mutual
   after_grows h (s.Set at target key value) = same h.locals
   after_grows h (s.Call at name args) = same h.locals
   after_grows h (s.ChildCall at class key name args) = same h.locals
+  after_grows h (s.Return at value) = same h.locals
+  after_grows h (s.Finish at value) = same h.locals
 
   all_grow : (h : Here) (ss : StmtTrees) → Grows h.locals (after_all h ss).locals
   all_grow h no_stmts = same h.locals
@@ -57,5 +59,5 @@ cut_loop h j p name ss before cut on is number cuts =
     counted_name = record { name = name; kind = Int; slot = length (h.slots ++ Int ∷ Int ∷ []) }
 
 -- the place behind a block, with the locals before it
-pub behind_is : (h p : Here) (cut : List Local) → h.locals ≡ cut → behind h p ≡ record { known = p.known; class = p.class; function = p.function; locals = cut; slots = p.slots }
-behind_is h p cut is = ap (λ l. record { known = p.known; class = p.class; function = p.function; locals = l; slots = p.slots }) is
+pub behind_is : (h p : Here) (cut : List Local) → h.locals ≡ cut → behind h p ≡ record { known = p.known; class = p.class; function = p.function; within = p.within; locals = cut; slots = p.slots }
+behind_is h p cut is = ap (λ l. record { known = p.known; class = p.class; function = p.function; within = p.within; locals = l; slots = p.slots }) is

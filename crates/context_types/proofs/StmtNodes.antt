@@ -18,6 +18,7 @@ use Rattle.resolved_service.specs.declared.stmt.Action.TheVariants as done
 use Rattle.resolved_service.specs.Steps as r
 use Rattle.resolved_service.specs.Steps.{Step, action_step, row_steps, step_of, steps_of, steps_in}
 use Rattle.resolved_service.specs.View.{tree_of}
+use Rattle.type_rules.specs.Stmts.{start_of}
 use Rattle.context_types.specs.inner.Places.{else_in}
 
 -- ---- the syntax tree
@@ -32,6 +33,25 @@ while_node test body at = search (rules, source.the_lemmas, row_stmts-items)
 pub for_node : (name : Name) (low high : Expr) (body : Vec Stmt Global) (at : Span)
     → action_tree (action.For name low high body) at ≡ s.For at name (expr_tree low) (expr_tree high) (stmts_of (map stmt_tree body.items))
 for_node name low high body at = search (rules, source.the_lemmas, row_stmts-items)
+
+-- where a statement starts
+action_starts : (a : source.Action) (at : Span) → start_of (action_tree a at) ≡ at
+action_starts (action.Let n e) at = refl
+action_starts (action.If' e s body other) at = refl
+action_starts (action.While' e s body) at = refl
+action_starts (action.For' n low high s body) at = refl
+action_starts (action.Require e) at = refl
+action_starts (action.Send t e) at = refl
+action_starts (action.Spawn t es) at = refl
+action_starts (action.Cut x k) at = refl
+action_starts (action.Set x k e) at = refl
+action_starts (action.Call f es) at = refl
+action_starts (action.ChildCall c k f es) at = refl
+action_starts (action.Return e) at = refl
+action_starts (action.Finish e) at = refl
+
+pub starts_at : (s : Stmt) → start_of (stmt_tree s) ≡ s.at
+starts_at s = action_starts s.action s.at
 
 -- ---- with names resolved
 

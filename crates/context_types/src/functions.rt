@@ -1,19 +1,21 @@
 ghost use Rattle.std.specs.Prelude.{◌≡◌, ◌&&◌, is_none, length, map};
 ghost use Rattle.std.specs.Option.{option_map, option_map_or};
-ghost use Rattle.value_ops.specs.Rows.{wave_rows, first_builtin};
+ghost use Rattle.value_ops.specs.Rows.{first_builtin};
+ghost use Rattle.resolved_service.specs.Steps.{surely_ends};
 ghost use Rattle.mace_ast.specs.Decls.{last_tree, method_tree, phase_tree, event_tree};
 ghost use Rattle.mace_ast.specs.Stmts.{stmt_tree, stmts_of, no_stmts};
 ghost use Rattle.type_rules.specs.Demands.{Judges};
 ghost use Rattle.type_rules.specs.Here as places;
+ghost use Rattle.type_rules.specs.Here.{rows_of};
 ghost use Rattle.type_rules.specs.Known as known;
 ghost use Rattle.type_rules.specs.Stmts.{after_all, resolve_stmts, stmts_demands};
 ghost use Rattle.type_rules.specs.Functions as rules;
 ghost use Rattle.type_rules.specs.Views.{last_view, method_view, phase_view, event_view};
-ghost use Rattle.context_types.specs.inner.Places.{here_of, AreSteps};
+ghost use Rattle.context_types.specs.inner.Places.{here_of, function_of, AreSteps};
 
-use crate::here::Here;
+use crate::here::{Here, Within};
 use mace_ast::{EventDecl, Last as LastDecl, MethodDecl, Name, Phase as PhaseDecl, Stmt};
-use resolved_service::{Event, Last, Method, Phase, Stmt as Step};
+use resolved_service::{Event, Last, Method, Phase, Stmt as Step, surely_ends};
 use std::alloc::Global;
 use type_rules::TypeError;
 use type_tables::{Tables, kinds_of};
@@ -31,12 +33,12 @@ pub fn none_before(n: usize, first: Option<u16>) -> bool
 
 // Whether a class's method with a number may have a name: no earlier one has it, and no builtin.
 fn is_free(tables: &Tables, class: u16, number: usize, name: &Txt) -> bool
-    ensures { result ≡ (known.none_before number (known.method_named tables.now class name.now) && is_none (first_builtin wave_rows name.now)) }
+    ensures { result ≡ (known.none_before number (known.method_named tables.now class name.now) && is_none (first_builtin (rows_of tables.now) name.now)) }
 {
     if !none_before(number, tables.method(class, name)) {
         return false;
     }
-    tables.operators().builtin(name.bytes()).is_none()
+    tables.builtin(name).is_none()
 }
 
 /// A class's method with a number among all methods.
@@ -53,10 +55,11 @@ pub fn method(
     if !is_free(tables, class, number, name) {
         return Err(TypeError::Duplicate(m.name.at));
     }
-    let mut here = Here::start(alloc, tables, class, number);
+    let mut here = Here::start(alloc, tables, class, number, Within::Method(m.result));
     here.method_params(alloc, m.params.as_slice())?;
     let body = here.stmts(alloc, m.body.as_slice())?;
-    let last = here.last(alloc, &m.name, m.result, &m.last)?;
+    let ended = surely_ends(body.as_slice());
+    let last = here.last(alloc, &m.name, ended, m.result, &m.last)?;
     Ok(Method {
         at: m.at,
         name: name.copy(alloc)?,
@@ -81,11 +84,14 @@ pub fn event(
     if !none_before(number, tables.event(&e.name.text)) {
         return Err(TypeError::Duplicate(e.name.at));
     }
-    let mut here = Here::start(alloc, tables, 0, tables.method_count());
+    let within = Within::Event(e.result);
+    let mut here = Here::start(alloc, tables, 0, tables.method_count(), within);
     here.event_params(alloc, e.params.as_slice())?;
     let first = here.first(alloc, &e.here)?;
-    let phases = here.phases(alloc, e.phases.as_slice())?;
-    let last = here.last(alloc, &e.name, e.result, &e.last)?;
+    let ended = surely_ends(first.as_slice());
+    let made = here.phases(alloc, ended, e.phases.as_slice())?;
+    let (phases, past) = made;
+    let last = here.last(alloc, &e.name, past, e.result, &e.last)?;
     Ok(Event {
         at: e.at,
         locals: here.into_slots(),
@@ -97,13 +103,20 @@ pub fn event(
 
 impl<'t> Here<'t> {
     // Where a method or an event begins.
-    fn start(alloc: Global, known: &'t Tables, class: u16, function: usize) -> Here<'t>
-        ensures { here_of result ≡ places.start known.now class function }
+    fn start(
+        alloc: Global,
+        known: &'t Tables,
+        class: u16,
+        function: usize,
+        within: Within,
+    ) -> Here<'t>
+        ensures { here_of result ≡ places.start known.now class function (function_of within) }
     {
         Here {
             known,
             class,
             function,
+            within,
             locals: Vec::new(alloc),
             slots: Vec::new(alloc),
         }
@@ -116,6 +129,7 @@ impl<'t> Here<'t> {
             known: _,
             class: _,
             function: _,
+            within: _,
             locals: _,
             slots,
         } = self;
@@ -133,45 +147,62 @@ impl<'t> Here<'t> {
         }
     }
 
-    // What is returned or replied, by the kind that is to be.
+    // What is returned or replied, by the kind that is to be, behind statements that surely end, or not.
     fn last(
         &self,
         alloc: Global,
         name: &Name,
+        ended: bool,
         gives: Option<Kind>,
         last: &Option<LastDecl>,
     ) -> Result<Option<Last>, TypeError>
         ensures { let tree = option_map last_tree last.now in
-            Judges (rules.last_demands (here_of self.now) name.now gives tree) (λ made. option_map (rules.resolve_last (here_of self.now)) tree ≡ option_map last_view made) result }
+            Judges (rules.last_demands (here_of self.now) name.now ended gives tree) (λ made. option_map (rules.resolve_last (here_of self.now)) tree ≡ option_map last_view made) result }
     {
-        match (gives, last) {
-            (None, None) => Ok(None),
-            (Some(_), None) => Err(TypeError::MissingReply(name.at)),
-            (None, Some(last)) => Err(TypeError::Mismatch(last.at)),
-            (Some(kind), Some(last)) => {
-                let value = self.expr_of(alloc, kind, &last.value)?;
-                Ok(Some(Last { at: last.at, value }))
+        let Some(last) = last else {
+            if gives.is_some() && !ended {
+                return Err(TypeError::MissingReply(name.at));
             }
+            return Ok(None);
+        };
+        if ended {
+            return Err(TypeError::Unreachable(last.at));
         }
+        let Some(kind) = gives else {
+            return Err(TypeError::Mismatch(last.at));
+        };
+        let value = self.expr_of(alloc, kind, &last.value)?;
+        Ok(Some(Last { at: last.at, value }))
     }
 
-    fn phases(&mut self, alloc: Global, phases: &[PhaseDecl]) -> Result<Vec<Phase>, TypeError>
-        ensures { let ps = map phase_tree phases.now in
-            Judges (rules.phases_demands (here_of self.old) ps)
-            (λ made. (rules.event_end (here_of self.old) ps ≡ here_of self.new) × (rules.resolve_phases (here_of self.old) ps ≡ map phase_view made.items)) result }
+    // Phases, each behind one that does not surely end; and whether the last one does.
+    fn phases(
+        &mut self,
+        alloc: Global,
+        ended: bool,
+        phases: &[PhaseDecl],
+    ) -> Result<(Vec<Phase>, bool), TypeError>
+        ensures { let h = here_of self.old in let ps = map phase_tree phases.now in
+            Judges (rules.phases_demands h ended ps)
+            (λ made. (rules.event_end h ps ≡ here_of self.new) × (rules.resolve_phases h ps ≡ map phase_view made.0.items) × (rules.ended_behind h ended ps ≡ made.1)) result }
     {
         let mut made = Vec::new(alloc);
+        let mut past = ended;
         for phase in phases {
-            let phase = self.phase(alloc, phase)?;
+            let phase = self.phase(alloc, past, phase)?;
+            past = surely_ends(phase.body.as_slice());
             made.push(phase)?;
         }
-        Ok(made)
+        Ok((made, past))
     }
 
-    fn phase(&mut self, alloc: Global, phase: &PhaseDecl) -> Result<Phase, TypeError>
-        ensures { Judges (rules.phase_demands (here_of self.old) (phase_tree phase.now))
+    fn phase(&mut self, alloc: Global, ended: bool, phase: &PhaseDecl) -> Result<Phase, TypeError>
+        ensures { Judges (rules.phase_demands (here_of self.old) ended (phase_tree phase.now))
             (λ made. (rules.phase_end (here_of self.old) (phase_tree phase.now) ≡ here_of self.new) × (rules.resolve_phase (here_of self.old) (phase_tree phase.now) ≡ phase_view made)) result }
     {
+        if ended {
+            return Err(TypeError::Unreachable(phase.at));
+        }
         let class = self.child(phase.at, &phase.class)?;
         let key = self.expr_of(alloc, Kind::Int, &phase.key)?;
         self.class = class;

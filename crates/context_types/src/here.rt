@@ -9,6 +9,13 @@ use type_rules::{Callee, Local, Variable};
 use type_tables::Tables;
 use wave_base::{Kind, Txt};
 
+/// What a statement stands in: a method or an event, and the kind that it gives, if any.
+#[derive(Clone, Copy)]
+pub enum Within {
+    Method(Option<Kind>),
+    Event(Option<Kind>),
+}
+
 /// Where the walk stands: in a class, in a method or an event with a number, behind the locals that may be named. `slots`
 /// has the kinds of all slots that the function has given so far.
 #[derive(Drop)]
@@ -16,6 +23,7 @@ pub struct Here<'t> {
     pub known: &'t Tables,
     pub class: u16,
     pub function: usize,
+    pub within: Within,
     pub locals: Vec<Local>,
     pub slots: Vec<Kind>,
 }
@@ -51,7 +59,7 @@ impl Here<'_> {
         ensures found { result ≡ rules.called (here_of self.now) name.now }
         ensures callable { IfSome result (IsCallable self.now.known.now) }
     {
-        match self.known.operators().builtin(name.bytes()) {
+        match self.known.builtin(name) {
             Some(row) => Some(Callee::Builtin(row)),
             None => match self.known.method(self.class, name) {
                 Some(method) => Some(Callee::Method(method)),

@@ -1,4 +1,5 @@
 ghost use Rattle.std.specs.Prelude.{◌≡◌, map, None, Some};
+ghost use Rattle.std.specs.Option.{option_map};
 ghost use Rattle.mace_ast.specs.Exprs.{expr_tree};
 ghost use Rattle.mace_ast.specs.Stmts as syntax;
 ghost use Rattle.resolved_service.specs.Steps.{step_of};
@@ -9,7 +10,7 @@ ghost use Rattle.type_rules.specs.Exprs.{resolve};
 ghost use Rattle.type_rules.specs.Stmts as rules;
 ghost use Rattle.context_types.specs.inner.Places.{here_of};
 
-use crate::here::Here;
+use crate::here::{Here, Within};
 use mace_ast::{Expr, Target};
 use resolved_service::{Action, Expr as Tree, Stmt as Step};
 use std::alloc::Global;
@@ -129,6 +130,68 @@ impl Here<'_> {
             Variable::Field(field, _) => Action::PutField(field, key, value),
         };
         Ok(Step { at, action })
+    }
+
+    /// `return;` or `return e;`, which ends a method.
+    pub fn return_end(
+        &self,
+        alloc: Global,
+        at: Span,
+        value: &Option<Expr>,
+    ) -> Result<Step, TypeError>
+        ensures { let h = here_of self.now in let s = syntax.Return at (option_map expr_tree value.now) in
+            Judges (rules.stmt_demands h s) (λ step. rules.resolve_stmt h s ≡ step_of step) result }
+    {
+        match self.within {
+            Within::Method(gives) => {
+                let value = self.end_value(alloc, at, gives, value)?;
+                let action = Action::Return(value);
+                Ok(Step { at, action })
+            }
+            Within::Event(_) => Err(TypeError::Mismatch(at)),
+        }
+    }
+
+    /// `finish;` or `finish e;`, which ends an event.
+    pub fn finish_end(
+        &self,
+        alloc: Global,
+        at: Span,
+        value: &Option<Expr>,
+    ) -> Result<Step, TypeError>
+        ensures { let h = here_of self.now in let s = syntax.Finish at (option_map expr_tree value.now) in
+            Judges (rules.stmt_demands h s) (λ step. rules.resolve_stmt h s ≡ step_of step) result }
+    {
+        match self.within {
+            Within::Event(gives) => {
+                let value = self.end_value(alloc, at, gives, value)?;
+                let action = Action::Finish(value);
+                Ok(Step { at, action })
+            }
+            Within::Method(_) => Err(TypeError::Mismatch(at)),
+        }
+    }
+
+    // A value, where the function gives one, and none, where it gives none.
+    fn end_value(
+        &self,
+        alloc: Global,
+        at: Span,
+        gives: Option<Kind>,
+        value: &Option<Expr>,
+    ) -> Result<Option<Tree>, TypeError>
+        ensures { let h = here_of self.now in let tree = option_map expr_tree value.now in
+            Judges (rules.end_demands h at gives tree) (λ made. option_map (resolve h) tree ≡ option_map tree_of made) result }
+    {
+        match (gives, value) {
+            (None, None) => Ok(None),
+            (Some(kind), Some(value)) => {
+                let value = self.expr_of(alloc, kind, value)?;
+                Ok(Some(value))
+            }
+            (None, Some(_)) => Err(TypeError::Mismatch(at)),
+            (Some(_), None) => Err(TypeError::Mismatch(at)),
+        }
     }
 
     // What is written or cut: a local or an own field.

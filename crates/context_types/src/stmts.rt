@@ -11,7 +11,7 @@ ghost use Rattle.context_types.specs.inner.Places.{here_of, IsStep, AreSteps, Is
 
 use crate::here::Here;
 use mace_ast::{Action, Expr, Name, Stmt};
-use resolved_service::{Action as Effect, Stmt as Step};
+use resolved_service::{Action as Effect, Stmt as Step, is_end};
 use std::alloc::Global;
 use type_rules::TypeError;
 use wave_base::{Kind, Span};
@@ -67,18 +67,25 @@ impl Here<'_> {
                 let action = Effect::Do(called.tree);
                 Ok(Step { at, action })
             }
+            Action::Return(value) => self.return_end(alloc, at, value),
+            Action::Finish(value) => self.finish_end(alloc, at, value),
         }
     }
 
-    /// Statements one after the other. What they declare stays.
+    /// Statements one after the other, none behind one that surely ends. What they declare stays.
     #[cycle(stmt)]
     pub fn stmts(&mut self, alloc: Global, body: &[Stmt]) -> Result<Vec<Step>, TypeError>
         ensures { let h = here_of self.old in let ss = stmts_of (map stmt_tree body.now) in
             Judges (rules.stmts_demands h ss) (λ steps. AreSteps (rules.after_all h ss) (rules.resolve_stmts h ss) self.new steps.items) result }
     {
         let mut steps = Vec::new(alloc);
+        let mut ended = false;
         'each: for s in body {
+            if ended {
+                return Err(TypeError::Unreachable(s.at));
+            }
             let step = self.stmt(alloc, s)?;
+            ended = is_end(&step);
             steps.push(step)?;
         }
         Ok(steps)

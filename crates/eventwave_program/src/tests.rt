@@ -6,4 +6,5 @@ mod gates;
 mod memory;
 mod rows;
 mod scripts;
+mod second;
 mod services;

@@ -46,6 +46,7 @@ type_note (wrong.NotDownward at) = placed (codes "Y5 NotDownward") at
 type_note (wrong.CalleeLater at) = placed (codes "Y6 CalleeLater") at
 type_note (wrong.MissingReply at) = placed (codes "Y7 MissingReply") at
 type_note (wrong.Limit which at) = placed (codes "Y8 Limit") at
+type_note (wrong.Unreachable at) = placed (codes "Y10 Unreachable") at
 type_note wrong.OutOfMemory = []
 
 -- what it is, and the line of the script

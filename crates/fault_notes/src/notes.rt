@@ -82,6 +82,7 @@ pub fn type_note(alloc: Global, error: &TypeError) -> Result<Vec<u8>, OutOfMemor
         TypeError::CalleeLater(at) => placed(alloc, b"Y6 CalleeLater", *at),
         TypeError::MissingReply(at) => placed(alloc, b"Y7 MissingReply", *at),
         TypeError::Limit(_, at) => placed(alloc, b"Y8 Limit", *at),
+        TypeError::Unreachable(at) => placed(alloc, b"Y10 Unreachable", *at),
         TypeError::OutOfMemory => Err(OutOfMemory),
     }
 }

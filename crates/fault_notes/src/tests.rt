@@ -22,6 +22,8 @@ fn tells_number_name_and_place(rt: HostRuntime) -> Result<(), Fail> {
     assert_eq!(rt; note.as_slice(), b"Y5 NotDownward 8:23".as_slice());
     let note = type_note(alloc, &TypeError::Limit(Which::Locals, at))?;
     assert_eq!(rt; note.as_slice(), b"Y8 Limit 8:23".as_slice());
+    let note = type_note(alloc, &TypeError::Unreachable(at))?;
+    assert_eq!(rt; note.as_slice(), b"Y10 Unreachable 8:23".as_slice());
     let note = script_note(alloc, &ScriptError::ArgCount { line: 12 })?;
     assert_eq!(rt; note.as_slice(), b"S3 ArgCount line 12".as_slice());
     Ok(())

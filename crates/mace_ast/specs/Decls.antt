@@ -57,6 +57,7 @@ contexts_of (c ∷ cs) = context_and c (contexts_of cs)
 pub record ServiceTree : Type 0 where
   pub at : Span
   pub name : Name
+  pub version : ℕ
   pub vars : List VarDecl
   pub contexts : List ContextTree
   pub methods : List MethodTree
@@ -85,7 +86,7 @@ abbrev mutual
   row_contexts (more_of-ContextDecl c rest) = context_and (context_tree c) (row_contexts rest)
 
 abbrev pub service_tree : Service → ServiceTree
-service_tree s = record { at = s.at; name = s.name; vars = s.vars; contexts = map context_tree s.contexts; methods = map method_tree s.methods; events = map event_tree s.events }
+service_tree s = record { at = s.at; name = s.name; version = s.version; vars = s.vars; contexts = map context_tree s.contexts; methods = map method_tree s.methods; events = map event_tree s.events }
 
 -- ---- up to places
 
@@ -116,7 +117,7 @@ abbrev mutual
   bare_contexts (context_and c cs) = context_and (bare_context c) (bare_contexts cs)
 
 abbrev pub bare_service : ServiceTree → ServiceTree
-bare_service s = record { at = nowhere; name = bare_name s.name; vars = map bare_var s.vars; contexts = map bare_context s.contexts; methods = map bare_method s.methods; events = map bare_event s.events }
+bare_service s = record { at = nowhere; name = bare_name s.name; version = s.version; vars = map bare_var s.vars; contexts = map bare_context s.contexts; methods = map bare_method s.methods; events = map bare_event s.events }
 
 -- two services are the same but for their places
 abbrev pub SameUpToSpans : ServiceTree → ServiceTree → Type 0

@@ -22,6 +22,8 @@ mutual
     Set : (at : Span) (target : Target) (key : Option ExprTree) (value : ExprTree) → StmtTree
     Call : (at : Span) (name : List ℕ) (args : List ExprTree) → StmtTree
     ChildCall : (at : Span) (class : List ℕ) (key : ExprTree) (name : List ℕ) (args : List ExprTree) → StmtTree
+    Return : (at : Span) (value : Option ExprTree) → StmtTree
+    Finish : (at : Span) (value : Option ExprTree) → StmtTree
 
   pub data StmtTrees : Type 0 where
     no_stmts : StmtTrees
@@ -54,6 +56,8 @@ abbrev mutual
   action_tree (action.Set x k e) at = Set at x (option_map expr_tree k) (expr_tree e)
   action_tree (action.Call f es) at = Call at f (map expr_tree es)
   action_tree (action.ChildCall c k f es) at = ChildCall at c (expr_tree k) f (map expr_tree es)
+  action_tree (action.Return e) at = Return at (option_map expr_tree e)
+  action_tree (action.Finish e) at = Finish at (option_map expr_tree e)
 
   pub row_stmts : {m : _} → Row_of-Stmt m → StmtTrees
   row_stmts end_of-Stmt = no_stmts
@@ -84,6 +88,8 @@ abbrev mutual
   bare_stmt (Set at target key value) = Set nowhere target (option_map bare_expr key) (bare_expr value)
   bare_stmt (Call at name args) = Call nowhere name (map bare_expr args)
   bare_stmt (ChildCall at class key name args) = ChildCall nowhere class (bare_expr key) name (map bare_expr args)
+  bare_stmt (Return at value) = Return nowhere (option_map bare_expr value)
+  bare_stmt (Finish at value) = Finish nowhere (option_map bare_expr value)
 
   pub bare_stmts : StmtTrees → StmtTrees
   bare_stmts no_stmts = no_stmts

@@ -25,5 +25,6 @@ pub struct MethodDecl {
     pub params: Seq<Param>,
     pub result: Option<Kind>,
     pub body: Seq<Stmt>,
+    /// The `return` at the end, of version 1 alone: in version 2 it is a statement.
     pub last: Option<Last>,
 }

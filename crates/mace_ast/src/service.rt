@@ -10,6 +10,8 @@ use wave_base::{Seq, Span};
 pub struct Service {
     pub at: Span,
     pub name: Name,
+    /// The version of the language that it is written in: 2 where the number stands behind the name, else 1.
+    pub version: u8,
     pub vars: Seq<VarDecl>,
     pub contexts: Seq<ContextDecl>,
     pub methods: Seq<MethodDecl>,

@@ -42,6 +42,10 @@ pub enum Action {
     Call(Txt, Seq<Expr>),
     /// `C[k].f(..);`
     ChildCall(Txt, Expr, Txt, Seq<Expr>),
+    /// `return;` or `return e;` as a statement, of version 2 alone
+    Return(Option<Expr>),
+    /// `finish;` or `finish e;`, of version 2 alone
+    Finish(Option<Expr>),
 }
 
 impl Stmt {

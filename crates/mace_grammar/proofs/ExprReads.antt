@@ -9,244 +9,251 @@ use Rattle.mace_ast.specs.Exprs as e
 use Rattle.mace_ast.specs.Exprs.{ExprTree, exprs_of}
 use Rattle.mace_grammar.specs.Part.{Part, pure, ◌>>=◌, ◌or◌}
 use Rattle.mace_grammar.specs.inner.Run.{Reader, Outcome, and_then, give, sees}
-use Rattle.mace_grammar.specs.inner.Classes.{name_class, sign_class, kind}
+use Rattle.mace_grammar.specs.inner.Classes.{name_class, sign_class}
+use Rattle.mace_grammar.specs.inner.Classes as classes
 use Rattle.mace_grammar.specs.Words as w
 use Rattle.mace_grammar.specs.Grammar as g
 use Rattle.mace_grammar.specs.inner.Readers as r
+use Rattle.mace_grammar.specs.Words.{Version}
+use Rattle.mace_grammar.proofs.Versions.{IsSound}
 use Rattle.mace_grammar.proofs.Reading.{Reads, reads_pure, next_part, inside, either, repeated, optional, wider, another, reads_same, reads_deep}
 use Rattle.mace_grammar.proofs.Same.{Same, same_refl, same_trans, same_or, same_behind}
 use Rattle.mace_grammar.proofs.Factors.{two_fronts, six_fronts, same_six}
 use Rattle.mace_grammar.proofs.Productions.{sign, name, field, unary_op, literal_node, operator, product_has, sum_has, comparison_has, and_has, or_has}
 
--- ---- chains
+module _ (version : Version) (sound : IsSound version) where
+  abbrev kind : Token → ℕ
+  kind = classes.kind version
 
--- what goes on with an operand
-abbrev pub tails : List ℕ
-tails = sign_class s.LeftParen ∷ sign_class s.Dot ∷ sign_class s.LeftBracket ∷ []
+  -- ---- chains
 
-and_then_same : {A B : Type 0} (o : Outcome A) (f g : A → Reader B) → ((a : A) (ts : List Token) → f a ts ≡ g a ts) → and_then o f ≡ and_then o g
-and_then_same (Ok p) f g h = h p.0 p.1
-and_then_same (Err e) f g h = refl
+  -- what goes on with an operand
+  abbrev pub tails : List ℕ
+  tails = sign_class s.LeftParen ∷ sign_class s.Dot ∷ sign_class s.LeftBracket ∷ []
 
--- a comparison is a chain of at most one turn
-one_turn : (b : Bool) (o : Outcome (BinaryOp × ExprTree)) (left : ExprTree) (ts : List Token) → and_then (if b then and_then o (λ a. give (Some a)) else Ok (None, ts)) (λ right. give (g.compared left right)) ≡ and_then (if b then and_then o (λ a rest. Ok (a ∷ [], rest)) else Ok ([], ts)) (λ others. give (fold g.joined left others))
-one_turn true (Ok p) left ts = refl
-one_turn true (Err x) left ts = refl
-one_turn false o left ts = refl
+  and_then_same : {A B : Type 0} (o : Outcome A) (f g : A → Reader B) → ((a : A) (ts : List Token) → f a ts ≡ g a ts) → and_then o f ≡ and_then o g
+  and_then_same (Ok p) f g h = h p.0 p.1
+  and_then_same (Err e) f g h = refl
 
-module _ (m : ℕ) (u u' : Part ExprTree) (run : Reader ExprTree) (U : Reads kind m u u' run r.starts false tails) where
-  product : Reads kind m (g.product u) (g.product u') (r.level_at run 1) r.starts false (tails ++ r.operators_of 0)
-  unfolding r.operands_at r.operand_at
-  product =
-      wider kind
-      (next_part kind U
-      (λ first. next_part kind
-      (repeated kind (next_part kind (operator m w.product_op (r.operators_of 0) product_has) (λ o. next_part kind U (λ right. reads_pure kind m (o, right)) refl) refl) refl)
-      (λ others. reads_pure kind m (fold g.joined first others))
-      refl)
-      refl)
-      refl refl
+  -- a comparison is a chain of at most one turn
+  one_turn : (b : Bool) (o : Outcome (BinaryOp × ExprTree)) (left : ExprTree) (ts : List Token) → and_then (if b then and_then o (λ a. give (Some a)) else Ok (None, ts)) (λ right. give (g.compared left right)) ≡ and_then (if b then and_then o (λ a rest. Ok (a ∷ [], rest)) else Ok ([], ts)) (λ others. give (fold g.joined left others))
+  one_turn true (Ok p) left ts = refl
+  one_turn true (Err x) left ts = refl
+  one_turn false o left ts = refl
 
-  sum : Reads kind m (g.sum u) (g.sum u') (r.level_at run 2) r.starts false (tails ++ r.operators_of 0 ++ r.operators_of 1)
-  unfolding r.operands_at r.operand_at
-  sum =
-      wider kind
-      (next_part kind product
-      (λ first. next_part kind
-      (repeated kind (next_part kind (operator m w.sum_op (r.operators_of 1) sum_has) (λ o. next_part kind product (λ right. reads_pure kind m (o, right)) refl) refl) refl)
-      (λ others. reads_pure kind m (fold g.joined first others))
-      refl)
-      refl)
-      refl refl
+  module _ (m : ℕ) (u u' : Part ExprTree) (run : Reader ExprTree) (U : Reads kind m u u' run r.starts false tails) where
+    product : Reads kind m (g.product version u) (g.product version u') (r.level_at version run 1) r.starts false (tails ++ r.operators_of 0)
+    unfolding r.operands_at r.operand_at
+    product =
+        wider kind
+        (next_part kind U
+        (λ first. next_part kind
+        (repeated kind (next_part kind (operator version sound m w.product_op (r.operators_of 0) (product_has version sound)) (λ o. next_part kind U (λ right. reads_pure kind m (o, right)) refl) refl) refl)
+        (λ others. reads_pure kind m (fold g.joined first others))
+        refl)
+        refl)
+        refl refl
 
-  comparison : Reads kind m (g.comparison u) (g.comparison u') (r.level_at run 3) r.starts false (tails ++ r.operators_of 0 ++ r.operators_of 1 ++ r.operators_of 2)
-  unfolding r.operands_at r.operand_at
-  comparison =
-      another kind
-      (wider kind
-      (next_part kind sum
-      (λ left. next_part kind
-      (optional kind (next_part kind (operator m w.comparison_op (r.operators_of 2) comparison_has) (λ o. next_part kind sum (λ right. reads_pure kind m (o, right)) refl) refl))
-      (λ right. reads_pure kind m (g.compared left right))
-      refl)
-      refl)
-      refl refl)
-      (λ ts. and_then_same (r.level_at run 2 ts) _ _ (λ left rest. one_turn (sees kind (r.operators_of 2) rest) (r.operand_at (r.operator_at 2) (r.level_at run 2) rest) left rest))
+    sum : Reads kind m (g.sum version u) (g.sum version u') (r.level_at version run 2) r.starts false (tails ++ r.operators_of 0 ++ r.operators_of 1)
+    unfolding r.operands_at r.operand_at
+    sum =
+        wider kind
+        (next_part kind product
+        (λ first. next_part kind
+        (repeated kind (next_part kind (operator version sound m w.sum_op (r.operators_of 1) (sum_has version sound)) (λ o. next_part kind product (λ right. reads_pure kind m (o, right)) refl) refl) refl)
+        (λ others. reads_pure kind m (fold g.joined first others))
+        refl)
+        refl)
+        refl refl
 
-  conjunction : Reads kind m (g.conjunction u) (g.conjunction u') (r.level_at run 4) r.starts false (tails ++ r.operators_of 0 ++ r.operators_of 1 ++ r.operators_of 2 ++ r.operators_of 3)
-  unfolding r.operands_at r.operand_at
-  conjunction =
-      wider kind
-      (next_part kind comparison
-      (λ first. next_part kind
-      (repeated kind (next_part kind (operator m w.and_op (r.operators_of 3) and_has) (λ o. next_part kind comparison (λ right. reads_pure kind m (o, right)) refl) refl) refl)
-      (λ others. reads_pure kind m (fold g.joined first others))
-      refl)
-      refl)
-      refl refl
+    comparison : Reads kind m (g.comparison version u) (g.comparison version u') (r.level_at version run 3) r.starts false (tails ++ r.operators_of 0 ++ r.operators_of 1 ++ r.operators_of 2)
+    unfolding r.operands_at r.operand_at
+    comparison =
+        another kind
+        (wider kind
+        (next_part kind sum
+        (λ left. next_part kind
+        (optional kind (next_part kind (operator version sound m w.comparison_op (r.operators_of 2) (comparison_has version sound)) (λ o. next_part kind sum (λ right. reads_pure kind m (o, right)) refl) refl))
+        (λ right. reads_pure kind m (g.compared left right))
+        refl)
+        refl)
+        refl refl)
+        (λ ts. and_then_same (r.level_at version run 2 ts) _ _ (λ left rest. one_turn (sees kind (r.operators_of 2) rest) (r.operand_at (r.operator_at 2) (r.level_at version run 2) rest) left rest))
 
--- what goes on with an expression
-abbrev pub operators : List ℕ
-operators = tails ++ r.operators_of 0 ++ r.operators_of 1 ++ r.operators_of 2 ++ r.operators_of 3 ++ r.operators_of 4
+    conjunction : Reads kind m (g.conjunction version u) (g.conjunction version u') (r.level_at version run 4) r.starts false (tails ++ r.operators_of 0 ++ r.operators_of 1 ++ r.operators_of 2 ++ r.operators_of 3)
+    unfolding r.operands_at r.operand_at
+    conjunction =
+        wider kind
+        (next_part kind comparison
+        (λ first. next_part kind
+        (repeated kind (next_part kind (operator version sound m w.and_op (r.operators_of 3) (and_has version sound)) (λ o. next_part kind comparison (λ right. reads_pure kind m (o, right)) refl) refl) refl)
+        (λ others. reads_pure kind m (fold g.joined first others))
+        refl)
+        refl)
+        refl refl
 
-module _ (m : ℕ) (u u' : Part ExprTree) (run : Reader ExprTree) (U : Reads kind m u u' run r.starts false tails) where
-  pub expr : Reads kind m (g.expr u) (g.expr u') (r.expr_at run) r.starts false operators
-  unfolding r.expr_at r.operands_at r.operand_at
-  expr =
-      let C = conjunction m u u' run U in
-      wider kind
-      (next_part kind C
-      (λ first. next_part kind
-      (repeated kind (next_part kind (operator m w.or_op (r.operators_of 4) or_has) (λ o. next_part kind C (λ right. reads_pure kind m (o, right)) refl) refl) refl)
-      (λ others. reads_pure kind m (fold g.joined first others))
-      refl)
-      refl)
-      refl refl
+  -- what goes on with an expression
+  abbrev pub operators : List ℕ
+  operators = tails ++ r.operators_of 0 ++ r.operators_of 1 ++ r.operators_of 2 ++ r.operators_of 3 ++ r.operators_of 4
 
-  -- ---- brackets
+  module _ (m : ℕ) (u u' : Part ExprTree) (run : Reader ExprTree) (U : Reads kind m u u' run r.starts false tails) where
+    pub expr : Reads kind m (g.expr version u) (g.expr version u') (r.expr_at version run) r.starts false operators
+    unfolding r.expr_at r.operands_at r.operand_at
+    expr =
+        let C = conjunction m u u' run U in
+        wider kind
+        (next_part kind C
+        (λ first. next_part kind
+        (repeated kind (next_part kind (operator version sound m w.or_op (r.operators_of 4) (or_has version sound)) (λ o. next_part kind C (λ right. reads_pure kind m (o, right)) refl) refl) refl)
+        (λ others. reads_pure kind m (fold g.joined first others))
+        refl)
+        refl)
+        refl refl
 
-  pub arguments : Reads kind m (g.arguments u) (g.arguments u') (r.arguments_at run) (r.if_sign s.LeftParen) false []
-  unfolding r.arguments_at r.separated_at r.list_at r.next_at
-  arguments =
-      next_part kind (sign m s.LeftParen)
-      (λ _. next_part kind
-      (optional kind (next_part kind expr (λ first. next_part kind (repeated kind (next_part kind (sign m s.Comma) (λ _. expr) refl) refl) (λ others. reads_pure kind m (first ∷ others)) refl) refl))
-      (λ found. next_part kind (sign m s.RightParen) (λ _. reads_pure kind m (unwrap_or found [])) refl)
-      refl)
-      refl
+    -- ---- brackets
 
-  pub bracketed : Reads kind m (g.bracketed u) (g.bracketed u') (r.bracketed_at run) (r.if_sign s.LeftBracket) false []
-  unfolding r.bracketed_at
-  bracketed =
-      next_part kind (sign m s.LeftBracket)
-      (λ _. next_part kind expr (λ key. next_part kind (sign m s.RightBracket) (λ _. reads_pure kind m key) refl) refl)
-      refl
+    pub arguments : Reads kind m (g.arguments version u) (g.arguments version u') (r.arguments_at version run) (r.if_sign s.LeftParen) false []
+    unfolding r.arguments_at r.separated_at r.list_at r.next_at
+    arguments =
+        next_part kind (sign version sound m s.LeftParen)
+        (λ _. next_part kind
+        (optional kind (next_part kind expr (λ first. next_part kind (repeated kind (next_part kind (sign version sound m s.Comma) (λ _. expr) refl) refl) (λ others. reads_pure kind m (first ∷ others)) refl) refl))
+        (λ found. next_part kind (sign version sound m s.RightParen) (λ _. reads_pure kind m (unwrap_or found [])) refl)
+        refl)
+        refl
 
-  parenthesized : Reads kind (suc m) (g.parenthesized u) (g.parenthesized u') (r.parenthesized_at run) (r.if_sign s.LeftParen) false []
-  unfolding r.parenthesized_at
-  parenthesized =
-      inside kind (sign (suc m) s.LeftParen)
-      (λ _. next_part kind expr (λ inner. next_part kind (sign m s.RightParen) (λ _. reads_pure kind m inner) refl) refl)
-      refl
+    pub bracketed : Reads kind m (g.bracketed version u) (g.bracketed version u') (r.bracketed_at version run) (r.if_sign s.LeftBracket) false []
+    unfolding r.bracketed_at
+    bracketed =
+        next_part kind (sign version sound m s.LeftBracket)
+        (λ _. next_part kind expr (λ key. next_part kind (sign version sound m s.RightBracket) (λ _. reads_pure kind m key) refl) refl)
+        refl
 
--- ---- what begins with a name, with what is common in front
+    parenthesized : Reads kind (suc m) (g.parenthesized version u) (g.parenthesized version u') (r.parenthesized_at version run) (r.if_sign s.LeftParen) false []
+    unfolding r.parenthesized_at
+    parenthesized =
+        inside kind (sign version sound (suc m) s.LeftParen)
+        (λ _. next_part kind expr (λ inner. next_part kind (sign version sound m s.RightParen) (λ _. reads_pure kind m inner) refl) refl)
+        refl
 
-module _ (v : Part ExprTree) where
-  abbrev call_behind : Name → Part ExprTree
-  call_behind f = g.arguments v >>= (λ found. pure (e.Call f.at f.text (exprs_of found)))
+  -- ---- what begins with a name, with what is common in front
 
-  abbrev above_index_behind : Name → Name → Part ExprTree
-  above_index_behind c f = g.bracketed v >>= (λ key. pure (e.AboveIndex c.at c.text f.text key))
+  module _ (v : Part ExprTree) where
+    abbrev call_behind : Name → Part ExprTree
+    call_behind f = g.arguments version v >>= (λ found. pure (e.Call f.at f.text (exprs_of found)))
 
-  abbrev above_behind : Name → Name → Part ExprTree
-  above_behind c f = pure (e.Above c.at c.text f.text)
+    abbrev above_index_behind : Name → Name → Part ExprTree
+    above_index_behind c f = g.bracketed version v >>= (λ key. pure (e.AboveIndex c.at c.text f.text key))
 
-  abbrev child_behind : Name → ExprTree → Part ExprTree
-  child_behind c key = g.field >>= (λ f. g.arguments v >>= (λ found. pure (e.ChildCall c.at c.text key f.text (exprs_of found))))
+    abbrev above_behind : Name → Name → Part ExprTree
+    above_behind c f = pure (e.Above c.at c.text f.text)
 
-  abbrev index_behind : Name → ExprTree → Part ExprTree
-  index_behind x key = pure (e.Index x.at x.text key)
+    abbrev child_behind : Name → ExprTree → Part ExprTree
+    child_behind c key = (g.field version) >>= (λ f. (g.arguments version) v >>= (λ found. pure (e.ChildCall c.at c.text key f.text (exprs_of found))))
 
-  abbrev read_behind : Name → Part ExprTree
-  read_behind x = pure (e.Read x.at x.text)
+    abbrev index_behind : Name → ExprTree → Part ExprTree
+    index_behind x key = pure (e.Index x.at x.text key)
 
-  abbrev dot_behind : Name → Part ExprTree
-  dot_behind c = g.field >>= (λ f. above_index_behind c f or above_behind c f)
+    abbrev read_behind : Name → Part ExprTree
+    read_behind x = pure (e.Read x.at x.text)
 
-  abbrev key_behind : Name → Part ExprTree
-  key_behind x = g.bracketed v >>= (λ key. child_behind x key or index_behind x key)
+    abbrev dot_behind : Name → Part ExprTree
+    dot_behind c = (g.field version) >>= (λ f. above_index_behind c f or above_behind c f)
 
-  abbrev named : Part ExprTree
-  named = w.name >>= (λ n. call_behind n or (dot_behind n or (key_behind n or read_behind n)))
+    abbrev key_behind : Name → Part ExprTree
+    key_behind x = g.bracketed version v >>= (λ key. child_behind x key or index_behind x key)
 
-  abbrev written : Part ExprTree
-  written = g.read v or (g.above v or (g.call v or (g.index v or (g.above_index v or g.child_call v))))
+    abbrev named : Part ExprTree
+    named = (w.name version) >>= (λ n. call_behind n or (dot_behind n or (key_behind n or read_behind n)))
 
-  abbrev split_behind : Name → Part ExprTree
-  split_behind n = call_behind n or (((g.field >>= above_index_behind n) or (g.field >>= above_behind n)) or (((g.bracketed v >>= child_behind n) or (g.bracketed v >>= index_behind n)) or read_behind n))
+    abbrev written : Part ExprTree
+    written = g.read version v or (g.above version v or (g.call version v or (g.index version v or (g.above_index version v or (g.child_call version) v))))
 
-  abbrev sorted_behind : Name → Part ExprTree
-  sorted_behind n = read_behind n or ((g.field >>= above_behind n) or (call_behind n or ((g.bracketed v >>= index_behind n) or ((g.field >>= above_index_behind n) or (g.bracketed v >>= child_behind n)))))
+    abbrev split_behind : Name → Part ExprTree
+    split_behind n = call_behind n or (((g.field version >>= above_index_behind n) or (g.field version >>= above_behind n)) or (((g.bracketed version v >>= child_behind n) or (g.bracketed version v >>= index_behind n)) or read_behind n))
 
-  pub same_named : Same named written
-  same_named =
-      same_trans named (w.name >>= sorted_behind) written
-      (same_behind w.name (λ n. call_behind n or (dot_behind n or (key_behind n or read_behind n))) sorted_behind
-      (λ n. same_trans (call_behind n or (dot_behind n or (key_behind n or read_behind n))) (split_behind n) (sorted_behind n)
-      (same_or (call_behind n) (call_behind n) (dot_behind n or (key_behind n or read_behind n)) (((g.field >>= above_index_behind n) or (g.field >>= above_behind n)) or (((g.bracketed v >>= child_behind n) or (g.bracketed v >>= index_behind n)) or read_behind n))
-      (same_refl (call_behind n))
-      (same_or (dot_behind n) ((g.field >>= above_index_behind n) or (g.field >>= above_behind n)) (key_behind n or read_behind n) (((g.bracketed v >>= child_behind n) or (g.bracketed v >>= index_behind n)) or read_behind n)
-      (two_fronts g.field (above_index_behind n) (above_behind n))
-      (same_or (key_behind n) ((g.bracketed v >>= child_behind n) or (g.bracketed v >>= index_behind n)) (read_behind n) (read_behind n) (two_fronts (g.bracketed v) (child_behind n) (index_behind n)) (same_refl (read_behind n)))))
-      (same_six (call_behind n) (g.field >>= above_index_behind n) (g.field >>= above_behind n) (g.bracketed v >>= child_behind n) (g.bracketed v >>= index_behind n) (read_behind n))))
-      (six_fronts w.name read_behind (λ n. g.field >>= above_behind n) call_behind (λ n. g.bracketed v >>= index_behind n) (λ n. g.field >>= above_index_behind n) (λ n. g.bracketed v >>= child_behind n))
+    abbrev sorted_behind : Name → Part ExprTree
+    sorted_behind n = read_behind n or ((g.field version >>= above_behind n) or (call_behind n or ((g.bracketed version v >>= index_behind n) or ((g.field version >>= above_index_behind n) or (g.bracketed version v >>= child_behind n)))))
 
-module _ (m : ℕ) (u u' : Part ExprTree) (run : Reader ExprTree) (U : Reads kind m u u' run r.starts false tails) where
-  call : (f : Name) → Reads kind m (call_behind u f) (call_behind u' f) (r.call_at run f) (r.if_sign s.LeftParen) false []
-  unfolding r.call_at
-  call f = next_part kind (arguments m u u' run U) (λ found. reads_pure kind m (e.Call f.at f.text (exprs_of found))) refl
+    pub same_named : Same named written
+    same_named =
+        same_trans named (w.name version >>= sorted_behind) written
+        (same_behind (w.name version) (λ n. call_behind n or (dot_behind n or (key_behind n or read_behind n))) sorted_behind
+        (λ n. same_trans (call_behind n or (dot_behind n or (key_behind n or read_behind n))) (split_behind n) (sorted_behind n)
+        (same_or (call_behind n) (call_behind n) (dot_behind n or (key_behind n or read_behind n)) (((g.field version >>= above_index_behind n) or (g.field version >>= above_behind n)) or (((g.bracketed version v >>= child_behind n) or (g.bracketed version v >>= index_behind n)) or read_behind n))
+        (same_refl (call_behind n))
+        (same_or (dot_behind n) ((g.field version >>= above_index_behind n) or (g.field version >>= above_behind n)) (key_behind n or read_behind n) (((g.bracketed version v >>= child_behind n) or (g.bracketed version v >>= index_behind n)) or read_behind n)
+        (two_fronts (g.field version) (above_index_behind n) (above_behind n))
+        (same_or (key_behind n) ((g.bracketed version v >>= child_behind n) or (g.bracketed version v >>= index_behind n)) (read_behind n) (read_behind n) (two_fronts (g.bracketed version v) (child_behind n) (index_behind n)) (same_refl (read_behind n)))))
+        (same_six (call_behind n) (g.field version >>= above_index_behind n) (g.field version >>= above_behind n) (g.bracketed version v >>= child_behind n) (g.bracketed version v >>= index_behind n) (read_behind n))))
+        (six_fronts (w.name version) read_behind (λ n. (g.field version) >>= above_behind n) call_behind (λ n. (g.bracketed version) v >>= index_behind n) (λ n. (g.field version) >>= above_index_behind n) (λ n. (g.bracketed version) v >>= child_behind n))
 
-  above : (c : Name) → Reads kind m (dot_behind u c) (dot_behind u' c) (r.above_at run c) (r.if_sign s.Dot) false (r.if_sign s.LeftBracket)
-  unfolding r.above_at
-  above c =
-      wider kind
-      (next_part kind (field m)
-      (λ f. either kind
-      (next_part kind (bracketed m u u' run U) (λ key. reads_pure kind m (e.AboveIndex c.at c.text f.text key)) refl)
-      (reads_pure kind m (e.Above c.at c.text f.text))
-      refl)
-      refl)
-      refl refl
+  module _ (m : ℕ) (u u' : Part ExprTree) (run : Reader ExprTree) (U : Reads kind m u u' run r.starts false tails) where
+    call : (f : Name) → Reads kind m (call_behind u f) (call_behind u' f) (r.call_at version run f) (r.if_sign s.LeftParen) false []
+    unfolding r.call_at
+    call f = next_part kind (arguments m u u' run U) (λ found. reads_pure kind m (e.Call f.at f.text (exprs_of found))) refl
 
-  child_call : (c : Name) (key : ExprTree) → Reads kind m (child_behind u c key) (child_behind u' c key) (r.child_call_at run c key) (r.if_sign s.Dot) false []
-  unfolding r.child_call_at
-  child_call c key = next_part kind (field m) (λ f. next_part kind (arguments m u u' run U) (λ found. reads_pure kind m (e.ChildCall c.at c.text key f.text (exprs_of found))) refl) refl
+    above : (c : Name) → Reads kind m (dot_behind u c) (dot_behind u' c) (r.above_at version run c) (r.if_sign s.Dot) false (r.if_sign s.LeftBracket)
+    unfolding r.above_at
+    above c =
+        wider kind
+        (next_part kind (field version sound m)
+        (λ f. either kind
+        (next_part kind (bracketed m u u' run U) (λ key. reads_pure kind m (e.AboveIndex c.at c.text f.text key)) refl)
+        (reads_pure kind m (e.Above c.at c.text f.text))
+        refl)
+        refl)
+        refl refl
 
-  index : (x : Name) → Reads kind m (key_behind u x) (key_behind u' x) (r.index_at run x) (r.if_sign s.LeftBracket) false (r.if_sign s.Dot)
-  unfolding r.index_at
-  index x =
-      wider kind
-      (next_part kind (bracketed m u u' run U) (λ key. either kind (child_call x key) (reads_pure kind m (e.Index x.at x.text key)) refl) refl)
-      refl refl
+    child_call : (c : Name) (key : ExprTree) → Reads kind m (child_behind u c key) (child_behind u' c key) (r.child_call_at version run c key) (r.if_sign s.Dot) false []
+    unfolding r.child_call_at
+    child_call c key = next_part kind (field version sound m) (λ f. next_part kind (arguments m u u' run U) (λ found. reads_pure kind m (e.ChildCall c.at c.text key f.text (exprs_of found))) refl) refl
 
-  named_reads : Reads kind (suc m) (named u) (named u') (r.named_at run) (name_class ∷ []) false tails
-  unfolding r.named_at
-  named_reads =
-      wider kind
-      (inside kind (name (suc m))
-      (λ n. either kind (call n) (either kind (above n) (either kind (index n) (reads_pure kind m (e.Read n.at n.text)) refl) refl) refl)
-      refl)
-      refl refl
+    index : (x : Name) → Reads kind m (key_behind u x) (key_behind u' x) (r.index_at version run x) (r.if_sign s.LeftBracket) false (r.if_sign s.Dot)
+    unfolding r.index_at
+    index x =
+        wider kind
+        (next_part kind (bracketed m u u' run U) (λ key. either kind (child_call x key) (reads_pure kind m (e.Index x.at x.text key)) refl) refl)
+        refl refl
 
-  primary : Reads kind (suc m) (g.primary u) (g.primary u') (r.primary_at run) (r.initials ++ r.if_sign s.LeftParen ++ name_class ∷ []) false tails
-  unfolding r.primary_at
-  primary =
-      wider kind
-      (either kind (literal_node (suc m))
-      (either kind (parenthesized m u u' run U) (reads_same kind (suc m) (named u) (named u') (written u) (written u') (r.named_at run) (name_class ∷ []) tails false (same_named u) (same_named u') named_reads) refl)
-      refl)
-      refl refl
+    named_reads : Reads kind (suc m) (named u) (named u') (r.named_at version run) (name_class ∷ []) false tails
+    unfolding r.named_at
+    named_reads =
+        wider kind
+        (inside kind (name version sound (suc m))
+        (λ n. either kind (call n) (either kind (above n) (either kind (index n) (reads_pure kind m (e.Read n.at n.text)) refl) refl) refl)
+        refl)
+        refl refl
 
-  signed : Reads kind (suc m) (g.signed u) (g.signed u') (r.signed_at run) r.unary_ops false tails
-  unfolding r.signed_at
-  signed = wider kind (inside kind (unary_op (suc m)) (λ o. next_part kind U (λ operand. reads_pure kind m (e.Unary o.0 o.1 operand)) refl) refl) refl refl
+    primary : Reads kind (suc m) (g.primary version u) (g.primary version u') (r.primary_at version run) (r.initials ++ r.if_sign s.LeftParen ++ name_class ∷ []) false tails
+    unfolding r.primary_at
+    primary =
+        wider kind
+        (either kind (literal_node version sound (suc m))
+        (either kind (parenthesized m u u' run U) (reads_same kind (suc m) (named u) (named u') (written u) (written u') (r.named_at version run) (name_class ∷ []) tails false (same_named u) (same_named u') named_reads) refl)
+        refl)
+        refl refl
 
-  pub signed_or_primary : Reads kind (suc m) (g.signed_or_primary u) (g.signed_or_primary u') (r.signed_or_primary_at run) r.starts false tails
-  unfolding r.signed_or_primary_at
-  signed_or_primary = wider kind (either kind signed primary refl) refl refl
+    signed : Reads kind (suc m) (g.signed version u) (g.signed version u') (r.signed_at version run) r.unary_ops false tails
+    unfolding r.signed_at
+    signed = wider kind (inside kind (unary_op version sound (suc m)) (λ o. next_part kind U (λ operand. reads_pure kind m (e.Unary o.0 o.1 operand)) refl) refl) refl refl
 
-pub unary : (m : ℕ) → Reads kind m g.unary g.unary (r.unary_at m) r.starts false tails
-unary m = reads_deep kind g.signed_or_primary (λ _. r.signed_or_primary_at) r.starts tails signed_or_primary m
+    pub signed_or_primary : Reads kind (suc m) (g.signed_or_primary version u) (g.signed_or_primary version u') (r.signed_or_primary_at version run) r.starts false tails
+    unfolding r.signed_or_primary_at
+    signed_or_primary = wider kind (either kind signed primary refl) refl refl
 
-module _ (m : ℕ) where
-  pub any_expr : Reads kind m g.any_expr g.any_expr (r.any_expr_at m) r.starts false operators
-  unfolding g.any_expr r.any_expr_at
-  any_expr = expr m g.unary g.unary (r.unary_at m) (unary m)
+  pub unary : (m : ℕ) → Reads kind m (g.unary version) (g.unary version) (r.unary_at version m) r.starts false tails
+  unary m = reads_deep kind (g.signed_or_primary version) (λ _. (r.signed_or_primary_at version)) r.starts tails signed_or_primary m
 
-  pub any_arguments : Reads kind m g.any_arguments g.any_arguments (r.any_arguments_at m) (r.if_sign s.LeftParen) false []
-  unfolding g.any_arguments r.any_arguments_at
-  any_arguments = arguments m g.unary g.unary (r.unary_at m) (unary m)
+  module _ (m : ℕ) where
+    pub any_expr : Reads kind m (g.any_expr version) (g.any_expr version) (r.any_expr_at version m) r.starts false operators
+    unfolding g.any_expr r.any_expr_at
+    any_expr = expr m (g.unary version) (g.unary version) (r.unary_at version m) (unary m)
 
-  pub any_key : Reads kind m g.any_key g.any_key (r.any_key_at m) (r.if_sign s.LeftBracket) false []
-  unfolding g.any_key r.any_key_at
-  any_key = bracketed m g.unary g.unary (r.unary_at m) (unary m)
+    pub any_arguments : Reads kind m (g.any_arguments version) (g.any_arguments version) (r.any_arguments_at version m) (r.if_sign s.LeftParen) false []
+    unfolding g.any_arguments r.any_arguments_at
+    any_arguments = arguments m (g.unary version) (g.unary version) (r.unary_at version m) (unary m)
+
+    pub any_key : Reads kind m (g.any_key version) (g.any_key version) (r.any_key_at version m) (r.if_sign s.LeftBracket) false []
+    unfolding g.any_key r.any_key_at
+    any_key = bracketed m (g.unary version) (g.unary version) (r.unary_at version m) (unary m)

@@ -8,7 +8,8 @@ use Rattle.mace_lexer.specs.declared.token.Word.{Word}
 use Rattle.mace_lexer.specs.declared.keyword.Keyword.TheVariants as key
 use Rattle.mace_ast.specs.Decls.{ServiceTree, bare_service, SameUpToSpans}
 use Rattle.mace_grammar.specs.inner.Run.{Outcome, Reader}
-use Rattle.mace_grammar.specs.inner.Classes.{kind}
+use Rattle.mace_grammar.specs.inner.Classes as classes
+use Rattle.mace_grammar.specs.Words.{first}
 use Rattle.mace_grammar.specs.Grammar as g
 use Rattle.mace_grammar.specs.inner.Readers as r
 use Rattle.mace_grammar.specs.inner.Run.{rest_of}
@@ -19,6 +20,9 @@ use Rattle.mace_grammar.proofs.DeclReads.{service}
 use Rattle.mace_grammar.proofs.Plain.{erased, map_outcome, same_length}
 use Rattle.mace_grammar.proofs.PlainReads as plain_reads
 use Rattle.mace_grammar.proofs.Verdict.{IsPlace, place, all_begin}
+
+abbrev kind : Token → ℕ
+kind = classes.kind first
 
 abbrev pub judge : List Token → Reader ServiceTree
 judge ts = r.service_at (length ts + 1)

@@ -9,3 +9,4 @@ pub mod Plain
 pub mod PlainReads
 pub mod Verdict
 pub mod Judge
+pub mod Versions

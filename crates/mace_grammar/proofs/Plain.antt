@@ -4,7 +4,8 @@ use Rattle.std.specs.Prelude.{if◌then◌else◌}
 use Rattle.std.specs.Option.{option_map}
 use Rattle.mace_lexer.specs.declared.token.Token.{Token}
 use Rattle.mace_grammar.specs.inner.Run.{Reader, Outcome, and_then, give, after, taken, word, sees, choice, each, each_of, some, with_front, deeper}
-use Rattle.mace_grammar.specs.inner.Classes.{kind}
+use Rattle.mace_grammar.specs.inner.Classes as classes
+use Rattle.mace_grammar.specs.Words.{Version}
 use Rattle.mace_grammar.specs.Spelled.{plain}
 
 -- the same words, standing nowhere
@@ -40,53 +41,57 @@ natural_word {A = A} h f f' e = record { same = go }
     go [] = refl
     go (t ∷ ts) = ap (taken (erased (t ∷ ts)) (erased ts)) (e t) ∙ seen (t ∷ ts) ts (f t)
 
-same_sight : (set : List ℕ) (ts : List Token) → sees kind set (erased ts) ≡ sees kind set ts
-same_sight set [] = refl
-same_sight set (t ∷ ts) = refl
-
-chosen : {A B : Type 0} (h : A → B) (b : Bool) (o o' : Outcome A) → (if b then map_outcome h o else map_outcome h o') ≡ map_outcome h (if b then o else o')
-chosen h true o o' = refl
-chosen h false o o' = refl
-
-pub natural_choice : {A B : Type 0} {h : A → B} {p q : Reader A} {p' q' : Reader B} (set : List ℕ) → Natural h p p' → Natural h q q' → Natural h (choice kind set p q) (choice kind set p' q')
-natural_choice {h = h} {p = p} {q = q} {p' = p'} {q' = q'} set P Q = record {
-  same = λ ts.
-      ap (λ b. if b then p' (erased ts) else q' (erased ts)) (same_sight set ts)
-      ∙ ap (λ o. if sees kind set ts then o else q' (erased ts)) (P.same ts)
-      ∙ ap (λ o. if sees kind set ts then map_outcome h (p ts) else o) (Q.same ts)
-      ∙ chosen h (sees kind set ts) (p ts) (q ts);
-}
-
-pub natural_each : {A B : Type 0} {h : A → B} {run : Reader A} {run' : Reader B} (set : List ℕ) → Natural h run run' → (k : ℕ) → Natural (map h) (each kind set run k) (each kind set run' k)
-natural_each set P zero = record { same = λ ts. refl }
-natural_each {A = A} {B = B} {h = h} {run = run} {run' = run'} set P (suc k) =
-    let E = natural_each set P k in
-    record {
-      same = λ ts.
-          ap (λ b. if b then and_then (run' (erased ts)) (λ a r. and_then (each kind set run' k r) (with_front a)) else Ok ([], erased ts)) (same_sight set ts)
-          ∙ ap (λ o. if sees kind set ts then o else Ok ([], erased ts)) ((turn E).same ts)
-          ∙ chosen (map h) (sees kind set ts) (and_then (run ts) (λ a r. and_then (each kind set run k r) (with_front a))) (Ok ([], ts));
-    }
-  where
-    front : (a : A) → (o : Outcome (List A)) → and_then (map_outcome (map h) o) (with_front (h a)) ≡ map_outcome (map h) (and_then o (with_front a))
-    front a (Ok p) = refl
-    front a (Err rest) = refl
-
-    turn : Natural (map h) (each kind set run k) (each kind set run' k) → Natural (map h) (after run (λ a r. and_then (each kind set run k r) (with_front a))) (after run' (λ a r. and_then (each kind set run' k r) (with_front a)))
-    turn E = natural_then (λ a r. and_then (each kind set run' k r) (with_front a)) P (λ a. record { same = λ r. ap (λ o. and_then o (with_front (h a))) (E.same r) ∙ front a (each kind set run k r) })
-
 pub same_length : (ts : List Token) → length (erased ts) ≡ length ts
 same_length [] = refl
 same_length (t ∷ ts) = ap suc (same_length ts)
 
-pub natural_each_of : {A B : Type 0} {h : A → B} {run : Reader A} {run' : Reader B} (set : List ℕ) → Natural h run run' → Natural (map h) (each_of kind set run) (each_of kind set run')
-natural_each_of {run' = run'} set P = record { same = λ ts. ap (λ n. each kind set run' n (erased ts)) (same_length ts) ∙ (natural_each set P (length ts)).same ts }
-
 pub natural_some : {A B : Type 0} {h : A → B} {run : Reader A} {run' : Reader B} → Natural h run run' → Natural (option_map h) (some run) (some run')
 natural_some {h = h} P = natural_then (λ b. give (Some b)) P (λ a. natural_give (option_map h) (Some a) (Some (h a)) refl)
 
-pub natural_maybe : {A B : Type 0} {h : A → B} {run : Reader A} {run' : Reader B} (set : List ℕ) → Natural h run run' → Natural (option_map h) (choice kind set (some run) (give None)) (choice kind set (some run') (give None))
-natural_maybe {h = h} set P = natural_choice set (natural_some P) (natural_give (option_map h) None None refl)
+module _ (version : Version) where
+  abbrev kind : Token → ℕ
+  kind = classes.kind version
+
+  same_sight : (set : List ℕ) (ts : List Token) → sees kind set (erased ts) ≡ sees kind set ts
+  same_sight set [] = refl
+  same_sight set (t ∷ ts) = refl
+
+  chosen : {A B : Type 0} (h : A → B) (b : Bool) (o o' : Outcome A) → (if b then map_outcome h o else map_outcome h o') ≡ map_outcome h (if b then o else o')
+  chosen h true o o' = refl
+  chosen h false o o' = refl
+
+  pub natural_choice : {A B : Type 0} {h : A → B} {p q : Reader A} {p' q' : Reader B} (set : List ℕ) → Natural h p p' → Natural h q q' → Natural h (choice kind set p q) (choice kind set p' q')
+  natural_choice {h = h} {p = p} {q = q} {p' = p'} {q' = q'} set P Q = record {
+    same = λ ts.
+        ap (λ b. if b then p' (erased ts) else q' (erased ts)) (same_sight set ts)
+        ∙ ap (λ o. if sees kind set ts then o else q' (erased ts)) (P.same ts)
+        ∙ ap (λ o. if sees kind set ts then map_outcome h (p ts) else o) (Q.same ts)
+        ∙ chosen h (sees kind set ts) (p ts) (q ts);
+  }
+
+  pub natural_each : {A B : Type 0} {h : A → B} {run : Reader A} {run' : Reader B} (set : List ℕ) → Natural h run run' → (k : ℕ) → Natural (map h) (each kind set run k) (each kind set run' k)
+  natural_each set P zero = record { same = λ ts. refl }
+  natural_each {A = A} {B = B} {h = h} {run = run} {run' = run'} set P (suc k) =
+      let E = natural_each set P k in
+      record {
+        same = λ ts.
+            ap (λ b. if b then and_then (run' (erased ts)) (λ a r. and_then (each kind set run' k r) (with_front a)) else Ok ([], erased ts)) (same_sight set ts)
+            ∙ ap (λ o. if sees kind set ts then o else Ok ([], erased ts)) ((turn E).same ts)
+            ∙ chosen (map h) (sees kind set ts) (and_then (run ts) (λ a r. and_then (each kind set run k r) (with_front a))) (Ok ([], ts));
+      }
+    where
+      front : (a : A) → (o : Outcome (List A)) → and_then (map_outcome (map h) o) (with_front (h a)) ≡ map_outcome (map h) (and_then o (with_front a))
+      front a (Ok p) = refl
+      front a (Err rest) = refl
+
+      turn : Natural (map h) (each kind set run k) (each kind set run' k) → Natural (map h) (after run (λ a r. and_then (each kind set run k r) (with_front a))) (after run' (λ a r. and_then (each kind set run' k r) (with_front a)))
+      turn E = natural_then (λ a r. and_then (each kind set run' k r) (with_front a)) P (λ a. record { same = λ r. ap (λ o. and_then o (with_front (h a))) (E.same r) ∙ front a (each kind set run k r) })
+
+  pub natural_each_of : {A B : Type 0} {h : A → B} {run : Reader A} {run' : Reader B} (set : List ℕ) → Natural h run run' → Natural (map h) (each_of kind set run) (each_of kind set run')
+  natural_each_of {run' = run'} set P = record { same = λ ts. ap (λ n. each kind set run' n (erased ts)) (same_length ts) ∙ (natural_each set P (length ts)).same ts }
+
+  pub natural_maybe : {A B : Type 0} {h : A → B} {run : Reader A} {run' : Reader B} (set : List ℕ) → Natural h run run' → Natural (option_map h) (choice kind set (some run) (give None)) (choice kind set (some run') (give None))
+  natural_maybe {h = h} set P = natural_choice set (natural_some P) (natural_give (option_map h) None None refl)
 
 pub natural_deeper : {A : Type 0} (h : A → A) (body : ℕ → Reader A → Reader A) → ((n : ℕ) (run : Reader A) → Natural h run run → Natural h (body n run) (body n run)) → (n : ℕ) → Natural h (deeper body n) (deeper body n)
 natural_deeper h body step zero = record { same = λ ts. refl }

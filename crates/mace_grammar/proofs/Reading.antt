@@ -779,3 +779,27 @@ module _ (class : Token → ℕ) where
     reach = λ front rest l b. subst (λ o. left o ≤ length rest) (same (front ++ rest)) (P.reach front rest l b);
     closed = P.closed;
   }
+
+-- ---- another way to tell tokens apart, which tells the first tokens alike
+
+module _ (class class' : Token → ℕ) {A : Type 0} (m : ℕ) (p p' : Part A) (run : Reader A) (f : List ℕ) (same : (t : Token) → has f (class t) ≡ has f (class' t)) (R : Reads class m p p' run f false []) where
+  heads_classed : (e : Bool) (front : List Token) → Heads class f e front → Heads class' f e front
+  heads_classed e [] h = h
+  heads_classed e (t ∷ ts) h = sym (same t) ∙ h
+
+  sees_nothing : (rest : List Token) → sees class [] rest ≡ false
+  sees_nothing [] = refl
+  sees_nothing (t ∷ rest) = refl
+
+  pub reads_classed : Reads class' m p p' run f false []
+  reads_classed = record {
+    sound = R.sound;
+    stuck = R.stuck;
+    none = R.none;
+    begun = R.begun;
+    heads = λ a front s. heads_classed false front (R.heads a front s);
+    starts = λ front b. heads_classed true front (R.starts front b);
+    complete = λ a front rest l s k. R.complete a front rest l s (sees_nothing rest);
+    reach = R.reach;
+    closed = R.closed;
+  }

@@ -4,3 +4,4 @@ pub mod Words
 pub mod Grammar
 pub mod Nest
 pub mod Spelled
+pub mod Fits

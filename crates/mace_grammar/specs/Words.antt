@@ -1,6 +1,8 @@
 -- The words of the grammar, and what each is worth.
-use Rattle.std.specs.Prelude.{ℕ, ℤ, true, false, ◌==◌, if◌then◌else◌, List, Option, Some, None}
+use Rattle.std.specs.Prelude.{ℕ, ℤ, pos, Bool, true, false, not, ◌&&◌, ◌==◌, if◌then◌else◌, List, Option, Some, None, codes, unwrap_or}
 use Rattle.std.specs.Option.{option_map}
+use Rattle.std.specs.Ordering.{int_eq}
+use Rattle.wave_base.specs.Names.{same_bytes}
 use Rattle.wave_base.specs.declared.span.Span.{Span}
 use Rattle.wave_base.specs.declared.value.Kind.{Kind}
 use Rattle.wave_base.specs.declared.value.Kind.TheVariants as kind
@@ -19,7 +21,7 @@ use Rattle.mace_ast.specs.declared.expr.UnaryOp.TheVariants as unary
 use Rattle.mace_ast.specs.declared.expr.BinaryOp.{BinaryOp}
 use Rattle.mace_ast.specs.declared.expr.BinaryOp.TheVariants as op
 use Rattle.mace_ast.specs.Exprs.{ExprTree, Number, Text, Boolean, Empty}
-use Rattle.mace_grammar.specs.Part.{Part, one}
+use Rattle.mace_grammar.specs.Part.{Part, pure, one, ◌>>=◌, maybe}
 
 -- ---- a keyword or a sign is worth its place
 
@@ -37,14 +39,67 @@ key want = one (λ t. key_word want t.span t.word)
 abbrev pub sign : Sign → Part Span
 sign want = one (λ t. sign_word want t.span t.word)
 
--- ---- names, numbers and texts
+-- ---- what the version of a service changes
 
-abbrev pub name_word : Span → Word → Option Name
-name_word at (word.Name t) = Some (record { at = at; text = t })
-name_word at _ = None
+-- which words are names, and whether `return` and `finish` are statements
+pub record Version : Type 0 where
+  pub is_name : List ℕ → Bool
+  pub early : Bool
 
-abbrev pub name : Part Name
-name = one (λ t. name_word t.span t.word)
+abbrev pub first : Version
+first = record { is_name = λ t. true; early = false }
+
+abbrev pub is_finish : List ℕ → Bool
+is_finish t = same_bytes t (codes "finish")
+
+abbrev pub second : Version
+second = record { is_name = λ t. not (is_finish t); early = true }
+
+-- a version by its number
+abbrev pub numbered : ℕ → Version
+numbered n = if n == 2 then second else first
+
+abbrev pub two_word : Word → Option ℕ
+two_word (word.Number n) = if int_eq n (pos 2) then Some 2 else None
+two_word _ = None
+
+-- ["2"]: where the number is left out, the version is 1
+unfoldable pub version_number : Part ℕ
+version_number = do
+  number ← maybe (one (λ t. two_word t.word))
+  pure (unwrap_or number 1)
+
+module _ (version : Version) where
+  abbrev pub name_word : Span → Word → Option Name
+  name_word at (word.Name t) = if version.is_name t then Some (record { at = at; text = t }) else None
+  name_word at _ = None
+
+  abbrev pub name : Part Name
+  name = one (λ t. name_word t.span t.word)
+
+  -- `return` at the end of a method, in version 1
+  abbrev pub end_word : Span → Word → Option Span
+  end_word at word = if version.early then None else key_word k.Return at word
+
+  abbrev pub end : Part Span
+  end = one (λ t. end_word t.span t.word)
+
+  -- `return` as a statement, in version 2
+  abbrev pub leave_word : Span → Word → Option Span
+  leave_word at word = if version.early then key_word k.Return at word else None
+
+  abbrev pub leave : Part Span
+  leave = one (λ t. leave_word t.span t.word)
+
+  -- the word `finish`, in version 2
+  abbrev pub finish_word : Span → Word → Option Span
+  finish_word at (word.Name t) = if version.early && is_finish t then Some at else None
+  finish_word at _ = None
+
+  abbrev pub finish : Part Span
+  finish = one (λ t. finish_word t.span t.word)
+
+-- ---- numbers and texts
 
 abbrev pub number_word : Word → Option ℤ
 number_word (word.Number n) = Some n

@@ -9,7 +9,8 @@ use Rattle.mace_parser.specs.declared.fault.Fault.TheVariants.{Memory, Stuck}
 use Rattle.mace_parser.specs.inner.Gives.{Fails}
 use Rattle.mace_grammar.specs.Grammar.{joined}
 use Rattle.mace_grammar.specs.inner.Run.{Outcome, Reader, and_then, give, after, sees, each, each_of, with_front}
-use Rattle.mace_grammar.specs.inner.Classes.{kind}
+use Rattle.mace_grammar.specs.inner.Classes as classes
+use Rattle.mace_grammar.specs.Words.{Version}
 use Rattle.mace_grammar.specs.inner.Readers.{operators_of, operator_at, operand_at, operands_at, turns_of, level_at}
 
 suc_sub : (n k : ℕ) → k < n → n - k ≡ suc (n - (k + 1))
@@ -23,106 +24,110 @@ unseen : {X : Type 0} (b : Bool) (x y : X) → b ≡ false → (if b then x else
 unseen true x y h = cc
 unseen false x y h = refl
 
--- the items that are left, at most so many, and what is made of them
-abbrev pub from : {A B : Type 0} → List ℕ → Reader A → (List A → B) → ℕ → Reader B
-from set run f n = after (each kind set run n) (λ others. give (f others))
-
-module _ {A B : Type 0} (set : List ℕ) (run : Reader A) (f : List A → B) where
-  behind : (x : A) (o : Outcome (List A)) → and_then (and_then o (with_front x)) (λ others. give (f others)) ≡ and_then o (λ others. give (f (x ∷ others)))
-  behind x (Ok p) = refl
-  behind x (Err e) = refl
-
-  one_turn : (n : ℕ) (ts : List Token) → sees kind set ts ≡ true → from set run f (suc n) ts ≡ and_then (and_then (run ts) (λ a r. and_then (each kind set run n r) (with_front a))) (λ others. give (f others))
-  one_turn n ts s = ap (λ o. and_then o (λ others. give (f others))) (seen (sees kind set ts) _ _ s)
-
-  pub goes_on : (n k : ℕ) (ts rest : List Token) (x : A) → k < n → sees kind set ts ≡ true → run ts ≡ Ok (x, rest) → from set run f (n - k) ts ≡ from set run (λ others. f (x ∷ others)) (n - (k + 1)) rest
-  goes_on n k ts rest x h s e =
-      ap (λ i. from set run f i ts) (suc_sub n k h)
-      ∙ one_turn (n - (k + 1)) ts s
-      ∙ ap (λ o. and_then (and_then o (λ a r. and_then (each kind set run (n - (k + 1)) r) (with_front a))) (λ others. give (f others))) e
-      ∙ behind x (each kind set run (n - (k + 1)) rest)
-
-  pub fails : (n k : ℕ) (ts rest : List Token) → k < n → sees kind set ts ≡ true → run ts ≡ Err rest → from set run f (n - k) ts ≡ Err rest
-  fails n k ts rest h s e =
-      ap (λ i. from set run f i ts) (suc_sub n k h)
-      ∙ one_turn (n - (k + 1)) ts s
-      ∙ ap (λ o. and_then (and_then o (λ a r. and_then (each kind set run (n - (k + 1)) r) (with_front a))) (λ others. give (f others))) e
-
-  pub ends : (e : Fault) (n k : ℕ) (ts : List Token) (out : Outcome B) → k < n → sees kind set ts ≡ true → Fails e (run ts) → from set run f (n - k) ts ≡ out → Fails e out
-  ends Memory n k ts out h s g i = tt
-  ends (Stuck rest) n k ts out h s g i = sym i ∙ fails n k ts rest.now h s g
-
-  pub done_at : (n : ℕ) (ts : List Token) (out : Outcome B) → n ≡ 0 → from set run f n ts ≡ out → out ≡ Ok (f [], ts)
-  done_at zero ts out e i = sym i
-  done_at (suc n) ts out e i = absurd (omega arith)
-
-  pub done : (n : ℕ) (ts : List Token) (out : Outcome B) → sees kind set ts ≡ false → from set run f n ts ≡ out → out ≡ Ok (f [], ts)
-  done zero ts out e i = sym i
-  done (suc n) ts out e i = sym i ∙ ap (λ o. and_then o (λ others. give (f others))) (unseen (sees kind set ts) _ _ e)
-
--- ---- lists
-
--- the items that are left, behind those that were found
-abbrev pub list_from : {A : Type 0} → List ℕ → Reader A → ℕ → List A → Reader (List A)
-list_from set run n found = from set run (λ others. found ++ others) n
-
-module _ {A : Type 0} (set : List ℕ) (run : Reader A) where
-  found_more : (found : List A) (x : A) (o : Outcome (List A)) → and_then o (λ others. give (found ++ (x ∷ others))) ≡ and_then o (λ others. give ((found ++ x ∷ []) ++ others))
-  found_more found x (Ok p) = ap (λ l. Ok (l, p.1)) (sym (append_assoc found (x ∷ []) p.0))
-  found_more found x (Err e) = refl
-
-  pub list_goes_on : (n k : ℕ) (found more : List A) (ts rest : List Token) (x : A) (out : Outcome (List A)) → k < n → sees kind set ts ≡ true → run ts ≡ Ok (x, rest) → more ≡ found ++ x ∷ [] → list_from set run (n - k) found ts ≡ out → list_from set run (n - (k + 1)) more rest ≡ out
-  list_goes_on n k found more ts rest x out h s e m i =
-      ap (λ l. list_from set run (n - (k + 1)) l rest) m
-      ∙ sym (goes_on set run (λ others. found ++ others) n k ts rest x h s e ∙ found_more found x (each kind set run (n - (k + 1)) rest))
-      ∙ i
-
-  pub list_ends : (e : Fault) (n k : ℕ) (found : List A) (ts : List Token) (out : Outcome (List A)) → k < n → sees kind set ts ≡ true → Fails e (run ts) → list_from set run (n - k) found ts ≡ out → Fails e out
-  list_ends e n k found ts out h s g i = ends set run (λ others. found ++ others) e n k ts out h s g i
-
-  pub list_done_at : (n : ℕ) (found : List A) (ts : List Token) (out : Outcome (List A)) → n ≡ 0 → list_from set run n found ts ≡ out → out ≡ Ok (found, ts)
-  list_done_at n found ts out e i = done_at set run (λ others. found ++ others) n ts out e i ∙ ap (λ l. Ok (l, ts)) (append-nil found)
-
-  pub list_done : (n : ℕ) (found : List A) (ts : List Token) (out : Outcome (List A)) → sees kind set ts ≡ false → list_from set run n found ts ≡ out → out ≡ Ok (found, ts)
-  list_done n found ts out e i = done set run (λ others. found ++ others) n ts out e i ∙ ap (λ l. Ok (l, ts)) (append-nil found)
-
-  pub list_start : (ts : List Token) (found : List A) → found ≡ [] → list_from set run (length ts) found ts ≡ each_of kind set run ts
-  list_start ts found e = ap (λ l. list_from set run (length ts) l ts) e ∙ all (each kind set run (length ts) ts)
-    where
-      all : (o : Outcome (List A)) → and_then o (λ others. give ([] ++ others)) ≡ o
-      all (Ok p) = refl
-      all (Err x) = refl
-
--- ---- chains of operators
-
-module _ (level : ℕ) (item : Reader ExprTree) where
-  pub chain_goes_on : (n k : ℕ) (left next : ExprTree) (ts rest : List Token) (x : BinaryOp × ExprTree) (out : Outcome ExprTree) → k < n → sees kind (operators_of level) ts ≡ true → operand_at (operator_at level) item ts ≡ Ok (x, rest) → next ≡ joined left x → operands_at level item (n - k) left ts ≡ out → operands_at level item (n - (k + 1)) next rest ≡ out
-  unfolding operands_at
-  chain_goes_on n k left next ts rest x out h s e m i =
-      ap (λ l. operands_at level item (n - (k + 1)) l rest) m
-      ∙ sym (goes_on (operators_of level) (operand_at (operator_at level) item) (λ others. fold joined left others) n k ts rest x h s e)
-      ∙ i
-
-  pub chain_ends : (e : Fault) (n k : ℕ) (left : ExprTree) (ts : List Token) (out : Outcome ExprTree) → k < n → sees kind (operators_of level) ts ≡ true → Fails e (operand_at (operator_at level) item ts) → operands_at level item (n - k) left ts ≡ out → Fails e out
-  unfolding operands_at
-  chain_ends e n k left ts out h s g i = ends (operators_of level) (operand_at (operator_at level) item) (λ others. fold joined left others) e n k ts out h s g i
-
-  pub chain_done_at : (n : ℕ) (left : ExprTree) (ts : List Token) (out : Outcome ExprTree) → n ≡ 0 → operands_at level item n left ts ≡ out → out ≡ Ok (left, ts)
-  unfolding operands_at
-  chain_done_at n left ts out e i = done_at (operators_of level) (operand_at (operator_at level) item) (λ others. fold joined left others) n ts out e i
-
-  pub chain_done : (n : ℕ) (left : ExprTree) (ts : List Token) (out : Outcome ExprTree) → sees kind (operators_of level) ts ≡ false → operands_at level item n left ts ≡ out → out ≡ Ok (left, ts)
-  unfolding operands_at
-  chain_done n left ts out e i = done (operators_of level) (operand_at (operator_at level) item) (λ others. fold joined left others) n ts out e i
-
-chain_next : (unary : Reader ExprTree) (m n : ℕ) (first : ExprTree) (ts rest : List Token) → n ≡ turns_of m rest → level_at unary m ts ≡ Ok (first, rest) → operands_at m (level_at unary m) n first rest ≡ level_at unary (suc m) ts
-chain_next unary m n first ts rest e g =
-    ap (λ i. operands_at m (level_at unary m) i first rest) e
-    ∙ sym (ap (λ o. and_then o (λ x r. operands_at m (level_at unary m) (turns_of m r) x r)) g)
-
 positive : (level : ℕ) → (level ≡ 0 → ⊥) → suc (level - 1) ≡ level
 positive zero h = absurd (h refl)
 positive (suc m) h = omega arith
 
-pub chain_start : (unary : Reader ExprTree) (level n : ℕ) (first : ExprTree) (ts rest : List Token) → (level ≡ 0 → ⊥) → n ≡ turns_of (level - 1) rest → level_at unary (level - 1) ts ≡ Ok (first, rest) → operands_at (level - 1) (level_at unary (level - 1)) (n - 0) first rest ≡ level_at unary level ts
-chain_start unary level n first ts rest h e g = let whole : n - 0 ≡ n = omega arith in ap (λ i. operands_at (level - 1) (level_at unary (level - 1)) i first rest) whole ∙ chain_next unary (level - 1) n first ts rest e g ∙ ap (λ l. level_at unary l ts) (positive level h)
+module _ (version : Version) where
+  abbrev kind : Token → ℕ
+  kind = classes.kind version
+
+  -- the items that are left, at most so many, and what is made of them
+  abbrev pub from : {A B : Type 0} → List ℕ → Reader A → (List A → B) → ℕ → Reader B
+  from set run f n = after (each kind set run n) (λ others. give (f others))
+
+  module _ {A B : Type 0} (set : List ℕ) (run : Reader A) (f : List A → B) where
+    behind : (x : A) (o : Outcome (List A)) → and_then (and_then o (with_front x)) (λ others. give (f others)) ≡ and_then o (λ others. give (f (x ∷ others)))
+    behind x (Ok p) = refl
+    behind x (Err e) = refl
+
+    one_turn : (n : ℕ) (ts : List Token) → sees kind set ts ≡ true → from set run f (suc n) ts ≡ and_then (and_then (run ts) (λ a r. and_then (each kind set run n r) (with_front a))) (λ others. give (f others))
+    one_turn n ts s = ap (λ o. and_then o (λ others. give (f others))) (seen (sees kind set ts) _ _ s)
+
+    pub goes_on : (n k : ℕ) (ts rest : List Token) (x : A) → k < n → sees kind set ts ≡ true → run ts ≡ Ok (x, rest) → from set run f (n - k) ts ≡ from set run (λ others. f (x ∷ others)) (n - (k + 1)) rest
+    goes_on n k ts rest x h s e =
+        ap (λ i. from set run f i ts) (suc_sub n k h)
+        ∙ one_turn (n - (k + 1)) ts s
+        ∙ ap (λ o. and_then (and_then o (λ a r. and_then (each kind set run (n - (k + 1)) r) (with_front a))) (λ others. give (f others))) e
+        ∙ behind x (each kind set run (n - (k + 1)) rest)
+
+    pub fails : (n k : ℕ) (ts rest : List Token) → k < n → sees kind set ts ≡ true → run ts ≡ Err rest → from set run f (n - k) ts ≡ Err rest
+    fails n k ts rest h s e =
+        ap (λ i. from set run f i ts) (suc_sub n k h)
+        ∙ one_turn (n - (k + 1)) ts s
+        ∙ ap (λ o. and_then (and_then o (λ a r. and_then (each kind set run (n - (k + 1)) r) (with_front a))) (λ others. give (f others))) e
+
+    pub ends : (e : Fault) (n k : ℕ) (ts : List Token) (out : Outcome B) → k < n → sees kind set ts ≡ true → Fails e (run ts) → from set run f (n - k) ts ≡ out → Fails e out
+    ends Memory n k ts out h s g i = tt
+    ends (Stuck rest) n k ts out h s g i = sym i ∙ fails n k ts rest.now h s g
+
+    pub done_at : (n : ℕ) (ts : List Token) (out : Outcome B) → n ≡ 0 → from set run f n ts ≡ out → out ≡ Ok (f [], ts)
+    done_at zero ts out e i = sym i
+    done_at (suc n) ts out e i = absurd (omega arith)
+
+    pub done : (n : ℕ) (ts : List Token) (out : Outcome B) → sees kind set ts ≡ false → from set run f n ts ≡ out → out ≡ Ok (f [], ts)
+    done zero ts out e i = sym i
+    done (suc n) ts out e i = sym i ∙ ap (λ o. and_then o (λ others. give (f others))) (unseen (sees kind set ts) _ _ e)
+
+  -- ---- lists
+
+  -- the items that are left, behind those that were found
+  abbrev pub list_from : {A : Type 0} → List ℕ → Reader A → ℕ → List A → Reader (List A)
+  list_from set run n found = from set run (λ others. found ++ others) n
+
+  module _ {A : Type 0} (set : List ℕ) (run : Reader A) where
+    found_more : (found : List A) (x : A) (o : Outcome (List A)) → and_then o (λ others. give (found ++ (x ∷ others))) ≡ and_then o (λ others. give ((found ++ x ∷ []) ++ others))
+    found_more found x (Ok p) = ap (λ l. Ok (l, p.1)) (sym (append_assoc found (x ∷ []) p.0))
+    found_more found x (Err e) = refl
+
+    pub list_goes_on : (n k : ℕ) (found more : List A) (ts rest : List Token) (x : A) (out : Outcome (List A)) → k < n → sees kind set ts ≡ true → run ts ≡ Ok (x, rest) → more ≡ found ++ x ∷ [] → list_from set run (n - k) found ts ≡ out → list_from set run (n - (k + 1)) more rest ≡ out
+    list_goes_on n k found more ts rest x out h s e m i =
+        ap (λ l. list_from set run (n - (k + 1)) l rest) m
+        ∙ sym (goes_on set run (λ others. found ++ others) n k ts rest x h s e ∙ found_more found x (each kind set run (n - (k + 1)) rest))
+        ∙ i
+
+    pub list_ends : (e : Fault) (n k : ℕ) (found : List A) (ts : List Token) (out : Outcome (List A)) → k < n → sees kind set ts ≡ true → Fails e (run ts) → list_from set run (n - k) found ts ≡ out → Fails e out
+    list_ends e n k found ts out h s g i = ends set run (λ others. found ++ others) e n k ts out h s g i
+
+    pub list_done_at : (n : ℕ) (found : List A) (ts : List Token) (out : Outcome (List A)) → n ≡ 0 → list_from set run n found ts ≡ out → out ≡ Ok (found, ts)
+    list_done_at n found ts out e i = done_at set run (λ others. found ++ others) n ts out e i ∙ ap (λ l. Ok (l, ts)) (append-nil found)
+
+    pub list_done : (n : ℕ) (found : List A) (ts : List Token) (out : Outcome (List A)) → sees kind set ts ≡ false → list_from set run n found ts ≡ out → out ≡ Ok (found, ts)
+    list_done n found ts out e i = done set run (λ others. found ++ others) n ts out e i ∙ ap (λ l. Ok (l, ts)) (append-nil found)
+
+    pub list_start : (ts : List Token) (found : List A) → found ≡ [] → list_from set run (length ts) found ts ≡ each_of kind set run ts
+    list_start ts found e = ap (λ l. list_from set run (length ts) l ts) e ∙ all (each kind set run (length ts) ts)
+      where
+        all : (o : Outcome (List A)) → and_then o (λ others. give ([] ++ others)) ≡ o
+        all (Ok p) = refl
+        all (Err x) = refl
+
+  -- ---- chains of operators
+
+  module _ (level : ℕ) (item : Reader ExprTree) where
+    pub chain_goes_on : (n k : ℕ) (left next : ExprTree) (ts rest : List Token) (x : BinaryOp × ExprTree) (out : Outcome ExprTree) → k < n → sees kind (operators_of level) ts ≡ true → operand_at (operator_at level) item ts ≡ Ok (x, rest) → next ≡ joined left x → operands_at version level item (n - k) left ts ≡ out → operands_at version level item (n - (k + 1)) next rest ≡ out
+    unfolding operands_at
+    chain_goes_on n k left next ts rest x out h s e m i =
+        ap (λ l. (operands_at version) level item (n - (k + 1)) l rest) m
+        ∙ sym (goes_on (operators_of level) (operand_at (operator_at level) item) (λ others. fold joined left others) n k ts rest x h s e)
+        ∙ i
+
+    pub chain_ends : (e : Fault) (n k : ℕ) (left : ExprTree) (ts : List Token) (out : Outcome ExprTree) → k < n → sees kind (operators_of level) ts ≡ true → Fails e (operand_at (operator_at level) item ts) → operands_at version level item (n - k) left ts ≡ out → Fails e out
+    unfolding operands_at
+    chain_ends e n k left ts out h s g i = ends (operators_of level) (operand_at (operator_at level) item) (λ others. fold joined left others) e n k ts out h s g i
+
+    pub chain_done_at : (n : ℕ) (left : ExprTree) (ts : List Token) (out : Outcome ExprTree) → n ≡ 0 → operands_at version level item n left ts ≡ out → out ≡ Ok (left, ts)
+    unfolding operands_at
+    chain_done_at n left ts out e i = done_at (operators_of level) (operand_at (operator_at level) item) (λ others. fold joined left others) n ts out e i
+
+    pub chain_done : (n : ℕ) (left : ExprTree) (ts : List Token) (out : Outcome ExprTree) → sees kind (operators_of level) ts ≡ false → operands_at version level item n left ts ≡ out → out ≡ Ok (left, ts)
+    unfolding operands_at
+    chain_done n left ts out e i = done (operators_of level) (operand_at (operator_at level) item) (λ others. fold joined left others) n ts out e i
+
+  chain_next : (unary : Reader ExprTree) (m n : ℕ) (first : ExprTree) (ts rest : List Token) → n ≡ turns_of m rest → level_at version unary m ts ≡ Ok (first, rest) → operands_at version m (level_at version unary m) n first rest ≡ level_at version unary (suc m) ts
+  chain_next unary m n first ts rest e g =
+      ap (λ i. (operands_at version) m (level_at version unary m) i first rest) e
+      ∙ sym (ap (λ o. and_then o (λ x r. (operands_at version) m (level_at version unary m) (turns_of m r) x r)) g)
+
+  pub chain_start : (unary : Reader ExprTree) (level n : ℕ) (first : ExprTree) (ts rest : List Token) → (level ≡ 0 → ⊥) → n ≡ turns_of (level - 1) rest → level_at version unary (level - 1) ts ≡ Ok (first, rest) → operands_at version (level - 1) (level_at version unary (level - 1)) (n - 0) first rest ≡ level_at version unary level ts
+  chain_start unary level n first ts rest h e g = let whole : n - 0 ≡ n = omega arith in ap (λ i. (operands_at version) (level - 1) (level_at version unary (level - 1)) i first rest) whole ∙ chain_next unary (level - 1) n first ts rest e g ∙ ap (λ l. (level_at version) unary l ts) (positive level h)

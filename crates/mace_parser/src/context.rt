@@ -2,38 +2,44 @@
 
 ghost use Rattle.std.specs.Prelude.{◌≡◌, map};
 ghost use Rattle.mace_ast.specs.Decls.{context_tree, service_tree};
+ghost use Rattle.mace_grammar.specs.Words.{numbered};
 ghost use Rattle.mace_grammar.specs.inner.Readers as reader;
 ghost use Rattle.mace_parser.specs.inner.Gives.{Gives};
 
-use crate::class::sees_key;
+use crate::class::{sees_key, sees_number};
 use crate::event::events;
 use crate::fault::{Fault, Read};
 use crate::field::vars;
 use crate::method::methods;
-use crate::token::{key, name, sign};
-use mace_ast::{ContextDecl, Service};
+use crate::token::{key, name, sign, two};
+use mace_ast::{ContextDecl, Name, Service};
 use mace_lexer::{Keyword, Sign, Token};
 use std::alloc::Global;
-use wave_base::Seq;
+use wave_base::{Seq, Span};
 
 #[cycle(context)]
 #[tactic(auto, unfolding(mace_grammar::specs::inner::Readers::one_context_at))]
-fn context<'a>(alloc: Global, depth: usize, tokens: &'a [Token]) -> Read<'a, ContextDecl>
-    ensures { Gives (λ x. (context_tree x.0, x.1.now)) result (reader.context_at depth tokens.now) }
+fn context<'a>(
+    alloc: Global,
+    depth: usize,
+    version: u8,
+    tokens: &'a [Token],
+) -> Read<'a, ContextDecl>
+    ensures { Gives (λ x. (context_tree x.0, x.1.now)) result (reader.context_at (numbered version) depth tokens.now) }
 {
     if depth == 0 {
         return Err(Fault::Stuck(tokens));
     }
     let depth = depth - 1;
     let (at, rest) = key(Keyword::Context, tokens)?;
-    let (name, rest) = name(alloc, rest)?;
+    let (name, rest) = name(alloc, version, rest)?;
     let (_, rest) = sign(Sign::LeftBracket, rest)?;
     let (_, rest) = key(Keyword::Int, rest)?;
     let (_, rest) = sign(Sign::RightBracket, rest)?;
     let (_, rest) = sign(Sign::LeftBrace, rest)?;
-    let (vars, rest) = vars(alloc, rest)?;
-    let (inner, rest) = contexts(alloc, depth, rest)?;
-    let (methods, rest) = methods(alloc, depth, rest)?;
+    let (vars, rest) = vars(alloc, version, rest)?;
+    let (inner, rest) = contexts(alloc, depth, version, rest)?;
+    let (methods, rest) = methods(alloc, depth, version, rest)?;
     let (_, rest) = sign(Sign::RightBrace, rest)?;
     Ok((ContextDecl::new(at, name, vars, inner, methods), rest))
 }
@@ -41,20 +47,66 @@ fn context<'a>(alloc: Global, depth: usize, tokens: &'a [Token]) -> Read<'a, Con
 // Contexts, one behind the other.
 #[cycle(context)]
 #[tactic(auto, unfolding(mace_grammar::specs::inner::Readers::contexts_in))]
-fn contexts<'a>(alloc: Global, depth: usize, tokens: &'a [Token]) -> Read<'a, Vec<ContextDecl>>
-    ensures { Gives (λ x. (map context_tree x.0.items, x.1.now)) result (reader.contexts_in (reader.context_at depth) tokens.now) }
+fn contexts<'a>(
+    alloc: Global,
+    depth: usize,
+    version: u8,
+    tokens: &'a [Token],
+) -> Read<'a, Vec<ContextDecl>>
+    ensures { Gives (λ x. (map context_tree x.0.items, x.1.now)) result (reader.contexts_in (numbered version) (reader.context_at (numbered version) depth) tokens.now) }
 {
     let mut rest = tokens;
     let mut found = Vec::new(alloc);
     'turns: for _ in 0..tokens.len() {
-        if !sees_key(Keyword::Context, rest) {
+        if !sees_key(Keyword::Context, version, rest) {
             break;
         }
-        let (next, after) = context(alloc, depth, rest)?;
+        let (next, after) = context(alloc, depth, version, rest)?;
         found.push(next)?;
         rest = after;
     }
     Ok((found, rest))
+}
+
+// The number of the version: 2 where it stands there, and else 1.
+#[tactic(auto, unfolding(mace_grammar::specs::inner::Readers::version_at))]
+fn version_number(tokens: &[Token]) -> Read<'_, u8>
+    ensures { Gives (λ x. (x.0, x.1.now)) result (reader.version_at tokens.now) }
+{
+    if !sees_number(tokens) {
+        return Ok((1, tokens));
+    }
+    two(tokens)
+}
+
+// What a service has in its braces, in its version.
+#[tactic(auto, unfolding(mace_grammar::specs::inner::Readers::members_at))]
+fn members<'a>(
+    alloc: Global,
+    depth: usize,
+    version: u8,
+    at: Span,
+    name: Name,
+    tokens: &'a [Token],
+) -> Read<'a, Service>
+    ensures { Gives (λ x. (service_tree x.0, x.1.now)) result (reader.members_at depth version at name tokens.now) }
+{
+    let (_, rest) = sign(Sign::LeftBrace, tokens)?;
+    let (vars, rest) = vars(alloc, version, rest)?;
+    let (inner, rest) = contexts(alloc, depth, version, rest)?;
+    let (methods, rest) = methods(alloc, depth, version, rest)?;
+    let (events, rest) = events(alloc, depth, version, rest)?;
+    let (_, rest) = sign(Sign::RightBrace, rest)?;
+    let service = Service {
+        at,
+        name,
+        version,
+        vars,
+        contexts: Seq::from_vec(inner),
+        methods,
+        events,
+    };
+    Ok((service, rest))
 }
 
 /// A service. `depth` is more than the tokens.
@@ -63,20 +115,7 @@ pub fn service<'a>(alloc: Global, depth: usize, tokens: &'a [Token]) -> Read<'a,
     ensures { Gives (λ x. (service_tree x.0, x.1.now)) result (reader.service_at depth tokens.now) }
 {
     let (at, rest) = key(Keyword::Service, tokens)?;
-    let (name, rest) = name(alloc, rest)?;
-    let (_, rest) = sign(Sign::LeftBrace, rest)?;
-    let (vars, rest) = vars(alloc, rest)?;
-    let (inner, rest) = contexts(alloc, depth, rest)?;
-    let (methods, rest) = methods(alloc, depth, rest)?;
-    let (events, rest) = events(alloc, depth, rest)?;
-    let (_, rest) = sign(Sign::RightBrace, rest)?;
-    let service = Service {
-        at,
-        name,
-        vars,
-        contexts: Seq::from_vec(inner),
-        methods,
-        events,
-    };
-    Ok((service, rest))
+    let (name, rest) = name(alloc, 1, rest)?;
+    let (version, rest) = version_number(rest)?;
+    members(alloc, depth, version, at, name, rest)
 }

@@ -4,18 +4,18 @@ ghost use Rattle.std.specs.Prelude.{◌≡◌, ◌<◌, ◌≤◌, map};
 ghost use Rattle.std.specs.Option.{option_map};
 ghost use Rattle.mace_ast.specs.Exprs.{expr_tree};
 ghost use Rattle.mace_grammar.specs.Words as words;
+ghost use Rattle.mace_grammar.specs.Words.{numbered};
 ghost use Rattle.mace_grammar.specs.inner.Readers as reader;
 ghost use Rattle.mace_parser.specs.inner.Gives.{Gives};
 
 use crate::class::{begins_expr, sees_literal, sees_operator, sees_sign, sees_unary};
 use crate::fault::{Fault, Read};
+use crate::operator::{operator, unary_op};
 use crate::token::{field, name, sign};
-use mace_ast::{BinaryOp, Expr, Name, UnaryOp};
+use mace_ast::{BinaryOp, Expr, Name};
 use mace_lexer::{Keyword, Sign, Token, Word};
 use std::alloc::Global;
 use wave_base::Span;
-
-// ---- one token
 
 fn literal_of_key(at: Span, key: Keyword) -> Option<Expr>
     ensures { option_map expr_tree result ≡ words.literal_of_key at key }
@@ -45,115 +45,6 @@ fn literal<'a>(alloc: Global, tokens: &'a [Token]) -> Read<'a, Expr>
     }
 }
 
-fn unary_of(sign: Sign) -> Option<UnaryOp>
-    ensures { result ≡ words.unary_of sign }
-{
-    match sign {
-        Sign::Minus => Some(UnaryOp::Neg),
-        Sign::Bang => Some(UnaryOp::Not),
-        _ => None,
-    }
-}
-
-fn unary_op(tokens: &[Token]) -> Read<'_, (Span, UnaryOp)>
-    ensures { Gives (λ x. (x.0, x.1.now)) result (reader.unary_op_at tokens.now) }
-{
-    let Some((t, rest)) = tokens.split_first() else {
-        return Err(Fault::Stuck(tokens));
-    };
-    let Word::Sign(sign) = t.word else {
-        return Err(Fault::Stuck(tokens));
-    };
-    match unary_of(sign) {
-        Some(op) => Ok(((t.span, op), rest)),
-        None => Err(Fault::Stuck(tokens)),
-    }
-}
-
-// ---- operators by their level, from the tightest: products, sums, comparisons, "&&" and "||"
-
-fn product_op(sign: Sign) -> Option<BinaryOp>
-    ensures { result ≡ words.product_op sign }
-{
-    match sign {
-        Sign::Star => Some(BinaryOp::Mul),
-        Sign::Slash => Some(BinaryOp::Div),
-        Sign::Percent => Some(BinaryOp::Rem),
-        _ => None,
-    }
-}
-
-fn sum_op(sign: Sign) -> Option<BinaryOp>
-    ensures { result ≡ words.sum_op sign }
-{
-    match sign {
-        Sign::Plus => Some(BinaryOp::Add),
-        Sign::Minus => Some(BinaryOp::Sub),
-        _ => None,
-    }
-}
-
-fn comparison_op(sign: Sign) -> Option<BinaryOp>
-    ensures { result ≡ words.comparison_op sign }
-{
-    match sign {
-        Sign::EqualsEquals => Some(BinaryOp::Eq),
-        Sign::BangEquals => Some(BinaryOp::Ne),
-        Sign::Less => Some(BinaryOp::Lt),
-        Sign::LessEquals => Some(BinaryOp::Le),
-        Sign::Greater => Some(BinaryOp::Gt),
-        Sign::GreaterEquals => Some(BinaryOp::Ge),
-        _ => None,
-    }
-}
-
-fn and_op(sign: Sign) -> Option<BinaryOp>
-    ensures { result ≡ words.and_op sign }
-{
-    match sign {
-        Sign::AndAnd => Some(BinaryOp::And),
-        _ => None,
-    }
-}
-
-fn or_op(sign: Sign) -> Option<BinaryOp>
-    ensures { result ≡ words.or_op sign }
-{
-    match sign {
-        Sign::OrOr => Some(BinaryOp::Or),
-        _ => None,
-    }
-}
-
-fn op_of(level: u8, sign: Sign) -> Option<BinaryOp>
-    requires { level < 5 }
-    ensures { result ≡ reader.op_of level sign }
-{
-    match level {
-        0 => product_op(sign),
-        1 => sum_op(sign),
-        2 => comparison_op(sign),
-        3 => and_op(sign),
-        _ => or_op(sign),
-    }
-}
-
-fn operator(level: u8, tokens: &[Token]) -> Read<'_, BinaryOp>
-    requires { level < 5 }
-    ensures { Gives (λ x. (x.0, x.1.now)) result (reader.operator_at level tokens.now) }
-{
-    let Some((t, rest)) = tokens.split_first() else {
-        return Err(Fault::Stuck(tokens));
-    };
-    let Word::Sign(sign) = t.word else {
-        return Err(Fault::Stuck(tokens));
-    };
-    match op_of(level, sign) {
-        Some(op) => Ok((op, rest)),
-        None => Err(Fault::Stuck(tokens)),
-    }
-}
-
 // How many operands a chain of this level may go on with: comparisons don't chain.
 fn most_operands(level: u8, tokens: &[Token]) -> usize
     requires { level < 5 }
@@ -162,53 +53,56 @@ fn most_operands(level: u8, tokens: &[Token]) -> usize
     if level == 2 { 1 } else { tokens.len() }
 }
 
-// ---- the cycle
-
 #[cycle(expr)]
 #[tactic(auto, unfolding(mace_grammar::specs::inner::Readers::signed_or_primary_at))]
-fn unary<'a>(alloc: Global, depth: usize, tokens: &'a [Token]) -> Read<'a, Expr>
-    ensures { Gives (λ x. (expr_tree x.0, x.1.now)) result (reader.unary_at depth tokens.now) }
+fn unary<'a>(alloc: Global, depth: usize, version: u8, tokens: &'a [Token]) -> Read<'a, Expr>
+    ensures { Gives (λ x. (expr_tree x.0, x.1.now)) result (reader.unary_at (numbered version) depth tokens.now) }
 {
     if depth == 0 {
         return Err(Fault::Stuck(tokens));
     }
-    if sees_unary(tokens) {
-        return signed(alloc, depth - 1, tokens);
+    if sees_unary(version, tokens) {
+        return signed(alloc, depth - 1, version, tokens);
     }
-    primary(alloc, depth - 1, tokens)
+    primary(alloc, depth - 1, version, tokens)
 }
 
 #[cycle(expr)]
 #[tactic(auto, unfolding(mace_grammar::specs::inner::Readers::signed_at))]
-fn signed<'a>(alloc: Global, depth: usize, tokens: &'a [Token]) -> Read<'a, Expr>
-    ensures { Gives (λ x. (expr_tree x.0, x.1.now)) result (reader.signed_at (reader.unary_at depth) tokens.now) }
+fn signed<'a>(alloc: Global, depth: usize, version: u8, tokens: &'a [Token]) -> Read<'a, Expr>
+    ensures { Gives (λ x. (expr_tree x.0, x.1.now)) result (reader.signed_at (numbered version) (reader.unary_at (numbered version) depth) tokens.now) }
 {
     let ((at, op), rest) = unary_op(tokens)?;
-    let (operand, rest) = unary(alloc, depth, rest)?;
+    let (operand, rest) = unary(alloc, depth, version, rest)?;
     Ok((Expr::unary(alloc, at, op, operand)?, rest))
 }
 
 #[cycle(expr)]
 #[tactic(auto, unfolding(mace_grammar::specs::inner::Readers::primary_at))]
-fn primary<'a>(alloc: Global, depth: usize, tokens: &'a [Token]) -> Read<'a, Expr>
-    ensures { Gives (λ x. (expr_tree x.0, x.1.now)) result (reader.primary_at (reader.unary_at depth) tokens.now) }
+fn primary<'a>(alloc: Global, depth: usize, version: u8, tokens: &'a [Token]) -> Read<'a, Expr>
+    ensures { Gives (λ x. (expr_tree x.0, x.1.now)) result (reader.primary_at (numbered version) (reader.unary_at (numbered version) depth) tokens.now) }
 {
-    if sees_literal(tokens) {
+    if sees_literal(version, tokens) {
         return literal(alloc, tokens);
     }
-    if sees_sign(Sign::LeftParen, tokens) {
-        return parenthesized(alloc, depth, tokens);
+    if sees_sign(Sign::LeftParen, version, tokens) {
+        return parenthesized(alloc, depth, version, tokens);
     }
-    named(alloc, depth, tokens)
+    named(alloc, depth, version, tokens)
 }
 
 #[cycle(expr)]
 #[tactic(auto, unfolding(mace_grammar::specs::inner::Readers::parenthesized_at))]
-fn parenthesized<'a>(alloc: Global, depth: usize, tokens: &'a [Token]) -> Read<'a, Expr>
-    ensures { Gives (λ x. (expr_tree x.0, x.1.now)) result (reader.parenthesized_at (reader.unary_at depth) tokens.now) }
+fn parenthesized<'a>(
+    alloc: Global,
+    depth: usize,
+    version: u8,
+    tokens: &'a [Token],
+) -> Read<'a, Expr>
+    ensures { Gives (λ x. (expr_tree x.0, x.1.now)) result (reader.parenthesized_at (numbered version) (reader.unary_at (numbered version) depth) tokens.now) }
 {
     let (_, rest) = sign(Sign::LeftParen, tokens)?;
-    let (inner, rest) = expr(alloc, depth, rest)?;
+    let (inner, rest) = expr(alloc, depth, version, rest)?;
     let (_, rest) = sign(Sign::RightParen, rest)?;
     Ok((inner, rest))
 }
@@ -216,29 +110,34 @@ fn parenthesized<'a>(alloc: Global, depth: usize, tokens: &'a [Token]) -> Read<'
 /// `[k]`
 #[cycle(expr)]
 #[tactic(auto, unfolding(mace_grammar::specs::inner::Readers::bracketed_at))]
-pub fn bracketed<'a>(alloc: Global, depth: usize, tokens: &'a [Token]) -> Read<'a, Expr>
-    ensures { Gives (λ x. (expr_tree x.0, x.1.now)) result (reader.bracketed_at (reader.unary_at depth) tokens.now) }
+pub fn bracketed<'a>(
+    alloc: Global,
+    depth: usize,
+    version: u8,
+    tokens: &'a [Token],
+) -> Read<'a, Expr>
+    ensures { Gives (λ x. (expr_tree x.0, x.1.now)) result (reader.bracketed_at (numbered version) (reader.unary_at (numbered version) depth) tokens.now) }
 {
     let (_, rest) = sign(Sign::LeftBracket, tokens)?;
-    let (key, rest) = expr(alloc, depth, rest)?;
+    let (key, rest) = expr(alloc, depth, version, rest)?;
     let (_, rest) = sign(Sign::RightBracket, rest)?;
     Ok((key, rest))
 }
 
 #[cycle(expr)]
 #[tactic(auto, unfolding(mace_grammar::specs::inner::Readers::named_at))]
-fn named<'a>(alloc: Global, depth: usize, tokens: &'a [Token]) -> Read<'a, Expr>
-    ensures { Gives (λ x. (expr_tree x.0, x.1.now)) result (reader.named_at (reader.unary_at depth) tokens.now) }
+fn named<'a>(alloc: Global, depth: usize, version: u8, tokens: &'a [Token]) -> Read<'a, Expr>
+    ensures { Gives (λ x. (expr_tree x.0, x.1.now)) result (reader.named_at (numbered version) (reader.unary_at (numbered version) depth) tokens.now) }
 {
-    let (first, rest) = name(alloc, tokens)?;
-    if sees_sign(Sign::LeftParen, rest) {
-        return call(alloc, depth, first, rest);
+    let (first, rest) = name(alloc, version, tokens)?;
+    if sees_sign(Sign::LeftParen, version, rest) {
+        return call(alloc, depth, first, version, rest);
     }
-    if sees_sign(Sign::Dot, rest) {
-        return above(alloc, depth, first, rest);
+    if sees_sign(Sign::Dot, version, rest) {
+        return above(alloc, depth, first, version, rest);
     }
-    if sees_sign(Sign::LeftBracket, rest) {
-        return index(alloc, depth, first, rest);
+    if sees_sign(Sign::LeftBracket, version, rest) {
+        return index(alloc, depth, first, version, rest);
     }
     Ok((Expr::read(first), rest))
 }
@@ -246,71 +145,94 @@ fn named<'a>(alloc: Global, depth: usize, tokens: &'a [Token]) -> Read<'a, Expr>
 // `f(..)`, behind the name.
 #[cycle(expr)]
 #[tactic(auto, unfolding(mace_grammar::specs::inner::Readers::call_at))]
-fn call<'a>(alloc: Global, depth: usize, method: Name, tokens: &'a [Token]) -> Read<'a, Expr>
-    ensures { Gives (λ x. (expr_tree x.0, x.1.now)) result (reader.call_at (reader.unary_at depth) method tokens.now) }
+fn call<'a>(
+    alloc: Global,
+    depth: usize,
+    method: Name,
+    version: u8,
+    tokens: &'a [Token],
+) -> Read<'a, Expr>
+    ensures { Gives (λ x. (expr_tree x.0, x.1.now)) result (reader.call_at (numbered version) (reader.unary_at (numbered version) depth) method tokens.now) }
 {
-    let (args, rest) = arguments(alloc, depth, tokens)?;
+    let (args, rest) = arguments(alloc, depth, version, tokens)?;
     Ok((Expr::call(method, args), rest))
 }
 
 // `C.f` or `C.f[k]`, behind the class.
 #[cycle(expr)]
 #[tactic(auto, unfolding(mace_grammar::specs::inner::Readers::above_at))]
-fn above<'a>(alloc: Global, depth: usize, class: Name, tokens: &'a [Token]) -> Read<'a, Expr>
-    ensures { Gives (λ x. (expr_tree x.0, x.1.now)) result (reader.above_at (reader.unary_at depth) class tokens.now) }
+fn above<'a>(
+    alloc: Global,
+    depth: usize,
+    class: Name,
+    version: u8,
+    tokens: &'a [Token],
+) -> Read<'a, Expr>
+    ensures { Gives (λ x. (expr_tree x.0, x.1.now)) result (reader.above_at (numbered version) (reader.unary_at (numbered version) depth) class tokens.now) }
 {
-    let (field, rest) = field(alloc, tokens)?;
-    if !sees_sign(Sign::LeftBracket, rest) {
+    let (field, rest) = field(alloc, version, tokens)?;
+    if !sees_sign(Sign::LeftBracket, version, rest) {
         return Ok((Expr::above(class, field), rest));
     }
-    let (key, rest) = bracketed(alloc, depth, rest)?;
+    let (key, rest) = bracketed(alloc, depth, version, rest)?;
     Ok((Expr::above_index(alloc, class, field, key)?, rest))
 }
 
 // `m[k]` or `C[k].f(..)`, behind the name.
 #[cycle(expr)]
 #[tactic(auto, unfolding(mace_grammar::specs::inner::Readers::index_at, mace_grammar::specs::inner::Readers::child_call_at))]
-fn index<'a>(alloc: Global, depth: usize, first: Name, tokens: &'a [Token]) -> Read<'a, Expr>
-    ensures { Gives (λ x. (expr_tree x.0, x.1.now)) result (reader.index_at (reader.unary_at depth) first tokens.now) }
+fn index<'a>(
+    alloc: Global,
+    depth: usize,
+    first: Name,
+    version: u8,
+    tokens: &'a [Token],
+) -> Read<'a, Expr>
+    ensures { Gives (λ x. (expr_tree x.0, x.1.now)) result (reader.index_at (numbered version) (reader.unary_at (numbered version) depth) first tokens.now) }
 {
-    let (key, rest) = bracketed(alloc, depth, tokens)?;
-    if !sees_sign(Sign::Dot, rest) {
+    let (key, rest) = bracketed(alloc, depth, version, tokens)?;
+    if !sees_sign(Sign::Dot, version, rest) {
         return Ok((Expr::index(alloc, first, key)?, rest));
     }
-    let (method, rest) = field(alloc, rest)?;
-    let (args, rest) = arguments(alloc, depth, rest)?;
+    let (method, rest) = field(alloc, version, rest)?;
+    let (args, rest) = arguments(alloc, depth, version, rest)?;
     Ok((Expr::child_call(alloc, first, key, method, args)?, rest))
 }
 
 /// `(..)`
 #[cycle(expr)]
 #[tactic(auto, unfolding(mace_grammar::specs::inner::Readers::arguments_at, mace_grammar::specs::inner::Readers::separated_at))]
-pub fn arguments<'a>(alloc: Global, depth: usize, tokens: &'a [Token]) -> Read<'a, Vec<Expr>>
-    ensures { Gives (λ x. (map expr_tree x.0.items, x.1.now)) result (reader.arguments_at (reader.unary_at depth) tokens.now) }
+pub fn arguments<'a>(
+    alloc: Global,
+    depth: usize,
+    version: u8,
+    tokens: &'a [Token],
+) -> Read<'a, Vec<Expr>>
+    ensures { Gives (λ x. (map expr_tree x.0.items, x.1.now)) result (reader.arguments_at (numbered version) (reader.unary_at (numbered version) depth) tokens.now) }
 {
     let (_, rest) = sign(Sign::LeftParen, tokens)?;
-    if !begins_expr(rest) {
+    if !begins_expr(version, rest) {
         let (_, rest) = sign(Sign::RightParen, rest)?;
         return Ok((Vec::new(alloc), rest));
     }
-    let (args, rest) = list(alloc, depth, rest)?;
+    let (args, rest) = list(alloc, depth, version, rest)?;
     let (_, rest) = sign(Sign::RightParen, rest)?;
     Ok((args, rest))
 }
 
 #[cycle(expr)]
 #[tactic(auto, unfolding(mace_grammar::specs::inner::Readers::list_at))]
-fn list<'a>(alloc: Global, depth: usize, tokens: &'a [Token]) -> Read<'a, Vec<Expr>>
-    ensures { Gives (λ x. (map expr_tree x.0.items, x.1.now)) result (reader.list_at (reader.expr_at (reader.unary_at depth)) tokens.now) }
+fn list<'a>(alloc: Global, depth: usize, version: u8, tokens: &'a [Token]) -> Read<'a, Vec<Expr>>
+    ensures { Gives (λ x. (map expr_tree x.0.items, x.1.now)) result (reader.list_at (numbered version) (reader.expr_at (numbered version) (reader.unary_at (numbered version) depth)) tokens.now) }
 {
-    let (first, mut rest) = expr(alloc, depth, tokens)?;
+    let (first, mut rest) = expr(alloc, depth, version, tokens)?;
     let mut found = Vec::new(alloc);
     found.push(first)?;
     'turns: for _ in 0..rest.len() {
-        if !sees_sign(Sign::Comma, rest) {
+        if !sees_sign(Sign::Comma, version, rest) {
             break;
         }
-        let (next, after) = next_expr(alloc, depth, rest)?;
+        let (next, after) = next_expr(alloc, depth, version, rest)?;
         found.push(next)?;
         rest = after;
     }
@@ -319,11 +241,11 @@ fn list<'a>(alloc: Global, depth: usize, tokens: &'a [Token]) -> Read<'a, Vec<Ex
 
 #[cycle(expr)]
 #[tactic(auto, unfolding(mace_grammar::specs::inner::Readers::next_at))]
-fn next_expr<'a>(alloc: Global, depth: usize, tokens: &'a [Token]) -> Read<'a, Expr>
-    ensures { Gives (λ x. (expr_tree x.0, x.1.now)) result (reader.next_at (reader.expr_at (reader.unary_at depth)) tokens.now) }
+fn next_expr<'a>(alloc: Global, depth: usize, version: u8, tokens: &'a [Token]) -> Read<'a, Expr>
+    ensures { Gives (λ x. (expr_tree x.0, x.1.now)) result (reader.next_at (numbered version) (reader.expr_at (numbered version) (reader.unary_at (numbered version) depth)) tokens.now) }
 {
     let (_, rest) = sign(Sign::Comma, tokens)?;
-    expr(alloc, depth, rest)
+    expr(alloc, depth, version, rest)
 }
 
 #[cycle(expr)]
@@ -332,33 +254,40 @@ fn operand<'a>(
     alloc: Global,
     depth: usize,
     level: u8,
+    version: u8,
     tokens: &'a [Token],
 ) -> Read<'a, (BinaryOp, Expr)>
     requires { level < 5 }
     ensures { Gives (λ x. ((x.0.0, expr_tree x.0.1), x.1.now)) result
-        (reader.operand_at (reader.operator_at level) (reader.level_at (reader.unary_at depth) level) tokens.now) }
+        (reader.operand_at (reader.operator_at level) (reader.level_at (numbered version) (reader.unary_at (numbered version) depth) level) tokens.now) }
 {
     let (op, rest) = operator(level, tokens)?;
-    let (right, rest) = chain(alloc, depth, level, rest)?;
+    let (right, rest) = chain(alloc, depth, level, version, rest)?;
     Ok(((op, right), rest))
 }
 
 // A chain of operators of a level, and all that is tighter.
 #[cycle(expr)]
 #[tactic(auto, unfolding(mace_grammar::specs::inner::Readers::operands_at))]
-fn chain<'a>(alloc: Global, depth: usize, level: u8, tokens: &'a [Token]) -> Read<'a, Expr>
+fn chain<'a>(
+    alloc: Global,
+    depth: usize,
+    level: u8,
+    version: u8,
+    tokens: &'a [Token],
+) -> Read<'a, Expr>
     requires { level ≤ 5 }
-    ensures { Gives (λ x. (expr_tree x.0, x.1.now)) result (reader.level_at (reader.unary_at depth) level tokens.now) }
+    ensures { Gives (λ x. (expr_tree x.0, x.1.now)) result (reader.level_at (numbered version) (reader.unary_at (numbered version) depth) level tokens.now) }
 {
     if level == 0 {
-        return unary(alloc, depth, tokens);
+        return unary(alloc, depth, version, tokens);
     }
-    let (mut left, mut rest) = chain(alloc, depth, level - 1, tokens)?;
+    let (mut left, mut rest) = chain(alloc, depth, level - 1, version, tokens)?;
     'turns: for _ in 0..most_operands(level - 1, rest) {
-        if !sees_operator(level - 1, rest) {
+        if !sees_operator(level - 1, version, rest) {
             break;
         }
-        let ((op, right), after) = operand(alloc, depth, level - 1, rest)?;
+        let ((op, right), after) = operand(alloc, depth, level - 1, version, rest)?;
         left = Expr::binary(alloc, left, op, right)?;
         rest = after;
     }
@@ -368,8 +297,8 @@ fn chain<'a>(alloc: Global, depth: usize, level: u8, tokens: &'a [Token]) -> Rea
 /// An expression. `depth` is more than the tokens that are left.
 #[cycle(expr)]
 #[tactic(auto, unfolding(mace_grammar::specs::inner::Readers::expr_at))]
-pub fn expr<'a>(alloc: Global, depth: usize, tokens: &'a [Token]) -> Read<'a, Expr>
-    ensures { Gives (λ x. (expr_tree x.0, x.1.now)) result (reader.expr_at (reader.unary_at depth) tokens.now) }
+pub fn expr<'a>(alloc: Global, depth: usize, version: u8, tokens: &'a [Token]) -> Read<'a, Expr>
+    ensures { Gives (λ x. (expr_tree x.0, x.1.now)) result (reader.expr_at (numbered version) (reader.unary_at (numbered version) depth) tokens.now) }
 {
-    chain(alloc, depth, 5, tokens)
+    chain(alloc, depth, 5, version, tokens)
 }

@@ -3,6 +3,7 @@
 ghost use Rattle.std.specs.Prelude.{◌≡◌, ◌+◌, ◌-◌};
 ghost use Rattle.std.specs.Option.{option_map};
 ghost use Rattle.mace_grammar.specs.Words as words;
+ghost use Rattle.mace_grammar.specs.Words.{numbered};
 ghost use Rattle.mace_grammar.specs.inner.Readers as reader;
 ghost use Rattle.mace_parser.specs.inner.Gives.{Gives};
 
@@ -69,25 +70,25 @@ fn minus_number(tokens: &[Token]) -> Read<'_, Initial>
 }
 
 #[tactic(auto, unfolding(mace_grammar::specs::inner::Readers::initial_at))]
-fn initial<'a>(alloc: Global, tokens: &'a [Token]) -> Read<'a, Initial>
-    ensures { Gives (λ x. (x.0, x.1.now)) result (reader.initial_at tokens.now) }
+fn initial<'a>(alloc: Global, version: u8, tokens: &'a [Token]) -> Read<'a, Initial>
+    ensures { Gives (λ x. (x.0, x.1.now)) result (reader.initial_at (numbered version) tokens.now) }
 {
-    if sees_literal(tokens) {
+    if sees_literal(version, tokens) {
         return literal(alloc, tokens);
     }
     minus_number(tokens)
 }
 
 #[tactic(auto, unfolding(mace_grammar::specs::inner::Readers::var_at))]
-fn var<'a>(alloc: Global, tokens: &'a [Token]) -> Read<'a, VarDecl>
-    ensures { Gives (λ x. (x.0, x.1.now)) result (reader.var_at tokens.now) }
+fn var<'a>(alloc: Global, version: u8, tokens: &'a [Token]) -> Read<'a, VarDecl>
+    ensures { Gives (λ x. (x.0, x.1.now)) result (reader.var_at (numbered version) tokens.now) }
 {
     let (at, rest) = key(Keyword::Var, tokens)?;
-    let (name, rest) = name(alloc, rest)?;
+    let (name, rest) = name(alloc, version, rest)?;
     let (_, rest) = sign(Sign::Colon, rest)?;
     let (kind, rest) = kind(rest)?;
     let (_, rest) = sign(Sign::Equals, rest)?;
-    let (initial, rest) = initial(alloc, rest)?;
+    let (initial, rest) = initial(alloc, version, rest)?;
     let (_, rest) = sign(Sign::Semicolon, rest)?;
     let var = VarDecl {
         at,
@@ -100,16 +101,16 @@ fn var<'a>(alloc: Global, tokens: &'a [Token]) -> Read<'a, VarDecl>
 
 /// Fields, one behind the other.
 #[tactic(auto, unfolding(mace_grammar::specs::inner::Readers::vars_at))]
-pub fn vars<'a>(alloc: Global, tokens: &'a [Token]) -> Read<'a, Seq<VarDecl>>
-    ensures { Gives (λ x. (x.0, x.1.now)) result (reader.vars_at tokens.now) }
+pub fn vars<'a>(alloc: Global, version: u8, tokens: &'a [Token]) -> Read<'a, Seq<VarDecl>>
+    ensures { Gives (λ x. (x.0, x.1.now)) result (reader.vars_at (numbered version) tokens.now) }
 {
     let mut rest = tokens;
     let mut found = Vec::new(alloc);
     'turns: for _ in 0..tokens.len() {
-        if !sees_key(Keyword::Var, rest) {
+        if !sees_key(Keyword::Var, version, rest) {
             break;
         }
-        let (next, after) = var(alloc, rest)?;
+        let (next, after) = var(alloc, version, rest)?;
         found.push(next)?;
         rest = after;
     }

@@ -2,50 +2,53 @@
 
 ghost use Rattle.std.specs.Prelude.{◌≡◌, map};
 ghost use Rattle.std.specs.Option.{option_map};
+ghost use Rattle.mace_lexer.specs.declared.keyword.Keyword.TheVariants as key;
 ghost use Rattle.mace_ast.specs.Decls.{last_tree, method_tree};
 ghost use Rattle.mace_ast.specs.Stmts.{stmt_tree};
+ghost use Rattle.mace_grammar.specs.Words.{numbered};
 ghost use Rattle.mace_grammar.specs.inner.Readers as reader;
 ghost use Rattle.mace_parser.specs.inner.Gives.{Gives};
 
 use crate::class::{sees_key, sees_name, sees_sign};
 use crate::fault::Read;
-use crate::stmt::{any_expr, stmts};
-use crate::token::{key, kind, name, sign};
+use crate::simple::any_expr;
+use crate::stmt::stmts;
+use crate::token::{end, key, kind, name, sign};
 use mace_ast::{Last, MethodDecl, Param, Stmt};
 use mace_lexer::{Keyword, Sign, Token};
 use std::alloc::Global;
 use wave_base::{Kind, Seq};
 
 #[tactic(auto, unfolding(mace_grammar::specs::inner::Readers::param_at))]
-fn param<'a>(alloc: Global, tokens: &'a [Token]) -> Read<'a, Param>
-    ensures { Gives (λ x. (x.0, x.1.now)) result (reader.param_at tokens.now) }
+fn param<'a>(alloc: Global, version: u8, tokens: &'a [Token]) -> Read<'a, Param>
+    ensures { Gives (λ x. (x.0, x.1.now)) result (reader.param_at (numbered version) tokens.now) }
 {
-    let (name, rest) = name(alloc, tokens)?;
+    let (name, rest) = name(alloc, version, tokens)?;
     let (_, rest) = sign(Sign::Colon, rest)?;
     let (kind, rest) = kind(rest)?;
     Ok((Param { name, kind }, rest))
 }
 
 #[tactic(auto, unfolding(mace_grammar::specs::inner::Readers::next_at))]
-fn next_param<'a>(alloc: Global, tokens: &'a [Token]) -> Read<'a, Param>
-    ensures { Gives (λ x. (x.0, x.1.now)) result (reader.next_at reader.param_at tokens.now) }
+fn next_param<'a>(alloc: Global, version: u8, tokens: &'a [Token]) -> Read<'a, Param>
+    ensures { Gives (λ x. (x.0, x.1.now)) result (reader.next_at (numbered version) (reader.param_at (numbered version)) tokens.now) }
 {
     let (_, rest) = sign(Sign::Comma, tokens)?;
-    param(alloc, rest)
+    param(alloc, version, rest)
 }
 
 #[tactic(auto, unfolding(mace_grammar::specs::inner::Readers::list_at))]
-fn list<'a>(alloc: Global, tokens: &'a [Token]) -> Read<'a, Vec<Param>>
-    ensures { Gives (λ x. (x.0.items, x.1.now)) result (reader.list_at reader.param_at tokens.now) }
+fn list<'a>(alloc: Global, version: u8, tokens: &'a [Token]) -> Read<'a, Vec<Param>>
+    ensures { Gives (λ x. (x.0.items, x.1.now)) result (reader.list_at (numbered version) (reader.param_at (numbered version)) tokens.now) }
 {
-    let (first, mut rest) = param(alloc, tokens)?;
+    let (first, mut rest) = param(alloc, version, tokens)?;
     let mut found = Vec::new(alloc);
     found.push(first)?;
     'turns: for _ in 0..rest.len() {
-        if !sees_sign(Sign::Comma, rest) {
+        if !sees_sign(Sign::Comma, version, rest) {
             break;
         }
-        let (next, after) = next_param(alloc, rest)?;
+        let (next, after) = next_param(alloc, version, rest)?;
         found.push(next)?;
         rest = after;
     }
@@ -54,25 +57,25 @@ fn list<'a>(alloc: Global, tokens: &'a [Token]) -> Read<'a, Vec<Param>>
 
 /// Parameters in their parentheses.
 #[tactic(auto, unfolding(mace_grammar::specs::inner::Readers::params_at, mace_grammar::specs::inner::Readers::separated_at))]
-pub fn params<'a>(alloc: Global, tokens: &'a [Token]) -> Read<'a, Seq<Param>>
-    ensures { Gives (λ x. (x.0, x.1.now)) result (reader.params_at tokens.now) }
+pub fn params<'a>(alloc: Global, version: u8, tokens: &'a [Token]) -> Read<'a, Seq<Param>>
+    ensures { Gives (λ x. (x.0, x.1.now)) result (reader.params_at (numbered version) tokens.now) }
 {
     let (_, rest) = sign(Sign::LeftParen, tokens)?;
-    if !sees_name(rest) {
+    if !sees_name(version, rest) {
         let (_, rest) = sign(Sign::RightParen, rest)?;
         return Ok((Seq::new(alloc), rest));
     }
-    let (found, rest) = list(alloc, rest)?;
+    let (found, rest) = list(alloc, version, rest)?;
     let (_, rest) = sign(Sign::RightParen, rest)?;
     Ok((Seq::from_vec(found), rest))
 }
 
 /// `: T`, where it is there.
 #[tactic(auto, unfolding(mace_grammar::specs::inner::Readers::result_at))]
-pub fn result_kind(tokens: &[Token]) -> Read<'_, Option<Kind>>
-    ensures { Gives (λ x. (x.0, x.1.now)) result (reader.result_at tokens.now) }
+pub fn result_kind(version: u8, tokens: &[Token]) -> Read<'_, Option<Kind>>
+    ensures { Gives (λ x. (x.0, x.1.now)) result (reader.result_at (numbered version) tokens.now) }
 {
-    if !sees_sign(Sign::Colon, tokens) {
+    if !sees_sign(Sign::Colon, version, tokens) {
         return Ok((None, tokens));
     }
     let (_, rest) = sign(Sign::Colon, tokens)?;
@@ -80,52 +83,80 @@ pub fn result_kind(tokens: &[Token]) -> Read<'_, Option<Kind>>
     Ok((Some(kind), rest))
 }
 
+// The value behind the keyword of an end.
 #[tactic(auto, unfolding(mace_grammar::specs::inner::Readers::last_at))]
-fn last<'a>(alloc: Global, want: Keyword, depth: usize, tokens: &'a [Token]) -> Read<'a, Last>
-    ensures { Gives (λ x. (last_tree x.0, x.1.now)) result (reader.last_at want depth tokens.now) }
+fn returned<'a>(alloc: Global, depth: usize, version: u8, tokens: &'a [Token]) -> Read<'a, Last>
+    ensures { Gives (λ x. (last_tree x.0, x.1.now)) result (reader.last_at (numbered version) (reader.end_at (numbered version)) depth tokens.now) }
 {
-    let (at, rest) = key(want, tokens)?;
-    let (value, rest) = any_expr(alloc, depth, rest)?;
+    let (at, rest) = end(version, tokens)?;
+    let (value, rest) = any_expr(alloc, depth, version, rest)?;
     let (_, rest) = sign(Sign::Semicolon, rest)?;
     Ok((Last { at, value }, rest))
 }
 
-/// The value at the end, where there is one.
+// The `return` at the end of a method, where it is there.
 #[tactic(auto, unfolding(mace_grammar::specs::inner::Readers::maybe_last_at))]
-pub fn maybe_last<'a>(
+fn maybe_returned<'a>(
     alloc: Global,
-    want: Keyword,
     depth: usize,
+    version: u8,
     tokens: &'a [Token],
 ) -> Read<'a, Option<Last>>
-    ensures { Gives (λ x. (option_map last_tree x.0, x.1.now)) result (reader.maybe_last_at want depth tokens.now) }
+    ensures { Gives (λ x. (option_map last_tree x.0, x.1.now)) result (reader.maybe_last_at (numbered version) key.Return (reader.end_at (numbered version)) depth tokens.now) }
 {
-    if !sees_key(want, tokens) {
+    if !sees_key(Keyword::Return, version, tokens) {
         return Ok((None, tokens));
     }
-    let (last, rest) = last(alloc, want, depth, tokens)?;
+    let (last, rest) = returned(alloc, depth, version, tokens)?;
+    Ok((Some(last), rest))
+}
+
+#[tactic(auto, unfolding(mace_grammar::specs::inner::Readers::last_at))]
+fn replied<'a>(alloc: Global, depth: usize, version: u8, tokens: &'a [Token]) -> Read<'a, Last>
+    ensures { Gives (λ x. (last_tree x.0, x.1.now)) result (reader.last_at (numbered version) (reader.key_at key.Reply) depth tokens.now) }
+{
+    let (at, rest) = key(Keyword::Reply, tokens)?;
+    let (value, rest) = any_expr(alloc, depth, version, rest)?;
+    let (_, rest) = sign(Sign::Semicolon, rest)?;
+    Ok((Last { at, value }, rest))
+}
+
+/// The `reply` at the end of an event, where it is there.
+#[tactic(auto, unfolding(mace_grammar::specs::inner::Readers::maybe_last_at))]
+pub fn maybe_replied<'a>(
+    alloc: Global,
+    depth: usize,
+    version: u8,
+    tokens: &'a [Token],
+) -> Read<'a, Option<Last>>
+    ensures { Gives (λ x. (option_map last_tree x.0, x.1.now)) result (reader.maybe_last_at (numbered version) key.Reply (reader.key_at key.Reply) depth tokens.now) }
+{
+    if !sees_key(Keyword::Reply, version, tokens) {
+        return Ok((None, tokens));
+    }
+    let (last, rest) = replied(alloc, depth, version, tokens)?;
     Ok((Some(last), rest))
 }
 
 #[tactic(auto, unfolding(mace_grammar::specs::inner::Readers::stmts_at))]
-fn body<'a>(alloc: Global, depth: usize, tokens: &'a [Token]) -> Read<'a, Seq<Stmt>>
-    ensures { Gives (λ x. (map stmt_tree x.0, x.1.now)) result (reader.stmts_at depth tokens.now) }
+fn body<'a>(alloc: Global, depth: usize, version: u8, tokens: &'a [Token]) -> Read<'a, Seq<Stmt>>
+    ensures { Gives (λ x. (map stmt_tree x.0, x.1.now)) result (reader.stmts_at (numbered version) depth tokens.now) }
 {
-    let (found, rest) = stmts(alloc, depth, tokens)?;
+    let (found, rest) = stmts(alloc, depth, version, tokens)?;
     Ok((Seq::from_vec(found), rest))
 }
 
 #[tactic(auto, unfolding(mace_grammar::specs::inner::Readers::method_at))]
-fn method<'a>(alloc: Global, depth: usize, tokens: &'a [Token]) -> Read<'a, MethodDecl>
-    ensures { Gives (λ x. (method_tree x.0, x.1.now)) result (reader.method_at depth tokens.now) }
+fn method<'a>(alloc: Global, depth: usize, version: u8, tokens: &'a [Token]) -> Read<'a, MethodDecl>
+    ensures { Gives (λ x. (method_tree x.0, x.1.now)) result (reader.method_at (numbered version) depth tokens.now) }
 {
     let (at, rest) = key(Keyword::Method, tokens)?;
-    let (name, rest) = name(alloc, rest)?;
-    let (params, rest) = params(alloc, rest)?;
-    let (kind, rest) = result_kind(rest)?;
+    let (name, rest) = name(alloc, version, rest)?;
+    let (params, rest) = params(alloc, version, rest)?;
+    let (kind, rest) = result_kind(version, rest)?;
     let (_, rest) = sign(Sign::LeftBrace, rest)?;
-    let (body, rest) = body(alloc, depth, rest)?;
-    let (last, rest) = maybe_last(alloc, Keyword::Return, depth, rest)?;
+    let (body, rest) = body(alloc, depth, version, rest)?;
+    let (last, rest) = maybe_returned(alloc, depth, version, rest)?;
     let (_, rest) = sign(Sign::RightBrace, rest)?;
     let method = MethodDecl {
         at,
@@ -140,16 +171,21 @@ fn method<'a>(alloc: Global, depth: usize, tokens: &'a [Token]) -> Read<'a, Meth
 
 /// Methods, one behind the other.
 #[tactic(auto, unfolding(mace_grammar::specs::inner::Readers::methods_at))]
-pub fn methods<'a>(alloc: Global, depth: usize, tokens: &'a [Token]) -> Read<'a, Seq<MethodDecl>>
-    ensures { Gives (λ x. (map method_tree x.0, x.1.now)) result (reader.methods_at depth tokens.now) }
+pub fn methods<'a>(
+    alloc: Global,
+    depth: usize,
+    version: u8,
+    tokens: &'a [Token],
+) -> Read<'a, Seq<MethodDecl>>
+    ensures { Gives (λ x. (map method_tree x.0, x.1.now)) result (reader.methods_at (numbered version) depth tokens.now) }
 {
     let mut rest = tokens;
     let mut found = Vec::new(alloc);
     'turns: for _ in 0..tokens.len() {
-        if !sees_key(Keyword::Method, rest) {
+        if !sees_key(Keyword::Method, version, rest) {
             break;
         }
-        let (next, after) = method(alloc, depth, rest)?;
+        let (next, after) = method(alloc, depth, version, rest)?;
         found.push(next)?;
         rest = after;
     }

@@ -38,18 +38,85 @@ pub fn sign<'a>(want: Sign, tokens: &'a [Token]) -> Read<'a, Span>
     }
 }
 
+// Whether a text is the word that ends an event early.
+fn is_finish(text: &Txt) -> bool
+    ensures { result ≡ words.is_finish text.now }
+{
+    text.bytes() == b"finish".as_slice()
+}
+
+/// Whether a word is a name in this version.
+pub fn is_name(version: u8, text: &Txt) -> bool
+    ensures { result ≡ (words.numbered version).is_name text.now }
+{
+    version != 2 || !is_finish(text)
+}
+
+/// Whether this version has `return` and `finish` as statements.
+pub fn is_early(version: u8) -> bool
+    ensures { result ≡ (words.numbered version).early }
+{
+    version == 2
+}
+
 /// A name.
-pub fn name<'a>(alloc: Global, tokens: &'a [Token]) -> Read<'a, Name>
-    ensures { Gives (λ x. (x.0, x.1.now)) result (reader.name_at tokens.now) }
+pub fn name<'a>(alloc: Global, version: u8, tokens: &'a [Token]) -> Read<'a, Name>
+    ensures { Gives (λ x. (x.0, x.1.now)) result (reader.name_at (words.numbered version) tokens.now) }
 {
     let Some((t, rest)) = tokens.split_first() else {
         return Err(Fault::Stuck(tokens));
     };
     match &t.word {
-        Word::Name(text) => {
+        Word::Name(text) if is_name(version, text) => {
             let text = text.copy(alloc)?;
             Ok((Name { at: t.span, text }, rest))
         }
+        _ => Err(Fault::Stuck(tokens)),
+    }
+}
+
+/// The keyword `return` at the end of a method.
+pub fn end(version: u8, tokens: &[Token]) -> Read<'_, Span>
+    ensures { Gives (λ x. (x.0, x.1.now)) result (reader.end_at (words.numbered version) tokens.now) }
+{
+    if is_early(version) {
+        return Err(Fault::Stuck(tokens));
+    }
+    key(Keyword::Return, tokens)
+}
+
+/// The keyword `return` as a statement.
+pub fn leave(version: u8, tokens: &[Token]) -> Read<'_, Span>
+    ensures { Gives (λ x. (x.0, x.1.now)) result (reader.leave_at (words.numbered version) tokens.now) }
+{
+    if !is_early(version) {
+        return Err(Fault::Stuck(tokens));
+    }
+    key(Keyword::Return, tokens)
+}
+
+/// The word `finish`.
+pub fn finish(version: u8, tokens: &[Token]) -> Read<'_, Span>
+    ensures { Gives (λ x. (x.0, x.1.now)) result (reader.finish_at (words.numbered version) tokens.now) }
+{
+    let Some((t, rest)) = tokens.split_first() else {
+        return Err(Fault::Stuck(tokens));
+    };
+    match &t.word {
+        Word::Name(text) if is_early(version) && is_finish(text) => Ok((t.span, rest)),
+        _ => Err(Fault::Stuck(tokens)),
+    }
+}
+
+/// The number of version 2.
+pub fn two(tokens: &[Token]) -> Read<'_, u8>
+    ensures { Gives (λ x. (x.0, x.1.now)) result (reader.two_at tokens.now) }
+{
+    let Some((t, rest)) = tokens.split_first() else {
+        return Err(Fault::Stuck(tokens));
+    };
+    match t.word {
+        Word::Number(n) if n == 2 => Ok((2, rest)),
         _ => Err(Fault::Stuck(tokens)),
     }
 }
@@ -109,9 +176,9 @@ pub fn kind(tokens: &[Token]) -> Read<'_, Kind>
 }
 
 /// `.f`
-pub fn field<'a>(alloc: Global, tokens: &'a [Token]) -> Read<'a, Name>
-    ensures { Gives (λ x. (x.0, x.1.now)) result (reader.field_at tokens.now) }
+pub fn field<'a>(alloc: Global, version: u8, tokens: &'a [Token]) -> Read<'a, Name>
+    ensures { Gives (λ x. (x.0, x.1.now)) result (reader.field_at (words.numbered version) tokens.now) }
 {
     let (_, rest) = sign(Sign::Dot, tokens)?;
-    name(alloc, rest)
+    name(alloc, version, rest)
 }

@@ -1,15 +1,18 @@
 -- What holds of every value that tokens spell, where each token's word can stand.
-use Rattle.std.proofs.Common.{◌≡◌, ℕ, zero, suc, List, [], ◌∷◌, ◌++◌, Option, Some, None, ⊎_elim, sym, subst}
-use Rattle.std.specs.Prelude.{unwrap_or}
+use Rattle.std.proofs.Common.{◌≡◌, ℕ, zero, suc, List, [], ◌∷◌, ◌++◌, Option, Some, None, Bool, true, false, refl, ⊎_elim, sym, subst}
+use Rattle.std.specs.Prelude.{unwrap_or, ◌&&◌, if◌then◌else◌}
 use Rattle.wave_base.specs.declared.span.Span.{Span}
 use Rattle.mace_lexer.specs.declared.token.Token.{Token}
 use Rattle.mace_lexer.specs.declared.token.Word.{Word}
 use Rattle.mace_lexer.specs.declared.token.Word.TheVariants as word
+use Rattle.mace_lexer.specs.declared.keyword.Keyword.TheVariants as k
 use Rattle.mace_lexer.specs.declared.sign.Sign.TheVariants as s
 use Rattle.mace_lexer.specs.Cuts.{Cuts, at_end, gap, spelled}
 use Rattle.mace_ast.specs.declared.name.Name.{Name}
 use Rattle.mace_grammar.specs.Part.{Part, pure, one, ◌>>=◌, ◌or◌, many, maybe, SpellsAll, SpellsMaybe, nested, deep}
 use Rattle.mace_grammar.specs.Words as w
+use Rattle.mace_grammar.specs.Words.{Version}
+use Rattle.mace_grammar.specs.Fits.{Each, IfThere, IsName}
 use Rattle.mace_grammar.specs.Grammar as g
 use Rattle.mace_printer.specs.Canon.{all_of, further, listed}
 use Rattle.mace_printer.proofs.Standing.{CanStand, Stand, read_stands}
@@ -53,20 +56,12 @@ then_holds H K = record { of = λ b ts h s. let (a, u, v, e, su, sv) = s in let 
 pub or_holds : {A : Type 0} {P : A → Type 0} {p q : Part A} → Holds P p → Holds P q → Holds P (p or q)
 or_holds H K = record { of = λ a ts h s. ⊎_elim (λ k. H.of a ts h k) (λ k. K.of a ts h k) s }
 
-abbrev pub Each : {A : Type 0} → (A → Type 0) → List A → Type 0
-Each P [] = Unit {0}
-Each P (a ∷ others) = P a × Each P others
-
 pub many_holds : {A : Type 0} {P : A → Type 0} {p : Part A} → Holds P p → Holds (Each P) (many p)
 many_holds {A = A} {P = P} {p = p} H = record { of = go }
   where
     go : (items : List A) (ts : List Token) → Good ts → SpellsAll p items ts → Each P items
     go [] ts h s = tt
     go (a ∷ others) ts h s = let (u, v, e, su, sv) = s in let both = subst Good e h in (H.of a u (good_front u v both) su, go others v (good_back u v both) sv)
-
-abbrev pub IfThere : {A : Type 0} → (A → Type 0) → Option A → Type 0
-IfThere P None = Unit {0}
-IfThere P (Some a) = P a
 
 pub maybe_holds : {A : Type 0} {P : A → Type 0} {p : Part A} → Holds P p → Holds (IfThere P) (maybe p)
 maybe_holds {A = A} {P = P} {p = p} H = record { of = go }
@@ -87,18 +82,76 @@ deep_holds P body step = record { of = λ a ts h s. (nested_holds P body step s.
 abbrev pub Named : Name → Type 0
 Named n = CanStand (word.Name n.text)
 
-name_stands : (at : Span) (v : Word) (n : Name) → CanStand v → w.name_word at v ≡ Some n → Named n
-name_stands at (word.Name t) n h e = let same : record { at = at; text = t } ≡ n = cc in subst Named same h
-name_stands at (word.Key j) n h e = cc
-name_stands at (word.Number z) n h e = cc
-name_stands at (word.Text t) n h e = cc
-name_stands at (word.Sign j) n h e = cc
+-- what a test guards
+pub guarded : {A : Type 0} (b : Bool) (a : A) (o : A) → (if b then Some a else None) ≡ Some o → (b ≡ true) × (a ≡ o)
+guarded true a o e = (refl, cc)
+guarded false a o e = cc
 
-pub name_holds : Holds Named w.name
-name_holds = word_holds Named (λ t. w.name_word t.span t.word) (λ t n h e. name_stands t.span t.word n h e)
+module _ (version : Version) where
+  name_stands : (at : Span) (v : Word) (n : Name) → CanStand v → w.name_word version at v ≡ Some n → Named n
+  name_stands at (word.Name t) n h e = subst Named (guarded (version.is_name t) (record { at = at; text = t }) n e).1 h
+  name_stands at (word.Key j) n h e = cc
+  name_stands at (word.Number z) n h e = cc
+  name_stands at (word.Text t) n h e = cc
+  name_stands at (word.Sign j) n h e = cc
 
-pub field_holds : Holds Named g.field
-field_holds = then_holds (any (w.sign s.Dot)) (λ _ _. name_holds)
+  pub name_holds : Holds Named (w.name version)
+  name_holds = word_holds Named (λ t. w.name_word version t.span t.word) (λ t n h e. name_stands t.span t.word n h e)
+
+  pub field_holds : Holds Named (g.field version)
+  field_holds = then_holds (any (w.sign s.Dot)) (λ _ _. name_holds)
+
+  -- a name is one of the version
+  abbrev pub Own : Name → Type 0
+  Own n = IsName version n.text
+
+  name_own : (at : Span) (v : Word) (n : Name) → w.name_word version at v ≡ Some n → Own n
+  name_own at (word.Name t) n e = let both = guarded (version.is_name t) (record { at = at; text = t }) n e in subst Own both.1 both.0
+  name_own at (word.Key j) n e = cc
+  name_own at (word.Number z) n e = cc
+  name_own at (word.Text t) n e = cc
+  name_own at (word.Sign j) n e = cc
+
+  pub own_name : Holds Own (w.name version)
+  own_name = word_holds Own (λ t. w.name_word version t.span t.word) (λ t n h e. name_own t.span t.word n e)
+
+  pub own_field : Holds Own (g.field version)
+  own_field = then_holds (any (w.sign s.Dot)) (λ _ _. own_name)
+
+  -- `return` and `finish` as statements are words of version 2 alone, and `return` at the end of a method of version 1
+  early_if : (o : Option Span) (at : Span) → (if version.early then o else None) ≡ Some at → version.early ≡ true
+  early_if o at e = by version.early e
+    where
+      by : (b : Bool) → (if b then o else None) ≡ Some at → b ≡ true
+      by true e = refl
+      by false e = cc
+
+  late_if : (o : Option Span) (at : Span) → (if version.early then None else o) ≡ Some at → version.early ≡ false
+  late_if o at e = by version.early e
+    where
+      by : (b : Bool) → (if b then None else o) ≡ Some at → b ≡ false
+      by true e = cc
+      by false e = refl
+
+  finish_early : (at at' : Span) (v : Word) → w.finish_word version at v ≡ Some at' → version.early ≡ true
+  finish_early at at' (word.Name t) e = both version.early (w.is_finish t) (guarded (version.early && w.is_finish t) at at' e).0
+    where
+      both : (a b : Bool) → (a && b) ≡ true → a ≡ true
+      both true b e = refl
+      both false b e = cc
+  finish_early at at' (word.Key j) e = cc
+  finish_early at at' (word.Number z) e = cc
+  finish_early at at' (word.Text t) e = cc
+  finish_early at at' (word.Sign j) e = cc
+
+  pub leave_early : Holds (λ _. version.early ≡ true) (w.leave version)
+  leave_early = word_holds (λ _. version.early ≡ true) (λ t. w.leave_word version t.span t.word) (λ t at h e. early_if (w.key_word k.Return t.span t.word) at e)
+
+  pub finish_holds : Holds (λ _. version.early ≡ true) (w.finish version)
+  finish_holds = word_holds (λ _. version.early ≡ true) (λ t. w.finish_word version t.span t.word) (λ t at h e. finish_early t.span at t.word e)
+
+  pub end_late : Holds (λ _. version.early ≡ false) (w.end version)
+  end_late = word_holds (λ _. version.early ≡ false) (λ t. w.end_word version t.span t.word) (λ t at h e. late_if (w.key_word k.Return t.span t.word) at e)
 
 -- ---- lists
 

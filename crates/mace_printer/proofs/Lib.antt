@@ -10,3 +10,4 @@ pub mod Arms
 pub mod Printed
 pub mod Least
 pub mod Shortest
+pub mod Fitting

@@ -1,7 +1,6 @@
 -- Words that spell parts of the grammar.
 use Rattle.std.proofs.Common.{◌≡◌, ℕ, ℤ, List, [], ◌∷◌, ◌++◌, map, Option, Some, None, refl, sym, ap, append-nil}
-use Rattle.std.specs.Prelude.{◌==◌, if◌then◌else◌}
-use Rattle.std.specs.Option.{option_map}
+use Rattle.std.specs.Prelude.{◌==◌, ◌&&◌, if◌then◌else◌, codes, Bool, true, false}
 use Rattle.std.proofs.lemmas.Bool.{eq-eqb}
 use Rattle.std.proofs.lemmas.List.{map-append}
 use Rattle.wave_base.specs.declared.span.Span.{Span}
@@ -10,6 +9,7 @@ use Rattle.wave_base.specs.declared.value.Kind.TheVariants as kind
 use Rattle.mace_lexer.specs.declared.token.Word.{Word}
 use Rattle.mace_lexer.specs.declared.token.Word.TheVariants as word
 use Rattle.mace_lexer.specs.declared.keyword.Keyword.{Keyword}
+use Rattle.mace_lexer.specs.declared.keyword.Keyword.TheVariants as k
 use Rattle.mace_lexer.specs.declared.sign.Sign.{Sign}
 use Rattle.mace_lexer.specs.declared.sign.Sign.TheVariants as s
 use Rattle.mace_lexer.specs.Codes.{key_code, sign_code}
@@ -17,6 +17,8 @@ use Rattle.mace_ast.specs.declared.name.Name.{Name}
 use Rattle.mace_ast.specs.Exprs.{nowhere}
 use Rattle.mace_grammar.specs.Part.{Part, ◌>>◌, many, maybe}
 use Rattle.mace_grammar.specs.Words as w
+use Rattle.mace_grammar.specs.Words.{Version}
+use Rattle.mace_grammar.specs.Fits.{IsName, Each}
 use Rattle.mace_grammar.specs.Grammar as g
 use Rattle.mace_grammar.specs.Spelled.{plain}
 use Rattle.mace_printer.specs.Canon.{kind_key, all_of, further, listed}
@@ -37,8 +39,8 @@ sign_says want = (plain (word.Sign want), refl, chosen (sign_code want) nowhere)
 abbrev pub named : List ℕ → Name
 named t = record { at = nowhere; text = t }
 
-pub name_says : (t : List ℕ) → Says w.name (named t) (word.Name t ∷ [])
-name_says t = (plain (word.Name t), refl, refl)
+pub name_says : (version : Version) (t : List ℕ) → IsName version t → Says (w.name version) (named t) (word.Name t ∷ [])
+name_says version t h = (plain (word.Name t), refl, ap (λ b. if b then Some (named t) else None) h)
 
 pub number_says : (n : ℤ) → Says w.number n (word.Number n ∷ [])
 number_says n = (plain (word.Number n), refl, refl)
@@ -55,32 +57,42 @@ kind_of_its_key kind.Map = refl
 pub type_says : (j : Kind) → Says w.type j (word.Key (kind_key j) ∷ [])
 type_says j = (plain (word.Key (kind_key j)), refl, kind_of_its_key j)
 
-pub field_says : (t : List ℕ) → Says g.field (named t) (word.Sign s.Dot ∷ word.Name t ∷ [])
-field_says t = (nowhere, plain (word.Sign s.Dot) ∷ [], _, refl, sign_says s.Dot, name_says t)
+pub field_says : (version : Version) (t : List ℕ) → IsName version t → Says (g.field version) (named t) (word.Sign s.Dot ∷ word.Name t ∷ [])
+field_says version t h = (nowhere, plain (word.Sign s.Dot) ∷ [], _, refl, sign_says s.Dot, name_says version t h)
+
+-- the words that end a method or an event early
+pub end_says : (version : Version) → version.early ≡ false → Says (w.end version) nowhere (word.Key k.Return ∷ [])
+end_says version h = (plain (word.Key k.Return), refl, ap (λ b. if b then None else Some nowhere) h)
+
+pub leave_says : (version : Version) → version.early ≡ true → Says (w.leave version) nowhere (word.Key k.Return ∷ [])
+leave_says version h = (plain (word.Key k.Return), refl, ap (λ b. if b then Some nowhere else None) h)
+
+pub finish_says : (version : Version) → version.early ≡ true → Says (w.finish version) nowhere (word.Name (codes "finish") ∷ [])
+finish_says version h = (plain (word.Name (codes "finish")), refl, ap (λ b. if b && true then Some nowhere else None) h)
 
 -- ---- lists
 
-module _ {X A : Type 0} (item : Part A) (value : X → A) (words : X → List Word) (says : (x : X) → Says item (value x) (words x)) where
-  pub all_say : (xs : List X) → Says (many item) (map value xs) (all_of words xs)
-  all_say [] = refl
-  all_say (x ∷ xs) = (map plain (words x), _, map-append plain (words x) (all_of words xs), says x, all_say xs)
+module _ {X A : Type 0} (item : Part A) (value : X → A) (words : X → List Word) (P : X → Type 0) (says : (x : X) → P x → Says item (value x) (words x)) where
+  pub all_say : (xs : List X) → Each P xs → Says (many item) (map value xs) (all_of words xs)
+  all_say [] h = refl
+  all_say (x ∷ xs) h = (map plain (words x), _, map-append plain (words x) (all_of words xs), says x h.0, all_say xs h.1)
 
-  further_say : (xs : List X) → Says (many (w.sign s.Comma >> item)) (map value xs) (further words xs)
-  further_say [] = refl
-  further_say (x ∷ xs) = (
+  further_say : (xs : List X) → Each P xs → Says (many (w.sign s.Comma >> item)) (map value xs) (further words xs)
+  further_say [] h = refl
+  further_say (x ∷ xs) h = (
     plain (word.Sign s.Comma) ∷ map plain (words x),
     _,
     ap (λ l. plain (word.Sign s.Comma) ∷ l) (map-append plain (words x) (further words xs)),
-    (nowhere, plain (word.Sign s.Comma) ∷ [], _, refl, sign_says s.Comma, says x),
-    further_say xs,
+    (nowhere, plain (word.Sign s.Comma) ∷ [], _, refl, sign_says s.Comma, says x h.0),
+    further_say xs h.1,
   )
 
-  pub listed_says : (x : X) (xs : List X) → Says (g.listed item) (value x ∷ map value xs) (listed words (x ∷ xs))
-  listed_says x xs = (value x, map plain (words x), _, map-append plain (words x) (further words xs), says x, (map value xs, map plain (further words xs), [], sym (append-nil (map plain (further words xs))), further_say xs, (refl, refl)))
+  pub listed_says : (x : X) (xs : List X) → P x → Each P xs → Says (g.listed item) (value x ∷ map value xs) (listed words (x ∷ xs))
+  listed_says x xs h k = (value x, map plain (words x), _, map-append plain (words x) (further words xs), says x h, (map value xs, map plain (further words xs), [], sym (append-nil (map plain (further words xs))), further_say xs k, (refl, refl)))
 
-  pub parens_say : (xs : List X) → Says (g.in_parens item) (map value xs) (word.Sign s.LeftParen ∷ (listed words xs ++ word.Sign s.RightParen ∷ []))
-  parens_say [] = (nowhere, plain (word.Sign s.LeftParen) ∷ [], _, refl, sign_says s.LeftParen, (None, [], _, refl, refl, (nowhere, plain (word.Sign s.RightParen) ∷ [], [], refl, sign_says s.RightParen, (refl, refl))))
-  parens_say (x ∷ xs) = (
+  pub parens_say : (xs : List X) → Each P xs → Says (g.in_parens item) (map value xs) (word.Sign s.LeftParen ∷ (listed words xs ++ word.Sign s.RightParen ∷ []))
+  parens_say [] h = (nowhere, plain (word.Sign s.LeftParen) ∷ [], _, refl, sign_says s.LeftParen, (None, [], _, refl, refl, (nowhere, plain (word.Sign s.RightParen) ∷ [], [], refl, sign_says s.RightParen, (refl, refl))))
+  parens_say (x ∷ xs) h = (
     nowhere,
     plain (word.Sign s.LeftParen) ∷ [],
     _,
@@ -91,11 +103,7 @@ module _ {X A : Type 0} (item : Part A) (value : X → A) (words : X → List Wo
       map plain (listed words (x ∷ xs)),
       _,
       map-append plain (listed words (x ∷ xs)) (word.Sign s.RightParen ∷ []),
-      listed_says x xs,
+      listed_says x xs h.0 h.1,
       (nowhere, plain (word.Sign s.RightParen) ∷ [], [], refl, sign_says s.RightParen, (refl, refl)),
     ),
   )
-
-  pub maybe_says : (o : Option X) (none : List Word) (ws : List Word) → ((x : X) → o ≡ Some x → ws ≡ words x) → (o ≡ None → ws ≡ []) → Says (maybe item) (option_map value o) ws
-  maybe_says None none ws some empty = ap (map plain) (empty refl)
-  maybe_says (Some x) none ws some empty = rw (some x refl) (says x)

@@ -62,6 +62,10 @@ index_bare : (place : Option ExprTree) → c.maybe_index (option_map bare_expr p
 index_bare None = refl
 index_bare (Some p) = rw (bare_words p 0) refl
 
+maybe_bare : (value : Option ExprTree) → c.maybe_words (option_map bare_expr value) ≡ c.maybe_words value
+maybe_bare None = refl
+maybe_bare (Some v) = rw (bare_words v 0) refl
+
 mutual
   stmt_bare : (t : StmtTree) → c.stmt_words (bare_stmt t) ≡ c.stmt_words t
   stmt_bare (st.Let at x v) = rw (bare_words v 0) refl
@@ -75,6 +79,8 @@ mutual
   stmt_bare (st.Set at x p v) = rw (index_bare p, bare_words v 0) refl
   stmt_bare (st.Call at f xs) = rw (given_bare xs) refl
   stmt_bare (st.ChildCall at d p f xs) = rw (bare_words p 0, given_bare xs) refl
+  stmt_bare (st.Return at v) = rw (maybe_bare v) refl
+  stmt_bare (st.Finish at v) = rw (maybe_bare v) refl
 
   stmts_bare : (ts : StmtTrees) → c.stmts_words (bare_stmts ts) ≡ c.stmts_words ts
   stmts_bare no_stmts = refl

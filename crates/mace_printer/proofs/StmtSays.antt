@@ -13,10 +13,14 @@ use Rattle.mace_ast.specs.Stmts as st
 use Rattle.mace_ast.specs.Stmts.{StmtTree, StmtTrees, ElseTree, no_stmts, stmt_and, no_else, otherwise, stmts_of, else_of, bare_stmt, bare_stmts, bare_else}
 use Rattle.mace_grammar.specs.Part.{Part, ◌>>◌, many, maybe, nested}
 use Rattle.mace_grammar.specs.Words as w
+use Rattle.mace_grammar.specs.Words.{Version}
+use Rattle.mace_grammar.specs.Fits.{IsName, Each, IfThere, ExprFits, EndFits, StmtFits, StmtsFit, ElseFits}
+use Rattle.std.specs.Prelude.{codes}
+use Rattle.std.specs.Option.{option_map}
 use Rattle.mace_grammar.specs.Grammar as g
 use Rattle.mace_grammar.specs.Spelled.{plain}
-use Rattle.mace_printer.specs.Canon.{whole_words, index_words, listed, call_words, stmt_words, stmts_words, else_words, body_words, braced_words}
-use Rattle.mace_printer.proofs.Says.{Says, key_says, sign_says, named, name_says, text_says, field_says, all_say}
+use Rattle.mace_printer.specs.Canon.{whole_words, index_words, listed, call_words, maybe_words, stmt_words, stmts_words, else_words, body_words, braced_words}
+use Rattle.mace_printer.proofs.Says.{Says, key_says, sign_says, named, name_says, text_says, field_says, leave_says, finish_says, all_say}
 use Rattle.mace_printer.proofs.ExprSays.{expr_says, any_key_says, any_arguments_say}
 
 -- words in brackets, and then more words
@@ -36,603 +40,648 @@ semicolon_says = sign_says s.Semicolon
 abbrev paren_words : List ExprTree → List Word
 paren_words args = word.Sign s.LeftParen ∷ (listed whole_words args ++ (word.Sign s.RightParen ∷ []))
 
--- ---- statements without a block
+module _ (version : Version) where
+  -- ---- statements without a block
 
-let_says : (at : Span) (x : Name) (value : ExprTree) → Says g.let_stmt (bare_stmt (st.Let at x value)) (stmt_words (st.Let at x value))
-let_says at x value = (
-  nowhere,
-  plain (word.Key k.Let) ∷ [],
-  _,
-  refl,
-  key_says k.Let,
-  (
-    named x.text,
-    plain (word.Name x.text) ∷ [],
-    _,
-    refl,
-    name_says x.text,
-    (
-      nowhere,
-      plain (word.Sign s.Equals) ∷ [],
-      _,
-      refl,
-      sign_says s.Equals,
-      (
-        bare_expr value,
-        map plain (whole_words value),
-        _,
-        map-append plain (whole_words value) semicolon,
-        expr_says value,
-        (nowhere, map plain semicolon, [], refl, semicolon_says, (refl, refl)),
-      ),
-    ),
-  ),
-)
-
-require_says : (at : Span) (test : ExprTree) → Says g.require_stmt (bare_stmt (st.Require at test)) (stmt_words (st.Require at test))
-require_says at test = (
-  nowhere,
-  plain (word.Key k.Require) ∷ [],
-  _,
-  refl,
-  key_says k.Require,
-  (
-    bare_expr test,
-    map plain (whole_words test),
-    _,
-    map-append plain (whole_words test) semicolon,
-    expr_says test,
-    (nowhere, map plain semicolon, [], refl, semicolon_says, (refl, refl)),
-  ),
-)
-
-send_says : (at : Span) (label : List ℕ) (value : ExprTree) → Says g.send_stmt (bare_stmt (st.Send at label value)) (stmt_words (st.Send at label value))
-send_says at label value = (
-  nowhere,
-  plain (word.Key k.Send) ∷ [],
-  _,
-  refl,
-  key_says k.Send,
-  (
-    label,
-    plain (word.Text label) ∷ [],
-    _,
-    refl,
-    text_says label,
-    (
-      nowhere,
-      plain (word.Sign s.Comma) ∷ [],
-      _,
-      refl,
-      sign_says s.Comma,
-      (
-        bare_expr value,
-        map plain (whole_words value),
-        _,
-        map-append plain (whole_words value) semicolon,
-        expr_says value,
-        (nowhere, map plain semicolon, [], refl, semicolon_says, (refl, refl)),
-      ),
-    ),
-  ),
-)
-
-spawn_says : (at : Span) (event : List ℕ) (args : List ExprTree) → Says g.spawn_stmt (bare_stmt (st.Spawn at event args)) (stmt_words (st.Spawn at event args))
-spawn_says at event args = (
-  nowhere,
-  plain (word.Key k.Spawn) ∷ [],
-  _,
-  refl,
-  key_says k.Spawn,
-  (
-    named event,
-    plain (word.Name event) ∷ [],
-    _,
-    refl,
-    name_says event,
-    (
-      map bare_expr args,
-      map plain (paren_words args),
-      _,
-      map-append plain (paren_words args) semicolon,
-      any_arguments_say args,
-      (nowhere, map plain semicolon, [], refl, semicolon_says, (refl, refl)),
-    ),
-  ),
-)
-
-abbrev target_of : Option (List ℕ) → List ℕ → Target
-target_of above x = record { above = above; name = x }
-
-drop_says : (at : Span) (above : Option (List ℕ)) (x : List ℕ) (place : ExprTree) → Says g.drop_stmt (bare_stmt (st.Cut at (target_of above x) place)) (stmt_words (st.Cut at (target_of above x) place))
-drop_says at None x place = (
-  nowhere,
-  plain (word.Key k.Drop) ∷ [],
-  _,
-  refl,
-  key_says k.Drop,
-  (
-    named x,
-    plain (word.Name x) ∷ [],
-    _,
-    refl,
-    name_says x,
-    (
-      None,
-      [],
-      _,
-      refl,
-      refl,
-      (
-        bare_expr place,
-        map plain (index_words place),
-        _,
-        map-append plain (index_words place) semicolon,
-        any_key_says place,
-        (nowhere, map plain semicolon, [], refl, semicolon_says, (refl, refl)),
-      ),
-    ),
-  ),
-)
-drop_says at (Some c) x place = (
-  nowhere,
-  plain (word.Key k.Drop) ∷ [],
-  _,
-  refl,
-  key_says k.Drop,
-  (
-    named c,
-    plain (word.Name c) ∷ [],
-    _,
-    refl,
-    name_says c,
-    (
-      Some (named x),
-      map plain (word.Sign s.Dot ∷ word.Name x ∷ []),
-      _,
-      refl,
-      field_says x,
-      (
-        bare_expr place,
-        map plain (index_words place),
-        _,
-        map-append plain (index_words place) semicolon,
-        any_key_says place,
-        (nowhere, map plain semicolon, [], refl, semicolon_says, (refl, refl)),
-      ),
-    ),
-  ),
-)
-
--- ---- what is set
-
-abbrev assigned : ExprTree → List Word
-assigned value = word.Sign s.Equals ∷ (whole_words value ++ semicolon)
-
-set_says : (at : Span) (above : Option (List ℕ)) (x : List ℕ) (place : Option ExprTree) (value : ExprTree) → Says g.set_stmt (bare_stmt (st.Set at (target_of above x) place value)) (stmt_words (st.Set at (target_of above x) place value))
-set_says at None x None value = (
-  named x,
-  plain (word.Name x) ∷ [],
-  _,
-  refl,
-  name_says x,
-  (
-    None,
-    [],
-    _,
-    refl,
-    refl,
-    (
-      None,
-      [],
-      _,
-      refl,
-      refl,
-      (
-        nowhere,
-        plain (word.Sign s.Equals) ∷ [],
-        _,
-        refl,
-        sign_says s.Equals,
-        (
-          bare_expr value,
-          map plain (whole_words value),
-          _,
-          map-append plain (whole_words value) semicolon,
-          expr_says value,
-          (nowhere, map plain semicolon, [], refl, semicolon_says, (refl, refl)),
-        ),
-      ),
-    ),
-  ),
-)
-set_says at None x (Some place) value = (
-  named x,
-  plain (word.Name x) ∷ [],
-  _,
-  refl,
-  name_says x,
-  (
-    None,
-    [],
-    _,
-    refl,
-    refl,
-    (
-      Some (bare_expr place),
-      map plain (index_words place),
-      _,
-      map-append plain (index_words place) (assigned value),
-      any_key_says place,
-      (
-        nowhere,
-        plain (word.Sign s.Equals) ∷ [],
-        _,
-        refl,
-        sign_says s.Equals,
-        (
-          bare_expr value,
-          map plain (whole_words value),
-          _,
-          map-append plain (whole_words value) semicolon,
-          expr_says value,
-          (nowhere, map plain semicolon, [], refl, semicolon_says, (refl, refl)),
-        ),
-      ),
-    ),
-  ),
-)
-set_says at (Some c) x None value = (
-  named c,
-  plain (word.Name c) ∷ [],
-  _,
-  refl,
-  name_says c,
-  (
-    Some (named x),
-    map plain (word.Sign s.Dot ∷ word.Name x ∷ []),
-    _,
-    refl,
-    field_says x,
-    (
-      None,
-      [],
-      _,
-      refl,
-      refl,
-      (
-        nowhere,
-        plain (word.Sign s.Equals) ∷ [],
-        _,
-        refl,
-        sign_says s.Equals,
-        (
-          bare_expr value,
-          map plain (whole_words value),
-          _,
-          map-append plain (whole_words value) semicolon,
-          expr_says value,
-          (nowhere, map plain semicolon, [], refl, semicolon_says, (refl, refl)),
-        ),
-      ),
-    ),
-  ),
-)
-set_says at (Some c) x (Some place) value = (
-  named c,
-  plain (word.Name c) ∷ [],
-  _,
-  refl,
-  name_says c,
-  (
-    Some (named x),
-    map plain (word.Sign s.Dot ∷ word.Name x ∷ []),
-    _,
-    refl,
-    field_says x,
-    (
-      Some (bare_expr place),
-      map plain (index_words place),
-      _,
-      map-append plain (index_words place) (assigned value),
-      any_key_says place,
-      (
-        nowhere,
-        plain (word.Sign s.Equals) ∷ [],
-        _,
-        refl,
-        sign_says s.Equals,
-        (
-          bare_expr value,
-          map plain (whole_words value),
-          _,
-          map-append plain (whole_words value) semicolon,
-          expr_says value,
-          (nowhere, map plain semicolon, [], refl, semicolon_says, (refl, refl)),
-        ),
-      ),
-    ),
-  ),
-)
-
-call_says : (at : Span) (f : List ℕ) (args : List ExprTree) → Says g.call_stmt (bare_stmt (st.Call at f args)) (stmt_words (st.Call at f args))
-call_says at f args = (
-  named f,
-  plain (word.Name f) ∷ [],
-  _,
-  refl,
-  name_says f,
-  (
-    map bare_expr args,
-    map plain (paren_words args),
-    _,
-    map-append plain (paren_words args) semicolon,
-    any_arguments_say args,
-    (nowhere, map plain semicolon, [], refl, semicolon_says, (refl, refl)),
-  ),
-)
-
-child_says : (at : Span) (c : List ℕ) (place : ExprTree) (f : List ℕ) (args : List ExprTree) → Says g.child_call_stmt (bare_stmt (st.ChildCall at c place f args)) (stmt_words (st.ChildCall at c place f args))
-child_says at c place f args = (
-  named c,
-  plain (word.Name c) ∷ [],
-  _,
-  refl,
-  name_says c,
-  (
-    bare_expr place,
-    map plain (index_words place),
-    _,
-    map-append plain (index_words place) (word.Sign s.Dot ∷ (call_words f args ++ semicolon)),
-    any_key_says place,
-    (
-      named f,
-      map plain (word.Sign s.Dot ∷ word.Name f ∷ []),
-      _,
-      refl,
-      field_says f,
-      (
-        map bare_expr args,
-        map plain (paren_words args),
-        _,
-        map-append plain (paren_words args) semicolon,
-        any_arguments_say args,
-        (nowhere, map plain semicolon, [], refl, semicolon_says, (refl, refl)),
-      ),
-    ),
-  ),
-)
-
--- ---- statements with blocks
-
-abbrev list_of : StmtTrees → List StmtTree
-list_of no_stmts = []
-list_of (stmt_and x xs) = x ∷ list_of xs
-
-list_back : (xs : StmtTrees) → stmts_of (list_of xs) ≡ xs
-list_back no_stmts = refl
-list_back (stmt_and x xs) = ap (λ l. stmt_and x l) (list_back xs)
-
-abbrev in_braces : StmtTrees → List Word
-in_braces xs = word.Sign s.LeftBrace ∷ (stmts_words xs ++ (word.Sign s.RightBrace ∷ []))
-
-abbrev else_list : ElseTree → Option (List StmtTree)
-else_list no_else = None
-else_list (otherwise xs) = Some (list_of xs)
-
-else_back : (o : ElseTree) → else_of (else_list o) ≡ o
-else_back no_else = refl
-else_back (otherwise xs) = ap otherwise (list_back xs)
-
-module _ (stmt : Part StmtTree) where
-  abbrev all_spell : StmtTrees → Type 0
-  all_spell xs = Says (many stmt) (list_of (bare_stmts xs)) (stmts_words xs)
-
-  block_says : (xs : StmtTrees) → all_spell xs → Says (g.block stmt) (list_of (bare_stmts xs)) (in_braces xs)
-  block_says xs h = (
+  let_says : (at : Span) (x : Name) (value : ExprTree) → IsName version x.text → ExprFits version value → Says (g.let_stmt version) (bare_stmt (st.Let at x value)) (stmt_words (st.Let at x value))
+  let_says at x value i f = (
     nowhere,
-    plain (word.Sign s.LeftBrace) ∷ [],
+    plain (word.Key k.Let) ∷ [],
     _,
     refl,
-    sign_says s.LeftBrace,
-    (
-      list_of (bare_stmts xs),
-      map plain (stmts_words xs),
-      _,
-      map-append plain (stmts_words xs) (word.Sign s.RightBrace ∷ []),
-      h,
-      (nowhere, plain (word.Sign s.RightBrace) ∷ [], [], refl, sign_says s.RightBrace, (refl, refl)),
-    ),
-  )
-
-  abbrev else_spells : ElseTree → Type 0
-  else_spells no_else = Unit {0}
-  else_spells (otherwise xs) = all_spell xs
-
-  else_says : (o : ElseTree) → else_spells o → Says (maybe (w.key k.Else >> g.block stmt)) (else_list (bare_else o)) (else_words o)
-  else_says no_else h = refl
-  else_says (otherwise xs) h = (nowhere, plain (word.Key k.Else) ∷ [], _, refl, key_says k.Else, block_says xs h)
-
-  if_says : (at : Span) (test : ExprTree) (body : StmtTrees) (other : ElseTree) → all_spell body → else_spells other → Says (g.if_stmt stmt) (bare_stmt (st.If at test body other)) (stmt_words (st.If at test body other))
-  if_says at test body other hb ho = (
-    nowhere,
-    plain (word.Key k.If) ∷ [],
-    _,
-    refl,
-    key_says k.If,
-    (
-      bare_expr test,
-      map plain (whole_words test),
-      _,
-      map-append plain (whole_words test) (word.Sign s.LeftBrace ∷ (stmts_words body ++ (word.Sign s.RightBrace ∷ else_words other))),
-      expr_says test,
-      (
-        list_of (bare_stmts body),
-        map plain (in_braces body),
-        _,
-        bracket_split (word.Sign s.LeftBrace) (word.Sign s.RightBrace) (stmts_words body) (else_words other),
-        block_says body hb,
-        (
-          else_list (bare_else other),
-          map plain (else_words other),
-          [],
-          sym (append-nil (map plain (else_words other))),
-          else_says other ho,
-          (ap (λ b. st.If nowhere (bare_expr test) b (bare_else other)) (sym (list_back (bare_stmts body))) ∙ ap (λ o. st.If nowhere (bare_expr test) (stmts_of (list_of (bare_stmts body))) o) (sym (else_back (bare_else other))), refl),
-        ),
-      ),
-    ),
-  )
-
-  while_says : (at : Span) (test : ExprTree) (body : StmtTrees) → all_spell body → Says (g.while_stmt stmt) (bare_stmt (st.While at test body)) (stmt_words (st.While at test body))
-  while_says at test body hb = (
-    nowhere,
-    plain (word.Key k.While) ∷ [],
-    _,
-    refl,
-    key_says k.While,
-    (
-      bare_expr test,
-      map plain (whole_words test),
-      _,
-      map-append plain (whole_words test) (in_braces body),
-      expr_says test,
-      (
-        list_of (bare_stmts body),
-        map plain (in_braces body),
-        [],
-        sym (append-nil (map plain (in_braces body))),
-        block_says body hb,
-        (ap (λ b. st.While nowhere (bare_expr test) b) (sym (list_back (bare_stmts body))), refl),
-      ),
-    ),
-  )
-
-  for_says : (at : Span) (x : Name) (low high : ExprTree) (body : StmtTrees) → all_spell body → Says (g.for_stmt stmt) (bare_stmt (st.For at x low high body)) (stmt_words (st.For at x low high body))
-  for_says at x low high body hb = (
-    nowhere,
-    plain (word.Key k.For) ∷ [],
-    _,
-    refl,
-    key_says k.For,
+    key_says k.Let,
     (
       named x.text,
       plain (word.Name x.text) ∷ [],
       _,
       refl,
-      name_says x.text,
+      name_says version x.text i,
       (
         nowhere,
-        plain (word.Key k.In) ∷ [],
+        plain (word.Sign s.Equals) ∷ [],
         _,
         refl,
-        key_says k.In,
+        sign_says s.Equals,
         (
-          bare_expr low,
-          map plain (whole_words low),
+          bare_expr value,
+          map plain (whole_words value),
           _,
-          map-append plain (whole_words low) (word.Key k.To ∷ (whole_words high ++ in_braces body)),
-          expr_says low,
+          map-append plain (whole_words value) semicolon,
+          expr_says version value f,
+          (nowhere, map plain semicolon, [], refl, semicolon_says, (refl, refl)),
+        ),
+      ),
+    ),
+  )
+
+  require_says : (at : Span) (test : ExprTree) → ExprFits version test → Says (g.require_stmt version) (bare_stmt (st.Require at test)) (stmt_words (st.Require at test))
+  require_says at test f = (
+    nowhere,
+    plain (word.Key k.Require) ∷ [],
+    _,
+    refl,
+    key_says k.Require,
+    (
+      bare_expr test,
+      map plain (whole_words test),
+      _,
+      map-append plain (whole_words test) semicolon,
+      expr_says version test f,
+      (nowhere, map plain semicolon, [], refl, semicolon_says, (refl, refl)),
+    ),
+  )
+
+  send_says : (at : Span) (label : List ℕ) (value : ExprTree) → ExprFits version value → Says (g.send_stmt version) (bare_stmt (st.Send at label value)) (stmt_words (st.Send at label value))
+  send_says at label value f = (
+    nowhere,
+    plain (word.Key k.Send) ∷ [],
+    _,
+    refl,
+    key_says k.Send,
+    (
+      label,
+      plain (word.Text label) ∷ [],
+      _,
+      refl,
+      text_says label,
+      (
+        nowhere,
+        plain (word.Sign s.Comma) ∷ [],
+        _,
+        refl,
+        sign_says s.Comma,
+        (
+          bare_expr value,
+          map plain (whole_words value),
+          _,
+          map-append plain (whole_words value) semicolon,
+          expr_says version value f,
+          (nowhere, map plain semicolon, [], refl, semicolon_says, (refl, refl)),
+        ),
+      ),
+    ),
+  )
+
+  spawn_says : (at : Span) (event : List ℕ) (args : List ExprTree) → IsName version event → Each (ExprFits version) args → Says (g.spawn_stmt version) (bare_stmt (st.Spawn at event args)) (stmt_words (st.Spawn at event args))
+  spawn_says at event args i f = (
+    nowhere,
+    plain (word.Key k.Spawn) ∷ [],
+    _,
+    refl,
+    key_says k.Spawn,
+    (
+      named event,
+      plain (word.Name event) ∷ [],
+      _,
+      refl,
+      name_says version event i,
+      (
+        map bare_expr args,
+        map plain (paren_words args),
+        _,
+        map-append plain (paren_words args) semicolon,
+        any_arguments_say version args f,
+        (nowhere, map plain semicolon, [], refl, semicolon_says, (refl, refl)),
+      ),
+    ),
+  )
+
+  abbrev target_of : Option (List ℕ) → List ℕ → Target
+  target_of above x = record { above = above; name = x }
+
+  drop_says : (at : Span) (above : Option (List ℕ)) (x : List ℕ) (place : ExprTree) → IfThere (IsName version) above → IsName version x → ExprFits version place → Says (g.drop_stmt version) (bare_stmt (st.Cut at (target_of above x) place)) (stmt_words (st.Cut at (target_of above x) place))
+  drop_says at None x place i j f = (
+    nowhere,
+    plain (word.Key k.Drop) ∷ [],
+    _,
+    refl,
+    key_says k.Drop,
+    (
+      named x,
+      plain (word.Name x) ∷ [],
+      _,
+      refl,
+      name_says version x j,
+      (
+        None,
+        [],
+        _,
+        refl,
+        refl,
+        (
+          bare_expr place,
+          map plain (index_words place),
+          _,
+          map-append plain (index_words place) semicolon,
+          any_key_says version place f,
+          (nowhere, map plain semicolon, [], refl, semicolon_says, (refl, refl)),
+        ),
+      ),
+    ),
+  )
+  drop_says at (Some c) x place i j f = (
+    nowhere,
+    plain (word.Key k.Drop) ∷ [],
+    _,
+    refl,
+    key_says k.Drop,
+    (
+      named c,
+      plain (word.Name c) ∷ [],
+      _,
+      refl,
+      name_says version c i,
+      (
+        Some (named x),
+        map plain (word.Sign s.Dot ∷ word.Name x ∷ []),
+        _,
+        refl,
+        field_says version x j,
+        (
+          bare_expr place,
+          map plain (index_words place),
+          _,
+          map-append plain (index_words place) semicolon,
+          any_key_says version place f,
+          (nowhere, map plain semicolon, [], refl, semicolon_says, (refl, refl)),
+        ),
+      ),
+    ),
+  )
+
+  -- ---- what is set
+
+  abbrev assigned : ExprTree → List Word
+  assigned value = word.Sign s.Equals ∷ (whole_words value ++ semicolon)
+
+  set_says : (at : Span) (above : Option (List ℕ)) (x : List ℕ) (place : Option ExprTree) (value : ExprTree) → IfThere (IsName version) above → IsName version x → IfThere (ExprFits version) place → ExprFits version value → Says (g.set_stmt version) (bare_stmt (st.Set at (target_of above x) place value)) (stmt_words (st.Set at (target_of above x) place value))
+  set_says at None x None value i j p f = (
+    named x,
+    plain (word.Name x) ∷ [],
+    _,
+    refl,
+    name_says version x j,
+    (
+      None,
+      [],
+      _,
+      refl,
+      refl,
+      (
+        None,
+        [],
+        _,
+        refl,
+        refl,
+        (
+          nowhere,
+          plain (word.Sign s.Equals) ∷ [],
+          _,
+          refl,
+          sign_says s.Equals,
           (
-            nowhere,
-            plain (word.Key k.To) ∷ [],
+            bare_expr value,
+            map plain (whole_words value),
             _,
-            refl,
-            key_says k.To,
-            (
-              bare_expr high,
-              map plain (whole_words high),
-              _,
-              map-append plain (whole_words high) (in_braces body),
-              expr_says high,
-              (
-                list_of (bare_stmts body),
-                map plain (in_braces body),
-                [],
-                sym (append-nil (map plain (in_braces body))),
-                block_says body hb,
-                (ap (λ b. st.For nowhere (named x.text) (bare_expr low) (bare_expr high) b) (sym (list_back (bare_stmts body))), refl),
-              ),
-            ),
+            map-append plain (whole_words value) semicolon,
+            expr_says version value f,
+            (nowhere, map plain semicolon, [], refl, semicolon_says, (refl, refl)),
+          ),
+        ),
+      ),
+    ),
+  )
+  set_says at None x (Some place) value i j p f = (
+    named x,
+    plain (word.Name x) ∷ [],
+    _,
+    refl,
+    name_says version x j,
+    (
+      None,
+      [],
+      _,
+      refl,
+      refl,
+      (
+        Some (bare_expr place),
+        map plain (index_words place),
+        _,
+        map-append plain (index_words place) (assigned value),
+        any_key_says version place p,
+        (
+          nowhere,
+          plain (word.Sign s.Equals) ∷ [],
+          _,
+          refl,
+          sign_says s.Equals,
+          (
+            bare_expr value,
+            map plain (whole_words value),
+            _,
+            map-append plain (whole_words value) semicolon,
+            expr_says version value f,
+            (nowhere, map plain semicolon, [], refl, semicolon_says, (refl, refl)),
+          ),
+        ),
+      ),
+    ),
+  )
+  set_says at (Some c) x None value i j p f = (
+    named c,
+    plain (word.Name c) ∷ [],
+    _,
+    refl,
+    name_says version c i,
+    (
+      Some (named x),
+      map plain (word.Sign s.Dot ∷ word.Name x ∷ []),
+      _,
+      refl,
+      field_says version x j,
+      (
+        None,
+        [],
+        _,
+        refl,
+        refl,
+        (
+          nowhere,
+          plain (word.Sign s.Equals) ∷ [],
+          _,
+          refl,
+          sign_says s.Equals,
+          (
+            bare_expr value,
+            map plain (whole_words value),
+            _,
+            map-append plain (whole_words value) semicolon,
+            expr_says version value f,
+            (nowhere, map plain semicolon, [], refl, semicolon_says, (refl, refl)),
+          ),
+        ),
+      ),
+    ),
+  )
+  set_says at (Some c) x (Some place) value i j p f = (
+    named c,
+    plain (word.Name c) ∷ [],
+    _,
+    refl,
+    name_says version c i,
+    (
+      Some (named x),
+      map plain (word.Sign s.Dot ∷ word.Name x ∷ []),
+      _,
+      refl,
+      field_says version x j,
+      (
+        Some (bare_expr place),
+        map plain (index_words place),
+        _,
+        map-append plain (index_words place) (assigned value),
+        any_key_says version place p,
+        (
+          nowhere,
+          plain (word.Sign s.Equals) ∷ [],
+          _,
+          refl,
+          sign_says s.Equals,
+          (
+            bare_expr value,
+            map plain (whole_words value),
+            _,
+            map-append plain (whole_words value) semicolon,
+            expr_says version value f,
+            (nowhere, map plain semicolon, [], refl, semicolon_says, (refl, refl)),
           ),
         ),
       ),
     ),
   )
 
-abbrev mutual
-  blocks : StmtTree → ℕ
-  blocks (st.Let at x value) = 0
-  blocks (st.If at test body other) = suc (all_blocks body + else_blocks other)
-  blocks (st.While at test body) = suc (all_blocks body)
-  blocks (st.For at x low high body) = suc (all_blocks body)
-  blocks (st.Require at test) = 0
-  blocks (st.Send at label value) = 0
-  blocks (st.Spawn at event args) = 0
-  blocks (st.Cut at target place) = 0
-  blocks (st.Set at target place value) = 0
-  blocks (st.Call at f args) = 0
-  blocks (st.ChildCall at c place f args) = 0
-
-  all_blocks : StmtTrees → ℕ
-  all_blocks no_stmts = 0
-  all_blocks (stmt_and x xs) = blocks x + all_blocks xs
-
-  else_blocks : ElseTree → ℕ
-  else_blocks no_else = 0
-  else_blocks (otherwise xs) = all_blocks xs
-
-abbrev at_depth : ℕ → Part StmtTree
-at_depth n = nested g.any_stmt n
-
-mutual
-  said : (x : StmtTree) (n : ℕ) → blocks x ≤ n → Says (at_depth (suc n)) (bare_stmt x) (stmt_words x)
-  said (st.Let at x value) n h = inl (let_says at x value)
-  said (st.If at test body other) zero h = absurd (omega arith)
-  said (st.If at test body other) (suc m) h = inr (inl (if_says (at_depth (suc m)) at test body other (all_said body m (omega arith)) (else_said other m (omega arith))))
-  said (st.While at test body) zero h = absurd (omega arith)
-  said (st.While at test body) (suc m) h = inr (inr (inl (while_says (at_depth (suc m)) at test body (all_said body m (omega arith)))))
-  said (st.For at x low high body) zero h = absurd (omega arith)
-  said (st.For at x low high body) (suc m) h = inr (inr (inr (inl (for_says (at_depth (suc m)) at x low high body (all_said body m (omega arith))))))
-  said (st.Require at test) n h = inr (inr (inr (inr (inl (require_says at test)))))
-  said (st.Send at label value) n h = inr (inr (inr (inr (inr (inl (send_says at label value))))))
-  said (st.Spawn at event args) n h = inr (inr (inr (inr (inr (inr (inl (spawn_says at event args)))))))
-  said (st.Cut at x place) n h = inr (inr (inr (inr (inr (inr (inr (inl (drop_says at x.above x.name place))))))))
-  said (st.Set at x place value) n h = inr (inr (inr (inr (inr (inr (inr (inr (inl (set_says at x.above x.name place value)))))))))
-  said (st.Call at f args) n h = inr (inr (inr (inr (inr (inr (inr (inr (inr (inl (call_says at f args))))))))))
-  said (st.ChildCall at c place f args) n h = inr (inr (inr (inr (inr (inr (inr (inr (inr (inr (child_says at c place f args))))))))))
-
-  all_said : (xs : StmtTrees) (n : ℕ) → all_blocks xs ≤ n → all_spell (at_depth (suc n)) xs
-  all_said no_stmts n h = refl
-  all_said (stmt_and x xs) n h = (map plain (stmt_words x), _, map-append plain (stmt_words x) (stmts_words xs), said x n (omega arith), all_said xs n (omega arith))
-
-  else_said : (o : ElseTree) (n : ℕ) → else_blocks o ≤ n → else_spells (at_depth (suc n)) o
-  else_said no_else n h = tt
-  else_said (otherwise xs) n h = all_said xs n h
-
--- ---- however deep
-
-pub stmt_says : (x : StmtTree) → Says g.stmt (bare_stmt x) (stmt_words x)
-stmt_says x = (suc (blocks x), said x (blocks x) (omega arith))
-
-pub stmts_say : (xs : List StmtTree) → Says g.stmts (map bare_stmt xs) (body_words xs)
-unfolding g.stmts
-stmts_say xs = all_say g.stmt bare_stmt stmt_words stmt_says xs
-
-pub any_block_says : (xs : List StmtTree) → Says g.any_block (map bare_stmt xs) (braced_words xs)
-unfolding g.any_block
-any_block_says xs = (
-  nowhere,
-  plain (word.Sign s.LeftBrace) ∷ [],
-  _,
-  refl,
-  sign_says s.LeftBrace,
-  (
-    map bare_stmt xs,
-    map plain (body_words xs),
+  call_says : (at : Span) (f : List ℕ) (args : List ExprTree) → IsName version f → Each (ExprFits version) args → Says (g.call_stmt version) (bare_stmt (st.Call at f args)) (stmt_words (st.Call at f args))
+  call_says at f args i k = (
+    named f,
+    plain (word.Name f) ∷ [],
     _,
-    map-append plain (body_words xs) (word.Sign s.RightBrace ∷ []),
-    all_say g.stmt bare_stmt stmt_words stmt_says xs,
-    (nowhere, plain (word.Sign s.RightBrace) ∷ [], [], refl, sign_says s.RightBrace, (refl, refl)),
-  ),
-)
+    refl,
+    name_says version f i,
+    (
+      map bare_expr args,
+      map plain (paren_words args),
+      _,
+      map-append plain (paren_words args) semicolon,
+      any_arguments_say version args k,
+      (nowhere, map plain semicolon, [], refl, semicolon_says, (refl, refl)),
+    ),
+  )
+
+  child_says : (at : Span) (c : List ℕ) (place : ExprTree) (f : List ℕ) (args : List ExprTree) → IsName version c → ExprFits version place → IsName version f → Each (ExprFits version) args → Says (g.child_call_stmt version) (bare_stmt (st.ChildCall at c place f args)) (stmt_words (st.ChildCall at c place f args))
+  child_says at c place f args i p j k = (
+    named c,
+    plain (word.Name c) ∷ [],
+    _,
+    refl,
+    name_says version c i,
+    (
+      bare_expr place,
+      map plain (index_words place),
+      _,
+      map-append plain (index_words place) (word.Sign s.Dot ∷ (call_words f args ++ semicolon)),
+      any_key_says version place p,
+      (
+        named f,
+        map plain (word.Sign s.Dot ∷ word.Name f ∷ []),
+        _,
+        refl,
+        field_says version f j,
+        (
+          map bare_expr args,
+          map plain (paren_words args),
+          _,
+          map-append plain (paren_words args) semicolon,
+          any_arguments_say version args k,
+          (nowhere, map plain semicolon, [], refl, semicolon_says, (refl, refl)),
+        ),
+      ),
+    ),
+  )
+
+  -- ---- statements that end a method or an event early
+
+  maybe_says : (value : Option ExprTree) → IfThere (ExprFits version) value → Says (maybe (g.any_expr version)) (option_map bare_expr value) (maybe_words value)
+  maybe_says None f = refl
+  maybe_says (Some value) f = expr_says version value f
+
+  return_says : (at : Span) (value : Option ExprTree) → EndFits version value → Says (g.return_stmt version) (bare_stmt (st.Return at value)) (stmt_words (st.Return at value))
+  return_says at value f = (
+    nowhere,
+    plain (word.Key k.Return) ∷ [],
+    _,
+    refl,
+    leave_says version f.0,
+    (
+      option_map bare_expr value,
+      map plain (maybe_words value),
+      _,
+      map-append plain (maybe_words value) semicolon,
+      maybe_says value f.1,
+      (nowhere, map plain semicolon, [], refl, semicolon_says, (refl, refl)),
+    ),
+  )
+
+  finish_stmt_says : (at : Span) (value : Option ExprTree) → EndFits version value → Says (g.finish_stmt version) (bare_stmt (st.Finish at value)) (stmt_words (st.Finish at value))
+  finish_stmt_says at value f = (
+    nowhere,
+    plain (word.Name (codes "finish")) ∷ [],
+    _,
+    refl,
+    finish_says version f.0,
+    (
+      option_map bare_expr value,
+      map plain (maybe_words value),
+      _,
+      map-append plain (maybe_words value) semicolon,
+      maybe_says value f.1,
+      (nowhere, map plain semicolon, [], refl, semicolon_says, (refl, refl)),
+    ),
+  )
+
+  -- ---- statements with blocks
+
+  abbrev list_of : StmtTrees → List StmtTree
+  list_of no_stmts = []
+  list_of (stmt_and x xs) = x ∷ list_of xs
+
+  list_back : (xs : StmtTrees) → stmts_of (list_of xs) ≡ xs
+  list_back no_stmts = refl
+  list_back (stmt_and x xs) = ap (λ l. stmt_and x l) (list_back xs)
+
+  abbrev in_braces : StmtTrees → List Word
+  in_braces xs = word.Sign s.LeftBrace ∷ (stmts_words xs ++ (word.Sign s.RightBrace ∷ []))
+
+  abbrev else_list : ElseTree → Option (List StmtTree)
+  else_list no_else = None
+  else_list (otherwise xs) = Some (list_of xs)
+
+  else_back : (o : ElseTree) → else_of (else_list o) ≡ o
+  else_back no_else = refl
+  else_back (otherwise xs) = ap otherwise (list_back xs)
+
+  module _ (stmt : Part StmtTree) where
+    abbrev all_spell : StmtTrees → Type 0
+    all_spell xs = Says (many stmt) (list_of (bare_stmts xs)) (stmts_words xs)
+
+    block_says : (xs : StmtTrees) → all_spell xs → Says (g.block version stmt) (list_of (bare_stmts xs)) (in_braces xs)
+    block_says xs h = (
+      nowhere,
+      plain (word.Sign s.LeftBrace) ∷ [],
+      _,
+      refl,
+      sign_says s.LeftBrace,
+      (
+        list_of (bare_stmts xs),
+        map plain (stmts_words xs),
+        _,
+        map-append plain (stmts_words xs) (word.Sign s.RightBrace ∷ []),
+        h,
+        (nowhere, plain (word.Sign s.RightBrace) ∷ [], [], refl, sign_says s.RightBrace, (refl, refl)),
+      ),
+    )
+
+    abbrev else_spells : ElseTree → Type 0
+    else_spells no_else = Unit {0}
+    else_spells (otherwise xs) = all_spell xs
+
+    else_says : (o : ElseTree) → else_spells o → Says (maybe (w.key k.Else >> (g.block version) stmt)) (else_list (bare_else o)) (else_words o)
+    else_says no_else h = refl
+    else_says (otherwise xs) h = (nowhere, plain (word.Key k.Else) ∷ [], _, refl, key_says k.Else, block_says xs h)
+
+    if_says : (at : Span) (test : ExprTree) (body : StmtTrees) (other : ElseTree) → all_spell body → else_spells other → ExprFits version test → Says (g.if_stmt version stmt) (bare_stmt (st.If at test body other)) (stmt_words (st.If at test body other))
+    if_says at test body other hb ho f = (
+      nowhere,
+      plain (word.Key k.If) ∷ [],
+      _,
+      refl,
+      key_says k.If,
+      (
+        bare_expr test,
+        map plain (whole_words test),
+        _,
+        map-append plain (whole_words test) (word.Sign s.LeftBrace ∷ (stmts_words body ++ (word.Sign s.RightBrace ∷ else_words other))),
+        expr_says version test f,
+        (
+          list_of (bare_stmts body),
+          map plain (in_braces body),
+          _,
+          bracket_split (word.Sign s.LeftBrace) (word.Sign s.RightBrace) (stmts_words body) (else_words other),
+          block_says body hb,
+          (
+            else_list (bare_else other),
+            map plain (else_words other),
+            [],
+            sym (append-nil (map plain (else_words other))),
+            else_says other ho,
+            (ap (λ b. st.If nowhere (bare_expr test) b (bare_else other)) (sym (list_back (bare_stmts body))) ∙ ap (λ o. st.If nowhere (bare_expr test) (stmts_of (list_of (bare_stmts body))) o) (sym (else_back (bare_else other))), refl),
+          ),
+        ),
+      ),
+    )
+
+    while_says : (at : Span) (test : ExprTree) (body : StmtTrees) → all_spell body → ExprFits version test → Says (g.while_stmt version stmt) (bare_stmt (st.While at test body)) (stmt_words (st.While at test body))
+    while_says at test body hb f = (
+      nowhere,
+      plain (word.Key k.While) ∷ [],
+      _,
+      refl,
+      key_says k.While,
+      (
+        bare_expr test,
+        map plain (whole_words test),
+        _,
+        map-append plain (whole_words test) (in_braces body),
+        expr_says version test f,
+        (
+          list_of (bare_stmts body),
+          map plain (in_braces body),
+          [],
+          sym (append-nil (map plain (in_braces body))),
+          block_says body hb,
+          (ap (λ b. st.While nowhere (bare_expr test) b) (sym (list_back (bare_stmts body))), refl),
+        ),
+      ),
+    )
+
+    for_says : (at : Span) (x : Name) (low high : ExprTree) (body : StmtTrees) → all_spell body → IsName version x.text → ExprFits version low → ExprFits version high → Says (g.for_stmt version stmt) (bare_stmt (st.For at x low high body)) (stmt_words (st.For at x low high body))
+    for_says at x low high body hb i f j = (
+      nowhere,
+      plain (word.Key k.For) ∷ [],
+      _,
+      refl,
+      key_says k.For,
+      (
+        named x.text,
+        plain (word.Name x.text) ∷ [],
+        _,
+        refl,
+        name_says version x.text i,
+        (
+          nowhere,
+          plain (word.Key k.In) ∷ [],
+          _,
+          refl,
+          key_says k.In,
+          (
+            bare_expr low,
+            map plain (whole_words low),
+            _,
+            map-append plain (whole_words low) (word.Key k.To ∷ (whole_words high ++ in_braces body)),
+            expr_says version low f,
+            (
+              nowhere,
+              plain (word.Key k.To) ∷ [],
+              _,
+              refl,
+              key_says k.To,
+              (
+                bare_expr high,
+                map plain (whole_words high),
+                _,
+                map-append plain (whole_words high) (in_braces body),
+                expr_says version high j,
+                (
+                  list_of (bare_stmts body),
+                  map plain (in_braces body),
+                  [],
+                  sym (append-nil (map plain (in_braces body))),
+                  block_says body hb,
+                  (ap (λ b. st.For nowhere (named x.text) (bare_expr low) (bare_expr high) b) (sym (list_back (bare_stmts body))), refl),
+                ),
+              ),
+            ),
+          ),
+        ),
+      ),
+    )
+
+  abbrev mutual
+    blocks : StmtTree → ℕ
+    blocks (st.Let at x value) = 0
+    blocks (st.If at test body other) = suc (all_blocks body + else_blocks other)
+    blocks (st.While at test body) = suc (all_blocks body)
+    blocks (st.For at x low high body) = suc (all_blocks body)
+    blocks (st.Require at test) = 0
+    blocks (st.Send at label value) = 0
+    blocks (st.Spawn at event args) = 0
+    blocks (st.Cut at target place) = 0
+    blocks (st.Set at target place value) = 0
+    blocks (st.Call at f args) = 0
+    blocks (st.ChildCall at c place f args) = 0
+    blocks (st.Return at value) = 0
+    blocks (st.Finish at value) = 0
+
+    all_blocks : StmtTrees → ℕ
+    all_blocks no_stmts = 0
+    all_blocks (stmt_and x xs) = blocks x + all_blocks xs
+
+    else_blocks : ElseTree → ℕ
+    else_blocks no_else = 0
+    else_blocks (otherwise xs) = all_blocks xs
+
+  abbrev at_depth : ℕ → Part StmtTree
+  at_depth n = nested (g.any_stmt version) n
+
+  mutual
+    said : (x : StmtTree) (n : ℕ) → blocks x ≤ n → StmtFits version x → Says (at_depth (suc n)) (bare_stmt x) (stmt_words x)
+    said (st.Let at x value) n h f = inl (let_says at x value f.0 f.1)
+    said (st.If at test body other) zero h f = absurd (omega arith)
+    said (st.If at test body other) (suc m) h f = inr (inl (if_says (at_depth (suc m)) at test body other (all_said body m (omega arith) f.1) (else_said other m (omega arith) f.2) f.0))
+    said (st.While at test body) zero h f = absurd (omega arith)
+    said (st.While at test body) (suc m) h f = inr (inr (inl (while_says (at_depth (suc m)) at test body (all_said body m (omega arith) f.1) f.0)))
+    said (st.For at x low high body) zero h f = absurd (omega arith)
+    said (st.For at x low high body) (suc m) h f = inr (inr (inr (inl (for_says (at_depth (suc m)) at x low high body (all_said body m (omega arith) f.3) f.0 f.1 f.2))))
+    said (st.Return at value) n h f = inr (inr (inr (inr (inl (return_says at value f)))))
+    said (st.Finish at value) n h f = inr (inr (inr (inr (inr (inl (finish_stmt_says at value f))))))
+    said (st.Require at test) n h f = inr (inr (inr (inr (inr (inr (inl (require_says at test f)))))))
+    said (st.Send at label value) n h f = inr (inr (inr (inr (inr (inr (inr (inl (send_says at label value f))))))))
+    said (st.Spawn at event args) n h f = inr (inr (inr (inr (inr (inr (inr (inr (inl (spawn_says at event args f.0 f.1)))))))))
+    said (st.Cut at x place) n h f = inr (inr (inr (inr (inr (inr (inr (inr (inr (inl (drop_says at x.above x.name place f.0.0 f.0.1 f.1))))))))))
+    said (st.Set at x place value) n h f = inr (inr (inr (inr (inr (inr (inr (inr (inr (inr (inl (set_says at x.above x.name place value f.0.0 f.0.1 f.1 f.2)))))))))))
+    said (st.Call at x args) n h f = inr (inr (inr (inr (inr (inr (inr (inr (inr (inr (inr (inl (call_says at x args f.0 f.1))))))))))))
+    said (st.ChildCall at c place x args) n h f = inr (inr (inr (inr (inr (inr (inr (inr (inr (inr (inr (inr (child_says at c place x args f.0 f.1 f.2 f.3))))))))))))
+
+    all_said : (xs : StmtTrees) (n : ℕ) → all_blocks xs ≤ n → StmtsFit version xs → all_spell (at_depth (suc n)) xs
+    all_said no_stmts n h f = refl
+    all_said (stmt_and x xs) n h f = (map plain (stmt_words x), _, map-append plain (stmt_words x) (stmts_words xs), said x n (omega arith) f.0, all_said xs n (omega arith) f.1)
+
+    else_said : (o : ElseTree) (n : ℕ) → else_blocks o ≤ n → ElseFits version o → else_spells (at_depth (suc n)) o
+    else_said no_else n h f = tt
+    else_said (otherwise xs) n h f = all_said xs n h f
+
+  -- ---- however deep
+
+  pub stmt_says : (x : StmtTree) → StmtFits version x → Says (g.stmt version) (bare_stmt x) (stmt_words x)
+  stmt_says x f = (suc (blocks x), said x (blocks x) (omega arith) f)
+
+  pub stmts_say : (xs : List StmtTree) → Each (StmtFits version) xs → Says (g.stmts version) (map bare_stmt xs) (body_words xs)
+  unfolding g.stmts
+  stmts_say xs f = all_say (g.stmt version) bare_stmt stmt_words (StmtFits version) stmt_says xs f
+
+  pub any_block_says : (xs : List StmtTree) → Each (StmtFits version) xs → Says (g.any_block version) (map bare_stmt xs) (braced_words xs)
+  unfolding g.any_block
+  any_block_says xs f = (
+    nowhere,
+    plain (word.Sign s.LeftBrace) ∷ [],
+    _,
+    refl,
+    sign_says s.LeftBrace,
+    (
+      map bare_stmt xs,
+      map plain (body_words xs),
+      _,
+      map-append plain (body_words xs) (word.Sign s.RightBrace ∷ []),
+      all_say (g.stmt version) bare_stmt stmt_words (StmtFits version) stmt_says xs f,
+      (nowhere, plain (word.Sign s.RightBrace) ∷ [], [], refl, sign_says s.RightBrace, (refl, refl)),
+    ),
+  )

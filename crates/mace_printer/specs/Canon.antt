@@ -1,5 +1,5 @@
 -- The canonical words of a tree: its tokens in order, with parentheses only where the grammar needs them.
-use Rattle.std.specs.Prelude.{ℕ, ℤ, ◌+◌, Bool, true, false, nat_lt, ◌==◌, if◌then◌else◌, List, [], ◌∷◌, ◌++◌, Option, Some, None}
+use Rattle.std.specs.Prelude.{ℕ, ℤ, pos, codes, ◌+◌, Bool, true, false, nat_lt, ◌==◌, if◌then◌else◌, List, [], ◌∷◌, ◌++◌, Option, Some, None}
 use Rattle.wave_base.specs.declared.value.Kind.{Kind}
 use Rattle.wave_base.specs.declared.value.Kind.TheVariants as kind
 use Rattle.mace_lexer.specs.declared.token.Word.{Word}
@@ -216,6 +216,10 @@ abbrev pub maybe_index : Option ExprTree → List Word
 maybe_index None = []
 maybe_index (Some place) = index_words place
 
+abbrev pub maybe_words : Option ExprTree → List Word
+maybe_words None = []
+maybe_words (Some value) = whole_words value
+
 -- what stands before the block of a loop over numbers
 abbrev pub range_words : List ℕ → ExprTree → ExprTree → List Word
 range_words x low high = key k.For ⧺ name x ⧺ key k.In ⧺ whole_words low ⧺ key k.To ⧺ whole_words high
@@ -233,6 +237,8 @@ abbrev mutual
   stmt_words (st.Set at target place value) = target_words target ⧺ maybe_index place ⧺ sign s.Equals ⧺ whole_words value ⧺ sign s.Semicolon
   stmt_words (st.Call at f args) = call_words f args ⧺ sign s.Semicolon
   stmt_words (st.ChildCall at c place f args) = name c ⧺ index_words place ⧺ sign s.Dot ⧺ call_words f args ⧺ sign s.Semicolon
+  stmt_words (st.Return at value) = key k.Return ⧺ maybe_words value ⧺ sign s.Semicolon
+  stmt_words (st.Finish at value) = name (codes "finish") ⧺ maybe_words value ⧺ sign s.Semicolon
 
   pub stmts_words : StmtTrees → List Word
   stmts_words no_stmts = []
@@ -295,5 +301,9 @@ abbrev mutual
   contexts_words no_contexts = []
   contexts_words (context_and c cs) = context_words c ⧺ contexts_words cs
 
+-- the number of the version, which version 1 leaves out
+abbrev pub version_words : ℕ → List Word
+version_words n = if n == 2 then number (pos 2) else []
+
 unfoldable pub service_words : ServiceTree → List Word
-service_words t = key k.Service ⧺ name t.name.text ⧺ sign s.LeftBrace ⧺ all_of var_words t.vars ⧺ all_of context_words t.contexts ⧺ all_of method_words t.methods ⧺ all_of event_words t.events ⧺ sign s.RightBrace
+service_words t = key k.Service ⧺ name t.name.text ⧺ version_words t.version ⧺ sign s.LeftBrace ⧺ all_of var_words t.vars ⧺ all_of context_words t.contexts ⧺ all_of method_words t.methods ⧺ all_of event_words t.events ⧺ sign s.RightBrace

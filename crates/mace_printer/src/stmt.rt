@@ -1,6 +1,6 @@
 // Statements.
 
-ghost use Rattle.std.specs.Prelude.{◌≡◌, ◌++◌, map, OnOk};
+ghost use Rattle.std.specs.Prelude.{◌≡◌, ◌++◌, map, codes, OnOk};
 ghost use Rattle.std.specs.Option.{option_map};
 ghost use Rattle.mace_ast.specs.Exprs.{expr_tree};
 ghost use Rattle.mace_ast.specs.Stmts.{stmt_tree};
@@ -9,7 +9,7 @@ ghost use Rattle.mace_printer.specs.Canon.{◌⧺◌};
 ghost use Rattle.mace_printer.specs.Layout.{layout};
 
 use crate::expr::{put_above, put_call, put_child_key, put_expr, put_index};
-use crate::word::{put_key, put_name, put_sign, put_text};
+use crate::word::{put_finish_word, put_key, put_name, put_sign, put_text};
 use mace_ast::{Action, Expr, Name, Stmt, Target};
 use mace_lexer::{Keyword, Sign};
 use std::alloc::Global;
@@ -129,6 +129,35 @@ fn put_child_called(
     put_called(alloc, out, name, args)
 }
 
+fn put_maybe_value(
+    alloc: Global,
+    out: &mut Vec<u8>,
+    value: &Option<Expr>,
+) -> Result<(), OutOfMemory>
+    ensures { OnOk result (out.new.items ≡ out.old.items ++ layout (words.maybe_words (option_map expr_tree value.now))) }
+{
+    match value {
+        None => Ok(()),
+        Some(value) => put_expr(alloc, out, value, 0),
+    }
+}
+
+fn put_return(alloc: Global, out: &mut Vec<u8>, value: &Option<Expr>) -> Result<(), OutOfMemory>
+    ensures { OnOk result (out.new.items ≡ out.old.items ++ layout (words.key Keyword.Return ⧺ words.maybe_words (option_map expr_tree value.now) ⧺ words.sign Sign.Semicolon)) }
+{
+    put_key(out, Keyword::Return)?;
+    put_maybe_value(alloc, out, value)?;
+    put_sign(out, Sign::Semicolon)
+}
+
+fn put_finish(alloc: Global, out: &mut Vec<u8>, value: &Option<Expr>) -> Result<(), OutOfMemory>
+    ensures { OnOk result (out.new.items ≡ out.old.items ++ layout (words.name (codes "finish") ⧺ words.maybe_words (option_map expr_tree value.now) ⧺ words.sign Sign.Semicolon)) }
+{
+    put_finish_word(out)?;
+    put_maybe_value(alloc, out, value)?;
+    put_sign(out, Sign::Semicolon)
+}
+
 // What stands before the block of a loop over numbers.
 fn put_range(
     alloc: Global,
@@ -185,6 +214,8 @@ fn put_stmt(alloc: Global, out: &mut Vec<u8>, stmt: &Stmt) -> Result<(), OutOfMe
         Action::ChildCall(class, key, name, args) => {
             put_child_called(alloc, out, class, key, name, args.as_slice())
         }
+        Action::Return(value) => put_return(alloc, out, value),
+        Action::Finish(value) => put_finish(alloc, out, value),
     }
 }
 

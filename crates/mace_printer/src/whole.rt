@@ -9,7 +9,7 @@ ghost use Rattle.mace_printer.specs.Written.{IsParsed, IsCutInto};
 
 use crate::field::put_vars;
 use crate::member::{put_events, put_methods};
-use crate::word::{put_key, put_name, put_sign};
+use crate::word::{put_key, put_name, put_number, put_sign};
 use mace_ast::{ContextDecl, Service};
 use mace_lexer::{Keyword, Sign};
 use std::alloc::Global;
@@ -52,12 +52,23 @@ fn put_contexts(
     Ok(())
 }
 
+// The number of the version, where it is not 1.
+fn put_version(alloc: Global, out: &mut Vec<u8>, version: u8) -> Result<(), OutOfMemory>
+    ensures { OnOk result (out.new.items ≡ out.old.items ++ layout (words.version_words version)) }
+{
+    if version != 2 {
+        return Ok(());
+    }
+    put_number(alloc, out, 2)
+}
+
 #[tactic(auto, unfolding(crate::specs::Canon::service_words))]
 fn put_service(alloc: Global, out: &mut Vec<u8>, service: &Service) -> Result<(), OutOfMemory>
     ensures { OnOk result (out.new.items ≡ out.old.items ++ layout (words.service_words (service_tree service.now))) }
 {
     put_key(out, Keyword::Service)?;
     put_name(out, &service.name.text)?;
+    put_version(alloc, out, service.version)?;
     put_sign(out, Sign::LeftBrace)?;
     put_vars(alloc, out, service.vars.as_slice())?;
     put_contexts(alloc, out, service.contexts.as_slice())?;

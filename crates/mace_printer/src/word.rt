@@ -1,6 +1,6 @@
 // One word in its layout.
 
-ghost use Rattle.std.specs.Prelude.{◌≡◌, ◌++◌, OnOk};
+ghost use Rattle.std.specs.Prelude.{◌≡◌, ◌++◌, codes, OnOk};
 ghost use Rattle.mace_printer.specs.Canon as words;
 ghost use Rattle.mace_printer.specs.Layout.{layout, gap_of};
 
@@ -44,6 +44,15 @@ pub fn put_name(out: &mut Vec<u8>, name: &Txt) -> Result<(), OutOfMemory>
     ensures { OnOk result (out.new.items ≡ out.old.items ++ layout (words.name name.now)) }
 {
     put_bytes(out, name.bytes())?;
+    put_bytes(out, b" ")
+}
+
+/// Writes the word `finish` and the blank behind it.
+#[tactic(auto, unfolding(crate::specs::Layout::layout))]
+pub fn put_finish_word(out: &mut Vec<u8>) -> Result<(), OutOfMemory>
+    ensures { OnOk result (out.new.items ≡ out.old.items ++ layout (words.name (codes "finish"))) }
+{
+    put_bytes(out, b"finish")?;
     put_bytes(out, b" ")
 }
 

@@ -19,11 +19,15 @@ use Rattle.wave_base.specs.Shapes.{class_of, is_path}
 use Rattle.wave_base.specs.Tree.{Tree, there, enter, put}
 use Rattle.value_ops.specs.Kinds.{Answer}
 use Rattle.resolved_service.specs.Fits.{IsChildClass}
+use Rattle.resolved_service.specs.Meaning as m
 use Rattle.resolved_service.specs.Meaning.{State, Outcome, Done, Trapped, Left, Act, and_then, answer, with_world, tick, enter_at, demand, choose}
 use Rattle.resolved_service.specs.World.{World, has, key_of, child, took, ticking, changed, with_entered, entering, releasing, sending, spawning, set_field}
 use Rattle.service_eval.proofs.PathLemmas.{class_of-child, parent_of-child, is_path-child, all_there, parent_there, enter_holds, entered_there, still_there, same_paths}
 use Rattle.service_eval.specs.Worlds.{Holds}
 use Rattle.meaning_laws.specs.Kept.{IsEarly}
+
+false_not : false ≡ true → ⊥
+false_not e = cc
 
 module _ (shape : Shape) (first : Tree (List Value)) (g : ℕ) where
   -- of a generation, a tree, the paths that were entered and are held, and the calls that were created, since an event of
@@ -45,40 +49,45 @@ module _ (shape : Shape) (first : Tree (List Value)) (g : ℕ) where
   abbrev pub At : Path → World → Type 0
   At p w = Kept w × (there w.tree p ≡ true)
 
-  -- at a context it comes to an end at the same context, or traps
-  abbrev pub Good : {A : Type 0} → Path → Outcome A → Type 0
-  Good p (Done a st) = At p st.world
-  Good p (Trapped k at w) = Kept w
-  Good p (Left l st) = ⊥
+  -- at a context it comes to an end at the same context, where it may also return, or traps, or finishes
+  abbrev pub Good : {A : Type 0} → Bool → Path → Outcome A → Type 0
+  Good may p (Done a st) = At p st.world
+  Good may p (Trapped k at w) = Kept w
+  Good may p (Left (m.Returned r) st) = (may ≡ true) × At p st.world
+  Good may p (Left (m.Finished r) st) = Kept st.world
 
-  abbrev pub Safe : {A : Type 0} → Path → Act A → Type 0
-  Safe p f = (st : State) → At p st.world → Good p (f st)
+  abbrev pub Safe : {A : Type 0} → Bool → Path → Act A → Type 0
+  Safe may p f = (st : State) → At p st.world → Good may p (f st)
 
   -- one after the other, the first at another context
-  pub then_at : {A B : Type 0} (p q : Path) (o : Outcome A) (f : A → Act B) → Good q o → ((a : A) (st : State) → At q st.world → Good p (f a st)) → Good p (and_then o f)
-  then_at p q (Done a st) f h k = k a st h
-  then_at p q (Trapped k at w) f h go = h
-  then_at p q (Left l st) f h k = h
+  pub then_at : {A B : Type 0} (may : Bool) (p q : Path) (o : Outcome A) (f : A → Act B) → Good false q o → ((a : A) (st : State) → At q st.world → Good may p (f a st)) → Good may p (and_then o f)
+  then_at may p q (Done a st) f h k = k a st h
+  then_at may p q (Trapped k at w) f h go = h
+  then_at may p q (Left (m.Returned r) st) f h k = absurd (false_not h.0)
+  then_at may p q (Left (m.Finished r) st) f h k = h
 
-  pub safe_then : {A B : Type 0} (p : Path) (o : Outcome A) (f : A → Act B) → Good p o → ((a : A) → Safe p (f a)) → Good p (and_then o f)
-  safe_then p o f h k = then_at p p o f h k
+  pub safe_then : {A B : Type 0} (may : Bool) (p : Path) (o : Outcome A) (f : A → Act B) → Good may p o → ((a : A) → Safe may p (f a)) → Good may p (and_then o f)
+  safe_then may p (Done a st) f h k = k a st h
+  safe_then may p (Trapped t at w) f h k = h
+  safe_then may p (Left (m.Returned r) st) f h k = h
+  safe_then may p (Left (m.Finished r) st) f h k = h
 
-  pub safe_answer : (p : Path) (a : Answer Value) (at : Span) → Safe p (answer a at)
-  safe_answer p (Ok v) at st h = h
-  safe_answer p (Err k) at st h = h.0
+  pub safe_answer : (may : Bool) (p : Path) (a : Answer Value) (at : Span) → Safe may p (answer a at)
+  safe_answer may p (Ok v) at st h = h
+  safe_answer may p (Err k) at st h = h.0
 
-  pub safe_choose : {A : Type 0} (p : Path) (b : Bool) (x y : Act A) → Safe p x → Safe p y → Safe p (choose b x y)
-  safe_choose p true x y h k = h
-  safe_choose p false x y h k = k
+  pub safe_choose : {A : Type 0} (may : Bool) (p : Path) (b : Bool) (x y : Act A) → Safe may p x → Safe may p y → Safe may p (choose b x y)
+  safe_choose may p true x y h k = h
+  safe_choose may p false x y h k = k
 
-  pub safe_demand : (p : Path) (b : Bool) (at : Span) → Safe p (demand b at)
-  safe_demand p true at st h = h
-  safe_demand p false at st h = h.0
+  pub safe_demand : (may : Bool) (p : Path) (b : Bool) (at : Span) → Safe may p (demand b at)
+  safe_demand may p true at st h = h
+  safe_demand may p false at st h = h.0
 
-  pub safe_tick : (p : Path) (at : Span) → Safe p (tick at)
-  safe_tick p at st h = by_ticks st.world.ticks
+  pub safe_tick : (may : Bool) (p : Path) (at : Span) → Safe may p (tick at)
+  safe_tick may p at st h = by_ticks st.world.ticks
     where
-      by_ticks : (n : ℕ) → Good p (with_world (took n st.world) at st)
+      by_ticks : (n : ℕ) → Good may p (with_world (took n st.world) at st)
       by_ticks zero = h.0
       by_ticks (suc n) = h
 
@@ -87,7 +96,7 @@ module _ (shape : Shape) (first : Tree (List Value)) (g : ℕ) where
   is_path_at p w h = all_there (λ q. is_path shape q ≡ true) w.tree.paths p h.1 h.0.holds.paths
 
   -- into a child
-  pub enters : (p q : Path) (at : Span) (st : State) → At p st.world → is_path shape q ≡ true → parent_of q ≡ p → Good q (enter_at q at st)
+  pub enters : (p q : Path) (at : Span) (st : State) → At p st.world → is_path shape q ≡ true → parent_of q ≡ p → Good false q (enter_at q at st)
   unfolding entering
   enters p q at st h path parent = by_held (has st.world.held q) refl
     where
@@ -130,16 +139,16 @@ module _ (shape : Shape) (first : Tree (List Value)) (g : ℕ) where
         early = k.early;
       }
 
-      by_room : (b : Bool) → Good q (with_world (if b then Ok (changed (with_entered q w)) else Err Reach) at st)
+      by_room : (b : Bool) → Good false q (with_world (if b then Ok (changed (with_entered q w)) else Err Reach) at st)
       by_room true = (fresh, entered_there shape w.tree k.holds q)
       by_room false = k
 
-      by_held : (b : Bool) → has w.held q ≡ b → Good q (with_world (if b then Ok (changed w) else (if nat_lt (length w.entered) 256 then Ok (changed (with_entered q w)) else Err Reach)) at st)
+      by_held : (b : Bool) → has w.held q ≡ b → Good false q (with_world (if b then Ok (changed w) else (if nat_lt (length w.entered) 256 then Ok (changed (with_entered q w)) else Err Reach)) at st)
       by_held true e = (k, all_there (λ r. there w.tree r ≡ true) w.held q e k.held_there)
       by_held false e = by_room (nat_lt (length w.entered) 256)
 
   -- into a child of a class that stands below this one's
-  pub enters_child : (p : Path) (class : ℕ) (key : Value) (at : Span) (st : State) → At p st.world → IsChildClass shape (class_of p) class → Good (child p class key) (enter_at (child p class key) at st)
+  pub enters_child : (p : Path) (class : ℕ) (key : Value) (at : Span) (st : State) → At p st.world → IsChildClass shape (class_of p) class → Good false (child p class key) (enter_at (child p class key) at st)
   enters_child p class key at st h kid =
       let s : Step = record { class = record { 0 = class }; key = key_of key } in
       enters p (p ++ s ∷ []) at st h (is_path-child shape p s (is_path_at p st.world h) kid) (parent_of-child p s)
@@ -181,17 +190,17 @@ module _ (shape : Shape) (first : Tree (List Value)) (g : ℕ) where
     h.1,
   )
 
-  pub sends : (p : Path) (label : List ℕ) (value : Value) (at : Span) (st : State) → At p st.world → Good p (with_world (sending label value st.world) at st)
+  pub sends : (may : Bool) (p : Path) (label : List ℕ) (value : Value) (at : Span) (st : State) → At p st.world → Good may p (with_world (sending label value st.world) at st)
   unfolding sending
-  sends p label value at st h = by_room (nat_lt (length st.world.messages) 64)
+  sends may p label value at st h = by_room (nat_lt (length st.world.messages) 64)
     where
-      by_room : (b : Bool) → Good p (with_world (if b then Ok (record st.world { messages = st.world.messages ++ record { label = label; value = value } ∷ [] }) else Err Sends) at st)
+      by_room : (b : Bool) → Good may p (with_world (if b then Ok (record st.world { messages = st.world.messages ++ record { label = label; value = value } ∷ [] }) else Err Sends) at st)
       by_room true = h
       by_room false = h.0
 
-  pub spawns : (p : Path) (event : ℕ) (args : List Value) (at : Span) (st : State) → g ≤ 4 → At p st.world → Good p (with_world (spawning event args st.world) at st)
+  pub spawns : (may : Bool) (p : Path) (event : ℕ) (args : List Value) (at : Span) (st : State) → g ≤ 4 → At p st.world → Good may p (with_world (spawning event args st.world) at st)
   unfolding spawning
-  spawns p event args at st old h = by_last (w.generation == 4) refl
+  spawns may p event args at st old h = by_last (w.generation == 4) refl
     where
       w : World
       w = st.world
@@ -218,26 +227,28 @@ module _ (shape : Shape) (first : Tree (List Value)) (g : ℕ) where
             early = All-append IsEarly w.created (made ∷ []) k.early (All-cons IsEarly made [] below (All-nil IsEarly));
           }
 
-      by_room : (b : Bool) → w.generation ≢ 4 → nat_lt (length w.created) 4 ≡ b → Good p (with_world (if b then Ok (record w { created = w.created ++ made ∷ [] }) else Err Spawns) at st)
+      by_room : (b : Bool) → w.generation ≢ 4 → nat_lt (length w.created) 4 ≡ b → Good may p (with_world (if b then Ok (record w { created = w.created ++ made ∷ [] }) else Err Spawns) at st)
       by_room true last e = (more last e, h.1)
       by_room false last e = k
 
-      by_last : (b : Bool) → (w.generation == 4) ≡ b → Good p (with_world (if b then Err Generation else (if nat_lt (length w.created) 4 then Ok (record w { created = w.created ++ made ∷ [] }) else Err Spawns)) at st)
+      by_last : (b : Bool) → (w.generation == 4) ≡ b → Good may p (with_world (if b then Err Generation else (if nat_lt (length w.created) 4 then Ok (record w { created = w.created ++ made ∷ [] }) else Err Spawns)) at st)
       by_last true e = k
       by_last false e = by_room (nat_lt (length w.created) 4) (λ s. grind (arith, nat_tests)) refl
 
-  -- ends at some context, or traps
+  -- ends at some context, early or not, or traps
   abbrev pub Ends : Outcome (Option Value) → Type 0
   Ends (Done r st) = Kept st.world
   Ends (Trapped k at w) = Kept w
-  Ends (Left l st) = ⊥
+  Ends (Left l st) = Kept st.world
 
-  pub ends_good : (p : Path) (o : Outcome (Option Value)) → Good p o → Ends o
-  ends_good p (Done r st) h = h.0
-  ends_good p (Trapped k at w) h = h
-  ends_good p (Left l st) h = h
+  pub ends_good : (may : Bool) (p : Path) (o : Outcome (Option Value)) → Good may p o → Ends o
+  ends_good may p (Done r st) h = h.0
+  ends_good may p (Trapped k at w) h = h
+  ends_good may p (Left (m.Returned r) st) h = h.1.0
+  ends_good may p (Left (m.Finished r) st) h = h
 
-  pub ends_then : {A : Type 0} (p : Path) (o : Outcome A) (f : A → Act (Option Value)) → Good p o → ((a : A) (st : State) → At p st.world → Ends (f a st)) → Ends (and_then o f)
-  ends_then p (Done a st) f h k = k a st h
-  ends_then p (Trapped k at w) f h go = h
-  ends_then p (Left l st) f h k = h
+  pub ends_then : {A : Type 0} (may : Bool) (p : Path) (o : Outcome A) (f : A → Act (Option Value)) → Good may p o → ((a : A) (st : State) → At p st.world → Ends (f a st)) → Ends (and_then o f)
+  ends_then may p (Done a st) f h k = k a st h
+  ends_then may p (Trapped k at w) f h go = h
+  ends_then may p (Left (m.Returned r) st) f h k = h.1.0
+  ends_then may p (Left (m.Finished r) st) f h k = h

@@ -17,11 +17,13 @@ use Rattle.wave_base.specs.Tree.{Tree, there}
 use Rattle.resolved_service.specs.declared.service.Event.{Event}
 use Rattle.resolved_service.specs.declared.service.Resolved.{Resolved}
 use Rattle.resolved_service.specs.Fits.{FitsService, FitsEvent}
-use Rattle.resolved_service.specs.Jobs.{call_meaning, meant_by, meant_event, first_world, replied}
+use Rattle.resolved_service.specs.Jobs.{call_meaning, meant_by, meant_event, first_world, replied, ended}
+use Rattle.resolved_service.specs.Meaning as m
+use Rattle.resolved_service.specs.World.{World}
 use Rattle.resolved_service.specs.Meaning.{Outcome, Done, Trapped, Left, event_run}
 use Rattle.service_eval.specs.Worlds.{Holds}
 use Rattle.meaning_laws.specs.Kept.{IsEarly, IsKept}
-use Rattle.meaning_laws.proofs.Keeping.{At, Ends}
+use Rattle.meaning_laws.proofs.Keeping.{At, Kept, Ends}
 use Rattle.meaning_laws.proofs.Safely.{ends_event}
 
 module _ (shape : Shape) (t : Tree (List Value)) (g : ℕ) where
@@ -29,16 +31,21 @@ module _ (shape : Shape) (t : Tree (List Value)) (g : ℕ) where
   no_move None messages created = refl
   no_move (Some x) messages created = refl
 
-  kept_by : (o : Outcome (Option Value)) → Ends shape t g o → IsKept shape t g (meant_by o)
-  kept_by (Done reply st) h = record {
+  ends_kept : (reply : Option Value) (w : World) → Kept shape t g w → IsKept shape t g (ended reply w)
+  ends_kept reply w h = record {
     tree = h.holds;
     early = h.early;
     few = h.few;
     later = h.later;
     joined = h.joined;
     ordered = h.ordered;
-    unmoved = no_move reply st.world.messages st.world.created;
+    unmoved = no_move reply w.messages w.created;
   }
+
+  kept_by : (o : Outcome (Option Value)) → Ends shape t g o → IsKept shape t g (meant_by o)
+  kept_by (Done reply st) h = ends_kept reply st.world h
+  kept_by (Left (m.Returned reply) st) h = ends_kept reply st.world h
+  kept_by (Left (m.Finished reply) st) h = ends_kept reply st.world h
   kept_by (Trapped k at w) h = record {
     tree = h.holds;
     early = All-nil IsEarly;
@@ -48,7 +55,6 @@ module _ (shape : Shape) (t : Tree (List Value)) (g : ℕ) where
     ordered = h.ordered;
     unmoved = refl;
   }
-  kept_by (Left l st) h = absurd h
 
 or_false : (a : Bool) → (a || false) ≡ a
 or_false true = refl

@@ -79,6 +79,7 @@ fn service(alloc: Global) -> Result<Service, OutOfMemory> {
     Ok(Service {
         at: at(1),
         name: name(alloc, 1, b"S")?,
+        version: 1,
         vars: Seq::from_vec(one(alloc, var)?),
         contexts: Seq::from_vec(one(alloc, outer(alloc)?)?),
         methods,
@@ -168,7 +169,9 @@ fn classes_know_those_above_them(rt: HostRuntime) -> Result<(), Fail> {
     if tables.method_count() > 0 {
         assert_eq!(rt; tables.signature(0).class, 2);
     }
-    assert_eq!(rt; tables.operators().builtin(b"sizes"), None);
+    let num = Txt::from_bytes(rt.alloc(), b"num")?;
+    assert_eq!(rt; tables.builtin(&num), None);
+    assert_eq!(rt; tables.operators().builtin_2(b"num"), Some(33));
     assert_eq!(rt; tables.into_shape().classes.as_slice().len(), 3);
     Ok(())
 }

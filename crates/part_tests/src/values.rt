@@ -8,7 +8,10 @@ use std::alloc::Global;
 use std::process::Abort;
 use std::test::Fail;
 use value_ops::rows::*;
-use value_ops::{OpError, apply, apply_ints, compare_texts, find, put_pair, read_map, wave_ops};
+use value_ops::{
+    OpError, apply, apply_ints, compare_texts, find, put_pair, read_map, read_text, sum_up,
+    wave_ops, wave_ops_2,
+};
 use wave_base::{Kind, OPERATORS, PutError, TABLE_PAIRS, Table, TrapKind, Txt, Value};
 
 const LEAST: i64 = -9223372036854775808;
@@ -118,6 +121,8 @@ fn rows_of_ints(rt: HostRuntime) -> Result<(), Fail> {
     of_ints(&rt, alloc, LE, 3, 3, flag(true));
     of_ints(&rt, alloc, GT, 3, 3, flag(false));
     of_ints(&rt, alloc, GE, LEAST, GREATEST, flag(false));
+    of_ints(&rt, alloc, MIN, LEAST, GREATEST, int(LEAST));
+    of_ints(&rt, alloc, MAX, LEAST, GREATEST, int(GREATEST));
     assert!(rt; apply_ints(DIV, 7, -2) == Ok(Value::Int(-3)));
     Ok(())
 }
@@ -127,11 +132,15 @@ fn rows_of_ints(rt: HostRuntime) -> Result<(), Fail> {
 fn rows_of_one_operand(rt: HostRuntime) -> Result<(), Fail> {
     let alloc = rt.alloc();
     assert!(rt; apply(alloc, NEG, &[Value::Int(LEAST)]) == trap(TrapKind::Overflow));
+    assert!(rt; apply(alloc, ABS, &[Value::Int(LEAST)]) == trap(TrapKind::Overflow));
+    assert!(rt; apply(alloc, ABS, &[Value::Int(-GREATEST)]) == int(GREATEST));
     assert!(rt; apply(alloc, NOT, &[Value::Bool(true)]) == flag(false));
     assert!(rt; apply(alloc, BEQ, &[Value::Bool(false), Value::Bool(false)]) == flag(true));
     assert!(rt; apply(alloc, BNE, &[Value::Bool(false), Value::Bool(false)]) == flag(false));
     assert!(rt; apply(alloc, SIZE, &[Value::Map(sample(alloc)?)]) == int(2));
     assert!(rt; apply(alloc, LEN, &[Value::Str(digits(alloc, LEAST)?)]) == int(20));
+    assert!(rt; apply(alloc, SUM, &[Value::Map(sample(alloc)?)]) == int(9));
+    assert!(rt; apply(alloc, NUM, &[Value::Str(digits(alloc, LEAST)?)]) == int(LEAST));
     Ok(())
 }
 
@@ -143,6 +152,8 @@ fn rows_of_texts(rt: HostRuntime) -> Result<(), Fail> {
     assert!(rt; of_texts(alloc, TNE, 7, 7) == flag(false));
     assert!(rt; of_texts(alloc, TLT, 10, 9) == flag(true));
     assert!(rt; of_texts(alloc, CAT, -12, 34) == text(alloc, -1234));
+    assert!(rt; of_texts(alloc, STARTS, -12, -1) == flag(true));
+    assert!(rt; of_texts(alloc, STARTS, -1, -12) == flag(false));
     assert!(rt; part_of(alloc, 12345, 1, 3) == text(alloc, 23));
     assert!(rt; part_of(alloc, 12, 1, 3) == trap(TrapKind::Absent));
     let one = digits(alloc, 1)?;
@@ -179,6 +190,32 @@ fn rows_of_maps(rt: HostRuntime) -> Result<(), Fail> {
     Ok(())
 }
 
+// A sum is an int or none at its end, whatever it was on the way.
+#[test]
+#[tactic(auto, unfolding(value_ops::specs::Operators::takes_of, value_ops::specs::Operators::operators))]
+fn sums_pass_on_the_way(rt: HostRuntime) -> Result<(), Fail> {
+    let mut map = Table::new(rt.alloc());
+    map.put(0, GREATEST)?;
+    map.put(1, GREATEST)?;
+    assert!(rt; sum_up(SUM, &map) == Err(TrapKind::Overflow));
+    map.put(2, -GREATEST)?;
+    assert!(rt; sum_up(SUM, &map) == Ok(Value::Int(GREATEST)));
+    Ok(())
+}
+
+#[test]
+#[tactic(auto, unfolding(value_ops::specs::Operators::takes_of, value_ops::specs::Operators::operators))]
+fn texts_that_write_numbers(rt: HostRuntime) -> Result<(), Fail> {
+    let alloc = rt.alloc();
+    let past = Txt::from_bytes(alloc, b"9223372036854775808")?;
+    assert!(rt; read_text(NUM, &past) == Err(TrapKind::Overflow));
+    let zeros = Txt::from_bytes(alloc, b"-007")?;
+    assert!(rt; read_text(NUM, &zeros) == Ok(Value::Int(-7)));
+    let alone = Txt::from_bytes(alloc, b"-")?;
+    assert!(rt; read_text(NUM, &alone) == Err(TrapKind::Absent));
+    Ok(())
+}
+
 // A map takes a thousand pairs, and then no further key.
 #[test]
 #[tactic(auto, unfolding(value_ops::specs::Operators::takes_of, value_ops::specs::Operators::operators))]
@@ -201,6 +238,8 @@ fn builtins_by_name(rt: HostRuntime) -> Result<(), Fail> {
     let ops = wave_ops();
     assert!(rt; find(&ops, b"part") == Some(27));
     assert!(rt; find(&ops, b"put").is_none());
+    assert!(rt; find(&ops, b"num").is_none());
+    assert!(rt; find(&wave_ops_2(), b"num") == Some(NUM));
     let row = ops.row(19);
     assert!(rt; row.name == b"at".as_slice());
     assert!(rt; row.takes == [Some(Kind::Map), Some(Kind::Int), None]);

@@ -1,5 +1,5 @@
 -- With as much fuel as there are ticks, more fuel makes no difference.
-use Rattle.std.proofs.Common.{◌≡◌, ℕ, zero, suc, ◌+◌, ◌≤◌, pos, Bool, true, false, nat_lt, ◌==◌, if◌then◌else◌, List, [], ◌∷◌, ◌++◌, length, get_or, slice_set, slice_get, Option, Some, None, Ok, Err, refl, ap, subst, arith}
+use Rattle.std.proofs.Common.{◌≡◌, ℕ, zero, suc, ◌≤◌, pos, Bool, true, false, nat_lt, ◌==◌, if◌then◌else◌, List, [], ◌∷◌, ◌++◌, length, get_or, slice_get, Option, Some, None, Ok, Err, refl, ap, subst, arith}
 use Rattle.wave_base.specs.declared.limits.TheConstants.{CONTEXTS, MESSAGES, SPAWNS, GENERATION}
 use Rattle.wave_base.specs.declared.path.Path.{Path}
 use Rattle.wave_base.specs.declared.span.Span.{Span}
@@ -12,10 +12,10 @@ use Rattle.resolved_service.specs.declared.service.Event.{Event}
 use Rattle.resolved_service.specs.declared.service.Last.{Last}
 use Rattle.resolved_service.specs.declared.service.Method.{Method}
 use Rattle.resolved_service.specs.declared.service.Phase.{Phase}
-use Rattle.resolved_service.specs.Meaning.{State, Leave, Returned, Finished, Outcome, Done, Trapped, Left, Act, and_then, ◌>>=◌, ◌>>◌, give, answer, with_world, tick, enter_at, choose, set_local, put_field, demand, row_add, row_put, row_cut, worth, value, values, while_turns, for_test, for_body, effect, effects, else_effect, last_value, with_locals, with_blanks, run_method, called, phases_run, event_run}
-use Rattle.resolved_service.specs.Steps.{Step, SetLocal, SetField, PutLocal, PutField, CutLocal, CutField, If, While, For, Require, Send, Spawn, Do, Steps, no_steps, step, Else, no_else, otherwise, steps_in}
+use Rattle.resolved_service.specs.Meaning.{State, Returned, Finished, Outcome, Done, Trapped, Left, Act, and_then, ◌>>=◌, ◌>>◌, give, answer, with_world, tick, enter_at, choose, set_local, put_field, demand, leave, row_add, row_put, row_cut, worth, value, values, while_turns, for_test, for_body, maybe_value, effect, effects, else_effect, last_value, with_locals, with_blanks, run_method, called, phases_run, event_run}
+use Rattle.resolved_service.specs.Steps.{Step, SetLocal, SetField, PutLocal, PutField, CutLocal, CutField, If, While, For, Require, Send, Spawn, Do, Return, Finish, Steps, no_steps, step, Else, no_else, otherwise, steps_in}
 use Rattle.resolved_service.specs.View.{Tree, Const, Local, Field, Above, Op, And, Or, Call, Child, Trees, no_trees, tree, tree_of}
-use Rattle.resolved_service.specs.World.{World, nothing, is_true, child, took, ticking, changed, with_entered, has, entering, releasing, sending, spawning, read_field, set_field}
+use Rattle.resolved_service.specs.World.{World, nothing, is_true, child, took, changed, with_entered, has, entering, sending, spawning, read_field, set_field}
 
 -- at most so many ticks are left
 abbrev Few : {A : Type 0} → ℕ → Outcome A → Type 0
@@ -159,6 +159,10 @@ module _ (call call' : ℕ → Path → List Value → Act (Option Value)) (k : 
           then_like j (value call p t st) (value call' p t st) _ _ (value_like t j l st h) (λ v st h. then_like j (values call p ts st) (values call' p ts st) _ _ (values_like ts j l st h) (λ vs. give_like j (v ∷ vs)))
 
     module _ (n n' : ℕ) (few : k ≤ n) (few' : k ≤ n') where
+      maybe_like : (e : Option Tree) (j : ℕ) → j ≤ k → Like j (maybe_value call n p e) (maybe_value call' n' p e)
+      maybe_like None j l st h = (refl, h)
+      maybe_like (Some e) j l st h = then_like j (value call p e st) (value call' p e st) _ _ (value_like e j l st h) (λ x. give_like j (Some x))
+
       mutual
         unfolding set_field read_field
 
@@ -186,6 +190,8 @@ module _ (call call' : ℕ → Path → List Value → Act (Option Value)) (k : 
         effect_like (Send at label e) j l st h = then_like j (value call p e st) (value call' p e st) _ _ (value_like e j l st h) (λ x. send_like j label x at)
         effect_like (Spawn at event ts) j l st h = then_like j (values call p ts st) (values call' p ts st) _ _ (values_like ts j l st h) (λ given. spawn_like j event given at)
         effect_like (Do at e) j l st h = then_like j (value call p e st) (value call' p e st) _ _ (value_like e j l st h) (λ v. give_like j tt)
+        effect_like (Return at e) j l st h = then_like j (maybe_value call n p e st) (maybe_value call' n' p e st) (leave Returned) (leave Returned) (maybe_like e j l st h) (λ r st h. (refl, h))
+        effect_like (Finish at e) j l st h = then_like j (maybe_value call n p e st) (maybe_value call' n' p e st) (leave Finished) (leave Finished) (maybe_like e j l st h) (λ r st h. (refl, h))
 
         effects_like : (ss : Steps) (j : ℕ) → j ≤ k → Like j (effects call n p ss) (effects call' n' p ss)
         effects_like no_steps j l st h = (refl, h)

@@ -7,7 +7,7 @@ use Rattle.resolved_service.specs.declared.service.Last.{Last}
 use Rattle.resolved_service.specs.declared.service.Method.{Method}
 use Rattle.resolved_service.specs.declared.service.Phase.{Phase}
 use Rattle.resolved_service.specs.declared.service.Resolved.{Resolved}
-use Rattle.resolved_service.specs.Steps.{Step, SetLocal, SetField, PutLocal, PutField, CutLocal, CutField, If, While, For, Require, Send, Spawn, Do, Steps, no_steps, step, Else, no_else, otherwise, steps_in}
+use Rattle.resolved_service.specs.Steps.{Step, SetLocal, SetField, PutLocal, PutField, CutLocal, CutField, If, While, For, Require, Send, Spawn, Do, Return, Finish, Steps, no_steps, step, Else, no_else, otherwise, steps_in}
 use Rattle.resolved_service.specs.View.{Tree, Const, Local, Field, Above, Op, And, Or, Call, Child, Trees, no_trees, tree, tree_of}
 
 abbrev pub count_of : Trees → ℕ
@@ -47,6 +47,10 @@ module _ (shape : Shape) (methods : List Method) where
       FitsTrees no_trees = Unit {0}
       FitsTrees (tree t ts) = FitsTree t × FitsTrees ts
 
+    abbrev pub FitsMaybe : Option Tree → Type 0
+    FitsMaybe None = Unit {0}
+    FitsMaybe (Some e) = FitsTree e
+
     abbrev mutual
       pub FitsStep : Step → Type 0
       FitsStep (SetLocal at slot e) = FitsTree e
@@ -62,6 +66,8 @@ module _ (shape : Shape) (methods : List Method) where
       FitsStep (Send at label e) = FitsTree e
       FitsStep (Spawn at event args) = FitsTrees args
       FitsStep (Do at e) = FitsTree e
+      FitsStep (Return at e) = FitsMaybe e
+      FitsStep (Finish at e) = FitsMaybe e
 
       pub FitsSteps : Steps → Type 0
       FitsSteps no_steps = Unit {0}

@@ -14,7 +14,7 @@ use Rattle.resolved_service.specs.declared.service.Event.{Event}
 use Rattle.resolved_service.specs.declared.service.Last.{Last}
 use Rattle.resolved_service.specs.declared.service.Method.{Method}
 use Rattle.resolved_service.specs.declared.service.Phase.{Phase}
-use Rattle.resolved_service.specs.Steps.{Step, SetLocal, SetField, PutLocal, PutField, CutLocal, CutField, If, While, For, Require, Send, Spawn, Do, Steps, no_steps, step, Else, no_else, otherwise, steps_in}
+use Rattle.resolved_service.specs.Steps.{Step, SetLocal, SetField, PutLocal, PutField, CutLocal, CutField, If, While, For, Require, Send, Spawn, Do, Return, Finish, Steps, no_steps, step, Else, no_else, otherwise, steps_in}
 use Rattle.resolved_service.specs.View.{Tree, Const, Local, Field, Above, Op, And, Or, Call, Child, Trees, no_trees, tree, tree_of}
 use Rattle.resolved_service.specs.World.{World, blank_of, nothing, is_true, child, ticking, changed, entering, releasing, sending, spawning, read_field, read_above, set_field}
 
@@ -96,6 +96,10 @@ abbrev pub demand : Bool → Span → Act (Unit {0})
 demand true at st = Done tt st
 demand false at st = Trapped trap.Require at st.world
 
+-- the rest of a body is left out
+abbrev pub leave : (Option Value → Leave) → Option Value → Act (Unit {0})
+leave why r st = Left (why r) st
+
 -- what a call is worth as an operand: a checked one has a value
 abbrev pub worth : Option Value → Value
 worth r = unwrap_or r nothing
@@ -170,6 +174,11 @@ module _ (counter : ℕ) (at : Span) where
 -- ---- statements at a path, where each loop makes at most n turns
 
 module _ (call : ℕ → Path → List Value → Act (Option Value)) (n : ℕ) (p : Path) where
+  -- a value that may be left out
+  abbrev pub maybe_value : Option Tree → Act (Option Value)
+  maybe_value None = give None
+  maybe_value (Some e) = value call p e >>= (λ x. give (Some x))
+
   abbrev mutual
     pub effect : Step → Act (Unit {0})
     effect (SetLocal at slot e) = value call p e >>= set_local slot
@@ -210,6 +219,8 @@ module _ (call : ℕ → Path → List Value → Act (Option Value)) (n : ℕ) (
     effect (Send at label e) = value call p e >>= (λ x st. with_world (sending label x st.world) at st)
     effect (Spawn at event args) = values call p args >>= (λ given st. with_world (spawning event given st.world) at st)
     effect (Do at e) = value call p e >> give tt
+    effect (Return at e) = maybe_value e >>= leave Returned
+    effect (Finish at e) = maybe_value e >>= leave Finished
 
     pub effects : Steps → Act (Unit {0})
     effects no_steps = give tt

@@ -1,5 +1,6 @@
 -- Resolved statements as contracts see them: no pointers.
-use Rattle.std.specs.Prelude.{ℕ, List, [], ◌∷◌, map}
+use Rattle.std.specs.Prelude.{ℕ, Bool, true, false, ◌&&◌, List, [], ◌∷◌, map, Option}
+use Rattle.std.specs.Option.{option_map}
 use Rattle.wave_base.specs.declared.span.Span.{Span}
 use Rattle.resolved_service.specs.View.{Tree, Trees, tree_of, trees_of}
 use Rattle.resolved_service.specs.declared.stmt.Stmt.{Stmt}
@@ -21,6 +22,8 @@ mutual
     Send : (at : Span) (label : List ℕ) (value : Tree) → Step
     Spawn : (at : Span) (event : ℕ) (args : Trees) → Step
     Do : (at : Span) (call : Tree) → Step
+    Return : (at : Span) (value : Option Tree) → Step
+    Finish : (at : Span) (value : Option Tree) → Step
 
   pub data Steps : Type 0 where
     no_steps : Steps
@@ -45,6 +48,8 @@ abbrev mutual
   action_step (action.Send t e) at = Send at t (tree_of e)
   action_step (action.Spawn n es) at = Spawn at n (trees_of (map tree_of es.items))
   action_step (action.Do e) at = Do at (tree_of e)
+  action_step (action.Return e) at = Return at (option_map tree_of e)
+  action_step (action.Finish e) at = Finish at (option_map tree_of e)
 
   pub row_steps : {m : _} → Row_of-Stmt m → Steps
   row_steps end_of-Stmt = no_steps
@@ -63,3 +68,19 @@ steps_of (s ∷ ss) = step s (steps_of ss)
 
 abbrev pub steps_in : List Stmt → Steps
 steps_in stmts = steps_of (map step_of stmts)
+
+-- ---- whether nothing can come behind
+
+abbrev mutual
+  -- a `return`, a `finish`, or an `if` both of whose blocks surely end
+  pub is_end : Step → Bool
+  is_end (Return at value) = true
+  is_end (Finish at value) = true
+  is_end (If at test body (otherwise other)) = surely_ends body && surely_ends other
+  is_end _ = false
+
+  -- statements surely end where the last one does
+  pub surely_ends : Steps → Bool
+  surely_ends no_steps = false
+  surely_ends (step s no_steps) = is_end s
+  surely_ends (step s (step t ss)) = surely_ends (step t ss)

@@ -34,4 +34,8 @@ pub enum Action {
     Spawn(u16, Vec<Expr>),
     /// A call whose value, if any, is dropped.
     Do(Expr),
+    /// Ends the method, with the value that it returns, if any.
+    Return(Option<Expr>),
+    /// Ends the event, with its reply, if any.
+    Finish(Option<Expr>),
 }

@@ -1,17 +1,17 @@
 -- The phases of an event, one after the other.
-use Rattle.std.proofs.Common.{◌≡◌, ℕ, ◌+◌, ◌<◌, List, [], ◌∷◌, ◌++◌, length, take, get_or, Option, refl, sym, ap, ◌∙◌, arith, append_assoc, length-append}
+use Rattle.std.proofs.Common.{◌≡◌, ℕ, zero, suc, ◌+◌, ◌<◌, Bool, List, [], ◌∷◌, ◌++◌, length, take, get_or, Option, refl, sym, ap, ◌∙◌, arith, append_assoc, length-append}
 use Rattle.wave_base.specs.declared.span.Span.{Span}
 use Rattle.resolved_service.specs.declared.service.Event.{Event}
 use Rattle.resolved_service.specs.declared.service.Last.{Last}
 use Rattle.resolved_service.specs.declared.service.Method.{Method}
 use Rattle.resolved_service.specs.declared.service.Phase.{Phase}
-use Rattle.resolved_service.specs.Steps.{steps_in}
+use Rattle.resolved_service.specs.Steps.{steps_in, surely_ends}
 use Rattle.resolved_service.specs.View.{tree_of}
 use Rattle.service_code.specs.declared.instr.Instr.TheVariants as i
 use Rattle.code_scheme.specs.declared.line.Line.{Line}
 use Rattle.code_scheme.specs.Scheme.{line, tree_code, steps_code, return_code, reply_code, phases_code, method_code, event_code}
 use Rattle.code_scheme.specs.Texts.{Text}
-use Rattle.service_compiler.specs.inner.Fronts.{phase_code, phases_front}
+use Rattle.service_compiler.specs.inner.Fronts.{phase_code, phases_front, ended_behind}
 use Rattle.service_compiler.specs.Wrapped.{wrapped}
 use Rattle.service_compiler.proofs.Emits.{emits_then, emits_one}
 use Rattle.service_compiler.proofs.Notes.{item_more}
@@ -49,38 +49,49 @@ module _ (methods : List Method) (texts : List Text) where
       ∙ ap (λ x. base ++ wrapped x) (append_assoc ck (l ∷ []) (steps_code methods texts (length base + length ck + 1) (steps_in f.body)))
 
   -- all phases, and the reply
-  whole_front : (fs : List Phase) (n : ℕ) (at : Span) (last : Option Last) → phases_front methods texts n fs ++ reply_code methods texts (n + length (phases_front methods texts n fs)) at last ≡ phases_code methods texts n fs at last
-  whole_front [] n at last = let e : n + 0 ≡ n = omega arith in ap (λ m. reply_code methods texts m at last) e
-  whole_front (f ∷ fs) n at last =
+  whole_front : (fs : List Phase) (ended : Bool) (n : ℕ) (at : Span) (last : Option Last) → phases_front methods texts n fs ++ reply_code methods texts (n + length (phases_front methods texts n fs)) at (ended_behind ended fs) last ≡ phases_code methods texts n ended fs at last
+  whole_front [] ended n at last = let e : n + 0 ≡ n = omega arith in ap (λ m. reply_code methods texts m at ended last) e
+  whole_front (f ∷ fs) ended n at last =
       let ck = tree_code methods texts n (tree_of f.key) in
       let cb = steps_code methods texts (n + length ck + 1) (steps_in f.body) in
+      let on = surely_ends (steps_in f.body) in
       let l = line (i.Go f.class) f.at in
       let cf = ck ++ l ∷ cb in
       let cs = phases_front methods texts (n + length cf) fs in
       let p : n + length cf ≡ n + length ck + 1 + length cb = omega (arith, length-append ck (l ∷ cb)) in
       let e : n + length (cf ++ cs) ≡ n + length cf + length cs = omega (arith, length-append cf cs) in
-      ap (λ m. (cf ++ cs) ++ reply_code methods texts m at last) e
-      ∙ append_assoc cf cs (reply_code methods texts (n + length cf + length cs) at last)
-      ∙ ap (λ x. cf ++ x) (whole_front fs (n + length cf) at last ∙ ap (λ m. phases_code methods texts m fs at last) p)
-      ∙ append_assoc ck (l ∷ cb) (phases_code methods texts (n + length ck + 1 + length cb) fs at last)
+      ap (λ m. (cf ++ cs) ++ reply_code methods texts m at (ended_behind on fs) last) e
+      ∙ append_assoc cf cs (reply_code methods texts (n + length cf + length cs) at (ended_behind on fs) last)
+      ∙ ap (λ x. cf ++ x) (whole_front fs on (n + length cf) at last ∙ ap (λ m. phases_code methods texts m on fs at last) p)
+      ∙ append_assoc ck (l ∷ cb) (phases_code methods texts (n + length ck + 1 + length cb) on fs at last)
 
-  pub method_emitted : (c0 c1 c2 : List Line) (m : Method) → c0 ≡ [] → c1 ≡ c0 ++ wrapped (steps_code methods texts (length c0) (steps_in m.body)) → c2 ≡ c1 ++ wrapped (return_code methods texts (length c1) m.at m.last) → c2 ≡ wrapped (method_code methods texts m)
+  pub method_emitted : (c0 c1 c2 : List Line) (m : Method) → c0 ≡ [] → c1 ≡ c0 ++ wrapped (steps_code methods texts (length c0) (steps_in m.body)) → c2 ≡ c1 ++ wrapped (return_code methods texts (length c1) m.at (surely_ends (steps_in m.body)) m.last) → c2 ≡ wrapped (method_code methods texts m)
   unfolding method_code
   method_emitted c0 c1 c2 m e0 e1 e2 =
       let cb = steps_code methods texts 0 (steps_in m.body) in
+      let ended = surely_ends (steps_in m.body) in
       let e1' : c1 ≡ [] ++ wrapped cb = e1 ∙ ap (λ c. c ++ wrapped (steps_code methods texts (length c) (steps_in m.body))) e0 in
       let n : 0 + length cb ≡ length cb = omega arith in
-      emits_then [] c1 c2 (λ k. cb) (λ k. return_code methods texts k m.at m.last) e1' e2
-      ∙ ap (λ k. wrapped (cb ++ return_code methods texts k m.at m.last)) n
+      emits_then [] c1 c2 (λ k. cb) (λ k. return_code methods texts k m.at ended m.last) e1' e2
+      ∙ ap (λ k. wrapped (cb ++ return_code methods texts k m.at ended m.last)) n
 
-  pub event_emitted : (c0 c1 c2 c3 : List Line) (x : Event) → c0 ≡ [] → c1 ≡ c0 ++ wrapped (steps_code methods texts (length c0) (steps_in x.here)) → c2 ≡ c1 ++ wrapped (phases_front methods texts (length c1) x.phases) → c3 ≡ c2 ++ wrapped (reply_code methods texts (length c2) x.at x.last) → c3 ≡ wrapped (event_code methods texts x)
+  pub event_emitted : (c0 c1 c2 c3 : List Line) (x : Event) → c0 ≡ [] → c1 ≡ c0 ++ wrapped (steps_code methods texts (length c0) (steps_in x.here)) → c2 ≡ c1 ++ wrapped (phases_front methods texts (length c1) x.phases) → c3 ≡ c2 ++ wrapped (reply_code methods texts (length c2) x.at (ended_behind (surely_ends (steps_in x.here)) x.phases) x.last) → c3 ≡ wrapped (event_code methods texts x)
   unfolding event_code
   event_emitted c0 c1 c2 c3 x e0 e1 e2 e3 =
       let cb = steps_code methods texts 0 (steps_in x.here) in
+      let ended = surely_ends (steps_in x.here) in
       let e1' : c1 ≡ [] ++ wrapped cb = e1 ∙ ap (λ c. c ++ wrapped (steps_code methods texts (length c) (steps_in x.here))) e0 in
       let n : 0 + length cb ≡ length cb = omega arith in
-      let e23 : c3 ≡ c1 ++ wrapped (phases_code methods texts (length c1) x.phases x.at x.last) =
-      emits_then c1 c2 c3 (λ k. phases_front methods texts k x.phases) (λ k. reply_code methods texts k x.at x.last) e2 e3
-      ∙ ap (λ l. c1 ++ wrapped l) (whole_front x.phases (length c1) x.at x.last) in
-      emits_then [] c1 c3 (λ k. cb) (λ k. phases_code methods texts k x.phases x.at x.last) e1' e23
-      ∙ ap (λ k. wrapped (cb ++ phases_code methods texts k x.phases x.at x.last)) n
+      let e23 : c3 ≡ c1 ++ wrapped (phases_code methods texts (length c1) ended x.phases x.at x.last) =
+      emits_then c1 c2 c3 (λ k. phases_front methods texts k x.phases) (λ k. reply_code methods texts k x.at (ended_behind ended x.phases) x.last) e2 e3
+      ∙ ap (λ l. c1 ++ wrapped l) (whole_front x.phases ended (length c1) x.at x.last) in
+      emits_then [] c1 c3 (λ k. cb) (λ k. phases_code methods texts k ended x.phases x.at x.last) e1' e23
+      ∙ ap (λ k. wrapped (cb ++ phases_code methods texts k ended x.phases x.at x.last)) n
+
+-- the last phase tells
+pub last_tells : (fs : List Phase) (n : ℕ) (f : Phase) (ended : Bool) → length fs ≡ suc n → f ≡ get_or fs n f → surely_ends (steps_in f.body) ≡ ended_behind ended fs
+last_tells [] n f ended l at = absurd (omega arith)
+last_tells (g ∷ []) zero f ended l at = ap (λ (x : Phase). surely_ends (steps_in x.body)) at
+last_tells (g ∷ []) (suc n) f ended l at = absurd (omega arith)
+last_tells (g ∷ h ∷ fs) zero f ended l at = absurd (omega arith)
+last_tells (g ∷ h ∷ fs) (suc n) f ended l at = last_tells (h ∷ fs) n f (surely_ends (steps_in g.body)) (omega arith) at

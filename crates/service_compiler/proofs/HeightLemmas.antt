@@ -7,12 +7,12 @@ use Rattle.resolved_service.specs.declared.service.Event.{Event}
 use Rattle.resolved_service.specs.declared.service.Last.{Last}
 use Rattle.resolved_service.specs.declared.service.Method.{Method}
 use Rattle.resolved_service.specs.declared.service.Phase.{Phase}
-use Rattle.resolved_service.specs.Steps.{Step, SetLocal, SetField, PutLocal, PutField, CutLocal, CutField, If, While, For, Require, Send, Spawn, Do, Steps, no_steps, step, Else, no_else, otherwise, steps_in}
+use Rattle.resolved_service.specs.Steps.{Step, SetLocal, SetField, PutLocal, PutField, CutLocal, CutField, If, While, For, Require, Send, Spawn, Do, Return, Finish, Steps, no_steps, step, Else, no_else, otherwise, steps_in, surely_ends}
 use Rattle.resolved_service.specs.View.{Tree, Const, Local, Field, Above, Op, And, Or, Call, Child, Trees, no_trees, tree, tree_of, trees_of}
 use Rattle.service_code.specs.declared.instr.Instr.TheVariants as i
 use Rattle.code_scheme.specs.declared.line.Line.{Line}
-use Rattle.code_scheme.specs.Heights.{one_if, tree_height, trees_height, step_height, steps_height, else_height, last_height, method_height, phases_height, event_height}
-use Rattle.code_scheme.specs.Scheme.{line, leaves_value, pop_code, test_then, two_code, and_code, or_code, if_code, else_code, test_code, turn_code, while_code, loop_at, block_at, tree_code, trees_code, step_code, steps_code, return_code, reply_code, phases_code, method_code, event_code}
+use Rattle.code_scheme.specs.Heights.{one_if, tree_height, trees_height, maybe_height, step_height, steps_height, else_height, last_height, method_height, phases_height, event_height}
+use Rattle.code_scheme.specs.Scheme.{line, leaves_value, finish_instr, behind, pop_code, test_then, two_code, and_code, or_code, if_code, else_code, test_code, turn_code, while_code, loop_at, block_at, tree_code, trees_code, maybe_code, step_code, steps_code, return_code, reply_code, phases_code, method_code, event_code}
 use Rattle.code_scheme.specs.Texts.{Text, place_of_text}
 use Rattle.service_compiler.proofs.Notes.{item_more}
 
@@ -30,14 +30,27 @@ or_long n at ca cb = length-append ca _
 if_long : (n : ℕ) (at : Span) (ct ca : List Line) → length (if_code n at ct ca) ≡ length ct + suc (length ca)
 if_long n at ct ca = length-append ct _
 
-else_long : (n : ℕ) (at : Span) (ct ca cb : List Line) → length (else_code n at ct ca cb) ≡ length ct + suc (length ca + suc (length cb))
-else_long n at ct ca cb = length-append ct _ ∙ ap (λ k. length ct + suc k) (length-append ca _)
+else_long : (n : ℕ) (at : Span) (ct : List Line) (ended : Bool) (ca cb : List Line) → length ct + length ca + length cb ≤ length (else_code n at ct ended ca cb)
+else_long n at ct true ca cb =
+    let e : length (else_code n at ct true ca cb) ≡ length ct + suc (length ca + length cb) = length-append ct _ ∙ ap (λ k. length ct + suc k) (length-append ca cb) in
+    omega (arith, e)
+else_long n at ct false ca cb =
+    let e : length (else_code n at ct false ca cb) ≡ length ct + suc (length ca + suc (length cb)) = length-append ct _ ∙ ap (λ k. length ct + suc k) (length-append ca _) in
+    omega (arith, e)
 
-while_long : (n : ℕ) (at : Span) (ct ca : List Line) → length (while_code n at ct ca) ≡ length ct + suc (suc (length ca + 1))
-while_long n at ct ca = length-append ct _ ∙ ap (λ k. length ct + suc (suc k)) (length-append ca _)
+while_long : (n : ℕ) (at : Span) (ct : List Line) (ended : Bool) (ca : List Line) → length ct + length ca ≤ length (while_code n at ct ended ca)
+while_long n at ct true ca =
+    let e : length (while_code n at ct true ca) ≡ length ct + suc (suc (length ca)) = length-append ct _ in
+    omega (arith, e)
+while_long n at ct false ca =
+    let e : length (while_code n at ct false ca) ≡ length ct + suc (suc (length ca + 1)) = length-append ct _ ∙ ap (λ k. length ct + suc (suc k)) (length-append ca _) in
+    omega (arith, e)
 
-turn_long : (counter : ℕ) (at : Span) (cb : List Line) → length (turn_code counter at cb) ≡ suc (suc (length cb + 4))
-turn_long counter at cb = ap (λ k. suc (suc k)) (length-append cb _)
+turn_long : (counter : ℕ) (at : Span) (ended : Bool) (cb : List Line) → length cb + 2 ≤ length (turn_code counter at ended cb)
+turn_long counter at true cb = omega arith
+turn_long counter at false cb =
+    let e : length (turn_code counter at false cb) ≡ suc (suc (length cb + 4)) = ap (λ k. suc (suc k)) (length-append cb _) in
+    omega (arith, e)
 
 two_long : (a b : List Line) (l : Line) → length (a ++ (b ++ l ∷ [])) ≡ length a + (length b + 1)
 two_long a b l = length-append a _ ∙ ap (λ k. length a + k) (length-append b _)
@@ -108,6 +121,10 @@ module _ (methods : List Method) (texts : List Text) where
       let m = n + length ck in
       omega (arith, two_long ck (tree_code methods texts m e) l, tree_within k n, tree_some k n, tree_within e m)
 
+  maybe_within : (e : Option Tree) (n : ℕ) → maybe_height methods e ≤ length (maybe_code methods texts n e)
+  maybe_within None n = omega arith
+  maybe_within (Some e) n = tree_within e n
+
   mutual
     step_within : (s : Step) (n : ℕ) → step_height methods s ≤ length (step_code methods texts n s)
     step_within (SetLocal at slot e) n = omega (arith, one_long (tree_code methods texts n e) (line (i.Store slot) at), tree_within e n)
@@ -119,24 +136,25 @@ module _ (methods : List Method) (texts : List Text) where
     step_within (If at test body other) n =
         let ct = tree_code methods texts n test in
         let m = n + length ct + 1 in
-        then_within at ct (tree_height methods test) (tree_within test n) (steps_code methods texts m body) (steps_height methods body) (steps_within body m) other n
+        then_within at ct (tree_height methods test) (tree_within test n) (surely_ends body) (steps_code methods texts m body) (steps_height methods body) (steps_within body m) other n
     step_within (While at test body) n =
         let ct = tree_code methods texts n test in
         let m = n + length ct + 1 + 1 in
-        omega (arith, while_long n at ct (steps_code methods texts m body), tree_within test n, steps_within body m)
+        omega (arith, while_long n at ct (surely_ends body) (steps_code methods texts m body), tree_within test n, steps_within body m)
     step_within (For at counter from to body) n =
         let cf = tree_code methods texts n from in
         let m = n + length cf + 1 in
         let ct = tree_code methods texts m to in
         let w = loop_at n (length cf) (length ct) in
         let cb = steps_code methods texts (block_at w) body in
-        let cw = while_code w at (test_code counter at) (turn_code counter at cb) in
+        let ended = surely_ends body in
+        let cw = while_code w at (test_code counter at) ended (turn_code counter at ended cb) in
         omega (
           arith,
           line_long cf (ct ++ line (i.Store (counter + 1)) at ∷ cw) (line (i.Store counter) at),
           line_long ct cw (line (i.Store (counter + 1)) at),
-          while_long w at (test_code counter at) (turn_code counter at cb),
-          turn_long counter at cb,
+          while_long w at (test_code counter at) ended (turn_code counter at ended cb),
+          turn_long counter at ended cb,
           tree_within from n,
           tree_within to m,
           steps_within body (block_at w),
@@ -145,6 +163,8 @@ module _ (methods : List Method) (texts : List Text) where
     step_within (Send at label e) n = omega (arith, one_long (tree_code methods texts n e) (line (i.Send (place_of_text texts label)) at), tree_within e n)
     step_within (Spawn at event args) n = omega (arith, one_long (trees_code methods texts n args) (line (i.Spawn event) at), trees_within args n)
     step_within (Do at e) n = omega (arith, length-append (tree_code methods texts n e) (pop_code (leaves_value methods e) at), tree_within e n)
+    step_within (Return at e) n = omega (arith, one_long (maybe_code methods texts n e) (line i.Return at), maybe_within e n)
+    step_within (Finish at e) n = omega (arith, one_long (maybe_code methods texts n e) (line (finish_instr e) at), maybe_within e n)
 
     steps_within : (ss : Steps) (n : ℕ) → steps_height methods ss ≤ length (steps_code methods texts n ss)
     steps_within no_steps n = omega arith
@@ -152,39 +172,46 @@ module _ (methods : List Method) (texts : List Text) where
         let cs = step_code methods texts n s in
         omega (arith, length-append cs (steps_code methods texts (n + length cs) ss), step_within s n, steps_within ss (n + length cs))
 
-    then_within : (at : Span) (ct : List Line) (h : ℕ) → h ≤ length ct → (ca : List Line) (k : ℕ) → k ≤ length ca → (other : Else) (n : ℕ) → max h (max k (else_height methods other)) ≤ length (test_then methods texts n at ct ca other)
-    then_within at ct h ht ca k ha no_else n = omega (arith, if_long n at ct ca, ht, ha)
-    then_within at ct h ht ca k ha (otherwise ss) n =
-        let m = n + length ct + 1 + length ca + 1 in
-        omega (arith, else_long n at ct ca (steps_code methods texts m ss), ht, ha, steps_within ss m)
+    then_within : (at : Span) (ct : List Line) (h : ℕ) → h ≤ length ct → (ended : Bool) (ca : List Line) (k : ℕ) → k ≤ length ca → (other : Else) (n : ℕ) → max h (max k (else_height methods other)) ≤ length (test_then methods texts n at ct ended ca other)
+    then_within at ct h ht ended ca k ha no_else n = omega (arith, if_long n at ct ca, ht, ha)
+    then_within at ct h ht ended ca k ha (otherwise ss) n =
+        let m = behind ended (n + length ct + 1 + length ca) in
+        omega (arith, else_long n at ct ended ca (steps_code methods texts m ss), ht, ha, steps_within ss m)
 
-  last_within : (last : Option Last) (at : Span) (n : ℕ) → last_height methods last ≤ length (return_code methods texts n at last)
-  last_within None at n = omega arith
-  last_within (Some last) at n = omega (arith, one_long (tree_code methods texts n (tree_of last.value)) (line i.Return last.at), tree_within (tree_of last.value) n)
+  last_within : (ended : Bool) (last : Option Last) (at : Span) (n : ℕ) → last_height methods last ≤ length (return_code methods texts n at ended last)
+  last_within true None at n = omega arith
+  last_within false None at n = omega arith
+  last_within true (Some last) at n = omega (arith, one_long (tree_code methods texts n (tree_of last.value)) (line i.Return last.at), tree_within (tree_of last.value) n)
+  last_within false (Some last) at n = omega (arith, one_long (tree_code methods texts n (tree_of last.value)) (line i.Return last.at), tree_within (tree_of last.value) n)
 
-  reply_within : (last : Option Last) (at : Span) (n : ℕ) → last_height methods last ≤ length (reply_code methods texts n at last)
-  reply_within None at n = omega arith
-  reply_within (Some last) at n = omega (arith, one_long (tree_code methods texts n (tree_of last.value)) (line i.Reply last.at), tree_within (tree_of last.value) n)
+  reply_within : (ended : Bool) (last : Option Last) (at : Span) (n : ℕ) → last_height methods last ≤ length (reply_code methods texts n at ended last)
+  reply_within true None at n = omega arith
+  reply_within false None at n = omega arith
+  reply_within true (Some last) at n = omega (arith, one_long (tree_code methods texts n (tree_of last.value)) (line i.Reply last.at), tree_within (tree_of last.value) n)
+  reply_within false (Some last) at n = omega (arith, one_long (tree_code methods texts n (tree_of last.value)) (line i.Reply last.at), tree_within (tree_of last.value) n)
 
-  phases_within : (fs : List Phase) (at : Span) (last : Option Last) (n : ℕ) → max (phases_height methods fs) (last_height methods last) ≤ length (phases_code methods texts n fs at last)
-  phases_within [] at last n = omega (arith, reply_within last at n)
-  phases_within (f ∷ fs) at last n =
+  phases_within : (ended : Bool) (fs : List Phase) (at : Span) (last : Option Last) (n : ℕ) → max (phases_height methods fs) (last_height methods last) ≤ length (phases_code methods texts n ended fs at last)
+  phases_within ended [] at last n = omega (arith, reply_within ended last at n)
+  phases_within ended (f ∷ fs) at last n =
       let ck = tree_code methods texts n (tree_of f.key) in
       let m = n + length ck + 1 in
       let cb = steps_code methods texts m (steps_in f.body) in
-      omega (arith, phase_long ck cb (phases_code methods texts (m + length cb) fs at last) (line (i.Go f.class) f.at), tree_within (tree_of f.key) n, steps_within (steps_in f.body) m, phases_within fs at last (m + length cb))
+      let on = surely_ends (steps_in f.body) in
+      omega (arith, phase_long ck cb (phases_code methods texts (m + length cb) on fs at last) (line (i.Go f.class) f.at), tree_within (tree_of f.key) n, steps_within (steps_in f.body) m, phases_within on fs at last (m + length cb))
 
   pub method_within : (m : Method) → method_height methods m ≤ length (method_code methods texts m)
   unfolding method_height method_code
   method_within m =
       let cb = steps_code methods texts 0 (steps_in m.body) in
-      omega (arith, length-append cb (return_code methods texts (length cb) m.at m.last), steps_within (steps_in m.body) 0, last_within m.last m.at (length cb))
+      let ended = surely_ends (steps_in m.body) in
+      omega (arith, length-append cb (return_code methods texts (length cb) m.at ended m.last), steps_within (steps_in m.body) 0, last_within ended m.last m.at (length cb))
 
   pub event_within : (e : Event) → event_height methods e ≤ length (event_code methods texts e)
   unfolding event_height event_code
   event_within e =
       let cb = steps_code methods texts 0 (steps_in e.here) in
-      omega (arith, length-append cb (phases_code methods texts (length cb) e.phases e.at e.last), steps_within (steps_in e.here) 0, phases_within e.phases e.at e.last (length cb))
+      let ended = surely_ends (steps_in e.here) in
+      omega (arith, length-append cb (phases_code methods texts (length cb) ended e.phases e.at e.last), steps_within (steps_in e.here) 0, phases_within ended e.phases e.at e.last (length cb))
 
 -- ---- what passes 65,535 counts as that
 

@@ -1,15 +1,18 @@
 -- Jumps of statements, written after what they pass.
-use Rattle.std.proofs.Common.{◌≡◌, ℕ, zero, suc, ◌+◌, ◌<◌, List, [], ◌∷◌, ◌++◌, length, take, get_or, refl, sym, ap, ap₂, ◌∙◌, arith, append_assoc, length-append}
+use Rattle.std.proofs.Common.{◌≡◌, ℕ, zero, suc, ◌+◌, ◌<◌, pos, Bool, true, false, List, [], ◌∷◌, ◌++◌, length, take, get_or, refl, sym, ap, ap₂, ◌∙◌, arith, append_assoc, length-append}
 use Rattle.std.specs.Prelude.{slice_set}
 use Rattle.std.proofs.Math.Seq.{set-append_seam}
+use Rattle.std.proofs.lemmas.List.{append-nil}
 use Rattle.wave_base.specs.declared.span.Span.{Span}
 use Rattle.resolved_service.specs.declared.service.Method.{Method}
 use Rattle.resolved_service.specs.declared.stmt.Stmt.{Stmt}
+use Rattle.resolved_service.specs.Meaning.{row_add}
 use Rattle.resolved_service.specs.Steps.{step_of, steps_in}
 use Rattle.service_code.specs.declared.instr.Instr.TheVariants as i
 use Rattle.code_scheme.specs.declared.line.Line.{Line}
-use Rattle.code_scheme.specs.Scheme.{line, if_code, else_code, while_code, loop_at, step_code, steps_code}
+use Rattle.code_scheme.specs.Scheme.{line, if_code, else_code, while_code, turn_code, loop_at, step_code, steps_code}
 use Rattle.code_scheme.specs.Texts.{Text}
+use Rattle.service_compiler.specs.inner.Fronts.{back_code}
 use Rattle.service_compiler.specs.Wrapped.{wrap, wrap_line, wrapped}
 use Rattle.service_compiler.proofs.Emits.{wrapped-append, wrapped-length, long_after, emits_then}
 use Rattle.service_compiler.proofs.Notes.{item_more}
@@ -37,7 +40,7 @@ if_emitted base c1 c2 c3 ct ca x at test end e1 m1 e2 e3 m3 =
     ∙ ap (λ l. base ++ l) (sym (wrapped-append ct (line (i.JumpFalse (n + length ct + 1 + length b)) at ∷ b)))
 
 pub else_emitted : (base c1 c2 c3 c4 c5 : List Line) (ct : List Line) (ca cb : ℕ → List Line) (x y : Line) (at : Span) (test skip end : ℕ) → c1 ≡ base ++ wrapped ct → test ≡ length c1 → c2 ≡ c1 ++ x ∷ [] → c3 ≡ c2 ++ wrapped (ca (length c2)) → skip ≡ length c3 → c4 ≡ c3 ++ y ∷ [] → c5 ≡ c4 ++ wrapped (cb (length c4)) → end ≡ length c5 →
-    slice_set (slice_set c5 test (line (i.JumpFalse (wrap (skip + 1))) at)) skip (line (i.Jump (wrap end)) at) ≡ base ++ wrapped (else_code (length base) at ct (ca (length base + length ct + 1)) (cb (length base + length ct + 1 + length (ca (length base + length ct + 1)) + 1)))
+    slice_set (slice_set c5 test (line (i.JumpFalse (wrap (skip + 1))) at)) skip (line (i.Jump (wrap end)) at) ≡ base ++ wrapped (else_code (length base) at ct false (ca (length base + length ct + 1)) (cb (length base + length ct + 1 + length (ca (length base + length ct + 1)) + 1)))
 else_emitted base c1 c2 c3 c4 c5 ct ca cb x y at test skip end e1 m1 e2 e3 m3 e4 e5 m5 =
     let n = length base in
     let l1 = long_after base c1 ct e1 in
@@ -68,9 +71,34 @@ else_emitted base c1 c2 c3 c4 c5 ct ca cb x y at test skip end e1 m1 e2 e3 m3 e4
     ∙ ap (λ l. base ++ (wrapped ct ++ line (i.JumpFalse (wrap (n + length ct + 1 + length a + 1))) at ∷ l)) (sym (wrapped-append a (line (i.Jump (n + length ct + 1 + length a + 1 + length b)) at ∷ b)))
     ∙ ap (λ l. base ++ l) (sym (wrapped-append ct (line (i.JumpFalse (n + length ct + 1 + length a + 1)) at ∷ (a ++ line (i.Jump (n + length ct + 1 + length a + 1 + length b)) at ∷ b))))
 
-pub while_emitted : (base c1 c2 c3 c4 c5 : List Line) (ct : List Line) (ca : ℕ → List Line) (x : Line) (at : Span) (start test end : ℕ) → start ≡ length base → c1 ≡ base ++ wrapped ct → test ≡ length c1 → c2 ≡ c1 ++ x ∷ [] → c3 ≡ c2 ++ line i.Tick at ∷ [] → c4 ≡ c3 ++ wrapped (ca (length c3)) → c5 ≡ c4 ++ line (i.Jump (wrap start)) at ∷ [] → end ≡ length c5 →
-    slice_set c5 test (line (i.JumpFalse (wrap end)) at) ≡ base ++ wrapped (while_code (length base) at ct (ca (length base + length ct + 1 + 1)))
-while_emitted base c1 c2 c3 c4 c5 ct ca x at start test end m0 e1 m1 e2 e3 e4 e5 m5 =
+-- the same, where the first block surely ends
+pub ended_emitted : (base c1 c2 c3 c4 : List Line) (ct : List Line) (ca cb : ℕ → List Line) (x : Line) (at : Span) (test skip : ℕ) → c1 ≡ base ++ wrapped ct → test ≡ length c1 → c2 ≡ c1 ++ x ∷ [] → c3 ≡ c2 ++ wrapped (ca (length c2)) → skip ≡ length c3 → c4 ≡ c3 ++ wrapped (cb (length c3)) →
+    slice_set c4 test (line (i.JumpFalse (wrap skip)) at) ≡ base ++ wrapped (else_code (length base) at ct true (ca (length base + length ct + 1)) (cb (length base + length ct + 1 + length (ca (length base + length ct + 1)))))
+ended_emitted base c1 c2 c3 c4 ct ca cb x at test skip e1 m1 e2 e3 m3 e4 =
+    let n = length base in
+    let l1 = long_after base c1 ct e1 in
+    let l2 : length c2 ≡ n + length ct + 1 = omega (arith, ap length e2, length-append c1 (x ∷ []), l1) in
+    let a = ca (n + length ct + 1) in
+    let e3' : c3 ≡ c2 ++ wrapped a = e3 ∙ ap (λ k. c2 ++ wrapped (ca k)) l2 in
+    let l3 : length c3 ≡ n + length ct + 1 + length a = omega (arith, long_after c2 c3 a e3', l2) in
+    let b = cb (n + length ct + 1 + length a) in
+    let e4' : c4 ≡ c3 ++ wrapped b = e4 ∙ ap (λ k. c3 ++ wrapped (cb k)) l3 in
+    let j1 = line (i.JumpFalse (wrap skip)) at in
+    let s : skip ≡ n + length ct + 1 + length a = m3 ∙ l3 in
+    let all : c4 ≡ c1 ++ x ∷ (wrapped a ++ wrapped b) =
+    e4' ∙ ap (λ c. c ++ wrapped b) (e3' ∙ ap (λ c. c ++ wrapped a) e2)
+    ∙ append_assoc (c1 ++ x ∷ []) (wrapped a) (wrapped b)
+    ∙ append_assoc c1 (x ∷ []) (wrapped a ++ wrapped b) in
+    ap₂ (λ c k. slice_set c k j1) all m1
+    ∙ set-append_seam c1 x (wrapped a ++ wrapped b) j1
+    ∙ (λ j. e1 j ++ line (i.JumpFalse (wrap (s j))) at ∷ (wrapped a ++ wrapped b))
+    ∙ append_assoc base (wrapped ct) _
+    ∙ ap (λ l. base ++ (wrapped ct ++ line (i.JumpFalse (wrap (n + length ct + 1 + length a))) at ∷ l)) (sym (wrapped-append a b))
+    ∙ ap (λ l. base ++ l) (sym (wrapped-append ct (line (i.JumpFalse (n + length ct + 1 + length a)) at ∷ (a ++ b))))
+
+going_emitted : (base c1 c2 c3 c4 c5 : List Line) (ct : List Line) (ca : ℕ → List Line) (x : Line) (at : Span) (start test end : ℕ) → start ≡ length base → c1 ≡ base ++ wrapped ct → test ≡ length c1 → c2 ≡ c1 ++ x ∷ [] → c3 ≡ c2 ++ line i.Tick at ∷ [] → c4 ≡ c3 ++ wrapped (ca (length c3)) → c5 ≡ c4 ++ line (i.Jump (wrap start)) at ∷ [] → end ≡ length c5 →
+    slice_set c5 test (line (i.JumpFalse (wrap end)) at) ≡ base ++ wrapped (while_code (length base) at ct false (ca (length base + length ct + 1 + 1)))
+going_emitted base c1 c2 c3 c4 c5 ct ca x at start test end m0 e1 m1 e2 e3 e4 e5 m5 =
     let n = length base in
     let l1 = long_after base c1 ct e1 in
     let l2 : length c2 ≡ n + length ct + 1 = omega (arith, ap length e2, length-append c1 (x ∷ []), l1) in
@@ -94,6 +122,62 @@ while_emitted base c1 c2 c3 c4 c5 ct ca x at start test end m0 e1 m1 e2 e3 e4 e5
     ∙ append_assoc base (wrapped ct) _
     ∙ ap (λ l. base ++ (wrapped ct ++ line (i.JumpFalse (wrap (n + length ct + 1 + 1 + length a + 1))) at ∷ line i.Tick at ∷ l)) (sym (wrapped-append a (line (i.Jump n) at ∷ [])))
     ∙ ap (λ l. base ++ l) (sym (wrapped-append ct (line (i.JumpFalse (n + length ct + 1 + 1 + length a + 1)) at ∷ line i.Tick at ∷ (a ++ line (i.Jump n) at ∷ []))))
+
+-- a loop whose block surely ends
+once_emitted : (base c1 c2 c3 c4 : List Line) (ct : List Line) (ca : ℕ → List Line) (x : Line) (at : Span) (test end : ℕ) → c1 ≡ base ++ wrapped ct → test ≡ length c1 → c2 ≡ c1 ++ x ∷ [] → c3 ≡ c2 ++ line i.Tick at ∷ [] → c4 ≡ c3 ++ wrapped (ca (length c3)) → end ≡ length c4 →
+    slice_set c4 test (line (i.JumpFalse (wrap end)) at) ≡ base ++ wrapped (while_code (length base) at ct true (ca (length base + length ct + 1 + 1)))
+once_emitted base c1 c2 c3 c4 ct ca x at test end e1 m1 e2 e3 e4 m4 =
+    let n = length base in
+    let l1 = long_after base c1 ct e1 in
+    let l2 : length c2 ≡ n + length ct + 1 = omega (arith, ap length e2, length-append c1 (x ∷ []), l1) in
+    let l3 : length c3 ≡ n + length ct + 1 + 1 = omega (arith, ap length e3, length-append c2 (line i.Tick at ∷ []), l2) in
+    let a = ca (n + length ct + 1 + 1) in
+    let e4' : c4 ≡ c3 ++ wrapped a = e4 ∙ ap (λ k. c3 ++ wrapped (ca k)) l3 in
+    let s : end ≡ n + length ct + 1 + 1 + length a = omega (arith, m4, long_after c3 c4 a e4', l3) in
+    let out = line (i.JumpFalse (wrap end)) at in
+    let tail = line i.Tick at ∷ wrapped a in
+    let all : c4 ≡ c1 ++ x ∷ tail =
+    e4' ∙ ap (λ c. c ++ wrapped a) (e3 ∙ ap (λ c. c ++ line i.Tick at ∷ []) e2)
+    ∙ append_assoc (c1 ++ x ∷ []) (line i.Tick at ∷ []) (wrapped a)
+    ∙ append_assoc c1 (x ∷ []) tail in
+    ap₂ (λ c k. slice_set c k out) all m1
+    ∙ set-append_seam c1 x tail out
+    ∙ (λ j. e1 j ++ line (i.JumpFalse (wrap (s j))) at ∷ line i.Tick at ∷ wrapped a)
+    ∙ append_assoc base (wrapped ct) _
+    ∙ ap (λ l. base ++ l) (sym (wrapped-append ct (line (i.JumpFalse (n + length ct + 1 + 1 + length a)) at ∷ line i.Tick at ∷ a)))
+
+pub while_emitted : (base c1 c2 c3 c4 c5 : List Line) (ct : List Line) (ended : Bool) (ca : ℕ → List Line) (x : Line) (at : Span) (start test end : ℕ) → start ≡ length base → c1 ≡ base ++ wrapped ct → test ≡ length c1 → c2 ≡ c1 ++ x ∷ [] → c3 ≡ c2 ++ line i.Tick at ∷ [] → c4 ≡ c3 ++ wrapped (ca (length c3)) → c5 ≡ c4 ++ wrapped (back_code ended start at) → end ≡ length c5 →
+    slice_set c5 test (line (i.JumpFalse (wrap end)) at) ≡ base ++ wrapped (while_code (length base) at ct ended (ca (length base + length ct + 1 + 1)))
+while_emitted base c1 c2 c3 c4 c5 ct true ca x at start test end m0 e1 m1 e2 e3 e4 e5 m5 =
+    let same : c5 ≡ c4 = e5 ∙ append-nil c4 in
+    ap (λ c. slice_set c test (line (i.JumpFalse (wrap end)) at)) same
+    ∙ once_emitted base c1 c2 c3 c4 ct ca x at test end e1 m1 e2 e3 e4 (m5 ∙ ap length same)
+while_emitted base c1 c2 c3 c4 c5 ct false ca x at start test end m0 e1 m1 e2 e3 e4 e5 m5 = going_emitted base c1 c2 c3 c4 c5 ct ca x at start test end m0 e1 m1 e2 e3 e4 e5 m5
+
+-- a turn of a loop over numbers
+module _ (counter : ℕ) (at : Span) where
+  abbrev next_lines : List Line
+  next_lines = line (i.Load counter) at ∷ line (i.PushInt (pos 1)) at ∷ line (i.Op row_add) at ∷ line (i.Store counter) at ∷ []
+
+  pub turn_ends : (base c1 c2 c3 : List Line) (ca : ℕ → List Line) → c1 ≡ base ++ line (i.Load counter) at ∷ [] → c2 ≡ c1 ++ line (i.Store (counter + 2)) at ∷ [] → c3 ≡ c2 ++ wrapped (ca (length c2)) →
+      c3 ≡ base ++ wrapped (turn_code counter at true (ca (length base + 1 + 1)))
+  turn_ends base c1 c2 c3 ca e1 e2 e3 =
+      let get = line (i.Load counter) at in
+      let put = line (i.Store (counter + 2)) at in
+      let a = ca (length base + 1 + 1) in
+      let l2 : length c2 ≡ length base + 1 + 1 = omega (arith, ap length e1, length-append base (get ∷ []), ap length e2, length-append c1 (put ∷ [])) in
+      e3 ∙ ap (λ k. c2 ++ wrapped (ca k)) l2
+      ∙ ap (λ c. c ++ wrapped a) (e2 ∙ ap (λ c. c ++ put ∷ []) e1)
+      ∙ append_assoc (base ++ get ∷ []) (put ∷ []) (wrapped a)
+      ∙ append_assoc base (get ∷ []) (put ∷ wrapped a)
+
+  pub turn_goes_on : (base c1 c2 c3 c4 : List Line) (ca : ℕ → List Line) → c1 ≡ base ++ line (i.Load counter) at ∷ [] → c2 ≡ c1 ++ line (i.Store (counter + 2)) at ∷ [] → c3 ≡ c2 ++ wrapped (ca (length c2)) → c4 ≡ c3 ++ next_lines →
+      c4 ≡ base ++ wrapped (turn_code counter at false (ca (length base + 1 + 1)))
+  turn_goes_on base c1 c2 c3 c4 ca e1 e2 e3 e4 =
+      let a = ca (length base + 1 + 1) in
+      e4 ∙ ap (λ c. c ++ next_lines) (turn_ends base c1 c2 c3 ca e1 e2 e3)
+      ∙ append_assoc base (wrapped (turn_code counter at true a)) next_lines
+      ∙ ap (λ l. base ++ line (i.Load counter) at ∷ line (i.Store (counter + 2)) at ∷ l) (sym (wrapped-append a next_lines))
 
 -- both bounds, and then the loop
 pub for_emitted : (base c1 c2 c3 c4 c5 : List Line) (cf : List Line) (ct loop : ℕ → List Line) (l m : Line) → wrap_line l ≡ l → wrap_line m ≡ m → c1 ≡ base ++ wrapped cf → c2 ≡ c1 ++ l ∷ [] → c3 ≡ c2 ++ wrapped (ct (length c2)) → c4 ≡ c3 ++ m ∷ [] → c5 ≡ c4 ++ wrapped (loop (length c4)) →

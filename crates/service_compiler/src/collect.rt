@@ -1,10 +1,11 @@
 //! The texts that the code of a service uses, in code order.
 
 ghost use Rattle.std.specs.Prelude.{◌≡◌, map, IfOk, OnOk};
+ghost use Rattle.std.specs.Option.{option_map};
 ghost use Rattle.resolved_service.specs.Steps.{step_of, steps_of, steps_in};
 ghost use Rattle.resolved_service.specs.View.{tree_of, trees_of};
 ghost use Rattle.service_compiler.specs.Kept.{else_in};
-ghost use Rattle.code_scheme.specs.Texts.{with_texts, tree_uses, trees_uses, step_uses, steps_uses, else_uses, last_uses, method_uses, phases_uses, event_uses, methods_uses, events_uses, service_texts};
+ghost use Rattle.code_scheme.specs.Texts.{with_texts, tree_uses, trees_uses, maybe_uses, step_uses, steps_uses, else_uses, last_uses, method_uses, phases_uses, event_uses, methods_uses, events_uses, service_texts};
 
 use crate::texts::Texts;
 use resolved_service::{Action, Event, Expr, Last, Method, Node, Phase, Resolved, Stmt};
@@ -106,6 +107,17 @@ fn note_stmt(alloc: Global, texts: &mut Texts, stmt: &Stmt) -> Result<(), OutOfM
         }
         Action::Spawn(_, args) => note_exprs(alloc, texts, args),
         Action::Do(call) => note_expr(alloc, texts, call),
+        Action::Return(value) | Action::Finish(value) => note_value(alloc, texts, value),
+    }
+}
+
+// A value that may be left out.
+fn note_value(alloc: Global, texts: &mut Texts, value: &Option<Expr>) -> Result<(), OutOfMemory>
+    ensures { OnOk result (texts.new ≡ with_texts texts.old (maybe_uses (option_map tree_of value.now))) }
+{
+    match value {
+        Some(value) => note_expr(alloc, texts, value),
+        None => Ok(()),
     }
 }
 

@@ -1,15 +1,17 @@
 //! The instructions of methods and events, by the scheme.
 
 ghost use Rattle.std.specs.Prelude.{◌≡◌, ◌<◌, ◌^◌, ◌++◌, length, IfOk, OnOk};
+ghost use Rattle.resolved_service.specs.Steps as steps;
+ghost use Rattle.resolved_service.specs.Steps.{steps_in};
 ghost use Rattle.code_scheme.specs.Scheme.{return_code, reply_code, method_code, event_code};
-ghost use Rattle.service_compiler.specs.inner.Fronts.{phase_code, phases_front};
+ghost use Rattle.service_compiler.specs.inner.Fronts.{phase_code, phases_front, ended_behind};
 ghost use Rattle.service_compiler.specs.Wrapped.{wrapped};
 
 use crate::emit::{emit_expr, put};
 use crate::statements::emit_stmts;
 use crate::texts::Texts;
 use code_scheme::Line;
-use resolved_service::{Event, Last, Method, Phase};
+use resolved_service::{Event, Last, Method, Phase, surely_ends};
 use service_code::Instr;
 use std::alloc::Global;
 use wave_base::{OutOfMemory, Span};
@@ -26,7 +28,8 @@ pub fn emit_method(
 {
     let mut code = Vec::new(alloc);
     emit_stmts(&mut code, methods, texts, method.body.as_slice())?;
-    emit_return(&mut code, methods, texts, method.at, &method.last)?;
+    let ended = surely_ends(method.body.as_slice());
+    emit_return(&mut code, methods, texts, method.at, ended, &method.last)?;
     Ok(code)
 }
 
@@ -43,47 +46,70 @@ pub fn emit_event(
     let mut code = Vec::new(alloc);
     emit_stmts(&mut code, methods, texts, event.here.as_slice())?;
     emit_phases(&mut code, methods, texts, event.phases.as_slice())?;
-    emit_reply(&mut code, methods, texts, event.at, &event.last)?;
+    let ended = is_past(event);
+    emit_reply(&mut code, methods, texts, event.at, ended, &event.last)?;
     Ok(code)
 }
 
-// The end of a method.
+// Whether the last phase of an event surely ends.
+fn is_past(event: &Event) -> bool
+    ensures { result ≡ ended_behind (steps.surely_ends (steps_in event.now.here)) event.now.phases }
+{
+    match event.phases.as_slice() {
+        [.., last] => surely_ends(last.body.as_slice()),
+        _ => surely_ends(event.here.as_slice()),
+    }
+}
+
+// The end of a method, behind statements that surely end, or not.
 fn emit_return(
     code: &mut Vec<Line>,
     methods: &[Method],
     texts: &Texts,
     at: Span,
+    ended: bool,
     last: &Option<Last>,
 ) -> Result<(), OutOfMemory>
     requires { length texts.now < 2 ^ 32 }
-    ensures { OnOk result (code.new.items ≡ code.old.items ++ wrapped (return_code methods.now texts.now (length code.old.items) at last.now)) }
+    ensures { OnOk result (code.new.items ≡ code.old.items ++ wrapped (return_code methods.now texts.now (length code.old.items) at ended last.now)) }
 {
     match last {
         Some(last) => {
             emit_expr(code, methods, texts, &last.value)?;
             put(code, Instr::Return, last.at)
         }
-        None => put(code, Instr::Return, at),
+        None => {
+            if ended {
+                return Ok(());
+            }
+            put(code, Instr::Return, at)
+        }
     }
 }
 
-// The end of an event.
+// The end of an event, behind statements that surely end, or not.
 fn emit_reply(
     code: &mut Vec<Line>,
     methods: &[Method],
     texts: &Texts,
     at: Span,
+    ended: bool,
     last: &Option<Last>,
 ) -> Result<(), OutOfMemory>
     requires { length texts.now < 2 ^ 32 }
-    ensures { OnOk result (code.new.items ≡ code.old.items ++ wrapped (reply_code methods.now texts.now (length code.old.items) at last.now)) }
+    ensures { OnOk result (code.new.items ≡ code.old.items ++ wrapped (reply_code methods.now texts.now (length code.old.items) at ended last.now)) }
 {
     match last {
         Some(last) => {
             emit_expr(code, methods, texts, &last.value)?;
             put(code, Instr::Reply, last.at)
         }
-        None => put(code, Instr::End, at),
+        None => {
+            if ended {
+                return Ok(());
+            }
+            put(code, Instr::End, at)
+        }
     }
 }
 

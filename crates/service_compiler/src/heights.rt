@@ -1,9 +1,10 @@
 //! The greatest height of a function's stack. What passes 65,535 counts as that: no function that is short enough is as high.
 
 ghost use Rattle.std.specs.Prelude.{◌≡◌, min, map};
+ghost use Rattle.std.specs.Option.{option_map};
 ghost use Rattle.resolved_service.specs.Steps.{step_of, steps_in};
 ghost use Rattle.resolved_service.specs.View.{tree_of, trees_of};
-ghost use Rattle.code_scheme.specs.Heights.{one_if, tree_height, trees_height, step_height, steps_height, last_height, method_height, phases_height, event_height};
+ghost use Rattle.code_scheme.specs.Heights.{one_if, tree_height, trees_height, maybe_height, step_height, steps_height, last_height, method_height, phases_height, event_height};
 
 use crate::statements::leaves;
 use resolved_service::{Action, Event, Expr, Last, Method, Node, Phase, Stmt};
@@ -83,6 +84,16 @@ fn stmt_height(methods: &[Method], stmt: &Stmt) -> u16
             bounds.max(2).max(stmts_height(methods, body))
         }
         Action::Spawn(_, args) => exprs_height(methods, args),
+        Action::Return(value) | Action::Finish(value) => height_of_value(methods, value),
+    }
+}
+
+fn height_of_value(methods: &[Method], value: &Option<Expr>) -> u16
+    ensures { result ≡ min (maybe_height methods.now (option_map tree_of value.now)) 65535 }
+{
+    match value {
+        Some(value) => expr_height(methods, value),
+        None => 0,
     }
 }
 

@@ -2,16 +2,19 @@
 
 ghost use Rattle.std.specs.Prelude.{◌≡◌, ◌<◌, ◌+◌, ◌^◌, ◌∷◌, ◌++◌, [], length, pos, IfOk, OnOk};
 ghost use Rattle.resolved_service.specs.Meaning.{row_add};
+ghost use Rattle.std.specs.Option.{option_map};
+ghost use Rattle.resolved_service.specs.Steps as steps;
 ghost use Rattle.resolved_service.specs.Steps.{step_of, steps_in};
 ghost use Rattle.resolved_service.specs.View.{tree_of};
 ghost use Rattle.service_code.specs.declared.instr.Instr.TheVariants as i;
-ghost use Rattle.code_scheme.specs.Scheme.{line, leaves_value, while_code, test_code, turn_code, block_at, step_code, steps_code};
+ghost use Rattle.code_scheme.specs.Scheme.{line, leaves_value, finish_instr, while_code, test_code, turn_code, block_at, maybe_code, step_code, steps_code};
+ghost use Rattle.service_compiler.specs.inner.Fronts.{back_code};
 ghost use Rattle.service_compiler.specs.Wrapped.{wrapped};
 
 use crate::emit::{emit_expr, emit_exprs, patch, put, target};
 use crate::texts::Texts;
 use code_scheme::Line;
-use resolved_service::{Action, Expr, Method, Node, Stmt};
+use resolved_service::{Action, Expr, Method, Node, Stmt, surely_ends};
 use service_code::Instr;
 use value_ops::rows::{ADD, LT};
 use wave_base::{OutOfMemory, Span};
@@ -98,6 +101,11 @@ fn emit_stmt(
                     Ok(())
                 }
                 Some(other) => {
+                    if surely_ends(body) {
+                        emit_stmts(code, methods, texts, other)?;
+                        patch(code, test_end, Instr::JumpFalse(target(body_end)), at);
+                        return Ok(());
+                    }
                     put(code, Instr::Jump(0), at)?;
                     emit_stmts(code, methods, texts, other)?;
                     let end = code.len();
@@ -114,7 +122,7 @@ fn emit_stmt(
             put(code, Instr::JumpFalse(0), at)?;
             put(code, Instr::Tick, at)?;
             emit_stmts(code, methods, texts, body)?;
-            put(code, Instr::Jump(target(start)), at)?;
+            emit_back(code, surely_ends(body), start, at)?;
             let end = code.len();
             patch(code, test_end, Instr::JumpFalse(target(end)), at);
             Ok(())
@@ -145,6 +153,14 @@ fn emit_stmt(
             }
             Ok(())
         }
+        Action::Return(value) => {
+            emit_value(code, methods, texts, value)?;
+            put(code, Instr::Return, at)
+        }
+        Action::Finish(value) => {
+            emit_value(code, methods, texts, value)?;
+            put(code, finish(value), at)
+        }
     }
 }
 
@@ -160,7 +176,7 @@ fn emit_loop(
 ) -> Result<(), OutOfMemory>
     requires { length texts.now < 2 ^ 32 }
     ensures { let n = length code.old.items in
-        OnOk result (code.new.items ≡ code.old.items ++ wrapped (while_code n at (test_code counter at) (turn_code counter at (steps_code methods.now texts.now (block_at n) (steps_in body.now))))) }
+        OnOk result (code.new.items ≡ code.old.items ++ wrapped (while_code n at (test_code counter at) (steps.surely_ends (steps_in body.now)) (turn_code counter at (steps.surely_ends (steps_in body.now)) (steps_code methods.now texts.now (block_at n) (steps_in body.now))))) }
 {
     let first = code.len();
     emit_test(code, counter, at)?;
@@ -168,7 +184,7 @@ fn emit_loop(
     put(code, Instr::JumpFalse(0), at)?;
     put(code, Instr::Tick, at)?;
     emit_turn(code, methods, texts, counter, body, at)?;
-    put(code, Instr::Jump(target(first)), at)?;
+    emit_back(code, surely_ends(body), first, at)?;
     let end = code.len();
     patch(code, test_end, Instr::JumpFalse(target(end)), at);
     Ok(())
@@ -185,13 +201,52 @@ fn emit_turn(
     at: Span,
 ) -> Result<(), OutOfMemory>
     requires { length texts.now < 2 ^ 32 }
-    ensures { OnOk result (code.new.items ≡ code.old.items ++ wrapped (turn_code counter at (steps_code methods.now texts.now (length code.old.items + 1 + 1) (steps_in body.now)))) }
+    ensures { OnOk result (code.new.items ≡ code.old.items ++ wrapped (turn_code counter at (steps.surely_ends (steps_in body.now)) (steps_code methods.now texts.now (length code.old.items + 1 + 1) (steps_in body.now)))) }
 {
     let name = slot(counter, 2)?;
     put(code, Instr::Load(counter), at)?;
     put(code, Instr::Store(name), at)?;
     emit_stmts(code, methods, texts, body)?;
+    if surely_ends(body) {
+        return Ok(());
+    }
     emit_next(code, counter, at)
+}
+
+// The way back to the start of a loop whose block goes on.
+fn emit_back(code: &mut Vec<Line>, ended: bool, start: usize, at: Span) -> Result<(), OutOfMemory>
+    ensures { OnOk result (code.new.items ≡ code.old.items ++ wrapped (back_code ended start at)) }
+{
+    if ended {
+        return Ok(());
+    }
+    put(code, Instr::Jump(target(start)), at)
+}
+
+// A value that may be left out.
+fn emit_value(
+    code: &mut Vec<Line>,
+    methods: &[Method],
+    texts: &Texts,
+    value: &Option<Expr>,
+) -> Result<(), OutOfMemory>
+    requires { length texts.now < 2 ^ 32 }
+    ensures { OnOk result (code.new.items ≡ code.old.items ++ wrapped (maybe_code methods.now texts.now (length code.old.items) (option_map tree_of value.now))) }
+{
+    match value {
+        Some(value) => emit_expr(code, methods, texts, value),
+        None => Ok(()),
+    }
+}
+
+// How a `finish` ends its event.
+fn finish(value: &Option<Expr>) -> Instr
+    ensures { result ≡ finish_instr (option_map tree_of value.now) }
+{
+    match value {
+        Some(_) => Instr::Reply,
+        None => Instr::End,
+    }
 }
 
 // Whether another turn follows.

@@ -1,7 +1,6 @@
 -- Calls: a method runs with locals of its own, and what it gives is put upon what lay there.
 use Rattle.std.proofs.Common.{◌≡◌, ℕ, zero, suc, ◌+◌, ◌-◌, ◌*◌, ◌^◌, ◌≤◌, Bool, true, false, List, [], ◌∷◌, ◌++◌, length, take, drop, Option, Some, None, Result, Ok, Err, refl, sym, ap, subst, ◌∙◌, arith}
 use Rattle.std.specs.Prelude.{slice_get}
-use Rattle.std.proofs.lemmas.List.{append-nil}
 use Rattle.wave_base.specs.declared.path.Path.{Path}
 use Rattle.wave_base.specs.declared.shape.Shape.{Shape}
 use Rattle.wave_base.specs.declared.span.Span.{Span}
@@ -10,7 +9,7 @@ use Rattle.wave_base.specs.declared.value.Value.{Value}
 use Rattle.value_ops.specs.Kinds.{Answer}
 use Rattle.resolved_service.specs.declared.service.Last.{Last}
 use Rattle.resolved_service.specs.declared.service.Method.{Method}
-use Rattle.resolved_service.specs.Meaning.{State, Outcome, Done, Trapped, Left, Act, and_then, ◌>>=◌, ◌>>◌, give, with_world, enter_at, back, value, effects, last_value, with_locals, with_blanks, run_method, called, worth, nowhere}
+use Rattle.resolved_service.specs.Meaning.{State, Returned, Finished, Outcome, Done, Trapped, Left, Act, and_then, ◌>>=◌, ◌>>◌, give, with_world, enter_at, back, value, effects, last_value, with_locals, with_blanks, run_method, called, worth, nowhere}
 use Rattle.resolved_service.specs.Steps.{steps_in}
 use Rattle.resolved_service.specs.View.{tree_of}
 use Rattle.resolved_service.specs.World.{World, nothing, key_of, child, ticking, entering}
@@ -18,10 +17,9 @@ use Rattle.service_eval.specs.declared.stop.Stop.{Stop}
 use Rattle.service_eval.specs.declared.stop.Stop.TheVariants as stop
 use Rattle.service_eval.specs.Items.{Item, Eval, Invoke, Child, Block, Return}
 use Rattle.service_eval.specs.Machines.{Mach, Rest, on_top, cut_to, in_world, own, act, path_after, returned, resume, comes_to, with_last, started}
-use Rattle.service_eval.specs.Worlds.{Changes, Fails}
-use Rattle.service_eval.proofs.Outcomes.{assoc, regroup, fails_then, fails_through, below, upon, first_upon}
+use Rattle.service_eval.specs.Worlds.{Changes, Traps, Fails}
+use Rattle.service_eval.proofs.Outcomes.{assoc, regroup, fails_through}
 use Rattle.service_eval.proofs.PathLemmas.{parent_of-child}
-use Rattle.service_eval.proofs.Settled.{Settled, settled_then, settled_effects, settled_last, settled_called}
 
 abbrev listed : Option Value → List Value
 listed None = []
@@ -36,22 +34,17 @@ called_is : (methods : List Method) (d number : ℕ) (method : Method) (p : Path
 unfolding called
 called_is methods d number method p given st e is = ap (λ k. called methods k number p given st) e ∙ ap (λ o. run_method (called methods (d - 1)) (d - 1) o p given st) is
 
-returns_is : (locals under : List Value) (up : Bool) (x : Outcome (Option Value)) → Settled x → and_then (with_locals locals x) (λ r. rises up (under ++ worth r ∷ [])) ≡ returned locals (length under) up (and_then x (λ r. give (under ++ listed r)))
-returns_is locals under true (Done None st) h = λ i. Done (sym (below under []) i ++ sym (nothing_upon under) i ∷ []) (record { locals = locals; world = record st.world { changes = suc st.world.changes } })
-  where
-    nothing_upon : (vs : List Value) → own 0 (length vs) (vs ++ []) ≡ nothing
-    nothing_upon [] = refl
-    nothing_upon (v ∷ vs) = nothing_upon vs
-returns_is locals under false (Done None st) h = λ i. Done (sym (below under []) i ++ sym (nothing_upon under) i ∷ []) (record { locals = locals; world = st.world })
-  where
-    nothing_upon : (vs : List Value) → own 0 (length vs) (vs ++ []) ≡ nothing
-    nothing_upon [] = refl
-    nothing_upon (v ∷ vs) = nothing_upon vs
-returns_is locals under true (Done (Some v) st) h = λ i. Done (sym (below under (v ∷ [])) i ++ sym (first_upon under [] v) i ∷ []) (record { locals = locals; world = record st.world { changes = suc st.world.changes } })
-returns_is locals under false (Done (Some v) st) h = λ i. Done (sym (below under (v ∷ [])) i ++ sym (first_upon under [] v) i ∷ []) (record { locals = locals; world = st.world })
-returns_is locals under true (Trapped k at w) h = refl
-returns_is locals under false (Trapped k at w) h = refl
-returns_is locals under up (Left l st) h = absurd h
+returns_is : (locals under : List Value) (up : Bool) (x : Outcome (Option Value)) → and_then (with_locals locals x) (λ r. rises up (under ++ worth r ∷ [])) ≡ returned locals under up (and_then x (λ r. give (listed r)))
+returns_is locals under true (Done None st) = refl
+returns_is locals under false (Done None st) = refl
+returns_is locals under true (Done (Some v) st) = refl
+returns_is locals under false (Done (Some v) st) = refl
+returns_is locals under true (Trapped k at w) = refl
+returns_is locals under false (Trapped k at w) = refl
+returns_is locals under true (Left (Returned r) st) = refl
+returns_is locals under false (Left (Returned r) st) = refl
+returns_is locals under true (Left (Finished r) st) = refl
+returns_is locals under false (Left (Finished r) st) = refl
 
 module _ (methods : List Method) (method : Method) (given : List Value) (up : Bool) (m : Mach) where
   abbrev n : ℕ
@@ -67,31 +60,23 @@ module _ (methods : List Method) (method : Method) (given : List Value) (up : Bo
   whole last = and_then body (λ _. last_value (called methods (m.depth - 1)) (m.depth - 1) m.path last)
 
   abbrev after : Outcome (List Value) → Outcome Rest
-  after o = resume methods m.items (path_after up m.path) m.depth (returned m.state.locals (length m.values) up o)
+  after o = resume methods m.items (path_after up m.path) m.depth (returned m.state.locals m.values up o)
 
-  runs_last : (last : Option Last) → resume methods (Block (steps_in method.body) ∷ with_last last (Return m.state.locals m.depth (length m.values) up ∷ m.items)) m.path n (Done m.values inner) ≡ after (and_then (whole last) (λ r. give (m.values ++ listed r)))
-  runs_last None =
-      ap after
-      (regroup body (λ _. give m.values) (λ _ st. Done (m.values ++ []) st) (λ u st. ap (λ xs. Done xs st) (sym (append-nil m.values)))
-      ∙ sym (assoc body (λ _. give None) (λ r. give (m.values ++ listed r))))
+  runs_last : (last : Option Last) → resume methods (Block (steps_in method.body) ∷ with_last last (Return m.state.locals m.values m.depth up ∷ m.items)) m.path n (Done [] inner) ≡ after (and_then (whole last) (λ r. give (listed r)))
+  runs_last None = ap after (sym (assoc body (λ _. give None) (λ r. give (listed r))))
   runs_last (Some last) =
       let k = called methods (m.depth - 1) in
       ap after
-      (assoc body (λ _. give m.values) (act methods m.path n (Eval (tree_of last.value)))
-      ∙ regroup body (λ _. value k m.path (tree_of last.value) >>= (λ v. give (m.values ++ v ∷ []))) (λ _ st. and_then (and_then (value k m.path (tree_of last.value) st) (λ x. give (Some x))) (λ r. give (m.values ++ listed r)))
-      (λ u st. sym (assoc (value k m.path (tree_of last.value) st) (λ x. give (Some x)) (λ r. give (m.values ++ listed r))))
-      ∙ sym (assoc body (λ _. last_value k n m.path (Some last)) (λ r. give (m.values ++ listed r))))
-
-  settled_whole : (last : Option Last) → Settled (whole last)
-  settled_whole last =
-      settled_then body (λ _. last_value (called methods n) n m.path last) (settled_effects (called methods n) (settled_called methods n) n m.path (steps_in method.body) inner)
-      (λ u. settled_last (called methods n) (settled_called methods n) n m.path last)
+      (assoc body (λ _. give []) (act methods m.path n (Eval (tree_of last.value)))
+      ∙ regroup body (λ _. value k m.path (tree_of last.value) >>= (λ v. give (v ∷ []))) (λ _ st. and_then (and_then (value k m.path (tree_of last.value) st) (λ x. give (Some x))) (λ r. give (listed r)))
+      (λ u st. sym (assoc (value k m.path (tree_of last.value) st) (λ x. give (Some x)) (λ r. give (listed r))))
+      ∙ sym (assoc body (λ _. last_value k n m.path (Some last)) (λ r. give (listed r))))
 
   -- a method that was started comes to what the call comes to
   pub starts : (number : ℕ) → m.depth ≡ suc (m.depth - 1) → slice_get methods number ≡ Some method → resume methods m.items (path_after up m.path) m.depth (and_then (called methods m.depth number m.path given m.state) (λ r. rises up (m.values ++ worth r ∷ []))) ≡ comes_to methods (started method given up m)
   starts number e is =
       ap (λ o. resume methods m.items (path_after up m.path) m.depth (and_then o (λ r. rises up (m.values ++ worth r ∷ [])))) (called_is methods m.depth number method m.path given m.state e is)
-      ∙ ap (resume methods m.items (path_after up m.path) m.depth) (returns_is m.state.locals m.values up (whole method.last) (settled_whole method.last))
+      ∙ ap (resume methods m.items (path_after up m.path) m.depth) (returns_is m.state.locals m.values up (whole method.last))
       ∙ sym (runs_last method.last)
 
 module _ (methods : List Method) (m : Mach) (at : Span) where
@@ -110,8 +95,9 @@ module _ (methods : List Method) (m : Mach) (at : Span) where
       ∙ starts methods method (drop (suc base) m.values) true (record (cut_to base (in_world v m)) { path = q }) number e is
 
 -- a change of the world that traps
-pub world_fails : {B : Type 0} (a : Answer World) (at : Span) (st : State) (f : Unit {0} → Act B) (e : Stop) (w : World) → Changes a at st.world (Err e) w → Fails (and_then (with_world a at st) f) e w
+pub world_fails : {B : Type 0} (a : Answer World) (at : Span) (st : State) (f : Unit {0} → Act B) (e : Stop) (w : World) → Changes a at st.world (Err e) w → Traps (and_then (with_world a at st) f) e w
 world_fails a at st f stop.OutOfMemory w h = tt
+world_fails a at st f (stop.Ended r) w h = h
 world_fails a at st f (stop.Trapped t) w h = ap (λ a. and_then (with_world a at st) f) h.0 ∙ (λ i. Trapped t.kind (sym h.1 i) (sym h.2 i))
 
 no_depth : (methods : List Method) (d number : ℕ) (p : Path) (given : List Value) (st : State) → d ≡ 0 → called methods d number p given st ≡ Trapped Ticks nowhere st.world
@@ -130,7 +116,7 @@ module _ (methods : List Method) (m : Mach) (at : Span) where
       let q = child m.path class (own 0 base m.values) in
       let call = called methods m.depth number q (drop (suc base) m.values) >>= (λ r. back >> give (take base m.values ++ worth r ∷ [])) in
       fails_through methods m.items m.path m.depth _ e v
-      (subst (λ a. Fails (and_then (with_world a at m.state) (λ _. enter_at q at >> call)) e v) (sym ticks) (world_fails (entering q w) at (record { locals = m.state.locals; world = w }) (λ _. call) e v h))
+      (subst (λ a. Traps (and_then (with_world a at m.state) (λ _. enter_at q at >> call)) e v) (sym ticks) (world_fails (entering q w) at (record { locals = m.state.locals; world = w }) (λ _. call) e v h))
 
   pub too_deep : (number base : ℕ) (w : World) → ticking m.state.world ≡ Ok w → m.depth ≡ 0 → comes_to methods (on_top (Invoke at number base) m) ≡ Trapped Ticks nowhere w
   too_deep number base w ticks e =

@@ -1,5 +1,5 @@
 -- Calls and returns in the machine.
-use Rattle.std.proofs.Common.{◌≡◌, ℕ, zero, suc, ◌+◌, ◌-◌, ◌*◌, ◌^◌, ◌<◌, ◌≤◌, ◌⊎◌, inl, inr, Bool, true, false, nat_lt, if◌then◌else◌, List, [], ◌∷◌, ◌++◌, length, take, drop, Option, Some, None, Result, Ok, Err, OnOk, IfErr, refl, sym, ap, subst, ◌∙◌, arith}
+use Rattle.std.proofs.Common.{◌≡◌, ℕ, zero, suc, ◌+◌, ◌-◌, ◌*◌, ◌^◌, ◌<◌, ◌≤◌, ◌⊎◌, inl, inr, Bool, true, false, nat_lt, if◌then◌else◌, List, [], ◌∷◌, ◌++◌, length, take, drop, get_or, Option, Some, None, Result, Ok, Err, OnOk, IfErr, refl, sym, ap, subst, ◌∙◌, arith}
 use Rattle.std.specs.Prelude.{slice_get}
 use Rattle.std.specs.List.{All}
 use Rattle.std.proofs.lemmas.List.Elements.{All-push, All-weaker}
@@ -21,14 +21,15 @@ use Rattle.resolved_service.specs.declared.service.Method.{Method}
 use Rattle.resolved_service.specs.Fits.{FitsSteps, FitsTree, FitsMethod, FitsLast, IsMethod, IsChildClass}
 use Rattle.resolved_service.specs.Steps.{steps_in}
 use Rattle.resolved_service.specs.View.{tree_of}
-use Rattle.resolved_service.specs.World.{World, has, key_of, child, took, ticking, changed, with_entered, entering}
+use Rattle.resolved_service.specs.World.{World, nothing, has, key_of, child, took, ticking, changed, with_entered, entering}
 use Rattle.service_eval.specs.declared.code.Code.{Code}
 use Rattle.service_eval.specs.declared.machine.Machine.{Machine}
 use Rattle.service_eval.specs.declared.stop.Stop.{Stop}
 use Rattle.service_eval.specs.declared.stop.Stop.TheVariants as stop
 use Rattle.service_eval.specs.declared.trace.Trace.{Trace}
+use Rattle.service_eval.specs.declared.work.Caller.{Caller}
 use Rattle.service_eval.specs.Items as i
-use Rattle.service_eval.specs.Items.{Item, Eval, Invoke, Child, Block, Return}
+use Rattle.service_eval.specs.Items.{Item, Eval, Invoke, Child, Block, Return, return_of}
 use Rattle.service_eval.specs.Machines.{Mach, mach_of, on_top, cut_to, in_world, own, path_after, back_to, with_last, started, comes_to}
 use Rattle.service_eval.specs.Ready.{FitsItems, FitsItem, owed, downs, Ready}
 use Rattle.service_eval.specs.Turns.{mach, IsNext, Goes}
@@ -105,7 +106,7 @@ downs_last (Some last) items p = refl
 
 pub few_downs : (items : List Item) (p : Path) → downs items p ≤ 8
 few_downs [] p = omega arith
-few_downs (Return locals depth base up ∷ items) p = few_downs items (path_after up p)
+few_downs (Return locals below depth up ∷ items) p = few_downs items (path_after up p)
 few_downs (Eval t ∷ items) p = few_downs items p
 few_downs (i.Evals ts ∷ items) p = few_downs items p
 few_downs (i.Apply at row base ∷ items) p = few_downs items p
@@ -131,7 +132,7 @@ module _ (shape : Shape) (methods : List Method) (fits : All (FitsMethod shape m
   pub ready_invoked : (at : Span) (base : ℕ) (w : World) → Ready shape methods (on_top (Invoke at number base) m) → ticking m.state.world ≡ Ok w → Ready shape methods (started method (drop base m.values) false (cut_to base (in_world w m)))
   ready_invoked at base w r ticks =
       let t = ticked m.state.world w ticks in
-      let rest = Return m.state.locals m.depth (length (take base m.values)) false ∷ m.items in
+      let rest = Return m.state.locals (take base m.values) m.depth false ∷ m.items in
       record {
         items = fits_started shape methods method m.path rest (method_fits shape methods number method fits is) (same_method methods (class_of m.path) number r.items.0.0 method r.items.0.1 is) (tt, r.items.1);
         holds = subst (λ (v : World). Holds shape v.tree) (sym t.1) r.holds;
@@ -146,7 +147,7 @@ module _ (shape : Shape) (methods : List Method) (fits : All (FitsMethod shape m
   ready_child at class base w v shaped r ticks e known =
       let s : Step = record { class = record { 0 = class }; key = key_of (own 0 base m.values) } in
       let t = ticked m.state.world w ticks in
-      let rest = Return m.state.locals m.depth (length (take base m.values)) true ∷ m.items in
+      let rest = Return m.state.locals (take base m.values) m.depth true ∷ m.items in
       record {
         items = fits_started shape methods method (child m.path class (own 0 base m.values)) rest (method_fits shape methods number method fits is)
             (same_method methods class number r.items.0.1.0 method r.items.0.1.1 is ∙ sym (class_of-child m.path s))
@@ -160,19 +161,22 @@ module _ (shape : Shape) (methods : List Method) (fits : All (FitsMethod shape m
       }
 
 -- a return
-module _ (shape : Shape) (methods : List Method) (m : Mach) (locals : List Value) (depth base : ℕ) where
-  ready_back : (up : Bool) → Ready shape methods (on_top (Return locals depth base up) m) → Ready shape methods (back_to locals depth base up m)
-  ready_back true r = record {
-    items = r.items.1;
-    holds = r.holds;
-    path = is_path-parent shape m.path r.path;
-    held = r.held;
-    here = parent_there shape m.state.world.tree r.holds m.path r.here;
-    early = r.early;
-    room = omega (arith, r.room);
-  }
-  ready_back false r = record { items = r.items.1; holds = r.holds; path = r.path; held = r.held; here = r.here; early = r.early; room = omega (arith, r.room) }
+module _ (shape : Shape) (methods : List Method) (m : Mach) (c : Caller) (v : Value) where
+  pub ready_back : Ready shape methods (on_top (return_of c) m) → Ready shape methods (back_to c v m)
+  ready_back r = by c.up r
+    where
+      by : (up : Bool) → Ready shape methods (on_top (Return c.locals.items c.values.items c.depth up) m) → Ready shape methods (back_to (record c { up = up }) v m)
+      by true r = record {
+        items = r.items.1;
+        holds = r.holds;
+        path = is_path-parent shape m.path r.path;
+        held = r.held;
+        here = parent_there shape m.state.world.tree r.holds m.path r.here;
+        early = r.early;
+        room = omega (arith, r.room);
+      }
+      by false r = record { items = r.items.1; holds = r.holds; path = r.path; held = r.held; here = r.here; early = r.early; room = omega (arith, r.room) }
 
-pub back_turn : (code : Code) (contexts : Contexts) (m m' : Machine) (r : Result (Unit {0}) Stop) (locals : List Value) (depth base : ℕ) (up : Bool) → OnOk r ((tree : Tree (List Value)) → mach_of tree m' ≡ back_to locals depth base up (mach_of tree m)) → IfErr r (λ e. e ≡ stop.OutOfMemory) → IsNext code contexts m (Return locals depth base up) → Goes code contexts m (Return locals depth base up) r contexts m'
-back_turn code contexts m m' r locals depth base up ok err next =
-    turned code contexts (Return locals depth base up) (back_to locals depth base up) m m' r next refl (ready_back code.shape.now code.methods.now (mach code contexts m) locals depth base up next) ok err
+pub back_turn : (code : Code) (contexts : Contexts) (m m' : Machine) (r : Result (Unit {0}) Stop) (c : Caller) (v : Value) → v ≡ get_or m.values.items 0 nothing → OnOk r ((tree : Tree (List Value)) → mach_of tree m' ≡ back_to c v (mach_of tree m)) → IfErr r (λ e. e ≡ stop.OutOfMemory) → IsNext code contexts m (return_of c) → Goes code contexts m (return_of c) r contexts m'
+back_turn code contexts m m' r c v is ok err next =
+    turned code contexts (return_of c) (back_to c v) m m' r next (ap (λ v. comes_to code.methods.now (back_to c v (mach code contexts m))) (sym is)) (ready_back code.shape.now code.methods.now (mach code contexts m) c v next) ok err

@@ -128,6 +128,7 @@ module _ (code : Code) (contexts : Contexts) (m m' : Machine) (at : Span) (base 
       did code contexts contexts (Finish at what base) (in_state (record { locals = slice_set M.state.locals slot v; world = M.state.world }) (cut_to base M)) m m'
       (finished code.methods.now M at base what (record { locals = slice_set M.state.locals slot v; world = M.state.world }) (is ∙ ap (λ a. and_then (answer a at M.state) (set_local slot)) h))
       (ready_in _ _ M _ _ _ _ _ next next.items.1 (omega arith) (same_world M.state.world)) same
+  slot_turn slot is v (Err (stop.Ended e)) h same = absurd h
   slot_turn slot is v (Err stop.OutOfMemory) h same = (tt, subst (λ (x : Mach). Holds code.shape.now x.state.world.tree) (sym same) next.holds)
   slot_turn slot is v (Err (stop.Trapped t)) h same =
       let fails : Fails does (stop.Trapped t) M.state.world = subst (λ o. Fails o (stop.Trapped t) M.state.world) (sym is) (gives_fails a at M.state (set_local slot) (stop.Trapped t) (h.0, h.1)) in
@@ -151,6 +152,7 @@ module _ (code : Code) (contexts : Contexts) (m m' : Machine) (at : Span) (base 
         did code contexts contexts' (Finish at what base) Left m m'
         (finished code.methods.now M at base what (record { locals = M.state.locals; world = after }) (is ∙ ap (λ a. and_then (answer a at M.state) (put_field f M.path)) h))
         (ready_in _ _ M _ _ _ _ _ next next.items.1 (omega arith) (same_field f v M.path M.state.world)) same
+    field_turn (Err (stop.Ended e)) h same = absurd h
     field_turn (Err stop.OutOfMemory) h same =
         (tt, subst (λ (x : Mach). Holds code.shape.now x.state.world.tree) (sym same) (subst (λ (w : World). Holds code.shape.now w.tree) (sym (kept h)) next.holds))
     field_turn (Err (stop.Trapped t)) h same =

@@ -13,10 +13,10 @@ use Rattle.resolved_service.specs.World.{World, is_true, child}
 use Rattle.service_eval.specs.declared.stop.Stop.{Stop}
 use Rattle.service_eval.specs.declared.stop.Stop.TheVariants as stop
 use Rattle.service_eval.specs.Answers.{Gives}
-use Rattle.service_eval.specs.Worlds.{Fails}
+use Rattle.service_eval.specs.Worlds.{Traps, Fails}
 use Rattle.service_eval.specs.Items.{Item, Eval, Evals, Apply, AndThen, OrElse, Invoke, Child}
 use Rattle.service_eval.specs.Machines.{Mach, Rest, on_top, with_value, cut_to, own, act, resume, comes_to}
-use Rattle.service_eval.proofs.Outcomes.{assoc, regroup, feeds, fails_then, fails_through, below, upon, first_upon, rest_upon}
+use Rattle.service_eval.proofs.Outcomes.{assoc, regroup, feeds, traps_then, fails_through, below, upon, first_upon, rest_upon}
 
 module _ (methods : List Method) (m : Mach) where
   abbrev vs : List Value
@@ -35,8 +35,8 @@ module _ (methods : List Method) (m : Mach) where
   pub found_value : (t : Tree) (v : Value) → value (called methods m.depth) m.path t m.state ≡ Done v m.state → comes_to methods (on_top (Eval t) m) ≡ comes_to methods (with_value v m)
   found_value t v h = ap (λ o. resume methods m.items m.path m.depth (and_then o (λ v. give (m.values ++ v ∷ [])))) h
 
-  pub found_fails : (t : Tree) (e : Stop) (w : World) → Fails (value (called methods m.depth) m.path t m.state) e w → Fails (comes_to methods (on_top (Eval t) m)) e w
-  found_fails t e w h = fails_through methods m.items m.path m.depth _ e w (fails_then (value k m.path t m.state) push e w h)
+  pub found_fails : (t : Tree) (e : Stop) (w : World) → Traps (value (called methods m.depth) m.path t m.state) e w → Fails (comes_to methods (on_top (Eval t) m)) e w
+  found_fails t e w h = fails_through methods m.items m.path m.depth _ e w (traps_then (value k m.path t m.state) push e w h)
 
   pub op_parts : (at : Span) (row : ℕ) (ts : Trees) → comes_to methods (on_top (Eval (Op at row ts)) m) ≡ comes_to methods (on_top (Evals ts) (on_top (Apply at row (length m.values)) m))
   op_parts at row ts =
@@ -66,6 +66,7 @@ module _ (methods : List Method) (m : Mach) where
 
     pub not_applied : (e : Stop) → Gives (apply_row row (drop base m.values)) at (Err e) → Fails (comes_to methods (on_top (Apply at row base) m)) e m.state.world
     not_applied stop.OutOfMemory h = tt
+    not_applied (stop.Ended r) h = absurd h
     not_applied (stop.Trapped t) h =
         fails_through methods m.items m.path m.depth (and_then (answer (apply_row row (drop base vs)) at m.state) (λ v. give (take base vs ++ v ∷ []))) (stop.Trapped t) m.state.world
         (ap (λ a. and_then (answer a at m.state) (λ v. give (take base vs ++ v ∷ []))) h.0 ∙ ap (λ x. Trapped t.kind x m.state.world) (sym h.1))

@@ -33,6 +33,13 @@ failed p n view (Done a s) (stop.Trapped t) w h = cc
 failed p n view (Trapped k at v) (stop.Trapped t) w h =
     let a : k ≡ t.kind = cc in let b : at ≡ t.at = cc in let c : v ≡ w = cc in λ i. Trapped (a i) (b i) (c i)
 failed p n view (Left l s) (stop.Trapped t) w h = cc
+failed p n view (Done a s) (stop.Ended r) w h = let is : Done (rest_at p n (view a)) s ≡ Left h.why h.state = h.is in cc
+failed p n view (Trapped k at v) (stop.Ended r) w h = let is : Trapped k at v ≡ Left h.why h.state = h.is in cc
+failed p n view (Left l s) (stop.Ended r) w h =
+    let is : ◌≡◌ {A = Outcome Rest} (Left l s) (Left h.why h.state) = h.is in
+    let a : l ≡ h.why = cc in
+    let b : s ≡ h.state = cc in
+    record { why = h.why; state = h.state; is = λ i. Left (a i) (b i); replies = h.replies; leaves = h.leaves }
 
 module _ (code : Code) (contexts contexts' : Contexts) (m m1 m2 : Machine) (rests : Rests code contexts m) where
   abbrev st : State

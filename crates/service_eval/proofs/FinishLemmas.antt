@@ -21,15 +21,16 @@ use Rattle.service_eval.specs.Answers.{Gives}
 use Rattle.service_eval.specs.Items.{End, SetLocal, Branch, Require, Send, Spawn, Drop, Item, Eval, Block, Finish, Turns, Check, Counts, Next}
 use Rattle.service_eval.specs.Machines.{Mach, on_top, cut_to, in_world, in_state, own, act, finish, turn_on, next, resume, comes_to}
 use Rattle.service_eval.specs.Ready.{FitsItems, owed, Ready}
-use Rattle.service_eval.specs.Worlds.{Changes, Fails, Holds}
+use Rattle.service_eval.specs.Worlds.{Changes, Traps, Fails, Holds}
 use Rattle.service_eval.proofs.CallLemmas.{world_fails}
 use Rattle.service_eval.proofs.CallTurns.{ticked}
-use Rattle.service_eval.proofs.Outcomes.{assoc, regroup, feeds, fails_then, fails_through, below, upon, first_upon}
+use Rattle.service_eval.proofs.Outcomes.{assoc, regroup, feeds, traps_then, fails_through, below, upon, first_upon}
 use Rattle.service_eval.proofs.PathLemmas.{same_paths}
 
 -- an answer, and what it gives at a place
-pub gives_fails : {B : Type 0} (a : Answer Value) (at : Span) (st : State) (f : Value → Act B) (e : Stop) → Gives a at (Err e) → Fails (and_then (answer a at st) f) e st.world
+pub gives_fails : {B : Type 0} (a : Answer Value) (at : Span) (st : State) (f : Value → Act B) (e : Stop) → Gives a at (Err e) → Traps (and_then (answer a at st) f) e st.world
 gives_fails a at st f stop.OutOfMemory h = tt
+gives_fails a at st f (stop.Ended r) h = h
 gives_fails a at st f (stop.Trapped t) h = ap (λ a. and_then (answer a at st) f) h.0 ∙ ap (λ x. Trapped t.kind x st.world) (sym h.1)
 
 module _ (methods : List Method) (m : Mach) (at : Span) (base : ℕ) where
@@ -39,8 +40,8 @@ module _ (methods : List Method) (m : Mach) (at : Span) (base : ℕ) where
   pub finished : (what : End) (st : State) → finish (called methods m.depth) m.depth m.path at (drop base m.values) what m.state ≡ Done tt st → comes_to methods (on_top (Finish at what base) m) ≡ comes_to methods (in_state st (cut_to base m))
   finished what st h = ap (λ o. resume methods m.items m.path m.depth (and_then o (λ _. give (take base m.values)))) h
 
-  pub not_finished : (what : End) (e : Stop) (w : World) → Fails (finish (called methods m.depth) m.depth m.path at (drop base m.values) what m.state) e w → Fails (comes_to methods (on_top (Finish at what base) m)) e w
-  not_finished what e w h = fails_through methods m.items m.path m.depth _ e w (fails_then (does what) (λ _. give (take base m.values)) e w h)
+  pub not_finished : (what : End) (e : Stop) (w : World) → Traps (finish (called methods m.depth) m.depth m.path at (drop base m.values) what m.state) e w → Fails (comes_to methods (on_top (Finish at what base) m)) e w
+  not_finished what e w h = fails_through methods m.items m.path m.depth _ e w (traps_then (does what) (λ _. give (take base m.values)) e w h)
 
   pub branch_true : (body other : Steps) → is_true (own 0 base m.values) ≡ true → comes_to methods (on_top (Finish at (Branch body other) base) m) ≡ comes_to methods (on_top (Block body) (cut_to base m))
   branch_true body other h = ap (λ b. resume methods m.items m.path m.depth (and_then (choose b (effects (called methods m.depth) m.depth m.path body) (effects (called methods m.depth) m.depth m.path other) m.state) (λ _. give (take base m.values)))) h
@@ -67,11 +68,11 @@ module _ (at : Span) (inner : Act (Unit {0})) where
   turn_more : (n : ℕ) (test : Act Value) (t : Value) (st : State) → n ≡ suc (n - 1) → is_true t ≡ true → turn_on n test inner at t st ≡ and_then (tick at st) (λ _. inner >> while_turns (n - 1) test inner at)
   turn_more n test t st e h = ap (λ k. turn_on k test inner at t st) e ∙ ap (λ b. choose b (tick at >> (inner >> while_turns (n - 1) test inner at)) (give tt) st) h
 
-  turn_ticks : (n : ℕ) (test : Act Value) (t : Value) (st : State) (f : Unit {0} → Act (List Value)) (e : Stop) (w : World) → is_true t ≡ true → Changes (ticking st.world) at st.world (Err e) w → Fails (and_then (turn_on n test inner at t st) f) e w
-  turn_ticks zero test t st f e w h c = subst (λ b. Fails (and_then (choose b (tick at) (give tt) st) f) e w) (sym h) (world_fails (ticking st.world) at st f e w c)
+  turn_ticks : (n : ℕ) (test : Act Value) (t : Value) (st : State) (f : Unit {0} → Act (List Value)) (e : Stop) (w : World) → is_true t ≡ true → Changes (ticking st.world) at st.world (Err e) w → Traps (and_then (turn_on n test inner at t st) f) e w
+  turn_ticks zero test t st f e w h c = subst (λ b. Traps (and_then (choose b (tick at) (give tt) st) f) e w) (sym h) (world_fails (ticking st.world) at st f e w c)
   turn_ticks (suc n) test t st f e w h c =
-      subst (λ b. Fails (and_then (choose b (tick at >> (inner >> while_turns n test inner at)) (give tt) st) f) e w) (sym h)
-      (fails_then (and_then (tick at st) (λ _. inner >> while_turns n test inner at)) f e w (world_fails (ticking st.world) at st (λ _. inner >> while_turns n test inner at) e w c))
+      subst (λ b. Traps (and_then (choose b (tick at >> (inner >> while_turns n test inner at)) (give tt) st) f) e w) (sym h)
+      (traps_then (and_then (tick at st) (λ _. inner >> while_turns n test inner at)) f e w (world_fails (ticking st.world) at st (λ _. inner >> while_turns n test inner at) e w c))
 
 module _ (methods : List Method) (m : Mach) (at : Span) (left : ℕ) (body : Steps) where
   abbrev k : ℕ → Path → List Value → Act (Option Value)
@@ -132,7 +133,7 @@ module _ (methods : List Method) (m : Mach) (at : Span) (counter : ℕ) where
     pub counts_wrong : (e : Stop) → Gives test_row at (Err e) → Fails (comes_to methods (on_top (Counts at counter body left) m)) e m.state.world
     counts_wrong e h =
         subst (λ o. Fails o e m.state.world) (sym counts_is)
-        (fails_through methods m.items m.path m.depth _ e m.state.world (fails_then _ (λ _. give m.values) e m.state.world (gives_fails test_row at m.state (turn_on left (for_test counter at) turn at) e h)))
+        (fails_through methods m.items m.path m.depth _ e m.state.world (traps_then _ (λ _. give m.values) e m.state.world (gives_fails test_row at m.state (turn_on left (for_test counter at) turn at) e h)))
 
     module _ (v : Value) (found : test_row ≡ Ok v) where
       counts_on : comes_to methods (on_top (Counts at counter body left) m) ≡ resume methods m.items m.path m.depth (and_then (turn_on left (for_test counter at) turn at v m.state) (λ _. give m.values))
@@ -163,4 +164,4 @@ module _ (methods : List Method) (m : Mach) (at : Span) (counter : ℕ) where
   next_is v h = ap (λ a. resume methods m.items m.path m.depth (and_then (and_then (answer a at m.state) (set_local counter)) (λ _. give m.values))) h
 
   pub next_fails : (e : Stop) → Gives (apply_row row_add (get_or m.state.locals counter nothing ∷ Int (pos 1) ∷ [])) at (Err e) → Fails (comes_to methods (on_top (Next at counter) m)) e m.state.world
-  next_fails e h = fails_through methods m.items m.path m.depth _ e m.state.world (fails_then _ (λ _. give m.values) e m.state.world (gives_fails _ at m.state (set_local counter) e h))
+  next_fails e h = fails_through methods m.items m.path m.depth _ e m.state.world (traps_then _ (λ _. give m.values) e m.state.world (gives_fails _ at m.state (set_local counter) e h))

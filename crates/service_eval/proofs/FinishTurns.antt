@@ -19,8 +19,9 @@ use Rattle.service_eval.specs.Items.{Item}
 use Rattle.service_eval.specs.Machines.{Mach, on_top, comes_to}
 use Rattle.service_eval.specs.Ready.{FitsItems, owed, downs, Ready, Turned}
 use Rattle.service_eval.specs.Turns.{mach, IsNext, Goes}
-use Rattle.service_eval.specs.Worlds.{Holds, Fails}
+use Rattle.service_eval.specs.Worlds.{Holds}
 use Rattle.service_eval.proofs.CallTurns.{ticked}
+use Rattle.service_eval.proofs.LeaveTurns.{follows_from}
 use Rattle.service_eval.proofs.PathLemmas.{same_paths}
 
 -- the same paths, held ones, generation and changes, and no more ticks
@@ -71,8 +72,7 @@ did code contexts contexts' item target m m' same ready is = (same ∙ ap (comes
 
 -- the same, begun with what comes to the same
 pub goes_from : (code : Code) (before before' : Mach) (r : Result (Unit {0}) Stop) (after : Mach) → comes_to code.methods.now before ≡ comes_to code.methods.now before' → Turned code.shape.now code.methods.now before' r after → Turned code.shape.now code.methods.now before r after
-goes_from code before before' (Ok u) after e h = (e ∙ h.0, h.1)
-goes_from code before before' (Err x) after e h = (subst (λ o. Fails o x after.state.world) (sym e) h.0, h.1)
+goes_from code before before' r after e h = follows_from code (comes_to code.methods.now before) (comes_to code.methods.now before') r after e h
 
 pub same_spawned : (event : ℕ) (args : List Value) (w v : World) → spawning event args w ≡ Ok v → Same w v
 unfolding spawning

@@ -2,13 +2,13 @@ pub mod FieldLemmas
 pub mod RowLemmas
 pub mod WorldLemmas
 pub mod TreeRows
+pub mod LeaveTurns
 pub mod LookLemmas
 pub mod Outcomes
 pub mod EvalLemmas
 pub mod ReadyLemmas
 pub mod EvalTurns
 pub mod PathLemmas
-pub mod Settled
 pub mod CallLemmas
 pub mod CallTurns
 pub mod BlockLemmas

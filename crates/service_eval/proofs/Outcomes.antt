@@ -1,18 +1,18 @@
 -- One act after the other.
-use Rattle.std.proofs.Common.{◌≡◌, ℕ, zero, suc, ◌+◌, Bool, true, false, List, [], ◌∷◌, ◌++◌, length, take, drop, get_or, refl, sym, ap, subst, ◌∙◌, append_assoc}
+use Rattle.std.proofs.Common.{◌≡◌, ℕ, zero, suc, ◌+◌, Bool, true, false, List, [], ◌∷◌, ◌++◌, length, take, drop, get_or, Option, refl, sym, ap, subst, ◌∙◌, append_assoc}
 use Rattle.std.proofs.Math.Seq.{take-append_seam, drop-append_seam}
 use Rattle.wave_base.specs.declared.path.Path.{Path}
 use Rattle.wave_base.specs.declared.span.Span.{Span}
 use Rattle.wave_base.specs.declared.trap.TrapKind.{TrapKind}
 use Rattle.wave_base.specs.declared.value.Value.{Value}
 use Rattle.resolved_service.specs.declared.service.Method.{Method}
-use Rattle.resolved_service.specs.Meaning.{State, Outcome, Done, Trapped, Left, Act, and_then, give}
+use Rattle.resolved_service.specs.Meaning.{State, Returned, Finished, Outcome, Done, Trapped, Left, Act, and_then, give}
 use Rattle.resolved_service.specs.World.{World, nothing}
 use Rattle.service_eval.specs.declared.stop.Stop.{Stop}
 use Rattle.service_eval.specs.declared.stop.Stop.TheVariants as stop
-use Rattle.service_eval.specs.Items.{Item, Eval, Evals, Apply, AndThen, OrElse, Invoke, Child, Block, Begin, Finish, Turns, Check, Counts, Next, Return}
+use Rattle.service_eval.specs.Items.{Item, Eval, Evals, Apply, AndThen, OrElse, Invoke, Child, Block, Begin, Finish, Turns, Check, Counts, Next, Return, to_return}
 use Rattle.service_eval.specs.Machines.{resume, own}
-use Rattle.service_eval.specs.Worlds.{Fails}
+use Rattle.service_eval.specs.Worlds.{Traps, Ends, Fails}
 
 pub assoc : {A B C : Type 0} (o : Outcome A) (f : A → Act B) (g : B → Act C) → and_then (and_then o f) g ≡ and_then o (λ a st. and_then (f a st) g)
 assoc (Done a st) f g = refl
@@ -30,14 +30,25 @@ feeds (Done a st) f view g h = h a st
 feeds (Trapped k at w) f view g h = refl
 feeds (Left l st) f view g h = refl
 
+pub traps_then : {A B : Type 0} (o : Outcome A) (f : A → Act B) (e : Stop) (w : World) → Traps o e w → Traps (and_then o f) e w
+traps_then o f stop.OutOfMemory w h = tt
+traps_then o f (stop.Trapped t) w h = ap (λ o. and_then o f) h
+traps_then o f (stop.Ended r) w h = h
+
 pub fails_then : {A B : Type 0} (o : Outcome A) (f : A → Act B) (e : Stop) (w : World) → Fails o e w → Fails (and_then o f) e w
 fails_then o f stop.OutOfMemory w h = tt
 fails_then o f (stop.Trapped t) w h = ap (λ o. and_then o f) h
+fails_then o f (stop.Ended r) w h = record { why = h.why; state = h.state; is = ap (λ o. and_then o f) h.is; replies = h.replies; leaves = h.leaves }
+
+pub traps_fail : {A : Type 0} (o : Outcome A) (e : Stop) (w : World) → Traps o e w → Fails o e w
+traps_fail o stop.OutOfMemory w h = tt
+traps_fail o (stop.Trapped t) w h = h
+traps_fail o (stop.Ended r) w h = absurd h
 
 -- a trap ends all
 pub trap_through : (methods : List Method) (items : List Item) (p : Path) (n : ℕ) (k : TrapKind) (at : Span) (w : World) → resume methods items p n (Trapped k at w) ≡ Trapped k at w
 trap_through methods [] p n k at w = refl
-trap_through methods (Return locals depth base up ∷ items) p n k at w = trap_through methods items _ depth k at w
+trap_through methods (Return locals below depth up ∷ items) p n k at w = trap_through methods items _ depth k at w
 trap_through methods (Eval t ∷ items) p n k at w = trap_through methods items p n k at w
 trap_through methods (Evals ts ∷ items) p n k at w = trap_through methods items p n k at w
 trap_through methods (Apply a row base ∷ items) p n k at w = trap_through methods items p n k at w
@@ -53,9 +64,48 @@ trap_through methods (Check a test body left base ∷ items) p n k at w = trap_t
 trap_through methods (Counts a counter body left ∷ items) p n k at w = trap_through methods items p n k at w
 trap_through methods (Next a counter ∷ items) p n k at w = trap_through methods items p n k at w
 
-pub fails_through : (methods : List Method) (items : List Item) (p : Path) (n : ℕ) (o : Outcome (List Value)) (e : Stop) (w : World) → Fails o e w → Fails (resume methods items p n o) e w
+pub fails_through : (methods : List Method) (items : List Item) (p : Path) (n : ℕ) (o : Outcome (List Value)) (e : Stop) (w : World) → Traps o e w → Fails (resume methods items p n o) e w
 fails_through methods items p n o stop.OutOfMemory w h = tt
 fails_through methods items p n o (stop.Trapped t) w h = ap (resume methods items p n) h ∙ trap_through methods items p n t.kind t.at w
+fails_through methods items p n o (stop.Ended r) w h = absurd h
+
+-- a method that returns early goes on at its return
+pub return_through : (methods : List Method) (items : List Item) (p : Path) (n : ℕ) (r : Option Value) (st : State) → resume methods items p n (Left (Returned r) st) ≡ resume methods (to_return items) p n (Left (Returned r) st)
+return_through methods [] p n r st = refl
+return_through methods (Return locals below depth up ∷ items) p n r st = refl
+return_through methods (Eval t ∷ items) p n r st = return_through methods items p n r st
+return_through methods (Evals ts ∷ items) p n r st = return_through methods items p n r st
+return_through methods (Apply a row base ∷ items) p n r st = return_through methods items p n r st
+return_through methods (AndThen right base ∷ items) p n r st = return_through methods items p n r st
+return_through methods (OrElse right base ∷ items) p n r st = return_through methods items p n r st
+return_through methods (Invoke a method base ∷ items) p n r st = return_through methods items p n r st
+return_through methods (Child a class method base ∷ items) p n r st = return_through methods items p n r st
+return_through methods (Block steps ∷ items) p n r st = return_through methods items p n r st
+return_through methods (Begin s ∷ items) p n r st = return_through methods items p n r st
+return_through methods (Finish a what base ∷ items) p n r st = return_through methods items p n r st
+return_through methods (Turns a test body left ∷ items) p n r st = return_through methods items p n r st
+return_through methods (Check a test body left base ∷ items) p n r st = return_through methods items p n r st
+return_through methods (Counts a counter body left ∷ items) p n r st = return_through methods items p n r st
+return_through methods (Next a counter ∷ items) p n r st = return_through methods items p n r st
+
+-- a finish ends all
+pub finish_through : (methods : List Method) (items : List Item) (p : Path) (n : ℕ) (r : Option Value) (st : State) → Ends (resume methods items p n (Left (Finished r) st)) r st.world
+finish_through methods [] p n r st = record { why = Finished r; state = st; is = refl; replies = refl; leaves = refl }
+finish_through methods (Return locals below depth up ∷ items) p n r st = finish_through methods items _ depth r (record { locals = locals; world = st.world })
+finish_through methods (Eval t ∷ items) p n r st = finish_through methods items p n r st
+finish_through methods (Evals ts ∷ items) p n r st = finish_through methods items p n r st
+finish_through methods (Apply a row base ∷ items) p n r st = finish_through methods items p n r st
+finish_through methods (AndThen right base ∷ items) p n r st = finish_through methods items p n r st
+finish_through methods (OrElse right base ∷ items) p n r st = finish_through methods items p n r st
+finish_through methods (Invoke a method base ∷ items) p n r st = finish_through methods items p n r st
+finish_through methods (Child a class method base ∷ items) p n r st = finish_through methods items p n r st
+finish_through methods (Block steps ∷ items) p n r st = finish_through methods items p n r st
+finish_through methods (Begin s ∷ items) p n r st = finish_through methods items p n r st
+finish_through methods (Finish a what base ∷ items) p n r st = finish_through methods items p n r st
+finish_through methods (Turns a test body left ∷ items) p n r st = finish_through methods items p n r st
+finish_through methods (Check a test body left base ∷ items) p n r st = finish_through methods items p n r st
+finish_through methods (Counts a counter body left ∷ items) p n r st = finish_through methods items p n r st
+finish_through methods (Next a counter ∷ items) p n r st = finish_through methods items p n r st
 
 -- values upon those that lie below
 module _ (vs xs : List Value) where

@@ -36,6 +36,7 @@ pub turned_to : (code : Code) (contexts : Contexts) (before target : Mach) (m' :
 turned_to code contexts before target m' (Ok u) same ready holds ok err = (same ∙ ap (comes_to code.methods.now) (sym ok), subst (Ready code.shape.now code.methods.now) (sym ok) ready)
 turned_to code contexts before target m' (Err stop.OutOfMemory) same ready holds ok err = (tt, holds)
 turned_to code contexts before target m' (Err (stop.Trapped t)) same ready holds ok err = cc
+turned_to code contexts before target m' (Err (stop.Ended t)) same ready holds ok err = cc
 
 -- what was done by calls that fail for want of memory alone
 pub turned : (code : Code) (contexts : Contexts) (item : Item) (f : Mach → Mach) (m m' : Machine) (r : Result (Unit {0}) Stop) → IsNext code contexts m item → comes_to code.methods.now (on_top item (mach code contexts m)) ≡ comes_to code.methods.now (f (mach code contexts m)) → Ready code.shape.now code.methods.now (f (mach code contexts m)) → OnOk r ((tree : Tree (List Value)) → mach_of tree m' ≡ f (mach_of tree m)) → IfErr r (λ e. e ≡ stop.OutOfMemory) → Goes code contexts m item r contexts m'
@@ -44,6 +45,7 @@ turned code contexts item f m m' (Ok u) next same ready ok err =
     (same ∙ ap (comes_to code.methods.now) (sym e), subst (Ready code.shape.now code.methods.now) (sym e) ready)
 turned code contexts item f m m' (Err stop.OutOfMemory) next same ready ok err = (tt, next.holds)
 turned code contexts item f m m' (Err (stop.Trapped t)) next same ready ok err = cc
+turned code contexts item f m m' (Err (stop.Ended t)) next same ready ok err = cc
 
 -- an expression as it is named
 pub at_tree : (code : Code) (contexts : Contexts) (m m' : Machine) (r : Result (Unit {0}) Stop) (t u : Expression) → t ≡ u → (IsNext code contexts m (Eval u) → Goes code contexts m (Eval u) r contexts m') → IsNext code contexts m (Eval t) → Goes code contexts m (Eval t) r contexts m'

@@ -142,20 +142,20 @@ few row = nat_le (length (takes_of row)) 3
 from_few : (row : ℕ) → few row ≡ true → length (takes_of row) ≤ 3
 from_few row e = grind (arith, nat_tests)
 
-pub few_kinds : (row : ℕ) → row < 28 → length (takes_of row) ≤ 3
+pub few_kinds : (row : ℕ) → row < 34 → length (takes_of row) ≤ 3
 unfolding takes_of operators
-few_kinds row h = from_few row (below 28 few refl row h)
+few_kinds row h = from_few row (below 34 few refl row h)
 
 -- past the table nothing is given
 none_of : (o : Operator) (vs : List Value) → o ≡ no_operator → answer_of o.gives (at_values o.takes o.does vs) ≡ Err Absent
 none_of o [] e = rw e refl
 none_of o (x ∷ vs) e = rw e refl
 
-pub past_rows : (row : ℕ) (vs : List Value) → 28 ≤ row → apply_row row vs ≡ Err Absent
+pub past_rows : (row : ℕ) (vs : List Value) → 34 ≤ row → apply_row row vs ≡ Err Absent
 unfolding apply_row operators
 past_rows row vs h = none_of (operator_at row) vs (get_or_past operators row no_operator h)
 
-pub not_taken : (row : ℕ) (vs : List Value) → row < 28 → are_kinds (three (takes_of row)) vs ≡ false → apply_row row vs ≡ Err Absent
+pub not_taken : (row : ℕ) (vs : List Value) → row < 34 → are_kinds (three (takes_of row)) vs ≡ false → apply_row row vs ≡ Err Absent
 unfolding apply_row takes_of
 not_taken row vs h e = ap (answer_of (operator_at row).gives) (kinds_not (operator_at row).takes (operator_at row).does vs (few_kinds row h) e)
 

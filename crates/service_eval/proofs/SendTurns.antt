@@ -15,12 +15,13 @@ use Rattle.service_eval.specs.declared.trace.Trace.{Trace}
 use Rattle.service_eval.specs.Items.{End, Finish}
 use Rattle.service_eval.specs.Machines.{Mach, mach_of, on_top, cut_to, in_world, finish}
 use Rattle.service_eval.specs.Turns.{mach, IsNext, Goes}
-use Rattle.service_eval.specs.Worlds.{world_of, Changes, Fails}
+use Rattle.service_eval.specs.Worlds.{world_of, Changes, Traps}
 use Rattle.service_eval.proofs.FinishLemmas.{finished, not_finished}
 use Rattle.service_eval.proofs.FinishTurns.{Same, ready_in, did}
 
-refused : (a : Answer World) (at : Span) (st : State) (e : Stop) (w : World) → Changes a at st.world (Err e) w → Fails (with_world a at st) e w
+refused : (a : Answer World) (at : Span) (st : State) (e : Stop) (w : World) → Changes a at st.world (Err e) w → Traps (with_world a at st) e w
 refused a at st stop.OutOfMemory w h = tt
+refused a at st (stop.Ended r) w h = h
 refused a at st (stop.Trapped t) w h = ap (λ a. with_world a at st) h.0 ∙ (λ i. Trapped t.kind (sym h.1 i) (sym h.2 i))
 
 module _ (code : Code) (contexts : Contexts) (m m1 : Machine) (tr : Trace) (at : Span) (base : ℕ) (what : End) (a : Answer World) where
@@ -32,4 +33,4 @@ module _ (code : Code) (contexts : Contexts) (m m1 : Machine) (tr : Trace) (at :
       (ready_in _ _ (mach code contexts m) _ _ _ _ _ next next.items.1 (omega arith) (same w h)) (ap (in_world w) cut)
   changed_turn (Err e) is cut h same next =
       let w = world_of (shown code.shape.now contexts) tr in
-      (not_finished code.methods.now (mach code contexts m) at base what e w (subst (λ o. Fails o e w) (sym is) (refused a at (mach code contexts m).state e w h)), next.holds)
+      (not_finished code.methods.now (mach code contexts m) at base what e w (subst (λ o. Traps o e w) (sym is) (refused a at (mach code contexts m).state e w h)), next.holds)

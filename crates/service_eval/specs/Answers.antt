@@ -11,13 +11,14 @@ use Rattle.service_eval.specs.declared.operand.Operand.{Operand}
 use Rattle.service_eval.specs.declared.operand.Operand.TheVariants as operand
 use Rattle.service_eval.specs.declared.stop.Stop.{Stop}
 use Rattle.service_eval.specs.declared.stop.Stop.TheVariants as stop
-use Rattle.service_eval.specs.Worlds.{Fails}
+use Rattle.service_eval.specs.Worlds.{Traps}
 
 -- the value, or the trap at a place
 abbrev pub Gives : Answer Value → Span → Result Value Stop → Type 0
 Gives answer at (Ok v) = answer ≡ Ok v
 Gives answer at (Err (stop.Trapped t)) = (answer ≡ Err t.kind) × (t.at ≡ at)
 Gives answer at (Err stop.OutOfMemory) = Unit {0}
+Gives answer at (Err (stop.Ended _)) = ⊥
 
 abbrev pub is_kind : Option Kind → Value → Bool
 is_kind (Some k.Int) (Int n) = true
@@ -48,10 +49,10 @@ value_in (operand.Made v) = v
 abbrev pub Looks : Outcome Value → State → Result (Option Operand) Stop → Type 0
 Looks out st (Ok None) = Unit {0}
 Looks out st (Ok (Some o)) = out ≡ Done (value_in o) st
-Looks out st (Err e) = Fails out e st.world
+Looks out st (Err e) = Traps out e st.world
 
 -- the same, the value being one of its own
 abbrev pub Finds : Outcome Value → State → Result (Option Value) Stop → Type 0
 Finds out st (Ok None) = Unit {0}
 Finds out st (Ok (Some v)) = out ≡ Done v st
-Finds out st (Err e) = Fails out e st.world
+Finds out st (Err e) = Traps out e st.world

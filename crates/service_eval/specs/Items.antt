@@ -1,11 +1,12 @@
 -- What is still to be done, item by item, as contracts see it: no pointers.
-use Rattle.std.specs.Prelude.{ℕ, Bool, List, map, Option, Some, None, Vec}
+use Rattle.std.specs.Prelude.{ℕ, Bool, List, [], ◌∷◌, map, Option, Some, None, Vec}
 use Rattle.std.specs.Global.{Global}
 use Rattle.wave_base.specs.declared.span.Span.{Span}
 use Rattle.wave_base.specs.declared.value.Value.{Value}
 use Rattle.resolved_service.specs.declared.stmt.Stmt.{Stmt}
 use Rattle.resolved_service.specs.Steps.{Step, Steps, no_steps, Else, no_else, otherwise, steps_in}
 use Rattle.resolved_service.specs.View.{Tree, Trees, tree_of, trees_of}
+use Rattle.service_eval.specs.declared.work.Caller.{Caller}
 use Rattle.service_eval.specs.declared.work.Ending.{Ending}
 use Rattle.service_eval.specs.declared.work.Ending.TheVariants as ending
 use Rattle.service_eval.specs.declared.work.Work.{Work}
@@ -19,6 +20,7 @@ pub data End : Type 0 where
   Send : List ℕ → End
   Spawn : ℕ → End
   Drop : End
+  Returns Finishes : End
 
 -- `base` is the number of values below those of the item's own
 pub data Item : Type 0 where
@@ -35,7 +37,7 @@ pub data Item : Type 0 where
   Check : (at : Span) (test : Tree) (body : Steps) (left base : ℕ) → Item
   Counts : (at : Span) (counter : ℕ) (body : Steps) (left : ℕ) → Item
   Next : (at : Span) (counter : ℕ) → Item
-  Return : (locals : List Value) (depth base : ℕ) (up : Bool) → Item
+  Return : (locals values : List Value) (depth : ℕ) (up : Bool) → Item
 
 abbrev pub end_of : Ending → End
 end_of (ending.SetLocal s) = SetLocal s
@@ -49,6 +51,11 @@ end_of ending.Require = Require
 end_of (ending.Send label) = Send label.now
 end_of (ending.Spawn event) = Spawn event
 end_of ending.Drop = Drop
+end_of ending.Return = Returns
+end_of ending.Finish = Finishes
+
+abbrev pub return_of : Caller → Item
+return_of c = Return c.locals.items c.values.items c.depth c.up
 
 abbrev pub item_of : Work → Item
 item_of (work.Eval e) = Eval (tree_of e.now)
@@ -64,7 +71,7 @@ item_of (work.Turns at test body left) = Turns at (tree_of test.now) (steps_in b
 item_of (work.Check at test body left base) = Check at (tree_of test.now) (steps_in body.now) left base
 item_of (work.Counts at counter body left) = Counts at counter (steps_in body.now) left
 item_of (work.Next at counter) = Next at counter
-item_of (work.Return locals depth base up) = Return locals.items depth base up
+item_of (work.Return caller) = return_of caller
 
 -- the statements of an `else`, if there is one
 abbrev pub else_steps : Else → Steps
@@ -74,3 +81,9 @@ else_steps (otherwise ss) = ss
 abbrev pub else_in : Option (Vec Stmt Global) → Else
 else_in None = no_else
 else_in (Some v) = otherwise (steps_in v.items)
+
+-- what is left behind a method that ends early: its return, and all that follows
+abbrev pub to_return : List Item → List Item
+to_return [] = []
+to_return (Return locals values depth up ∷ items) = Return locals values depth up ∷ items
+to_return (_ ∷ items) = to_return items

@@ -9,12 +9,13 @@ use Rattle.wave_base.specs.Tree.{Tree as Contexts}
 use Rattle.value_ops.specs.Operators.{apply_row}
 use Rattle.resolved_service.specs.declared.service.Last.{Last}
 use Rattle.resolved_service.specs.declared.service.Method.{Method}
-use Rattle.resolved_service.specs.Meaning.{State, Outcome, Done, Trapped, Left, Act, and_then, ◌>>=◌, ◌>>◌, give, answer, with_world, tick, enter_at, back, choose, get_local, set_local, get_field, put_field, demand, row_add, row_put, row_cut, worth, value, values, while_turns, for_test, for_body, effect, effects, with_blanks, called}
+use Rattle.resolved_service.specs.Meaning.{State, Leave, Returned, Finished, Outcome, Done, Trapped, Left, Act, and_then, ◌>>=◌, ◌>>◌, give, answer, with_world, tick, enter_at, back, choose, get_local, set_local, get_field, put_field, demand, leave, row_add, row_put, row_cut, worth, value, values, while_turns, for_test, for_body, effect, effects, with_blanks, called}
 use Rattle.resolved_service.specs.Steps.{Steps, steps_in}
 use Rattle.resolved_service.specs.View.{Tree, tree_of}
 use Rattle.resolved_service.specs.World.{World, nothing, is_true, child, changed, sending, spawning}
 use Rattle.service_eval.specs.declared.machine.Machine.{Machine}
-use Rattle.service_eval.specs.Items.{End, SetLocal, SetField, PutLocal, PutField, CutLocal, CutField, Branch, Require, Send, Spawn, Drop, Item, Eval, Evals, Apply, AndThen, OrElse, Invoke, Child, Block, Begin, Finish, Turns, Check, Counts, Next, Return, item_of}
+use Rattle.service_eval.specs.declared.work.Caller.{Caller}
+use Rattle.service_eval.specs.Items.{End, SetLocal, SetField, PutLocal, PutField, CutLocal, CutField, Branch, Require, Send, Spawn, Drop, Returns, Finishes, Item, Eval, Evals, Apply, AndThen, OrElse, Invoke, Child, Block, Begin, Finish, Turns, Check, Counts, Next, Return, item_of}
 use Rattle.service_eval.specs.Worlds.{world_of}
 
 -- what is to be done next stands first
@@ -28,8 +29,11 @@ pub record Mach : Type 0 where
 abbrev pub state_of : Contexts (List Value) → Machine → State
 state_of tree m = record { locals = m.locals.items; world = world_of tree m.trace }
 
+abbrev pub items_of : Machine → List Item
+items_of m = map item_of (reverse m.work.items)
+
 abbrev pub mach_of : Contexts (List Value) → Machine → Mach
-mach_of tree m = record { items = map item_of (reverse m.work.items); values = m.values.items; path = m.path; depth = m.depth; state = state_of tree m }
+mach_of tree m = record { items = items_of m; values = m.values.items; path = m.path; depth = m.depth; state = state_of tree m }
 
 -- one thing more to be done, before all others
 abbrev pub on_top : Item → Mach → Mach
@@ -80,6 +84,8 @@ module _ (call : ℕ → Path → List Value → Act (Option Value)) (n : ℕ) (
   finish (Send label) = λ st. with_world (sending label (get_or vs 0 nothing) st.world) at st
   finish (Spawn event) = λ st. with_world (spawning event vs st.world) at st
   finish Drop = give tt
+  finish Returns = leave Returned (Some (get_or vs 0 nothing))
+  finish Finishes = leave Finished (Some (get_or vs 0 nothing))
 
 -- a turn of a loop, where its test has its value
 abbrev pub turn_on : ℕ → Act Value → Act (Unit {0}) → Span → Value → Act (Unit {0})
@@ -118,7 +124,7 @@ module _ (methods : List Method) (p : Path) (n : ℕ) where
   act (Check at test body left base) vs = turn_on left (value (called methods n) p test) (effects (called methods n) n p body) at (own 0 base vs) >> give (take base vs)
   act (Counts at counter body left) vs = while_turns left (for_test counter at) (for_body counter at (effects (called methods n) n p body)) at >> give vs
   act (Next at counter) vs = next counter at >> give vs
-  act (Return locals depth base up) vs = give vs
+  act (Return locals below depth up) vs = give vs
 
 abbrev pub path_after : Bool → Path → Path
 path_after true p = parent_of p
@@ -128,11 +134,12 @@ abbrev pub world_after : Bool → World → World
 world_after true w = changed w
 world_after false w = w
 
--- the caller has its locals again, and the value of the call
-abbrev pub returned : List Value → ℕ → Bool → Outcome (List Value) → Outcome (List Value)
-returned locals base up (Done vs st) = Done (take base vs ++ own 0 base vs ∷ []) (record { locals = locals; world = world_after up st.world })
-returned locals base up (Trapped k at w) = Trapped k at w
-returned locals base up (Left l st) = Left l st
+-- the caller has its locals and values again, and the value of the call, which may have returned early
+abbrev pub returned : List Value → List Value → Bool → Outcome (List Value) → Outcome (List Value)
+returned locals below up (Done vs st) = Done (below ++ get_or vs 0 nothing ∷ []) (record { locals = locals; world = world_after up st.world })
+returned locals below up (Trapped k at w) = Trapped k at w
+returned locals below up (Left (Returned r) st) = Done (below ++ worth r ∷ []) (record { locals = locals; world = world_after up st.world })
+returned locals below up (Left (Finished r) st) = Left (Finished r) (record { locals = locals; world = st.world })
 
 -- where nothing is left to do: the values that are there, and where
 pub record Rest : Type 0 where
@@ -147,7 +154,7 @@ module _ (methods : List Method) where
   -- all that is to be done, after what was done so far
   abbrev pub resume : List Item → Path → ℕ → Outcome (List Value) → Outcome Rest
   resume [] p n out = and_then out (λ vs. give (rest_at p n vs))
-  resume (Return locals depth base up ∷ items) p n out = resume items (path_after up p) depth (returned locals base up out)
+  resume (Return locals below depth up ∷ items) p n out = resume items (path_after up p) depth (returned locals below up out)
   resume (Eval t ∷ items) p n out = resume items p n (and_then out (act methods p n (Eval t)))
   resume (Evals ts ∷ items) p n out = resume items p n (and_then out (act methods p n (Evals ts)))
   resume (Apply at row base ∷ items) p n out = resume items p n (and_then out (act methods p n (Apply at row base)))
@@ -178,21 +185,21 @@ with_last (Some last) items = Eval (tree_of last.value) ∷ items
 -- a method is to run with these arguments, and then to return
 abbrev pub started : Method → List Value → Bool → Mach → Mach
 started method given up m = record {
-  items = Block (steps_in method.body) ∷ with_last method.last (Return m.state.locals m.depth (length m.values) up ∷ m.items);
-  values = m.values;
+  items = Block (steps_in method.body) ∷ with_last method.last (Return m.state.locals m.values m.depth up ∷ m.items);
+  values = [];
   path = m.path;
   depth = m.depth - 1;
   state = record { locals = with_blanks given method.locals; world = m.state.world };
 }
 
--- the caller goes on
-abbrev pub back_to : List Value → ℕ → ℕ → Bool → Mach → Mach
-back_to locals depth base up m = record {
+-- the caller goes on with the value of the call
+abbrev pub back_to : Caller → Value → Mach → Mach
+back_to c v m = record {
   items = m.items;
-  values = take base m.values ++ own 0 base m.values ∷ [];
-  path = path_after up m.path;
-  depth = depth;
-  state = record { locals = locals; world = world_after up m.state.world };
+  values = c.values.items ++ v ∷ [];
+  path = path_after c.up m.path;
+  depth = c.depth;
+  state = record { locals = c.locals.items; world = world_after c.up m.state.world };
 }
 
 abbrev pub in_world : World → Mach → Mach

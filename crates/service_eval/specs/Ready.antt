@@ -7,11 +7,10 @@ use Rattle.wave_base.specs.Shapes.{class_of, is_path}
 use Rattle.wave_base.specs.Tree.{there}
 use Rattle.resolved_service.specs.declared.service.Method.{Method}
 use Rattle.resolved_service.specs.Fits.{FitsTree, FitsTrees, FitsStep, FitsSteps, IsMethod, IsChildClass}
-use Rattle.resolved_service.specs.Meaning.{Trapped}
+use Rattle.resolved_service.specs.Meaning.{Outcome}
 use Rattle.service_eval.specs.declared.stop.Stop.{Stop}
-use Rattle.service_eval.specs.declared.stop.Stop.TheVariants as stop
 use Rattle.service_eval.specs.Items.{End, Branch, Item, Eval, Evals, Apply, AndThen, OrElse, Invoke, Child, Block, Begin, Finish, Turns, Check, Counts, Next, Return}
-use Rattle.service_eval.specs.Machines.{Mach, comes_to, path_after}
+use Rattle.service_eval.specs.Machines.{Mach, Rest, comes_to, path_after}
 use Rattle.service_eval.specs.Worlds.{Holds, Fails}
 
 module _ (shape : Shape) (methods : List Method) where
@@ -37,7 +36,7 @@ module _ (shape : Shape) (methods : List Method) where
 
   -- where an item leads to
   abbrev pub path_behind : Item → Path → Path
-  path_behind (Return locals depth base up) p = path_after up p
+  path_behind (Return locals values depth up) p = path_after up p
   path_behind _ p = p
 
   abbrev pub FitsItems : List Item → Path → Type 0
@@ -46,7 +45,7 @@ module _ (shape : Shape) (methods : List Method) where
 
 -- how many changes of place are still to come when callers go on
 abbrev pub owed_by : Item → ℕ
-owed_by (Return locals depth base true) = 1
+owed_by (Return locals values depth true) = 1
 owed_by _ = 0
 
 abbrev pub owed : List Item → ℕ
@@ -56,7 +55,7 @@ owed (item ∷ items) = owed_by item + owed items
 -- how often the event has gone down, at most
 abbrev pub downs : List Item → Path → ℕ
 downs [] p = min 8 (length p)
-downs (Return locals depth base up ∷ items) p = downs items (path_after up p)
+downs (Return locals values depth up ∷ items) p = downs items (path_after up p)
 downs (_ ∷ items) p = downs items p
 
 pub record Ready (shape : Shape) (methods : List Method) (m : Mach) : Type 0 where
@@ -68,7 +67,11 @@ pub record Ready (shape : Shape) (methods : List Method) (m : Mach) : Type 0 whe
   pub early : m.state.world.generation ≤ GENERATION
   pub room : m.state.world.changes + owed m.items + 2 * m.state.world.ticks ≤ 2 ^ 61 + downs m.items m.path
 
+-- what comes of it is what the machine comes to
+abbrev pub Follows : Shape → List Method → Outcome Rest → Result (Unit {0}) Stop → Mach → Type 0
+Follows shape methods out (Ok _) after = (out ≡ comes_to methods after) × Ready shape methods after
+Follows shape methods out (Err e) after = Fails out e after.state.world × Holds shape after.state.world.tree
+
 -- one item was done: the rest comes to the same
 abbrev pub Turned : Shape → List Method → Mach → Result (Unit {0}) Stop → Mach → Type 0
-Turned shape methods before (Ok _) after = (comes_to methods before ≡ comes_to methods after) × Ready shape methods after
-Turned shape methods before (Err e) after = Fails (comes_to methods before) e after.state.world × Holds shape after.state.world.tree
+Turned shape methods before result after = Follows shape methods (comes_to methods before) result after

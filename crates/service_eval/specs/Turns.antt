@@ -9,9 +9,9 @@ use Rattle.service_eval.specs.declared.machine.Machine.{Machine}
 use Rattle.service_eval.specs.declared.stop.Stop.{Stop}
 use Rattle.service_eval.specs.declared.stop.Stop.TheVariants as stop
 use Rattle.service_eval.specs.Items.{Item}
-use Rattle.service_eval.specs.Machines.{Mach, mach_of, on_top, before_all, rest_at, comes_to}
-use Rattle.resolved_service.specs.Meaning.{Done}
-use Rattle.service_eval.specs.Ready.{Ready, Turned}
+use Rattle.service_eval.specs.Machines.{Mach, mach_of, on_top, before_all, rest_at, resume, comes_to}
+use Rattle.resolved_service.specs.Meaning.{Leave, Done, Left}
+use Rattle.service_eval.specs.Ready.{Ready, Follows, Turned}
 use Rattle.service_eval.specs.Worlds.{Holds, Fails}
 
 abbrev pub mach : Code → Contexts → Machine → Mach
@@ -33,11 +33,17 @@ AreNext code contexts m items = Ready code.shape.now code.methods.now (before_al
 abbrev pub GoOn : Code → Contexts → Machine → List Item → Result (Unit {0}) Stop → Contexts → Machine → Type 0
 GoOn code contexts m items result contexts' m' = Turned code.shape.now code.methods.now (before_all items (mach code contexts m)) result (mach code contexts' m')
 
+-- the rest of what is running is left out
+abbrev pub Leaves : Code → Contexts → Machine → Leave → Result (Unit {0}) Stop → Contexts → Machine → Type 0
+Leaves code contexts m why result contexts' m' =
+    Follows code.shape.now code.methods.now (resume code.methods.now (mach code contexts m).items m.path m.depth (Left why (mach code contexts m).state)) result (mach code contexts' m')
+
 -- a change of a value in place: the new value; or its trap at a place, which leaves it, as want of memory does
 abbrev pub Alters : Answer Value → Span → Value → Result (Unit {0}) Stop → Value → Type 0
 Alters answer at before (Ok _) after = answer ≡ Ok after
 Alters answer at before (Err (stop.Trapped t)) after = (answer ≡ Err t.kind) × (t.at ≡ at) × (after ≡ before)
 Alters answer at before (Err stop.OutOfMemory) after = after ≡ before
+Alters answer at before (Err (stop.Ended _)) after = ⊥
 
 -- all was done: nothing is left to do
 abbrev pub Ran : Code → Mach → Result (Unit {0}) Stop → Mach → Type 0

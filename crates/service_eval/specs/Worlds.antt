@@ -1,5 +1,5 @@
 -- What an event has done, as it is kept, and the state that it stands for.
-use Rattle.std.specs.Prelude.{◌≡◌, true, List, [], Result, Ok, Err, All}
+use Rattle.std.specs.Prelude.{◌≡◌, true, List, [], Option, Result, Ok, Err, All}
 use Rattle.wave_base.specs.declared.path.Path.{Path}
 use Rattle.wave_base.specs.declared.shape.Shape.{Shape}
 use Rattle.wave_base.specs.declared.span.Span.{Span}
@@ -8,7 +8,7 @@ use Rattle.wave_base.specs.Paths.{parent_of}
 use Rattle.wave_base.specs.Shapes.{is_path}
 use Rattle.wave_base.specs.Tree.{Tree, there}
 use Rattle.value_ops.specs.Kinds.{Answer}
-use Rattle.resolved_service.specs.Meaning.{Outcome, Trapped}
+use Rattle.resolved_service.specs.Meaning.{State, Leave, Returned, Finished, Outcome, Trapped, Left}
 use Rattle.resolved_service.specs.World.{World}
 use Rattle.service_eval.specs.declared.stop.Stop.{Stop}
 use Rattle.service_eval.specs.declared.stop.Stop.TheVariants as stop
@@ -34,12 +34,32 @@ pub record Holds (shape : Shape) (tree : Tree (List Value)) : Type 0 where
   pub root : there tree [] ≡ true
 
 -- why nothing was done: a trap, and the world that it leaves, or want of memory, of which nothing is said
+abbrev pub Traps : {A : Type 0} → Outcome A → Stop → World → Type 0
+Traps out (stop.Trapped t) w = out ≡ Trapped t.kind t.at w
+Traps out stop.OutOfMemory w = Unit {0}
+Traps out (stop.Ended _) w = ⊥
+
+abbrev pub reply_of : Leave → Option Value
+reply_of (Returned r) = r
+reply_of (Finished r) = r
+
+-- all is left out, with this reply and in this world
+pub record Ends {A : Type 0} (out : Outcome A) (reply : Option Value) (w : World) : Type 0 where
+  pub why : Leave
+  pub state : State
+  pub is : out ≡ Left why state
+  pub replies : reply_of why ≡ reply
+  pub leaves : state.world ≡ w
+
+-- the same, or the event was ended early
 abbrev pub Fails : {A : Type 0} → Outcome A → Stop → World → Type 0
 Fails out (stop.Trapped t) w = out ≡ Trapped t.kind t.at w
 Fails out stop.OutOfMemory w = Unit {0}
+Fails out (stop.Ended reply) w = Ends out reply w
 
 -- a change of the world, or its trap at a place, which leaves it
 abbrev pub Changes : Answer World → Span → World → Result (Unit {0}) Stop → World → Type 0
 Changes answer at before (Ok _) after = answer ≡ Ok after
 Changes answer at before (Err (stop.Trapped t)) after = (answer ≡ Err t.kind) × (t.at ≡ at) × (after ≡ before)
 Changes answer at before (Err stop.OutOfMemory) after = Unit {0}
+Changes answer at before (Err (stop.Ended _)) after = ⊥

@@ -1,12 +1,14 @@
 //! Statements: their expressions come first.
 
 ghost use Rattle.std.specs.Prelude.{◌≡◌, [], ◌∷◌, OnOk, IfErr, IsNone, IfSome};
-ghost use Rattle.resolved_service.specs.Steps.{For, step_of, steps_in};
+ghost use Rattle.std.specs.Option.{option_map};
+ghost use Rattle.resolved_service.specs.Steps.{For, Return, Finish, step_of, steps_in};
 ghost use Rattle.resolved_service.specs.View.{tree_of};
 ghost use Rattle.service_eval.specs.Items.{end_of, else_steps, else_in};
 ghost use Rattle.service_eval.specs.Items as i;
 ghost use Rattle.service_eval.specs.Turns.{IsNext, Goes, AreNext, GoOn};
 
+use crate::calls::give_back;
 use crate::code::Code;
 use crate::eval::found;
 use crate::finish::finish;
@@ -104,6 +106,46 @@ fn begin<'s>(
             Work::Finish(at, Ending::Spawn(*event), base),
         ),
         Action::Do(e) => m.push_two(Work::Eval(e), Work::Finish(at, Ending::Drop, base)),
+        Action::Return(value) => begin_return(code, contexts, m, at, value),
+        Action::Finish(value) => begin_finish(code, contexts, m, at, value),
+    }
+}
+
+// The method ends, with a value or without one.
+fn begin_return<'s>(
+    code: Code<'s>,
+    contexts: &mut Tree,
+    m: &mut Machine<'s>,
+    at: Span,
+    value: &'s Option<Expr>,
+) -> Result<(), Stop>
+    requires { IsNext code contexts.old m.old (i.Begin (Return at (option_map tree_of value.now))) }
+    ensures { Goes code.entry contexts.old m.old (i.Begin (Return at (option_map tree_of value.now))) result contexts.new m.new }
+{
+    let base = m.height();
+    let ending = Ending::Return;
+    match value {
+        Some(e) => with_one(code, contexts, m, e, Tail { at, ending, base }),
+        None => give_back(code, contexts, m, None),
+    }
+}
+
+// The event ends, with a reply or without one.
+fn begin_finish<'s>(
+    code: Code<'s>,
+    contexts: &mut Tree,
+    m: &mut Machine<'s>,
+    at: Span,
+    value: &'s Option<Expr>,
+) -> Result<(), Stop>
+    requires { IsNext code contexts.old m.old (i.Begin (Finish at (option_map tree_of value.now))) }
+    ensures { Goes code.entry contexts.old m.old (i.Begin (Finish at (option_map tree_of value.now))) result contexts.new m.new }
+{
+    let base = m.height();
+    let ending = Ending::Finish;
+    match value {
+        Some(e) => with_one(code, contexts, m, e, Tail { at, ending, base }),
+        None => Err(Stop::Ended(None)),
     }
 }
 

@@ -99,6 +99,7 @@ fn run_as<'s>(
         Ok(reply) => Ok(ended(m, reply)),
         Err(Stop::Trapped(trap)) => Ok(stopped(code.alloc, m, trap)),
         Err(Stop::OutOfMemory) => Err(OutOfMemory),
+        Err(Stop::Ended(reply)) => Ok(ended(m, reply)),
     }
 }
 

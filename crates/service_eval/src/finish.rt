@@ -5,6 +5,7 @@ ghost use Rattle.service_eval.specs.Items as i;
 ghost use Rattle.service_eval.specs.Items.{end_of};
 ghost use Rattle.service_eval.specs.Turns.{IsNext, Goes};
 
+use crate::calls::give_back;
 use crate::code::Code;
 use crate::edits::{cut, put};
 use crate::fields::{lift_field, set_field};
@@ -40,6 +41,8 @@ pub fn finish<'s>(
         Ending::Send(label) => send(code, contexts, m, at, label, base),
         Ending::Spawn(event) => spawn(code, contexts, m, at, event, base),
         Ending::Drop => forget(code, contexts, m, at, base),
+        Ending::Return => return_with(code, contexts, m, at, base),
+        Ending::Finish => finish_with(code, contexts, m, at, base),
     }
 }
 
@@ -242,4 +245,33 @@ fn forget<'s>(
 {
     m.cut(base);
     Ok(())
+}
+
+// The method ends with the value.
+fn return_with<'s>(
+    code: Code<'s>,
+    contexts: &Tree,
+    m: &mut Machine<'s>,
+    at: Span,
+    base: usize,
+) -> Result<(), Stop>
+    requires { IsNext code contexts.now m.old (i.Finish at (i.Returns) base) }
+    ensures { Goes code.entry contexts.now m.old (i.Finish at (i.Returns) base) result contexts.now m.new }
+{
+    let value = m.take(base);
+    give_back(code, contexts, m, Some(value))
+}
+
+// The event ends with the value.
+fn finish_with<'s>(
+    code: Code<'s>,
+    contexts: &Tree,
+    m: &mut Machine<'s>,
+    at: Span,
+    base: usize,
+) -> Result<(), Stop>
+    requires { IsNext code contexts.now m.old (i.Finish at (i.Finishes) base) }
+    ensures { Goes code.entry contexts.now m.old (i.Finish at (i.Finishes) base) result contexts.now m.new }
+{
+    Err(Stop::Ended(Some(m.take(base))))
 }

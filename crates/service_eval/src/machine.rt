@@ -1,13 +1,13 @@
-ghost use Rattle.std.specs.Prelude.{◌≡◌, ◌<◌, ◌^◌, suc, length, drop, get_or, slice_set, [], OnOk, IfOk, IfErr, IsNone, IfSome};
+ghost use Rattle.std.specs.Prelude.{◌≡◌, ◌<◌, ◌^◌, suc, length, drop, get_or, slice_set, [], ◌∷◌, OnOk, IfOk, IfErr, IsNone, IfSome};
 ghost use Rattle.resolved_service.specs.World.{nothing, is_true, key_of};
 ghost use Rattle.service_eval.specs.declared.stop.Stop.{Stop};
-ghost use Rattle.service_eval.specs.Items.{item_of};
-ghost use Rattle.service_eval.specs.Machines.{mach_of, on_top, with_value, cut_to, own, risen};
+ghost use Rattle.service_eval.specs.Items.{item_of, return_of, to_return};
+ghost use Rattle.service_eval.specs.Machines.{items_of, mach_of, on_top, with_value, cut_to, own, risen};
 
 use crate::operand::is_true;
 use crate::stop::Stop;
 use crate::trace::Trace;
-use crate::work::Work;
+use crate::work::{Caller, Work};
 use std::mem;
 use wave_base::{Path, Value};
 
@@ -62,6 +62,21 @@ impl<'s> Machine<'s> {
         ensures some { IfSome result (λ w. (tree : _) → mach_of tree self.old ≡ on_top (item_of w) (mach_of tree self.new)) }
     {
         self.work.pop()
+    }
+
+    /// Leaves out what is to be done up to the next return, and takes that, if there is one.
+    pub fn to_caller(&mut self) -> Option<Caller>
+        ensures none { IsNone result → to_return (items_of self.old) ≡ [] }
+        ensures some { IfSome result (λ caller. to_return (items_of self.old) ≡ return_of caller ∷ items_of self.new) }
+        ensures rest { (tree : _) → mach_of tree self.new ≡ record (mach_of tree self.old) { items = items_of self.new } }
+    {
+        while let Some(work) = self.pop() {
+            match work {
+                Work::Return(caller) => return Some(caller),
+                _ => {}
+            }
+        }
+        None
     }
 
     /// A value more.

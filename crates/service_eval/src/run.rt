@@ -74,8 +74,6 @@ fn turn<'s>(
             counts(code, contexts, m, at, counter, body, left)
         }
         Work::Next(at, counter) => next(code, contexts, m, at, counter),
-        Work::Return(locals, depth, base, up) => {
-            come_back(code, contexts, m, locals, depth, base, up)
-        }
+        Work::Return(caller) => come_back(code, contexts, m, caller),
     }
 }

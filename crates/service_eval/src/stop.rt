@@ -1,15 +1,18 @@
 use std::alloc::{AllocError, AllocFailed};
 use thiserror::Error;
-use wave_base::{OutOfMemory, Trap};
+use wave_base::{OutOfMemory, Trap, Value};
 
-/// Why an event's code comes to no end of its own.
-#[derive(Clone, Copy, Debug, PartialEq, Eq, Error)]
+/// Why the rest of an event's code is left out.
+#[derive(Debug, Drop, Error)]
 pub enum Stop {
     /// It met a trap.
     #[error("trap {0:?}")]
     Trapped(Trap),
     #[error("out of memory")]
     OutOfMemory,
+    /// It was ended early, with this reply, if any.
+    #[error("ended")]
+    Ended(Option<Value>),
 }
 
 impl From<OutOfMemory> for Stop {

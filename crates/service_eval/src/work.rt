@@ -16,6 +16,10 @@ pub enum Ending<'s> {
     Send(&'s Txt),
     Spawn(u16),
     Drop,
+    /// Ends the method with the value.
+    Return,
+    /// Ends the event with the value.
+    Finish,
 }
 
 /// What is left of a statement when its expressions have their values, which lie on `base` others.
@@ -24,6 +28,15 @@ pub struct Tail<'s> {
     pub at: Span,
     pub ending: Ending<'s>,
     pub base: usize,
+}
+
+/// Where a method returns to: the locals and the values of its caller, the caller's depth, and whether it is at the parent.
+#[derive(Drop)]
+pub struct Caller {
+    pub locals: Vec<Value>,
+    pub values: Vec<Value>,
+    pub depth: u32,
+    pub up: bool,
 }
 
 /// A part of what is still to be done. A last number is that of the values that lie below its own ones.
@@ -55,6 +68,6 @@ pub enum Work<'s> {
     Counts(Span, u16, &'s [Stmt], u32),
     /// The counter of a `for` goes on by one.
     Next(Span, u16),
-    /// The caller goes on with its locals, its depth, and at the parent or the same context.
-    Return(Vec<Value>, u32, usize, bool),
+    /// The caller goes on.
+    Return(Caller),
 }

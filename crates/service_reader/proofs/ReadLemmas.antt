@@ -11,7 +11,8 @@ use Rattle.mace_lexer.specs.Lexed as lexed
 use Rattle.mace_lexer.proofs.CutLemmas.{one_cutting, no_fault, one_fault}
 use Rattle.mace_ast.specs.declared.service.Service.{Service}
 use Rattle.mace_ast.specs.Decls.{ServiceTree, service_tree}
-use Rattle.mace_grammar.specs.inner.Classes.{kind}
+use Rattle.mace_grammar.specs.inner.Classes as classes
+use Rattle.mace_grammar.specs.Words.{first}
 use Rattle.mace_grammar.specs.Grammar as g
 use Rattle.mace_grammar.specs.inner.Readers as r
 use Rattle.mace_grammar.specs.inner.Run.{Outcome}
@@ -29,13 +30,13 @@ use Rattle.service_reader.specs.Parsing.{IsService, IsLexFault, IsParseFault, Is
 
 -- ---- trees
 
-reads : (ts : List Token) → Reads kind (suc (length ts)) g.service g.service (judge ts) (r.if_key key.Service) false []
+reads : (ts : List Token) → Reads (classes.kind first) (suc (length ts)) g.service g.service (judge ts) (r.if_key key.Service) false []
 reads ts =
     let n : length ts + 1 ≡ suc (length ts) = omega arith in
-    subst (λ m. Reads kind m g.service g.service (judge ts) (r.if_key key.Service) false []) n (service (length ts + 1))
+    subst (λ m. Reads (classes.kind first) m g.service g.service (judge ts) (r.if_key key.Service) false []) n (service (length ts + 1))
 
 judged : (ts : List Token) (s : ServiceTree) → g.service.Spells s ts → judge ts ts ≡ Ok (s, [])
-judged ts s h = whole_only kind g.service (judge ts) (r.if_key key.Service) [] false ts (reads ts) s h
+judged ts s h = whole_only (classes.kind first) g.service (judge ts) (r.if_key key.Service) [] false ts (reads ts) s h
 
 tree_in : ServiceTree → Outcome ServiceTree → ServiceTree
 tree_in d (Ok x) = x.0

@@ -45,3 +45,49 @@ fn a_service_is_read(rt: HostRuntime) -> Result<(), Fail> {
     }
     Ok(())
 }
+
+fn stuck_at(token: usize, line: u32, col: u32) -> TextFault {
+    let at = Span { line, col };
+    TextFault::Parse(ParseError::Expected { token, at })
+}
+
+// In version 2 `return` and `finish` are statements, and `finish` names nothing behind the number.
+#[test]
+fn what_stands_behind_the_number_is_of_that_version(rt: HostRuntime) -> Result<(), Fail> {
+    let alloc = rt.alloc();
+    let two = parse_text(
+        alloc,
+        b"service finish 2 { event e() { here { finish; } } }",
+    );
+    assert!(rt; matches!(&two, Ok(service) if service.version == 2));
+    let two = parse_text(
+        alloc,
+        b"service A 2 { method m(): int { return 1; return 2; } }",
+    );
+    assert!(rt; matches!(&two, Ok(service) if service.version == 2));
+    let one = parse_text(
+        alloc,
+        b"service A { var finish: int = 0; event finish() { here { finish = 1; } } }",
+    );
+    assert!(rt; matches!(&one, Ok(service) if service.version == 1));
+    refuses(
+        &rt,
+        alloc,
+        b"service A { method m(): int { return 1; return 2; } }",
+        stuck_at(13, 1, 41),
+    );
+    refuses(
+        &rt,
+        alloc,
+        b"service A 2 { var finish: int = 0; }",
+        stuck_at(5, 1, 19),
+    );
+    refuses(&rt, alloc, b"service A 3 { }", stuck_at(2, 1, 11));
+    refuses(
+        &rt,
+        alloc,
+        b"service A { event e() { here { finish; } } }",
+        stuck_at(11, 1, 38),
+    );
+    Ok(())
+}

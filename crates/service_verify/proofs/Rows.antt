@@ -3,7 +3,7 @@ use Rattle.std.proofs.Common.{◌≡◌, ℕ, zero, suc, List, [], ◌∷◌, So
 use Rattle.std.specs.Prelude.{slice_get}
 use Rattle.wave_base.specs.Operators.{operator_names}
 use Rattle.value_ops.specs.Operators.{Operator, operators, no_operator, takes_of, gives_of}
-use Rattle.value_ops.specs.Rows.{Row, named, three, wave_rows}
+use Rattle.value_ops.specs.Rows.{Row, named, three, wave_rows_2}
 use Rattle.service_verify.specs.inner.Asks.{row_operands}
 use Rattle.service_verify.specs.Rules.{operands}
 
@@ -14,49 +14,7 @@ Short (o ∷ os) = (row_operands (three o.takes) ≡ operands o.takes) × Short 
 
 short : Short operators
 unfolding operators
-short = (
-  refl,
-  (
-    refl,
-    (
-      refl,
-      (
-        refl,
-        (
-          refl,
-          (
-            refl,
-            (
-              refl,
-              (
-                refl,
-                (
-                  refl,
-                  (
-                    refl,
-                    (
-                      refl,
-                      (
-                        refl,
-                        (
-                          refl,
-                          (
-                            refl,
-                            (refl, (refl, (refl, (refl, (refl, (refl, (refl, (refl, (refl, (refl, (refl, (refl, (refl, (refl, tt)))))))))))))),
-                          ),
-                        ),
-                      ),
-                    ),
-                  ),
-                ),
-              ),
-            ),
-          ),
-        ),
-      ),
-    ),
-  ),
-)
+short = (refl, (refl, (refl, (refl, (refl, (refl, (refl, (refl, (refl, (refl, (refl, (refl, (refl, (refl, (refl, (refl, (refl, (refl, (refl, (refl, (refl, (refl, (refl, (refl, (refl, (refl, (refl, (refl, (refl, (refl, (refl, (refl, (refl, (refl, tt))))))))))))))))))))))))))))))))))
 
 abbrev Says : Row → Operator → Type 0
 Says x o = (row_operands x.takes ≡ operands o.takes) × (x.gives ≡ o.gives)
@@ -67,6 +25,6 @@ says (n ∷ names) [] h r x e = cc
 says (n ∷ names) (o ∷ os) h zero x e = let same : record { name = n; builtin = o.builtin; takes = three o.takes; gives = o.gives } ≡ x = cc in (ap (λ (y : Row). row_operands y.takes) (sym same) ∙ h.0, ap (λ (y : Row). y.gives) (sym same))
 says (n ∷ names) (o ∷ os) h (suc r) x e = says names os h.1 r x e
 
-pub row_says : (r : ℕ) (x : Row) → slice_get wave_rows r ≡ Some x → (row_operands x.takes ≡ operands (takes_of r)) × (x.gives ≡ gives_of r)
-unfolding wave_rows takes_of gives_of
+pub row_says : (r : ℕ) (x : Row) → slice_get wave_rows_2 r ≡ Some x → (row_operands x.takes ≡ operands (takes_of r)) × (x.gives ≡ gives_of r)
+unfolding wave_rows_2 takes_of gives_of
 row_says r x e = says operator_names operators short r x e

@@ -1,5 +1,5 @@
 ghost use Rattle.std.specs.Prelude.{◌≡◌, ◌≤◌, Some, None, length, slice_get, option_map};
-ghost use Rattle.value_ops.specs.Rows.{wave_rows};
+ghost use Rattle.value_ops.specs.Rows.{wave_rows_2};
 ghost use Rattle.wave_base.specs.Shapes.{kinds_of_class, parent_class};
 ghost use Rattle.service_verify.specs.inner.Asks.{asked, takes_in, Finds, Has};
 ghost use Rattle.service_verify.specs.Rules.{effect_of, is_child_class, classes_above, levels_above, takes_for_map};
@@ -38,7 +38,7 @@ pub struct Asks<'p> {
 #[derive(Clone, Copy)]
 pub struct Judge<'p> {
     pub program: &'p Program,
-    pub operators: &'p OpTable<28>,
+    pub operators: &'p OpTable<34>,
     pub number: u16,
     pub function: &'p Function,
 }
@@ -64,7 +64,7 @@ impl<'p> Judge<'p> {
     /// What an instruction asks, in a context of this class.
     #[tactic(auto, unfolding(crate::specs::Rules::effect_of))]
     pub fn asks(&self, class: Class, instr: Instr) -> Result<Asks<'p>, Rule>
-        requires { self.now.operators.now ≡ wave_rows }
+        requires { self.now.operators.now ≡ wave_rows_2 }
         ensures { asked result ≡ effect_of self.now.program.now self.now.number self.now.function.now class.0 instr }
     {
         match instr {
@@ -147,7 +147,7 @@ impl<'p> Judge<'p> {
 
     #[tactic(auto, unfolding(crate::specs::Rules::effect_of))]
     fn row(&self, row: u16) -> Result<Asks<'p>, Rule>
-        requires { self.now.operators.now ≡ wave_rows }
+        requires { self.now.operators.now ≡ wave_rows_2 }
         ensures { asked result ≡ effect_of self.now.program.now self.now.number self.now.function.now 0 (Instr.Op row) }
     {
         if row as usize >= OPERATORS {

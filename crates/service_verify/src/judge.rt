@@ -1,5 +1,5 @@
 ghost use Rattle.std.specs.Prelude.{◌≡◌, ◌<◌, ◌≤◌, ◌^◌, length, Some, Ok, Err, IfOk, IfErr, MatchResult, slice_get};
-ghost use Rattle.value_ops.specs.Rows.{wave_rows};
+ghost use Rattle.value_ops.specs.Rows.{wave_rows_2};
 ghost use Rattle.service_verify.specs.inner.Asks.{Judges, Leaves, IsUnreached};
 ghost use Rattle.service_verify.specs.Faults.{Names, IsFirst};
 ghost use Rattle.service_verify.specs.inner.Nexts.{nexts};
@@ -19,7 +19,7 @@ impl Judge<'_> {
     /// Leads a point to the one after an instruction.
     #[tactic(auto, unfolding(crate::specs::Points::point_after))]
     pub fn lead(&self, instr: Instr, point: &mut Point) -> Result<(), Refusal>
-        requires { self.now.operators.now ≡ wave_rows }
+        requires { self.now.operators.now ≡ wave_rows_2 }
         ensures { Judges (point_after self.now.program.now self.now.number self.now.function.now instr point.old) point.new result }
     {
         let asks = self.asks(point.class, instr)?;
@@ -54,7 +54,7 @@ impl Judge<'_> {
         instr: Instr,
         table: &mut Vec<Option<Point>>,
     ) -> Result<(), Refusal>
-        requires operators { self.now.operators.now ≡ wave_rows }
+        requires operators { self.now.operators.now ≡ wave_rows_2 }
         requires place { n < 2 ^ 63 }
         ensures { Judges (visit self.now.program.now self.now.number self.now.function.now n instr table.old.items) table.new.items result }
     {
@@ -65,7 +65,7 @@ impl Judge<'_> {
 
     /// Judges the function, and gives the points of its instructions.
     pub fn judge(&self, alloc: Global) -> Result<Vec<Option<Point>>, VerifyError>
-        requires operators { self.now.operators.now ≡ wave_rows }
+        requires operators { self.now.operators.now ≡ wave_rows_2 }
         requires code { length self.now.function.now.code ≤ INSTRUCTIONS }
         ensures ok { IfOk result (λ points. judged_function self.now.program.now self.now.number self.now.function.now ≡ Ok points.items) }
         ensures err { IfErr result (Names (IsFirst self.now.program.now self.now.number self.now.function.now)) }

@@ -11,7 +11,7 @@ use crate::survey::Survey;
 use service_code::Program;
 use std::alloc::Global;
 use std::marker::Model;
-use value_ops::wave_ops;
+use value_ops::wave_ops_2;
 use wave_base::{Class, Seq};
 
 /// A program each of whose instructions keeps the verifier's rules; with it for each class which of its fields are read from
@@ -80,7 +80,7 @@ pub fn verify(alloc: Global, program: Program) -> Result<Verified, VerifyError>
     ensures verified { IfOk result (λ v. IsVerified v) }
     ensures refused { IfErr result (Names (Breaks program)) }
 {
-    let operators = wave_ops();
+    let operators = wave_ops_2();
     let mut survey = Survey::new(alloc, &program)?;
     for (number, function) in program.functions.as_slice().iter().enumerate() {
         let judge = Judge {

@@ -1,5 +1,5 @@
 -- Methods and events of a typed service, with their names resolved, fit.
-use Rattle.std.proofs.Common.{◌≡◌, ℕ, zero, suc, ◌+◌, ◌<◌, false, List, [], ◌∷◌, ◌++◌, length, map, slice_get, unwrap_or, All, Option, Some, None, is_some, refl, sym, ap, subst, ◌∙◌, arith}
+use Rattle.std.proofs.Common.{◌≡◌, ℕ, zero, suc, ◌+◌, ◌<◌, Bool, false, not, List, [], ◌∷◌, ◌++◌, length, map, slice_get, unwrap_or, All, Option, Some, None, is_some, refl, sym, ap, subst, ◌∙◌, arith}
 use Rattle.std.specs.Option.{option_map, option_map_or}
 use Rattle.std.proofs.lemmas.List.{map-append}
 use Rattle.std.proofs.lemmas.Option.{slice_get-get_or, slice_get-map}
@@ -16,16 +16,16 @@ use Rattle.resolved_service.specs.declared.service.Method.{Method}
 use Rattle.resolved_service.specs.declared.service.Phase.{Phase}
 use Rattle.resolved_service.specs.declared.service.Resolved.{Resolved}
 use Rattle.resolved_service.specs.Fits.{IsChildClass, FitsTree, FitsSteps, FitsLast, FitsMethod, FitsPhases, FitsEvent, FitsService}
-use Rattle.resolved_service.specs.Steps.{steps_in}
+use Rattle.resolved_service.specs.Steps.{steps_in, surely_ends}
 use Rattle.type_rules.specs.declared.known.Known.{Known}
 use Rattle.type_rules.specs.declared.known.Signature.{Signature}
-use Rattle.type_rules.specs.declared.error.TypeError.TheVariants.{UnknownName, Mismatch, NotDownward}
+use Rattle.type_rules.specs.declared.error.TypeError.TheVariants.{UnknownName, Mismatch, NotDownward, Unreachable}
 use Rattle.type_rules.specs.Demands.{ask, first_wrong}
 use Rattle.type_rules.specs.Known.{class_named, class_count, signature, signature_at, no_signature, methods_of, methods_in, service_methods, shape_of, known_of}
-use Rattle.type_rules.specs.Here.{Here, start, declared, is_child}
+use Rattle.type_rules.specs.Here.{Here, OfMethod, OfEvent, start, declared, is_child}
 use Rattle.type_rules.specs.Exprs.{or_zero, class_asks, demands_as}
-use Rattle.type_rules.specs.Stmts.{stmts_demands}
-use Rattle.type_rules.specs.Functions.{LastView, MethodView, PhaseView, EventView, after_params, method_params_demands, event_params_demands, last_demands, resolve_last, method_start, method_end, method_demands, resolve_method, event_start, here_stmts, here_end, inside, phase_end, event_end, phase_demands, phases_demands, event_demands, resolve_phase, resolve_phases, resolve_event}
+use Rattle.type_rules.specs.Stmts.{stmts_demands, reach_asks}
+use Rattle.type_rules.specs.Functions.{LastView, MethodView, PhaseView, EventView, after_params, method_params_demands, event_params_demands, last_demands, resolve_last, method_start, method_end, method_body, method_demands, resolve_method, event_start, here_stmts, here_end, here_body, event_ended, phase_body, inside, phase_end, event_end, phase_demands, phases_demands, event_demands, resolve_phase, resolve_phases, resolve_event}
 use Rattle.type_rules.specs.Services.{ResolvedView, name_asks, fields_demands, methods_demands, context_demands, contexts_demands, events_demands, resolve_methods, resolve_context, resolve_contexts, resolve_with, resolve_service, IsTyped}
 use Rattle.type_rules.specs.Views.{last_view, method_view, phase_view, event_view, resolved_view}
 use Rattle.type_rules.proofs.First.{first_wrong_parts}
@@ -89,10 +89,10 @@ module _ (known : Known) (methods : List Method) (there : There known methods) w
   last_back class (Some l) f = f
 
   module _ (class : ℕ) where
-    last_fits : (h : Here) → At known class h → (name : Name) (kind : Option Kind) (last : Option LastTree) → first_wrong (last_demands h name kind last) ≡ None → FitsLastView class (option_map (resolve_last h) last)
-    last_fits h at name kind None d = tt
-    last_fits h at name None (Some last) d = absurd (absent (all_hold (ask false (Mismatch last.at) ∷ []) d).0)
-    last_fits h at name (Some kind) (Some last) d = tree_as known class methods there h at kind last.value d
+    last_fits : (h : Here) → At known class h → (name : Name) (ended : Bool) (kind : Option Kind) (last : Option LastTree) → first_wrong (last_demands h name ended kind last) ≡ None → FitsLastView class (option_map (resolve_last h) last)
+    last_fits h at name ended kind None d = tt
+    last_fits h at name ended None (Some last) d = absurd (absent (all_hold (ask (not ended) (Unreachable last.at) ∷ ask false (Mismatch last.at) ∷ []) d).1.0)
+    last_fits h at name ended (Some kind) (Some last) d = tree_as known class methods there h at kind last.value (first_wrong_parts (reach_asks ended last.at) (demands_as h kind last.value) d).1
 
     params_at : (h : Here) → At known class h → (ps : List Param) → At known class (after_params h ps)
     params_at h at [] = at
@@ -110,15 +110,17 @@ module _ (known : Known) (methods : List Method) (there : There known methods) w
   method_fits : (class n : ℕ) (m : MethodTree) → first_wrong (method_demands known class n m) ≡ None → MethodFits (resolve_method known class n m)
   method_fits class n m d =
       let h = method_start known class n m in
-      let ends = last_demands (method_end known class n m) m.name m.result m.last in
-      let rest = method_params_demands (start known class n) m.params ++ (stmts_demands h (stmts_of m.body) ++ ends) in
+      let ended = surely_ends (method_body known class n m) in
+      let begins = start known class n (OfMethod m.result) in
+      let ends = last_demands (method_end known class n m) m.name ended m.result m.last in
+      let rest = method_params_demands begins m.params ++ (stmts_demands h (stmts_of m.body) ++ ends) in
       let a = none_wrong rest (all_hold (method_demands known class n m) d).1 in
-      let b = first_wrong_parts (method_params_demands (start known class n) m.params) (stmts_demands h (stmts_of m.body) ++ ends) a in
+      let b = first_wrong_parts (method_params_demands begins m.params) (stmts_demands h (stmts_of m.body) ++ ends) a in
       let c = first_wrong_parts (stmts_demands h (stmts_of m.body)) ends b.1 in
-      let at : At known class h = params_at class (start known class n) (record { same_known = refl; same_class = refl }) m.params in
+      let at : At known class h = params_at class begins (record { same_known = refl; same_class = refl }) m.params in
       record {
         body = stmts_fit known class methods there h at (stmts_of m.body) c.0;
-        last = last_fits class (method_end known class n m) (after_all_at known class h at (stmts_of m.body)) m.name m.result m.last c.1;
+        last = last_fits class (method_end known class n m) (after_all_at known class h at (stmts_of m.body)) m.name ended m.result m.last c.1;
       }
 
   abbrev AllFit : List MethodView → Type 0
@@ -166,15 +168,17 @@ module _ (known : Known) (methods : List Method) (there : There known methods) w
       by (Some n) a = subst (λ c. IsChildClass known.shape c n) here.same_class (subst (λ k. IsChildClass k.shape h.class n) here.same_known a.1.0)
       by None a = absurd (absent a.0)
 
-  phases_fit : (class : ℕ) (h : Here) → At known class h → (ps : List PhaseTree) (name : Name) (kind : Option Kind) (last : Option LastTree) (fs : List Phase) (l : Option Last)
+  phases_fit : (class : ℕ) (h : Here) → At known class h → (ended past : Bool) (ps : List PhaseTree) (name : Name) (kind : Option Kind) (last : Option LastTree) (fs : List Phase) (l : Option Last)
       → map phase_view fs ≡ resolve_phases h ps → option_map last_view l ≡ option_map (resolve_last (event_end h ps)) last
-      → first_wrong (phases_demands h ps) ≡ None → first_wrong (last_demands (event_end h ps) name kind last) ≡ None → FitsPhases known.shape methods class fs l
-  phases_fit class h at [] name kind last [] l e is d g = last_back class l (subst (FitsLastView class) (sym is) (last_fits class h at name kind last g))
-  phases_fit class h at [] name kind last (f ∷ fs) l e is d g = cc
-  phases_fit class h at (p ∷ ps) name kind last [] l e is d g = cc
-  phases_fit class h at (p ∷ ps) name kind last (f ∷ fs) l e is d g =
-      let a = first_wrong_parts (phase_demands h p) (phases_demands (phase_end h p) ps) d in
-      let b = first_wrong_parts (class_asks h p.at p.class) (demands_as h k.Int p.key ++ stmts_demands (inside h p) (stmts_of p.body)) a.0 in
+      → first_wrong (phases_demands h ended ps) ≡ None → first_wrong (last_demands (event_end h ps) name past kind last) ≡ None → FitsPhases known.shape methods class fs l
+  phases_fit class h at ended past [] name kind last [] l e is d g = last_back class l (subst (FitsLastView class) (sym is) (last_fits class h at name past kind last g))
+  phases_fit class h at ended past [] name kind last (f ∷ fs) l e is d g = cc
+  phases_fit class h at ended past (p ∷ ps) name kind last [] l e is d g = cc
+  phases_fit class h at ended past (p ∷ ps) name kind last (f ∷ fs) l e is d g =
+      let on = surely_ends (phase_body h p) in
+      let a = first_wrong_parts (phase_demands h ended p) (phases_demands (phase_end h p) on ps) d in
+      let asked = class_asks h p.at p.class ++ (demands_as h k.Int p.key ++ stmts_demands (inside h p) (stmts_of p.body)) in
+      let b = first_wrong_parts (class_asks h p.at p.class) (demands_as h k.Int p.key ++ stmts_demands (inside h p) (stmts_of p.body)) (first_wrong_parts (reach_asks ended p.at) asked a.0).1 in
       let c = first_wrong_parts (demands_as h k.Int p.key) (stmts_demands (inside h p) (stmts_of p.body)) b.1 in
       let one : phase_view f ≡ resolve_phase h p = cc in
       let rest : map phase_view fs ≡ resolve_phases (phase_end h p) ps = cc in
@@ -184,23 +188,26 @@ module _ (known : Known) (methods : List Method) (there : There known methods) w
         subst (IsChildClass known.shape class) number (class_child class h at p.at p.class b.0),
         subst (FitsTree known.shape methods class) (sym (ap (λ (v : PhaseView). v.key) one)) (tree_as known class methods there h at k.Int p.key c.0),
         subst (λ m. FitsSteps known.shape methods m (steps_in f.body)) number (subst (FitsSteps known.shape methods n) (sym (ap (λ (v : PhaseView). v.body) one)) (stmts_fit known n methods there (inside h p) below (stmts_of p.body) c.1)),
-        subst (λ m. FitsPhases known.shape methods m fs l) number (phases_fit n (phase_end h p) (after_all_at known n (inside h p) below (stmts_of p.body)) ps name kind last fs l rest is a.1 g),
+        subst (λ m. FitsPhases known.shape methods m fs l) number (phases_fit n (phase_end h p) (after_all_at known n (inside h p) below (stmts_of p.body)) on past ps name kind last fs l rest is a.1 g),
       )
 
   event_fits : (n : ℕ) (e : EventTree) (made : Event) → event_view made ≡ resolve_event known e → first_wrong (event_demands known n e) ≡ None → FitsEvent known.shape methods made
   event_fits n e made is d =
       let h = event_start known e in
-      let ends = last_demands (event_end (here_end known e) e.phases) e.name e.result e.last in
-      let phases = phases_demands (here_end known e) e.phases in
+      let begins = start known 0 (length known.methods) (OfEvent e.result) in
+      let ended = surely_ends (here_body known e) in
+      let past = event_ended known e in
+      let ends = last_demands (event_end (here_end known e) e.phases) e.name past e.result e.last in
+      let phases = phases_demands (here_end known e) ended e.phases in
       let first = stmts_demands h (here_stmts e) in
-      let a = none_wrong (event_params_demands (start known 0 (length known.methods)) e.params ++ (first ++ (phases ++ ends))) (all_hold (event_demands known n e) d).1 in
-      let b = first_wrong_parts (event_params_demands (start known 0 (length known.methods)) e.params) (first ++ (phases ++ ends)) a in
+      let a = none_wrong (event_params_demands begins e.params ++ (first ++ (phases ++ ends))) (all_hold (event_demands known n e) d).1 in
+      let b = first_wrong_parts (event_params_demands begins e.params) (first ++ (phases ++ ends)) a in
       let c = first_wrong_parts first (phases ++ ends) b.1 in
       let f = first_wrong_parts phases ends c.1 in
-      let at : At known 0 h = params_at 0 (start known 0 (length known.methods)) (record { same_known = refl; same_class = refl }) e.params in
+      let at : At known 0 h = params_at 0 begins (record { same_known = refl; same_class = refl }) e.params in
       record {
         here = subst (FitsSteps known.shape methods 0) (sym (ap (λ (v : EventView). v.here) is)) (stmts_fit known 0 methods there h at (here_stmts e) c.0);
-        phases = phases_fit 0 (here_end known e) (after_all_at known 0 h at (here_stmts e)) e.phases e.name e.result e.last made.phases made.last
+        phases = phases_fit 0 (here_end known e) (after_all_at known 0 h at (here_stmts e)) ended past e.phases e.name e.result e.last made.phases made.last
             (ap (λ (v : EventView). v.phases) is) (ap (λ (v : EventView). v.last) is) f.0 f.1;
       }
 

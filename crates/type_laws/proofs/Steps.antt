@@ -1,5 +1,5 @@
 -- Statements of a typed service, with their names resolved, fit.
-use Rattle.std.proofs.Common.{◌≡◌, ℕ, List, [], ◌∷◌, ◌++◌, length, Option, Some, None, sym, subst, ◌∙◌}
+use Rattle.std.proofs.Common.{◌≡◌, ℕ, Bool, false, List, [], ◌∷◌, ◌++◌, length, Option, Some, None, sym, subst, ◌∙◌}
 use Rattle.std.specs.Option.{option_map}
 use Rattle.std.proofs.lemmas.Bool.{eqb-true}
 use Rattle.wave_base.specs.declared.span.Span.{Span}
@@ -10,7 +10,8 @@ use Rattle.mace_ast.specs.Exprs.{ExprTree, ExprTrees, exprs_of}
 use Rattle.mace_ast.specs.Stmts as s
 use Rattle.mace_ast.specs.Stmts.{StmtTree, StmtTrees, ElseTree, no_stmts, stmt_and, no_else, otherwise}
 use Rattle.resolved_service.specs.declared.service.Method.{Method}
-use Rattle.resolved_service.specs.Fits.{IsField, FitsTree, FitsTrees, FitsStep, FitsSteps, FitsElse}
+use Rattle.resolved_service.specs.Fits.{IsField, FitsTree, FitsTrees, FitsMaybe, FitsStep, FitsSteps, FitsElse}
+use Rattle.resolved_service.specs.Steps.{is_end}
 use Rattle.resolved_service.specs.View.{Tree, Trees}
 use Rattle.type_rules.specs.declared.known.Known.{Known}
 use Rattle.type_rules.specs.declared.meant.Variable.{Variable}
@@ -18,12 +19,12 @@ use Rattle.type_rules.specs.declared.meant.Variable.TheVariants as var
 use Rattle.type_rules.specs.declared.error.TypeError.TheVariants.{Mismatch}
 use Rattle.type_rules.specs.Kinds.{has_kind}
 use Rattle.type_rules.specs.Demands.{ask, first_wrong}
-use Rattle.type_rules.specs.Here.{Here, counted, behind, variable, called}
+use Rattle.type_rules.specs.Here.{Here, Function, OfMethod, OfEvent, counted, behind, variable, called}
 use Rattle.type_rules.specs.Exprs.{kind_of, resolve, resolve_all, call_tree, child_tree, count, of_kind, demands, demands_as, args_demands, call_demands, child_demands}
-use Rattle.type_rules.specs.Stmts.{kind_or_int, after, after_all, after_else, own_variable, target_variable, target_kind, target_asks, key_demands, set_demands, spawn_takes, spawn_demands, set_step, cut_step, resolve_stmt, resolve_stmts, resolve_else, local_asks, stmt_demands, stmts_demands, else_demands}
+use Rattle.type_rules.specs.Stmts.{kind_or_int, after, after_all, after_else, own_variable, target_variable, target_kind, target_asks, key_demands, set_demands, spawn_takes, spawn_demands, set_step, cut_step, resolve_stmt, resolve_stmts, resolve_else, local_asks, end_demands, return_demands, finish_demands, start_of, reach_asks, stmt_demands, stmts_demands, behind_demands, else_demands}
 use Rattle.type_rules.proofs.First.{first_wrong_parts}
 use Rattle.type_laws.proofs.Sound.{all_hold, none_wrong}
-use Rattle.type_laws.proofs.Trees.{There, count_exprs, FitsVariable, variable_fits, call_fits, child_fits, expr_fits, args_fit}
+use Rattle.type_laws.proofs.Trees.{There, absent, count_exprs, FitsVariable, variable_fits, call_fits, child_fits, expr_fits, args_fit}
 
 -- a place in a class, where this is declared
 pub record At (known : Known) (class : ℕ) (h : Here) : Type 0 where
@@ -49,6 +50,8 @@ module _ (known : Known) (class : ℕ) where
     after_at h at (s.Set place target key value) = at
     after_at h at (s.Call place name args) = at
     after_at h at (s.ChildCall place child key name args) = at
+    after_at h at (s.Return place value) = at
+    after_at h at (s.Finish place value) = at
 
     pub after_all_at : (h : Here) → At known class h → (ss : StmtTrees) → At known class (after_all h ss)
     after_all_at h at no_stmts = at
@@ -137,6 +140,23 @@ module _ (known : Known) (class : ℕ) where
           let b = first_wrong_parts (key_demands h place (target_kind h target) key) (demands_as h k.Int value) a.1 in
           set_fits place (target_variable h target) (Some (resolve h key)) (resolve h value) (target_own target) (key_at place (target_kind h target) key b.0) (tree_as k.Int value b.1)
 
+    -- what a `return` or a `finish` gives, if anything
+    maybe_fits : (h : Here) → At known class h → (place : Span) (gives : Option Kind) (value : Option ExprTree) → first_wrong (end_demands h place gives value) ≡ None
+        → FitsMaybe known.shape methods class (option_map (resolve h) value)
+    maybe_fits h at place gives None d = tt
+    maybe_fits h at place None (Some e) d = absurd (absent (all_hold (ask false (Mismatch place) ∷ []) d).0)
+    maybe_fits h at place (Some kind) (Some e) d = tree_as h at kind e d
+
+    return_fits : (h : Here) → At known class h → (place : Span) (within : Function) (value : Option ExprTree) → first_wrong (return_demands h place within value) ≡ None
+        → FitsMaybe known.shape methods class (option_map (resolve h) value)
+    return_fits h at place (OfMethod gives) value d = maybe_fits h at place gives value d
+    return_fits h at place (OfEvent gives) value d = absurd (absent (all_hold (ask false (Mismatch place) ∷ []) d).0)
+
+    finish_fits : (h : Here) → At known class h → (place : Span) (within : Function) (value : Option ExprTree) → first_wrong (finish_demands h place within value) ≡ None
+        → FitsMaybe known.shape methods class (option_map (resolve h) value)
+    finish_fits h at place (OfEvent gives) value d = maybe_fits h at place gives value d
+    finish_fits h at place (OfMethod gives) value d = absurd (absent (all_hold (ask false (Mismatch place) ∷ []) d).0)
+
     mutual
       pub stmt_fits : (h : Here) → At known class h → (a : StmtTree) → first_wrong (stmt_demands h a) ≡ None → FitsStep known.shape methods class (resolve_stmt h a)
       stmt_fits h at (s.Let place name value) d = tree_at h at value (first_wrong_parts (demands h value) (local_asks h name 1) d).0
@@ -164,12 +184,21 @@ module _ (known : Known) (class : ℕ) where
       stmt_fits h at (s.Set place target key value) d = write_fits h at place target key value d
       stmt_fits h at (s.Call place name args) d = call_at h at place name (exprs_of args) d
       stmt_fits h at (s.ChildCall place child key name args) d = child_at h at place child key name (exprs_of args) d
+      stmt_fits h at (s.Return place value) d = return_fits h at place h.within value d
+      stmt_fits h at (s.Finish place value) d = finish_fits h at place h.within value d
 
       pub stmts_fit : (h : Here) → At known class h → (ss : StmtTrees) → first_wrong (stmts_demands h ss) ≡ None → FitsSteps known.shape methods class (resolve_stmts h ss)
       stmts_fit h at no_stmts d = tt
       stmts_fit h at (stmt_and a ss) d =
-          let p = first_wrong_parts (stmt_demands h a) (stmts_demands (after h a) ss) d in
-          (stmt_fits h at a p.0, stmts_fit (after h a) (after_at h at a) ss p.1)
+          let p = first_wrong_parts (stmt_demands h a) (behind_demands (after h a) (is_end (resolve_stmt h a)) ss) d in
+          (stmt_fits h at a p.0, behind_fit (after h a) (after_at h at a) (is_end (resolve_stmt h a)) ss p.1)
+
+      behind_fit : (h : Here) → At known class h → (ended : Bool) (ss : StmtTrees) → first_wrong (behind_demands h ended ss) ≡ None → FitsSteps known.shape methods class (resolve_stmts h ss)
+      behind_fit h at ended no_stmts d = tt
+      behind_fit h at ended (stmt_and a ss) d =
+          let q = first_wrong_parts (reach_asks ended (start_of a)) (stmt_demands h a ++ behind_demands (after h a) (is_end (resolve_stmt h a)) ss) d in
+          let p = first_wrong_parts (stmt_demands h a) (behind_demands (after h a) (is_end (resolve_stmt h a)) ss) q.1 in
+          (stmt_fits h at a p.0, behind_fit (after h a) (after_at h at a) (is_end (resolve_stmt h a)) ss p.1)
 
       pub else_fits : (h : Here) → At known class h → (other : ElseTree) → first_wrong (else_demands h other) ≡ None → FitsElse known.shape methods class (resolve_else h other)
       else_fits h at no_else d = tt

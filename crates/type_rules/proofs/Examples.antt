@@ -1,11 +1,10 @@
 -- A small service, computed.
-use Rattle.std.proofs.Common.{◌≡◌, ℕ, pos, true, List, [], ◌∷◌, Option, Some, None, refl}
+use Rattle.std.proofs.Common.{◌≡◌, ℕ, ◌+◌, pos, true, List, [], ◌∷◌, Option, Some, None, refl}
 use Rattle.wave_base.specs.declared.span.Span.{Span}
 use Rattle.wave_base.specs.declared.value.Kind.{Kind}
 use Rattle.wave_base.specs.declared.value.Kind.TheVariants as k
-use Rattle.wave_base.specs.declared.value.Value.TheVariants as v
 use Rattle.value_ops.specs.Operators.{operators, takes_of, gives_of}
-use Rattle.value_ops.specs.Rows.{wave_rows}
+use Rattle.value_ops.specs.Rows.{wave_rows, wave_rows_2}
 use Rattle.mace_ast.specs.declared.name.Name.{Name}
 use Rattle.mace_ast.specs.declared.field.VarDecl.{VarDecl}
 use Rattle.mace_ast.specs.declared.field.Literal.TheVariants as lit
@@ -15,14 +14,13 @@ use Rattle.mace_ast.specs.Exprs as e
 use Rattle.mace_ast.specs.Exprs.{ExprTree, no_exprs, expr_and}
 use Rattle.mace_ast.specs.Stmts as s
 use Rattle.mace_ast.specs.Stmts.{StmtTree}
-use Rattle.mace_ast.specs.Decls.{MethodTree, ContextTree, Context, no_contexts, EventTree, ServiceTree}
+use Rattle.mace_ast.specs.Decls.{LastTree, Context, no_contexts, ServiceTree}
 use Rattle.resolved_service.specs.Steps as step
 use Rattle.resolved_service.specs.View as r
-use Rattle.type_rules.specs.declared.error.TypeError.{TypeError}
 use Rattle.type_rules.specs.declared.error.TypeError.TheVariants as wrong
 use Rattle.type_rules.specs.Demands.{first_wrong}
 use Rattle.type_rules.specs.Known.{shape_of, known_of}
-use Rattle.type_rules.specs.Functions.{MethodView, EventView}
+use Rattle.type_rules.specs.Functions.{MethodView}
 use Rattle.type_rules.specs.Services.{service_demands, resolve_service}
 
 abbrev at : ℕ → Span
@@ -68,6 +66,7 @@ abbrev service : List StmtTree → ExprTree → ServiceTree
 service body given = record {
   at = at 1;
   name = name 2 S;
+  version = 1;
   vars = int_field 3 f ∷ [];
   contexts = Context (at 4) (name 5 A) (int_field 6 g ∷ []) no_contexts (record {
     at = at 7;
@@ -151,3 +150,76 @@ scoped = refl
 slots : unfold resolve_service known_of shape_of wave_rows operators takes_of gives_of in (locals_of (resolve_service (service blocks (e.Read (at 24) p))).methods ≡ (k.Int ∷ k.Int ∷ k.Text ∷ []) ∷ [])
 unfolding resolve_service known_of shape_of wave_rows operators takes_of gives_of
 slots = refl
+
+-- ---- version 2: service S 2 { method m(): RESULT { BODY } event e(): REPLY { here { HERE } reply VALUE; } }
+abbrev second : Option Kind → List StmtTree → Option Kind → List StmtTree → Option LastTree → ServiceTree
+second gives body replies here last = record {
+  at = at 1;
+  name = name 2 S;
+  version = 2;
+  vars = [];
+  contexts = [];
+  methods = record { at = at 7; name = name 8 m; params = []; result = gives; body = body; last = None } ∷ [];
+  events = record { at = at 13; name = name 14 ev; params = []; result = replies; here = Some here; phases = []; last = last } ∷ [];
+}
+
+abbrev number : ℕ → ExprTree
+number c = e.Number (at c) (pos 1)
+
+abbrev returns : ℕ → StmtTree
+returns c = s.Return (at c) (Some (number (c + 1)))
+
+abbrev finishes : ℕ → StmtTree
+finishes c = s.Finish (at c) (Some (number (c + 1)))
+
+-- a method that returns, and an event that finishes, need no end
+ends : unfold service_demands known_of shape_of wave_rows wave_rows_2 operators takes_of gives_of in (first_wrong (service_demands (second (Some k.Int) (returns 20 ∷ []) (Some k.Int) (finishes 30 ∷ []) None)) ≡ None)
+unfolding service_demands known_of shape_of wave_rows wave_rows_2 operators takes_of gives_of
+ends = refl
+
+-- nothing stands behind a `return`, whatever else is wrong with it
+behind_return : unfold service_demands known_of shape_of wave_rows wave_rows_2 operators takes_of gives_of in (first_wrong (service_demands (second (Some k.Int) (returns 20 ∷ s.Return (at 22) (Some (e.Read (at 23) z)) ∷ []) None [] None)) ≡ Some (wrong.Unreachable (at 22)))
+unfolding service_demands known_of shape_of wave_rows wave_rows_2 operators takes_of gives_of
+behind_return = refl
+
+-- an `if` surely ends where both its blocks do
+abbrev both_return : StmtTree
+both_return = s.If (at 20) (e.Boolean (at 21) true) (s.stmts_of (returns 22 ∷ [])) (s.otherwise (s.stmts_of (returns 24 ∷ [])))
+
+abbrev one_returns : StmtTree
+one_returns = s.If (at 20) (e.Boolean (at 21) true) (s.stmts_of (returns 22 ∷ [])) s.no_else
+
+both_ends : unfold service_demands known_of shape_of wave_rows wave_rows_2 operators takes_of gives_of in (first_wrong (service_demands (second (Some k.Int) (both_return ∷ []) None [] None)) ≡ None)
+unfolding service_demands known_of shape_of wave_rows wave_rows_2 operators takes_of gives_of
+both_ends = refl
+
+one_ends : unfold service_demands known_of shape_of wave_rows wave_rows_2 operators takes_of gives_of in (first_wrong (service_demands (second (Some k.Int) (one_returns ∷ []) None [] None)) ≡ Some (wrong.MissingReply (at 8)))
+unfolding service_demands known_of shape_of wave_rows wave_rows_2 operators takes_of gives_of
+one_ends = refl
+
+-- a `reply` behind a phase that surely ends
+behind_finish : unfold service_demands known_of shape_of wave_rows wave_rows_2 operators takes_of gives_of in (first_wrong (service_demands (second None [] (Some k.Int) (finishes 30 ∷ []) (Some (record { at = at 40; value = number 41 })))) ≡ Some (wrong.Unreachable (at 40)))
+unfolding service_demands known_of shape_of wave_rows wave_rows_2 operators takes_of gives_of
+behind_finish = refl
+
+-- `return` belongs to methods, and `finish` to events
+return_in_event : unfold service_demands known_of shape_of wave_rows wave_rows_2 operators takes_of gives_of in (first_wrong (service_demands (second None [] (Some k.Int) (returns 30 ∷ []) None)) ≡ Some (wrong.Mismatch (at 30)))
+unfolding service_demands known_of shape_of wave_rows wave_rows_2 operators takes_of gives_of
+return_in_event = refl
+
+finish_in_method : unfold service_demands known_of shape_of wave_rows wave_rows_2 operators takes_of gives_of in (first_wrong (service_demands (second (Some k.Int) (finishes 20 ∷ []) None [] None)) ≡ Some (wrong.Mismatch (at 20)))
+unfolding service_demands known_of shape_of wave_rows wave_rows_2 operators takes_of gives_of
+finish_in_method = refl
+
+-- a value where the method gives none, none where it gives one, and one of another kind
+value_unasked : unfold service_demands known_of shape_of wave_rows wave_rows_2 operators takes_of gives_of in (first_wrong (service_demands (second None (returns 20 ∷ []) None [] None)) ≡ Some (wrong.Mismatch (at 20)))
+unfolding service_demands known_of shape_of wave_rows wave_rows_2 operators takes_of gives_of
+value_unasked = refl
+
+value_wanting : unfold service_demands known_of shape_of wave_rows wave_rows_2 operators takes_of gives_of in (first_wrong (service_demands (second (Some k.Int) (s.Return (at 20) None ∷ []) None [] None)) ≡ Some (wrong.Mismatch (at 20)))
+unfolding service_demands known_of shape_of wave_rows wave_rows_2 operators takes_of gives_of
+value_wanting = refl
+
+value_of_another : unfold service_demands known_of shape_of wave_rows wave_rows_2 operators takes_of gives_of in (first_wrong (service_demands (second (Some k.Text) (returns 20 ∷ []) None [] None)) ≡ Some (wrong.Mismatch (at 21)))
+unfolding service_demands known_of shape_of wave_rows wave_rows_2 operators takes_of gives_of
+value_of_another = refl

@@ -1,12 +1,11 @@
 -- What a name stands for at a place of the text.
-use Rattle.std.specs.Prelude.{ℕ, ◌+◌, Bool, true, false, nat_lt, List, [], ◌∷◌, ◌++◌, length, find, is_some, Option, Some, None, option_map, option_and_then}
-use Rattle.wave_base.specs.declared.span.Span.{Span}
+use Rattle.std.specs.Prelude.{ℕ, ◌==◌, if◌then◌else◌, Bool, true, nat_lt, List, [], ◌∷◌, ◌++◌, length, find, Option, Some, None, option_map, option_and_then}
 use Rattle.wave_base.specs.declared.value.Kind.{Kind}
 use Rattle.wave_base.specs.declared.value.Kind.TheVariants as k
 use Rattle.wave_base.specs.Names.{same_bytes}
 use Rattle.wave_base.specs.Shapes.{is_class, parent_class}
 use Rattle.value_ops.specs.Operators.{takes_of, gives_of}
-use Rattle.value_ops.specs.Rows.{wave_rows, first_builtin}
+use Rattle.value_ops.specs.Rows.{Row, wave_rows, wave_rows_2, first_builtin}
 use Rattle.type_rules.specs.declared.known.Known.{Known}
 use Rattle.type_rules.specs.declared.meant.Local.{Local}
 use Rattle.type_rules.specs.declared.meant.Variable.{Variable}
@@ -15,18 +14,23 @@ use Rattle.type_rules.specs.declared.meant.Callee.{Callee}
 use Rattle.type_rules.specs.declared.meant.Callee.TheVariants as callee
 use Rattle.type_rules.specs.Known.{class_named, field_named, field_kind, method_named, level_of, signature_at}
 
+-- a method or an event, and what it gives, if anything
+pub data Function : Type 0 where
+  OfMethod OfEvent : Option Kind → Function
+
 -- where a statement or an expression stands: in a class, in a method or an event with a number, behind the locals that
 -- may be named; and the kinds of all slots that the function has given so far
 pub record Here : Type 0 where
   pub known : Known
   pub class : ℕ
   pub function : ℕ
+  pub within : Function
   pub locals : List Local
   pub slots : List Kind
 
 -- where a method or an event begins
-abbrev pub start : Known → ℕ → ℕ → Here
-start known class function = record { known = known; class = class; function = function; locals = []; slots = [] }
+abbrev pub start : Known → ℕ → ℕ → Function → Here
+start known class function within = record { known = known; class = class; function = function; within = within; locals = []; slots = [] }
 
 -- ---- slots: one for a parameter or a `let`, three for a `for`
 
@@ -69,9 +73,13 @@ abbrev pub variable_kind : Variable → Kind
 variable_kind (var.Local slot kind) = kind
 variable_kind (var.Field field kind) = kind
 
+-- the operator table of the version
+abbrev pub rows_of : Known → List Row
+rows_of known = if known.version == 2 then wave_rows_2 else wave_rows
+
 -- a builtin, else a method of the context here
 abbrev pub called : Here → List ℕ → Option Callee
-called h name = or_else (option_map callee.Builtin (first_builtin wave_rows name)) (option_map callee.Method (method_named h.known h.class name))
+called h name = or_else (option_map callee.Builtin (first_builtin (rows_of h.known) name)) (option_map callee.Method (method_named h.known h.class name))
 
 abbrev pub takes : Known → Callee → List Kind
 takes known (callee.Builtin row) = takes_of row

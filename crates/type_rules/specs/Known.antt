@@ -1,6 +1,6 @@
 -- What a service declares, from its text alone; and what a name stands for among all that is declared. Of equal names
 -- the first one counts.
-use Rattle.std.specs.Prelude.{ℕ, ◌+◌, ◌==◌, ◌&&◌, ℤ, Bool, true, nat_le, List, [], ◌∷◌, ◌++◌, map, position, get_or, Option, Some, None, option_map, option_and_then}
+use Rattle.std.specs.Prelude.{ℕ, ◌+◌, ◌==◌, ◌&&◌, Bool, true, nat_le, List, [], ◌∷◌, ◌++◌, map, position, get_or, Option, Some, None}
 use Rattle.std.specs.Int.{w64, int_wrapping_neg}
 use Rattle.wave_base.specs.declared.path.Class.{Class}
 use Rattle.wave_base.specs.declared.shape.FieldInfo.{FieldInfo}
@@ -96,7 +96,7 @@ unfoldable pub shape_of : ServiceTree → Shape
 shape_of s = record { classes = map (λ c. c.info) (service_classes s); events = map event_info s.events }
 
 unfoldable pub known_of : ServiceTree → Known
-known_of s = record { shape = shape_of s; above = map (λ c. c.above) (service_classes s); methods = service_methods s }
+known_of s = record { version = s.version; shape = shape_of s; above = map (λ c. c.above) (service_classes s); methods = service_methods s }
 
 -- ---- what a name stands for
 

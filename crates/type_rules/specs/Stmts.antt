@@ -1,6 +1,6 @@
 -- Statements at a place of the text: what may be named behind them, what is asked of them, and what they are with each
 -- name resolved.
-use Rattle.std.specs.Prelude.{ℕ, ◌+◌, ◌==◌, false, nat_le, List, [], ◌∷◌, ◌++◌, length, Option, Some, None, is_some, is_none, unwrap_or}
+use Rattle.std.specs.Prelude.{ℕ, ◌+◌, ◌==◌, Bool, not, false, nat_le, List, [], ◌∷◌, ◌++◌, length, Option, Some, None, is_some, is_none, unwrap_or}
 use Rattle.std.specs.Option.{option_map, option_map_or}
 use Rattle.wave_base.specs.declared.limits.TheConstants.{LOCALS}
 use Rattle.wave_base.specs.declared.span.Span.{Span}
@@ -9,18 +9,18 @@ use Rattle.wave_base.specs.declared.value.Kind.TheVariants as k
 use Rattle.mace_ast.specs.declared.name.Name.{Name}
 use Rattle.mace_ast.specs.declared.stmt.Target.{Target}
 use Rattle.mace_ast.specs.Exprs.{ExprTree, exprs_of}
-use Rattle.mace_ast.specs.Stmts.{StmtTree, StmtTrees, ElseTree, Let, If, While, For, Require, Send, Spawn, Cut, Set, Call, ChildCall, no_stmts, stmt_and, no_else, otherwise}
+use Rattle.mace_ast.specs.Stmts.{StmtTree, StmtTrees, ElseTree, Let, If, While, For, Require, Send, Spawn, Cut, Set, Call, ChildCall, Return, Finish, no_stmts, stmt_and, no_else, otherwise}
 use Rattle.resolved_service.specs.Steps as r
-use Rattle.resolved_service.specs.Steps.{Step, Steps, Else, no_steps, step}
+use Rattle.resolved_service.specs.Steps.{Step, Steps, Else, no_steps, step, is_end}
 use Rattle.resolved_service.specs.View.{Tree}
-use Rattle.type_rules.specs.declared.error.TypeError.TheVariants.{UnknownName, Duplicate, Mismatch, ArgCount, NotDownward, Limit}
+use Rattle.type_rules.specs.declared.error.TypeError.TheVariants.{UnknownName, Duplicate, Mismatch, ArgCount, NotDownward, Limit, Unreachable}
 use Rattle.type_rules.specs.declared.error.Which.TheVariants.{Locals}
 use Rattle.type_rules.specs.declared.meant.Variable.{Variable}
 use Rattle.type_rules.specs.declared.meant.Variable.TheVariants as var
 use Rattle.type_rules.specs.Demands.{Demand, ask}
 use Rattle.type_rules.specs.Kinds.{has_kind}
 use Rattle.type_rules.specs.Known.{class_named, event_named, event_params}
-use Rattle.type_rules.specs.Here.{Here, declared, counted, behind, local_named, variable, variable_kind, called}
+use Rattle.type_rules.specs.Here.{Here, Function, OfMethod, OfEvent, declared, counted, behind, local_named, variable, variable_kind, called}
 use Rattle.type_rules.specs.Exprs.{kind_of, resolve, resolve_all, or_zero, call_tree, child_tree, demands, demands_as, args_demands, call_demands, child_demands}
 
 -- ---- what may be named behind a statement
@@ -80,6 +80,8 @@ abbrev mutual
   resolve_stmt h (Set at target key value) = set_step at (target_variable h target) (option_map (resolve h) key) (resolve h value)
   resolve_stmt h (Call at name args) = r.Do at (call_tree at (called h name) (resolve_all h (exprs_of args)))
   resolve_stmt h (ChildCall at class key name args) = r.Do at (child_tree h at class name (resolve h key) (resolve_all h (exprs_of args)))
+  resolve_stmt h (Return at value) = r.Return at (option_map (resolve h) value)
+  resolve_stmt h (Finish at value) = r.Finish at (option_map (resolve h) value)
 
   pub resolve_stmts : Here → StmtTrees → Steps
   resolve_stmts h no_stmts = no_steps
@@ -127,6 +129,41 @@ spawn_demands h at event args =
     ∷ ask (length (spawn_takes h event) == length args) (ArgCount at)
     ∷ args_demands h (spawn_takes h event) (exprs_of args)
 
+-- a value, where the function gives one, and none, where it gives none
+abbrev pub end_demands : Here → Span → Option Kind → Option ExprTree → List Demand
+end_demands h at None None = []
+end_demands h at (Some kind) (Some value) = demands_as h kind value
+end_demands h at _ _ = ask false (Mismatch at) ∷ []
+
+-- `return` ends a method, and `finish` an event
+abbrev pub return_demands : Here → Span → Function → Option ExprTree → List Demand
+return_demands h at (OfMethod result) value = end_demands h at result value
+return_demands h at (OfEvent result) value = ask false (Mismatch at) ∷ []
+
+abbrev pub finish_demands : Here → Span → Function → Option ExprTree → List Demand
+finish_demands h at (OfEvent result) value = end_demands h at result value
+finish_demands h at (OfMethod result) value = ask false (Mismatch at) ∷ []
+
+-- where a statement starts
+abbrev pub start_of : StmtTree → Span
+start_of (Let at name value) = at
+start_of (If at test body other) = at
+start_of (While at test body) = at
+start_of (For at name low high body) = at
+start_of (Require at test) = at
+start_of (Send at label value) = at
+start_of (Spawn at event args) = at
+start_of (Cut at target key) = at
+start_of (Set at target key value) = at
+start_of (Call at name args) = at
+start_of (ChildCall at class key name args) = at
+start_of (Return at value) = at
+start_of (Finish at value) = at
+
+-- nothing stands behind what surely ends
+abbrev pub reach_asks : Bool → Span → List Demand
+reach_asks ended at = ask (not ended) (Unreachable at) ∷ []
+
 abbrev mutual
   pub stmt_demands : Here → StmtTree → List Demand
   stmt_demands h (Let at name value) = demands h value ++ local_asks h name 1
@@ -140,10 +177,17 @@ abbrev mutual
   stmt_demands h (Set at target key value) = set_demands h at target key value
   stmt_demands h (Call at name args) = call_demands h at name (exprs_of args)
   stmt_demands h (ChildCall at class key name args) = child_demands h at class key name (exprs_of args)
+  stmt_demands h (Return at value) = return_demands h at h.within value
+  stmt_demands h (Finish at value) = finish_demands h at h.within value
 
   pub stmts_demands : Here → StmtTrees → List Demand
   stmts_demands h no_stmts = []
-  stmts_demands h (stmt_and s ss) = stmt_demands h s ++ stmts_demands (after h s) ss
+  stmts_demands h (stmt_and s ss) = stmt_demands h s ++ behind_demands (after h s) (is_end (resolve_stmt h s)) ss
+
+  -- behind a statement that surely ends, or not
+  pub behind_demands : Here → Bool → StmtTrees → List Demand
+  behind_demands h ended no_stmts = []
+  behind_demands h ended (stmt_and s ss) = reach_asks ended (start_of s) ++ (stmt_demands h s ++ behind_demands (after h s) (is_end (resolve_stmt h s)) ss)
 
   pub else_demands : Here → ElseTree → List Demand
   else_demands h no_else = []

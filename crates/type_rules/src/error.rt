@@ -34,6 +34,8 @@ pub enum TypeError {
     MissingReply(Span),
     #[error("more than the language allows")]
     Limit(Which, Span),
+    #[error("nothing comes to it")]
+    Unreachable(Span),
     #[error("out of memory")]
     OutOfMemory,
 }

@@ -10,9 +10,10 @@ pub struct Signature {
 }
 
 /// What a service declares, each list in text order: the classes and events of its shape; for each class those that
-/// it lies in, the root first; and the methods.
+/// it lies in, the root first; and the methods. And the version of the language that it is written in.
 #[derive(Debug, Drop, PartialEq, Eq)]
 pub struct Known {
+    pub version: u8,
     pub shape: Shape,
     pub above: Seq<Seq<u16>>,
     pub methods: Seq<Signature>,

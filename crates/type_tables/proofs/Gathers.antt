@@ -1,10 +1,8 @@
 -- What is gathered, one declaration after the other.
-use Rattle.std.proofs.Common.{◌≡◌, ◌≢◌, ◌+◌, ◌<◌, ◌≤◌, ◌^◌, ◌==◌, ◌&&◌, ℕ, Bool, true, false, List, [], ◌∷◌, ◌++◌, length, map, position, get_or, Option, Some, None, set, take, All, refl, sym, ap, subst, ◌∙◌, append_assoc, arith, rules, Result, Ok, Err, OnOk}
-use Rattle.std.proofs.lemmas.List.{append-nil, map-append, length-append, length-map, length-set, take_more, take_all, get_or-set_same, get_or-set_other}
-use Rattle.wave_base.specs.declared.path.Class.{Class}
+use Rattle.std.proofs.Common.{◌≡◌, ◌+◌, ◌<◌, ◌≤◌, ◌^◌, ℕ, List, [], ◌∷◌, ◌++◌, length, map, get_or, Some, None, set, take, refl, sym, ap, subst, ◌∙◌, append_assoc, arith, rules, Result, Ok, Err, OnOk}
+use Rattle.std.proofs.lemmas.List.{append-nil, map-append, length-append, length-map, length-set, take_more, take_all}
 use Rattle.wave_base.specs.declared.shape.ClassInfo.{ClassInfo}
 use Rattle.wave_base.specs.declared.shape.EventInfo.{EventInfo}
-use Rattle.wave_base.specs.Names.{same_bytes}
 use Rattle.wave_base.specs.declared.span.Span.{Span}
 use Rattle.mace_ast.specs.declared.name.Name.{Name}
 use Rattle.mace_ast.specs.declared.field.VarDecl.{VarDecl}
@@ -12,24 +10,24 @@ use Rattle.mace_ast.specs.declared.context.ContextDecl.{ContextDecl, ContextDecl
 use Rattle.mace_ast.specs.declared.method.MethodDecl.{MethodDecl}
 use Rattle.mace_ast.specs.declared.event.EventDecl.{EventDecl}
 use Rattle.mace_ast.proofs.Rows.{row_contexts-items}
-use Rattle.mace_ast.specs.Decls.{method_tree, event_tree, context_tree, MethodTree, EventTree, ContextTree, ContextTrees, Context, no_contexts, context_and, contexts_of, ServiceTree}
+use Rattle.mace_ast.specs.Decls.{method_tree, event_tree, context_tree, MethodTree, ContextTree, ContextTrees, Context, no_contexts, context_and, contexts_of, ServiceTree}
 use Rattle.type_rules.specs.declared.known.Known.{Known}
 use Rattle.type_rules.specs.declared.known.Signature.{Signature}
-use Rattle.type_rules.specs.Known.{Entry, class_count, classes_count, classes_of, classes_in, entry, methods_of, methods_in, signature, event_info, class_named, event_named, method_named, shape_of, known_of}
+use Rattle.type_rules.specs.Known.{Entry, class_count, classes_count, classes_of, classes_in, entry, methods_of, methods_in, signature, event_info, shape_of, known_of}
 use Rattle.type_tables.specs.declared.gather.Gathered.{Gathered}
 use Rattle.type_tables.specs.inner.Gathering.{known_in, IsGathered, grown, Gains}
-use Rattle.type_tables.specs.Indexed.{IsIndexed}
-use Rattle.type_tables.specs.Numbers.{first_number, noted}
+use Rattle.type_tables.specs.Numbers.{noted}
 use Rattle.type_tables.proofs.Indexing.{indexed_as, indexed_class, indexed_event, indexed_method}
 
 -- ---- growing
 
 pub grown_none : (k : Known) → grown k [] [] [] ≡ k
-grown_none k = (λ i. record { shape = record { classes = append-nil k.shape.classes i; events = append-nil k.shape.events i }; above = append-nil k.above i; methods = append-nil k.methods i })
+grown_none k = (λ i. record { version = k.version; shape = record { classes = append-nil k.shape.classes i; events = append-nil k.shape.events i }; above = append-nil k.above i; methods = append-nil k.methods i })
 
 pub grown_twice : (k : Known) (a b : List Entry) (c d : List Signature) (e f : List EventInfo) → grown (grown k a c e) b d f ≡ grown k (a ++ b) (c ++ d) (e ++ f)
 grown_twice k a b c d e f =
     (λ i. record {
+      version = k.version;
       shape = record { classes = joined (λ (c : Entry). c.info) k.shape.classes a b i; events = append_assoc k.shape.events e f i };
       above = joined (λ (c : Entry). c.above) k.above a b i;
       methods = append_assoc k.methods c d i;
@@ -171,59 +169,59 @@ blank_more xs = sym (append-nil xs)
 
 module _ (g h : Gathered) (is : IsGathered g) where
   pub class_gained : (info made : ClassInfo) (above : List ℕ) (name : List ℕ) → info ≡ made → info.name ≡ name → length info.fields < 2 ^ 16 → length above < 2 ^ 16 → length g.classes.items + 1 < 2 ^ 16
-      → h.classes.items ≡ g.classes.items ++ info ∷ [] → h.above.items ≡ g.above.items ++ above ∷ [] → h.methods ≡ g.methods → h.events ≡ g.events
+      → h.version ≡ g.version → h.classes.items ≡ g.classes.items ++ info ∷ [] → h.above.items ≡ g.above.items ++ above ∷ [] → h.methods ≡ g.methods → h.events ≡ g.events
       → h.class_names ≡ noted g.class_names name (length g.classes.items) → h.event_names ≡ g.event_names → h.method_names.items ≡ g.method_names.items ++ [] ∷ []
       → Gains g h (record { info = made; above = above } ∷ []) [] []
-  class_gained info made above name same named fields short room classes aboves methods events cn en mn =
-      let known : known_in h ≡ record { shape = record { classes = g.classes.items ++ info ∷ []; events = g.events.items }; above = g.above.items ++ above ∷ []; methods = g.methods.items } =
-      (λ i. record { shape = record { classes = classes i; events = (events i).items }; above = aboves i; methods = (methods i).items }) in
+  class_gained info made above name same named fields short room version classes aboves methods events cn en mn =
+      let known : known_in h ≡ record { version = g.version; shape = record { classes = g.classes.items ++ info ∷ []; events = g.events.items }; above = g.above.items ++ above ∷ []; methods = g.methods.items } =
+      (λ i. record { version = version i; shape = record { classes = classes i; events = (events i).items }; above = aboves i; methods = (methods i).items }) in
       let base = indexed_class (known_in g) g.class_names g.event_names g.method_names.items is.indexed info above name named fields short room in
       record {
         gathered = record {
           indexed = indexed_as _ _ _ _ _ _ _ _ (sym known) (sym cn) (sym en) (sym mn) base;
           tables = ap length mn ∙ length-append g.method_names.items ([] ∷ []) ∙ ap (λ n. n + 1) is.tables ∙ sym (ap length classes ∙ length-append g.classes.items (info ∷ []));
         };
-        known = known ∙ (λ i. record { shape = record { classes = g.classes.items ++ same i ∷ []; events = blank_more g.events.items i }; above = g.above.items ++ above ∷ []; methods = blank_more g.methods.items i });
+        known = known ∙ (λ i. record { version = g.version; shape = record { classes = g.classes.items ++ same i ∷ []; events = blank_more g.events.items i }; above = g.above.items ++ above ∷ []; methods = blank_more g.methods.items i });
       }
 
   pub event_gained : (info made : EventInfo) (name : List ℕ) → info ≡ made → info.name ≡ name → length g.events.items + 1 < 2 ^ 16
-      → h.classes ≡ g.classes → h.above ≡ g.above → h.methods ≡ g.methods → h.events.items ≡ g.events.items ++ info ∷ []
+      → h.version ≡ g.version → h.classes ≡ g.classes → h.above ≡ g.above → h.methods ≡ g.methods → h.events.items ≡ g.events.items ++ info ∷ []
       → h.class_names ≡ g.class_names → h.event_names ≡ noted g.event_names name (length g.events.items) → h.method_names ≡ g.method_names
       → Gains g h [] [] (made ∷ [])
-  event_gained info made name same named room classes aboves methods events cn en mn =
-      let known : known_in h ≡ record { shape = record { classes = g.classes.items; events = g.events.items ++ info ∷ [] }; above = g.above.items; methods = g.methods.items } =
-      (λ i. record { shape = record { classes = (classes i).items; events = events i }; above = (aboves i).items; methods = (methods i).items }) in
+  event_gained info made name same named room version classes aboves methods events cn en mn =
+      let known : known_in h ≡ record { version = g.version; shape = record { classes = g.classes.items; events = g.events.items ++ info ∷ [] }; above = g.above.items; methods = g.methods.items } =
+      (λ i. record { version = version i; shape = record { classes = (classes i).items; events = events i }; above = (aboves i).items; methods = (methods i).items }) in
       let base = indexed_event (known_in g) g.class_names g.event_names g.method_names.items is.indexed info name named room in
       record {
         gathered = record {
           indexed = indexed_as _ _ _ _ _ _ _ _ (sym known) (sym cn) (sym en) (sym (ap (λ v. v.items) mn)) base;
           tables = ap (λ v. length v.items) mn ∙ is.tables ∙ sym (ap (λ v. length v.items) classes);
         };
-        known = known ∙ (λ i. record { shape = record { classes = blank_more g.classes.items i; events = g.events.items ++ same i ∷ [] }; above = blank_more g.above.items i; methods = blank_more g.methods.items i });
+        known = known ∙ (λ i. record { version = g.version; shape = record { classes = blank_more g.classes.items i; events = g.events.items ++ same i ∷ [] }; above = blank_more g.above.items i; methods = blank_more g.methods.items i });
       }
 
   pub method_gained : (s made : Signature) (class : ℕ) (name : List ℕ) → s ≡ made → s.class ≡ class → s.name ≡ name → class < length g.classes.items → length g.methods.items + 1 < 2 ^ 16
-      → h.classes ≡ g.classes → h.above ≡ g.above → h.methods.items ≡ g.methods.items ++ s ∷ [] → h.events ≡ g.events
+      → h.version ≡ g.version → h.classes ≡ g.classes → h.above ≡ g.above → h.methods.items ≡ g.methods.items ++ s ∷ [] → h.events ≡ g.events
       → h.class_names ≡ g.class_names → h.event_names ≡ g.event_names → h.method_names.items ≡ set g.method_names.items class (noted (get_or g.method_names.items class []) name (length g.methods.items))
       → Gains g h [] (made ∷ []) []
-  method_gained s made class name same in_class named there room classes aboves methods events cn en mn =
-      let known : known_in h ≡ record { shape = record { classes = g.classes.items; events = g.events.items }; above = g.above.items; methods = g.methods.items ++ s ∷ [] } =
-      (λ i. record { shape = record { classes = (classes i).items; events = (events i).items }; above = (aboves i).items; methods = methods i }) in
+  method_gained s made class name same in_class named there room version classes aboves methods events cn en mn =
+      let known : known_in h ≡ record { version = g.version; shape = record { classes = g.classes.items; events = g.events.items }; above = g.above.items; methods = g.methods.items ++ s ∷ [] } =
+      (λ i. record { version = version i; shape = record { classes = (classes i).items; events = (events i).items }; above = (aboves i).items; methods = methods i }) in
       let base = indexed_method (known_in g) g.class_names g.event_names g.method_names.items is.indexed s class name in_class named (subst (λ n. class < n) (sym is.tables) there) room in
       record {
         gathered = record {
           indexed = indexed_as _ _ _ _ _ _ _ _ (sym known) (sym cn) (sym en) (sym mn) base;
           tables = ap length mn ∙ length-set g.method_names.items class _ ∙ is.tables ∙ sym (ap (λ v. length v.items) classes);
         };
-        known = known ∙ (λ i. record { shape = record { classes = blank_more g.classes.items i; events = blank_more g.events.items i }; above = blank_more g.above.items i; methods = g.methods.items ++ same i ∷ [] });
+        known = known ∙ (λ i. record { version = g.version; shape = record { classes = blank_more g.classes.items i; events = blank_more g.events.items i }; above = blank_more g.above.items i; methods = g.methods.items ++ same i ∷ [] });
       }
 
 -- ---- all of a service
 
-abbrev pub nothing : Known
-nothing = record { shape = record { classes = []; events = [] }; above = []; methods = [] }
+abbrev pub nothing : ℕ → Known
+nothing version = record { version = version; shape = record { classes = []; events = [] }; above = []; methods = [] }
 
-pub service_gathered : (g h j k l : Gathered) (s : ServiceTree) → known_in g ≡ nothing
+pub service_gathered : (g h j k l : Gathered) (s : ServiceTree) → known_in g ≡ nothing s.version
     → Gains g h (entry [] None s.name s.vars ∷ []) [] []
     → Gains h j (classes_in (0 ∷ []) 0 (length h.classes.items) (contexts_of s.contexts)) (methods_in (length h.classes.items) (contexts_of s.contexts)) []
     → Gains j k [] (map (signature 0) s.methods) []
@@ -240,6 +238,7 @@ service_gathered g h j k l s start first second third fourth =
       all.gathered,
       all.known ∙ ap (λ k. grown k (entry [] None s.name s.vars ∷ (classes_in (0 ∷ []) 0 1 cs ++ [])) (methods_in 1 cs ++ (map (signature 0) s.methods ++ [])) (map event_info s.events)) start
           ∙ (λ i. record {
+            version = s.version;
             shape = record { classes = map (λ (c : Entry). c.info) (entry [] None s.name s.vars ∷ append-nil (classes_in (0 ∷ []) 0 1 cs) i); events = map event_info s.events };
             above = map (λ (c : Entry). c.above) (entry [] None s.name s.vars ∷ append-nil (classes_in (0 ∷ []) 0 1 cs) i);
             methods = methods_in 1 cs ++ append-nil (map (signature 0) s.methods) i;

@@ -1,8 +1,8 @@
 -- One more name in a table of first numbers.
-use Rattle.std.proofs.Common.{◌≡◌, ◌≢◌, ◌⊎◌, inl, inr, ◌+◌, ◌<◌, ◌^◌, ◌==◌, ◌&&◌, ℕ, zero, suc, Bool, true, false, cond, nat_eq, List, [], ◌∷◌, ◌++◌, length, position, get_or, set, Option, Some, None, is_some, if◌then◌else◌, refl, sym, ap, subst, ◌∙◌, arith}
+use Rattle.std.proofs.Common.{◌≡◌, ◌≢◌, ◌⊎◌, inl, inr, ◌+◌, ◌<◌, ◌^◌, ◌==◌, ◌&&◌, ℕ, zero, suc, Bool, true, false, cond, List, [], ◌∷◌, ◌++◌, length, position, get_or, set, Option, Some, None, is_some, if◌then◌else◌, refl, sym, ap, subst, ◌∙◌, arith}
 use Rattle.std.specs.Option.{option_or}
 use Rattle.std.specs.List.{position_from}
-use Rattle.std.specs.Cmp.Lexicographic.{pointwise, nat_list_eq_equiv}
+use Rattle.std.specs.Cmp.Lexicographic.{nat_list_eq_equiv}
 use Rattle.std.proofs.lemmas.Iterator.Adapters.{position_from-zero}
 use Rattle.std.proofs.lemmas.Bool.Decides.{eqb_tells}
 use Rattle.std.proofs.lemmas.List.{length-append, get_or-set_same, get_or-set_other}
@@ -101,7 +101,7 @@ indexed_as k l c d e f m n a b g h is = subst (λ x. IsIndexed x d f n) a (subst
 
 module _ (k : Known) (classes events : List (List ℕ × ℕ)) (methods : List (List (List ℕ × ℕ))) (is : IsIndexed k classes events methods) where
   pub indexed_class : (info : ClassInfo) (above : List ℕ) (name : List ℕ) → info.name ≡ name → length info.fields < 2 ^ 16 → length above < 2 ^ 16 → length k.shape.classes + 1 < 2 ^ 16
-      → IsIndexed (record { shape = record { classes = k.shape.classes ++ info ∷ []; events = k.shape.events }; above = k.above ++ above ∷ []; methods = k.methods })
+      → IsIndexed (record { version = k.version; shape = record { classes = k.shape.classes ++ info ∷ []; events = k.shape.events }; above = k.above ++ above ∷ []; methods = k.methods })
       (noted classes name (length k.shape.classes)) events (methods ++ [] ∷ [])
   indexed_class info above name named fields short room = record {
     class = noted_more (λ q (c : ClassInfo). same_bytes c.name q) k.shape.classes info name (λ q. ap (λ n. same_bytes n q) named) classes is.class;
@@ -115,7 +115,7 @@ module _ (k : Known) (classes events : List (List ℕ × ℕ)) (methods : List (
   }
 
   pub indexed_event : (info : EventInfo) (name : List ℕ) → info.name ≡ name → length k.shape.events + 1 < 2 ^ 16
-      → IsIndexed (record { shape = record { classes = k.shape.classes; events = k.shape.events ++ info ∷ [] }; above = k.above; methods = k.methods })
+      → IsIndexed (record { version = k.version; shape = record { classes = k.shape.classes; events = k.shape.events ++ info ∷ [] }; above = k.above; methods = k.methods })
       classes (noted events name (length k.shape.events)) methods
   indexed_event info name named room = record {
     class = is.class;
@@ -129,7 +129,7 @@ module _ (k : Known) (classes events : List (List ℕ × ℕ)) (methods : List (
   }
 
   pub indexed_method : (s : Signature) (class : ℕ) (name : List ℕ) → s.class ≡ class → s.name ≡ name → class < length methods → length k.methods + 1 < 2 ^ 16
-      → IsIndexed (record { shape = k.shape; above = k.above; methods = k.methods ++ s ∷ [] }) classes events (set methods class (noted (get_or methods class []) name (length k.methods)))
+      → IsIndexed (record { version = k.version; shape = k.shape; above = k.above; methods = k.methods ++ s ∷ [] }) classes events (set methods class (noted (get_or methods class []) name (length k.methods)))
   indexed_method s class name in_class named there room = record {
     class = is.class;
     event = is.event;

@@ -1,5 +1,5 @@
 -- Names with numbers, as an index map keeps them.
-use Rattle.std.proofs.Common.{◌≡◌, ℕ, Bool, true, false, cond, nat_eq, List, [], ◌∷◌, ◌++◌, map, Option, Some, None, is_some, if◌then◌else◌, Vec, Global, refl, sym, ap, ◌∙◌}
+use Rattle.std.proofs.Common.{◌≡◌, ℕ, Bool, cond, nat_eq, List, [], ◌∷◌, ◌++◌, Some, None, is_some, if◌then◌else◌, Vec, Global, refl, sym, ap, ◌∙◌}
 use Rattle.std.specs.Cmp.Lexicographic.{pointwise, nat_list_eq_equiv}
 use Rattle.std.specs.Map.{lookup}
 use Rattle.wave_base.specs.Names.{same_bytes}

@@ -1,13 +1,14 @@
 -- Rows of the operator table.
 use Rattle.std.specs.Prelude.{◌<◌, ℕ, Bool, is_none, List, [], ◌∷◌, length, Option, Some, None}
 use Rattle.wave_base.specs.declared.value.Kind.{Kind}
+use Rattle.wave_base.specs.declared.operators.TheConstants.{OPERATORS}
 use Rattle.type_rules.specs.declared.known.Known.{Known}
 use Rattle.type_rules.specs.declared.meant.Callee.{Callee}
 use Rattle.type_rules.specs.declared.meant.Callee.TheVariants as callee
 use Rattle.type_rules.specs.Kinds.{has_kind}
 
 abbrev pub IsRow : ℕ → Type 0
-IsRow row = row < 28
+IsRow row = row < OPERATORS
 
 -- one operand, or two
 abbrev pub operands : Kind → Option Kind → List Kind

@@ -13,6 +13,8 @@ use wave_base::{Class, ClassInfo, EventInfo, FieldInfo, OutOfMemory, Seq, Table,
 /// What was read so far of the declarations, with tables of their names.
 #[derive(Drop)]
 pub struct Gathered {
+    /// The version of the language.
+    pub version: u8,
     pub classes: Vec<ClassInfo>,
     pub above: Vec<Seq<u16>>,
     pub methods: Vec<Signature>,
@@ -28,7 +30,7 @@ impl Gathered {
     pub fn of(alloc: Global, service: &Service) -> Result<Gathered, OutOfMemory>
         ensures { IfOk result (λ g. IsGathered g × (known_in g ≡ rules.known_of (service_tree service.now))) }
     {
-        let mut gathered = Gathered::new(alloc);
+        let mut gathered = Gathered::new(alloc, service.version);
         gathered.class(alloc, &[], None, &service.name, &service.vars)?;
         gathered.contexts(alloc, &[0], 0, service.contexts.as_slice())?;
         gathered.methods(alloc, 0, service.methods.as_slice())?;
@@ -36,11 +38,12 @@ impl Gathered {
         Ok(gathered)
     }
 
-    fn new(alloc: Global) -> Gathered
+    fn new(alloc: Global, version: u8) -> Gathered
         ensures gathered { IsGathered result }
-        ensures known { known_in result ≡ record { shape = record { classes = []; events = [] }; above = []; methods = [] } }
+        ensures known { known_in result ≡ record { version = version; shape = record { classes = []; events = [] }; above = []; methods = [] } }
     {
         Gathered {
+            version,
             classes: Vec::new(alloc),
             above: Vec::new(alloc),
             methods: Vec::new(alloc),

@@ -1,29 +1,45 @@
 ghost use Rattle.std.specs.Prelude.{◌≡◌, ◌≤◌, All, take, find, IfSome};
 ghost use Rattle.value_ops.specs.Operators.{takes_of, gives_of};
-ghost use Rattle.value_ops.specs.Rows.{wave_rows, first_builtin};
+ghost use Rattle.value_ops.specs.Rows.{wave_rows, wave_rows_2, first_builtin};
 ghost use Rattle.type_rules.specs.Kinds.{takes_kinds};
 ghost use Rattle.type_tables.specs.Rows.{IsRow, operands, front, fits};
 
 use crate::kinds::has_kind;
-use value_ops::{OpTable, find, wave_ops};
+use value_ops::{OpTable, find, wave_ops, wave_ops_2};
 use wave_base::Kind;
 
-/// The operators and builtins of the language.
+/// The operators and builtins of the language: those of version 2, and those of version 1 by their names.
 #[derive(Drop)]
 pub struct Operators {
-    table: OpTable<28>,
-    ghost wave: { table ≡ wave_rows },
+    table: OpTable<34>,
+    first: OpTable<28>,
+    ghost wave: { table ≡ wave_rows_2 },
+    ghost before: { first ≡ wave_rows },
 }
 
 impl Operators {
-    /// The table of the language.
+    /// The tables of the language.
     pub fn new() -> Operators {
-        Operators { table: wave_ops() }
+        Operators {
+            table: wave_ops_2(),
+            first: wave_ops(),
+        }
     }
 
-    /// The row of the builtin of a name.
+    /// The row of the builtin of a name in version 1.
     pub fn builtin(&self, name: &[u8]) -> Option<u16>
         ensures found { result ≡ first_builtin wave_rows name.now }
+        ensures within { IfSome result IsRow }
+    {
+        match find(&self.first, name) {
+            None => None,
+            Some(row) => Some(row as u16),
+        }
+    }
+
+    /// The row of the builtin of a name in version 2.
+    pub fn builtin_2(&self, name: &[u8]) -> Option<u16>
+        ensures found { result ≡ first_builtin wave_rows_2 name.now }
         ensures within { IfSome result IsRow }
     {
         match find(&self.table, name) {

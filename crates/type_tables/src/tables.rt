@@ -2,7 +2,10 @@ ghost use Rattle.std.specs.Prelude.{◌≡◌, ◌<◌, ◌^◌, IfOk, IfSome, l
 ghost use Rattle.std.specs.Option.{option_map};
 ghost use Rattle.wave_base.specs.Shapes.{declared_fields, parent_class, is_class};
 ghost use Rattle.mace_ast.specs.Decls.{service_tree};
+ghost use Rattle.value_ops.specs.Rows.{first_builtin};
+ghost use Rattle.type_rules.specs.Here.{rows_of};
 ghost use Rattle.type_rules.specs.Known as known;
+ghost use Rattle.type_tables.specs.Rows.{IsRow};
 ghost use Rattle.type_tables.specs.inner.Gathering.{IsGathered, known_in};
 
 use crate::gather::Gathered;
@@ -52,6 +55,7 @@ impl Tables {
         ensures { result ≡ known_in gathered }
     {
         let Gathered {
+            version,
             classes,
             above,
             methods,
@@ -65,6 +69,7 @@ impl Tables {
             events: Seq::from_vec(events),
         };
         let known = Known {
+            version,
             shape,
             above: Seq::from_vec(above),
             methods: Seq::from_vec(methods),
@@ -90,6 +95,7 @@ impl Tables {
             methods: _,
         } = self;
         let Known {
+            version: _,
             shape,
             above: _,
             methods: _,
@@ -100,6 +106,18 @@ impl Tables {
     /// The operators.
     pub fn operators(&self) -> &Operators {
         &self.operators
+    }
+
+    /// The row of the builtin of a name.
+    pub fn builtin(&self, name: &Txt) -> Option<u16>
+        ensures found { result ≡ first_builtin (rows_of self.now) name.now }
+        ensures within { IfSome result IsRow }
+    {
+        if self.known.version == 2 {
+            self.operators.builtin_2(name.bytes())
+        } else {
+            self.operators.builtin(name.bytes())
+        }
     }
 
     /// The number of the class of a name.

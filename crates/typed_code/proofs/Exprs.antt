@@ -17,7 +17,7 @@ use Rattle.mace_ast.specs.declared.expr.BinaryOp.TheVariants as op
 use Rattle.mace_ast.specs.Exprs as e
 use Rattle.mace_ast.specs.Exprs.{ExprTree, ExprTrees, no_exprs, expr_and}
 use Rattle.value_ops.specs.Operators.{gives_of}
-use Rattle.value_ops.specs.Rows.{wave_rows, first_builtin}
+use Rattle.value_ops.specs.Rows.{first_builtin}
 use Rattle.resolved_service.specs.declared.service.Method.{Method}
 use Rattle.resolved_service.specs.View as r
 use Rattle.resolved_service.specs.View.{Tree, Trees, no_trees, tree}
@@ -34,7 +34,7 @@ use Rattle.type_rules.specs.declared.meant.Callee.TheVariants as callee
 use Rattle.type_rules.specs.Demands.{Demand, ask, first_wrong}
 use Rattle.type_rules.specs.Kinds.{has_kind, row_of_one, row_of_two, rows_of_sign, rows_of_index, rows_before}
 use Rattle.type_rules.specs.Known.{class_named, field_named, field_kind, method_named, level_of, above_of, signature_at, no_signature}
-use Rattle.type_rules.specs.Here.{Here, local_named, of_local, or_else, variable, variable_kind, called, takes, gives, is_earlier, is_child, kind_in}
+use Rattle.type_rules.specs.Here.{Here, rows_of, local_named, of_local, or_else, variable, variable_kind, called, takes, gives, is_earlier, is_child, kind_in}
 use Rattle.type_rules.specs.Exprs.{kind_of, name_kind, binary_kind, child_gives, resolve, resolve_all, or_zero, read_tree, above_tree, row_tree, one, two, binary_tree, call_tree, child_tree, count, above_asks, class_asks, method_asks, child_takes, typed, of_kind, demands, args_demands, demands_as, call_demands, child_demands}
 use Rattle.type_rules.proofs.First.{first_wrong_parts}
 use Rattle.type_laws.proofs.Sound.{AllHold, all_hold, none_wrong}
@@ -197,10 +197,10 @@ module _ (h : Here) (methods : List Method) (locals : List Kind) where
     Either b m = or_else (option_map callee.Builtin b) (option_map callee.Method m)
 
     pub call_calls : (at : Span) (name : List ℕ) (es : ExprTrees) → ArgsHave es → first_wrong (call_demands h at name es) ≡ None → Calls (call_tree at (called h name) (resolve_all h es)) (option_and_then (gives h.known) (called h name))
-    call_calls at name es args d = by (first_builtin wave_rows name) refl (method_named h.known h.class name) refl (all_hold (Asked at es (called h name)) d)
+    call_calls at name es args d = by (first_builtin (rows_of h.known) name) refl (method_named h.known h.class name) refl (all_hold (Asked at es (called h name)) d)
       where
-        by : (b : Option ℕ) → first_builtin wave_rows name ≡ b → (m : Option ℕ) → method_named h.known h.class name ≡ m → AllHold (Asked at es (Either b m)) → Calls (call_tree at (Either b m) (resolve_all h es)) (option_and_then (gives h.known) (Either b m))
-        by (Some row) i m j d = (builtin_within name row i, refl, args (takes h.known (callee.Builtin row)) (eqb-true _ _ d.1.1.0) (none_wrong (args_demands h (takes h.known (callee.Builtin row)) es) d.1.1.1))
+        by : (b : Option ℕ) → first_builtin (rows_of h.known) name ≡ b → (m : Option ℕ) → method_named h.known h.class name ≡ m → AllHold (Asked at es (Either b m)) → Calls (call_tree at (Either b m) (resolve_all h es)) (option_and_then (gives h.known) (Either b m))
+        by (Some row) i m j d = (builtin_within h.known name row i, refl, args (takes h.known (callee.Builtin row)) (eqb-true _ _ d.1.1.0) (none_wrong (args_demands h (takes h.known (callee.Builtin row)) es) d.1.1.1))
         by None i (Some m) j d =
             let t = method_there h.class m name j in
             let given = args (takes h.known (callee.Method m)) (eqb-true _ _ d.1.1.0) (none_wrong (args_demands h (takes h.known (callee.Method m)) es) d.1.1.1) in

@@ -1,5 +1,5 @@
 -- Kinds that are the same, and the rows of the operator table that take given kinds.
-use Rattle.std.proofs.Common.{◌≡◌, ℕ, ◌<◌, ◌≤◌, Bool, true, false, cond, ◌⊎◌, inl, inr, List, [], ◌∷◌, length, find, Option, Some, None, refl, sym, ap, ◌∙◌, arith}
+use Rattle.std.proofs.Common.{◌≡◌, ◌==◌, if◌then◌else◌, ℕ, ◌<◌, ◌≤◌, Bool, true, false, cond, ◌⊎◌, inl, inr, List, [], ◌∷◌, length, find, Option, Some, None, refl, sym, ap, ◌∙◌, arith}
 use Rattle.std.specs.Cmp.Lexicographic.{pointwise}
 use Rattle.std.proofs.lemmas.Bool.{and_parts, cases_lt}
 use Rattle.std.proofs.lemmas.List.{get_or_past}
@@ -8,8 +8,10 @@ use Rattle.wave_base.specs.declared.operators.TheConstants.{OPERATORS}
 use Rattle.wave_base.specs.declared.value.Kind.{Kind}
 use Rattle.wave_base.specs.declared.value.Kind.TheVariants as k
 use Rattle.value_ops.specs.Operators.{Operator, operators, no_operator, takes_of}
-use Rattle.value_ops.specs.Rows.{wave_rows, named, first_builtin, is_builtin}
-use Rattle.wave_base.specs.Operators.{operator_names}
+use Rattle.value_ops.specs.Rows.{Row, wave_rows, wave_rows_2, named, first_builtin, is_builtin}
+use Rattle.wave_base.specs.Operators.{first_names, operator_names}
+use Rattle.type_rules.specs.declared.known.Known.{Known}
+use Rattle.type_rules.specs.Here.{rows_of}
 use Rattle.type_rules.specs.Kinds.{same_kind, has_kind, takes_kinds, row_of_one, row_of_two}
 
 pub kinds_same : (a b : Kind) → same_kind a b ≡ true → a ≡ b
@@ -99,9 +101,17 @@ named_short (n ∷ ns) (o ∷ os) = omega (arith, named_short ns os)
 
 rows_short : length wave_rows ≤ OPERATORS
 unfolding wave_rows operators
-rows_short = named_short operator_names operators
+rows_short = named_short first_names operators
 
-pub builtin_within : (name : List ℕ) (row : ℕ) → first_builtin wave_rows name ≡ Some row → row < OPERATORS
-builtin_within name row h =
-    let p = position-Some (is_builtin name) wave_rows row (record { name = []; builtin = false; takes = []; gives = k.Int }) h in
-    omega (arith, p.0, rows_short)
+rows_short_2 : length wave_rows_2 ≤ OPERATORS
+unfolding wave_rows_2 operators
+rows_short_2 = named_short operator_names operators
+
+short_of : (known : Known) → length (rows_of known) ≤ OPERATORS
+short_of known = elim (known.version == 2) as (λ b. length (if b then wave_rows_2 else wave_rows) ≤ OPERATORS) [ true ↦ rows_short_2 | false ↦ rows_short ]
+
+pub builtin_within : (known : Known) (name : List ℕ) (row : ℕ) → first_builtin (rows_of known) name ≡ Some row → row < OPERATORS
+builtin_within known name row h =
+    let none : Row = record { name = []; builtin = false; takes = []; gives = k.Int } in
+    let p = position-Some (is_builtin name) (rows_of known) row none h in
+    omega (arith, p.0, short_of known)

@@ -1,5 +1,5 @@
 -- Statements without blocks, of a typed service, with their names resolved, are typed.
-use Rattle.std.proofs.Common.{◌≡◌, ◌==◌, ℕ, inl, inr, true, List, [], ◌∷◌, ◌++◌, length, get_or, slice_get, Option, Some, None, is_some, option_and_then, refl, sym, ap, subst, ◌∙◌}
+use Rattle.std.proofs.Common.{◌≡◌, ◌==◌, ℕ, inl, inr, true, false, List, [], ◌∷◌, ◌++◌, length, get_or, slice_get, Option, Some, None, is_some, option_and_then, refl, sym, ap, subst, ◌∙◌}
 use Rattle.std.specs.Option.{option_map, option_map_or}
 use Rattle.std.proofs.lemmas.Bool.{eqb-true}
 use Rattle.std.proofs.lemmas.List.{get_or-map}
@@ -16,7 +16,7 @@ use Rattle.mace_ast.specs.Exprs.{ExprTree, ExprTrees, exprs_of}
 use Rattle.resolved_service.specs.declared.service.Method.{Method}
 use Rattle.resolved_service.specs.View.{Tree}
 use Rattle.resolved_service.specs.Steps as st
-use Rattle.code_scheme.specs.Typed.{IsTypedStep}
+use Rattle.code_scheme.specs.Typed.{Within, InMethod, InEvent, Gives, IsTypedReturn, IsTypedFinish, IsTypedStep}
 use Rattle.type_rules.specs.declared.error.TypeError.TheVariants.{UnknownName, ArgCount, Mismatch}
 use Rattle.type_rules.specs.declared.known.Known.{Known}
 use Rattle.type_rules.specs.declared.meant.Variable.{Variable}
@@ -24,9 +24,9 @@ use Rattle.type_rules.specs.declared.meant.Variable.TheVariants as var
 use Rattle.type_rules.specs.Demands.{ask, first_wrong}
 use Rattle.type_rules.specs.Kinds.{has_kind}
 use Rattle.type_rules.specs.Known.{class_named, event_named, event_params, field_named, field_kind}
-use Rattle.type_rules.specs.Here.{Here, variable, variable_kind, called, gives}
+use Rattle.type_rules.specs.Here.{Here, Function, OfMethod, OfEvent, variable, variable_kind, called, gives}
 use Rattle.type_rules.specs.Exprs.{kind_of, resolve, resolve_all, or_zero, call_tree, child_tree, child_gives, above_asks, typed, demands, args_demands, demands_as, call_demands, child_demands}
-use Rattle.type_rules.specs.Stmts.{kind_or_int, own_variable, target_variable, target_kind, own_asks, target_asks, key_demands, set_demands, spawn_demands, set_step, cut_step}
+use Rattle.type_rules.specs.Stmts.{kind_or_int, own_variable, target_variable, target_kind, own_asks, target_asks, key_demands, set_demands, spawn_demands, end_demands, return_demands, finish_demands, set_step, cut_step}
 use Rattle.type_rules.proofs.First.{first_wrong_parts}
 use Rattle.type_laws.proofs.Sound.{AllHold, all_hold, none_wrong}
 use Rattle.type_laws.proofs.Trees.{absent, count_exprs}
@@ -73,9 +73,14 @@ event_there known event n g =
     let p = position-Some (λ (x : EventInfo). same_bytes x.name event) known.shape.events n none g in
     (get_or known.shape.events n none, slice_get-get_or known.shape.events n none p.0, get_or-map (λ (x : EventInfo). x.params) known.shape.events n none [] p.0)
 
+-- a method or an event, as the scheme knows it
+abbrev pub within_of : Function → Within
+within_of (OfMethod gives) = InMethod gives
+within_of (OfEvent gives) = InEvent gives
+
 module _ (h : Here) (methods : List Method) (locals : List Kind) (there : Declared h.known methods) (levels : LevelsAre h.known) (named : Named locals h.locals) where
   abbrev pub Step : st.Step → Type 0
-  Step s = IsTypedStep h.known.shape methods h.function locals h.class s
+  Step s = IsTypedStep h.known.shape methods h.function locals h.class (within_of h.within) s
 
   pub of_this : (kind : Kind) (a : ExprTree) → first_wrong (demands_as h kind a) ≡ None → Has h methods locals (resolve h a) kind
   of_this kind a d = expr_as h methods locals there levels named kind a d
@@ -162,3 +167,25 @@ module _ (h : Here) (methods : List Method) (locals : List Kind) (there : Declar
       let x = target_is at target p.0 in
       let y = key_is at (target_kind h target) key p.1 in
       subst (λ o. Step (cut_step at o (resolve h key))) (sym x.1) (cut_has at x.0 (resolve h key) x.2 (ap (option_map variable_kind) (sym x.1) ∙ y.0) y.1)
+
+  -- ---- what ends early
+
+  gives_is : (at : Span) (result : Option Kind) (value : Option ExprTree) → first_wrong (end_demands h at result value) ≡ None → Gives h.known.shape methods h.function locals h.class result (option_map (resolve h) value)
+  gives_is at None None d = tt
+  gives_is at (Some kind) (Some e) d = of_this kind e d
+  gives_is at None (Some e) d = absurd (absent (all_hold (ask false (Mismatch at) ∷ []) d).0)
+  gives_is at (Some kind) None d = absurd (absent (all_hold (ask false (Mismatch at) ∷ []) d).0)
+
+  pub return_is : (at : Span) (value : Option ExprTree) → first_wrong (return_demands h at h.within value) ≡ None → Step (st.Return at (option_map (resolve h) value))
+  return_is at value d = by h.within d
+    where
+      by : (f : Function) → first_wrong (return_demands h at f value) ≡ None → IsTypedReturn h.known.shape methods h.function locals h.class (within_of f) (option_map (resolve h) value)
+      by (OfMethod result) d = gives_is at result value d
+      by (OfEvent result) d = absurd (absent (all_hold (ask false (Mismatch at) ∷ []) d).0)
+
+  pub finish_is : (at : Span) (value : Option ExprTree) → first_wrong (finish_demands h at h.within value) ≡ None → Step (st.Finish at (option_map (resolve h) value))
+  finish_is at value d = by h.within d
+    where
+      by : (f : Function) → first_wrong (finish_demands h at f value) ≡ None → IsTypedFinish h.known.shape methods h.function locals h.class (within_of f) (option_map (resolve h) value)
+      by (OfEvent result) d = gives_is at result value d
+      by (OfMethod result) d = absurd (absent (all_hold (ask false (Mismatch at) ∷ []) d).0)

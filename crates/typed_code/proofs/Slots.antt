@@ -66,6 +66,8 @@ mutual
   after_grows h (s.Set place target key value) = grows_none h.slots
   after_grows h (s.Call place name args) = grows_none h.slots
   after_grows h (s.ChildCall place child key name args) = grows_none h.slots
+  after_grows h (s.Return place value) = grows_none h.slots
+  after_grows h (s.Finish place value) = grows_none h.slots
 
   pub after_all_grows : (h : Here) (ss : StmtTrees) → Grows h.slots (after_all h ss).slots
   after_all_grows h no_stmts = grows_none h.slots
@@ -97,6 +99,8 @@ after_named locals h (s.Cut place target key) n g = n
 after_named locals h (s.Set place target key value) n g = n
 after_named locals h (s.Call place name args) n g = n
 after_named locals h (s.ChildCall place child key name args) n g = n
+after_named locals h (s.Return place value) n g = n
+after_named locals h (s.Finish place value) n g = n
 
 pub after_all_named : (locals : List Kind) (h : Here) (ss : StmtTrees) → Named locals h.locals → Grows (after_all h ss).slots locals → Named locals (after_all h ss).locals
 after_all_named locals h no_stmts n g = n

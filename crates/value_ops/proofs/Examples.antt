@@ -4,9 +4,9 @@ use Rattle.std.specs.Prelude.{codes}
 use Rattle.std.specs.Fmt.{digits}
 use Rattle.wave_base.specs.declared.trap.TrapKind.TheVariants.{Overflow, DivZero, Absent, TooLong}
 use Rattle.wave_base.specs.declared.value.Value.TheVariants.{Int, Bool as Flag, Str, Map}
-use Rattle.wave_base.specs.Operators.{operator_names}
+use Rattle.wave_base.specs.Operators.{first_names, operator_names}
 use Rattle.value_ops.specs.Operators.{operators, apply_row}
-use Rattle.value_ops.specs.Rows.{wave_rows, first_builtin}
+use Rattle.value_ops.specs.Rows.{wave_rows, wave_rows_2, first_builtin}
 
 add_top : apply_row 0 (Int (pos 9223372036854775806) ∷ Int (pos 1) ∷ []) ≡ Ok (Int (pos 9223372036854775807))
 unfolding apply_row operators
@@ -216,8 +216,100 @@ part_before : apply_row 27 (Str (codes "abcd") ∷ Int (negsuc 0) ∷ Int (pos 2
 unfolding apply_row operators
 part_before = refl
 
+min_signs : apply_row 28 (Int (negsuc 4) ∷ Int (pos 3) ∷ []) ≡ Ok (Int (negsuc 4))
+unfolding apply_row operators
+min_signs = refl
+
+min_least : apply_row 28 (Int (pos 9223372036854775807) ∷ Int (negsuc 9223372036854775807) ∷ []) ≡ Ok (Int (negsuc 9223372036854775807))
+unfolding apply_row operators
+min_least = refl
+
+max_signs : apply_row 29 (Int (negsuc 4) ∷ Int (pos 3) ∷ []) ≡ Ok (Int (pos 3))
+unfolding apply_row operators
+max_signs = refl
+
+max_same : apply_row 29 (Int (negsuc 9223372036854775807) ∷ Int (negsuc 9223372036854775807) ∷ []) ≡ Ok (Int (negsuc 9223372036854775807))
+unfolding apply_row operators
+max_same = refl
+
+abs_next : apply_row 30 (Int (negsuc 9223372036854775806) ∷ []) ≡ Ok (Int (pos 9223372036854775807))
+unfolding apply_row operators
+abs_next = refl
+
+abs_least : apply_row 30 (Int (negsuc 9223372036854775807) ∷ []) ≡ Err Overflow
+unfolding apply_row operators
+abs_least = refl
+
+sum_none : apply_row 31 (Map [] ∷ []) ≡ Ok (Int (pos 0))
+unfolding apply_row operators
+sum_none = refl
+
+sum_values : apply_row 31 (Map ((negsuc 2, pos 1) ∷ (pos 2, negsuc 7) ∷ []) ∷ []) ≡ Ok (Int (negsuc 6))
+unfolding apply_row operators
+sum_values = refl
+
+sum_comes_back : apply_row 31 (Map ((pos 0, pos 9223372036854775807) ∷ (pos 1, pos 1) ∷ (pos 2, negsuc 0) ∷ []) ∷ []) ≡ Ok (Int (pos 9223372036854775807))
+unfolding apply_row operators
+sum_comes_back = refl
+
+sum_past : apply_row 31 (Map ((pos 0, pos 9223372036854775807) ∷ (pos 1, pos 1) ∷ []) ∷ []) ≡ Err Overflow
+unfolding apply_row operators
+sum_past = refl
+
+sum_least : apply_row 31 (Map ((pos 0, negsuc 9223372036854775807) ∷ (pos 1, negsuc 0) ∷ []) ∷ []) ≡ Err Overflow
+unfolding apply_row operators
+sum_least = refl
+
+starts_whole : apply_row 32 (Str (codes "ant") ∷ Str (codes "ant") ∷ []) ≡ Ok (Flag true)
+unfolding apply_row operators
+starts_whole = refl
+
+starts_empty : apply_row 32 (Str (codes "") ∷ Str (codes "") ∷ []) ≡ Ok (Flag true)
+unfolding apply_row operators
+starts_empty = refl
+
+starts_longer : apply_row 32 (Str (codes "an") ∷ Str (codes "ant") ∷ []) ≡ Ok (Flag false)
+unfolding apply_row operators
+starts_longer = refl
+
+starts_other : apply_row 32 (Str (codes "ant") ∷ Str (codes "at") ∷ []) ≡ Ok (Flag false)
+unfolding apply_row operators
+starts_other = refl
+
+num_zeros : apply_row 33 (Str (codes "-007") ∷ []) ≡ Ok (Int (negsuc 6))
+unfolding apply_row operators
+num_zeros = refl
+
+num_least : apply_row 33 (Str (codes "-9223372036854775808") ∷ []) ≡ Ok (Int (negsuc 9223372036854775807))
+unfolding apply_row operators
+num_least = refl
+
+num_past : apply_row 33 (Str (codes "9223372036854775808") ∷ []) ≡ Err Overflow
+unfolding apply_row operators
+num_past = refl
+
+num_plus : apply_row 33 (Str (codes "+7") ∷ []) ≡ Err Absent
+unfolding apply_row operators
+num_plus = refl
+
+num_minus_alone : apply_row 33 (Str (codes "-") ∷ []) ≡ Err Absent
+unfolding apply_row operators
+num_minus_alone = refl
+
+num_empty : apply_row 33 (Str (codes "") ∷ []) ≡ Err Absent
+unfolding apply_row operators
+num_empty = refl
+
+num_other : apply_row 33 (Str (codes "7a") ∷ []) ≡ Err Absent
+unfolding apply_row operators
+num_other = refl
+
+num_twenty_digits : apply_row 33 (Str (codes "00000000000000000007") ∷ []) ≡ Err Absent
+unfolding apply_row operators
+num_twenty_digits = refl
+
 -- each row has its operator's name
-row_names : map (λ r. r.name) wave_rows ≡ operator_names
+row_names : map (λ r. r.name) wave_rows ≡ first_names
 unfolding wave_rows operators
 row_names = refl
 
@@ -228,3 +320,20 @@ find_part = refl
 find_put : first_builtin wave_rows (codes "put") ≡ None
 unfolding wave_rows operators
 find_put = refl
+
+-- and in version 2
+row_names_2 : map (λ r. r.name) wave_rows_2 ≡ operator_names
+unfolding wave_rows_2 operators
+row_names_2 = refl
+
+find_part_2 : first_builtin wave_rows_2 (codes "part") ≡ Some 27
+unfolding wave_rows_2 operators
+find_part_2 = refl
+
+find_num_2 : first_builtin wave_rows_2 (codes "num") ≡ Some 33
+unfolding wave_rows_2 operators
+find_num_2 = refl
+
+find_num : first_builtin wave_rows (codes "num") ≡ None
+unfolding wave_rows operators
+find_num = refl

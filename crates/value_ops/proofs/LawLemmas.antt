@@ -3,6 +3,7 @@ use Rattle.std.proofs.Common.{◌≡◌, ℕ, ◌+◌, ◌%◌, ◌<◌, ◌≤�
 use Rattle.std.proofs.lemmas.Bool.Decides.{nat_tests}
 use Rattle.std.proofs.lemmas.Fmt.{decimal_by_steps, decimal_is_IsNumeral}
 use Rattle.std.proofs.lemmas.Int.{ints, quot-rem, rem_below}
+use Rattle.std.proofs.lemmas.List.{get_or_append_left}
 use Rattle.std.proofs.lemmas.List.Elements.{All-cons, All-nil, All-push, All-head}
 use Rattle.std.specs.Fmt.{decimal, signed_decimal}
 use Rattle.std.specs.Int.RustNames.{int_div, int_rem}
@@ -13,12 +14,12 @@ use Rattle.wave_base.specs.declared.value.Kind.{Kind}
 use Rattle.wave_base.specs.declared.value.Kind.TheVariants as k
 use Rattle.wave_base.specs.declared.value.Value.{Value}
 use Rattle.wave_base.specs.declared.value.Value.TheVariants.{Int, Str}
-use Rattle.wave_base.specs.Operators.{operator_names, name_of_operator}
+use Rattle.wave_base.specs.Operators.{first_names, later_names, operator_names, name_of_operator}
 use Rattle.wave_base.specs.Values.{kind_of}
 use Rattle.value_ops.specs.Kinds.{Answer, Of, value_of, answer_of}
 use Rattle.value_ops.specs.Meanings.{is_int, is_zero}
 use Rattle.value_ops.specs.Numbers.{number_in}
-use Rattle.value_ops.specs.Rows.{wave_rows, three, row_with, named}
+use Rattle.value_ops.specs.Rows.{Row, wave_rows, wave_rows_2, three, row_with, named}
 use Rattle.value_ops.specs.Operators.{Operator, no_operator, takes_of, operators, operator_at, gives_of, apply_row}
 
 kind_of-value_of : (kind : Kind) (x : Of kind) → kind_of (value_of kind x) ≡ kind
@@ -113,6 +114,18 @@ named_at (name ∷ names) [] i h k = absurd (omega arith)
 named_at (name ∷ names) (o ∷ os) zero h k = refl
 named_at (name ∷ names) (o ∷ os) (suc i) h k = named_at names os i (omega arith) (omega arith)
 
-pub row_at : (row : ℕ) → row < 28 → slice_get wave_rows row ≡ Some (record { name = name_of_operator row; builtin = (operator_at row).builtin; takes = three (takes_of row); gives = gives_of row })
-unfolding wave_rows operators takes_of gives_of
-row_at row h = named_at operator_names operators row h h
+module _ (row : ℕ) where
+  abbrev says : Row
+  says = record { name = name_of_operator row; builtin = (operator_at row).builtin; takes = three (takes_of row); gives = gives_of row }
+
+  -- the names of version 1 stand in front
+  first_name : row < 28 → get_or first_names row [] ≡ name_of_operator row
+  first_name h = sym (get_or_append_left first_names later_names [] row h)
+
+  pub row_at : row < 28 → slice_get wave_rows row ≡ Some says
+  unfolding wave_rows operators takes_of gives_of
+  row_at h = named_at first_names operators row h (omega arith) ∙ ap (λ n. Some (row_with n (operator_at row))) (first_name h)
+
+  pub row_at_2 : row < 34 → slice_get wave_rows_2 row ≡ Some says
+  unfolding wave_rows_2 operators takes_of gives_of
+  row_at_2 h = named_at operator_names operators row h h

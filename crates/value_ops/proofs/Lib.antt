@@ -4,6 +4,8 @@ pub mod FindLemmas
 pub mod IntLemmas
 pub mod LawLemmas
 pub mod MapLemmas
+pub mod NumberLemmas
 pub mod OperandLemmas
 pub mod RowLemmas
+pub mod SumLemmas
 pub mod TextLemmas

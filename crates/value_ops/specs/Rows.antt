@@ -2,7 +2,7 @@
 use Rattle.std.specs.Prelude.{ℕ, Bool, ◌&&◌, List, [], ◌∷◌, Option, Some, None, position}
 use Rattle.wave_base.specs.declared.value.Kind.{Kind}
 use Rattle.wave_base.specs.Names.{same_bytes}
-use Rattle.wave_base.specs.Operators.{operator_names, name_of_operator}
+use Rattle.wave_base.specs.Operators.{first_names, operator_names, name_of_operator}
 use Rattle.value_ops.specs.declared.row.KeptRow.{KeptRow}
 use Rattle.value_ops.specs.declared.row.OpRow.{OpRow}
 use Rattle.value_ops.specs.Operators.{Operator, operators}
@@ -30,14 +30,19 @@ three (a ∷ b ∷ c ∷ kinds) = Some a ∷ Some b ∷ Some c ∷ []
 abbrev pub row_with : List ℕ → Operator → Row
 row_with name o = record { name = name; builtin = o.builtin; takes = three o.takes; gives = o.gives }
 
--- each operator under its name
+-- each operator under its name, as far as there are names
 abbrev pub named : List (List ℕ) → List Operator → List Row
 named [] os = []
 named (name ∷ names) [] = []
 named (name ∷ names) (o ∷ os) = row_with name o ∷ named names os
 
+-- the rows of version 1 of the language
 unfoldable pub wave_rows : List Row
-wave_rows = named operator_names operators
+wave_rows = named first_names operators
+
+-- and those of version 2, which has them all
+unfoldable pub wave_rows_2 : List Row
+wave_rows_2 = named operator_names operators
 
 abbrev pub is_builtin : List ℕ → Row → Bool
 is_builtin name row = row.builtin && same_bytes row.name name

@@ -1,5 +1,4 @@
 ghost use Rattle.std.specs.Prelude.{◌≡◌, ◌<◌};
-ghost use Rattle.wave_base.specs.Operators.{name_of_operator};
 ghost use Rattle.wave_base.specs.declared.operators.TheConstants.{OPERATORS};
 
 use wave_base::{Kind, operator_name};

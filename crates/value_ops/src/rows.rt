@@ -1,5 +1,5 @@
 //! The rows of the operator table by name. Ints are `a` and `b`, truth values `p` and `q`, texts `s` and `t`, and `m` is
-//! a map.
+//! a map. The rows from `MIN` on are builtins of version 2 of the language alone.
 
 /// `a + b`
 pub const ADD: usize = 0;
@@ -57,3 +57,15 @@ pub const LEN: usize = 25;
 pub const STR: usize = 26;
 /// `part(t, a, b)`
 pub const PART: usize = 27;
+/// `min(a, b)`
+pub const MIN: usize = 28;
+/// `max(a, b)`
+pub const MAX: usize = 29;
+/// `abs(a)`
+pub const ABS: usize = 30;
+/// `sum(m)`
+pub const SUM: usize = 31;
+/// `starts(s, t)`
+pub const STARTS: usize = 32;
+/// `num(t)`
+pub const NUM: usize = 33;

@@ -1,6 +1,6 @@
 ghost use Rattle.std.specs.Prelude.{◌≡◌, ◌<◌, length, map, Some, slice_get};
 ghost use Rattle.value_ops.specs.Operators.{takes_of};
-ghost use Rattle.value_ops.specs.Rows.{row_of, kept_row, three, wave_rows, first_builtin};
+ghost use Rattle.value_ops.specs.Rows.{row_of, kept_row, three, wave_rows, wave_rows_2, first_builtin};
 ghost use Rattle.wave_base.specs.Operators.{name_of_operator};
 ghost use Rattle.wave_base.specs.declared.operators.TheConstants.{OPERATORS};
 
@@ -87,7 +87,7 @@ macro_rules! rows {
     };
 }
 
-/// The operators and builtins of the language.
+/// The operators and builtins of version 1 of the language.
 #[tactic(auto, unfolding(crate::specs::Rows::wave_rows, crate::specs::Operators::operators))]
 pub fn wave_ops() -> OpTable<28>
     ensures { result ≡ wave_rows }
@@ -121,6 +121,50 @@ pub fn wave_ops() -> OpTable<28>
         LEN call Int;
         STR call Text;
         PART call Text;
+    };
+    OpTable { rows }
+}
+
+/// The operators and builtins of version 2 of the language: those of version 1, and six more builtins.
+#[tactic(auto, unfolding(crate::specs::Rows::wave_rows_2, crate::specs::Operators::operators))]
+pub fn wave_ops_2() -> OpTable<34>
+    ensures { result ≡ wave_rows_2 }
+{
+    let rows = rows! {
+        ADD sign Int;
+        SUB sign Int;
+        MUL sign Int;
+        DIV sign Int;
+        REM sign Int;
+        NEG sign Int;
+        NOT sign Bool;
+        EQ sign Bool;
+        NE sign Bool;
+        LT sign Bool;
+        LE sign Bool;
+        GT sign Bool;
+        GE sign Bool;
+        BEQ sign Bool;
+        BNE sign Bool;
+        TEQ sign Bool;
+        TNE sign Bool;
+        TLT sign Bool;
+        CAT sign Text;
+        AT sign Int;
+        PUT sign Map;
+        CUT sign Map;
+        HAS call Bool;
+        SIZE call Int;
+        KEY call Int;
+        LEN call Int;
+        STR call Text;
+        PART call Text;
+        MIN call Int;
+        MAX call Int;
+        ABS call Int;
+        SUM call Int;
+        STARTS call Bool;
+        NUM call Int;
     };
     OpTable { rows }
 }

@@ -7,7 +7,7 @@ ghost use Rattle.wave_base.specs.declared.value.Kind.{Kind};
 ghost use Rattle.wave_base.specs.declared.value.Value.{Value};
 
 use crate::error::OpError;
-use crate::rows::{CAT, PART, STR, TEQ, TNE};
+use crate::rows::{CAT, PART, STR, TEQ, TLT, TNE};
 use itoa::Buffer;
 use std::alloc::Global;
 use wave_base::{OutOfMemory, TEXT_BYTES, TrapKind, Txt, Value};
@@ -21,7 +21,8 @@ pub fn compare_texts(row: usize, s: &Txt, t: &Txt) -> bool
     match row {
         TEQ => s.bytes() == t.bytes(),
         TNE => s.bytes() != t.bytes(),
-        _ => s.bytes().cmp(t.bytes()).is_lt(),
+        TLT => s.bytes().cmp(t.bytes()).is_lt(),
+        _ => s.bytes().starts_with(t.bytes()),
     }
 }
 

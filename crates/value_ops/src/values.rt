@@ -9,12 +9,14 @@ ghost use Rattle.wave_base.specs.Values.{kind_of};
 use crate::error::OpError;
 use crate::ints::{apply_ints, number};
 use crate::maps::{apply_map, put};
+use crate::numbers::num;
 use crate::operands::{flag, int, table, text};
-use crate::rows::{BEQ, NEG};
+use crate::rows::{ABS, BEQ, LEN, NEG, SIZE};
+use crate::sums::sum;
 use crate::takes::{Takes, takes_of};
 use crate::texts::{apply_texts, part, written};
 use std::alloc::Global;
-use wave_base::{OPERATORS, Value};
+use wave_base::{OPERATORS, Table, TrapKind, Txt, Value};
 
 /// What a row gives of these values. Ints and truth values are given without memory.
 pub fn apply(alloc: Global, row: usize, args: &[Value]) -> Result<Value, OpError>
@@ -36,10 +38,10 @@ fn apply_by_kinds(alloc: Global, row: usize, args: &[Value]) -> Result<Value, Op
         Takes::Int => apply_int(alloc, row, int(args, 0)),
         Takes::Bool => Ok(Value::Bool(!flag(args, 0))),
         Takes::Bools => Ok(Value::Bool(compare_flags(row, flag(args, 0), flag(args, 1)))),
-        Takes::Text => Ok(Value::Int(text(args, 0).bytes().len() as i64)),
+        Takes::Text => Ok(read_text(row, text(args, 0))?),
         Takes::Texts => apply_texts(alloc, row, text(args, 0), text(args, 1)),
         Takes::TextIntInt => part(alloc, text(args, 0), int(args, 1), int(args, 2)),
-        Takes::Map => Ok(Value::Int(table(args, 0).len() as i64)),
+        Takes::Map => Ok(sum_up(row, table(args, 0))?),
         Takes::MapInt => apply_map(row, table(args, 0), int(args, 1)),
         Takes::MapIntInt => put(table(args, 0), int(args, 1), int(args, 2)),
     }
@@ -50,10 +52,34 @@ fn apply_int(alloc: Global, row: usize, a: i64) -> Result<Value, OpError>
     requires { takes_of row ≡ Kind.Int ∷ [] }
     ensures { Answers (apply_row row (Value.Int a ∷ [])) result }
 {
-    if row == NEG {
-        Ok(number(a.checked_neg())?)
+    match row {
+        NEG => Ok(number(a.checked_neg())?),
+        ABS => Ok(number(a.checked_abs())?),
+        _ => written(alloc, a),
+    }
+}
+
+/// What a row reads from a text: its length, or the number that it writes.
+pub fn read_text(row: usize, t: &Txt) -> Result<Value, TrapKind>
+    requires { takes_of row ≡ Kind.Text ∷ [] }
+    ensures { result ≡ apply_row row (Value.Str t.now ∷ []) }
+{
+    if row == LEN {
+        Ok(Value::Int(t.bytes().len() as i64))
     } else {
-        written(alloc, a)
+        num(t)
+    }
+}
+
+/// What a row gives of a whole map: the number of its pairs, or the sum of its values.
+pub fn sum_up(row: usize, map: &Table) -> Result<Value, TrapKind>
+    requires { takes_of row ≡ Kind.Map ∷ [] }
+    ensures { result ≡ apply_row row (Value.Map map.now ∷ []) }
+{
+    if row == SIZE {
+        Ok(Value::Int(map.len() as i64))
+    } else {
+        sum(map)
     }
 }
 

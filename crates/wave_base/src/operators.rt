@@ -1,8 +1,8 @@
 ghost use Rattle.std.specs.Prelude.{◌≡◌, ◌<◌};
 ghost use Rattle.wave_base.specs.Operators.{name_of_operator};
 
-/// Operators and builtins of the language. Each has a number below this one: its row.
-pub const OPERATORS: usize = 28;
+/// Operators and builtins of the language, of both its versions. Each has a number below this one: its row.
+pub const OPERATORS: usize = 34;
 
 /// The name of an operator's row, as the code listing shows it. The names of the builtins are those that a service calls.
 pub fn operator_name(row: usize) -> &'static [u8]
@@ -37,6 +37,12 @@ pub fn operator_name(row: usize) -> &'static [u8]
         24 => b"key",
         25 => b"len",
         26 => b"str",
-        _ => b"part",
+        27 => b"part",
+        28 => b"min",
+        29 => b"max",
+        30 => b"abs",
+        31 => b"sum",
+        32 => b"starts",
+        _ => b"num",
     }
 }

@@ -7,11 +7,17 @@ use Rattle.resolved_service.specs.Steps.{Step, Steps, Else, no_else, otherwise, 
 use Rattle.resolved_service.specs.View.{Tree, tree_of}
 use Rattle.type_rules.specs.Here as rules
 use Rattle.context_types.specs.declared.here.Here.{Here}
+use Rattle.context_types.specs.declared.here.Within.{Within}
+use Rattle.context_types.specs.declared.here.Within.TheVariants as within
 use Rattle.context_types.specs.declared.exprs.Judged.{Judged}
 use Rattle.context_types.specs.declared.calls.Called.{Called}
 
+abbrev pub function_of : Within → rules.Function
+function_of (within.Method gives) = rules.OfMethod gives
+function_of (within.Event gives) = rules.OfEvent gives
+
 abbrev pub here_of : Here → rules.Here
-here_of h = record { known = h.known.now; class = h.class; function = h.function; locals = h.locals.items; slots = h.slots.items }
+here_of h = record { known = h.known.now; class = h.class; function = h.function; within = function_of h.within; locals = h.locals.items; slots = h.slots.items }
 
 -- the kind and the tree of an expression
 pub record IsJudged (of_kind : Option Kind) (resolved : Tree) (judged : Judged) : Type 0 where

@@ -1,9 +1,10 @@
--- The code of an event's phases, without what ends it.
-use Rattle.std.specs.Prelude.{ℕ, ◌+◌, List, [], ◌∷◌, ◌++◌, length}
+-- The code of an event's phases, without what ends it; and of a loop, the way back.
+use Rattle.std.specs.Prelude.{ℕ, ◌+◌, Bool, true, false, List, [], ◌∷◌, ◌++◌, length}
 use Rattle.resolved_service.specs.declared.service.Method.{Method}
 use Rattle.resolved_service.specs.declared.service.Phase.{Phase}
-use Rattle.resolved_service.specs.Steps.{steps_in}
+use Rattle.resolved_service.specs.Steps.{steps_in, surely_ends}
 use Rattle.resolved_service.specs.View.{tree_of}
+use Rattle.wave_base.specs.declared.span.Span.{Span}
 use Rattle.service_code.specs.declared.instr.Instr.TheVariants as i
 use Rattle.code_scheme.specs.declared.line.Line.{Line}
 use Rattle.code_scheme.specs.Scheme.{line, tree_code, steps_code}
@@ -18,3 +19,13 @@ module _ (methods : List Method) (texts : List Text) where
   abbrev pub phases_front : ℕ → List Phase → List Line
   phases_front n [] = []
   phases_front n (f ∷ fs) = phase_code n f ++ phases_front (n + length (phase_code n f)) fs
+
+-- whether the last phase surely ends
+abbrev pub ended_behind : Bool → List Phase → Bool
+ended_behind ended [] = ended
+ended_behind ended (f ∷ fs) = ended_behind (surely_ends (steps_in f.body)) fs
+
+-- behind a block that surely ends there is no way back
+abbrev pub back_code : Bool → ℕ → Span → List Line
+back_code true n at = []
+back_code false n at = line (i.Jump n) at ∷ []

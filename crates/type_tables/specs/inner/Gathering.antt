@@ -8,7 +8,7 @@ use Rattle.type_tables.specs.declared.gather.Gathered.{Gathered}
 use Rattle.type_tables.specs.Indexed.{IsIndexed}
 
 abbrev pub known_in : Gathered → Known
-known_in g = record { shape = record { classes = g.classes.items; events = g.events.items }; above = g.above.items; methods = g.methods.items }
+known_in g = record { version = g.version; shape = record { classes = g.classes.items; events = g.events.items }; above = g.above.items; methods = g.methods.items }
 
 -- the tables tell the numbers of all names so far
 pub record IsGathered (g : Gathered) : Type 0 where
@@ -18,6 +18,7 @@ pub record IsGathered (g : Gathered) : Type 0 where
 -- so many more classes, methods and events
 abbrev pub grown : Known → List Entry → List Signature → List EventInfo → Known
 grown known classes methods events = record {
+  version = known.version;
   shape = record { classes = known.shape.classes ++ map (λ c. c.info) classes; events = known.shape.events ++ events };
   above = known.above ++ map (λ c. c.above) classes;
   methods = known.methods ++ methods;

@@ -2,11 +2,11 @@ use Rattle.std.proofs.Common.{◌≡◌, length, map, sym, ap, subst, ◌∙◌}
 use Rattle.std.specs.Option.{option_map, option_map_or}
 use Rattle.std.proofs.lemmas.Result.{err_from_is_err_and}
 use Rattle.mace_ast.specs.Decls.{event_tree, phase_tree}
-use Rattle.resolved_service.specs.Steps.{steps_in}
+use Rattle.resolved_service.specs.Steps.{steps_in, surely_ends}
 use Rattle.type_rules.specs.Demands.{first_wrong, Fails}
 use Rattle.type_rules.specs.Known.{none_before}
-use Rattle.type_rules.specs.Here.{start}
-use Rattle.type_rules.specs.Functions.{after_params, event_params_demands, phases_demands, event_end, resolve_phases, event_demands}
+use Rattle.type_rules.specs.Here.{OfEvent, start}
+use Rattle.type_rules.specs.Functions.{after_params, event_params_demands, phases_demands, event_end, ended_behind, resolve_phases, event_demands}
 use Rattle.type_rules.specs.Views.{last_view, phase_view}
 use Rattle.context_types.specs.inner.Places.{here_of}
 use Rattle.context_types.proofs.Exits.{exit}
@@ -23,7 +23,7 @@ returns-in_err-event_params c =
     let number = c.args.number in
     let e = event_tree c.args.e.now in
     let new = ap (none_before number) (sym c.event.ensures) ∙ sym c.none_before.ensures ∙ c.if-not-none_before.false in
-    let start_is = c.start-here.ensures ∙ ap (start known 0) c.method_count.ensures in
+    let start_is = c.start-here.ensures ∙ ap (λ n. start known 0 n (OfEvent e.result)) c.method_count.ensures in
     exit _ _ _ (err_from_is_err_and c.from_residual.result c.from_residual.ensures.1) (event_demands known number e)
     (event_params_fail known number e new c.in_err-event_params.field-0.0 (subst (λ ds. Fails ds c.in_err-event_params.field-0.0) (λ i. event_params_demands (start_is i) (c.as_slice.ensures i)) c.in_err-event_params.ensures))
 
@@ -33,7 +33,7 @@ returns-in_err-first c =
     let number = c.args.number in
     let e = event_tree c.args.e.now in
     let new = ap (none_before number) (sym c.event.ensures) ∙ sym c.none_before.ensures ∙ c.if-not-none_before.false in
-    let start_is = c.start-here.ensures ∙ ap (start known 0) c.method_count.ensures in
+    let start_is = c.start-here.ensures ∙ ap (λ n. start known 0 n (OfEvent e.result)) c.method_count.ensures in
     let params = c.in_ok-event_params.ensures in
     let h = here_of c.event_params.new.self in
     let begins = (λ i. after_params (sym start_is i) (sym c.as_slice.ensures i)) ∙ params.1 in
@@ -41,21 +41,25 @@ returns-in_err-first c =
     exit _ _ _ (err_from_is_err_and c.from_residual-in_err-first.result c.from_residual-in_err-first.ensures.1) (event_demands known number e)
     (first_fails known number e new h begins params_hold c.in_err-first.field-0.0 c.in_err-first.ensures)
 
-pub returns-in_err-phases : goal.returns-in_err-phases
-returns-in_err-phases c =
+pub returns-in_err-made : goal.returns-in_err-made
+returns-in_err-made c =
     let known = c.args.tables.now in
     let number = c.args.number in
     let e = event_tree c.args.e.now in
     let new = ap (none_before number) (sym c.event.ensures) ∙ sym c.none_before.ensures ∙ c.if-not-none_before.false in
-    let start_is = c.start-here.ensures ∙ ap (start known 0) c.method_count.ensures in
+    let start_is = c.start-here.ensures ∙ ap (λ n. start known 0 n (OfEvent e.result)) c.method_count.ensures in
     let params = c.in_ok-event_params.ensures in
     let h = here_of c.event_params.new.self in
     let begins = (λ i. after_params (sym start_is i) (sym c.as_slice.ensures i)) ∙ params.1 in
     let params_hold = (λ i. first_wrong (event_params_demands (sym start_is i) (sym c.as_slice.ensures i))) ∙ params.0 in
     let first = c.in_ok-first.ensures in
+    let made = steps_in c.in_ok-first.first.items in
+    let tells = ap (λ l. surely_ends (steps_in l)) (sym c.as_slice-2.ensures.value) ∙ sym c.surely_ends-ended.ensures in
+    let ended = c.surely_ends-ended.result in
     let j = here_of c.first.new.self in
-    exit _ _ _ (err_from_is_err_and c.from_residual-in_err-phases.result c.from_residual-in_err-phases.ensures.1) (event_demands known number e)
-    (phases_fail known number e new h begins params_hold j first.1.here first.0 c.in_err-phases.field-0.0 (subst (λ ps. Fails (phases_demands j (map phase_tree ps)) c.in_err-phases.field-0.0) c.as_slice-2.ensures c.in_err-phases.ensures))
+    exit _ _ _ (err_from_is_err_and c.from_residual-in_err-made.result c.from_residual-in_err-made.ensures.1) (event_demands known number e)
+    (phases_fail known number e new h begins params_hold j first.1.here first.0 made first.1.steps ended tells c.in_err-made.field-0.0
+    (subst (λ ps. Fails (phases_demands j ended (map phase_tree ps)) c.in_err-made.field-0.0) c.as_slice-3.ensures c.in_err-made.ensures))
 
 pub returns-in_err-last : goal.returns-in_err-last
 returns-in_err-last c =
@@ -63,20 +67,25 @@ returns-in_err-last c =
     let number = c.args.number in
     let e = event_tree c.args.e.now in
     let new = ap (none_before number) (sym c.event.ensures) ∙ sym c.none_before.ensures ∙ c.if-not-none_before.false in
-    let start_is = c.start-here.ensures ∙ ap (start known 0) c.method_count.ensures in
+    let start_is = c.start-here.ensures ∙ ap (λ n. start known 0 n (OfEvent e.result)) c.method_count.ensures in
     let params = c.in_ok-event_params.ensures in
     let h = here_of c.event_params.new.self in
     let begins = (λ i. after_params (sym start_is i) (sym c.as_slice.ensures i)) ∙ params.1 in
     let params_hold = (λ i. first_wrong (event_params_demands (sym start_is i) (sym c.as_slice.ensures i))) ∙ params.0 in
     let first = c.in_ok-first.ensures in
+    let made = steps_in c.in_ok-first.first.items in
+    let tells = ap (λ l. surely_ends (steps_in l)) (sym c.as_slice-2.ensures.value) ∙ sym c.surely_ends-ended.ensures in
+    let ended = c.surely_ends-ended.result in
     let j = here_of c.first.new.self in
-    let phases = c.in_ok-phases.ensures in
+    let phases = c.in_ok-made.ensures in
     let l = here_of c.phases.new.self in
-    let all = sym c.as_slice-2.ensures in
+    let all = sym c.as_slice-3.ensures in
     let ends = ap (λ ps. event_end j (map phase_tree ps)) all ∙ phases.1.0 in
-    let phases_hold = ap (λ ps. first_wrong (phases_demands j (map phase_tree ps))) all ∙ phases.0 in
+    let phases_hold = ap (λ ps. first_wrong (phases_demands j ended (map phase_tree ps))) all ∙ phases.0 in
+    let past = c.in_ok-made.made.1 in
+    let past_is = ap (λ ps. ended_behind j ended (map phase_tree ps)) all ∙ phases.1.2 in
     exit _ _ _ (err_from_is_err_and c.from_residual-in_err-last.result c.from_residual-in_err-last.ensures.1) (event_demands known number e)
-    (reply_fails known number e new h begins params_hold j first.1.here first.0 l ends phases_hold c.in_err-last.field-0.0 c.in_err-last.ensures)
+    (reply_fails known number e new h begins params_hold j first.1.here first.0 made first.1.steps ended tells l ends phases_hold past past_is c.in_err-last.field-0.0 c.in_err-last.ensures)
 
 pub returns : goal.returns
 returns c =
@@ -84,22 +93,27 @@ returns c =
     let number = c.args.number in
     let e = event_tree c.args.e.now in
     let new = ap (none_before number) (sym c.event.ensures) ∙ sym c.none_before.ensures ∙ c.if-not-none_before.false in
-    let start_is = c.start-here.ensures ∙ ap (start known 0) c.method_count.ensures in
+    let start_is = c.start-here.ensures ∙ ap (λ n. start known 0 n (OfEvent e.result)) c.method_count.ensures in
     let params = c.in_ok-event_params.ensures in
     let h = here_of c.event_params.new.self in
     let begins = (λ i. after_params (sym start_is i) (sym c.as_slice.ensures i)) ∙ params.1 in
     let params_hold = (λ i. first_wrong (event_params_demands (sym start_is i) (sym c.as_slice.ensures i))) ∙ params.0 in
     let first = c.in_ok-first.ensures in
+    let made = steps_in c.in_ok-first.first.items in
+    let tells = ap (λ l. surely_ends (steps_in l)) (sym c.as_slice-2.ensures.value) ∙ sym c.surely_ends-ended.ensures in
+    let ended = c.surely_ends-ended.result in
     let j = here_of c.first.new.self in
-    let phases = c.in_ok-phases.ensures in
+    let phases = c.in_ok-made.ensures in
     let l = here_of c.phases.new.self in
-    let all = sym c.as_slice-2.ensures in
+    let all = sym c.as_slice-3.ensures in
     let ends = ap (λ ps. event_end j (map phase_tree ps)) all ∙ phases.1.0 in
-    let phases_hold = ap (λ ps. first_wrong (phases_demands j (map phase_tree ps))) all ∙ phases.0 in
+    let phases_hold = ap (λ ps. first_wrong (phases_demands j ended (map phase_tree ps))) all ∙ phases.0 in
+    let past = c.in_ok-made.made.1 in
+    let past_is = ap (λ ps. ended_behind j ended (map phase_tree ps)) all ∙ phases.1.2 in
     let last = c.in_ok-last.ensures in
     let phases_are = ap (λ ps. resolve_phases j (map phase_tree ps)) all ∙ phases.1.1 in (
-      event_holds known number e new h begins params_hold j first.1.here first.0 l ends phases_hold last.0,
-      event_made known number e new h begins params_hold j first.1.here first.0 l ends phases_hold (steps_in c.in_ok-first.first.items) (map phase_view c.in_ok-phases.phases.items) (option_map last_view c.in_ok-last.last) first.1.steps phases_are last.1
+      event_holds known number e new h begins params_hold j first.1.here first.0 made first.1.steps ended tells l ends phases_hold past past_is last.0,
+      event_made known number e new h begins params_hold j first.1.here first.0 made first.1.steps ended tells l ends phases_hold past past_is (map phase_view c.in_ok-made.made.0.items) (option_map last_view c.in_ok-last.last) phases_are last.1
           ∙ (λ i. record {
             at = c.args.e.now.at;
             locals = sym c.into_slots.ensures i;

@@ -3,7 +3,7 @@ use Rattle.std.specs.Option.{option_map}
 use Rattle.std.proofs.lemmas.Result.{err_from_is_err_and}
 use Rattle.mace_ast.specs.Decls.{method_tree}
 use Rattle.mace_ast.specs.Stmts.{stmt_tree, stmts_of}
-use Rattle.resolved_service.specs.Steps.{steps_in}
+use Rattle.resolved_service.specs.Steps.{steps_in, surely_ends}
 use Rattle.type_rules.specs.Demands.{first_wrong, Fails}
 use Rattle.type_rules.specs.Here.{start}
 use Rattle.type_rules.specs.Stmts.{after_all, stmts_demands, resolve_stmts}
@@ -46,10 +46,13 @@ returns-in_err-last c =
     let h = here_of c.method_params.new.self in
     let body = c.in_ok-body.ensures in
     let all = sym c.as_slice-2.ensures in
+    let steps = ap (λ l. resolve_stmts h (stmts_of (map stmt_tree l))) all ∙ body.1.steps in
+    let tells = ap (λ l. surely_ends (steps_in l)) (sym c.as_slice-3.ensures.value) ∙ sym c.surely_ends-ended.ensures in
     exit _ _ _ (err_from_is_err_and c.from_residual-in_err-last.result c.from_residual-in_err-last.ensures.1) (method_demands known c.args.class c.args.number m)
     (last_fails known c.args.class c.args.number m free h ((λ i. after_params (sym c.start-here.ensures i) (sym c.as_slice.ensures i)) ∙ params.1)
     ((λ i. first_wrong (method_params_demands (sym c.start-here.ensures i) (sym c.as_slice.ensures i))) ∙ params.0)
     (here_of c.stmts.new.self) (ap (λ l. after_all h (stmts_of (map stmt_tree l))) all ∙ body.1.here) (ap (λ l. first_wrong (stmts_demands h (stmts_of (map stmt_tree l)))) all ∙ body.0)
+    (steps_in c.in_ok-body.body.items) steps c.surely_ends-ended.result tells
     c.in_err-last.field-0.0 c.in_err-last.ensures)
 
 pub returns : goal.returns
@@ -61,15 +64,18 @@ returns c =
     let h = here_of c.method_params.new.self in
     let j = here_of c.stmts.new.self in
     let body = c.in_ok-body.ensures in
+    let made = steps_in c.in_ok-body.body.items in
     let last = c.in_ok-last.ensures in
     let all = sym c.as_slice-2.ensures in
     let begins = (λ i. after_params (sym c.start-here.ensures i) (sym c.as_slice.ensures i)) ∙ params.1 in
     let params_hold = (λ i. first_wrong (method_params_demands (sym c.start-here.ensures i) (sym c.as_slice.ensures i))) ∙ params.0 in
     let ends = ap (λ l. after_all h (stmts_of (map stmt_tree l))) all ∙ body.1.here in
     let holds = ap (λ l. first_wrong (stmts_demands h (stmts_of (map stmt_tree l)))) all ∙ body.0 in
-    let steps = ap (λ l. resolve_stmts h (stmts_of (map stmt_tree l))) all ∙ body.1.steps in (
-      method_holds known c.args.class c.args.number m free h begins params_hold j ends holds last.0,
-      method_made known c.args.class c.args.number m free h begins params_hold j ends holds (steps_in c.in_ok-body.body.items) (option_map last_view c.in_ok-last.last) steps last.1
+    let steps = ap (λ l. resolve_stmts h (stmts_of (map stmt_tree l))) all ∙ body.1.steps in
+    let tells = ap (λ l. surely_ends (steps_in l)) (sym c.as_slice-3.ensures.value) ∙ sym c.surely_ends-ended.ensures in
+    let ended = c.surely_ends-ended.result in (
+      method_holds known c.args.class c.args.number m free h begins params_hold j ends holds made steps ended tells last.0,
+      method_made known c.args.class c.args.number m free h begins params_hold j ends holds made steps ended tells (option_map last_view c.in_ok-last.last) last.1
           ∙ (λ i. record {
             at = c.args.m.now.at;
             name = sym c.in_ok-copy.ensures i;

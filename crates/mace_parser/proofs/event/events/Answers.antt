@@ -3,6 +3,7 @@ use Rattle.std.proofs.lemmas.Result.{err_from_is_err_and}
 use Rattle.std.proofs.lemmas.List.{map_push}
 use Rattle.mace_lexer.specs.declared.keyword.Keyword.TheVariants as k
 use Rattle.mace_ast.specs.Decls.{event_tree}
+use Rattle.mace_grammar.specs.Words.{numbered}
 use Rattle.mace_grammar.specs.inner.Classes.{kind}
 use Rattle.mace_grammar.specs.inner.Run.{sees}
 use Rattle.mace_grammar.specs.inner.Readers as reader
@@ -13,17 +14,17 @@ use Rattle.mace_parser.proofs.event.events.Goals.{else-turns-test, then-turns-te
 pub returns-in_err-next : goal.returns-in_err-next
 returns-in_err-next c =
     let p = err_from_is_err_and c.from_residual.result c.from_residual.ensures.1 in
-    let s : sees kind (reader.if_key k.Event) c.turns.rest.now ≡ true = sym c.sees_key.ensures ∙ c.if-not-sees_key.false in
-    rw (p.1, p.2) (list_ends (reader.if_key k.Event) (reader.event_at c.args.depth) c.in_err-next.field-0.0 (length c.args.tokens.now) c.turns.counter (map event_tree c.turns.found.items) c.turns.rest.now (reader.events_at c.args.depth c.args.tokens.now) c.turns-test.true s c.in_err-next.ensures c.turns.invariant)
+    let s : sees (kind (numbered c.args.version)) (reader.if_key k.Event) c.turns.rest.now ≡ true = sym c.sees_key.ensures ∙ c.if-not-sees_key.false in
+    rw (p.1, p.2) (list_ends (numbered c.args.version) (reader.if_key k.Event) (reader.event_at (numbered c.args.version) c.args.depth) c.in_err-next.field-0.0 (length c.args.tokens.now) c.turns.counter (map event_tree c.turns.found.items) c.turns.rest.now (reader.events_at (numbered c.args.version) c.args.depth c.args.tokens.now) c.turns-test.true s c.in_err-next.ensures c.turns.invariant)
 
 pub turns-preserved : goal.turns-preserved
 turns-preserved c =
-    let s : sees kind (reader.if_key k.Event) c.turns.rest.now ≡ true = sym c.sees_key.ensures ∙ c.if-not-sees_key.false in
-    list_goes_on (reader.if_key k.Event) (reader.event_at c.args.depth) (length c.args.tokens.now) c.turns.counter (map event_tree c.turns.found.items) (map event_tree c.push.new.self.items) c.turns.rest.now c.in_ok-next.after.now (event_tree c.in_ok-next.next) (reader.events_at c.args.depth c.args.tokens.now) c.turns-test.true s c.in_ok-next.ensures (rw c.in_ok-push.ensures.items (map_push event_tree c.turns.found.items c.in_ok-next.next)) c.turns.invariant
+    let s : sees (kind (numbered c.args.version)) (reader.if_key k.Event) c.turns.rest.now ≡ true = sym c.sees_key.ensures ∙ c.if-not-sees_key.false in
+    list_goes_on (numbered c.args.version) (reader.if_key k.Event) (reader.event_at (numbered c.args.version) c.args.depth) (length c.args.tokens.now) c.turns.counter (map event_tree c.turns.found.items) (map event_tree c.push.new.self.items) c.turns.rest.now c.in_ok-next.after.now (event_tree c.in_ok-next.next) (reader.events_at (numbered c.args.version) c.args.depth c.args.tokens.now) c.turns-test.true s c.in_ok-next.ensures (rw c.in_ok-push.ensures.items (map_push event_tree c.turns.found.items c.in_ok-next.next)) c.turns.invariant
 
 pub returns : goal.returns
 returns c =
     elim c.turns-test.branch [
-      | else-turns-test w ↦ list_done_at (reader.if_key k.Event) (reader.event_at c.args.depth) ((length c.args.tokens.now) - c.turns.counter) (map event_tree c.turns.found.items) c.turns.rest.now (reader.events_at c.args.depth c.args.tokens.now) (omega arith) c.turns.invariant ∙ ap (λ l. Ok (l, c.turns.rest.now)) (sym (ap (map event_tree) c.from_vec.ensures))
-      | then-turns-test+then-not-sees_key w ↦ list_done (reader.if_key k.Event) (reader.event_at c.args.depth) ((length c.args.tokens.now) - c.turns.counter) (map event_tree c.turns.found.items) c.turns.rest.now (reader.events_at c.args.depth c.args.tokens.now) (sym w.sees_key.ensures ∙ w.if-not-sees_key.true) c.turns.invariant ∙ ap (λ l. Ok (l, c.turns.rest.now)) (sym (ap (map event_tree) c.from_vec.ensures))
+      | else-turns-test w ↦ list_done_at (numbered c.args.version) (reader.if_key k.Event) (reader.event_at (numbered c.args.version) c.args.depth) ((length c.args.tokens.now) - c.turns.counter) (map event_tree c.turns.found.items) c.turns.rest.now (reader.events_at (numbered c.args.version) c.args.depth c.args.tokens.now) (omega arith) c.turns.invariant ∙ ap (λ l. Ok (l, c.turns.rest.now)) (sym (ap (map event_tree) c.from_vec.ensures))
+      | then-turns-test+then-not-sees_key w ↦ list_done (numbered c.args.version) (reader.if_key k.Event) (reader.event_at (numbered c.args.version) c.args.depth) ((length c.args.tokens.now) - c.turns.counter) (map event_tree c.turns.found.items) c.turns.rest.now (reader.events_at (numbered c.args.version) c.args.depth c.args.tokens.now) (sym w.sees_key.ensures ∙ w.if-not-sees_key.true) c.turns.invariant ∙ ap (λ l. Ok (l, c.turns.rest.now)) (sym (ap (map event_tree) c.from_vec.ensures))
     ]

@@ -1,9 +1,10 @@
 use Rattle.std.proofs.Common.{◌≡◌, ◌-◌, map}
 use Rattle.mace_lexer.specs.declared.keyword.Keyword.TheVariants as k
 use Rattle.mace_ast.specs.Decls.{event_tree}
+use Rattle.mace_grammar.specs.Words.{numbered}
 use Rattle.mace_grammar.specs.inner.Readers as reader
 use Rattle.mace_parser.proofs.Turns.{list_from}
 use Rattle.mace_parser.proofs.event.events.Given as goal
 
 abbrev pub invariant-turns : goal.invariant-turns
-invariant-turns l = list_from (reader.if_key k.Event) (reader.event_at l.depth) (l.end - l.counter) (map event_tree l.found.items) l.rest ≡ reader.events_at l.depth l.tokens
+invariant-turns l = list_from (numbered l.version) (reader.if_key k.Event) (reader.event_at (numbered l.version) l.depth) (l.end - l.counter) (map event_tree l.found.items) l.rest ≡ reader.events_at (numbered l.version) l.depth l.tokens

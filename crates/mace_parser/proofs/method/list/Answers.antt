@@ -1,6 +1,7 @@
 use Rattle.std.proofs.Common.{◌≡◌, ◌-◌, true, length, sym, ◌∙◌, arith}
 use Rattle.std.proofs.lemmas.Result.{err_from_is_err_and}
 use Rattle.mace_lexer.specs.declared.sign.Sign.TheVariants as sign
+use Rattle.mace_grammar.specs.Words.{numbered}
 use Rattle.mace_grammar.specs.inner.Classes.{kind}
 use Rattle.mace_grammar.specs.inner.Run.{sees}
 use Rattle.mace_grammar.specs.inner.Readers as reader
@@ -11,17 +12,17 @@ use Rattle.mace_parser.proofs.method.list.Goals.{else-turns-test, then-turns-tes
 pub returns-in_err-next : goal.returns-in_err-next
 returns-in_err-next c =
     let p = err_from_is_err_and c.from_residual-in_err-next.result c.from_residual-in_err-next.ensures.1 in
-    let s : sees kind (reader.if_sign sign.Comma) c.turns.rest.now ≡ true = sym c.sees_sign.ensures ∙ c.if-not-sees_sign.false in
-    rw (p.1, p.2) (list_ends (reader.if_sign sign.Comma) (reader.next_at reader.param_at) c.in_err-next.field-0.0 (length c.in_ok-first.rest.now) c.turns.counter c.turns.found.items c.turns.rest.now (reader.list_at reader.param_at c.args.tokens.now) c.turns-test.true s c.in_err-next.ensures c.turns.invariant)
+    let s : sees (kind (numbered c.args.version)) (reader.if_sign sign.Comma) c.turns.rest.now ≡ true = sym c.sees_sign.ensures ∙ c.if-not-sees_sign.false in
+    rw (p.1, p.2) (list_ends (numbered c.args.version) (reader.if_sign sign.Comma) (reader.next_at (numbered c.args.version) (reader.param_at (numbered c.args.version))) c.in_err-next.field-0.0 (length c.in_ok-first.rest.now) c.turns.counter c.turns.found.items c.turns.rest.now (reader.list_at (numbered c.args.version) (reader.param_at (numbered c.args.version)) c.args.tokens.now) c.turns-test.true s c.in_err-next.ensures c.turns.invariant)
 
 pub turns-preserved : goal.turns-preserved
 turns-preserved c =
-    let s : sees kind (reader.if_sign sign.Comma) c.turns.rest.now ≡ true = sym c.sees_sign.ensures ∙ c.if-not-sees_sign.false in
-    list_goes_on (reader.if_sign sign.Comma) (reader.next_at reader.param_at) (length c.in_ok-first.rest.now) c.turns.counter c.turns.found.items c.push-in-turns.new.self.items c.turns.rest.now c.in_ok-next.after.now c.in_ok-next.next (reader.list_at reader.param_at c.args.tokens.now) c.turns-test.true s c.in_ok-next.ensures c.in_ok-push-2.ensures.items c.turns.invariant
+    let s : sees (kind (numbered c.args.version)) (reader.if_sign sign.Comma) c.turns.rest.now ≡ true = sym c.sees_sign.ensures ∙ c.if-not-sees_sign.false in
+    list_goes_on (numbered c.args.version) (reader.if_sign sign.Comma) (reader.next_at (numbered c.args.version) (reader.param_at (numbered c.args.version))) (length c.in_ok-first.rest.now) c.turns.counter c.turns.found.items c.push-in-turns.new.self.items c.turns.rest.now c.in_ok-next.after.now c.in_ok-next.next (reader.list_at (numbered c.args.version) (reader.param_at (numbered c.args.version)) c.args.tokens.now) c.turns-test.true s c.in_ok-next.ensures c.in_ok-push-2.ensures.items c.turns.invariant
 
 pub returns : goal.returns
 returns c =
     elim c.turns-test.branch [
-      | else-turns-test w ↦ list_done_at (reader.if_sign sign.Comma) (reader.next_at reader.param_at) ((length c.in_ok-first.rest.now) - c.turns.counter) c.turns.found.items c.turns.rest.now (reader.list_at reader.param_at c.args.tokens.now) (omega arith) c.turns.invariant
-      | then-turns-test+then-not-sees_sign w ↦ list_done (reader.if_sign sign.Comma) (reader.next_at reader.param_at) ((length c.in_ok-first.rest.now) - c.turns.counter) c.turns.found.items c.turns.rest.now (reader.list_at reader.param_at c.args.tokens.now) (sym w.sees_sign.ensures ∙ w.if-not-sees_sign.true) c.turns.invariant
+      | else-turns-test w ↦ list_done_at (numbered c.args.version) (reader.if_sign sign.Comma) (reader.next_at (numbered c.args.version) (reader.param_at (numbered c.args.version))) ((length c.in_ok-first.rest.now) - c.turns.counter) c.turns.found.items c.turns.rest.now (reader.list_at (numbered c.args.version) (reader.param_at (numbered c.args.version)) c.args.tokens.now) (omega arith) c.turns.invariant
+      | then-turns-test+then-not-sees_sign w ↦ list_done (numbered c.args.version) (reader.if_sign sign.Comma) (reader.next_at (numbered c.args.version) (reader.param_at (numbered c.args.version))) ((length c.in_ok-first.rest.now) - c.turns.counter) c.turns.found.items c.turns.rest.now (reader.list_at (numbered c.args.version) (reader.param_at (numbered c.args.version)) c.args.tokens.now) (sym w.sees_sign.ensures ∙ w.if-not-sees_sign.true) c.turns.invariant
     ]

@@ -2,6 +2,7 @@ use Rattle.std.proofs.Common.{◌≡◌, ◌-◌, true, length, Ok, sym, ◌∙�
 use Rattle.std.proofs.lemmas.Result.{err_from_is_err_and}
 use Rattle.std.proofs.lemmas.List.{map_push}
 use Rattle.mace_ast.specs.Stmts.{stmt_tree}
+use Rattle.mace_grammar.specs.Words.{numbered}
 use Rattle.mace_grammar.specs.inner.Classes.{kind}
 use Rattle.mace_grammar.specs.inner.Run.{sees}
 use Rattle.mace_grammar.specs.inner.Readers as reader
@@ -13,46 +14,46 @@ use Rattle.mace_parser.proofs.stmt.+stmt.Goals.{stmts-else-turns-test, stmts-the
 pub stmts-returns-in_err-next : goal.stmts-returns-in_err-next
 stmts-returns-in_err-next t c =
     let p = err_from_is_err_and c.from_residual.result c.from_residual.ensures.1 in
-    let s : sees kind reader.stmt_starts c.turns.rest.now ≡ true = sym c.begins_stmt.ensures ∙ c.if-not-begins_stmt.false in
-    rw (p.1, p.2) (list_ends reader.stmt_starts (reader.stmt_at c.args.depth) c.in_err-next.field-0.0 (length c.args.tokens.now) c.turns.counter (map stmt_tree c.turns.found.items) c.turns.rest.now (reader.stmts_in (reader.stmt_at c.args.depth) c.args.tokens.now) c.turns-test.true s c.in_err-next.ensures c.turns.invariant)
+    let s : sees (kind (numbered c.args.version)) reader.stmt_starts c.turns.rest.now ≡ true = sym c.begins_stmt.ensures ∙ c.if-not-begins_stmt.false in
+    rw (p.1, p.2) (list_ends (numbered c.args.version) reader.stmt_starts (reader.stmt_at (numbered c.args.version) c.args.depth) c.in_err-next.field-0.0 (length c.args.tokens.now) c.turns.counter (map stmt_tree c.turns.found.items) c.turns.rest.now (reader.stmts_in (numbered c.args.version) (reader.stmt_at (numbered c.args.version) c.args.depth) c.args.tokens.now) c.turns-test.true s c.in_err-next.ensures c.turns.invariant)
 
 pub stmts-turns-preserved : goal.stmts-turns-preserved
 stmts-turns-preserved t c =
-    let s : sees kind reader.stmt_starts c.turns.rest.now ≡ true = sym c.begins_stmt.ensures ∙ c.if-not-begins_stmt.false in
-    list_goes_on reader.stmt_starts (reader.stmt_at c.args.depth) (length c.args.tokens.now) c.turns.counter (map stmt_tree c.turns.found.items) (map stmt_tree c.push.new.self.items) c.turns.rest.now c.in_ok-next.after.now (stmt_tree c.in_ok-next.next) (reader.stmts_in (reader.stmt_at c.args.depth) c.args.tokens.now) c.turns-test.true s c.in_ok-next.ensures (rw c.in_ok-push.ensures.items (map_push stmt_tree c.turns.found.items c.in_ok-next.next)) c.turns.invariant
+    let s : sees (kind (numbered c.args.version)) reader.stmt_starts c.turns.rest.now ≡ true = sym c.begins_stmt.ensures ∙ c.if-not-begins_stmt.false in
+    list_goes_on (numbered c.args.version) reader.stmt_starts (reader.stmt_at (numbered c.args.version) c.args.depth) (length c.args.tokens.now) c.turns.counter (map stmt_tree c.turns.found.items) (map stmt_tree c.push.new.self.items) c.turns.rest.now c.in_ok-next.after.now (stmt_tree c.in_ok-next.next) (reader.stmts_in (numbered c.args.version) (reader.stmt_at (numbered c.args.version) c.args.depth) c.args.tokens.now) c.turns-test.true s c.in_ok-next.ensures (rw c.in_ok-push.ensures.items (map_push stmt_tree c.turns.found.items c.in_ok-next.next)) c.turns.invariant
 
 pub stmts-returns : goal.stmts-returns
 stmts-returns t c =
     elim c.turns-test.branch [
-      | stmts-else-turns-test w ↦ list_done_at reader.stmt_starts (reader.stmt_at c.args.depth) ((length c.args.tokens.now) - c.turns.counter) (map stmt_tree c.turns.found.items) c.turns.rest.now (reader.stmts_in (reader.stmt_at c.args.depth) c.args.tokens.now) (omega arith) c.turns.invariant
-      | stmts-then-turns-test+then-not-begins_stmt w ↦ list_done reader.stmt_starts (reader.stmt_at c.args.depth) ((length c.args.tokens.now) - c.turns.counter) (map stmt_tree c.turns.found.items) c.turns.rest.now (reader.stmts_in (reader.stmt_at c.args.depth) c.args.tokens.now) (sym w.begins_stmt.ensures ∙ w.if-not-begins_stmt.true) c.turns.invariant
+      | stmts-else-turns-test w ↦ list_done_at (numbered c.args.version) reader.stmt_starts (reader.stmt_at (numbered c.args.version) c.args.depth) ((length c.args.tokens.now) - c.turns.counter) (map stmt_tree c.turns.found.items) c.turns.rest.now (reader.stmts_in (numbered c.args.version) (reader.stmt_at (numbered c.args.version) c.args.depth) c.args.tokens.now) (omega arith) c.turns.invariant
+      | stmts-then-turns-test+then-not-begins_stmt w ↦ list_done (numbered c.args.version) reader.stmt_starts (reader.stmt_at (numbered c.args.version) c.args.depth) ((length c.args.tokens.now) - c.turns.counter) (map stmt_tree c.turns.found.items) c.turns.rest.now (reader.stmts_in (numbered c.args.version) (reader.stmt_at (numbered c.args.version) c.args.depth) c.args.tokens.now) (sym w.begins_stmt.ensures ∙ w.if-not-begins_stmt.true) c.turns.invariant
     ]
 
 pub if_stmt-returns-in_err-body : goal.if_stmt-returns-in_err-body
 if_stmt-returns-in_err-body t c =
     let p = err_from_is_err_and c.from_residual-in_err-body.result c.from_residual-in_err-body.ensures.1 in
-    rw (p.1, p.2) (if_fails c.args.depth (reader.stmt_at c.args.depth) c.args.tokens.now c.in_ok-at.ensures c.in_ok-test.ensures c.in_err-body.field-0.0 c.in_err-body.ensures)
+    rw (p.1, p.2) (if_fails (numbered c.args.version) c.args.depth (reader.stmt_at (numbered c.args.version) c.args.depth) c.args.tokens.now c.in_ok-at.ensures c.in_ok-test.ensures c.in_err-body.field-0.0 c.in_err-body.ensures)
 
 pub if_stmt-returns-in_err-other : goal.if_stmt-returns-in_err-other
 if_stmt-returns-in_err-other t c =
     let p = err_from_is_err_and c.from_residual-in_err-other.result c.from_residual-in_err-other.ensures.1 in
-    rw (p.1, p.2) (else_fails c.args.depth (reader.stmt_at c.args.depth) c.args.tokens.now c.in_ok-at.ensures c.in_ok-test.ensures c.in_ok-body.ensures c.in_err-other.field-0.0 c.in_err-other.ensures)
+    rw (p.1, p.2) (else_fails (numbered c.args.version) c.args.depth (reader.stmt_at (numbered c.args.version) c.args.depth) c.args.tokens.now c.in_ok-at.ensures c.in_ok-test.ensures c.in_ok-body.ensures c.in_err-other.field-0.0 c.in_err-other.ensures)
 
 pub if_stmt-returns : goal.if_stmt-returns
-if_stmt-returns t c = if_gives c.args.depth (reader.stmt_at c.args.depth) c.args.tokens.now c.in_ok-at.ensures c.in_ok-test.ensures c.in_ok-body.ensures c.in_ok-other.ensures ∙ ap (λ s. Ok (s, c.in_ok-other.rest.now)) (sym c.if_else.ensures)
+if_stmt-returns t c = if_gives (numbered c.args.version) c.args.depth (reader.stmt_at (numbered c.args.version) c.args.depth) c.args.tokens.now c.in_ok-at.ensures c.in_ok-test.ensures c.in_ok-body.ensures c.in_ok-other.ensures ∙ ap (λ s. Ok (s, c.in_ok-other.rest.now)) (sym c.if_else.ensures)
 
 pub while_stmt-returns-in_err-body : goal.while_stmt-returns-in_err-body
 while_stmt-returns-in_err-body t c =
     let p = err_from_is_err_and c.from_residual-in_err-body.result c.from_residual-in_err-body.ensures.1 in
-    rw (p.1, p.2) (while_fails c.args.depth (reader.stmt_at c.args.depth) c.args.tokens.now c.in_ok-at.ensures c.in_ok-test.ensures c.in_err-body.field-0.0 c.in_err-body.ensures)
+    rw (p.1, p.2) (while_fails (numbered c.args.version) c.args.depth (reader.stmt_at (numbered c.args.version) c.args.depth) c.args.tokens.now c.in_ok-at.ensures c.in_ok-test.ensures c.in_err-body.field-0.0 c.in_err-body.ensures)
 
 pub while_stmt-returns : goal.while_stmt-returns
-while_stmt-returns t c = while_gives c.args.depth (reader.stmt_at c.args.depth) c.args.tokens.now c.in_ok-at.ensures c.in_ok-test.ensures c.in_ok-body.ensures ∙ ap (λ s. Ok (s, c.in_ok-body.rest.now)) (sym c.while_do.ensures)
+while_stmt-returns t c = while_gives (numbered c.args.version) c.args.depth (reader.stmt_at (numbered c.args.version) c.args.depth) c.args.tokens.now c.in_ok-at.ensures c.in_ok-test.ensures c.in_ok-body.ensures ∙ ap (λ s. Ok (s, c.in_ok-body.rest.now)) (sym c.while_do.ensures)
 
 pub for_stmt-returns-in_err-body : goal.for_stmt-returns-in_err-body
 for_stmt-returns-in_err-body t c =
     let p = err_from_is_err_and c.from_residual-in_err-body.result c.from_residual-in_err-body.ensures.1 in
-    rw (p.1, p.2) (for_fails c.args.depth (reader.stmt_at c.args.depth) c.args.tokens.now c.in_ok-at.ensures c.in_ok-x.ensures c.in_ok-rest.ensures c.in_ok-low.ensures c.in_ok-rest-2.ensures c.in_ok-high.ensures c.in_err-body.field-0.0 c.in_err-body.ensures)
+    rw (p.1, p.2) (for_fails (numbered c.args.version) c.args.depth (reader.stmt_at (numbered c.args.version) c.args.depth) c.args.tokens.now c.in_ok-at.ensures c.in_ok-x.ensures c.in_ok-rest.ensures c.in_ok-low.ensures c.in_ok-rest-2.ensures c.in_ok-high.ensures c.in_err-body.field-0.0 c.in_err-body.ensures)
 
 pub for_stmt-returns : goal.for_stmt-returns
-for_stmt-returns t c = for_gives c.args.depth (reader.stmt_at c.args.depth) c.args.tokens.now c.in_ok-at.ensures c.in_ok-x.ensures c.in_ok-rest.ensures c.in_ok-low.ensures c.in_ok-rest-2.ensures c.in_ok-high.ensures c.in_ok-body.ensures ∙ ap (λ s. Ok (s, c.in_ok-body.rest.now)) (sym c.for_in.ensures)
+for_stmt-returns t c = for_gives (numbered c.args.version) c.args.depth (reader.stmt_at (numbered c.args.version) c.args.depth) c.args.tokens.now c.in_ok-at.ensures c.in_ok-x.ensures c.in_ok-rest.ensures c.in_ok-low.ensures c.in_ok-rest-2.ensures c.in_ok-high.ensures c.in_ok-body.ensures ∙ ap (λ s. Ok (s, c.in_ok-body.rest.now)) (sym c.for_in.ensures)

@@ -10,7 +10,7 @@ pub returns-clause-itself : goal.returns-clause-itself
 returns-clause-itself c = service_says
 
 pub returns-clause-only : goal.returns-clause-only
-returns-clause-only c = λ t s h. one_tree (service_words t) s t h (service_says t)
+returns-clause-only c = λ t s f h. one_tree (service_words t) s t h (service_says t f)
 
 pub returns-clause-shortest : goal.returns-clause-shortest
 returns-clause-shortest c = shortest

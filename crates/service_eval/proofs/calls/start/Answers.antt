@@ -21,8 +21,8 @@ returns-in-Some-clause-ok c =
     let m = mach_of tree c.args.m.now in
     h tree ∙ ap (λ (m : Mach). on_top (Block (steps_in c.as_slice-2.result.now)) (on_top (Eval (tree_of c.in-Some.last.value)) (record m { depth = m.depth - 1 }))) (c.in_ok-push.ensures.ok tree)
     ∙ (λ i. record {
-      items = Block (steps_in (c.as_slice-2.ensures i)) ∷ with_last (sym c.in-Some.is i) (Return (ap (λ v. v.items) c.replace-locals.ensures.value i) m.depth (c.height-base.ensures i) c.args.up ∷ m.items);
-      values = m.values;
+      items = Block (steps_in (c.as_slice-2.ensures i)) ∷ with_last (sym c.in-Some.is i) (Return (ap (λ v. v.items) c.replace-locals.ensures.value i) (ap (λ v. v.items) c.replace-values.ensures.value i) m.depth c.args.up ∷ m.items);
+      values = (ap (λ v. v.items) c.replace-values.ensures.after ∙ c.new.ensures.items) i;
       path = m.path;
       depth = m.depth - 1;
       state = record { locals = (ap (λ v. v.items) c.replace-locals.ensures.after ∙ c.in-Ok.ensures ∙ ap (with_blanks c.args.given.items) c.as_slice.ensures) i; world = m.state.world };
@@ -34,8 +34,8 @@ returns-in-None-clause-ok c =
     let m = mach_of tree c.args.m.now in
     h tree ∙ ap (λ (m : Mach). on_top (Block (steps_in c.as_slice-2.result.now)) (record m { depth = m.depth - 1 })) (c.in_ok-push.ensures.ok tree)
     ∙ (λ i. record {
-      items = Block (steps_in (c.as_slice-2.ensures i)) ∷ with_last (sym c.in-None.is i) (Return (ap (λ v. v.items) c.replace-locals.ensures.value i) m.depth (c.height-base.ensures i) c.args.up ∷ m.items);
-      values = m.values;
+      items = Block (steps_in (c.as_slice-2.ensures i)) ∷ with_last (sym c.in-None.is i) (Return (ap (λ v. v.items) c.replace-locals.ensures.value i) (ap (λ v. v.items) c.replace-values.ensures.value i) m.depth c.args.up ∷ m.items);
+      values = (ap (λ v. v.items) c.replace-values.ensures.after ∙ c.new.ensures.items) i;
       path = m.path;
       depth = m.depth - 1;
       state = record { locals = (ap (λ v. v.items) c.replace-locals.ensures.after ∙ c.in-Ok.ensures ∙ ap (with_blanks c.args.given.items) c.as_slice.ensures) i; world = m.state.world };

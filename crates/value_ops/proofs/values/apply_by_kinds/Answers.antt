@@ -1,11 +1,10 @@
-use Rattle.std.proofs.Common.{◌≡◌, ◌∙◌, ap, sym, subst, rules, arith, refl, not, pos, length, Ok, w64, to_z}
-use Rattle.std.proofs.lemmas.Int.{to_z_pos}
+use Rattle.std.proofs.Common.{◌≡◌, ◌∙◌, sym, subst, rules, refl, not, Ok}
 use Rattle.wave_base.specs.declared.value.Value.TheVariants as value
 use Rattle.value_ops.specs.Answers.{Answers}
 use Rattle.value_ops.specs.Operators.{apply_row, operators}
 use Rattle.value_ops.proofs.OperandLemmas.{of_one, of_two, of_three, passed_on}
 use Rattle.value_ops.proofs.AnswerLemmas.{traps}
-use Rattle.value_ops.proofs.RowLemmas.{not_row, len_row, size_row, part_row, put_row}
+use Rattle.value_ops.proofs.RowLemmas.{not_row, part_row, put_row}
 use Rattle.value_ops.proofs.values.apply_by_kinds.Goals as goal
 
 pub returns-in_err-apply_ints-in-Ints : goal.returns-in_err-apply_ints-in-Ints
@@ -31,19 +30,25 @@ pub returns-in-Bools : goal.returns-in-Bools
 returns-in-Bools c =
     of_two (λ vs. apply_row c.args.row vs ≡ Ok (value.Bool c.compare_flags.result)) c.args.args.now (c.requires.kinds ∙ sym c.in-Bools.ensures) c.flag-in-Bools.ensures c.flag-in-Bools-2.ensures c.compare_flags.ensures
 
-pub returns-in-Text : goal.returns-in-Text
-unfolding apply_row operators
-returns-in-Text c =
-    let count : to_z w64 (length c.bytes.result.now) ≡ pos (length c.text.result.now) = to_z_pos w64 _ (omega (arith, c.bytes.ensures.text.short)) ∙ ap (λ t. pos (length t)) c.bytes.ensures.bytes in
-    of_one (λ vs. apply_row c.args.row vs ≡ Ok (value.Int (to_z w64 (length c.bytes.result.now)))) c.args.args.now (c.requires.kinds ∙ sym c.in-Text.ensures) c.text.ensures
-    (rw (len_row c.args.row (sym c.in-Text.ensures), count) refl)
+pub returns-in_err-read_text-in-Text : goal.returns-in_err-read_text-in-Text
+returns-in_err-read_text-in-Text c =
+    of_one (λ vs. Answers (apply_row c.args.row vs) c.from_residual-in_err-read_text-in-Text.result) c.args.args.now (c.requires.kinds ∙ sym c.in-Text.ensures) c.text.ensures
+    (traps _ _ _ c.from_residual-in_err-read_text-in-Text.ensures.1 (sym c.in_err-read_text-in-Text.ensures))
 
-pub returns-in-Map : goal.returns-in-Map
-unfolding apply_row operators
-returns-in-Map c =
-    let count : to_z w64 c.len.result ≡ pos (length c.table.result.now) = to_z_pos w64 _ (omega (arith, c.len.ensures.len, c.len.ensures.short)) ∙ ap pos c.len.ensures.len in
-    of_one (λ vs. apply_row c.args.row vs ≡ Ok (value.Int (to_z w64 c.len.result))) c.args.args.now (c.requires.kinds ∙ sym c.in-Map.ensures) c.table.ensures
-    (rw (size_row c.args.row (sym c.in-Map.ensures), count) refl)
+pub returns-in_ok-read_text-in-Text : goal.returns-in_ok-read_text-in-Text
+returns-in_ok-read_text-in-Text c =
+    of_one (λ vs. apply_row c.args.row vs ≡ Ok c.in_ok-read_text-in-Text.field-0) c.args.args.now (c.requires.kinds ∙ sym c.in-Text.ensures) c.text.ensures
+    (sym c.in_ok-read_text-in-Text.ensures)
+
+pub returns-in_err-sum_up-in-Map : goal.returns-in_err-sum_up-in-Map
+returns-in_err-sum_up-in-Map c =
+    of_one (λ vs. Answers (apply_row c.args.row vs) c.from_residual-in_err-sum_up-in-Map.result) c.args.args.now (c.requires.kinds ∙ sym c.in-Map.ensures) c.table.ensures
+    (traps _ _ _ c.from_residual-in_err-sum_up-in-Map.ensures.1 (sym c.in_err-sum_up-in-Map.ensures))
+
+pub returns-in_ok-sum_up-in-Map : goal.returns-in_ok-sum_up-in-Map
+returns-in_ok-sum_up-in-Map c =
+    of_one (λ vs. apply_row c.args.row vs ≡ Ok c.in_ok-sum_up-in-Map.field-0) c.args.args.now (c.requires.kinds ∙ sym c.in-Map.ensures) c.table.ensures
+    (sym c.in_ok-sum_up-in-Map.ensures)
 
 pub returns-in-TextIntInt : goal.returns-in-TextIntInt
 returns-in-TextIntInt c =

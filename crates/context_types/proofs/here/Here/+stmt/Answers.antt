@@ -1,4 +1,4 @@
-use Rattle.std.proofs.Common.{◌≡◌, map, take, length, sym, ap, subst, ◌∙◌, refl}
+use Rattle.std.proofs.Common.{◌≡◌, ◌∷◌, not, false, map, take, length, sym, ap, subst, ◌∙◌, refl}
 use Rattle.std.proofs.lemmas.List.{take_all}
 use Rattle.std.proofs.lemmas.Result.{err_from_is_err_and}
 use Rattle.wave_base.specs.declared.value.Kind.TheVariants as k
@@ -6,35 +6,49 @@ use Rattle.mace_ast.specs.Exprs.{expr_tree, exprs_of}
 use Rattle.mace_ast.specs.Stmts as s
 use Rattle.mace_ast.specs.Stmts.{stmt_tree, stmts_of, action_tree, else_of}
 use Rattle.resolved_service.specs.Steps as r
-use Rattle.resolved_service.specs.Steps.{step_of, steps_of, steps_in}
+use Rattle.resolved_service.specs.Steps.{step_of, steps_of, steps_in, is_end}
 use Rattle.resolved_service.specs.View.{tree_of}
 use Rattle.std.specs.Option.{option_map}
-use Rattle.type_rules.specs.Demands.{first_wrong, Fails}
+use Rattle.type_rules.specs.declared.error.TypeError.TheVariants.{Unreachable}
+use Rattle.type_rules.specs.Demands.{ask, first_wrong, Fails}
 use Rattle.type_rules.specs.Here.{behind, counted}
 use Rattle.type_rules.specs.Exprs.{resolve, resolve_all, child_demands, child_tree}
-use Rattle.type_rules.specs.Stmts.{stmt_demands, stmts_demands}
-use Rattle.type_rules.proofs.First.{fails_same}
+use Rattle.type_rules.specs.Stmts.{start_of, stmt_demands, stmts_demands}
+use Rattle.type_rules.proofs.First.{told_past, fails_at, fails_past, fails_same}
 use Rattle.context_types.specs.inner.Places.{here_of, else_in}
 use Rattle.context_types.proofs.CallArms.{child_holds, child_fails, child_is, key_fails}
 use Rattle.context_types.proofs.Exits.{exit}
 use Rattle.context_types.proofs.Lists.{next_stmt, stmt_asks, stmt_made, stmts_walk, stmts_ends, stmts_made}
 use Rattle.context_types.proofs.Scopes.{cut_block, cut_loop, behind_is}
 use Rattle.context_types.proofs.StmtArms.{walks_as, walks_ok, while_test_fails, while_body_fails, while_holds, if_test_fails, if_body_fails, if_other_fails, if_holds, if_after, if_made, for_low_fails, for_high_fails, for_name_fails, for_body_fails, for_holds, for_after, for_made}
-use Rattle.context_types.proofs.StmtNodes.{if_node, while_node, for_node, if_step, while_step, for_step}
+use Rattle.context_types.proofs.StmtNodes.{starts_at, if_node, while_node, for_node, if_step, while_step, for_step}
 use Rattle.context_types.proofs.Walking.{walk, ends, ends_more, walk_more, walk_fails, walk_whole, makes, made_more}
 use Rattle.context_types.proofs.here.Here.+stmt.Goals as goal
 
 -- ---- statements one after the other
+
+pub stmts-returns-then-ended : goal.stmts-returns-then-ended
+stmts-returns-then-ended t c =
+    let h = here_of c.args.self.now in
+    let ss = c.args.body.now in
+    let a = c.s-item.result in
+    let d = stmt_demands (here_of c.each.self) (stmt_tree a) in
+    fails_same (stmts_demands h (stmts_of (map stmt_tree ss))) (walk next_stmt stmt_asks (h, false) ss) (Unreachable a.at) (stmts_walk h ss)
+    (walk_fails next_stmt stmt_asks (h, false) ss c.each.s-index a (Unreachable a.at) c.each-test.true c.s-item.is c.each.invariant.holds
+    (subst (λ g. Fails (stmt_asks g a) (Unreachable a.at)) (sym c.each.invariant.place)
+    (subst (λ at. Fails (ask (not c.each.ended) (Unreachable at) ∷ d) (Unreachable a.at)) (sym (starts_at a)) (fails_at (not c.each.ended) (Unreachable a.at) d (ap not c.if-ended.true)))))
 
 pub stmts-returns-in_err-step : goal.stmts-returns-in_err-step
 stmts-returns-in_err-step t c =
     let h = here_of c.args.self.now in
     let ss = c.args.body.now in
     let a = c.s-item.result in
+    let e = c.in_err-step.field-0.0 in
     exit _ _ _ (err_from_is_err_and c.from_residual.result c.from_residual.ensures.1) (stmts_demands h (stmts_of (map stmt_tree ss)))
-    (fails_same (stmts_demands h (stmts_of (map stmt_tree ss))) (walk next_stmt stmt_asks h ss) _ (ap first_wrong (stmts_walk h ss))
-    (walk_fails next_stmt stmt_asks h ss c.each.s-index a _ c.each-test.true c.s-item.is c.each.invariant.holds
-    (subst (λ g. Fails (stmt_asks g a) c.in_err-step.field-0.0) (sym c.each.invariant.place) c.in_err-step.ensures)))
+    (fails_same (stmts_demands h (stmts_of (map stmt_tree ss))) (walk next_stmt stmt_asks (h, false) ss) _ (stmts_walk h ss)
+    (walk_fails next_stmt stmt_asks (h, false) ss c.each.s-index a _ c.each-test.true c.s-item.is c.each.invariant.holds
+    (subst (λ g. Fails (stmt_asks g a) e) (sym c.each.invariant.place)
+    (fails_past (not c.each.ended) (Unreachable (start_of (stmt_tree a))) (stmt_demands (here_of c.each.self) (stmt_tree a)) e (ap not c.if-ended.false) c.in_err-step.ensures))))
 
 pub stmts-each-preserved : goal.stmts-each-preserved
 stmts-each-preserved t c =
@@ -43,11 +57,15 @@ stmts-each-preserved t c =
     let a = c.s-item.result in
     let i = c.each.s-index in
     let is = c.each.invariant in
+    let step = c.in_ok-step.ensures.1 in
     record {
-      holds = walk_more next_stmt stmt_asks h ss i a c.each-test.true c.s-item.is is.holds (ap (λ g. first_wrong (stmt_asks g a)) is.place ∙ c.in_ok-step.ensures.0);
-      place = ends_more next_stmt h ss i a c.each-test.true c.s-item.is ∙ ap (λ g. next_stmt g a) is.place ∙ c.in_ok-step.ensures.1.here;
-      made = made_more next_stmt stmt_made step_of h ss i a c.each.steps.items c.push.new.self.items c.in_ok-step.step c.each-test.true c.s-item.is is.made
-          (ap (λ g. stmt_made g a) is.place ∙ c.in_ok-step.ensures.1.step) c.in_ok-push.ensures.items;
+      holds = walk_more next_stmt stmt_asks (h, false) ss i a c.each-test.true c.s-item.is is.holds
+          (ap (λ g. first_wrong (stmt_asks g a)) is.place
+          ∙ told_past (not c.each.ended) (Unreachable (start_of (stmt_tree a))) (stmt_demands (here_of c.each.self) (stmt_tree a)) (ap not c.if-ended.false)
+          ∙ c.in_ok-step.ensures.0);
+      place = ends_more next_stmt (h, false) ss i a c.each-test.true c.s-item.is ∙ ap (λ g. next_stmt g a) is.place ∙ (λ i. (step.here i, (ap is_end step.step ∙ sym c.is_end-ended.ensures) i));
+      made = made_more next_stmt stmt_made step_of (h, false) ss i a c.each.steps.items c.push.new.self.items c.in_ok-step.step c.each-test.true c.s-item.is is.made
+          (ap (λ g. stmt_made g a) is.place ∙ step.step) c.in_ok-push.ensures.items;
     }
 
 pub stmts-returns : goal.stmts-returns
@@ -55,11 +73,12 @@ stmts-returns t c =
     let h = here_of c.args.self.now in
     let ss = c.args.body.now in
     let i = c.each.s-index in
-    let is = c.each.invariant in (
-      ap first_wrong (stmts_walk h ss) ∙ walk_whole next_stmt stmt_asks h ss i c.each-test.false is.holds,
+    let is = c.each.invariant in
+    let all = sym (take_all i ss c.each-test.false) in (
+      stmts_walk h ss ∙ walk_whole next_stmt stmt_asks (h, false) ss i c.each-test.false is.holds,
       record {
-        here = stmts_ends h ss ∙ ap (ends next_stmt h) (sym (take_all i ss c.each-test.false)) ∙ is.place;
-        steps = stmts_made h ss ∙ ap (λ xs. steps_of (makes next_stmt stmt_made h xs)) (sym (take_all i ss c.each-test.false)) ∙ ap steps_of is.made;
+        here = stmts_ends h false ss ∙ ap (λ xs. (ends next_stmt (h, false) xs).0) all ∙ ap (λ g. g.0) is.place;
+        steps = stmts_made h false ss ∙ ap (λ xs. steps_of (makes next_stmt stmt_made (h, false) xs)) all ∙ ap steps_of is.made;
       },
     )
 

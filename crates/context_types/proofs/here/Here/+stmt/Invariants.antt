@@ -1,4 +1,4 @@
-use Rattle.std.proofs.Common.{◌≡◌, ◌+◌, ◌*◌, map, take, None}
+use Rattle.std.proofs.Common.{◌≡◌, ◌+◌, ◌*◌, map, take, None, false}
 use Rattle.resolved_service.specs.Steps.{step_of}
 use Rattle.type_rules.specs.Demands.{first_wrong}
 use Rattle.context_types.specs.inner.Places.{here_of}
@@ -20,7 +20,7 @@ decreases-other l = 8 * goal.size-other l + 3
 
 abbrev pub invariant-stmts-each : goal.invariant-stmts-each
 invariant-stmts-each l = record {
-  holds : first_wrong (walk next_stmt stmt_asks (here_of l.initial.self) (take l.s-index l.body)) ≡ None;
-  place : ends next_stmt (here_of l.initial.self) (take l.s-index l.body) ≡ here_of l.self;
-  made : makes next_stmt stmt_made (here_of l.initial.self) (take l.s-index l.body) ≡ map step_of l.steps.items;
+  holds : first_wrong (walk next_stmt stmt_asks (here_of l.initial.self, false) (take l.s-index l.body)) ≡ None;
+  place : ends next_stmt (here_of l.initial.self, false) (take l.s-index l.body) ≡ (here_of l.self, l.ended);
+  made : makes next_stmt stmt_made (here_of l.initial.self, false) (take l.s-index l.body) ≡ map step_of l.steps.items;
 }

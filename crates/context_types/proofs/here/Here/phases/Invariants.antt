@@ -8,7 +8,7 @@ use Rattle.context_types.proofs.here.Here.phases.Given as goal
 
 abbrev pub invariant-loop-phase : goal.invariant-loop-phase
 invariant-loop-phase l = record {
-  holds : first_wrong (walk next_phase phase_asks (here_of l.initial.self) (take l.phase-index l.phases)) ≡ None;
-  place : ends next_phase (here_of l.initial.self) (take l.phase-index l.phases) ≡ here_of l.self;
-  made : makes next_phase phase_made (here_of l.initial.self) (take l.phase-index l.phases) ≡ map phase_view l.made.items;
+  holds : first_wrong (walk next_phase phase_asks (here_of l.initial.self, l.initial.ended) (take l.phase-index l.phases)) ≡ None;
+  place : ends next_phase (here_of l.initial.self, l.initial.ended) (take l.phase-index l.phases) ≡ (here_of l.self, l.past);
+  made : makes next_phase phase_made (here_of l.initial.self, l.initial.ended) (take l.phase-index l.phases) ≡ map phase_view l.made.items;
 }

@@ -9,5 +9,5 @@ pub returns : goal.returns
 unfolding effect_of
 returns c =
     let s = row_says _ _ (ap (λ t. slice_get t c.args.row) (sym c.requires) ∙ c.row-operator.ensures) in
-    let lt : nat_lt c.args.row 28 ≡ true = grind (arith, nat_tests) in
+    let lt : nat_lt c.args.row 34 ≡ true = grind (arith, nat_tests) in
     rw (lt, s.0, s.1)

@@ -1,4 +1,4 @@
-use Rattle.std.proofs.Common.{◌≡◌, ◌++◌, ◌∷◌, [], length, refl, sym, ap, subst, ◌∙◌, map, take}
+use Rattle.std.proofs.Common.{[], length, refl, subst, ◌∙◌, map, take}
 use Rattle.mace_ast.specs.declared.context.ContextDecl.{out-ContextDecl}
 use Rattle.mace_ast.specs.Decls.{context_tree, contexts_of, method_tree}
 use Rattle.type_rules.specs.Known as rules

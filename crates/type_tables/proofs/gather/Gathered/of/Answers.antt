@@ -1,4 +1,4 @@
-use Rattle.std.proofs.Common.{[], ◌∷◌, map, length, sym, subst, refl}
+use Rattle.std.proofs.Common.{[], ◌∷◌, map, length, subst}
 use Rattle.mace_ast.specs.Decls.{context_tree, contexts_of, method_tree, event_tree, service_tree}
 use Rattle.type_rules.specs.Known as rules
 use Rattle.type_tables.specs.inner.Gathering.{Gains}

@@ -1,4 +1,4 @@
-use Rattle.std.proofs.Common.{◌≡◌, sym, ap, ◌∙◌}
+use Rattle.std.proofs.Common.{ap, ◌∙◌}
 use Rattle.type_tables.specs.Numbers.{first_number}
 use Rattle.type_tables.proofs.NameLemmas.{lookup_first}
 use Rattle.type_tables.proofs.names.Names.first.Goals as goal

@@ -1,4 +1,4 @@
-use Rattle.std.proofs.Common.{◌==◌, get_or, ◌∙◌}
+use Rattle.std.proofs.Common.{◌==◌, get_or}
 use Rattle.std.proofs.lemmas.Bool.{eq-eqb}
 use Rattle.std.proofs.lemmas.List.{get_or_default}
 use Rattle.type_tables.proofs.Walks.{found_at, on_at, not_found_at, differ}
