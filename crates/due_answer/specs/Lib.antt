@@ -2,3 +2,4 @@ pub mod inner
 pub mod Runs
 pub mod Due
 pub mod Accepted
+pub mod Lengths
