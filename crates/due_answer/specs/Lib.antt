@@ -2,4 +2,3 @@ pub mod inner
 pub mod Runs
 pub mod Due
 pub mod Accepted
-pub mod Lengths

@@ -7,3 +7,4 @@ mod memory;
 mod rows;
 mod scripts;
 mod services;
+mod tables;

@@ -63,7 +63,7 @@ module _ {A F R J : Type 0} (sys : Actors A F R J) (workers : ℕ) (s : State A 
   SomeOut = (v : ℕ) × (hand : Hand A F) × (s.hands v ≡ Some hand)
 
   module _ (w : ℕ) (own : w < workers) (idle : s.hands w ≡ None) (nothing : (l : Label) → l.worker ≡ w → step sys workers s l ≡ None) where
-    not_enabled : (l : Label) → l.worker ≡ w → is_some (step sys workers s l) ≡ true → ⊥
+    pub not_enabled : (l : Label) → l.worker ≡ w → is_some (step sys workers s l) ≡ true → ⊥
     not_enabled l is e = clash false (subst (λ o. is_some o ≡ true) (nothing l is) e) refl
 
     out_by : (l : Label) → is_some (step sys workers s l) ≡ true → SomeOut
