@@ -1,7 +1,7 @@
-//! Tables: each read and each write of a run that fails, each rule that picks, and limits of code, events and scripts.
+//! Tables: each read and each write of a run that fails, each rule that picks, and the limits of events.
 
 use super::crews::{LOOKED, LOOKS, MOVED, MOVES, TO_AND_FRO, WENT_TO_AND_FRO};
-use super::rows::{Row, all_hold, calls, holds, joined, plain, ran_on, refuses, traps, words, works};
+use super::rows::{Row, all_hold, bytes, calls, holds, joined, plain, ran_on, traps, words, works};
 use super::services::{CHAIN, MARKET};
 use crate::top::eventwave;
 use std::alloc::Global;
@@ -21,14 +21,14 @@ const TWO_AND_ONE: &[u8] = b"request two()\nrequest one()\n";
 const TWO_AND_ONE_LISTED: &[u8] =
     b"#1 two = 1\n#1 made #3\n#1 made #4\n#2 one = 11\n#3 one = 21\n#4 one = 31\ndone 4\n";
 
-/// Each read up to the last, which finds nothing left, fails once; none comes behind it.
+/// Each read of 16 bytes up to the last, which finds nothing left, fails once: with 712 bytes there are 46.
 #[test]
 fn each_read_fails(rt: HostRuntime) -> Result<(), Fail> {
     let alloc = rt.alloc();
     let input = joined(alloc, MARKET, THREE)?;
-    let last = (input.len() as u64 + 15) / 16 + 1;
+    assert_eq!(rt; input.len(), 712);
     for words in ["run", "seq", "trace --workers 2", "run --schedule 5"] {
-        for failing_read in 1..=last {
+        for failing_read in 1..47 {
             let row = Row {
                 failing_read,
                 ..plain(words, input.as_slice(), 5, b"", b"ReadFault\n")
@@ -37,7 +37,7 @@ fn each_read_fails(rt: HostRuntime) -> Result<(), Fail> {
         }
     }
     let row = Row {
-        failing_read: last + 1,
+        failing_read: 47,
         ..plain("run", input.as_slice(), 0, THREE_LISTED, b"")
     };
     holds(&rt, alloc, &row)?;
@@ -53,7 +53,7 @@ fn ran_to<R: Threads + Wait + Sync>(
     failing: u64,
 ) -> Result<(u8, MemSink, MemSink), OutOfMemory> {
     let words = words(alloc, text)?;
-    let mut source = MemSource::new(super::rows::bytes(alloc, input)?, 4096, Seq::new(alloc));
+    let mut source = MemSource::new(bytes(alloc, input)?, 4096, Seq::new(alloc));
     let mut out = MemSink::new(alloc, 10_000, 4, calls(alloc, &[failing])?)?;
     let mut notes = MemSink::new(alloc, 100, 100, Seq::new(alloc))?;
     let status = eventwave(
@@ -76,15 +76,15 @@ fn each_write_fails(rt: HostRuntime) -> Result<(), Fail> {
     let input = joined(alloc, MARKET, THREE)?;
     assert_eq!(rt; THREE_LISTED.len(), 76);
     for words in ["run", "run --workers 4", "seq", "run --schedule 5"] {
-        for failing in 1..30 {
-            let (status, out, notes) = ran_to(&rt, alloc, words, input.as_slice(), failing)?;
+        for before in 0..29 {
+            let (status, out, notes) = ran_to(&rt, alloc, words, input.as_slice(), before + 1)?;
             let written = out.bytes();
             assert!(rt; THREE_LISTED.starts_with(written));
             if status == 6 {
-                assert!(rt; written.len() as u64 <= 4 * (failing - 1));
+                assert!(rt; written.len() as u64 <= 4 * before);
                 assert_eq!(rt; notes.bytes(), b"WriteFault\n".as_slice());
             } else {
-                assert!(rt; failing > 19);
+                assert!(rt; before >= 19);
                 assert_eq!(rt; status, 0);
                 assert_eq!(rt; written.len(), 76);
                 assert_eq!(rt; notes.bytes(), b"".as_slice());
@@ -126,28 +126,6 @@ fn each_rule_picks(rt: HostRuntime) -> Result<(), Fail> {
     Ok(())
 }
 
-// A service whose event has so many statements of two instructions each.
-fn long_event(alloc: Global, statements: usize) -> Result<Vec<u8>, OutOfMemory> {
-    let mut text = Vec::from_slice(alloc, b"service A { var x: int = 0; event e() { here {")?;
-    for _ in 0..statements {
-        text.extend_from_slice(b"x=1;")?;
-    }
-    text.extend_from_slice(b"} } }\n")?;
-    Ok(text)
-}
-
-/// A function has at most 65,535 instructions: of 32,767 statements it has as many.
-#[test]
-fn a_function_has_at_most_65535_instructions(rt: HostRuntime) -> Result<(), Fail> {
-    let alloc = rt.alloc();
-    let most = long_event(alloc, 32_767)?;
-    holds(&rt, alloc, &plain("check", most.as_slice(), 0, b"ok\n", b""))?;
-    let more = long_event(alloc, 32_768)?;
-    let note = b"C1 CodeTooLong e\n".as_slice();
-    holds(&rt, alloc, &plain("check", more.as_slice(), 3, b"", note))?;
-    Ok(())
-}
-
 /// An event sends at most 64 messages and creates at most 4 calls.
 #[test]
 fn an_event_leaves_at_most_so_much(rt: HostRuntime) -> Result<(), Fail> {
@@ -172,23 +150,4 @@ fn an_event_leaves_at_most_so_much(rt: HostRuntime) -> Result<(), Fail> {
     let end = b"#1 send \"m\" 63\n#2 sends trap Sends at 2:50\ndone 2\n".as_slice();
     assert!(rt; out.bytes().ends_with(end));
     Ok(())
-}
-
-/// A script has at most 4,000 event lines.
-#[test]
-fn a_script_has_at_most_4000_lines(rt: HostRuntime) -> Result<(), Fail> {
-    let alloc = rt.alloc();
-    let service =
-        b"service Count { var n: int = 0; event hit(): int { here { n = n + 1; } reply n; } }\n";
-    let mut script = Vec::new(alloc);
-    for _ in 0..4000 {
-        script.extend_from_slice(b"request hit()\n")?;
-    }
-    let input = joined(alloc, service, script.as_slice())?;
-    let (status, out) = ran_on(&rt, alloc, "run --workers 4", input.as_slice(), &OpenGate)?;
-    assert_eq!(rt; status, 0);
-    assert!(rt; out.bytes().ends_with(b"#4000 hit = 4000\ndone 4000\n"));
-    script.extend_from_slice(b"request hit()\n")?;
-    let note = b"S8 TooMany line 4001\n";
-    all_hold(&rt, alloc, &[refuses(service, script.as_slice(), note)])
 }
