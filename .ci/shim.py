@@ -5,7 +5,7 @@ import subprocess
 import tempfile
 
 # REFUSE_AT=n: the n-th request for memory, and no other, finds none. REFUSE_FROM=n: nor does any behind it. REFUSE_THREADS=n: all but the
-# first n - 1 threads are refused. REFUSE_WRITES=1: a write takes one byte. ASKED=file: how many requests for memory there were stands there at the end.
+# first n - 1 threads are refused. REFUSE_WRITES=1: a write takes one byte. REFUSED=file: it is made where a request for memory is refused.
 TEXT = r"""
 #define _GNU_SOURCE
 #include <dlfcn.h>
@@ -13,9 +13,7 @@ TEXT = r"""
 #include <fcntl.h>
 #include <pthread.h>
 #include <stdatomic.h>
-#include <stdio.h>
 #include <stdlib.h>
-#include <string.h>
 #include <sys/syscall.h>
 #include <unistd.h>
 
@@ -40,18 +38,12 @@ __attribute__((constructor)) static void begin(void) {
     atomic_store(&asked, 0);
 }
 
-__attribute__((destructor)) static void end(void) {
-    const char *path = getenv("ASKED");
-    char text[32];
-    if (!path) return;
-    int file = open(path, O_WRONLY | O_CREAT | O_TRUNC, 0600);
-    int length = snprintf(text, sizeof text, "%ld", atomic_load(&asked));
-    if (file >= 0) { syscall(SYS_write, file, text, length); close(file); }
-}
-
 static int refused(void) {
     long n = atomic_fetch_add(&asked, 1) + 1;
-    return n == at || (from && n >= from);
+    if (n != at && !(from && n >= from)) return 0;
+    const char *path = getenv("REFUSED");
+    if (path) syscall(SYS_close, syscall(SYS_open, path, O_WRONLY | O_CREAT, 0600));
+    return 1;
 }
 
 void *malloc(size_t size) {
@@ -111,13 +103,9 @@ class Shim:
     def env(self, **asks):
         return {**os.environ, "LD_PRELOAD": self.path, **{name: str(value) for name, value in asks.items()}}
 
-    def asked(self, run):
-        """How often a run asks for memory, where it tells."""
-        told = os.path.join(self.folder.name, "asked")
+    def refuses(self, run, **asks):
+        """A run to which this is refused, and whether it asked for so much memory."""
+        told = os.path.join(self.folder.name, "refused")
         if os.path.exists(told):
             os.remove(told)
-        run(self.env(ASKED=told))
-        if not os.path.exists(told):
-            return 0
-        with open(told, encoding="ascii") as file:
-            return int(file.read())
+        return run(self.env(REFUSED=told, **asks)), os.path.exists(told)
