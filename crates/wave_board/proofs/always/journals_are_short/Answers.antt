@@ -10,7 +10,7 @@ use Rattle.wave_board.proofs.always.journals_are_short.Goals as goal
 pub returns : goal.returns
 returns c =
     let most = λ o b s h. c.runs_are_short.ensures.most (the_plan o) o.start.now (subst Fits h.plan h.fits) (subst (λ (q : Plan). FitsStart q o.start.now) h.plan h.begins)
-        (labels_of b) s (subst (λ (q : Plan). IsReached q o.start.now (labels_of b) s) h.plan h.reached) in
+    (labels_of b) s (subst (λ (q : Plan). IsReached q o.start.now (labels_of b) s) h.plan h.reached) in
     record {
       most = most;
       whole = λ o b s h finished. record {

@@ -28,13 +28,13 @@ returns c = λ o b s worker h may unfinished nothing.
     let own : worker.0 < p.workers = subst (λ (q : Plan). worker.0 < q.workers) h.plan may.is_worker in
     let idle : s.hands worker.0 ≡ None = c.idle_hands_are_empty.ensures b o s worker.0 h may.gave in
     let none : (l : Label) → l.worker ≡ worker.0 → step (plan_actors p.program) p.workers s l ≡ None =
-        subst (λ (q : Plan). (l : Label) → l.worker ≡ worker.0 → step (plan_actors q.program) q.workers s l ≡ None) h.plan nothing in
+    subst (λ (q : Plan). (l : Label) → l.worker ≡ worker.0 → step (plan_actors q.program) q.workers s l ≡ None) h.plan nothing in
     let ends = c.empty_at_end.ensures k p.workers from p.script.batches starts jobs (labels_of b) s reached in
     let lists = c.listed.ensures k p.workers from p.script.batches starts jobs (labels_of b) s reached in
     let stuck = c.never_stuck.ensures k p.workers from p.script.batches starts jobs (labels_of b) s reached in
     let out = some_out (plan_actors p.program) p.workers s worker.0 own idle none (enabled (plan_actors p.program) p.workers p.script.hosts s)
-        (λ l i. ((lists l).0 i).0)
-        (λ empty. unfinished (subst (λ (q : Plan). Finished (plan_actors q.program) q.workers s) (sym h.plan) (ends.0 empty))) in
+    (λ l i. ((lists l).0 i).0)
+    (λ empty. unfinished (subst (λ (q : Plan). Finished (plan_actors q.program) q.workers s) (sym h.plan) (ends.0 empty))) in
     record {
       someone = (out.1.ticket, record { out = record { worker = out.0; hand = out.1; there = out.2; of_ticket = refl }; other = λ same. none_not (sym idle ∙ ap s.hands (sym same) ∙ out.2) });
       none_younger = λ n uncommitted.

@@ -10,9 +10,9 @@ use Rattle.wave_machine.proofs.lengths.runs_are_measured.Goals as goal
 
 pub returns-clause-finished : goal.returns-clause-finished
 returns-clause-finished c = λ plan start fits begins labels s reached finished. record {
-    besides_passes = c.runs_are_short.ensures.finished plan start fits begins labels s reached finished;
-    most = c.runs_are_short.ensures.most plan start fits begins labels s reached;
-  }
+  besides_passes = c.runs_are_short.ensures.finished plan start fits begins labels s reached finished;
+  most = c.runs_are_short.ensures.most plan start fits begins labels s reached;
+}
 
 pub returns-clause-drives : goal.returns-clause-drives
 returns-clause-drives c = λ plan start fits begins rule labels is_drive.
