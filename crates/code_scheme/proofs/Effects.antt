@@ -25,6 +25,7 @@ use Rattle.code_scheme.specs.Typed.{Within, InMethod, InEvent, IsMethod, HasKind
 use Rattle.code_scheme.proofs.Follow.{Here, At, Leads, Follows, stay, place_is, bind, ends, done, IsLine}
 use Rattle.code_scheme.proofs.Instructions.{Low, tick_runs, row_runs, load_runs, store_runs, pop_runs, set_field_runs, jump_runs, put_local_runs, cut_local_runs, put_field_runs, cut_field_runs, require_runs, send_runs, spawn_runs, push_runs, reply_runs, end_runs, Onward}
 use Rattle.code_scheme.proofs.Leaving.{NeverDone, never_first, never_effects, assoc, Leaving, leaving_lower, Performs, performs, lead_to, bind_to, bind_on, ends_to, never_ends, picks_on}
+use Rattle.code_scheme.proofs.Looping.{Effect, Plain, ended, then_jump, while_runs}
 use Rattle.code_scheme.proofs.Places.{next, HasAt, has_front, has_back, while_stands}
 use Rattle.code_scheme.proofs.Values.{Counted, AreMade, CallsFollow, OnTop, OnTops, LeftOn, own_value, child_value, value_runs, values_run}
 
@@ -41,84 +42,6 @@ module _ (methods : List Method) where
   gives_same is = ap gives_in is.is_there ∙ ap is_some is.result_is
 
 module _ (program : Program) (fit : IsFit program) (verified : IsVerified program) (methods : List Method) (made : AreMade program fit verified methods) (n : ℕ) (calls : CallsFollow program fit verified methods n) where
-  -- what a piece of code does to the state, in a function of this kind
-  abbrev pub Effect : Within → Here → List Line → ℕ → List Value → Act (Unit {0}) → Type 0
-  Effect w h code pc s f =
-      (t : ℕ) (st : State) (c : Tour) → t ≤ n → st.world.ticks ≤ t → HasAt program fit verified h.fn pc code → At program fit verified h pc s st c →
-      Performs program fit verified c (Onward program fit verified h (pc + length code) s) (Low t) (Leaving program fit verified w h t s) (f st)
-
-  -- the same of one that leaves nothing out
-  abbrev Plain : Here → List Line → ℕ → List Value → Act (Unit {0}) → Type 0
-  Plain h code pc s f =
-      (t : ℕ) (st : State) (c : Tour) → t ≤ n → st.world.ticks ≤ t → HasAt program fit verified h.fn pc code → At program fit verified h pc s st c →
-      Follows program fit verified c (Onward program fit verified h (pc + length code) s) (Low t) (f st)
-
-  ended : (w : Within) (h : Here) (pc pc' t : ℕ) (s : List Value) (c : Tour) (o : Outcome (Unit {0})) → pc ≡ pc' → Performs program fit verified c (Onward program fit verified h pc s) (Low t) (Leaving program fit verified w h t s) o → Performs program fit verified c (Onward program fit verified h pc' s) (Low t) (Leaving program fit verified w h t s) o
-  ended w h pc pc' t s c o e f = subst (λ m. Performs program fit verified c (Onward program fit verified h m s) (Low t) (Leaving program fit verified w h t s) o) e f
-
-  then_jump : (w : Within) (h : Here) (pc to t : ℕ) (s : List Value) (at : Span) → IsLine program fit verified h.fn pc (i.Jump to) at → (to' : ℕ) → to ≡ to' → (c : Tour) (o : Outcome (Unit {0})) → Performs program fit verified c (Onward program fit verified h pc s) (Low t) (Leaving program fit verified w h t s) o → Performs program fit verified c (Onward program fit verified h to' s) (Low t) (Leaving program fit verified w h t s) o
-  then_jump w h pc to t s at l to' e c (Done x st) f =
-      let r = jump_runs program fit verified h pc to s st f.is.0 f.is.2 at l in
-      lead_to program fit verified c f.is.0 (Onward program fit verified h to' s) (Low t) (Leaving program fit verified w h t s) (Done x st) f.is.1 (record { is = (r.0, r.1, place_is program fit verified h to to' s st r.0 e r.2, f.is.3) })
-  then_jump w h pc to t s at l to' e c (Trapped k at' x) f = record { is = f.is }
-  then_jump w h pc to t s at l to' e c (Left x st) f = record { is = f.is }
-
-  -- the turns of a loop whose body comes back to its test
-  loop_runs : (w : Within) (h : Here) (pc pt x : ℕ) (at : Span) (s : List Value) (test : Act Value) (body : Act (Unit {0})) → IsLine program fit verified h.fn pt (i.JumpFalse x) at → IsLine program fit verified h.fn (pt + 1) i.Tick at →
-      ((t : ℕ) → t ≤ n → (st : State) (c : Tour) → st.world.ticks ≤ t → At program fit verified h pc s st c → Follows program fit verified c (OnTop program fit verified methods h pt s) (Low t) (test st)) →
-      ((t : ℕ) → t ≤ n → (st : State) (c : Tour) → st.world.ticks ≤ t → At program fit verified h (pt + 1 + 1) s st c → Performs program fit verified c (Onward program fit verified h pc s) (Low t) (Leaving program fit verified w h t s) (body st)) →
-      (m t : ℕ) → t ≤ m → t ≤ n → (st : State) (c : Tour) → st.world.ticks ≤ t → At program fit verified h pc s st c → Performs program fit verified c (Onward program fit verified h x s) (Low t) (Leaving program fit verified w h t s) (while_turns m test body at st)
-  unfolding while_turns
-  loop_runs w h pc pt x at s test body jump_line tick_line rt rb = loop
-    where
-      After : Unit {0} → State → Tour → Type 0
-      After = Onward program fit verified h x s
-
-      Leaves : ℕ → Leave → State → Tour → Type 0
-      Leaves t = Leaving program fit verified w h t s
-
-      leave_it : (t : ℕ) (st : State) (c : Tour) → st.world.ticks ≤ t → At program fit verified h x s st c → Performs program fit verified c After (Low t) (Leaves t) (Done tt st)
-      leave_it t st c q a = performs program fit verified c After (Low t) (Leaves t) (Done tt st) (done program fit verified c After (Low t) tt st a q)
-
-      Ticked : Unit {0} → State → Tour → Type 0
-      Ticked u st d = At program fit verified h (suc (pt + 1)) s st d
-
-      loop : (m t : ℕ) → t ≤ m → t ≤ n → (st : State) (c : Tour) → st.world.ticks ≤ t → At program fit verified h pc s st c → Performs program fit verified c After (Low t) (Leaves t) (while_turns m test body at st)
-      loop zero t le le' st c q a =
-          bind_to program fit verified c (OnTop program fit verified methods h pt s) (Low t) After (Low t) (Leaves t) (test st) (λ v. choose (is_true v) (tick at) (give tt)) (rt t le' st c q a) (λ v st1 d a1 q1.
-          picks_on program fit verified h pt x v s st1 d a1 at jump_line After (Low t) (Leaves t) (tick at) (give tt)
-          (λ d2 a2. performs program fit verified d2 After (Low t) (Leaves t) (tick at st1) (ends program fit verified d2 Ticked (λ u st'. suc st'.world.ticks ≤ t) After (Low t) (tick at st1) (tick_runs program fit verified h (pt + 1) t s st1 d2 a2 at tick_line q1) (λ u st2 d3 a3 k. absurd (omega (arith, k, le)))))
-          (λ d2 a2. leave_it t st1 d2 q1 a2))
-      loop (suc m) t le le' st c q a =
-          bind_to program fit verified c (OnTop program fit verified methods h pt s) (Low t) After (Low t) (Leaves t) (test st) (λ v. choose (is_true v) (tick at >> (body >> while_turns m test body at)) (give tt)) (rt t le' st c q a) (λ v st1 d a1 q1.
-          picks_on program fit verified h pt x v s st1 d a1 at jump_line After (Low t) (Leaves t) (tick at >> (body >> while_turns m test body at)) (give tt)
-          (λ d2 a2. bind_to program fit verified d2 Ticked (λ u st'. suc st'.world.ticks ≤ t) After (Low t) (Leaves t) (tick at st1) (λ u. body >> while_turns m test body at) (tick_runs program fit verified h (pt + 1) t s st1 d2 a2 at tick_line q1) (λ u st2 d3 a3 k.
-          let lower = leaving_lower program fit verified w h (t - 1) t s (omega arith) in
-          bind_on program fit verified d3 (Onward program fit verified h pc s) (Low (t - 1)) (Leaves (t - 1)) After (Low t) (Leaves t) (body st2) (λ u. while_turns m test body at) (rb (t - 1) (omega (arith, le')) st2 d3 (omega (arith, k)) (place_is program fit verified h (suc (pt + 1)) (pt + 1 + 1) s st2 d3 (next (pt + 1)) a3)) lower (λ u st3 d4 a4 q3.
-          ends_to program fit verified d4 After (Low (t - 1)) (Leaves (t - 1)) After (Low t) (Leaves t) (while_turns m test body at st3) (loop m (t - 1) (omega (arith, le, k)) (omega (arith, le')) st3 d4 q3 a4) lower (λ u st4 d5 a5 q4. (a5, omega (arith, q4))))))
-          (λ d2 a2. leave_it t st1 d2 q1 a2))
-
-  -- a loop by its code, whose block surely ends or not
-  while_runs : (w : Within) (h : Here) (pc : ℕ) (at : Span) (s : List Value) (ct : List Line) (b : Bool) (ca : List Line) (test : Act Value) (body : Act (Unit {0})) → HasAt program fit verified h.fn pc (while_code pc at ct b ca) → (b ≡ true → (st : State) → NeverDone (body st)) →
-      ((t : ℕ) → t ≤ n → (st : State) (c : Tour) → st.world.ticks ≤ t → At program fit verified h pc s st c → Follows program fit verified c (OnTop program fit verified methods h (pc + length ct) s) (Low t) (test st)) →
-      ((t : ℕ) → t ≤ n → (st : State) (c : Tour) → st.world.ticks ≤ t → At program fit verified h (pc + length ct + 1 + 1) s st c → Performs program fit verified c (Onward program fit verified h (pc + length ct + 1 + 1 + length ca) s) (Low t) (Leaving program fit verified w h t s) (body st)) →
-      (m t : ℕ) → t ≤ m → t ≤ n → (st : State) (c : Tour) → st.world.ticks ≤ t → At program fit verified h pc s st c → Performs program fit verified c (Onward program fit verified h (pc + length (while_code pc at ct b ca)) s) (Low t) (Leaving program fit verified w h t s) (while_turns m test body at st)
-  while_runs w h pc at s ct true ca test body has never rt rb m t le le' st c q a =
-      let pt = pc + length ct in
-      let x = pt + 1 + 1 + length ca in
-      let l0 = has_back program fit verified h.fn pc ct (line (i.JumpFalse x) at ∷ line i.Tick at ∷ ca) has in
-      ended w h x (pc + length (while_code pc at ct true ca)) t s c (while_turns m test body at st) (omega (arith, length-append ct (line (i.JumpFalse x) at ∷ line i.Tick at ∷ ca)))
-      (loop_runs w h pc pt x at s test body l0.0 l0.1.0 rt
-      (λ t' le' st' c' q' a'. never_ends program fit verified c' (Onward program fit verified h x s) (Low t') (Leaving program fit verified w h t' s) (Onward program fit verified h pc s) (Low t') (body st') (never refl st') (rb t' le' st' c' q' a'))
-      m t le le' st c q a)
-  while_runs w h pc at s ct false ca test body has never rt rb m t le le' st c q a =
-      let pt = pc + length ct in
-      let b = pt + 1 + 1 + length ca in
-      let l0 = has_back program fit verified h.fn pc ct (line (i.JumpFalse (b + 1)) at ∷ line i.Tick at ∷ (ca ++ line (i.Jump pc) at ∷ [])) has in
-      let l1 = has_back program fit verified h.fn (pt + 1 + 1) ca (line (i.Jump pc) at ∷ []) l0.1.1 in
-      ended w h (b + 1) (pc + length (while_code pc at ct false ca)) t s c (while_turns m test body at st) (omega (arith, length-append ct (line (i.JumpFalse (b + 1)) at ∷ line i.Tick at ∷ (ca ++ line (i.Jump pc) at ∷ [])), length-append ca (line (i.Jump pc) at ∷ [])))
-      (loop_runs w h pc pt (b + 1) at s test body l0.0 l0.1.0 rt (λ t' le' st' c' q' a'. then_jump w h b pc t' s at l1.0 pc refl c' (body st') (rb t' le' st' c' q' a')) m t le le' st c q a)
-
   module _ (limit : ℕ) (locals : List Kind) (class : ℕ) where
     Kinded : Tree → Kind → Type 0
     Kinded e kind = HasKind program.shape methods limit locals class e kind
@@ -163,8 +86,8 @@ module _ (program : Program) (fit : IsFit program) (verified : IsVerified progra
       abbrev Leaves : Here → ℕ → List Value → Leave → State → Tour → Type 0
       Leaves h t s = Leaving program fit verified w h t s
 
-      if_runs : (h : Here) (pc : ℕ) (at : Span) (s : List Value) (e : Tree) (ca : List Line) (fa : Act (Unit {0})) → HasKind program.shape methods limit locals class e k.Bool → Effect w h ca (pc + length (tree_code methods program.texts pc e) + 1) s fa →
-          Effect w h (if_code pc at (tree_code methods program.texts pc e) ca) pc s (λ st. and_then (value (called methods n) h.at e st) (λ v. choose (is_true v) fa (give tt)))
+      if_runs : (h : Here) (pc : ℕ) (at : Span) (s : List Value) (e : Tree) (ca : List Line) (fa : Act (Unit {0})) → HasKind program.shape methods limit locals class e k.Bool → Effect program fit verified methods n w h ca (pc + length (tree_code methods program.texts pc e) + 1) s fa →
+          Effect program fit verified methods n w h (if_code pc at (tree_code methods program.texts pc e) ca) pc s (λ st. and_then (value (called methods n) h.at e st) (λ v. choose (is_true v) fa (give tt)))
       if_runs h pc at s e ca fa typed ra t st c le q has a =
           let ct = tree_code methods program.texts pc e in
           let x = pc + length ct + 1 + length ca in
@@ -174,11 +97,11 @@ module _ (program : Program) (fit : IsFit program) (verified : IsVerified progra
           bind_to program fit verified c (OnTop program fit verified methods h (pc + length ct) s) (Low t) (Onward program fit verified h end s) (Low t) (Leaves h t s) (value (called methods n) h.at e st) (λ v. choose (is_true v) fa (give tt))
           (value_runs program fit verified methods made n calls limit locals class h e k.Bool typed t pc s st c le q (has_front program fit verified h.fn pc ct _ has) a)
           (λ v st1 d a1 q1. picks_on program fit verified h (pc + length ct) x v s st1 d a1 at l.0 (Onward program fit verified h end s) (Low t) (Leaves h t s) fa (give tt)
-          (λ d2 a2. ended w h x end t s d2 (fa st1) len (ra t st1 d2 le q1 l.1 a2))
+          (λ d2 a2. ended program fit verified methods n w h x end t s d2 (fa st1) len (ra t st1 d2 le q1 l.1 a2))
           (λ d2 a2. performs program fit verified d2 (Onward program fit verified h end s) (Low t) (Leaves h t s) (Done tt st1) (done program fit verified d2 (Onward program fit verified h end s) (Low t) tt st1 (place_is program fit verified h x end s st1 d2 len a2) q1)))
 
-      else_runs : (h : Here) (pc : ℕ) (at : Span) (s : List Value) (e : Tree) (b : Bool) (ca cb : List Line) (fa fb : Act (Unit {0})) → HasKind program.shape methods limit locals class e k.Bool → (b ≡ true → (st : State) → NeverDone (fa st)) → Effect w h ca (pc + length (tree_code methods program.texts pc e) + 1) s fa → Effect w h cb (behind b (pc + length (tree_code methods program.texts pc e) + 1 + length ca)) s fb →
-          Effect w h (else_code pc at (tree_code methods program.texts pc e) b ca cb) pc s (λ st. and_then (value (called methods n) h.at e st) (λ v. choose (is_true v) fa fb))
+      else_runs : (h : Here) (pc : ℕ) (at : Span) (s : List Value) (e : Tree) (b : Bool) (ca cb : List Line) (fa fb : Act (Unit {0})) → HasKind program.shape methods limit locals class e k.Bool → (b ≡ true → (st : State) → NeverDone (fa st)) → Effect program fit verified methods n w h ca (pc + length (tree_code methods program.texts pc e) + 1) s fa → Effect program fit verified methods n w h cb (behind b (pc + length (tree_code methods program.texts pc e) + 1 + length ca)) s fb →
+          Effect program fit verified methods n w h (else_code pc at (tree_code methods program.texts pc e) b ca cb) pc s (λ st. and_then (value (called methods n) h.at e st) (λ v. choose (is_true v) fa fb))
       else_runs h pc at s e true ca cb fa fb typed never ra rb t st c le q has a =
           let ct = tree_code methods program.texts pc e in
           let f = pc + length ct + 1 + length ca in
@@ -191,7 +114,7 @@ module _ (program : Program) (fit : IsFit program) (verified : IsVerified progra
           (value_runs program fit verified methods made n calls limit locals class h e k.Bool typed t pc s st c le q (has_front program fit verified h.fn pc ct _ has) a)
           (λ v st1 d a1 q1. picks_on program fit verified h (pc + length ct) f v s st1 d a1 at l.0 (Onward program fit verified h end s) (Low t) (Leaves h t s) fa fb
           (λ d2 a2. never_ends program fit verified d2 (Onward program fit verified h f s) (Low t) (Leaves h t s) (Onward program fit verified h end s) (Low t) (fa st1) (never refl st1) (ra t st1 d2 le q1 (has_front program fit verified h.fn _ ca cb l.1) a2))
-          (λ d2 a2. ended w h x end t s d2 (fb st1) len (rb t st1 d2 le q1 l1 a2)))
+          (λ d2 a2. ended program fit verified methods n w h x end t s d2 (fb st1) len (rb t st1 d2 le q1 l1 a2)))
       else_runs h pc at s e false ca cb fa fb typed never ra rb t st c le q has a =
           let ct = tree_code methods program.texts pc e in
           let f = pc + length ct + 1 + length ca + 1 in
@@ -203,17 +126,17 @@ module _ (program : Program) (fit : IsFit program) (verified : IsVerified progra
           bind_to program fit verified c (OnTop program fit verified methods h (pc + length ct) s) (Low t) (Onward program fit verified h end s) (Low t) (Leaves h t s) (value (called methods n) h.at e st) (λ v. choose (is_true v) fa fb)
           (value_runs program fit verified methods made n calls limit locals class h e k.Bool typed t pc s st c le q (has_front program fit verified h.fn pc ct _ has) a)
           (λ v st1 d a1 q1. picks_on program fit verified h (pc + length ct) f v s st1 d a1 at l.0 (Onward program fit verified h end s) (Low t) (Leaves h t s) fa fb
-          (λ d2 a2. then_jump w h (pc + length ct + 1 + length ca) x t s at l1.0 end len d2 (fa st1) (ra t st1 d2 le q1 (has_front program fit verified h.fn _ ca _ l.1) a2))
-          (λ d2 a2. ended w h x end t s d2 (fb st1) len (rb t st1 d2 le q1 l1.1 a2)))
+          (λ d2 a2. then_jump program fit verified methods n w h (pc + length ct + 1 + length ca) x t s at l1.0 end len d2 (fa st1) (ra t st1 d2 le q1 (has_front program fit verified h.fn _ ca _ l.1) a2))
+          (λ d2 a2. ended program fit verified methods n w h x end t s d2 (fb st1) len (rb t st1 d2 le q1 l1.1 a2)))
 
-      then_runs : (h : Here) (pc : ℕ) (s : List Value) (ca cb : List Line) (fa fb : Act (Unit {0})) → Effect w h ca pc s fa → Effect w h cb (pc + length ca) s fb → Effect w h (ca ++ cb) pc s (fa >> fb)
+      then_runs : (h : Here) (pc : ℕ) (s : List Value) (ca cb : List Line) (fa fb : Act (Unit {0})) → Effect program fit verified methods n w h ca pc s fa → Effect program fit verified methods n w h cb (pc + length ca) s fb → Effect program fit verified methods n w h (ca ++ cb) pc s (fa >> fb)
       then_runs h pc s ca cb fa fb ra rb t st c le q has a =
           let len : pc + length ca + length cb ≡ pc + length (ca ++ cb) = omega (arith, length-append ca cb) in
           bind_on program fit verified c (Onward program fit verified h (pc + length ca) s) (Low t) (Leaves h t s) (Onward program fit verified h (pc + length (ca ++ cb)) s) (Low t) (Leaves h t s) (fa st) (λ u. fb) (ra t st c le q (has_front program fit verified h.fn pc ca _ has) a) (λ l st d x. x)
-          (λ u st1 d a1 q1. ended w h (pc + length ca + length cb) _ t s d (fb st1) len (rb t st1 d le q1 (has_back program fit verified h.fn pc ca cb has) a1))
+          (λ u st1 d a1 q1. ended program fit verified methods n w h (pc + length ca + length cb) _ t s d (fb st1) len (rb t st1 d le q1 (has_back program fit verified h.fn pc ca cb has) a1))
 
       -- a turn of a loop over numbers
-      turn_runs : (h : Here) (b0 : ℕ) (at : Span) (counter : ℕ) (s : List Value) (b : Bool) (cb : List Line) (fb : Act (Unit {0})) → (b ≡ true → (st : State) → NeverDone (fb st)) → Effect w h cb (b0 + 1 + 1) s fb → Effect w h (turn_code counter at b cb) b0 s (for_body counter at fb)
+      turn_runs : (h : Here) (b0 : ℕ) (at : Span) (counter : ℕ) (s : List Value) (b : Bool) (cb : List Line) (fb : Act (Unit {0})) → (b ≡ true → (st : State) → NeverDone (fb st)) → Effect program fit verified methods n w h cb (b0 + 1 + 1) s fb → Effect program fit verified methods n w h (turn_code counter at b cb) b0 s (for_body counter at fb)
       turn_runs h b0 at counter s true cb fb never rb t st c le q lb a =
           let turned = Onward program fit verified h (b0 + length (turn_code counter at true cb)) s in
           bind_to program fit verified c (OnTop program fit verified methods h (b0 + 1) s) (Low t) turned (Low t) (Leaves h t s) (get_local counter st) (λ i. set_local (counter + 2) i >> (fb >> (get_local counter >>= (λ j. answer (apply_row row_add (j ∷ v.Int (pos 1) ∷ [])) at >>= set_local counter))))
@@ -248,8 +171,8 @@ module _ (program : Program) (fit : IsFit program) (verified : IsVerified progra
       never_turn counter at fb never st = never_first (fb _) _ (never _)
 
       for_runs : (h : Here) (pc : ℕ) (at : Span) (counter : ℕ) (s : List Value) (from to : Tree) (b : Bool) (cb : List Line) (fb : Act (Unit {0})) → HasKind program.shape methods limit locals class from k.Int → HasKind program.shape methods limit locals class to k.Int → (b ≡ true → (st : State) → NeverDone (fb st)) →
-          Effect w h cb (block_at (loop_at pc (length (tree_code methods program.texts pc from)) (length (tree_code methods program.texts (pc + length (tree_code methods program.texts pc from) + 1) to)))) s fb →
-          Effect w h (tree_code methods program.texts pc from ++ line (i.Store counter) at ∷ (tree_code methods program.texts (pc + length (tree_code methods program.texts pc from) + 1) to ++ line (i.Store (counter + 1)) at ∷ while_code (loop_at pc (length (tree_code methods program.texts pc from)) (length (tree_code methods program.texts (pc + length (tree_code methods program.texts pc from) + 1) to))) at (test_code counter at) b (turn_code counter at b cb))) pc s
+          Effect program fit verified methods n w h cb (block_at (loop_at pc (length (tree_code methods program.texts pc from)) (length (tree_code methods program.texts (pc + length (tree_code methods program.texts pc from) + 1) to)))) s fb →
+          Effect program fit verified methods n w h (tree_code methods program.texts pc from ++ line (i.Store counter) at ∷ (tree_code methods program.texts (pc + length (tree_code methods program.texts pc from) + 1) to ++ line (i.Store (counter + 1)) at ∷ while_code (loop_at pc (length (tree_code methods program.texts pc from)) (length (tree_code methods program.texts (pc + length (tree_code methods program.texts pc from) + 1) to))) at (test_code counter at) b (turn_code counter at b cb))) pc s
           (value (called methods n) h.at from >>= (λ a. set_local counter a >> (value (called methods n) h.at to >>= (λ b. set_local (counter + 1) b >> while_turns n (for_test counter at) (for_body counter at fb) at))))
       for_runs h pc at counter s from to b cb fb typed_from typed_to never rb t st c le q has a =
           bind_to program fit verified c (OnTop program fit verified methods h (pc + length cf) s) (Low t) After (Low t) (Leaves h t s) (value (called methods n) h.at from st) (λ a. set_local counter a >> (value (called methods n) h.at to >>= (λ b. set_local (counter + 1) b >> while_turns n test body at)))
@@ -260,8 +183,8 @@ module _ (program : Program) (fit : IsFit program) (verified : IsVerified progra
           (value_runs program fit verified methods made n calls limit locals class h to k.Int typed_to t p1 s st2 d2 le q2 (has_front program fit verified h.fn p1 ct _ l0.1) a2)
           (λ y st3 d3 a3 q3. bind_to program fit verified d3 (Onward program fit verified h m s) (Low t) After (Low t) (Leaves h t s) (set_local (counter + 1) y st3) (λ u. while_turns n test body at)
           (stored h (p1 + length ct) m t (counter + 1) s at (next (p1 + length ct)) l1.0 y st3 d3 q3 a3)
-          (λ u st4 d4 a4 q4. ended w h (m + length loop) end t s d4 (while_turns n test body at st4) len
-          (while_runs w h m at s (test_code counter at) b (turn_code counter at b cb) test body l1.1 (λ e. never_turn counter at fb (never e)) test_runs
+          (λ u st4 d4 a4 q4. ended program fit verified methods n w h (m + length loop) end t s d4 (while_turns n test body at st4) len
+          (while_runs program fit verified methods n w h m at s (test_code counter at) b (turn_code counter at b cb) test body l1.1 (λ e. never_turn counter at fb (never e)) test_runs
           (λ t' le' st' c' q' a'. turn_runs h (m + 3 + 1 + 1) at counter s b cb fb never rb t' st' c' le' q' stands.1 a') n t le le st4 d4 q4 a4)))))
         where
           cf : List Line
@@ -326,7 +249,7 @@ module _ (program : Program) (fit : IsFit program) (verified : IsVerified progra
 
     -- a call as a statement
     do_runs : (h : Here) (pc : ℕ) (at : Span) (s : List Value) (e : Tree) → ((kind : Kind) × HasKind program.shape methods limit locals class e kind) ⊎ IsSilent program.shape methods limit locals class e →
-        Plain h (tree_code methods program.texts pc e ++ pop_code (leaves_value methods e) at) pc s (value (called methods n) h.at e >> give tt)
+        Plain program fit verified methods n h (tree_code methods program.texts pc e ++ pop_code (leaves_value methods e) at) pc s (value (called methods n) h.at e >> give tt)
     do_runs h pc at s e (inl (kind, typed)) t st c le q has a =
         let ce = tree_code methods program.texts pc e in
         subst (λ b. Follows program fit verified c (Onward program fit verified h (pc + length (ce ++ pop_code b at)) s) (Low t) ((value (called methods n) h.at e >> give tt) st)) (sym (leaves_true e kind typed))
@@ -373,7 +296,7 @@ module _ (program : Program) (fit : IsFit program) (verified : IsVerified progra
           (value_runs program fit verified methods made n calls limit locals class h e kind typed t pc s st c le q (has_front program fit verified h.fn pc ce _ has) a)
           (λ x st1 d a1 q1. record { is = f (pc + length ce) x st1 d (has_back program fit verified h.fn pc ce _ has).0 a1 q1 }))
 
-    return_runs : (w : Within) (h : Here) (pc : ℕ) (at : Span) (s : List Value) (e : Option Tree) → IsTypedReturn program.shape methods limit locals class w e → Effect w h (maybe_code methods program.texts pc e ++ line i.Return at ∷ []) pc s (maybe_value (called methods n) n h.at e >>= leave Returned)
+    return_runs : (w : Within) (h : Here) (pc : ℕ) (at : Span) (s : List Value) (e : Option Tree) → IsTypedReturn program.shape methods limit locals class w e → Effect program fit verified methods n w h (maybe_code methods program.texts pc e ++ line i.Return at ∷ []) pc s (maybe_value (called methods n) n h.at e >>= leave Returned)
     return_runs (InMethod None) h pc at s None typed t st c le q has a = record { is = (c, stay program fit verified c, (record { pc = pc; place = at; is_line = has.0; is_at = a }, (q, tt))) }
     return_runs (InMethod None) h pc at s (Some e) typed t st c le q has a = absurd typed
     return_runs (InMethod (Some kind)) h pc at s None typed t st c le q has a = absurd typed
@@ -382,7 +305,7 @@ module _ (program : Program) (fit : IsFit program) (verified : IsVerified progra
         (λ pc' x st1 d l a1 q1. (d, stay program fit verified d, (record { pc = pc'; place = at; is_line = l; is_at = a1 }, (q1, tt))))
     return_runs (InEvent reply) h pc at s e typed t st c le q has a = absurd typed
 
-    finish_runs : (w : Within) (h : Here) (pc : ℕ) (at : Span) (s : List Value) (e : Option Tree) → IsTypedFinish program.shape methods limit locals class w e → Effect w h (maybe_code methods program.texts pc e ++ line (finish_instr e) at ∷ []) pc s (maybe_value (called methods n) n h.at e >>= leave Finished)
+    finish_runs : (w : Within) (h : Here) (pc : ℕ) (at : Span) (s : List Value) (e : Option Tree) → IsTypedFinish program.shape methods limit locals class w e → Effect program fit verified methods n w h (maybe_code methods program.texts pc e ++ line (finish_instr e) at ∷ []) pc s (maybe_value (called methods n) n h.at e >>= leave Finished)
     finish_runs (InMethod result) h pc at s e typed t st c le q has a = absurd typed
     finish_runs (InEvent None) h pc at s None typed t st c le q has a = record { is = end_runs program fit verified h pc s st c a at has.0 }
     finish_runs (InEvent None) h pc at s (Some e) typed t st c le q has a = absurd typed
@@ -395,7 +318,7 @@ module _ (program : Program) (fit : IsFit program) (verified : IsVerified progra
       plainly h pc t s c x st f = performs program fit verified c (Onward program fit verified h (pc + length (step_code methods program.texts pc x)) s) (Low t) (Leaving program fit verified w h t s) (effect (called methods n) n h.at x st) f
 
       mutual
-        pub effect_runs : (h : Here) (s : List Value) (x : Step) → IsTypedStep program.shape methods limit locals class w x → (pc : ℕ) → Effect w h (step_code methods program.texts pc x) pc s (effect (called methods n) n h.at x)
+        pub effect_runs : (h : Here) (s : List Value) (x : Step) → IsTypedStep program.shape methods limit locals class w x → (pc : ℕ) → Effect program fit verified methods n w h (step_code methods program.texts pc x) pc s (effect (called methods n) n h.at x)
         effect_runs h s (SetLocal at x e) typed pc t st c le q has a =
             plainly h pc t s c (SetLocal at x e) st (
             use_runs h e typed.0 typed.2 t pc at (i.Store x) s st c le q has a (set_local x) (λ pc' pc'' e' l y st' d q' a'. stored h pc' pc'' t x s at e' l y st' d q' a'))
@@ -431,7 +354,7 @@ module _ (program : Program) (fit : IsFit program) (verified : IsVerified progra
             let ct = tree_code methods program.texts pc test in
             let ca = steps_code methods program.texts (pc + length ct + 1 + 1) body in
             let l = while_stands program fit verified h.fn pc at ct (surely_ends body) ca has in
-            while_runs w h pc at s ct (surely_ends body) ca (value (called methods n) h.at test) (effects (called methods n) n h.at body) has (never_effects (called methods n) n h.at body)
+            while_runs program fit verified methods n w h pc at s ct (surely_ends body) ca (value (called methods n) h.at test) (effects (called methods n) n h.at body) has (never_effects (called methods n) n h.at body)
             (λ t' le' st' c' q' a'. value_runs program fit verified methods made n calls limit locals class h test k.Bool typed.0 t' pc s st' c' le' q' l.0 a')
             (λ t' le' st' c' q' a'. effects_run h s body typed.1 (pc + length ct + 1 + 1) t' st' c' le' q' l.1 a')
             n t le le st c q a
@@ -460,7 +383,7 @@ module _ (program : Program) (fit : IsFit program) (verified : IsVerified progra
         effect_runs h s (Return at e) typed pc t st c le q has a = return_runs w h pc at s e typed t st c le q has a
         effect_runs h s (Finish at e) typed pc t st c le q has a = finish_runs w h pc at s e typed t st c le q has a
 
-        pub effects_run : (h : Here) (s : List Value) (ss : Steps) → AreTyped program.shape methods limit locals class w ss → (pc : ℕ) → Effect w h (steps_code methods program.texts pc ss) pc s (effects (called methods n) n h.at ss)
+        pub effects_run : (h : Here) (s : List Value) (ss : Steps) → AreTyped program.shape methods limit locals class w ss → (pc : ℕ) → Effect program fit verified methods n w h (steps_code methods program.texts pc ss) pc s (effects (called methods n) n h.at ss)
         effects_run h s no_steps typed pc t st c le q has a = let e : pc ≡ pc + 0 = omega arith in performs program fit verified c (Onward program fit verified h (pc + 0) s) (Low t) (Leaving program fit verified w h t s) (Done tt st) (done program fit verified c (Onward program fit verified h (pc + 0) s) (Low t) tt st (place_is program fit verified h pc (pc + 0) s st c e a) q)
         effects_run h s (step x ss) typed pc t st c le q has a =
             let cx = step_code methods program.texts pc x in

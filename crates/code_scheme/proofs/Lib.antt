@@ -5,6 +5,7 @@ pub mod Instructions
 pub mod Places
 pub mod Values
 pub mod Leaving
+pub mod Looping
 pub mod Effects
 pub mod Events
 pub mod Held
@@ -17,6 +18,8 @@ pub mod Flow
 pub mod Shutting
 pub mod Fixed
 pub mod Flowing
+pub mod Choosing
 pub mod Stating
 pub mod Judging
+pub mod Sizes
 pub mod Fitting

@@ -26,6 +26,7 @@ use Rattle.code_scheme.specs.Programs.{method_function}
 use Rattle.code_scheme.specs.Scheme.{Line, line, gives_in, leaves_value, pop_code, finish_instr, if_code, behind, else_code, while_code, test_code, turn_code, loop_at, block_at, tree_code, trees_code, two_code, maybe_code, step_code, steps_code}
 use Rattle.code_scheme.specs.Texts.{Text, place_of_text, tree_uses, trees_uses, maybe_uses, step_uses, steps_uses}
 use Rattle.code_scheme.specs.Typed.{Within, InMethod, InEvent, NoneBehind, IsMethod, HasKind, IsSilent, IsTypedReturn, IsTypedFinish, IsTypedStep, AreTyped}
+use Rattle.code_scheme.proofs.Choosing.{while_flow, if_flow, else_flow}
 use Rattle.code_scheme.proofs.Flow.{Flow, flow_none, flow_then, flow_choice, flow_skip, flow_loop, flow_at}
 use Rattle.code_scheme.proofs.Places.{StandsAt, stands_front, stands_back, while_lines, else_lines, turn_lines}
 use Rattle.code_scheme.proofs.Shutting.{Shut, Runs, shut_line, flow_shut, shut_flow, shut_both, flow_past, flow_runs, runs_at}
@@ -69,71 +70,6 @@ module _ (program : Program) (number : ℕ) (function : Function) (ls : List Lin
 
     same_left : (kind : Kind) → left_below (Some kind ∷ []) (kind ∷ []) ≡ Ok []
     same_left kind = ap (λ b. must rule.Kind b (Ok [])) (kind_self kind)
-
-    while_flow : (pc : ℕ) (at : Span) (ct : List Line) (b : Bool) (ca : List Line) → StandsAt ls pc (while_code pc at ct b ca) → Flow program number function ls pc (pc + length ct) (pt c []) (pt c (k.Bool ∷ [])) → Runs program number function ls b (pc + length ct + 1 + 1) (pc + length ct + 1 + 1 + length ca) (pt c []) (pt c []) →
-        Flow program number function ls pc (pc + length (while_code pc at ct b ca)) (pt c []) (pt c [])
-    while_flow pc at ct true ca has test body =
-        let pt' = pc + length ct in
-        let x = pt' + 1 + 1 + length ca in
-        let l0 = stands_back ls pc ct _ has in
-        flow_at program number function ls pc x _ (pt c []) (pt c []) (omega (arith, length-append ct (line (i.JumpFalse x) at ∷ line i.Tick at ∷ ca)))
-        (flow_then program number function ls pc pt' x (pt c []) (pt c (k.Bool ∷ [])) (pt c []) test
-        (shut_flow program number function ls pt' x (pt c (k.Bool ∷ [])) (pt c []) _ l0.0 refl (choice_after program number function ls c x [] (omega arith))
-        (flow_shut program number function ls (pt' + 1) (pt' + 1 + 1) x (pt c []) (pt c []) (tick_flow program number function ls c (pt' + 1) (pt' + 1 + 1) at [] refl l0.1.0 (omega arith)) body)
-        x (pt c []) (flow_none program number function ls x x (pt c []) refl)))
-    while_flow pc at ct false ca has test body =
-        let pt' = pc + length ct in
-        let b = pt' + 1 + 1 + length ca in
-        let x = b + 1 in
-        let l0 = stands_back ls pc ct _ has in
-        let l1 = stands_back ls (pt' + 1 + 1) ca _ l0.1.1 in
-        flow_at program number function ls pc x _ (pt c []) (pt c []) (omega (arith, length-append ct (line (i.JumpFalse x) at ∷ line i.Tick at ∷ (ca ++ line (i.Jump pc) at ∷ [])), length-append ca (line (i.Jump pc) at ∷ [])))
-        (flow_loop program number function ls pc pt' b x (pt c []) (pt c (k.Bool ∷ [])) _ _ test l0.0 refl (choice_after program number function ls c x [] (omega arith))
-        (flow_then program number function ls (pt' + 1) (pt' + 1 + 1) b (pt c []) (pt c []) (pt c []) (tick_flow program number function ls c (pt' + 1) (pt' + 1 + 1) at [] refl l0.1.0 (omega arith)) body)
-        l1.0 refl (jump_after program number function ls c pc [] (omega arith)) refl)
-
-    -- a choice by its code, whose first side surely ends or not
-    if_flow : (pc : ℕ) (at : Span) (ct ca : List Line) (a : Bool) → StandsAt ls pc (if_code pc at ct ca) → Flow program number function ls pc (pc + length ct) (pt c []) (pt c (k.Bool ∷ [])) → Runs program number function ls a (pc + length ct + 1) (pc + length ct + 1 + length ca) (pt c []) (pt c []) →
-        Flow program number function ls pc (pc + length (if_code pc at ct ca)) (pt c []) (pt c [])
-    if_flow pc at ct ca a has test one =
-        let pt' = pc + length ct in
-        let x = pt' + 1 + length ca in
-        let l0 = stands_back ls pc ct _ has in
-        flow_at program number function ls pc x _ (pt c []) (pt c []) (omega (arith, length-append ct (line (i.JumpFalse x) at ∷ ca)))
-        (flow_then program number function ls pc pt' x (pt c []) (pt c (k.Bool ∷ [])) (pt c []) test (by a one l0.0))
-      where
-        by : (a : Bool) → Runs program number function ls a (pc + length ct + 1) (pc + length ct + 1 + length ca) (pt c []) (pt c []) → slice_get ls (pc + length ct) ≡ Some (line (i.JumpFalse (pc + length ct + 1 + length ca)) at) →
-            Flow program number function ls (pc + length ct) (pc + length ct + 1 + length ca) (pt c (k.Bool ∷ [])) (pt c [])
-        by true one l = shut_flow program number function ls (pc + length ct) (pc + length ct + 1 + length ca) (pt c (k.Bool ∷ [])) (pt c []) _ l refl (choice_after program number function ls c _ [] (omega arith)) one _ (pt c []) (flow_none program number function ls _ _ (pt c []) refl)
-        by false one l = flow_skip program number function ls (pc + length ct) (pc + length ct + 1 + length ca) (pt c (k.Bool ∷ [])) (pt c []) _ l refl (choice_after program number function ls c _ [] (omega arith)) one
-
-    else_flow : (pc : ℕ) (at : Span) (ct : List Line) (a b : Bool) (ca cb : List Line) → StandsAt ls pc (else_code pc at ct a ca cb) → Flow program number function ls pc (pc + length ct) (pt c []) (pt c (k.Bool ∷ [])) → Runs program number function ls a (pc + length ct + 1) (pc + length ct + 1 + length ca) (pt c []) (pt c []) →
-        Runs program number function ls b (behind a (pc + length ct + 1 + length ca)) (behind a (pc + length ct + 1 + length ca) + length cb) (pt c []) (pt c []) → Runs program number function ls (a && b) pc (pc + length (else_code pc at ct a ca cb)) (pt c []) (pt c [])
-    else_flow pc at ct true b ca cb has test one other =
-        let pt' = pc + length ct in
-        let f = pt' + 1 + length ca in
-        let l0 = stands_back ls pc ct _ has in
-        runs_at program number function ls b pc (f + length cb) _ (pt c []) (pt c []) (omega (arith, length-append ct (line (i.JumpFalse f) at ∷ (ca ++ cb)), length-append ca cb))
-        (flow_runs program number function ls b pc pt' (f + length cb) (pt c []) (pt c (k.Bool ∷ [])) (pt c []) test (by b other l0.0))
-      where
-        by : (b : Bool) → Runs program number function ls b (pc + length ct + 1 + length ca) (pc + length ct + 1 + length ca + length cb) (pt c []) (pt c []) → slice_get ls (pc + length ct) ≡ Some (line (i.JumpFalse (pc + length ct + 1 + length ca)) at) →
-            Runs program number function ls b (pc + length ct) (pc + length ct + 1 + length ca + length cb) (pt c (k.Bool ∷ [])) (pt c [])
-        by true other l = shut_both program number function ls (pc + length ct) (pc + length ct + 1 + length ca) (pt c (k.Bool ∷ [])) (pt c []) _ l refl (choice_after program number function ls c _ [] (omega arith)) one _ other
-        by false other l = shut_flow program number function ls (pc + length ct) (pc + length ct + 1 + length ca) (pt c (k.Bool ∷ [])) (pt c []) _ l refl (choice_after program number function ls c _ [] (omega arith)) one _ (pt c []) other
-    else_flow pc at ct false b ca cb has test one other =
-        let pt' = pc + length ct in
-        let pa = pt' + 1 + length ca in
-        let f = pa + 1 in
-        let x = f + length cb in
-        let l0 = stands_back ls pc ct _ has in
-        let l1 = stands_back ls (pt' + 1) ca _ l0.1 in
-        flow_at program number function ls pc x _ (pt c []) (pt c []) (omega (arith, length-append ct (line (i.JumpFalse f) at ∷ (ca ++ line (i.Jump x) at ∷ cb)), length-append ca (line (i.Jump x) at ∷ cb)))
-        (flow_then program number function ls pc pt' x (pt c []) (pt c (k.Bool ∷ [])) (pt c []) test (by b other l0.0 l1.0))
-      where
-        by : (b : Bool) → Runs program number function ls b (pc + length ct + 1 + length ca + 1) (pc + length ct + 1 + length ca + 1 + length cb) (pt c []) (pt c []) → slice_get ls (pc + length ct) ≡ Some (line (i.JumpFalse (pc + length ct + 1 + length ca + 1)) at) → slice_get ls (pc + length ct + 1 + length ca) ≡ Some (line (i.Jump (pc + length ct + 1 + length ca + 1 + length cb)) at) →
-            Flow program number function ls (pc + length ct) (pc + length ct + 1 + length ca + 1 + length cb) (pt c (k.Bool ∷ [])) (pt c [])
-        by true other l m = flow_past program number function ls (pc + length ct) (pc + length ct + 1 + length ca) (pc + length ct + 1 + length ca + 1) _ (pt c (k.Bool ∷ [])) (pt c []) (pt c []) _ _ l refl (choice_after program number function ls c _ [] (omega arith)) one m refl (jump_after program number function ls c _ [] (omega arith)) refl other
-        by false other l m = flow_choice program number function ls (pc + length ct) (pc + length ct + 1 + length ca) (pc + length ct + 1 + length ca + 1) _ (pt c (k.Bool ∷ [])) (pt c []) (pt c []) _ _ l refl (choice_after program number function ls c _ [] (omega arith)) one m refl (jump_after program number function ls c _ [] (omega arith)) refl other
 
     -- a value, and an instruction that ends the function with it
     pub value_shut : (e : Tree) (kind : Kind) → HasKind program.shape methods limit function.locals c.0 e kind → Among program.texts (tree_uses e) → (pc : ℕ) (l : Line) → tree_height methods e ≤ function.stack → StandsAt ls pc (tree_code methods program.texts pc e ++ l ∷ []) →
@@ -280,7 +216,7 @@ module _ (program : Program) (number : ℕ) (function : Function) (ls : List Lin
         (flow_then program number function ls (pc + length cf) pf _ p1 p0 p0 (store_flow program number function ls c (pc + length cf) pf counter k.Int at [] refl l0.0 slot0 (omega arith))
         (flow_then program number function ls pf (pf + length ct) _ p0 p1 p0 y
         (flow_then program number function ls (pf + length ct) m _ p1 p0 p0 (store_flow program number function ls c (pf + length ct) m (counter + 1) k.Int at [] refl l1.0 slot1 (omega arith))
-        (while_flow m at test b turn l1.1 tests (turns b z stands.1))))))
+        (while_flow program number function ls c m at test b turn l1.1 tests (turns b z stands.1))))))
       where
         p0 : Point
         p0 = pt c []
@@ -365,7 +301,7 @@ module _ (program : Program) (number : ℕ) (function : Function) (ls : List Lin
             let h0 = max_left (tree_height methods test) (max (steps_height methods body) 0) in
             let h1 = max_right (tree_height methods test) (max (steps_height methods body) 0) in
             let h2 = max_left (steps_height methods body) 0 in
-            if_flow pc at ct ca (surely_ends body) has
+            if_flow program number function ls c pc at ct ca (surely_ends body) has
             (tree_flow program number function ls methods made limit low c test k.Bool typed.0 (among_front program.texts (tree_uses test) (steps_uses body) am) pc [] (omega (arith, h, h0)) (stands_front ls pc ct _ has))
             (steps_flow body typed.1 (among_back program.texts (tree_uses test) (steps_uses body) am) (pc + length ct + 1) (omega (arith, h, h1, h2)) l0.1)
         step_flow (If at test body (otherwise ss)) typed among pc h has =
@@ -380,7 +316,7 @@ module _ (program : Program) (number : ℕ) (function : Function) (ls : List Lin
             let h1 = max_right (tree_height methods test) (max (steps_height methods body) (steps_height methods ss)) in
             let h2 = max_left (steps_height methods body) (steps_height methods ss) in
             let h3 = max_right (steps_height methods body) (steps_height methods ss) in
-            else_flow pc at ct a (surely_ends ss) ca cb has
+            else_flow program number function ls c pc at ct a (surely_ends ss) ca cb has
             (tree_flow program number function ls methods made limit low c test k.Bool typed.0 (among_front program.texts (tree_uses test) (steps_uses body) am) pc [] (omega (arith, h, h0)) l.0)
             (steps_flow body typed.1 (among_back program.texts (tree_uses test) (steps_uses body) am) (pc + length ct + 1) (omega (arith, h, h1, h2)) l.1)
             (steps_flow ss typed.2 (among_back program.texts (tree_uses test ++ steps_uses body) (steps_uses ss) among) f (omega (arith, h, h1, h3)) l.2)
@@ -391,7 +327,7 @@ module _ (program : Program) (number : ℕ) (function : Function) (ls : List Lin
             let l = while_lines ls pc at ct (surely_ends body) ca has in
             let h0 = max_left (tree_height methods test) (steps_height methods body) in
             let h1 = max_right (tree_height methods test) (steps_height methods body) in
-            while_flow pc at ct (surely_ends body) ca has (tree_flow program number function ls methods made limit low c test k.Bool typed.0 (among_front program.texts (tree_uses test) (steps_uses body) among) pc [] (omega (arith, h, h0)) l.0)
+            while_flow program number function ls c pc at ct (surely_ends body) ca has (tree_flow program number function ls methods made limit low c test k.Bool typed.0 (among_front program.texts (tree_uses test) (steps_uses body) among) pc [] (omega (arith, h, h0)) l.0)
             (steps_flow body typed.1 (among_back program.texts (tree_uses test) (steps_uses body) among) pb (omega (arith, h, h1)) l.1)
         step_flow (For at counter from to body) typed among pc h has =
             let cf = tree_code methods program.texts pc from in

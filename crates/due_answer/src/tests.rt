@@ -5,6 +5,7 @@ mod limits;
 mod rows;
 mod schedules;
 mod scripts;
+mod second;
 mod traces;
 mod traps;
 
@@ -76,16 +77,34 @@ fn unmarked(alloc: Global, marked: &[u8]) -> Result<(u64, Vec<u8>), OutOfMemory>
     Ok((before.len() as u64 + 1, text))
 }
 
+// The fault of a service of one line is told at its mark.
+fn tells_at_mark(
+    rt: &impl Abort,
+    alloc: Global,
+    fault: &[u8],
+    marked: &[u8],
+) -> Result<(), OutOfMemory> {
+    let (column, service) = unmarked(alloc, marked)?;
+    let mut note = Vec::from_slice(alloc, fault)?;
+    note.extend_from_slice(b" 1:")?;
+    put_number(alloc, &mut note, column)?;
+    refuses(rt, alloc, service.as_slice(), note.as_slice())
+}
+
 #[test]
 fn each_demand_is_told_at_its_place(rt: HostRuntime) -> Result<(), Fail> {
     let alloc = rt.alloc();
     for (fault, part, text) in &ROWS {
         let marked = service_with(alloc, *part, text)?;
-        let (column, service) = unmarked(alloc, marked.as_slice())?;
-        let mut note = Vec::from_slice(alloc, fault)?;
-        note.extend_from_slice(b" 1:")?;
-        put_number(alloc, &mut note, column)?;
-        refuses(&rt, alloc, service.as_slice(), note.as_slice())?;
+        tells_at_mark(&rt, alloc, fault, marked.as_slice())?;
+    }
+    Ok(())
+}
+
+#[test]
+fn each_demand_of_version_2_is_told_at_its_place(rt: HostRuntime) -> Result<(), Fail> {
+    for (fault, marked) in &second::ROWS {
+        tells_at_mark(&rt, rt.alloc(), fault, marked)?;
     }
     Ok(())
 }
@@ -96,6 +115,9 @@ fn what_is_typed_is_accepted(rt: HostRuntime) -> Result<(), Fail> {
     for (part, text) in &FINE {
         let service = service_with(alloc, *part, text)?;
         accepts(&rt, alloc, service.as_slice())?;
+    }
+    for service in &second::FINE {
+        accepts(&rt, alloc, service)?;
     }
     Ok(())
 }

@@ -10,13 +10,12 @@ ghost use Rattle.mace_parser.specs.inner.Gives.{Gives};
 
 use crate::class::{begins_expr, sees_literal, sees_operator, sees_sign, sees_unary};
 use crate::fault::{Fault, Read};
+use crate::operator::{operator, unary_op};
 use crate::token::{field, name, sign};
-use mace_ast::{BinaryOp, Expr, Name, UnaryOp};
+use mace_ast::{BinaryOp, Expr, Name};
 use mace_lexer::{Keyword, Sign, Token, Word};
 use std::alloc::Global;
 use wave_base::Span;
-
-// ---- one token
 
 fn literal_of_key(at: Span, key: Keyword) -> Option<Expr>
     ensures { option_map expr_tree result ≡ words.literal_of_key at key }
@@ -46,115 +45,6 @@ fn literal<'a>(alloc: Global, tokens: &'a [Token]) -> Read<'a, Expr>
     }
 }
 
-fn unary_of(sign: Sign) -> Option<UnaryOp>
-    ensures { result ≡ words.unary_of sign }
-{
-    match sign {
-        Sign::Minus => Some(UnaryOp::Neg),
-        Sign::Bang => Some(UnaryOp::Not),
-        _ => None,
-    }
-}
-
-fn unary_op(tokens: &[Token]) -> Read<'_, (Span, UnaryOp)>
-    ensures { Gives (λ x. (x.0, x.1.now)) result (reader.unary_op_at tokens.now) }
-{
-    let Some((t, rest)) = tokens.split_first() else {
-        return Err(Fault::Stuck(tokens));
-    };
-    let Word::Sign(sign) = t.word else {
-        return Err(Fault::Stuck(tokens));
-    };
-    match unary_of(sign) {
-        Some(op) => Ok(((t.span, op), rest)),
-        None => Err(Fault::Stuck(tokens)),
-    }
-}
-
-// ---- operators by their level, from the tightest: products, sums, comparisons, "&&" and "||"
-
-fn product_op(sign: Sign) -> Option<BinaryOp>
-    ensures { result ≡ words.product_op sign }
-{
-    match sign {
-        Sign::Star => Some(BinaryOp::Mul),
-        Sign::Slash => Some(BinaryOp::Div),
-        Sign::Percent => Some(BinaryOp::Rem),
-        _ => None,
-    }
-}
-
-fn sum_op(sign: Sign) -> Option<BinaryOp>
-    ensures { result ≡ words.sum_op sign }
-{
-    match sign {
-        Sign::Plus => Some(BinaryOp::Add),
-        Sign::Minus => Some(BinaryOp::Sub),
-        _ => None,
-    }
-}
-
-fn comparison_op(sign: Sign) -> Option<BinaryOp>
-    ensures { result ≡ words.comparison_op sign }
-{
-    match sign {
-        Sign::EqualsEquals => Some(BinaryOp::Eq),
-        Sign::BangEquals => Some(BinaryOp::Ne),
-        Sign::Less => Some(BinaryOp::Lt),
-        Sign::LessEquals => Some(BinaryOp::Le),
-        Sign::Greater => Some(BinaryOp::Gt),
-        Sign::GreaterEquals => Some(BinaryOp::Ge),
-        _ => None,
-    }
-}
-
-fn and_op(sign: Sign) -> Option<BinaryOp>
-    ensures { result ≡ words.and_op sign }
-{
-    match sign {
-        Sign::AndAnd => Some(BinaryOp::And),
-        _ => None,
-    }
-}
-
-fn or_op(sign: Sign) -> Option<BinaryOp>
-    ensures { result ≡ words.or_op sign }
-{
-    match sign {
-        Sign::OrOr => Some(BinaryOp::Or),
-        _ => None,
-    }
-}
-
-fn op_of(level: u8, sign: Sign) -> Option<BinaryOp>
-    requires { level < 5 }
-    ensures { result ≡ reader.op_of level sign }
-{
-    match level {
-        0 => product_op(sign),
-        1 => sum_op(sign),
-        2 => comparison_op(sign),
-        3 => and_op(sign),
-        _ => or_op(sign),
-    }
-}
-
-fn operator(level: u8, tokens: &[Token]) -> Read<'_, BinaryOp>
-    requires { level < 5 }
-    ensures { Gives (λ x. (x.0, x.1.now)) result (reader.operator_at level tokens.now) }
-{
-    let Some((t, rest)) = tokens.split_first() else {
-        return Err(Fault::Stuck(tokens));
-    };
-    let Word::Sign(sign) = t.word else {
-        return Err(Fault::Stuck(tokens));
-    };
-    match op_of(level, sign) {
-        Some(op) => Ok((op, rest)),
-        None => Err(Fault::Stuck(tokens)),
-    }
-}
-
 // How many operands a chain of this level may go on with: comparisons don't chain.
 fn most_operands(level: u8, tokens: &[Token]) -> usize
     requires { level < 5 }
@@ -162,8 +52,6 @@ fn most_operands(level: u8, tokens: &[Token]) -> usize
 {
     if level == 2 { 1 } else { tokens.len() }
 }
-
-// ---- the cycle
 
 #[cycle(expr)]
 #[tactic(auto, unfolding(mace_grammar::specs::inner::Readers::signed_or_primary_at))]

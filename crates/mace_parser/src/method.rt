@@ -11,7 +11,8 @@ ghost use Rattle.mace_parser.specs.inner.Gives.{Gives};
 
 use crate::class::{sees_key, sees_name, sees_sign};
 use crate::fault::Read;
-use crate::stmt::{any_expr, stmts};
+use crate::simple::any_expr;
+use crate::stmt::stmts;
 use crate::token::{end, key, kind, name, sign};
 use mace_ast::{Last, MethodDecl, Param, Stmt};
 use mace_lexer::{Keyword, Sign, Token};

@@ -554,7 +554,7 @@ module _ (version : Version) where
     )
 
     for_says : (at : Span) (x : Name) (low high : ExprTree) (body : StmtTrees) → all_spell body → IsName version x.text → ExprFits version low → ExprFits version high → Says (g.for_stmt version stmt) (bare_stmt (st.For at x low high body)) (stmt_words (st.For at x low high body))
-    for_says at x low high body hb i f k = (
+    for_says at x low high body hb i f j = (
       nowhere,
       plain (word.Key k.For) ∷ [],
       _,
@@ -589,7 +589,7 @@ module _ (version : Version) where
                 map plain (whole_words high),
                 _,
                 map-append plain (whole_words high) (in_braces body),
-                expr_says version high k,
+                expr_says version high j,
                 (
                   list_of (bare_stmts body),
                   map plain (in_braces body),

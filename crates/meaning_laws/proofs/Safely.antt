@@ -69,7 +69,7 @@ module _ (shape : Shape) (first : Contexts (List Value)) (g : ℕ) (methods : Li
       (λ st h. h))
 
   safe_for : (may : Bool) (p : Path) (counter : ℕ) (at : Span) (body : Act (Unit {0})) → Safe shape first g may p body → Safe shape first g may p (for_body counter at body)
-  safe_for may p counter at body h st k = safe_then shape first g may p (body _) _ (h _ k) (λ u st k. answered true p _ at (set_local counter) (λ v st k. k) st k)
+  safe_for may p counter at body h st k = safe_then shape first g may p (body _) _ (h _ k) (λ u st k. answered may p _ at (set_local counter) (λ v st k. k) st k)
 
   module _ (old : g ≤ 4) (call : ℕ → Path → List Value → Act (Option Value)) (fine : IsFine call) (n : ℕ) (p : Path) where
     safe_maybe : (e : Option Tree) → FitsMaybe shape methods (class_of p) e → Safe shape first g true p (maybe_value call n p e)

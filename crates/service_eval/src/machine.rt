@@ -70,7 +70,7 @@ impl<'s> Machine<'s> {
         ensures some { IfSome result (λ caller. to_return (items_of self.old) ≡ return_of caller ∷ items_of self.new) }
         ensures rest { (tree : _) → mach_of tree self.new ≡ record (mach_of tree self.old) { items = items_of self.new } }
     {
-        while let Some(work) = self.work.pop() {
+        while let Some(work) = self.pop() {
             match work {
                 Work::Return(caller) => return Some(caller),
                 _ => {}

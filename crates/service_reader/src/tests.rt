@@ -74,7 +74,7 @@ fn what_stands_behind_the_number_is_of_that_version(rt: HostRuntime) -> Result<(
         &rt,
         alloc,
         b"service A { method m(): int { return 1; return 2; } }",
-        stuck_at(15, 1, 41),
+        stuck_at(13, 1, 41),
     );
     refuses(
         &rt,
@@ -87,7 +87,7 @@ fn what_stands_behind_the_number_is_of_that_version(rt: HostRuntime) -> Result<(
         &rt,
         alloc,
         b"service A { event e() { here { finish; } } }",
-        stuck_at(12, 1, 38),
+        stuck_at(11, 1, 38),
     );
     Ok(())
 }

@@ -6,3 +6,4 @@ pub mod Leased
 pub mod Telling
 pub mod Turning
 pub mod Trying
+pub mod Segments

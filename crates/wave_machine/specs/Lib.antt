@@ -13,3 +13,5 @@ pub mod Prepared
 pub mod Ending
 pub mod Always
 pub mod Showing
+pub mod Lengths
+pub mod Orders

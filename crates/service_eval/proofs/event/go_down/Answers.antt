@@ -9,7 +9,9 @@ use Rattle.service_eval.specs.Machines.{Mach, mach_of, state_of}
 use Rattle.service_eval.specs.Ready.{Ready}
 use Rattle.service_eval.specs.Turns.{mach}
 use Rattle.service_eval.specs.Worlds.{world_of, Changes, Holds}
+use Rattle.service_eval.specs.Events.{went_down}
 use Rattle.service_eval.proofs.CallLemmas.{world_fails}
+use Rattle.service_eval.proofs.Outcomes.{traps_fail}
 use Rattle.service_eval.proofs.DownLemmas.{is_child, down_path, down_parent, down_room, down_known, down_ready}
 use Rattle.service_eval.proofs.PathLemmas.{short_path}
 use Rattle.service_eval.proofs.event.go_down.Goals as goal
@@ -36,8 +38,9 @@ returns-in-Err-clause-comes c =
     let U = shown c.args.code.shape.now c.enter.new.contexts in
     let p = is_child c.args.m.now.path c.args.phase.now.class c.key_of.result c.args.key.now c.child-path.result (search rules) c.child-path.ensures c.key_of.ensures in
     let q = child c.args.m.now.path c.args.phase.now.class.0 c.args.key.now in
-    world_fails (entering q (world_of T c.args.m.now.trace)) c.args.phase.now.at (state_of T c.args.m.now) (λ _. release q) c.in-Err.e (world_of U c.enter.new.trace)
-    (subst (λ q. Changes (entering q (world_of T c.args.m.now.trace)) c.args.phase.now.at (world_of T c.args.m.now.trace) (Err c.in-Err.e) (world_of U c.enter.new.trace)) p c.in-Err.ensures.enters)
+    traps_fail (went_down q c.args.phase.now.at (state_of T c.args.m.now)) c.in-Err.e (world_of U c.enter.new.trace)
+    (world_fails (entering q (world_of T c.args.m.now.trace)) c.args.phase.now.at (state_of T c.args.m.now) (λ _. release q) c.in-Err.e (world_of U c.enter.new.trace)
+    (subst (λ q. Changes (entering q (world_of T c.args.m.now.trace)) c.args.phase.now.at (world_of T c.args.m.now.trace) (Err c.in-Err.e) (world_of U c.enter.new.trace)) p c.in-Err.ensures.enters))
 
 pub returns-in-Err-clause-holds : goal.returns-in-Err-clause-holds
 returns-in-Err-clause-holds c = subst (λ t. Holds c.args.code.shape.now (shown c.args.code.shape.now t)) (sym c.in-Err.ensures.memory) c.requires.rests.ready.holds

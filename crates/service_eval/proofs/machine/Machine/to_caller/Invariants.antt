@@ -1,4 +1,4 @@
-use Rattle.std.proofs.Common.{◌≡◌, List}
+use Rattle.std.proofs.Common.{◌≡◌, List, length}
 use Rattle.wave_base.specs.declared.value.Value.{Value}
 use Rattle.wave_base.specs.Tree.{Tree}
 use Rattle.service_eval.specs.declared.machine.Machine.{Machine}
@@ -15,4 +15,4 @@ abbrev pub invariant-loop-work : goal.invariant-loop-work
 invariant-loop-work l = LeftOut l.initial.self l.self
 
 abbrev pub decreases-loop-work : goal.decreases-loop-work
-decreases-loop-work l = goal.left-loop-work l
+decreases-loop-work l = length (items_of l.self)
