@@ -13,3 +13,4 @@ pub mod Prepared
 pub mod Ending
 pub mod Always
 pub mod Showing
+pub mod Picks
