@@ -43,3 +43,4 @@ pub mod Telling
 pub mod Lines
 pub mod Untouched
 pub mod Skipping
+pub mod Picked

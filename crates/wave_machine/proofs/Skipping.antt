@@ -21,12 +21,13 @@ skipped f t (suc n) (c ∷ cs) none =
     ∙ skipped f (suc t) n cs (λ i d low at. none (suc i) d (omega (arith, low)) at)
     ∙ ap (λ xs. xs ++ by_ticket f (suc t) cs) (sym (none zero c (omega arith) refl t))
 
+-- what is done asks for nothing
+pub nothing_done : (m : Kept) (idle : Option ℕ) (ws : List ℕ) (u : ℕ) (c : Cell Actor) → is_done c ≡ true → cell_labels m.stores m.hands idle ws u c ≡ []
+nothing_done m idle ws u c e = ap (λ b. cond b [] (stops_labels m.stores m.hands ws u c.status ++ by_taker idle (λ w. status_labels m.stores w u c.status ++ mails_labels m.stores w u c.outbox))) e
+
 -- so a listing may begin behind what is done
 pub done_skipped : (m : Kept) (n : ℕ) (idle : Option ℕ) (ws : List ℕ) → AreDone m n → by_ticket (cell_labels m.stores m.hands idle ws) (m.first + n) (drop n m.cells) ≡ by_ticket (cell_labels m.stores m.hands idle ws) m.first m.cells
-done_skipped m n idle ws done = skipped (cell_labels m.stores m.hands idle ws) m.first n m.cells (λ i c low at u. nothing u c (done.each i c low at))
-  where
-    nothing : (u : ℕ) (c : Cell Actor) → is_done c ≡ true → cell_labels m.stores m.hands idle ws u c ≡ []
-    nothing u c e = ap (λ b. cond b [] (stops_labels m.stores m.hands ws u c.status ++ by_taker idle (λ w. status_labels m.stores w u c.status ++ mails_labels m.stores w u c.outbox))) e
+done_skipped m n idle ws done = skipped (cell_labels m.stores m.hands idle ws) m.first n m.cells (λ i c low at u. nothing_done m idle ws u c (done.each i c low at))
 
 -- at first nothing is done
 pub none_done : (m : Kept) → AreDone m 0

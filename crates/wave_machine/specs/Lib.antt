@@ -15,3 +15,5 @@ pub mod Always
 pub mod Showing
 pub mod Lengths
 pub mod Orders
+pub mod Picks
+

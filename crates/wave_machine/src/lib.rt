@@ -7,6 +7,7 @@ mod adding;
 mod always;
 mod asking;
 mod begin;
+mod choosing;
 mod done;
 mod drivable;
 mod drives;

@@ -14,6 +14,7 @@ ghost use Rattle.wave_machine.specs.Plans.{plan_of};
 ghost use Rattle.wave_machine.specs.Prepared.{IsStood, is_start, is_step};
 ghost use Rattle.wave_machine.specs.Running.{CanStop, IsStopping, Leases, Stops, stop_of};
 ghost use Rattle.wave_machine.specs.Actors.{MayRun};
+ghost use Rattle.wave_machine.specs.Picks.{IsOneOf};
 ghost use Rattle.wave_machine.specs.Showing.{IsLineOf};
 
 use crate::done::done_stays;
@@ -100,6 +101,14 @@ impl<'p> Machine<'p> {
         ensures { IfOk result (λ ls. (start : Start) (s : TheState) → Stands self.now.kept start s → map label_of ls ≡ enabled_for (plan_actors self.now.kept.plan.program) self.now.kept.plan.workers self.now.kept.plan.script.hosts s worker.0) }
     {
         self.engine.enabled_for(worker, self.done)
+    }
+
+    /// One of what a worker can do that has no segment out, found without a list and without memory; none where there is nothing.
+    pub fn some_for(&self, worker: Worker) -> Option<Label>
+        requires { slice_get self.now.kept.hands worker.0 ≡ Some None }
+        ensures { (start : Start) (s : TheState) → Stands self.now.kept start s → IsOneOf (enabled_for (plan_actors self.now.kept.plan.program) self.now.kept.plan.workers self.now.kept.plan.script.hosts s worker.0) result }
+    {
+        self.engine.some_for(worker, self.done)
     }
 
     /// Makes all that a label needs which is enabled, so that it can be taken without memory: the machine is reserved for it then. The
