@@ -1,4 +1,4 @@
-use Rattle.std.proofs.Common.{◌≡◌, ◌-◌, length, ap, ◌∙◌, arith}
+use Rattle.std.proofs.Common.{◌-◌, length, ap, ◌∙◌, arith}
 use Rattle.resolved_service.specs.Steps.{steps_in, surely_ends}
 use Rattle.service_compiler.specs.inner.Fronts.{ended_behind}
 use Rattle.service_compiler.proofs.Fronting.{last_tells}
