@@ -74,8 +74,7 @@ module _ (o : Origin) (b : Board) (s : TheState) (at : IsAt b o s) (seen : List 
   pub is_run : FinishedRunsAreMeasured → (r : declared_finished.Finished × List declared_label.Label) → r.1 ≡ b.journal.items
       → ((o : Origin) (s : TheState) → IsAt b o s → r.0 ≡ finished_of (code_ran o.plan.now.program) o.plan.now.program.shape o.start.now o.plan.now.script) → IsRun o.plan.now o.start.now r
   is_run measured r journal told =
-      let run : IsReached plan o.start.now (map label_of r.1) s = subst (λ js. IsReached plan o.start.now (map label_of js) s) (sym journal) reached in
-      (
+      let run : IsReached plan o.start.now (map label_of r.1) s = subst (λ js. IsReached plan o.start.now (map label_of js) s) (sym journal) reached in (
         told o s at,
         record { state = s; reached = run; finished = done },
         measured plan o.start.now (subst Fits at.plan at.fits) (subst (λ (p : Plan). FitsStart p o.start.now) at.plan at.begins) (map label_of r.1) s run done,

@@ -1,4 +1,5 @@
 pub mod Standing
+pub mod Segments
 pub mod Staying
 pub mod Idle
 pub mod Choosing
@@ -6,4 +7,3 @@ pub mod Leased
 pub mod Telling
 pub mod Turning
 pub mod Trying
-pub mod Segments

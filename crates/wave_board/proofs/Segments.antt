@@ -1,15 +1,13 @@
 -- Where an idle worker can take nothing and the run is not finished, a segment is out.
-use Rattle.std.proofs.Common.{◌≡◌, ◌≢◌, ◌⊎◌, ◌<◌, inl, inr, ℕ, Bool, true, false, List, [], ◌∷◌, is_some, Option, Some, None, refl, sym, ◌∙◌, ap, subst, arith}
+use Rattle.std.proofs.Common.{◌≡◌, ◌<◌, inl, inr, ℕ, Bool, true, false, List, [], ◌∷◌, is_some, Option, Some, None, refl, sym, ◌∙◌, subst}
 use Rattle.std.specs.Prelude.{if◌then◌else◌, is_none, nat_lt, option_map}
 use Rattle.wave_states.specs.Actors.{Actors}
 use Rattle.wave_states.specs.Labels.{Act, Label, Admit, Queue, Grant, Visit, Start, Stop, Free, Pass, Land, Commit, is_stop, path_of, ticket_of}
-use Rattle.wave_states.specs.Runs.{Finished}
 use Rattle.wave_states.specs.States.{Hand, State}
 use Rattle.wave_states.specs.Steps.{act_bench, admit, commit, part_of, step, step_by, with_bench}
 use Rattle.wave_theory.specs.Listed.{IsIn}
-use Rattle.wave_theory.specs.NeverStuck.{IsOut}
 use Rattle.wave_theory.proofs.Able.{if_can, map_can}
-use Rattle.wave_theory.proofs.Basics.{bool_cases, clash, none_not, options}
+use Rattle.wave_theory.proofs.Basics.{clash, options}
 use Rattle.wave_theory.proofs.Live.{less_is}
 
 can_of : {X Y : Type 0} (f : X → Y) (o : Option X) → is_some (option_map f o) ≡ true → is_some o ≡ true

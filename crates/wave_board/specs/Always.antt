@@ -1,5 +1,5 @@
 -- What holds of every state that a board stands for, and what a worker that finds nothing waits for.
-use Rattle.std.specs.Prelude.{◌≡◌, ◌≢◌, ◌<◌, ◌≤◌, ◌+◌, ℕ, suc, List, length}
+use Rattle.std.specs.Prelude.{◌≢◌, ◌<◌, ◌≤◌, ◌+◌, ℕ, suc, List, length}
 use Rattle.wave_base.specs.declared.numbers.Worker.{Worker}
 use Rattle.wave_base.specs.declared.outcome.EventResult.{EventResult}
 use Rattle.wave_base.specs.declared.script.Line.{Line}

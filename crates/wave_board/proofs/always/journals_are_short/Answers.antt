@@ -8,15 +8,14 @@ use Rattle.wave_board.specs.Boards.{labels_of}
 use Rattle.wave_board.proofs.always.journals_are_short.Goals as goal
 
 pub returns : goal.returns
-returns c =
-    let most = λ o b s h. c.runs_are_short.ensures.most (the_plan o) o.start.now (subst Fits h.plan h.fits) (subst (λ (q : Plan). FitsStart q o.start.now) h.plan h.begins)
-    (labels_of b) s (subst (λ (q : Plan). IsReached q o.start.now (labels_of b) s) h.plan h.reached) in
-    record {
-      most = most;
-      whole = λ o b s h finished. record {
-        besides_passes = c.runs_are_short.ensures.finished (the_plan o) o.start.now (subst Fits h.plan h.fits) (subst (λ (q : Plan). FitsStart q o.start.now) h.plan h.begins)
-            (labels_of b) s (subst (λ (q : Plan). IsReached q o.start.now (labels_of b) s) h.plan h.reached)
-            (subst (λ (q : Plan). Finished (plan_actors q.program) q.workers s) h.plan finished);
-        most = most o b s h;
-      };
-    }
+returns c = record {
+  most = λ o b s h. c.runs_are_short.ensures.most (the_plan o) o.start.now (subst Fits h.plan h.fits) (subst (λ (q : Plan). FitsStart q o.start.now) h.plan h.begins)
+      (labels_of b) s (subst (λ (q : Plan). IsReached q o.start.now (labels_of b) s) h.plan h.reached);
+  whole = λ o b s h finished. record {
+    besides_passes = c.runs_are_short.ensures.finished (the_plan o) o.start.now (subst Fits h.plan h.fits) (subst (λ (q : Plan). FitsStart q o.start.now) h.plan h.begins)
+        (labels_of b) s (subst (λ (q : Plan). IsReached q o.start.now (labels_of b) s) h.plan h.reached)
+        (subst (λ (q : Plan). Finished (plan_actors q.program) q.workers s) h.plan finished);
+    most = c.runs_are_short.ensures.most (the_plan o) o.start.now (subst Fits h.plan h.fits) (subst (λ (q : Plan). FitsStart q o.start.now) h.plan h.begins)
+        (labels_of b) s (subst (λ (q : Plan). IsReached q o.start.now (labels_of b) s) h.plan h.reached);
+  };
+}

@@ -1,5 +1,4 @@
-use Rattle.std.proofs.Common.{◌≡◌, ◌<◌, ◌⊎◌, inl, inr, ℕ, List, [], None, Some, is_some, true, false, refl, sym, ◌∙◌, ap, subst}
-use Rattle.wave_states.specs.Alone.{fold_alone}
+use Rattle.std.proofs.Common.{◌≡◌, ◌<◌, inl, inr, None, refl, sym, ◌∙◌, ap, subst}
 use Rattle.wave_states.specs.Canonical.{enabled}
 use Rattle.wave_states.specs.Labels.{Label}
 use Rattle.wave_states.specs.Runs.{Finished}
@@ -8,7 +7,7 @@ use Rattle.plan_actors.specs.PlanActors.{plan_actors}
 use Rattle.plan_actors.specs.Plans.{Plan, Setting, Fits, FitsStart, begin_in}
 use Rattle.plan_actors.proofs.Meeting.{plan_fits, begin_fits}
 use Rattle.plan_actors.proofs.Owing.{setting_of}
-use Rattle.wave_theory.proofs.Basics.{clash, none_not}
+use Rattle.wave_theory.proofs.Basics.{none_not}
 use Rattle.wave_machine.specs.Machines.{IsReached}
 use Rattle.wave_board.specs.Always.{the_plan}
 use Rattle.wave_board.specs.Boards.{labels_of}
