@@ -96,7 +96,6 @@ module _ (shape : Shape) (first : Contexts (List Value)) (g : ℕ) (methods : Li
       safe_effect (Send at label e) f st h = safe_then shape first g true p (value call p e st) _ (safe_value true call fine p e f st h) (λ x st h. sends shape first g true p label x at st h)
       safe_effect (Spawn at event args) f st h = safe_then shape first g true p (values call p args st) _ (safe_values true call fine p args f st h) (λ given st h. spawns shape first g true p event given at st old h)
       safe_effect (Do at e) f st h = safe_then shape first g true p (value call p e st) _ (safe_value true call fine p e f st h) (λ v st h. h)
-
       safe_effect (Return at e) f st h = safe_then shape first g true p (maybe_value call n p e st) (leave m.Returned) (safe_maybe e f st h) (λ r st h. (refl, h))
       safe_effect (Finish at e) f st h = safe_then shape first g true p (maybe_value call n p e st) (leave m.Finished) (safe_maybe e f st h) (λ r st h. h.0)
 

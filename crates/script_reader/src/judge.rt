@@ -80,12 +80,7 @@ fn values_of(
 }
 
 // The call of an event with these parameters.
-fn call_of(
-    alloc: Global,
-    event: u16,
-    params: &[Kind],
-    args: &[Literal],
-) -> Result<Line, Refusal>
+fn call_of(alloc: Global, event: u16, params: &[Kind], args: &[Literal]) -> Result<Line, Refusal>
     requires { list_all is_literal args.now ≡ true }
     ensures { Gives result (call_of event params.now args.now) }
 {
@@ -126,12 +121,7 @@ fn params_of(shape: &Shape, event: usize) -> &[Kind]
 }
 
 // The call of the event of that name.
-fn requested(
-    alloc: Global,
-    shape: &Shape,
-    name: &[u8],
-    args: &[Literal],
-) -> Result<Line, Refusal>
+fn requested(alloc: Global, shape: &Shape, name: &[u8], args: &[Literal]) -> Result<Line, Refusal>
     requires shape { IsShape shape.now }
     requires form { list_all is_literal args.now ≡ true }
     ensures { Gives result (requested shape.now name.now args.now) }

@@ -16,4 +16,3 @@ pub mod Showing
 pub mod Lengths
 pub mod Orders
 pub mod Picks
-
