@@ -1,6 +1,6 @@
 -- What a worker's list has.
-use Rattle.std.proofs.Common.{◌≡◌, ◌∙◌, ◌<◌, inl, inr, ℕ, zero, suc, true, false, List, [], ◌∷◌, length, get_or, map, is_some, Result, Ok, Err, None, refl, sym, ap, subst, arith}
-use Rattle.std.specs.Prelude.{IfOk}
+use Rattle.std.proofs.Common.{◌≡◌, ◌∙◌, ◌<◌, inl, inr, true, false, List, [], is_some, Option, Result, Ok, Err, Some, None, refl, sym, ap, subst, arith}
+use Rattle.std.specs.Prelude.{IfOk, slice_get}
 use Rattle.wave_base.specs.declared.numbers.Worker.{Worker}
 use Rattle.wave_base.specs.declared.start.Start.{Start}
 use Rattle.wave_labels.specs.declared.label.Act.{Act}
@@ -14,7 +14,13 @@ use Rattle.wave_theory.specs.Listed.{IsIn, ListedFor}
 use Rattle.wave_theory.proofs.Basics.{options}
 use Rattle.plan_actors.specs.PlanActors.{plan_actors, plan_kind}
 use Rattle.plan_actors.specs.Plans.{Plan, Fits, FitsStart, begin_in}
-use Rattle.wave_machine.specs.Machines.{IsReached, Stands, TheState}
+use Rattle.code_actor.specs.CodeActors.{Fields}
+use Rattle.plan_actors.specs.PlanActors as actors
+use Rattle.wave_states.specs.States.{Hand}
+use Rattle.wave_machine.specs.declared.kept.Out.{Out}
+use Rattle.wave_machine.specs.Machines.{IsOut, IsReached, Stands, TheState}
+use Rattle.wave_machine.specs.Picks.{IsOneOf}
+use Rattle.wave_machine.proofs.Ending.{some_at}
 use Rattle.wave_machine.specs.Prepared.{is_start, is_step}
 use Rattle.wave_machine.proofs.Queueing.{some_is}
 use Rattle.wave_board.specs.declared.board.Board.{Board}
@@ -23,23 +29,22 @@ use Rattle.wave_board.specs.Boards.{InEachState, IsAt, IsStanding, labels_of}
 use Rattle.wave_board.specs.declared.work.Work.{Work}
 use Rattle.wave_board.specs.declared.work.Work.TheVariants.{Stepped, Segment, Nothing, Finished, Stopped}
 use Rattle.wave_board.specs.Taking.{HasNothing, IsAppended, Took}
-use Rattle.wave_board.specs.inner.Doing.{Appends, IsChoice}
+use Rattle.wave_board.specs.inner.Doing.{Appends, Chooses, IsChoice}
 use Rattle.wave_board.proofs.Idle.{no_stop}
 use Rattle.wave_board.proofs.Standing.{stands_of}
 
-pub in_get : {X : Type 0} (xs : List X) (i : ℕ) (d : X) → i < length xs → IsIn xs (get_or xs i d)
-in_get [] i d l = absurd (omega (arith, l))
-in_get (x ∷ xs) zero d l = inl refl
-in_get (x ∷ xs) (suc i) d l = inr (in_get xs i d (omega (arith, l)))
+none_out : (o : Option Out) (h : Option (Hand actors.Actor Fields)) → IsOut o h → h ≡ None → o ≡ None
+none_out None h x e = refl
+none_out (Some o) None x e = absurd x
+none_out (Some o) (Some h) x e = cc
 
-pub empty_of : {X : Type 0} (xs : List X) → length xs ≡ 0 → xs ≡ []
-empty_of [] e = refl
-empty_of (x ∷ xs) e = absurd (omega (arith, e))
-
-in_map : {X Y : Type 0} (f : X → Y) (xs : List X) (x : X) → IsIn xs x → IsIn (map f xs) (f x)
-in_map f [] x i = absurd i
-in_map f (y ∷ xs) x (inl e) = inl (ap f e)
-in_map f (y ∷ xs) x (inr i) = inr (in_map f xs x i)
+-- what is kept of a worker that has nothing in its hand
+pub kept_idle : (b : Board) (worker : Worker) → IsStanding b → worker.0 < b.machine.kept.plan.workers → ((o : Origin) (s : TheState) → IsAt b o s → s.hands worker.0 ≡ None) → slice_get b.machine.kept.hands worker.0 ≡ Some None
+kept_idle b worker st within idle =
+    let hands = st.at.shows.hands in
+    let many = hands.as_many in
+    let x = some_at b.machine.kept.hands worker.0 (omega (arith, within, many)) in
+    x.1 ∙ ap Some (none_out x.0 (st.state.hands worker.0) (hands.each worker.0 x.0 x.1) (idle st.origin st.state st.at))
 
 neither : (a : Act) → is_start a ≡ false → theory.is_stop (act_of a) ≡ false → is_step a ≡ true
 neither (Begin t p) e f = absurd (grind arith)
@@ -57,27 +62,25 @@ neither (Commit t) e f = refl
 abbrev pub Lists : Type 0
 Lists = (plan : Plan) (start : Start) (labels : List theory.Label) (s : TheState) → Fits plan → FitsStart plan start → IsReached plan start labels s → ListedFor (plan_kind plan.program plan.script.hosts) plan.workers (begin_in plan start) plan.script.batches s
 
-module _ (lists : Lists) (b : Board) (worker : Worker) (ls : List Label)
-    (listed : (start : Start) (s : TheState) → Stands b.machine.kept start s → map label_of ls ≡ enabled_for (plan_actors b.machine.kept.plan.program) b.machine.kept.plan.workers b.machine.kept.plan.script.hosts s worker.0) where
-  has : (o : Origin) (s : TheState) → IsAt b o s → (l : theory.Label) → IsIn (map label_of ls) l → (is_some (step (plan_actors b.machine.kept.plan.program) b.machine.kept.plan.workers s l) ≡ true) × (l.worker ≡ worker.0)
-  has o s h l e = ((lists b.machine.kept.plan o.start.now (labels_of b) s h.fits h.begins h.reached).has worker.0 l).0 (subst (λ xs. IsIn xs l) (listed o.start.now s (stands_of b o s h)) e)
+module _ (lists : Lists) (b : Board) (worker : Worker) where
+  abbrev list : TheState → List theory.Label
+  list s = enabled_for (plan_actors b.machine.kept.plan.program) b.machine.kept.plan.workers b.machine.kept.plan.script.hosts s worker.0
 
-  -- an empty list
-  pub nothing : ls ≡ [] → InEachState b (HasNothing b worker)
-  nothing empty o s h l own = elim (options (step (plan_actors b.machine.kept.plan.program) b.machine.kept.plan.workers s l)) [
+  has : (o : Origin) (s : TheState) → IsAt b o s → (l : theory.Label) → IsIn (list s) l → (is_some (step (plan_actors b.machine.kept.plan.program) b.machine.kept.plan.workers s l) ≡ true) × (l.worker ≡ worker.0)
+  has o s h l e = ((lists b.machine.kept.plan o.start.now (labels_of b) s h.fits h.begins h.reached).has worker.0 l).0 e
+
+  -- one of the list, or none where it is empty, for a worker with an empty hand
+  pub chosen : IsStanding b → ((o : Origin) (s : TheState) → IsAt b o s → s.hands worker.0 ≡ None) → (picked : Option Label) → ((start : Start) (s : TheState) → Stands b.machine.kept start s → IsOneOf (list s) picked) → Chooses b worker picked
+  chosen st idle None is = λ o s h l own. elim (options (step (plan_actors b.machine.kept.plan.program) b.machine.kept.plan.workers s l)) [
     | inl none ↦ none
-    | inr some ↦ absurd (subst (λ xs. IsIn (map label_of xs) l) empty (subst (λ xs. IsIn xs l) (sym (listed o.start.now s (stands_of b o s h)))
-        (((lists b.machine.kept.plan o.start.now (labels_of b) s h.fits h.begins h.reached).has worker.0 l).1 (ap is_some some.1, own))))
+    | inr some ↦ absurd (subst (λ xs. IsIn xs l) (is o.start.now s (stands_of b o s h)) (((lists b.machine.kept.plan o.start.now (labels_of b) s h.fits h.begins h.reached).has worker.0 l).1 (ap is_some some.1, own)))
   ]
-
-  -- one of the list, for a worker with an empty hand
-  pub choice : IsStanding b → ((o : Origin) (s : TheState) → IsAt b o s → s.hands worker.0 ≡ None) → (l : Label) → IsIn ls l → IsChoice b worker l
-  choice st idle l i =
-      let there = in_map label_of ls l i in
+  chosen st idle (Some l) is =
+      let there = is st.origin.start.now st.state (stands_of b st.origin st.state st.at) in
       let own : l.worker.0 ≡ worker.0 = (has st.origin st.state st.at (label_of l) there).1 in
       let next = some_is (step (plan_actors b.machine.kept.plan.program) b.machine.kept.plan.workers st.state (label_of l)) (has st.origin st.state st.at (label_of l) there).0 in
       record {
-        enabled = λ o s h. (has o s h (label_of l) there).0;
+        enabled = λ o s h. (has o s h (label_of l) (is o.start.now s (stands_of b o s h))).0;
         own = λ j. record { 0 = own j };
         kind = λ no_start. neither l.act no_start
             (no_stop (plan_actors b.machine.kept.plan.program) b.machine.kept.plan.workers st.state next.0 (label_of l)

@@ -1,6 +1,6 @@
 //! Work from a board.
 
-ghost use Rattle.std.specs.Prelude.{◌≡◌, ◌<◌, length, true, false, None, IfOk, OnErr};
+ghost use Rattle.std.specs.Prelude.{◌≡◌, true, false, None, IfOk, OnErr};
 ghost use Rattle.wave_machine.specs.Prepared.{is_start, is_step};
 ghost use Rattle.wave_board.specs.Boards.{IsStanding, StandsStill, history_of};
 ghost use Rattle.wave_board.specs.Taking.{MayTake, Took};
@@ -39,27 +39,21 @@ impl<'p> Board<'p> {
         if self.machine.finished() {
             return Ok(Work::Finished);
         }
-        let choice = self.choice(worker)?;
-        match choice {
+        match self.choice(worker) {
             None => Ok(Work::Nothing),
             Some(label) => self.append(label),
         }
     }
 
-    // What this worker takes next, where it can take something.
-    fn choice(&self, worker: Worker) -> Result<Option<Label>, OutOfMemory>
+    // What this worker takes next, where it can take something. Which of several labels that is no clause says.
+    fn choice(&self, worker: Worker) -> Option<Label>
         requires stands { IsStanding self.now }
         requires may { MayTake self.now worker }
-        ensures { IfOk result (Chooses self.now worker) }
+        ensures { Chooses self.now worker result }
     {
         idle_hands_are_empty();
         lists_are_known();
-        let labels = self.machine.enabled_for(worker)?;
-        let labels = labels.as_slice();
-        if labels.is_empty() {
-            return Ok(None);
-        }
-        Ok(Some(labels[choose(labels)]))
+        self.machine.some_for(worker)
     }
 
     // Takes a label: all that wants memory comes first.
@@ -88,33 +82,4 @@ fn is_start(act: &Act) -> bool
     ensures { result ≡ is_start act.now }
 {
     matches!(act, Act::Start(_, _))
-}
-
-// Which of several labels is taken is ours, and no clause rests on it: first what ends things, so that little is under way; then the first
-// Start, which is that of the least ticket; and Admit last.
-fn choose(labels: &[Label]) -> usize
-    requires { 0 < length labels.now }
-    ensures { result < length labels.now }
-{
-    let mut best = 0;
-    for i in 1..labels.len() {
-        if rank(&labels[i].act) < rank(&labels[best].act) {
-            best = i;
-        }
-    }
-    best
-}
-
-fn rank(act: &Act) -> u8 {
-    match act {
-        Act::Commit(_) => 0,
-        Act::Free(..) => 1,
-        Act::Land(..) => 2,
-        Act::Pass(..) => 3,
-        Act::Visit(..) => 4,
-        Act::Grant(..) => 5,
-        Act::Queue(..) => 6,
-        Act::Start(..) | Act::Stop(..) => 7,
-        Act::Admit(_) => 8,
-    }
 }
