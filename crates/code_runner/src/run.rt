@@ -1,5 +1,6 @@
 ghost use Rattle.std.specs.Prelude.{◌≡◌, ◌≤◌, [], true, Some, All, IfOk, OnOk};
-ghost use Rattle.context_tree.specs.Contexts.{tree_of};
+ghost use Rattle.context_tree.specs.Contexts.{tree_of, is_there};
+ghost use Rattle.wave_base.specs.declared.path.Path.{Path};
 ghost use Rattle.wave_base.specs.declared.limits.TheConstants.{GENERATION};
 ghost use Rattle.wave_base.specs.Scripts.{IsCall};
 ghost use Rattle.wave_base.specs.Tree.{there};
@@ -23,8 +24,9 @@ pub struct CallRan {
     pub segments: u64,
 }
 
-/// Runs a call of an event by its code, segment by segment, on a tree of contexts. Where memory is wanting, the tree may
-/// hold a part of its changes.
+/// Runs a call of an event by its code, segment by segment, on a tree of contexts. Where memory is wanting, the tree has all
+/// contexts that it had, may have more, and may hold a part of the changes; memory may be wanting wherever a context joins, a
+/// value is made, or room for what is entered, copied or sent.
 pub fn run_call(
     alloc: Global,
     program: &Verified,
@@ -39,6 +41,7 @@ pub fn run_call(
     ensures result { IfOk result (λ ran. (code_tour program.now call.now (tree_of program.now.shape contexts.old)).result ≡ Some ran.result) }
     ensures tree { IfOk result (λ ran. tree_of program.now.shape contexts.new ≡ (code_tour program.now call.now (tree_of program.now.shape contexts.old)).tree) }
     ensures entered { IfOk result (λ ran. ran.entered ≡ (code_tour program.now call.now (tree_of program.now.shape contexts.old)).entered) }
+    ensures stays { (p : Path) → is_there contexts.old p ≡ true → is_there contexts.new p ≡ true }
     ensures fits { OnOk result (IsTree program.now.shape (tree_of program.now.shape contexts.new)) }
     ensures created { IfOk result (λ ran. All (IsJob program.now) ran.result.created) }
     ensures segments { IfOk result (λ ran. ran.segments ≡ (code_tour program.now call.now (tree_of program.now.shape contexts.old)).segments) }

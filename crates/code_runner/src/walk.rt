@@ -6,12 +6,13 @@ ghost use Rattle.wave_base.specs.Paths.{path_eq, parent_of};
 ghost use Rattle.wave_base.specs.Scripts.{IsCall};
 ghost use Rattle.wave_base.specs.Shapes.{is_path};
 ghost use Rattle.wave_base.specs.Tree.{there};
+ghost use Rattle.wave_base.specs.declared.path.Path.{Path};
 ghost use Rattle.service_verify.specs.Copies.{first_trip, next_trip};
 ghost use Rattle.service_verify.specs.Fit.{IsFit};
 ghost use Rattle.service_verify.specs.Points.{IsVerified};
 ghost use Rattle.code_runner.specs.inner.Walks.{Walks, trip_of, paths_into, tree_into};
 
-use crate::records::{put_record, take_record};
+use crate::records::{join, put_record, take_record};
 use context_tree::Tree;
 use service_verify::Verified;
 use service_vm::{EventBox, segment};
@@ -40,9 +41,10 @@ impl Walk {
         requires root { is_there contexts.old [] ≡ true }
         ensures verified { IsVerified program.now }
         ensures first { IfOk result (λ w. trip_of w (tree_of program.now.shape contexts.new) None ≡ first_trip program.now call.now (tree_of program.now.shape contexts.old)) }
+        ensures stays { (p : Path) → is_there contexts.old p ≡ true → is_there contexts.new p ≡ true }
     {
         let root = Path::root();
-        contexts.enter(alloc, &program.program().shape, &root)?;
+        join(alloc, &program.program().shape, contexts, &root)?;
         let mut entered = Vec::new(alloc);
         entered.push(root)?;
         match EventBox::new(alloc, program, Ticket(0), call.copy(alloc)?) {
@@ -67,6 +69,7 @@ impl Walk {
         requires few { self.old.segments < 2 ^ 63 }
         ensures segments { OnOk result (self.new.segments ≡ suc self.old.segments) }
         ensures next { IfOk result (λ over. trip_of self.new (tree_of program.now.shape contexts.new) over ≡ next_trip program.now (trip_of self.old (tree_of program.now.shape contexts.old) None)) }
+        ensures stays { (p : Path) → is_there contexts.old p ≡ true → is_there contexts.new p ≡ true }
     {
         let here = self.event.path();
         let mut record = take_record(alloc, contexts, &here);
@@ -97,12 +100,13 @@ impl Walk {
         ensures segments { OnOk result (self.new.segments ≡ self.old.segments) }
         ensures entered { OnOk result (self.new.entered.items ≡ paths_into (list_any (path_eq self.old.event.event.box.path) self.old.entered.items) self.old.entered.items self.old.event.event.box.path) }
         ensures tree { OnOk result (tree_of shape.now contexts.new ≡ tree_into (list_any (path_eq self.old.event.event.box.path) self.old.entered.items) (tree_of shape.now contexts.old) self.old.event.event.box.path) }
+        ensures stays { (p : Path) → is_there contexts.old p ≡ true → is_there contexts.new p ≡ true }
     {
         let path = self.event.path();
         if self.entered.as_slice().contains(&path) {
             return Ok(());
         }
-        contexts.enter(alloc, shape, &path)?;
+        join(alloc, shape, contexts, &path)?;
         self.entered.push(path)?;
         Ok(())
     }

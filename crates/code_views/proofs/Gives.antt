@@ -1,14 +1,13 @@
 -- Of the methods of a service, code and heights ask only which of them give a value.
 use Rattle.std.proofs.Common.{◌≡◌, ℕ, suc, ◌+◌, max, Bool, List, [], ◌∷◌, ◌++◌, length, slice_get, Option, Some, None, refl}
 use Rattle.resolved_service.specs.declared.service.Method.{Method}
-use Rattle.resolved_service.specs.Meaning.{row_lt}
 use Rattle.resolved_service.specs.Steps.{Step, SetLocal, SetField, PutLocal, PutField, CutLocal, CutField, If, While, For, Require, Send, Spawn, Do, Return, Finish, Steps, no_steps, step, Else, no_else, otherwise, surely_ends}
 use Rattle.resolved_service.specs.View.{Tree, Const, Local, Field, Above, Op, And, Or, Call, Child, Trees, no_trees, tree}
 use Rattle.service_code.specs.declared.instr.Instr.TheVariants as i
 use Rattle.wave_base.specs.declared.span.Span.{Span}
 use Rattle.code_scheme.specs.declared.line.Line.{Line}
 use Rattle.code_scheme.specs.Heights.{one_if, tree_height, trees_height, maybe_height, step_height, steps_height, else_height}
-use Rattle.code_scheme.specs.Scheme.{line, gives_in, leaves_value, literal_instr, pop_code, finish_instr, and_code, or_code, if_code, behind, else_code, while_code, test_code, turn_code, loop_at, block_at, tree_code, trees_code, two_code, maybe_code, step_code, steps_code, test_then}
+use Rattle.code_scheme.specs.Scheme.{line, gives_in, leaves_value, pop_code, finish_instr, and_code, or_code, behind, else_code, while_code, test_code, turn_code, loop_at, block_at, tree_code, trees_code, two_code, maybe_code, step_code, steps_code, test_then}
 use Rattle.code_scheme.specs.Texts.{Text, place_of_text}
 
 abbrev pub SameGives : List Method → List Method → Type 0

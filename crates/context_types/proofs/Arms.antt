@@ -1,9 +1,8 @@
 -- The arms of an expression: what is known of its operands, and what the answer to the node itself is.
-use Rattle.std.proofs.Common.{◌≡◌, ◌==◌, ◌&&◌, ℕ, true, false, List, [], ◌∷◌, ◌++◌, length, Option, Some, None, Result, Ok, Err, is_some, refl, sym, ap, subst, ◌∙◌, append_assoc}
+use Rattle.std.proofs.Common.{◌≡◌, ℕ, true, false, List, [], ◌∷◌, ◌++◌, Option, Some, None, Result, Ok, is_some, refl, sym, ap, subst, ◌∙◌}
 use Rattle.std.specs.Option.{option_map}
 use Rattle.wave_base.specs.declared.span.Span.{Span}
 use Rattle.wave_base.specs.declared.value.Kind.{Kind}
-use Rattle.wave_base.specs.declared.value.Kind.TheVariants as k
 use Rattle.mace_ast.specs.declared.expr.UnaryOp.{UnaryOp}
 use Rattle.mace_ast.specs.declared.expr.BinaryOp.{BinaryOp}
 use Rattle.mace_ast.specs.declared.expr.Node.{Node}
@@ -11,14 +10,14 @@ use Rattle.mace_ast.specs.declared.expr.Node.TheVariants as node
 use Rattle.mace_ast.specs.Exprs as e
 use Rattle.mace_ast.specs.Exprs.{ExprTree, ExprTrees, place_of, node_tree}
 use Rattle.value_ops.specs.Operators.{gives_of}
-use Rattle.resolved_service.specs.View.{Tree, Trees, tree_of}
+use Rattle.resolved_service.specs.View.{Tree, tree_of}
 use Rattle.type_rules.specs.declared.error.TypeError.{TypeError}
 use Rattle.type_rules.specs.declared.error.TypeError.TheVariants.{Mismatch}
 use Rattle.type_rules.specs.Demands.{Demand, ask, first_wrong, Fails, Judges}
 use Rattle.type_rules.specs.Kinds.{same_kind, has_kind, row_of_one, row_of_two, rows_of_index, rows_before}
 use Rattle.type_rules.specs.Here.{Here}
-use Rattle.type_rules.specs.Exprs.{kind_of, resolve, demands, demands_as, of_kind, row_tree, one, two, binary_kind, binary_tree, name_kind, above_asks, above_tree, count, call_asks, call_takes, args_demands}
-use Rattle.type_rules.proofs.First.{told_past, told_here, holds_both, fails_front, fails_behind, judges_behind, judges_same}
+use Rattle.type_rules.specs.Exprs.{kind_of, resolve, demands, demands_as, of_kind, row_tree, one, two, binary_kind, binary_tree}
+use Rattle.type_rules.proofs.First.{told_past, told_here, holds_both, fails_behind, judges_behind}
 use Rattle.context_types.specs.declared.exprs.Judged.{Judged}
 use Rattle.context_types.specs.declared.calls.Called.{Called}
 use Rattle.context_types.specs.inner.Places.{IsJudged, IsCalled}

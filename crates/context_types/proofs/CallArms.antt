@@ -1,5 +1,5 @@
 -- Calls: what the answer to the arguments says of the whole call.
-use Rattle.std.proofs.Common.{◌≡◌, ◌==◌, ℕ, true, false, List, [], ◌∷◌, ◌++◌, length, map, Option, Some, None, is_some, option_and_then, refl, sym, ap, ◌∙◌, Vec, Box, Global}
+use Rattle.std.proofs.Common.{◌≡◌, ◌==◌, ℕ, true, false, List, [], ◌∷◌, ◌++◌, length, map, Option, Some, None, is_some, option_and_then, sym, ap, ◌∙◌, Vec, Box, Global}
 use Rattle.std.specs.Option.{option_map_or}
 use Rattle.wave_base.specs.declared.path.Class.{Class}
 use Rattle.wave_base.specs.declared.span.Span.{Span}

@@ -1,5 +1,5 @@
 -- An error that is handed on.
-use Rattle.std.proofs.Common.{◌≡◌, List, ◌++◌, Option, None, Result, Err, sym, subst}
+use Rattle.std.proofs.Common.{◌≡◌, List, ◌++◌, None, Result, Err, sym, subst}
 use Rattle.type_rules.specs.declared.error.TypeError.{TypeError}
 use Rattle.type_rules.specs.Demands.{Demand, first_wrong, Fails, Judges}
 use Rattle.type_rules.proofs.First.{fails_front, fails_behind}

@@ -1,8 +1,6 @@
 -- Methods, phases and events: what the answers to their parts say of the whole.
-use Rattle.std.proofs.Common.{◌≡◌, ◌&&◌, ℕ, Bool, true, false, not, List, [], ◌∷◌, ◌++◌, length, map, Option, Some, None, is_none, refl, sym, ap, ◌∙◌}
+use Rattle.std.proofs.Common.{◌≡◌, ◌&&◌, ℕ, Bool, true, false, not, List, ◌∷◌, ◌++◌, length, Option, Some, None, is_none, ap, ◌∙◌}
 use Rattle.std.specs.Option.{option_map}
-use Rattle.wave_base.specs.declared.span.Span.{Span}
-use Rattle.wave_base.specs.declared.value.Kind.{Kind}
 use Rattle.wave_base.specs.declared.value.Kind.TheVariants as k
 use Rattle.mace_ast.specs.Decls.{MethodTree, PhaseTree, EventTree}
 use Rattle.mace_ast.specs.Stmts.{stmts_of}
@@ -17,7 +15,7 @@ use Rattle.type_rules.specs.Known.{kinds_of, class_named, event_named, method_na
 use Rattle.type_rules.specs.Here.{Here, OfMethod, OfEvent, rows_of, start, in_class}
 use Rattle.type_rules.specs.Exprs.{or_zero, class_asks, demands_as, resolve}
 use Rattle.type_rules.specs.Stmts.{after_all, resolve_stmts, stmts_demands}
-use Rattle.type_rules.specs.Functions.{LastView, MethodView, PhaseView, EventView, after_params, method_params_demands, event_params_demands, last_demands, resolve_last, method_start, method_end, method_body, method_demands, resolve_method, event_start, here_stmts, here_end, here_body, event_ended, ended_behind, inside, phase_end, event_end, phase_demands, phases_demands, event_demands, resolve_phase, resolve_phases, resolve_event}
+use Rattle.type_rules.specs.Functions.{LastView, PhaseView, method_params_demands, event_params_demands, last_demands, resolve_last, method_start, method_end, method_body, method_demands, resolve_method, event_start, here_stmts, here_end, here_body, event_ended, ended_behind, inside, phase_end, event_end, phase_demands, phases_demands, event_demands, resolve_phase, resolve_phases, resolve_event}
 use Rattle.type_rules.proofs.First.{told_past, fails_at, fails_past, fails_front, fails_behind, fails_same, holds_both}
 
 -- a demand, and three lists behind it

@@ -1,5 +1,5 @@
 -- The rules for lists, as one walk from place to place.
-use Rattle.std.proofs.Common.{◌≡◌, ◌==◌, ◌<◌, ◌≤◌, ◌+◌, ℕ, Bool, false, zero, suc, List, [], ◌∷◌, ◌++◌, length, map, get_or, take, drop, Option, Some, None, refl, sym, ap, subst, ◌∙◌, arith}
+use Rattle.std.proofs.Common.{◌≡◌, ◌<◌, ◌+◌, ℕ, Bool, false, suc, List, [], ◌∷◌, ◌++◌, length, map, get_or, take, refl, ap, ◌∙◌, arith}
 use Rattle.std.proofs.lemmas.List.{length-take-le}
 use Rattle.wave_base.specs.declared.value.Kind.{Kind}
 use Rattle.wave_base.specs.declared.value.Kind.TheVariants as k
@@ -13,8 +13,8 @@ use Rattle.mace_ast.specs.declared.event.EventDecl.{EventDecl}
 use Rattle.mace_ast.specs.Exprs.{expr_tree, exprs_of}
 use Rattle.mace_ast.specs.Stmts.{stmt_tree, stmts_of}
 use Rattle.mace_ast.specs.Decls.{method_tree, phase_tree, event_tree}
-use Rattle.resolved_service.specs.Steps.{Step, Steps, steps_of, step, is_end, surely_ends}
-use Rattle.resolved_service.specs.View.{Tree, Trees, trees_of, tree}
+use Rattle.resolved_service.specs.Steps.{Step, steps_of, step, is_end, surely_ends}
+use Rattle.resolved_service.specs.View.{Tree, trees_of, tree}
 use Rattle.type_rules.specs.declared.known.Known.{Known}
 use Rattle.type_rules.specs.Demands.{Demand, first_wrong}
 use Rattle.type_rules.specs.Here.{Here, declared}

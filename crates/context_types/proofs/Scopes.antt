@@ -6,9 +6,9 @@ use Rattle.wave_base.specs.declared.value.Kind.TheVariants.{Int}
 use Rattle.mace_ast.specs.Stmts as s
 use Rattle.mace_ast.specs.Stmts.{StmtTree, StmtTrees, ElseTree, no_stmts, stmt_and, no_else, otherwise}
 use Rattle.type_rules.specs.declared.meant.Local.{Local}
-use Rattle.type_rules.specs.Here.{Here, declared, counted, behind}
+use Rattle.type_rules.specs.Here.{Here, counted, behind}
 use Rattle.type_rules.specs.Exprs.{kind_of}
-use Rattle.type_rules.specs.Stmts.{kind_or_int, after, after_all, after_else}
+use Rattle.type_rules.specs.Stmts.{kind_or_int, after, after_all}
 
 -- more at the end
 abbrev Grows : List Local → List Local → Type 0

@@ -1,10 +1,10 @@
 -- Contexts one after the other, and a context by its parts.
-use Rattle.std.proofs.Common.{◌≡◌, ◌<◌, ◌≤◌, ◌+◌, ◌^◌, ℕ, zero, suc, List, [], ◌∷◌, ◌++◌, length, map, get_or, take, drop, Option, Some, None, refl, sym, ap, subst, ◌∙◌, append_assoc, arith}
-use Rattle.std.proofs.lemmas.List.{append-nil, map-append, length-append, length-map, take_more, take_all}
+use Rattle.std.proofs.Common.{◌≡◌, ◌<◌, ◌+◌, ℕ, List, [], ◌∷◌, ◌++◌, length, map, get_or, take, None, refl, sym, ap, ◌∙◌, append_assoc, arith}
+use Rattle.std.proofs.lemmas.List.{append-nil, length-append, length-map}
 use Rattle.mace_ast.specs.declared.context.ContextDecl.{ContextDecl}
 use Rattle.mace_ast.specs.declared.field.VarDecl.{VarDecl}
 use Rattle.mace_ast.specs.declared.name.Name.{Name}
-use Rattle.mace_ast.specs.Decls.{context_tree, ContextTree, ContextTrees, MethodTree, Context, context_and, contexts_of}
+use Rattle.mace_ast.specs.Decls.{context_tree, ContextTree, ContextTrees, MethodTree, contexts_of}
 use Rattle.resolved_service.specs.declared.service.Method.{Method}
 use Rattle.type_rules.specs.declared.error.TypeError.{TypeError}
 use Rattle.type_rules.specs.declared.known.Known.{Known}
@@ -12,7 +12,7 @@ use Rattle.type_rules.specs.declared.known.Signature.{Signature}
 use Rattle.type_rules.specs.Demands.{Demand, first_wrong, Fails}
 use Rattle.type_rules.specs.Known.{class_count, classes_count, methods_of, methods_in}
 use Rattle.type_rules.specs.Functions.{MethodView}
-use Rattle.type_rules.specs.Services.{name_asks, fields_demands, methods_demands, context_demands, contexts_demands, resolve_methods, resolve_context, resolve_contexts}
+use Rattle.type_rules.specs.Services.{name_asks, fields_demands, methods_demands, context_demands, contexts_demands, resolve_context, resolve_contexts}
 use Rattle.type_rules.specs.Views.{method_view}
 use Rattle.type_rules.proofs.First.{holds_both, fails_front, fails_behind}
 use Rattle.type_laws.proofs.Services.{context_signed, contexts_signed}

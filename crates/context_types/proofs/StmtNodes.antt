@@ -1,5 +1,5 @@
 -- Statements with lists in them, as contracts see them: those of the syntax tree, and those with names resolved.
-use Rattle.std.proofs.Common.{◌≡◌, ℕ, List, [], ◌∷◌, map, rules, refl, ap, subst, sym, Vec, Global, Option, Some, None, Result}
+use Rattle.std.proofs.Common.{◌≡◌, ℕ, map, rules, refl, ap, Vec, Global, Option, Some, None}
 use Rattle.std.specs.Option.{option_map}
 use Rattle.wave_base.specs.declared.span.Span.{Span}
 use Rattle.mace_ast.specs.declared.name.Name.{Name}

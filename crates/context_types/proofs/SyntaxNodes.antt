@@ -1,5 +1,5 @@
 -- Nodes of the syntax tree with boxes and lists in them, as contracts see them.
-use Rattle.std.proofs.Common.{◌≡◌, ℕ, List, map, rules, Vec, Box, Global, sym, ap, subst}
+use Rattle.std.proofs.Common.{◌≡◌, ℕ, List, map, rules, Vec, Box, Global, sym, subst}
 use Rattle.wave_base.specs.declared.span.Span.{Span}
 use Rattle.mace_ast.specs.declared.expr.Expr.{Expr}
 use Rattle.mace_ast.specs.declared.expr.UnaryOp.{UnaryOp}

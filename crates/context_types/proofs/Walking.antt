@@ -1,9 +1,9 @@
 -- Going through a list from its front, from place to place: what is asked on the way, and what is made.
-use Rattle.std.proofs.Common.{◌≡◌, ◌<◌, ◌≤◌, ◌+◌, ℕ, zero, suc, List, [], ◌∷◌, ◌++◌, length, map, get_or, take, drop, Option, Some, None, Result, Ok, Err, refl, sym, ap, subst, ◌∙◌, append_assoc, arith}
+use Rattle.std.proofs.Common.{◌≡◌, ◌<◌, ◌≤◌, ◌+◌, ℕ, zero, suc, List, [], ◌∷◌, ◌++◌, length, map, get_or, take, drop, None, refl, sym, ap, subst, ◌∙◌, append_assoc, arith}
 use Rattle.std.proofs.lemmas.List.{append-nil, map-append, take_more, take_all}
 use Rattle.type_rules.specs.declared.error.TypeError.{TypeError}
 use Rattle.type_rules.specs.Demands.{Demand, first_wrong, Fails}
-use Rattle.type_rules.proofs.First.{first_wrong_behind, holds_both, fails_same, fails_front, fails_behind}
+use Rattle.type_rules.proofs.First.{first_wrong_behind, fails_same, fails_front, fails_behind}
 
 -- the place behind some items
 module _ {H X : Type 0} (next : H → X → H) where

@@ -27,7 +27,8 @@ use Rattle.wave_machine.specs.declared.rules.PickRule.TheVariants as rule
 use Rattle.wave_machine.specs.Kinds.{is_move, kind_of}
 use Rattle.wave_machine.specs.Rules.{number_of, rule_of}
 use Rattle.due_answer.specs.Accepted.{HasCode}
-use Rattle.due_answer.specs.Runs.{IsDriveBy, IsFinishedRun, IsRunBy, IsRunOf, nearest_workers, rule_by}
+use Rattle.wave_machine.specs.Lengths.{DrivesAreMeasured, FinishedRunsAreMeasured}
+use Rattle.due_answer.specs.Runs.{IsDriveBy, IsFinishedRun, IsMeasured, IsRunBy, IsRunOf, nearest_workers, rule_by}
 
 -- ---- the label of a program for each label of the theory
 
@@ -125,3 +126,9 @@ module _ (rules : TheRulesPick) (drives : PlansDrive) (plan : Plan) (fits : Fits
       by_schedule : (o : Option Schedule) → (journal : List Label) × IsRunBy o plan (map label_of journal)
       by_schedule (Some schedule) = (journal_for (drive (rule_by schedule)).labels, subst (IsDriveBy (rule_by schedule) plan) (sym (journal_back (drive (rule_by schedule)).labels)) (drive (rule_by schedule)).is_drive)
       by_schedule None = (journal_for (drive rule.Oldest).labels, subst (IsFinishedRun plan) (sym (journal_back (drive rule.Oldest).labels)) (drive_finished rule.Oldest (drive rule.Oldest).labels (drive rule.Oldest).is_drive))
+
+-- ---- how long runs are
+
+pub run_measured : FinishedRunsAreMeasured → DrivesAreMeasured → (plan : Plan) → Fits plan → FitsStart plan (first_start plan.program.shape) → (labels : List theory.Label) (o : Option Schedule) → IsRunBy o plan labels → IsMeasured plan labels
+run_measured finished drives plan fits begins labels (Some schedule) is = drives plan (first_start plan.program.shape) fits begins (rule_by schedule) labels is
+run_measured finished drives plan fits begins labels None run = finished plan (first_start plan.program.shape) fits begins labels run.state run.reached run.finished

@@ -32,12 +32,13 @@ use Rattle.due_answer.specs.Due.{Only, IsDueFold, IsDueTold, IsDueTrace, reporte
 use Rattle.due_answer.specs.inner.Coded.{IsCoded}
 use Rattle.due_answer.specs.inner.Served.{IsTypedTree}
 use Rattle.due_answer.proofs.DueLemmas.{only_fold}
-use Rattle.due_answer.specs.Runs.{IsRunOf, nearest_workers}
+use Rattle.wave_machine.specs.Lengths.{DrivesAreMeasured, FinishedRunsAreMeasured}
+use Rattle.due_answer.specs.Runs.{IsMeasured, IsRunOf, nearest_workers}
 use Rattle.due_answer.proofs.NameLemmas.{code_typed}
-use Rattle.due_answer.proofs.RunLemmas.{PlansDrive, TheRulesPick, few_nearest, some_nearest, some_run}
+use Rattle.due_answer.proofs.RunLemmas.{PlansDrive, TheRulesPick, few_nearest, run_measured, some_nearest, some_run}
 
 module _ (tree : ServiceTree) (typed : Typed) (program : Program) (script : Script) (t : IsTypedTree tree typed) (coded : IsCoded typed.shape typed.resolved program) (fits : IsScript typed.shape script)
-    (rules : TheRulesPick) (drives : PlansDrive) where
+    (rules : TheRulesPick) (drives : PlansDrive) (finished_measured : FinishedRunsAreMeasured) (drives_measured : DrivesAreMeasured) where
   abbrev work : Work
   work = record { service = typed.resolved; program = program; script = script }
 
@@ -88,6 +89,8 @@ module _ (tree : ServiceTree) (typed : Typed) (program : Program) (script : Scri
     whole = subst (λ s. IsWhole s typed.resolved script) t.shape_is whole;
     journal = journal;
     run = subst (λ (p : Program). IsRunOf crew (record { program = p; script = script; workers = nearest_workers crew.workers }) (map label_of journal)) (coded.is ∙ ap (λ s. scheme_program s typed.resolved) t.shape_is) run;
+    measured = subst (λ (p : Program). IsMeasured (record { program = p; script = script; workers = nearest_workers crew.workers }) (map label_of journal)) (coded.is ∙ ap (λ s. scheme_program s typed.resolved) t.shape_is)
+        (run_measured finished_measured drives_measured (plan_with work (nearest_workers crew.workers)) (plan_fits (nearest_workers crew.workers) (some_nearest crew.workers) (few_nearest crew.workers)) begins (map label_of journal) crew.schedule run);
     due_is =
         ap (λ done. with_text (reported program.shape (Listing places) done) (journal_text program.shape journal)) means
         ∙ ap (λ s. with_text (reported s (Listing places) (results_of s typed.resolved script)) (journal_text s journal)) (same_shape ∙ t.shape_is);

@@ -45,7 +45,8 @@ use Rattle.wave_gen.specs.Load.{load_text}
 use Rattle.wave_gen.specs.Summary.{summary_text}
 use Rattle.due_answer.specs.declared.report.Report.{Report}
 use Rattle.due_answer.specs.declared.report.Report.TheVariants.{Listing, Summary}
-use Rattle.due_answer.specs.Runs.{IsRunOf, nearest_workers}
+use Rattle.plan_actors.specs.Plans.{Plan}
+use Rattle.due_answer.specs.Runs.{IsMeasured, IsRunOf, nearest_workers}
 
 -- ---- answers
 
@@ -136,13 +137,18 @@ pub record IsDueFold (report : Report) (tree : ServiceTree) (script : Script) (d
 abbrev pub with_text : Answer → List ℕ → Answer
 with_text a more = record { status = a.status; note = a.note; text = a.text ++ more }
 
--- of one that is traced: the listing of that fold, and behind it the journal of a run of this crew, by the service's code
+-- the plan of a crew, with the service's code
+abbrev pub plan_for : Crew → Shape → Resolved → Script → Plan
+plan_for crew shape service script = record { program = scheme_program shape service; script = script; workers = nearest_workers crew.workers }
+
+-- of one that is traced: the listing of that fold, and behind it the journal of a run of this crew, which has as many labels as its plan asks for
 pub record IsDueTrace (places : Places) (crew : Crew) (tree : ServiceTree) (script : Script) (due : Answer) : Type 0 where
   pub service : Resolved
   pub resolved : resolved_view service ≡ resolve_service tree
   pub whole : IsWhole (shape_of tree) service script
   pub journal : List Label
-  pub run : IsRunOf crew (record { program = scheme_program (shape_of tree) service; script = script; workers = nearest_workers crew.workers }) (map label_of journal)
+  pub run : IsRunOf crew (plan_for crew (shape_of tree) service script) (map label_of journal)
+  pub measured : IsMeasured (plan_for crew (shape_of tree) service script) (map label_of journal)
   pub due_is : due ≡ with_text (reported (shape_of tree) (Listing places) (results_of (shape_of tree) service script)) (journal_text (shape_of tree) journal)
 
 -- what is told of a script that was read: a report of its fold; or the listing, and the journal of a run of this crew

@@ -12,6 +12,7 @@ use Rattle.plan_actors.specs.PlanActors.{plan_actors}
 use Rattle.plan_actors.specs.Plans.{Plan, begin_in}
 use Rattle.wave_machine.specs.declared.rules.PickRule.{PickRule}
 use Rattle.wave_machine.specs.declared.rules.PickRule.TheVariants.{Seed, Oldest, Newest, Movers, MailLast}
+use Rattle.wave_machine.specs.Lengths as lengths
 use Rattle.wave_machine.specs.Machines.{IsReached, TheState}
 use Rattle.wave_machine.specs.Rules.{number_of, rule_of}
 
@@ -46,3 +47,7 @@ IsRunBy None plan labels = IsFinishedRun plan labels
 -- a crew with a schedule takes what its rule picks, and one without some finished run
 abbrev pub IsRunOf : Crew → Plan → List Label → Type 0
 IsRunOf crew plan labels = IsRunBy crew.schedule plan labels
+
+-- they are as many as the plan's work asks for, and the Passes
+abbrev pub IsMeasured : Plan → List Label → Type 0
+IsMeasured plan labels = lengths.IsMeasured plan (first_start plan.program.shape) labels

@@ -20,6 +20,7 @@ use script_reader::{ScriptError, read_script};
 use service_verify::Verified;
 use std::alloc::Global;
 use wave_base::{OutOfMemory, SCRIPT_BYTES, Script};
+use wave_machine::runs_are_measured;
 use wave_theory::rules_pick;
 
 fn refused_script(alloc: Global, error: &ScriptError) -> Result<Answer, OutOfMemory>
@@ -36,6 +37,7 @@ fn ready(typed: Typed, program: Verified, script: Script) -> Work
 {
     plans_drive();
     rules_pick::<PlanActors>();
+    runs_are_measured();
     let Typed {
         service: _,
         shape: _,

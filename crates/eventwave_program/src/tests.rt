@@ -8,3 +8,4 @@ mod rows;
 mod scripts;
 mod second;
 mod services;
+mod tables;

@@ -19,8 +19,9 @@ use Rattle.listing_out.proofs.SinkLemmas.{written_front}
 use Rattle.script_fold.specs.Runs.{finished_of}
 use Rattle.plan_actors.specs.Calls.{code_ran}
 use Rattle.plan_actors.specs.PlanActors.{plan_actors}
-use Rattle.plan_actors.specs.Plans.{Plan, begin_in}
+use Rattle.plan_actors.specs.Plans.{Plan, Fits, FitsStart, begin_in}
 use Rattle.wave_machine.specs.declared.plan.Plan as declared_plan
+use Rattle.wave_machine.specs.Lengths.{FinishedRunsAreMeasured}
 use Rattle.wave_machine.specs.Machines.{IsReached, TheState}
 use Rattle.wave_machine.specs.Plans.{plan_of}
 use Rattle.wave_board.specs.declared.board.Board.{Board}
@@ -70,12 +71,14 @@ module _ (o : Origin) (b : Board) (s : TheState) (at : IsAt b o s) (seen : List 
   is_finished = subst (λ (p : Plan). Finished (plan_actors p.program) p.workers s) (sym at.plan) done
 
   -- and its parts are those of a run
-  pub is_run : (r : declared_finished.Finished × List declared_label.Label) → r.1 ≡ b.journal.items
+  pub is_run : FinishedRunsAreMeasured → (r : declared_finished.Finished × List declared_label.Label) → r.1 ≡ b.journal.items
       → ((o : Origin) (s : TheState) → IsAt b o s → r.0 ≡ finished_of (code_ran o.plan.now.program) o.plan.now.program.shape o.start.now o.plan.now.script) → IsRun o.plan.now o.start.now r
-  is_run r journal told = (
-    told o s at,
-    record { state = s; reached = subst (λ js. IsReached plan o.start.now (map label_of js) s) (sym journal) reached; finished = done },
-  )
+  is_run measured r journal told =
+      let run : IsReached plan o.start.now (map label_of r.1) s = subst (λ js. IsReached plan o.start.now (map label_of js) s) (sym journal) reached in (
+        told o s at,
+        record { state = s; reached = run; finished = done },
+        measured plan o.start.now (subst Fits at.plan at.fits) (subst (λ (p : Plan). FitsStart p o.start.now) at.plan at.begins) (map label_of r.1) s run done,
+      )
 
 -- a board that stands for the origin may be taken apart
 pub can_part : (o : Origin) (b : Board) (seen : List Trail) → StandsFor b o → IsFinishedRun o.plan.now o.start.now (labels_in seen) → StartsWith (history_of b) seen → (o : Origin) × (s : TheState) × IsAt b o s × IsFinished b s

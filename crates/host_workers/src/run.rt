@@ -24,10 +24,11 @@ use wave_base::{Finished, OutOfMemory, Seq, Start, Ticket, Worker};
 use wave_board::{Board, Origin};
 use wave_io::{Gate, Sink};
 use wave_labels::Label;
-use wave_machine::Plan;
+use wave_machine::{Plan, runs_are_measured};
 
 /// Runs a plan from a Start by its workers, each in a thread of its own where one can be made. It gives what the script gives, and the journal of
-/// the labels that the workers took. The lines of the events are written while the workers run; those behind them are left to the caller.
+/// the labels that the workers took: as many as the plan's work asks for, and the Passes. The lines of the events are written while the workers
+/// run; those behind them are left to the caller.
 pub fn run_plan_at<R: Threads + Wait + Sync, G: Gate + Sync, K: Sink + Send>(
     rt: &R,
     alloc: Global,
@@ -124,6 +125,7 @@ fn parts_of<'p, R: Wait>(
     requires finished { IsFinishedRun (name_of lock).plan.now (name_of lock).start.now (labels_in (known first).seen) }
     ensures { IfOk result (λ r. IsRun (name_of lock.entry).plan.now (name_of lock.entry).start.now r) }
 {
+    runs_are_measured();
     match lock.close(rt, first).into_parts() {
         Ok(parts) => Ok(parts),
         Err(_) => Err(OutOfMemory),

@@ -3,7 +3,7 @@ use Rattle.std.proofs.Common.{◌≡◌, ℕ, List, ◌∷◌, Some, refl, ap, �
 use Rattle.wave_base.specs.declared.shape.Shape.{Shape}
 use Rattle.wave_labels.specs.declared.label.Act.{Act}
 use Rattle.wave_labels.specs.declared.label.Act.TheVariants as act
-use Rattle.path_text.specs.inner.Fronts.{HasNone}
+use Rattle.wave_text.specs.Splits.{HasNone}
 use Rattle.journal_text.specs.declared.verb.Verb.{Verb}
 use Rattle.journal_text.specs.declared.verb.Verb.TheVariants.{Admit, Queue, Grant, Visit, Start, Stop, Free, Pass, Land, Commit}
 use Rattle.journal_text.specs.LabelTexts.{spaced, act_words}

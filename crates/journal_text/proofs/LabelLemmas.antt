@@ -4,7 +4,7 @@ use Rattle.std.specs.Fmt.{decimal}
 use Rattle.wave_base.specs.declared.shape.Shape.{Shape}
 use Rattle.wave_labels.specs.declared.label.Act.{Act}
 use Rattle.wave_labels.specs.declared.label.Label.{Label}
-use Rattle.path_text.specs.inner.Fronts.{HasNone}
+use Rattle.wave_text.specs.Splits.{HasNone}
 use Rattle.journal_text.specs.Fits.{IsLabel}
 use Rattle.journal_text.specs.LabelTexts.{spaced, act_words, line_text}
 use Rattle.journal_text.specs.inner.Parts.{IsWordOf}

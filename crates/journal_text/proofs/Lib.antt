@@ -1,5 +1,4 @@
 pub mod ActLemmas
-pub mod CountLemmas
 pub mod HeadLemmas
 pub mod LabelLemmas
 pub mod LineLemmas

@@ -9,8 +9,8 @@ use Rattle.wave_base.specs.Names.{HasNames}
 use Rattle.wave_labels.specs.declared.label.Act.{Act}
 use Rattle.wave_labels.specs.declared.label.Act.TheVariants as act
 use Rattle.wave_labels.specs.declared.label.Label.{Label}
-use Rattle.path_text.specs.inner.Fronts.{is_other, HasNone, IsSplit}
-use Rattle.path_text.proofs.FrontLemmas.{one_split, nowhere}
+use Rattle.wave_text.specs.Splits.{is_other, HasNone, IsSplit}
+use Rattle.wave_text.proofs.SplitLemmas.{none-append, one_split, nowhere}
 use Rattle.journal_text.specs.Fits.{HasPath, HasNumbers, IsLabel}
 use Rattle.journal_text.specs.LabelTexts.{spaced, act_words, label_words, line_text}
 use Rattle.journal_text.specs.Verdicts.{HasNoLine}
@@ -22,15 +22,6 @@ use Rattle.journal_text.proofs.SolidLemmas.{IsSolid, solid-append, solid_has_non
 abbrev AreSolid : List (List ℕ) → Type 0
 AreSolid [] = Unit {0}
 AreSolid (w ∷ ws) = IsSolid w × AreSolid ws
-
-pub none-append : (b : ℕ) (xs ys : List ℕ) → HasNone b xs → HasNone b ys → HasNone b (xs ++ ys)
-none-append b xs ys h k = all-append xs ys h k
-  where
-    all-append : (us vs : List ℕ) → HasNone b us → HasNone b vs → HasNone b (us ++ vs)
-    all-append [] vs p q = q
-    all-append (u ∷ us) vs p q =
-        let t = and_parts (is_other b u) (list_all (is_other b) us) p in
-        (λ i. t.0 i && list_all (is_other b) (us ++ vs)) ∙ all-append us vs t.1 q
 
 spaced_has_none : (ws : List (List ℕ)) → AreSolid ws → HasNone 10 (spaced ws)
 spaced_has_none [] h = refl

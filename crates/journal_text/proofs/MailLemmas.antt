@@ -5,7 +5,7 @@ use Rattle.wave_base.specs.declared.numbers.Ticket.{Ticket}
 use Rattle.wave_labels.specs.declared.label.MailId.{MailId}
 use Rattle.journal_text.specs.Fits.{IsMail}
 use Rattle.journal_text.specs.LabelTexts.{ticket_text, mail_text}
-use Rattle.journal_text.specs.Splits.{ArePartsAt}
+use Rattle.wave_text.specs.Splits.{ArePartsAt}
 use Rattle.journal_text.specs.inner.Parts.{IsNumberOf, IsTicketOf}
 use Rattle.journal_text.proofs.SolidLemmas.{ticket_no_dot}
 

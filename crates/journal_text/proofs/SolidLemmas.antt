@@ -16,7 +16,7 @@ use Rattle.wave_labels.specs.declared.label.MailId.{MailId}
 use Rattle.wave_text.specs.Words.{is_whole}
 use Rattle.wave_text.proofs.NumberLemmas.{own}
 use Rattle.path_text.specs.declared.written.Written.{Written}
-use Rattle.path_text.specs.inner.Fronts.{is_other, HasNone}
+use Rattle.wave_text.specs.Splits.{is_other, HasNone}
 use Rattle.path_text.specs.PathTexts.{path_text}
 use Rattle.path_text.specs.Steps.{is_key, is_step, step_text, steps_text, written_text}
 use Rattle.path_text.proofs.Again.{path_again}

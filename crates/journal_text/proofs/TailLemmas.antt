@@ -4,7 +4,7 @@ use Rattle.std.proofs.lemmas.List.Elements.{All-nil, All-cons, All-head, All-tai
 use Rattle.wave_base.specs.declared.shape.Shape.{Shape}
 use Rattle.wave_base.specs.Names.{HasNames}
 use Rattle.wave_labels.specs.declared.label.Label.{Label}
-use Rattle.path_text.specs.inner.Fronts.{IsSplit}
+use Rattle.wave_text.specs.Splits.{IsSplit}
 use Rattle.journal_text.specs.Fits.{IsLabel}
 use Rattle.journal_text.specs.JournalTexts.{labels_text}
 use Rattle.journal_text.specs.LabelTexts.{line_text}

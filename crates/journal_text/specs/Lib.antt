@@ -1,6 +1,5 @@
 pub mod Fits
 pub mod JournalTexts
 pub mod LabelTexts
-pub mod Splits
 pub mod Verdicts
 pub mod inner

@@ -5,7 +5,8 @@ use Rattle.wave_labels.specs.declared.label.Label.{Label}
 use Rattle.journal_text.specs.declared.error.JournalError.{JournalError}
 use Rattle.journal_text.specs.declared.error.JournalError.TheVariants.{Syntax, OutOfMemory}
 use Rattle.journal_text.specs.Fits.{IsLabel}
-use Rattle.journal_text.specs.JournalTexts.{IsJournalText, head_text, labels_text, line_count}
+use Rattle.wave_text.specs.Counted.{line_count}
+use Rattle.journal_text.specs.JournalTexts.{IsJournalText, head_text, labels_text}
 use Rattle.journal_text.specs.LabelTexts.{line_text}
 
 -- no line of a label with this number begins the text

@@ -2,7 +2,6 @@
 #![tactic(auto)]
 
 mod error;
-mod head;
 mod label;
 mod line;
 mod number;
@@ -16,8 +15,6 @@ mod word;
 mod write;
 
 pub use error::JournalError;
-pub use head::line_count;
 pub use put::put_label;
 pub use read::read_journal;
-pub use word::{parts_at, split_at};
 pub use write::write_journal;

@@ -1,8 +1,8 @@
 ghost use Rattle.journal_text.specs.inner.Parts.{IsNumberOf, IsMarkedOf, IsTicketOf, IsMailOf};
 
-use crate::word::parts_at;
 use wave_base::Ticket;
 use wave_labels::MailId;
+use wave_text::parts_at;
 
 // The number that a text is written for.
 fn number_of(text: &[u8]) -> Option<u32>

@@ -1,35 +1,16 @@
-ghost use Rattle.std.specs.Prelude.{◌≡◌, ◌≤◌, ◌∷◌, ◌++◌, [], length, OnOk, IfOk, IfSome, IfNone};
+ghost use Rattle.std.specs.Prelude.{◌≡◌, ◌≤◌, ◌∷◌, ◌++◌, [], length, OnOk};
 ghost use Rattle.wave_base.specs.declared.limits.TheConstants.{PLACED_BYTES};
 ghost use Rattle.wave_base.specs.Names.{HasNames};
 ghost use Rattle.wave_base.specs.Shapes.{IsShape};
-ghost use Rattle.journal_text.specs.Verdicts.{HasNoHead, IsOnlyVerdict};
-ghost use Rattle.journal_text.specs.inner.Lines.{IsBehindHead};
+ghost use Rattle.journal_text.specs.Verdicts.{IsOnlyVerdict};
 ghost use Rattle.journal_text.specs.inner.Tails.{AreRead};
 
 use crate::error::JournalError;
-use crate::head::{line_count, put_head};
 use crate::line::read_line;
-use crate::word::split_at;
 use std::alloc::Global;
 use wave_base::{OutOfMemory, Seq, Shape};
 use wave_labels::Label;
-
-// What stands behind the head, where the text begins with one that tells the number of lines behind it.
-fn behind_head(alloc: Global, text: &[u8]) -> Result<Option<&[u8]>, OutOfMemory>
-    ensures some { IfOk result (λ o. IfSome o (λ rest. IsBehindHead text.now rest.now)) }
-    ensures none { IfOk result (λ o. IfNone o (HasNoHead text.now)) }
-{
-    let Some((head, rest)) = split_at(text, b'\n') else {
-        return Ok(None);
-    };
-    let mut written = Vec::new(alloc);
-    put_head(alloc, &mut written, line_count(rest) as u64)?;
-    if written.as_slice() == head {
-        Ok(Some(rest))
-    } else {
-        Ok(None)
-    }
-}
+use wave_text::{behind_head, split_at};
 
 // Appends a label.
 fn add(labels: &mut Seq<Label>, label: Label) -> Result<(), OutOfMemory>
@@ -74,7 +55,7 @@ pub fn read_journal(alloc: Global, shape: &Shape, text: &[u8]) -> Result<Seq<Lab
     requires short { length text.now ≤ PLACED_BYTES }
     ensures { IsOnlyVerdict shape.now text.now result }
 {
-    let Some(tail) = behind_head(alloc, text)? else {
+    let Some(tail) = behind_head(alloc, b"journal ", text)? else {
         return Err(JournalError::Syntax { line: 1 });
     };
     read_labels(alloc, shape, tail)

@@ -3,11 +3,11 @@ ghost use Rattle.wave_labels.specs.declared.label.Label.{Label};
 ghost use Rattle.journal_text.specs.Fits.{HasPath};
 ghost use Rattle.journal_text.specs.JournalTexts.{IsJournalText};
 
-use crate::head::put_head;
 use crate::put::put_line;
 use std::alloc::Global;
 use wave_base::{OutOfMemory, Seq, Shape};
 use wave_labels::Label;
+use wave_text::put_head;
 
 /// The text of a journal, which `read_journal` reads back.
 pub fn write_journal(
@@ -20,7 +20,7 @@ pub fn write_journal(
 {
     let labels = journal.as_slice();
     let mut out = Vec::new(alloc);
-    put_head(alloc, &mut out, labels.len() as u64)?;
+    put_head(alloc, &mut out, b"journal ", labels.len() as u64)?;
     out.push(b'\n')?;
     for (i, label) in labels.iter().enumerate() {
         put_line(alloc, &mut out, shape, i as u64 + 1, label)?;

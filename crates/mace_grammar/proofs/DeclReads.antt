@@ -6,8 +6,8 @@ use Rattle.mace_lexer.specs.declared.keyword.Keyword.{Keyword}
 use Rattle.mace_lexer.specs.declared.keyword.Keyword.TheVariants as k
 use Rattle.mace_lexer.specs.declared.sign.Sign.TheVariants as s
 use Rattle.mace_ast.specs.declared.name.Name.{Name}
-use Rattle.mace_ast.specs.Decls.{ServiceTree, ContextTree, Context, contexts_of}
-use Rattle.mace_grammar.specs.Part.{Part, pure, ◌>>=◌, ◌>>◌, many, maybe}
+use Rattle.mace_ast.specs.Decls.{ContextTree, Context, contexts_of}
+use Rattle.mace_grammar.specs.Part.{Part, ◌>>◌, many, maybe}
 use Rattle.mace_grammar.specs.inner.Run.{Reader}
 use Rattle.mace_grammar.specs.inner.Classes.{name_class, number_class}
 use Rattle.mace_grammar.specs.inner.Classes as classes

@@ -24,7 +24,6 @@ use Rattle.mace_ast.specs.Stmts.{StmtTree, stmts_of, stmt_and, else_of, bare_stm
 use Rattle.mace_ast.specs.Decls.{ContextTree, Context, contexts_of, context_and, bare_var, bare_param, bare_last, bare_method, bare_phase, bare_event, bare_context, bare_contexts, bare_service}
 use Rattle.mace_grammar.specs.inner.Run.{Reader, word as token}
 use Rattle.mace_grammar.specs.inner.Classes.{name_class, number_class, leave_class, finish_class}
-use Rattle.mace_grammar.specs.inner.Classes as classes
 use Rattle.mace_grammar.specs.Words as w
 use Rattle.mace_grammar.specs.Words.{Version, first, numbered}
 use Rattle.mace_grammar.specs.Grammar as g

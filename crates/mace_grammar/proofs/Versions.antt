@@ -1,5 +1,5 @@
 -- What is asked of a version, and that each numbered one has it.
-use Rattle.std.proofs.Common.{◌≡◌, ℕ, List, Bool, true, false, ◌&&◌, not, refl, ap}
+use Rattle.std.proofs.Common.{◌≡◌, ℕ, List, Bool, true, false, ◌&&◌, not, ap}
 use Rattle.std.specs.Prelude.{◌==◌, if◌then◌else◌}
 use Rattle.mace_grammar.specs.Words.{Version, first, second, numbered, is_finish}
 

@@ -1,6 +1,6 @@
 -- Which trees a version has words for: in version 1 those without `return` and `finish` as statements, and in version 2 those
 -- without a name that is `finish`, and without a `return` at the end of a method that is no statement.
-use Rattle.std.specs.Prelude.{◌≡◌, ℕ, ◌⊎◌, List, [], ◌∷◌, Bool, true, false, Option, Some, None}
+use Rattle.std.specs.Prelude.{◌≡◌, ℕ, ◌⊎◌, List, [], ◌∷◌, true, false, Option, Some, None}
 use Rattle.mace_ast.specs.declared.field.VarDecl.{VarDecl}
 use Rattle.mace_ast.specs.declared.method.Param.{Param}
 use Rattle.mace_ast.specs.declared.stmt.Target.{Target}

@@ -1,5 +1,5 @@
 -- What tokens spell fits its version.
-use Rattle.std.proofs.Common.{◌≡◌, ℕ, ◌+◌, ◌⊎◌, inl, inr, true, false, List, [], ◌∷◌, ◌++◌, fold, Option, Some, None, pos, refl, sym, subst}
+use Rattle.std.proofs.Common.{◌≡◌, ℕ, ◌⊎◌, inl, inr, true, false, List, [], ◌∷◌, fold, Option, Some, None, pos, refl, sym, subst}
 use Rattle.std.specs.Prelude.{unwrap_or}
 use Rattle.std.specs.Ordering.{int_eq}
 use Rattle.wave_base.specs.declared.span.Span.{Span}
@@ -19,7 +19,7 @@ use Rattle.mace_grammar.specs.Part.{Part, pure}
 use Rattle.mace_grammar.specs.Words as w
 use Rattle.mace_grammar.specs.Words.{Version, first, numbered}
 use Rattle.mace_grammar.specs.Grammar as g
-use Rattle.mace_grammar.specs.Fits.{Each, IfThere, IsName, ExprFits, ExprsFit, TargetFits, EndFits, StmtFits, StmtsFit, ElseFits, VarFits, ParamFits, LastFits, MethodFits, PhaseFits, EventFits, ContextFits, ContextsFit, MembersFit, ServiceFits}
+use Rattle.mace_grammar.specs.Fits.{Each, IfThere, ExprFits, ExprsFit, TargetFits, StmtFits, StmtsFit, ElseFits, VarFits, ParamFits, LastFits, MethodFits, PhaseFits, EventFits, ContextFits, ContextsFit, ServiceFits}
 use Rattle.mace_printer.specs.Written.{IsParsed}
 use Rattle.mace_printer.proofs.Holds.{Holds, any, pure_holds, word_holds, then_holds, or_holds, many_holds, maybe_holds, deep_holds, Own, guarded, own_name, own_field, leave_early, finish_holds, end_late, in_parens_hold, cuts_good}
 

@@ -1,4 +1,4 @@
--- Where a byte first stands, and the step at the front of a text.
+-- The step at the front of a text.
 use Rattle.std.proofs.Common.{◌≡◌, ◌+◌, ◌-◌, ◌<◌, ◌≤◌, ℕ, suc, Bool, true, false, cond, List, [], ◌∷◌, ◌++◌, length, take, drop, refl, sym, ap, subst, ◌∙◌, append_assoc, length-drop, arith}
 use Rattle.std.specs.Prelude.{◌==◌, ◌&&◌, ◌||◌, nat_le}
 use Rattle.std.specs.Char.{is_ascii_digit}
@@ -8,76 +8,11 @@ use Rattle.std.proofs.lemmas.Bool.Decides.{nat_tests}
 use Rattle.std.proofs.lemmas.List.{take_all}
 use Rattle.wave_base.specs.Names.{is_digits, is_name_start, is_name_byte, is_word}
 use Rattle.wave_text.specs.Words.{is_whole, without_minus}
+use Rattle.wave_text.proofs.SplitLemmas.{one_split, nowhere}
 use Rattle.path_text.specs.declared.written.Written.{Written}
-use Rattle.path_text.specs.inner.Fronts.{is_other, HasNone, IsSplit, AreParts, IsFront, IsOnlyFront, HasNoFront}
+use Rattle.wave_text.specs.Splits.{is_other, HasNone, IsSplit}
+use Rattle.path_text.specs.inner.Fronts.{AreParts, IsFront, IsOnlyFront, HasNoFront}
 use Rattle.path_text.specs.Steps.{is_key, is_step, step_text}
-
--- ---- where a byte first stands
-
-module _ {A : Type 0} (p : A → Bool) where
-  pub all_pass : (xs : List A) → prefix_len p xs ≡ length xs → list_all p xs ≡ true
-  all_pass [] e = refl
-  all_pass (x ∷ xs) e =
-      elim (p x) as (λ t. cond t (1 + prefix_len p xs) 0 ≡ length (x ∷ xs) → (t && list_all p xs) ≡ true) [
-        | true ↦ λ k. all_pass xs (omega arith)
-        | false ↦ λ k. absurd (omega arith)
-      ] e
-
-  pub front_passes : (xs : List A) → list_all p (take (prefix_len p xs) xs) ≡ true
-  front_passes [] = refl
-  front_passes (x ∷ xs) =
-      elim (p x) as (λ t. p x ≡ t → list_all p (take (cond t (1 + prefix_len p xs) 0) (x ∷ xs)) ≡ true) [
-        | true ↦ λ e. (let n : 1 + prefix_len p xs ≡ suc (prefix_len p xs) = omega arith in rw n ((λ i. e i && list_all p (take (prefix_len p xs) xs)) ∙ front_passes xs))
-        | false ↦ λ e. refl
-      ] refl
-
-is_that : (b c : ℕ) → is_other b c ≡ false → c ≡ b
-is_that b c h = grind (arith, nat_tests)
-
-stands_there : (b : ℕ) (xs : List ℕ) → prefix_len (is_other b) xs < length xs → xs ≡ take (prefix_len (is_other b) xs) xs ++ b ∷ drop (suc (prefix_len (is_other b) xs)) xs
-stands_there b [] h = absurd (omega arith)
-stands_there b (x ∷ xs) h =
-    elim (is_other b x) as (λ t. is_other b x ≡ t → cond t (1 + prefix_len (is_other b) xs) 0 < length (x ∷ xs)
-    → x ∷ xs ≡ take (cond t (1 + prefix_len (is_other b) xs) 0) (x ∷ xs) ++ b ∷ drop (suc (cond t (1 + prefix_len (is_other b) xs) 0)) (x ∷ xs)) [
-      | true ↦ λ e k. (let n : 1 + prefix_len (is_other b) xs ≡ suc (prefix_len (is_other b) xs) = omega arith in rw n (ap (λ r. x ∷ r) (stands_there b xs (omega arith))))
-      | false ↦ λ e k. ap (λ y. y ∷ xs) (is_that b x e)
-    ] refl h
-
-pub is_split : (b n : ℕ) (text : List ℕ) → n ≡ prefix_len (is_other b) text → (n ≡ length text → ⊥) → n ≤ length text → IsSplit b text (take n text) (take (length text - (n + 1)) (drop (n + 1) text))
-is_split b n text e some within =
-    let short : prefix_len (is_other b) text < length text = omega arith in
-    let next : n + 1 ≡ suc n = omega arith in
-    let rest : take (length text - (n + 1)) (drop (n + 1) text) ≡ drop (suc n) text =
-    take_all (length text - (n + 1)) (drop (n + 1) text) (omega (arith, length-drop (n + 1) text)) ∙ ap (λ k. drop k text) next in
-    record {
-      spelled = stands_there b text short ∙ (λ i. take (sym e i) text ++ b ∷ drop (suc (sym e i)) text) ∙ ap (λ r. take n text ++ b ∷ r) (sym rest);
-      first = subst (λ k. HasNone b (take k text)) (sym e) (front_passes (is_other b) text);
-    }
-
-pub is_nowhere : (b n : ℕ) (text : List ℕ) → n ≡ prefix_len (is_other b) text → n ≡ length text → HasNone b text
-is_nowhere b n text e all = all_pass (is_other b) text (sym e ∙ all)
-
--- ---- only one front stands before the first such byte
-
-not_other : (b : ℕ) (bs : List ℕ) → HasNone b (b ∷ bs) → ⊥
-not_other b bs h = grind (arith, nat_tests)
-
-others : (b c : ℕ) (bs : List ℕ) → HasNone b (c ∷ bs) → HasNone b bs
-others b c bs h = grind (arith, nat_tests)
-
-pub one_split : (b : ℕ) (xs ys us vs : List ℕ) → HasNone b xs → HasNone b us → xs ++ b ∷ ys ≡ us ++ b ∷ vs → (xs ≡ us) × (ys ≡ vs)
-one_split b [] ys [] vs p q e = (refl, cc)
-one_split b [] ys (u ∷ us) vs p q e = (let same : u ≡ b = cc in absurd (not_other b us (subst (λ c. HasNone b (c ∷ us)) same q)))
-one_split b (x ∷ xs) ys [] vs p q e = (let same : x ≡ b = cc in absurd (not_other b xs (subst (λ c. HasNone b (c ∷ xs)) same p)))
-one_split b (x ∷ xs) ys (u ∷ us) vs p q e =
-    let same : x ≡ u = cc in
-    let rest : xs ++ b ∷ ys ≡ us ++ b ∷ vs = cc in
-    let r = one_split b xs ys us vs (others b x xs p) (others b u us q) rest in
-    ((λ i. same i ∷ r.0 i), r.1)
-
-pub nowhere : (b : ℕ) (xs ys : List ℕ) → HasNone b (xs ++ b ∷ ys) → ⊥
-nowhere b [] ys h = not_other b ys h
-nowhere b (x ∷ xs) ys h = nowhere b xs ys (others b x (xs ++ b ∷ ys) h)
 
 -- ---- a step at the front
 

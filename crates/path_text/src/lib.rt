@@ -1,6 +1,7 @@
 //! Paths and contexts as texts: `/` or `/Class[key]..`, and `at path field=value ..`.
 #![tactic(auto)]
 
+mod fields;
 mod parse;
 mod put;
 mod resolve;
@@ -8,6 +9,7 @@ mod resolve;
 mod tests;
 mod written;
 
+pub use fields::fields_at;
 pub use parse::{PathError, parse_path};
 pub use put::{put_path, put_shot, write_path};
 pub use resolve::resolve_steps;

@@ -1,14 +1,15 @@
 ghost use Rattle.std.specs.Prelude.{◌≡◌, ◌≤◌, ◌++◌, true, length, All, IfOk, OnOk, FitsSigned};
 ghost use Rattle.std.specs.Int.{w64};
 ghost use Rattle.wave_base.specs.Names.{HasNames};
-ghost use Rattle.wave_base.specs.Shapes.{IsShape, is_path, class_of, declared_fields};
+ghost use Rattle.wave_base.specs.Shapes.{IsShape, is_path};
 ghost use Rattle.wave_base.specs.declared.path.Step.{Step};
 ghost use Rattle.path_text.specs.PathTexts.{written_step, path_text, IsPathText};
 ghost use Rattle.path_text.specs.ShotTexts.{field_text, fields_text, shot_text};
 ghost use Rattle.path_text.specs.Steps.{step_text};
 
+use crate::fields::fields_at;
 use std::alloc::Global;
-use wave_base::{CLASS_DEPTH, Class, FieldInfo, OutOfMemory, Path, Seq, Shape, Shot, Step, Value};
+use wave_base::{CLASS_DEPTH, FieldInfo, OutOfMemory, Path, Seq, Shape, Shot, Step, Value};
 use wave_text::{put_bytes, put_value, put_whole};
 
 // Appends one step of a path.
@@ -93,25 +94,6 @@ fn put_fields(
     Ok(())
 }
 
-// The class of the context at a path.
-fn class_of(path: &Path) -> Class
-    ensures { result.0 ≡ class_of path.now }
-{
-    match path.as_slice().last() {
-        Some(step) => step.class,
-        None => Class(0),
-    }
-}
-
-fn declared_fields(shape: &Shape, class: Class) -> &[FieldInfo]
-    ensures { result.now ≡ declared_fields shape.now class.0 }
-{
-    match shape.classes.as_slice().get(usize::from(class.0)) {
-        Some(info) => info.fields.as_slice(),
-        None => &[],
-    }
-}
-
 /// Appends a context with its fields.
 pub fn put_shot(
     alloc: Global,
@@ -123,6 +105,6 @@ pub fn put_shot(
 {
     put_bytes(out, b"at ")?;
     put_path(alloc, out, shape, &shot.path)?;
-    let fields = declared_fields(shape, class_of(&shot.path));
+    let fields = fields_at(shape, &shot.path);
     put_fields(alloc, out, fields, shot.fields.as_slice())
 }

@@ -1,12 +1,11 @@
-ghost use Rattle.std.specs.Prelude.{◌≡◌, ◌≤◌, ◌∷◌, ◌&&◌, [], ℕ, List, length, IsTrue, ◌↔◌, IfOk, IfSome, IfNone};
-ghost use Rattle.std.specs.List.{prefix_len};
+ghost use Rattle.std.specs.Prelude.{◌≡◌, ◌∷◌, ◌&&◌, [], ℕ, List, IsTrue, ◌↔◌, IfOk, IfSome, IfNone};
 ghost use Rattle.wave_base.specs.Names.{is_word};
 ghost use Rattle.path_text.specs.Steps.{is_key, HasSteps, HasOnlySteps, HasNoSteps};
-ghost use Rattle.path_text.specs.inner.Fronts.{is_other, HasNone, IsSplit, AreParts, IsOnlyFront, HasNoFront};
+ghost use Rattle.path_text.specs.inner.Fronts.{AreParts, IsOnlyFront, HasNoFront};
 
 use std::alloc::Global;
 use wave_base::{OutOfMemory, Seq};
-use wave_text::{is_whole, is_word};
+use wave_text::{is_whole, is_word, split_at};
 
 /// A step of a path as it is written: its class's name and its key.
 #[derive(PartialEq, Eq, Debug, Drop)]
@@ -23,26 +22,6 @@ fn is_key(text: &[u8]) -> bool
         [b'-', digits @ ..] => is_whole(text) && digits.len() <= 19,
         _ => is_whole(text) && text.len() <= 19,
     }
-}
-
-// The number of bytes before the first one like this.
-fn count_before(text: &[u8], end: u8) -> usize
-    ensures count { result ≡ prefix_len (is_other end) text.now }
-    ensures within { result ≤ length text.now }
-{
-    text.iter().take_while(|b| **b != end).count()
-}
-
-// The bytes before the first one like this, and those behind it.
-fn split_at(text: &[u8], end: u8) -> Option<(&[u8], &[u8])>
-    ensures some { IfSome result (λ x. IsSplit end text.now x.0.now x.1.now) }
-    ensures none { IfNone result (HasNone end text.now) }
-{
-    let n = count_before(text, end);
-    if n == text.len() {
-        return None;
-    }
-    Some((&text[..n], &text[n + 1..]))
 }
 
 fn behind_slash(text: &[u8]) -> Option<&[u8]>

@@ -17,7 +17,10 @@ use Rattle.std.specs.Prelude.{count_by}
 use Rattle.script_reader.specs.Judged.{is_event, hosts_of, event_lines}
 use Rattle.script_reader.specs.inner.Progressed.{progress_of, with_taken}
 use Rattle.script_reader.specs.Scripts.{closed_batches, open_batch, judged, IsOnlySaid, judged_after, Goes, IsRead, IsScriptOf, IsAnswer, script_of, refused}
-use Rattle.script_reader.specs.inner.Steps.{IsStep, IsRefused, IsStop}
+use Rattle.script_reader.specs.declared.refusal.Refusal.{Refusal}
+use Rattle.script_reader.specs.declared.refusal.Refusal.TheVariants as refusal
+use Rattle.script_reader.specs.inner.Gives.{Gives}
+use Rattle.script_reader.specs.inner.Steps.{IsStep, IsRefused, IsStop, stopped}
 
 -- these lines were read, the last one first, and these ones are left
 pub record AreReadTo (shape : Shape) (earlier : Earlier) (lines : List (List ℕ)) (before : List Taken) (left : List (List ℕ)) : Type 0 where
@@ -75,6 +78,10 @@ refused_stop shape line before n s fault.BadPath o e = record { said = s; fault 
 refused_stop shape line before n s fault.HostRange o e = record { said = s; fault = fault.HostRange; says = o; judged_is = e; error_is = refl }
 refused_stop shape line before n s fault.HostsLate o e = record { said = s; fault = fault.HostsLate; says = o; judged_is = e; error_is = refl }
 refused_stop shape line before n s fault.TooMany o e = record { said = s; fault = fault.TooMany; says = o; judged_is = e; error_is = refl }
+
+pub stopped_stop : (shape : Shape) (line : List ℕ) (before : Progress) (n : ℕ) (s : Said) (r : Refusal) → IsOnlySaid line s → Gives (Err r) (judged shape before.hosts before.begun before.events s) → IsStop shape line before n (stopped r n)
+stopped_stop shape line before n s (refusal.Fault f) o e = refused_stop shape line before n s f o e
+stopped_stop shape line before n s refusal.OutOfMemory o e = tt
 
 -- ---- the reader's state is that of the lines so far
 

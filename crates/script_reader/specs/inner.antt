@@ -1,4 +1,5 @@
 pub mod Behind
+pub mod Gives
 pub mod Parts
 pub mod Progressed
 pub mod Steps

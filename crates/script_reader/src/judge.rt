@@ -6,8 +6,9 @@ ghost use Rattle.wave_text.specs.Numbers.{number_of};
 ghost use Rattle.path_text.specs.Paths.{path_of};
 ghost use Rattle.path_text.specs.Steps.{is_step};
 ghost use Rattle.script_reader.specs.Forms.{is_literal, is_form};
-ghost use Rattle.script_reader.specs.Judged.{has_name, value_of, values_of, call_of, params_in, requested, move_to, as_event, judged_hosts, judged_form};
+ghost use Rattle.script_reader.specs.Judged.{has_name, value_of, values_of, call_of, params_in, requested, move_to, judged_hosts, judged_form};
 ghost use Rattle.script_reader.specs.Scripts.{IsWellFormed, judged};
+ghost use Rattle.script_reader.specs.inner.Gives.{Gives};
 ghost use Rattle.script_reader.specs.declared.form.Literal.TheVariants as literal;
 ghost use Rattle.wave_base.specs.declared.value.Kind.TheVariants as kind;
 
@@ -15,6 +16,7 @@ use crate::error::Fault;
 use crate::form::{Form, Literal};
 use crate::progress::Progress;
 use crate::quote::Quote;
+use crate::refusal::Refusal;
 use crate::said::Said;
 use crate::taken::Taken;
 use path_text::{Written, resolve_steps};
@@ -83,20 +85,20 @@ fn call_of(
     event: u16,
     params: &[Kind],
     args: &[Literal],
-) -> Result<Result<Line, Fault>, OutOfMemory>
+) -> Result<Line, Refusal>
     requires { list_all is_literal args.now ≡ true }
-    ensures { IfOk result (λ r. r ≡ call_of event params.now args.now) }
+    ensures { Gives result (call_of event params.now args.now) }
 {
     if args.len() != params.len() {
-        return Ok(Err(Fault::ArgCount));
+        return Err(Refusal::Fault(Fault::ArgCount));
     }
     match values_of(alloc, params, args)? {
-        Some(args) => Ok(Ok(Line::Request(Call {
+        Some(args) => Ok(Line::Request(Call {
             event,
             args,
             generation: 0,
-        }))),
-        None => Ok(Err(Fault::ArgType)),
+        })),
+        None => Err(Refusal::Fault(Fault::ArgType)),
     }
 }
 
@@ -129,14 +131,14 @@ fn requested(
     shape: &Shape,
     name: &[u8],
     args: &[Literal],
-) -> Result<Result<Line, Fault>, OutOfMemory>
+) -> Result<Line, Refusal>
     requires shape { IsShape shape.now }
     requires form { list_all is_literal args.now ≡ true }
-    ensures { IfOk result (λ r. r ≡ requested shape.now name.now args.now) }
+    ensures { Gives result (requested shape.now name.now args.now) }
 {
     match event_named(shape, name) {
         Some(event) => call_of(alloc, event as u16, params_of(shape, event), args),
-        None => Ok(Err(Fault::UnknownEvent)),
+        None => Err(Refusal::Fault(Fault::UnknownEvent)),
     }
 }
 
@@ -186,39 +188,30 @@ fn judged_hosts(begun: bool, digits: &[u8]) -> Result<Taken, Fault>
 
 // ---- lines
 
-fn as_event(line: Result<Line, Fault>) -> Result<Taken, Fault>
-    ensures { result ≡ as_event line }
-{
-    match line {
-        Ok(line) => Ok(Taken::Event(line)),
-        Err(fault) => Err(fault),
-    }
-}
-
 // What a line of this form is, where so many hosts and event lines stand before.
 fn judged_form(
     alloc: Global,
     shape: &Shape,
     before: &Progress,
     form: &Form,
-) -> Result<Result<Taken, Fault>, OutOfMemory>
+) -> Result<Taken, Refusal>
     requires shape { IsShape shape.now }
     requires form { is_form form.now ≡ true }
-    ensures { IfOk result (λ r. r ≡ judged_form shape.now before.now.hosts before.now.begun before.now.events form.now) }
+    ensures { Gives result (judged_form shape.now before.now.hosts before.now.begun before.now.events form.now) }
 {
     match form {
-        Form::Hosts(digits) => Ok(judged_hosts(before.begun, digits.as_slice())),
-        Form::Settle => Ok(Ok(Taken::Settle)),
-        _ if before.events >= EVENT_LINES => Ok(Err(Fault::TooMany)),
+        Form::Hosts(digits) => Ok(judged_hosts(before.begun, digits.as_slice())?),
+        Form::Settle => Ok(Taken::Settle),
+        _ if before.events >= EVENT_LINES => Err(Refusal::Fault(Fault::TooMany)),
         Form::Request(name, args) => {
             let line = requested(alloc, shape, name.as_slice(), args.as_slice())?;
-            Ok(as_event(line))
+            Ok(Taken::Event(line))
         }
         Form::Move(steps, to) => {
-            let line = move_to(shape, before.hosts, steps.as_slice(), to.as_slice());
-            Ok(as_event(line))
+            let line = move_to(shape, before.hosts, steps.as_slice(), to.as_slice())?;
+            Ok(Taken::Event(line))
         }
-        Form::Snapshot => Ok(Ok(Taken::Event(Line::Snapshot))),
+        Form::Snapshot => Ok(Taken::Event(Line::Snapshot)),
     }
 }
 
@@ -228,14 +221,14 @@ pub(crate) fn judged(
     shape: &Shape,
     before: &Progress,
     said: &Said,
-) -> Result<Result<Taken, Fault>, OutOfMemory>
+) -> Result<Taken, Refusal>
     requires shape { IsShape shape.now }
     requires form { IsWellFormed said.now }
-    ensures { IfOk result (λ r. r ≡ judged shape.now before.now.hosts before.now.begun before.now.events said.now) }
+    ensures { Gives result (judged shape.now before.now.hosts before.now.begun before.now.events said.now) }
 {
     match said {
-        Said::Nothing => Ok(Ok(Taken::Skipped)),
-        Said::Unknown => Ok(Err(Fault::UnknownCommand)),
+        Said::Nothing => Ok(Taken::Skipped),
+        Said::Unknown => Err(Refusal::Fault(Fault::UnknownCommand)),
         Said::Says(form) => judged_form(alloc, shape, before, form),
     }
 }

@@ -10,6 +10,7 @@ mod pieces;
 mod progress;
 mod quote;
 mod read;
+mod refusal;
 mod said;
 mod spelling;
 mod taken;

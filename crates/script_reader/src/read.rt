@@ -7,9 +7,10 @@ ghost use Rattle.script_reader.specs.Scripts.{IsAnswer};
 ghost use Rattle.script_reader.specs.inner.Steps.{IsStep, IsStop};
 
 use crate::earlier::Earlier;
-use crate::error::{ScriptError, refused};
+use crate::error::ScriptError;
 use crate::judge::judged;
 use crate::progress::Progress;
+use crate::refusal::stopped;
 use crate::said::said_by;
 use std::alloc::Global;
 use wave_base::{EVENT_LINES, HOSTS, Script, Shape};
@@ -29,12 +30,12 @@ fn take_line(
     ensures err { IfErr result (IsStop shape.now line.now progress.old number) }
 {
     let said = said_by(alloc, line)?;
-    match judged(alloc, shape, progress, &said)? {
+    match judged(alloc, shape, progress, &said) {
         Ok(taken) => {
             progress.take(alloc, taken)?;
             Ok(())
         }
-        Err(fault) => Err(refused(fault, number)),
+        Err(refusal) => Err(stopped(refusal, number)),
     }
 }
 

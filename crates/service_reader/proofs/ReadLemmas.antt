@@ -1,5 +1,5 @@
 -- A text is read in one way.
-use Rattle.std.proofs.Common.{◌≡◌, ◌≢◌, ℕ, suc, ◌+◌, ◌<◌, ◌≤◌, ◌⊎◌, inl, inr, ⊎_elim, List, [], length, Result, Ok, Err, Bool, true, false, refl, sym, ◌∙◌, subst, ap, arith}
+use Rattle.std.proofs.Common.{◌≡◌, ◌≢◌, ℕ, suc, ◌+◌, ◌<◌, ◌≤◌, inl, inr, List, [], length, Result, Ok, Err, Bool, false, refl, sym, ◌∙◌, subst, ap, arith}
 use mathlib.Core.Bool.{true≢false}
 use Rattle.wave_base.specs.declared.span.Span.{Span}
 use Rattle.wave_base.specs.declared.limits.TheConstants.{SERVICE_BYTES}
@@ -26,7 +26,7 @@ use Rattle.mace_parser.specs.declared.fault.ParseError.TheVariants as parse
 use Rattle.mace_parser.specs.Parsed as parsed
 use Rattle.service_reader.specs.declared.fault.TextFault.{TextFault}
 use Rattle.service_reader.specs.declared.fault.TextFault.TheVariants as fault
-use Rattle.service_reader.specs.Parsing.{IsService, IsLexFault, IsParseFault, IsTextFault, Parses, IsOnlyParse, lexer_had_no_memory, parser_had_no_memory}
+use Rattle.service_reader.specs.Parsing.{IsService, IsLexFault, IsParseFault, Parses, IsOnlyParse, lexer_had_no_memory, parser_had_no_memory}
 
 -- ---- trees
 

@@ -23,13 +23,15 @@ use Rattle.wave_text.specs.ValueTexts.{value_text}
 use Rattle.wave_text.specs.Words.{is_whole, without_minus}
 use Rattle.wave_text.proofs.ReadBack.{whole_again}
 use Rattle.path_text.specs.declared.written.Written.{Written}
-use Rattle.path_text.specs.inner.Fronts.{HasNone, IsFront, IsSplit, AreParts}
+use Rattle.wave_text.specs.Splits.{HasNone, IsSplit}
+use Rattle.path_text.specs.inner.Fronts.{IsFront, AreParts}
 use Rattle.path_text.specs.Paths.{path_of}
 use Rattle.path_text.specs.PathTexts.{written_step, path_text}
 use Rattle.path_text.specs.ShotTexts.{field_text, fields_text, shot_text}
 use Rattle.path_text.specs.Steps.{is_key, is_step, step_text, steps_text, written_text, HasSteps}
 use Rattle.path_text.proofs.Again.{path_again}
-use Rattle.path_text.proofs.FrontLemmas.{word_has_none, key_has_none, one_front, nowhere}
+use Rattle.wave_text.proofs.SplitLemmas.{nowhere}
+use Rattle.path_text.proofs.FrontLemmas.{word_has_none, key_has_none, one_front}
 use Rattle.snapshot_text.specs.Forms as forms
 use Rattle.snapshot_text.specs.Forms.{Literal, Number, Truth, Text, Map, IsLiteral, literal_text, Field, IsField, is_plain, is_plain_step, is_below, are_pairs, HasForm}
 use Rattle.snapshot_text.specs.Shots.{IsValue, IsShot}

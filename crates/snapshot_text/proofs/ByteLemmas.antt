@@ -6,8 +6,8 @@ use Rattle.std.specs.List.{list_all}
 use Rattle.std.proofs.lemmas.Bool.{and_parts}
 use Rattle.std.proofs.lemmas.Bool.Decides.{nat_tests}
 use Rattle.wave_base.specs.Names.{is_name_start, is_name_byte, is_word}
-use Rattle.path_text.specs.inner.Fronts.{is_other, HasNone}
-use Rattle.path_text.proofs.FrontLemmas.{one_split, nowhere}
+use Rattle.wave_text.specs.Splits.{is_other, HasNone}
+use Rattle.wave_text.proofs.SplitLemmas.{one_split, nowhere}
 use Rattle.journal_text.proofs.SolidLemmas.{all_imply, start_is_byte}
 use Rattle.snapshot_text.specs.Forms.{is_plain_digits, is_zero, is_plain}
 use Rattle.snapshot_text.specs.inner.Fronts.{Ends, IsRun}

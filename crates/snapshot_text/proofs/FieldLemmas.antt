@@ -11,7 +11,7 @@ use Rattle.wave_base.specs.Names.{is_word}
 use Rattle.wave_base.specs.Values.{kind_of}
 use Rattle.wave_text.specs.ValueTexts.{value_text}
 use Rattle.path_text.specs.ShotTexts.{field_text, fields_text}
-use Rattle.journal_text.specs.Splits.{ArePartsAt}
+use Rattle.wave_text.specs.Splits.{ArePartsAt}
 use Rattle.snapshot_text.specs.Shots.{IsValue}
 use Rattle.snapshot_text.specs.inner.Fronts.{Ends}
 use Rattle.snapshot_text.specs.inner.Guesses.{behind_first, IsFrontOf, IsSeen, IsUnseen, AreGoodFor, AreValuesOf}

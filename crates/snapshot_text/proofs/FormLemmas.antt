@@ -1,16 +1,15 @@
 -- Fields and the form of a line, as the reader finds them.
-use Rattle.std.proofs.Common.{◌≡◌, ◌<◌, ℕ, Bool, true, false, List, [], ◌∷◌, ◌++◌, length, All, Option, Some, None, Result, Ok, Err, IfOk, IfSome, IfNone, refl, sym, ap, subst, ◌∙◌, append_assoc, append-nil, arith}
+use Rattle.std.proofs.Common.{◌≡◌, ◌<◌, ℕ, Bool, true, false, List, [], ◌∷◌, ◌++◌, length, All, Option, Some, None, Result, Ok, Err, IfOk, IfSome, IfNone, refl, sym, ap, subst, ◌∙◌, append_assoc, append-nil, arith, lit<}
 use Rattle.std.specs.Prelude.{◌&&◌, ◌==◌, codes}
 use Rattle.std.specs.List.{list_all}
 use Rattle.std.proofs.lemmas.Bool.{and_parts}
 use Rattle.std.proofs.lemmas.List.Elements.{All-nil, All-cons, All-head, All-tail}
 use Rattle.wave_base.specs.Names.{is_word}
 use Rattle.path_text.specs.declared.written.Written.{Written}
-use Rattle.path_text.specs.inner.Fronts.{HasNone, IsSplit}
+use Rattle.wave_text.specs.Splits.{HasNone, IsSplit}
 use Rattle.path_text.specs.Steps.{is_step, written_text, HasSteps, HasOnlySteps, HasNoSteps}
-use Rattle.path_text.proofs.FrontLemmas.{one_split, nowhere}
+use Rattle.wave_text.proofs.SplitLemmas.{one_split, nowhere}
 use Rattle.journal_text.proofs.SolidLemmas.{solid_has_none, written_solid}
-use Rattle.std.proofs.Common.{lit<}
 use Rattle.snapshot_text.specs.Forms.{Field, IsField, literal_text, field_text, fields_text, is_plain, is_plain_step, HasForm, HasNoForm}
 use Rattle.snapshot_text.specs.inner.Fronts.{BeginsNot, BeginsNotAt, Ends, IsRun, HasLiteral, OnlyBehindLiteral, HasNoLiteral, HasField, OnlyBehindField, HasNoField, IsFieldsText, is_plain_key, HasOnlyForm}
 use Rattle.snapshot_text.proofs.ByteLemmas.{word_no_equals, one_run}

@@ -6,8 +6,8 @@ use Rattle.std.proofs.lemmas.Bool.Decides.{nat_tests}
 use Rattle.mace_lexer.specs.Texts.{escaped, quoted}
 use Rattle.wave_base.specs.Names.{same_bytes}
 use Rattle.wave_text.specs.Quotes.{Quotes, QuotesOnly, QuotesNone}
-use Rattle.path_text.specs.inner.Fronts.{HasNone, IsSplit}
-use Rattle.path_text.proofs.FrontLemmas.{one_split, nowhere}
+use Rattle.wave_text.specs.Splits.{HasNone, IsSplit}
+use Rattle.wave_text.proofs.SplitLemmas.{one_split, nowhere}
 use Rattle.snapshot_text.specs.Forms.{Literal, Number, Truth, Text, Map, IsLiteral, literal_text, is_plain, are_pairs, pairs_text}
 use Rattle.snapshot_text.specs.inner.Fronts.{BeginsNot, Ends, IsRun, is_bare, IsMapText, HasLiteral, OnlyBehindLiteral, HasNoLiteral}
 use Rattle.snapshot_text.proofs.ByteLemmas.{is_number_byte, plain_no_space, plain_first, one_run}

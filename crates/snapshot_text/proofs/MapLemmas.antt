@@ -18,9 +18,8 @@ use Rattle.wave_base.specs.declared.value.Value.TheVariants as value
 use Rattle.wave_base.proofs.Places.{sorted_none}
 use Rattle.wave_base.specs.Tables.{IsTable, value_at, with_pair, is_full}
 use Rattle.wave_text.specs.ValueTexts.{pair_text, pairs_text}
-use Rattle.path_text.specs.inner.Fronts.{HasNone}
-use Rattle.path_text.proofs.FrontLemmas.{nowhere}
-use Rattle.journal_text.specs.Splits.{ArePartsAt}
+use Rattle.wave_text.specs.Splits.{HasNone, ArePartsAt}
+use Rattle.wave_text.proofs.SplitLemmas.{nowhere}
 use Rattle.snapshot_text.specs.Shots.{IsValue}
 use Rattle.snapshot_text.specs.inner.Guesses.{behind_first, AreNumbers, IsPairAtOf, IsTableOf}
 use Rattle.snapshot_text.proofs.NumberLemmas.{number_no_colon, pair_spelled, pair_no_comma, joined, pairs_joined, Fit}

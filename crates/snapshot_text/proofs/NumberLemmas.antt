@@ -10,9 +10,9 @@ use Rattle.wave_base.specs.Names.{is_digits}
 use Rattle.wave_text.specs.ValueTexts.{pair_text, comma_before, pairs_from, pairs_text}
 use Rattle.wave_text.specs.Words.{is_whole}
 use Rattle.wave_text.proofs.ReadBack.{whole_again}
-use Rattle.path_text.specs.inner.Fronts.{is_other, HasNone}
+use Rattle.wave_text.specs.Splits.{is_other, HasNone}
 use Rattle.journal_text.proofs.SolidLemmas.{IsSolid, all_imply, whole_solid, solid_has_none}
-use Rattle.journal_text.proofs.LineLemmas.{none-append}
+use Rattle.wave_text.proofs.SplitLemmas.{none-append}
 use Rattle.snapshot_text.specs.inner.Guesses.{AreNumbers}
 use Rattle.snapshot_text.proofs.ByteLemmas.{is_number_byte, not_comma, not_colon, not_brace}
 

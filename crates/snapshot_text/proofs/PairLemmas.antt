@@ -3,9 +3,8 @@ use Rattle.std.proofs.Common.{◌≡◌, ◌<◌, ℕ, Bool, true, false, cond, 
 use Rattle.std.specs.Prelude.{◌==◌, ◌&&◌}
 use Rattle.std.specs.List.{list_all}
 use Rattle.std.proofs.lemmas.Bool.{and_parts}
-use Rattle.path_text.specs.inner.Fronts.{is_other, HasNone, IsSplit}
-use Rattle.path_text.proofs.FrontLemmas.{one_split, nowhere}
-use Rattle.journal_text.proofs.LineLemmas.{none-append}
+use Rattle.wave_text.specs.Splits.{is_other, HasNone, IsSplit}
+use Rattle.wave_text.proofs.SplitLemmas.{one_split, nowhere, none-append}
 use Rattle.snapshot_text.specs.Forms.{is_plain, is_below, pair_text, pairs_text, are_pairs}
 use Rattle.snapshot_text.specs.inner.Fronts.{BeginsNot, IsPair, IsPairOf, IsNoPair, IsFirstPair, IsNoFirstPair, ArePairsOf, IsMapText, IsMapTextBehind}
 use Rattle.snapshot_text.proofs.ByteLemmas.{plain_no_comma, plain_no_colon, plain_no_brace}

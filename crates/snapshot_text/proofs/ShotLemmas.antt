@@ -18,14 +18,12 @@ use Rattle.wave_base.specs.Text.{IsPrintable}
 use Rattle.wave_text.specs.ValueTexts.{value_text, pairs_text}
 use Rattle.path_text.specs.declared.parse.PathError.{PathError}
 use Rattle.path_text.specs.declared.parse.PathError.TheVariants as error
-use Rattle.path_text.specs.inner.Fronts.{is_other, HasNone, IsSplit}
+use Rattle.wave_text.specs.Splits.{is_other, HasNone, IsSplit, ArePartsAt}
 use Rattle.path_text.specs.PathTexts.{path_text}
 use Rattle.path_text.specs.ShotTexts.{field_text, fields_text, shot_text}
 use Rattle.path_text.specs.Verdicts.{IsOnlyVerdict}
-use Rattle.path_text.proofs.FrontLemmas.{one_split}
+use Rattle.wave_text.proofs.SplitLemmas.{one_split, none-append}
 use Rattle.journal_text.specs.Fits.{HasKeys}
-use Rattle.journal_text.specs.Splits.{ArePartsAt}
-use Rattle.journal_text.proofs.LineLemmas.{none-append}
 use Rattle.journal_text.proofs.PathLemmas.{path_found, path_missed}
 use Rattle.journal_text.proofs.SolidLemmas.{solid_has_none, path_solid, word_solid}
 use Rattle.snapshot_text.specs.Shots.{IsValue, IsShot}

@@ -5,9 +5,9 @@ use Rattle.std.proofs.lemmas.List.Elements.{All-nil, All-cons, All-head, All-tai
 use Rattle.wave_base.specs.declared.shape.Shape.{Shape}
 use Rattle.wave_base.specs.declared.shot.Shot.{Shot}
 use Rattle.wave_base.specs.Names.{HasNames}
-use Rattle.path_text.specs.inner.Fronts.{HasNone, IsSplit}
+use Rattle.wave_text.specs.Splits.{HasNone, IsSplit}
 use Rattle.path_text.specs.ShotTexts.{shot_text}
-use Rattle.path_text.proofs.FrontLemmas.{one_split, nowhere}
+use Rattle.wave_text.proofs.SplitLemmas.{one_split, nowhere}
 use Rattle.snapshot_text.specs.declared.error.Fault.{Fault}
 use Rattle.snapshot_text.specs.declared.error.Fault.TheVariants as fault
 use Rattle.snapshot_text.specs.declared.error.ShotError.{ShotError}

@@ -12,8 +12,7 @@ use Rattle.wave_base.specs.Text.{IsText}
 use Rattle.wave_base.specs.Values.{kind_of}
 use Rattle.wave_text.specs.Quotes.{Quotes, QuotesOnly, QuotesNone}
 use Rattle.wave_text.specs.ValueTexts.{value_text, pairs_text}
-use Rattle.path_text.specs.inner.Fronts.{HasNone}
-use Rattle.journal_text.specs.Splits.{ArePartsAt}
+use Rattle.wave_text.specs.Splits.{HasNone, ArePartsAt}
 use Rattle.snapshot_text.specs.Shots.{IsValue}
 use Rattle.snapshot_text.specs.inner.Fronts.{Ends}
 use Rattle.snapshot_text.specs.inner.Guesses.{behind_first, truth_of, IsNumberOf, IsTableOf, IsFrontOf, IsSeen, IsUnseen}

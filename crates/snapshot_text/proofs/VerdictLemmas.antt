@@ -1,10 +1,11 @@
 -- What is said of a whole text, from what is known of its head and of the lines behind it.
 use Rattle.std.proofs.Common.{◌≡◌, ◌⊎◌, inl, inr, ◌+◌, ◌<◌, ◌≤◌, ℕ, List, [], ◌∷◌, ◌++◌, length, All, Result, Ok, Err, refl, sym, ap, subst, ◌∙◌, append-nil, length-append, arith}
+use Rattle.std.specs.Prelude.{codes}
 use Rattle.wave_base.specs.declared.shape.Shape.{Shape}
 use Rattle.wave_base.specs.declared.shot.Shot.{Shot}
 use Rattle.wave_base.specs.Names.{HasNames}
 use Rattle.path_text.specs.ShotTexts.{shot_text}
-use Rattle.journal_text.specs.JournalTexts.{line_count}
+use Rattle.wave_text.specs.Counted.{IsBehindHead, line_count}
 use Rattle.snapshot_text.specs.declared.error.Fault.{Fault}
 use Rattle.snapshot_text.specs.declared.error.Fault.TheVariants as fault
 use Rattle.snapshot_text.specs.declared.error.ShotError.{ShotError}
@@ -13,7 +14,7 @@ use Rattle.snapshot_text.specs.Refusals.{refused}
 use Rattle.snapshot_text.specs.Shots.{IsShot, AreShots, are_in_order, paths_of}
 use Rattle.snapshot_text.specs.SnapshotTexts.{IsSnapshotText, head_text, shots_text}
 use Rattle.snapshot_text.specs.Verdicts.{HasNoHead, IsEmpty, BeginsWithFault, StopsAfter, IsRefused, IsVerdict, IsOnlyVerdict}
-use Rattle.snapshot_text.specs.inner.Tails.{IsBehindHead, IsParted, IsEnd, IsOnlyParted, StopsWith, AreRead}
+use Rattle.snapshot_text.specs.inner.Tails.{IsParted, IsEnd, IsOnlyParted, StopsWith, AreRead}
 use Rattle.snapshot_text.proofs.HeadLemmas.{lines_are}
 
 no_shots : (shape : Shape) (shots : List Shot) → (shots ≡ [] → ⊥) → [] ≡ shots_text shape shots → ⊥
@@ -68,7 +69,7 @@ module _ (shape : Shape) (names : HasNames shape) (text : List ℕ) where
       only (Ok shots) v = absurd (none (shots_text shape shots) (snapshot_lines shots v))
       only (Err e) v = other_errors (Err (error.Syntax 1)) refusal e v
 
-  module _ (tail : List ℕ) (b : IsBehindHead text tail) where
+  module _ (tail : List ℕ) (b : IsBehindHead (codes "snapshot ") text tail) where
     snapshot_tail : (shots : List Shot) → IsSnapshotText shape text shots → shots_text shape shots ≡ tail
     snapshot_tail shots s = b.only (shots_text shape shots) (snapshot_lines shots s)
 

@@ -4,10 +4,10 @@ use Rattle.wave_base.specs.declared.path.Path.{Path}
 use Rattle.wave_base.specs.declared.shape.Shape.{Shape}
 use Rattle.wave_base.specs.declared.shot.Shot.{Shot}
 use Rattle.path_text.specs.declared.written.Written.{Written}
-use Rattle.path_text.specs.inner.Fronts.{HasNone}
+use Rattle.wave_text.specs.Splits.{HasNone}
 use Rattle.path_text.specs.Paths.{path_of}
 use Rattle.path_text.specs.ShotTexts.{shot_text}
-use Rattle.journal_text.specs.JournalTexts.{line_count}
+use Rattle.wave_text.specs.Counted.{line_count}
 use Rattle.snapshot_text.specs.declared.error.Fault.{Fault}
 use Rattle.snapshot_text.specs.declared.error.Fault.TheVariants as fault
 use Rattle.snapshot_text.specs.declared.error.ShotError.{ShotError}

@@ -6,11 +6,10 @@ ghost use Rattle.snapshot_text.specs.inner.Fronts.{BeginsNotAt, is_plain_key, Ha
 use crate::literal::{behind_literal, run_of};
 use crate::number::is_plain;
 use crate::pairs::behind_byte;
-use journal_text::split_at;
 use path_text::{Written, written_steps};
 use std::alloc::Global;
 use wave_base::{OutOfMemory, Seq};
-use wave_text::is_word;
+use wave_text::{is_word, split_at};
 
 // What stands behind the field at the front of a text.
 fn behind_field(alloc: Global, text: &[u8]) -> Result<Option<&[u8]>, OutOfMemory>

@@ -3,7 +3,6 @@
 
 mod error;
 mod form;
-mod head;
 mod line;
 mod literal;
 mod map;

@@ -3,10 +3,9 @@ ghost use Rattle.snapshot_text.specs.inner.Fronts.{BeginsNot, IsRun, is_bare, Ha
 
 use crate::number::is_plain;
 use crate::pairs::{are_pairs, behind_byte};
-use journal_text::split_at;
 use std::alloc::Global;
 use wave_base::OutOfMemory;
-use wave_text::read_quoted;
+use wave_text::{read_quoted, split_at};
 
 /// The bytes before the first space, and the rest from that space on.
 pub(crate) fn run_of(text: &[u8]) -> (&[u8], &[u8])

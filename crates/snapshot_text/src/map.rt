@@ -4,9 +4,9 @@ ghost use Rattle.snapshot_text.specs.Shots.{IsValue};
 ghost use Rattle.snapshot_text.specs.inner.Guesses.{AreNumbers, IsPairAtOf, IsTableOf};
 
 use crate::value::{behind_first, number_of};
-use journal_text::parts_at;
 use std::alloc::Global;
 use wave_base::{OutOfMemory, PutError, Table};
+use wave_text::parts_at;
 
 // The pair that a text is written for.
 fn pair_of(text: &[u8]) -> Option<(i64, i64)>

@@ -3,7 +3,7 @@ ghost use Rattle.snapshot_text.specs.Forms.{is_plain};
 ghost use Rattle.snapshot_text.specs.inner.Fronts.{BeginsNot, IsPairOf, IsNoPair, IsFirstPair, IsNoFirstPair, IsMapText, IsMapTextBehind};
 
 use crate::number::{is_below, is_plain};
-use journal_text::split_at;
+use wave_text::split_at;
 
 /// What stands behind this byte at the front of a text.
 pub(crate) fn behind_byte(text: &[u8], byte: u8) -> Option<&[u8]>

@@ -2,32 +2,14 @@ ghost use Rattle.std.specs.Prelude.{◌≡◌, ◌≤◌, ◌++◌, ◌∷◌, [
 ghost use Rattle.wave_base.specs.declared.limits.TheConstants.{PLACED_BYTES};
 ghost use Rattle.wave_base.specs.Names.{HasNames};
 ghost use Rattle.wave_base.specs.Shapes.{IsShape};
-ghost use Rattle.snapshot_text.specs.Verdicts.{HasNoHead, IsOnlyVerdict};
-ghost use Rattle.snapshot_text.specs.inner.Tails.{IsBehindHead, AreRead};
+ghost use Rattle.snapshot_text.specs.Verdicts.{IsOnlyVerdict};
+ghost use Rattle.snapshot_text.specs.inner.Tails.{AreRead};
 
 use crate::error::ShotError;
-use crate::head::put_head;
 use crate::line::read_line;
-use journal_text::{line_count, split_at};
 use std::alloc::Global;
 use wave_base::{OutOfMemory, Seq, Shape, Shot};
-
-// What stands behind the head, where the text begins with one that tells the number of lines behind it.
-fn behind_head(alloc: Global, text: &[u8]) -> Result<Option<&[u8]>, OutOfMemory>
-    ensures some { IfOk result (λ o. IfSome o (λ rest. IsBehindHead text.now rest.now)) }
-    ensures none { IfOk result (λ o. IfNone o (HasNoHead text.now)) }
-{
-    let Some((head, rest)) = split_at(text, b'\n') else {
-        return Ok(None);
-    };
-    let mut written = Vec::new(alloc);
-    put_head(alloc, &mut written, line_count(rest) as u64)?;
-    if written.as_slice() == head {
-        Ok(Some(rest))
-    } else {
-        Ok(None)
-    }
-}
+use wave_text::{behind_head, split_at};
 
 // Appends a shot.
 fn add(shots: &mut Seq<Shot>, shot: Shot) -> Result<(), OutOfMemory>
@@ -70,7 +52,7 @@ pub fn read_snapshot(alloc: Global, shape: &Shape, text: &[u8]) -> Result<Seq<Sh
     requires short { length text.now ≤ PLACED_BYTES }
     ensures { IsOnlyVerdict shape.now text.now result }
 {
-    let Some(tail) = behind_head(alloc, text)? else {
+    let Some(tail) = behind_head(alloc, b"snapshot ", text)? else {
         return Err(ShotError::Syntax { line: 1 });
     };
     if tail.is_empty() {

@@ -1,7 +1,7 @@
 ghost use Rattle.std.specs.Prelude.{◌≡◌, true, map, All, IfOk, IfSome, IfNone};
 ghost use Rattle.std.specs.List.{list_all};
 ghost use Rattle.wave_base.specs.Names.{HasNames, is_word};
-ghost use Rattle.wave_base.specs.Shapes.{IsShape, declared_fields, class_of};
+ghost use Rattle.wave_base.specs.Shapes.{IsShape};
 ghost use Rattle.wave_base.specs.Values.{kind_of};
 ghost use Rattle.snapshot_text.specs.Shots.{IsValue};
 ghost use Rattle.snapshot_text.specs.Verdicts.{IsLineOfNone};
@@ -9,10 +9,10 @@ ghost use Rattle.snapshot_text.specs.inner.Guesses.{AreGoodFor, AreValuesOf, IsP
 ghost use Rattle.snapshot_text.specs.Shots.{IsShot};
 
 use crate::value::value_of;
-use journal_text::parts_at;
-use path_text::{PathError, parse_path, put_shot};
+use path_text::{PathError, fields_at, parse_path, put_shot};
 use std::alloc::Global;
-use wave_base::{Class, FieldInfo, OutOfMemory, Path, Seq, Shape, Shot, Value};
+use wave_base::{FieldInfo, OutOfMemory, Path, Seq, Shape, Shot, Value};
+use wave_text::parts_at;
 
 // The values that fields are written with.
 fn values_of(
@@ -38,25 +38,6 @@ fn values_of(
         }
     }
     Ok(Some(Seq::from_vec(values)))
-}
-
-// The class of the context at a path.
-fn class_of(path: &Path) -> Class
-    ensures { result.0 ≡ class_of path.now }
-{
-    match path.as_slice().last() {
-        Some(step) => step.class,
-        None => Class(0),
-    }
-}
-
-fn declared_fields(shape: &Shape, class: Class) -> &[FieldInfo]
-    ensures { result.now ≡ declared_fields shape.now class.0 }
-{
-    match shape.classes.as_slice().get(usize::from(class.0)) {
-        Some(info) => info.fields.as_slice(),
-        None => &[],
-    }
 }
 
 // The path that a text is written for.
@@ -86,7 +67,7 @@ fn shot_in(alloc: Global, shape: &Shape, line: &[u8]) -> Result<Option<Shot>, Ou
     let Some(path) = path_of(alloc, shape, path)? else {
         return Ok(None);
     };
-    let fields = declared_fields(shape, class_of(&path));
+    let fields = fields_at(shape, &path);
     match values_of(alloc, fields, rest)? {
         Some(fields) => Ok(Some(Shot { path, fields })),
         None => Ok(None),

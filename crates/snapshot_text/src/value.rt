@@ -4,10 +4,9 @@ ghost use Rattle.wave_base.specs.declared.value.Kind.TheVariants as kinds;
 ghost use Rattle.snapshot_text.specs.inner.Guesses.{behind_first, truth_of, IsNumberOf, IsSeen, IsUnseen};
 
 use crate::map::table_of;
-use journal_text::parts_at;
 use std::alloc::Global;
 use wave_base::{Kind, OutOfMemory, TEXT_BYTES, Txt, Value};
-use wave_text::{is_whole, read_quoted, whole_of};
+use wave_text::{is_whole, parts_at, read_quoted, whole_of};
 
 /// The number that a text is written for.
 pub(crate) fn number_of(text: &[u8]) -> Option<i64>

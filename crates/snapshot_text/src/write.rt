@@ -2,10 +2,10 @@ ghost use Rattle.std.specs.Prelude.{IfOk};
 ghost use Rattle.snapshot_text.specs.Shots.{AreShots};
 ghost use Rattle.snapshot_text.specs.SnapshotTexts.{IsSnapshotText};
 
-use crate::head::put_head;
 use path_text::put_shot;
 use std::alloc::Global;
 use wave_base::{OutOfMemory, Seq, Shape, Shot};
+use wave_text::put_head;
 
 /// The text of a snapshot, which `read_snapshot` reads back.
 pub fn write_snapshot(
@@ -18,7 +18,7 @@ pub fn write_snapshot(
 {
     let shots = shots.as_slice();
     let mut out = Vec::new(alloc);
-    put_head(alloc, &mut out, shots.len() as u64)?;
+    put_head(alloc, &mut out, b"snapshot ", shots.len() as u64)?;
     out.push(b'\n')?;
     for shot in shots {
         put_shot(alloc, &mut out, shape, shot)?;

@@ -139,7 +139,6 @@ module _ (known : Known) (class function : ℕ) (within : Function) where
       stmt_is h at named (s.Call place name args) g d = step_moved h at named (resolve_stmt h (s.Call place name args)) (call_step h methods locals (there_at h at named) (levels_at h at named) named place name (exprs_of args) d)
       stmt_is h at named (s.ChildCall place child key name args) g d =
           step_moved h at named (resolve_stmt h (s.ChildCall place child key name args)) (child_step h methods locals (there_at h at named) (levels_at h at named) named place child key name (exprs_of args) d)
-
       stmt_is h at named (s.Return place value) g d = step_moved h at named (resolve_stmt h (s.Return place value)) (return_is h methods locals (there_at h at named) (levels_at h at named) named place value d)
       stmt_is h at named (s.Finish place value) g d = step_moved h at named (resolve_stmt h (s.Finish place value)) (finish_is h methods locals (there_at h at named) (levels_at h at named) named place value d)
 

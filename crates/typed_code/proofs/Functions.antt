@@ -15,7 +15,7 @@ use Rattle.resolved_service.specs.declared.service.Phase.{Phase}
 use Rattle.resolved_service.specs.Steps.{steps_in, surely_ends}
 use Rattle.code_scheme.specs.Typed.{InMethod, InEvent, IsChild, HasKind, AreTyped, IsTypedLast, AreTypedPhases, IsTypedMethod, IsTypedEvent}
 use Rattle.type_rules.specs.declared.known.Known.{Known}
-use Rattle.type_rules.specs.declared.error.TypeError.TheVariants.{UnknownName, Mismatch, MissingReply, NotDownward, Unreachable}
+use Rattle.type_rules.specs.declared.error.TypeError.TheVariants.{UnknownName, Mismatch, MissingReply, NotDownward}
 use Rattle.type_rules.specs.Demands.{ask, first_wrong}
 use Rattle.type_rules.specs.Known.{kinds_of, class_named, event_info}
 use Rattle.type_rules.specs.Here.{Here, Function, OfMethod, OfEvent, start, declared, is_child}

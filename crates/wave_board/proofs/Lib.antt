@@ -1,4 +1,5 @@
 pub mod Standing
+pub mod Segments
 pub mod Staying
 pub mod Idle
 pub mod Choosing

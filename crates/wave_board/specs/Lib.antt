@@ -3,4 +3,5 @@ pub mod Taking
 pub mod Giving
 pub mod Fresh
 pub mod Staying
+pub mod Always
 pub mod inner

@@ -1,6 +1,7 @@
 //! The machine under the lock: a board keeps a machine, the journal of its labels, and the word that stops its workers.
 #![tactic(auto)]
 
+mod always;
 mod board;
 mod giving;
 mod known;
@@ -12,6 +13,7 @@ mod taking;
 mod trail;
 mod work;
 
+pub use always::{boards_go_on, journals_are_short, workers_wait_for_segments};
 pub use board::{Board, StopWord};
 pub use laws::{finished_stays, leases_stay, results_stay};
 pub use origin::Origin;

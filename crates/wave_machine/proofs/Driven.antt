@@ -1,6 +1,6 @@
 -- Drives: what the rule picks next, and what taking it leaves of the segments that are out.
-use Rattle.std.proofs.Common.{◌≡◌, ◌≢◌, ◌∙◌, ◌⊎◌, inl, inr, ℕ, zero, suc, ◌+◌, ◌<◌, ◌&&◌, ◌==◌, Bool, true, false, cond, List, [], ◌∷◌, ◌++◌, length, is_some, Option, Some, None, Result, Ok, Err, refl, sym, ap, subst, arith}
-use Rattle.std.specs.Prelude.{OnOk, if◌then◌else◌, nat_eq, nat_lt, option_and_then, option_map, slice_get, slice_set}
+use Rattle.std.proofs.Common.{◌≡◌, ◌≢◌, ◌∙◌, inl, inr, ℕ, zero, suc, ◌<◌, ◌&&◌, ◌==◌, Bool, true, false, List, [], ◌∷◌, ◌++◌, length, is_some, Option, Some, None, refl, sym, ap, subst, arith}
+use Rattle.std.specs.Prelude.{nat_lt, option_and_then, slice_get, slice_set}
 use Rattle.std.proofs.lemmas.List.{length-set}
 use Rattle.wave_base.specs.declared.outcome.EventResult.{EventResult}
 use Rattle.wave_base.specs.declared.path.Path.{Path}
@@ -11,7 +11,7 @@ use Rattle.wave_base.specs.Paths.{path_eq}
 use Rattle.service_code.specs.declared.program.Program.{Program}
 use Rattle.wave_states.specs.Actors.{Actors}
 use Rattle.wave_states.specs.Canonical.{enabled}
-use Rattle.wave_states.specs.Labels.{Act, Label, Admit, Queue, Grant, Visit, Start as Begin, Stop, Free, Pass, Land, Commit, is_stop}
+use Rattle.wave_states.specs.Labels.{Act, Label, Admit, Queue, Grant, Visit, Start as Begin, Stop, Free, Pass, Land, Commit}
 use Rattle.wave_states.specs.Runs.{IsDrive, Rule, run}
 use Rattle.wave_states.specs.States.{Hand, State}
 use Rattle.wave_states.specs.Steps.{Bench, Part, act_bench, part_of, step, stop, with_hand}

@@ -55,21 +55,21 @@ none_if : {X : Type 0} (o : Option X) → ((x : X) → o ≡ Some x → ⊥) →
 none_if None h = refl
 none_if (Some x) h = absurd (h x refl)
 
-not_both : {X : Type 0} (o : Option X) (x : X) → o ≡ None → o ≡ Some x → ⊥
+pub not_both : {X : Type 0} (o : Option X) (x : X) → o ≡ None → o ≡ Some x → ⊥
 not_both o x e f = cc
 
 -- what holds of each element at its place holds of all
 pub all_from : {X : Type 0} (P : X → Type 0) (xs : List X) → ((i : ℕ) (x : X) → slice_get xs i ≡ Some x → P x) → All P xs
 all_from P xs h = λ k d l. h k (get_or xs k d) (slice_get-get_or xs k d l)
 
-over_is : (x : Status) → is_over x ≡ true → x ≡ status.Ended
+pub over_is : (x : Status) → is_over x ≡ true → x ≡ status.Ended
 over_is status.Travelling e = absurd (true≢false (sym e))
 over_is (status.Waiting p) e = absurd (true≢false (sym e))
 over_is (status.Ready p) e = absurd (true≢false (sym e))
 over_is (status.Running p) e = absurd (true≢false (sym e))
 over_is status.Ended e = refl
 
-is_over_by : (x : Status) → status_of x ≡ theory.Ended → is_over x ≡ true
+pub is_over_by : (x : Status) → status_of x ≡ theory.Ended → is_over x ≡ true
 is_over_by status.Travelling e = cc
 is_over_by (status.Waiting p) e = cc
 is_over_by (status.Ready p) e = cc
@@ -77,12 +77,12 @@ is_over_by (status.Running p) e = cc
 is_over_by status.Ended e = refl
 
 -- no mail under any number is no mail
-empty_mail : (mails : List (ℕ × Envelope)) (k : ℕ) → is_empty mails ≡ true → mail_in mails k ≡ None
+pub empty_mail : (mails : List (ℕ × Envelope)) (k : ℕ) → is_empty mails ≡ true → mail_in mails k ≡ None
 empty_mail [] k e = refl
 empty_mail (m ∷ ms) k e = absurd (true≢false (sym e))
 
 -- and where each number has none, there is none
-all_empty : (mails : List (ℕ × Envelope)) → ((k : ℕ) → mail_in mails k ≡ None) → is_empty mails ≡ true
+pub all_empty : (mails : List (ℕ × Envelope)) → ((k : ℕ) → mail_in mails k ≡ None) → is_empty mails ≡ true
 all_empty [] h = refl
 all_empty (m ∷ ms) h = absurd (first m ms (h m.0))
   where
@@ -94,23 +94,23 @@ some_at [] i l = absurd (omega (arith, l))
 some_at (x ∷ xs) zero l = (x, refl)
 some_at (x ∷ xs) (suc i) l = some_at xs i (omega (arith, l))
 
-carries_none : (o : Option Envelope) (r : Option (theory.Mail Fields)) → Carries o r → o ≡ None → r ≡ None
+pub carries_none : (o : Option Envelope) (r : Option (theory.Mail Fields)) → Carries o r → o ≡ None → r ≡ None
 carries_none None None c e = refl
 carries_none None (Some m) c e = absurd c
 carries_none (Some x) r c e = cc
 
-none_carries : (o : Option Envelope) (r : Option (theory.Mail Fields)) → Carries o r → r ≡ None → o ≡ None
+pub none_carries : (o : Option Envelope) (r : Option (theory.Mail Fields)) → Carries o r → r ≡ None → o ≡ None
 none_carries None r c e = refl
 none_carries (Some x) None c e = absurd c
 none_carries (Some x) (Some m) c e = cc
 
-and_true : (a b : Bool) → a ≡ true → b ≡ true → (a && b) ≡ true
+pub and_true : (a b : Bool) → a ≡ true → b ≡ true → (a && b) ≡ true
 and_true a b e f = grind arith
 
-and_left : (a b : Bool) → (a && b) ≡ true → a ≡ true
+pub and_left : (a b : Bool) → (a && b) ≡ true → a ≡ true
 and_left a b e = grind arith
 
-and_right : (a b : Bool) → (a && b) ≡ true → b ≡ true
+pub and_right : (a b : Bool) → (a && b) ≡ true → b ≡ true
 and_right a b e = grind arith
 
 out_none : (o : Option Out) (h : Option (Hand actors.Actor Fields)) → IsOut o h → o ≡ None → h ≡ None

@@ -1,10 +1,9 @@
 -- Which tickets are moves: what is kept tells it of each ticket whose label is enabled.
 use Rattle.std.proofs.Common.{◌≡◌, ◌∙◌, ◌⊎◌, inl, inr, ℕ, zero, suc, ◌+◌, ◌-◌, ◌<◌, ◌≤◌, ◌&&◌, ◌==◌, Bool, true, false, cond, List, [], ◌∷◌, ◌++◌, length, map, take, is_some, is_none, Option, Some, None, refl, sym, ap, subst, arith, length-append}
-use Rattle.std.specs.Prelude.{filter, nat_lt, if◌then◌else◌, option_and_then, option_map, slice_get}
+use Rattle.std.specs.Prelude.{filter, nat_lt, if◌then◌else◌, option_and_then, slice_get}
 use Rattle.std.proofs.lemmas.Bool.{cases_lt}
 use Rattle.std.proofs.lemmas.List.{length-map, length-take-le}
 use Rattle.wave_base.specs.declared.outcome.EventResult.{EventResult}
-use Rattle.wave_base.specs.declared.path.Path.{Path}
 use Rattle.wave_base.specs.declared.script.Line.{Line}
 use Rattle.wave_base.specs.declared.start.Start.{Start}
 use Rattle.wave_base.specs.Fold.{Head}
@@ -17,8 +16,8 @@ use Rattle.wave_theory.specs.Listed.{IsIn, Listed}
 use Rattle.plan_actors.specs.Plans.{begin_in}
 use Rattle.wave_states.specs.Labels.{Act, Label, Admit, Queue, Grant, Visit, Start as Begin, Stop, Free, Pass, Land, Commit, ticket_of, path_of, is_local}
 use Rattle.wave_states.specs.Runs.{first_of, job_is, movers, or_else}
-use Rattle.wave_states.specs.States.{Cell, Column, Entry, Hand, State}
-use Rattle.wave_states.specs.Steps.{act_bench, admit, admitted, commit, committed, next_ticket, only_if, part_of, step, step_by, stop, with_hand}
+use Rattle.wave_states.specs.States.{Cell, Column, Entry, Hand}
+use Rattle.wave_states.specs.Steps.{act_bench, admit, admitted, commit, committed, next_ticket, only_if, step, stop, with_hand}
 use Rattle.wave_theory.proofs.Basics.{and_second, if_some, none_not, number_is, only_some, some_not, then_some}
 use Rattle.wave_theory.proofs.Frames.{option_some}
 use Rattle.code_actor.specs.CodeActors.{Fields}

@@ -41,3 +41,6 @@ pub mod Lasting
 pub mod Collecting
 pub mod Telling
 pub mod Lines
+pub mod Untouched
+pub mod Skipping
+pub mod Picked

@@ -1,11 +1,9 @@
 -- All that is asked for, in order, is the canonical list.
-use Rattle.std.proofs.Common.{◌≡◌, ◌∙◌, ◌⊎◌, inl, inr, ℕ, zero, suc, ◌+◌, ◌-◌, ◌<◌, ◌≤◌, ◌&&◌, ◌==◌, Bool, true, false, cond, List, [], ◌∷◌, ◌++◌, length, map, is_some, is_none, Option, Some, None, Result, Ok, Err, refl, sym, ap, subst, arith, position, append_assoc, append-nil}
-use Rattle.std.specs.Prelude.{IfOk, filter, flat_map, nat_eq, nat_lt, if◌then◌else◌, option_map, slice_get}
+use Rattle.std.proofs.Common.{◌≡◌, ◌∙◌, inl, ℕ, suc, ◌+◌, ◌-◌, ◌<◌, ◌==◌, Bool, true, false, cond, List, [], ◌∷◌, ◌++◌, length, map, is_some, is_none, Option, Some, None, refl, sym, ap, subst, arith, position, append-nil}
+use Rattle.std.specs.Prelude.{filter, flat_map, option_map, slice_get}
 use Rattle.std.specs.FinMap as table
 use Rattle.std.proofs.lemmas.List.{map-append}
-use Rattle.std.proofs.lemmas.List.Concat.{flat_map-append}
 use Rattle.std.proofs.lemmas.List.Elements.{filter-append}
-use Rattle.std.proofs.lemmas.Bool.Decides.{nat_tests}
 use Rattle.wave_base.specs.declared.numbers.Ticket.{Ticket}
 use Rattle.wave_base.specs.declared.outcome.EventResult.{EventResult}
 use Rattle.wave_base.specs.declared.path.Path.{Path}
@@ -14,38 +12,30 @@ use Rattle.wave_base.specs.declared.start.Start.{Start}
 use Rattle.wave_base.specs.Fold.{Head, tickets_from}
 use Rattle.wave_base.specs.Paths.{path_eq}
 use Rattle.commit_order.specs.Commits.{ready_result}
-use Rattle.head_tickets.specs.Heads.{next_ticket as next_of, head_of}
-use Rattle.host_map.specs.Stores.{Stores}
-use Rattle.migration_core.specs.declared.mail.Letter.{Letter}
-use Rattle.migration_core.specs.declared.mail.Letter.TheVariants as letter
 use Rattle.event_cells.specs.declared.cell.Cell.{Cell}
-use Rattle.event_cells.specs.declared.outbox.Envelope.{Envelope}
 use Rattle.event_cells.specs.declared.status.Status as S
 use Rattle.event_cells.specs.declared.status.Status.TheVariants as status
-use Rattle.event_cells.specs.Cells.{is_over, status_of}
-use Rattle.event_cells.specs.Keeps.{Sending, is_empty, mail_in}
+use Rattle.event_cells.specs.Cells.{status_of}
 use Rattle.wave_states.specs.Actors.{Actors}
-use Rattle.wave_states.specs.Canonical.{at_host, below, by_event, by_mail, by_mails, by_status, early, enabled, enabled_for, grants_of, idle_in, late, mail_act, passes_of, runs_it, place, starts_of, stop_by, stops, stops_of, taken_as, taken_by, takes, tickets, to_mark}
+use Rattle.wave_states.specs.Canonical.{at_host, below, by_event, by_mail, by_mails, by_status, early, enabled, grants_of, idle_in, late, mail_act, passes_of, runs_it, starts_of, stop_by, stops, stops_of, taken_as, taken_by, takes, tickets}
 use Rattle.wave_states.specs.Labels.{Act, Choice, Label, Admit, Queue, Grant, Start as Begin, Stop, Free, Pass, Land, Commit, is_stop}
 use Rattle.wave_states.specs.Labels
 use Rattle.wave_states.specs.States as theory
 use Rattle.wave_states.specs.States.{Event, Hand, Mail}
-use Rattle.wave_states.specs.Steps.{Route, Deliver, Born, Wait, Forward, act_bench, admit, commit, next_ticket, part_of, step, step_by, stop, with_bench, with_hand}
-use Rattle.wave_theory.proofs.Basics.{none_not, number_is, path_is, and_first, and_second, some_same}
-use Rattle.wave_theory.specs.Listed.{kind_of}
+use Rattle.wave_states.specs.Steps.{next_ticket, step}
+use Rattle.wave_theory.proofs.Basics.{number_is, path_is, and_first, and_second}
 use Rattle.code_actor.specs.CodeActors.{Fields}
 use Rattle.plan_actors.specs.PlanActors as actors
 use Rattle.plan_actors.specs.PlanActors.{plan_actors}
 use Rattle.wave_machine.specs.declared.actor.Actor.{Actor}
-use Rattle.wave_machine.specs.declared.kept.Out.{Out}
-use Rattle.wave_machine.specs.Machines.{IsCell, IsOut, Kept, Stands, TheState}
-use Rattle.wave_machine.specs.inner.Asking.{admit_labels, asked_in, by_taker, by_ticket, cell_labels, commit_labels, enter_act, grant_labels, in_order, is_next, label_at, mail_act as act_of_mail, mail_labels, mails_labels, of_kind, place_in, route_at, runs_out, start_labels, status_labels, stop_if, stop_labels, stops_labels}
+use Rattle.wave_machine.specs.Machines.{IsCell, Kept, Stands, TheState}
+use Rattle.wave_machine.specs.inner.Asking.{admit_labels, asked_in, by_taker, by_ticket, cell_labels, commit_labels, in_order, label_at, mails_labels, of_kind, place_in, runs_out, status_labels, stop_labels, stops_labels}
 use Rattle.wave_machine.specs.inner.Listable.{CanList}
-use Rattle.wave_machine.proofs.ListingLists.{by_ticket_is, filter_by_ticket, filter_flat, filter_passed, flat_none, flat_same, map_flat}
-use Rattle.wave_machine.proofs.ListingSteps.{admit_can, commit_can, step_is, taken_one}
-use Rattle.wave_machine.proofs.ListingKinds.{slice_none, frees_asked, grants_asked, idle_same, lands_asked, passes_asked, place_same, placed_there, queues_asked, runs_same, starts_asked, visits_asked}
+use Rattle.wave_machine.proofs.ListingLists.{by_ticket_is, filter_by_ticket, filter_flat, filter_passed, flat_none, map_flat}
+use Rattle.wave_machine.proofs.ListingSteps.{admit_can, commit_can, taken_one}
+use Rattle.wave_machine.proofs.ListingKinds.{frees_asked, grants_asked, idle_same, lands_asked, passes_asked, place_same, placed_there, queues_asked, runs_same, starts_asked, visits_asked}
 use Rattle.wave_machine.proofs.Taking.{Laws}
-use Rattle.wave_machine.proofs.ListingCells.{cell_is, done_none, flat_flat, idle_lowest, idle_one, is_kind, mail_not, mails_not, map_as, no_head, none_of, only_mails, only_status, only_stops, open_labels, past_is, pieces, slice_after, slice_within, status_not, stops_all, ten, unless, within_is}
+use Rattle.wave_machine.proofs.ListingCells.{flat_flat, idle_lowest, is_kind, map_as, no_head, only_mails, only_status, only_stops, slice_after, ten, unless, within_is}
 
 module _ (laws : Laws) (m : Kept) (start : Start) (s : TheState) (stands_for : Stands m start s) (list : CanList m.plan start s) where
   abbrev sys : Actors actors.Actor Fields EventResult Line

@@ -1,10 +1,7 @@
 -- What a state lists of each kind is what is asked for by what is kept of it.
-use Rattle.std.proofs.Common.{◌≡◌, ◌∙◌, ◌⊎◌, inl, inr, ℕ, zero, suc, ◌+◌, ◌<◌, ◌≤◌, ◌&&◌, ◌==◌, Bool, true, false, not, cond, List, [], ◌∷◌, ◌++◌, length, map, is_some, is_none, Option, Some, None, refl, sym, ap, ap₂, subst, arith, position, append_assoc, append-nil}
-use Rattle.std.specs.Prelude.{filter, flat_map, nat_eq, nat_lt, if◌then◌else◌, option_and_then, option_map, slice_get}
+use Rattle.std.proofs.Common.{◌≡◌, ◌∙◌, inl, inr, ℕ, zero, suc, ◌+◌, ◌<◌, ◌≤◌, ◌&&◌, ◌==◌, Bool, true, false, cond, List, [], ◌∷◌, ◌++◌, length, map, is_some, is_none, Option, Some, None, refl, sym, ap, subst, arith, position}
+use Rattle.std.specs.Prelude.{filter, flat_map, nat_eq, nat_lt, if◌then◌else◌, option_map, slice_get}
 use Rattle.std.specs.FinMap as table
-use Rattle.std.proofs.lemmas.List.Elements.{filter-append}
-use Rattle.std.proofs.lemmas.List.Concat.{flat_map-append}
-use Rattle.std.proofs.lemmas.Bool.{eqb-true}
 use Rattle.wave_base.specs.declared.outcome.EventResult.{EventResult}
 use Rattle.wave_base.specs.declared.path.Path.{Path}
 use Rattle.wave_base.specs.declared.start.Start.{Start}
@@ -13,7 +10,7 @@ use Rattle.wave_base.specs.Paths.{path_eq}
 use Rattle.context_queue.specs.declared.entry.Entry as E
 use Rattle.context_queue.specs.Entries.{StandsFor as EntryStands, entry_of, next_in}
 use Rattle.context_queue.proofs.Holding.{next_is, stands}
-use Rattle.host_map.specs.Stores.{Stores, IsAt, Matches, column_of, has, mark_of}
+use Rattle.host_map.specs.Stores.{Stores, IsAt, Matches, column_of, has}
 use Rattle.migration_core.specs.declared.mail.Letter.{Letter}
 use Rattle.migration_core.specs.declared.mail.Letter.TheVariants as letter
 use Rattle.migration_core.specs.Letters.{Says}
@@ -21,14 +18,14 @@ use Rattle.event_cells.specs.declared.cell.Cell.{Cell}
 use Rattle.event_cells.specs.declared.outbox.Envelope.{Envelope}
 use Rattle.event_cells.specs.declared.status.Status as S
 use Rattle.event_cells.specs.declared.status.Status.TheVariants as status
-use Rattle.event_cells.specs.Cells.{Carries, IsEnvelope, is_over, status_of}
-use Rattle.event_cells.specs.Keeps.{is_empty, mail_in}
-use Rattle.wave_states.specs.Canonical.{at_host, by_event, by_mail, by_mails, by_status, below, early, enabled, enabled_for, grants_of, host_in, idle_in, late, mail_act, passes_of, place, runs_it, starts_of, stop_by, stops, stops_of, taken_as, taken_by, takes, tickets}
+use Rattle.event_cells.specs.Cells.{Carries, IsEnvelope, status_of}
+use Rattle.event_cells.specs.Keeps.{mail_in}
+use Rattle.wave_states.specs.Canonical.{at_host, by_event, by_mail, below, grants_of, host_in, idle_in, mail_act, passes_of, place, runs_it, starts_of, taken_as, takes}
 use Rattle.wave_states.specs.Labels.{Act, Choice, Label, Admit, Queue, Grant, Start as Begin, Free, Land}
 use Rattle.wave_states.specs.Labels
 use Rattle.wave_states.specs.States as theory
 use Rattle.wave_states.specs.States.{Ask, Claim, Column, Enter, Entry, Event, Hand, Mail, Mark, Release, State, Transfer}
-use Rattle.wave_states.specs.Steps.{in_line, part_of, Deliver, Born, Wait, Forward, Route, route, route_by, next_ticket, step}
+use Rattle.wave_states.specs.Steps.{in_line, part_of, Deliver, Born, Wait, route, route_by, step}
 use Rattle.std.proofs.lemmas.Bool.Decides.{nat_tests}
 use Rattle.wave_theory.proofs.Basics.{none_not, some_not, some_same}
 use Rattle.wave_theory.proofs.Opened.{queues as queues_found}
@@ -39,18 +36,17 @@ use Rattle.wave_theory.proofs.Frames.{option_some}
 use Rattle.code_actor.specs.CodeActors.{Fields}
 use Rattle.plan_actors.specs.PlanActors as actors
 use Rattle.plan_actors.specs.PlanActors.{plan_actors, plan_kind}
-use Rattle.plan_actors.specs.Plans.{begin_in}
 use Rattle.wave_machine.specs.declared.actor.Actor.{Actor}
 use Rattle.wave_machine.specs.declared.kept.Out.{Out}
 use Rattle.wave_machine.specs.Machines.{IsCell, event_as, IsOut, Kept, Known, Stands, TheState}
-use Rattle.wave_machine.specs.inner.Asking.{by_taker, enter_act, is_claim, is_next, is_next_in, label_at, mail_act as act_of_mail, mail_labels, mails_labels, of_kind, place_in, grant_labels, start_labels, status_labels, route_at, runs_out}
+use Rattle.wave_machine.specs.inner.Asking.{enter_act, is_claim, is_next, is_next_in, label_at, mail_act as act_of_mail, mail_labels, mails_labels, of_kind, place_in, grant_labels, start_labels, status_labels, route_at, runs_out}
 use Rattle.wave_machine.specs.inner.Listable.{CanList}
 use Rattle.wave_machine.proofs.CellParts.{ThePart}
 use Rattle.wave_machine.proofs.Opening.{left_by, queue_found}
 use Rattle.wave_machine.proofs.Parts.{set_here_path}
 use Rattle.wave_machine.proofs.StoreParts.{at_host as at_written_host}
 use Rattle.wave_machine.proofs.Taking.{Laws, after, now}
-use Rattle.wave_machine.proofs.ListingLists.{map_flat, filter_flat, filter_none, first_place, flat_none, flat_same}
+use Rattle.wave_machine.proofs.ListingLists.{map_flat, filter_flat, first_place, flat_same}
 use Rattle.wave_machine.proofs.ListingSteps.{act_for, followed_in, frees, grant_can, is_next_at, lands, passes, queues, taken_one, visits}
 
 -- an entry that stands for one of the theory lets in who that one lets in

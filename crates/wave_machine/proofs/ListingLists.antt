@@ -12,7 +12,7 @@ use Rattle.std.proofs.lemmas.Bool.Decides.{nat_tests}
 use Rattle.std.proofs.lemmas.List.{drop_all, drop_more}
 use Rattle.std.proofs.lemmas.List.Elements.{filter-append}
 use Rattle.wave_base.specs.Fold.{tickets_from}
-use Rattle.wave_theory.proofs.Basics.{clash, differ, none_not, number_cases, number_self, some_not}
+use Rattle.wave_theory.proofs.Basics.{differ, number_cases, number_self, some_not}
 use Rattle.wave_machine.specs.inner.Asking.{by_ticket}
 
 module _ {X Y : Type 0} where

@@ -1,23 +1,20 @@
 -- What a machine keeps that stands for a state is of a size that can be listed.
-use Rattle.std.proofs.Common.{◌≡◌, ◌∙◌, ◌⊎◌, inl, inr, ℕ, suc, ◌+◌, ◌<◌, ◌≤◌, ◌^◌, true, List, length, is_some, Option, Some, None, refl, sym, ap, subst, arith, length-append}
-use Rattle.std.specs.Prelude.{slice_get, sum_by}
+use Rattle.std.proofs.Common.{◌≡◌, ◌∙◌, ◌⊎◌, inl, inr, ℕ, ◌+◌, ◌<◌, ◌≤◌, ◌^◌, true, length, is_some, Option, Some, None, refl, sym, ap, subst, arith, length-append}
 use Rattle.std.specs.FinMap as table
 use Rattle.std.proofs.lemmas.Bool.{cases_lt}
 use Rattle.wave_base.specs.declared.start.Start.{Start}
 use Rattle.wave_base.specs.declared.script.Line.{Line}
 use Rattle.wave_base.specs.Fold.{Head}
 use Rattle.commit_order.specs.Commits.{ready_result}
-use Rattle.event_cells.specs.declared.cell.Cell.{Cell}
 use Rattle.event_cells.specs.declared.outbox.Envelope.{Envelope}
 use Rattle.event_cells.specs.Cells.{Carries}
 use Rattle.event_cells.specs.Keeps.{mail_in}
 use Rattle.wave_states.specs.States as theory
 use Rattle.wave_theory.proofs.Basics.{some_not}
 use Rattle.code_actor.specs.CodeActors.{Fields}
-use Rattle.wave_machine.specs.declared.actor.Actor.{Actor}
 use Rattle.wave_machine.specs.Heading.{KnownHead}
 use Rattle.wave_machine.specs.Machines.{IsCell, Kept, Known, Stands, TheState}
-use Rattle.wave_machine.specs.inner.Asking.{IsListable, IsNumbered}
+use Rattle.wave_machine.specs.inner.Asking.{IsListable}
 use Rattle.wave_machine.proofs.Taking.{Laws, now}
 
 carries_none : (o : Option Envelope) (r : Option (theory.Mail Fields)) → Carries o r → r ≡ None → o ≡ None

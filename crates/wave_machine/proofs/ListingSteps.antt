@@ -1,11 +1,11 @@
 -- What an idle worker can take, told by mail, status and entry.
 use Rattle.std.proofs.Common.{◌≡◌, ◌∙◌, ℕ, suc, ◌+◌, ◌&&◌, ◌==◌, Bool, true, false, not, cond, List, [], ◌∷◌, is_some, is_none, Option, Some, None, refl, sym, ap}
-use Rattle.std.specs.Prelude.{filter, nat_eq, nat_lt, if◌then◌else◌, option_and_then, option_map, slice_get}
+use Rattle.std.specs.Prelude.{nat_eq, nat_lt, if◌then◌else◌, option_and_then, option_map, slice_get}
 use Rattle.wave_base.specs.declared.path.Path.{Path}
 use Rattle.wave_base.specs.Paths.{path_eq}
 use Rattle.context_queue.specs.Entries.{next_in}
 use Rattle.wave_states.specs.Actors.{Actors}
-use Rattle.wave_states.specs.Canonical.{mail_act, passes_of, taken_as, takes, to_mark}
+use Rattle.wave_states.specs.Canonical.{mail_act, passes_of, takes, to_mark}
 use Rattle.wave_states.specs.Labels.{Act, Choice, Label, Admit, Queue, Grant, Start, Stop, Free, Pass, Land, Commit, ticket_of, path_of, is_local}
 use Rattle.wave_states.specs.Labels
 use Rattle.wave_states.specs.States.{State, Ask, Claim, Column, Entry, Event, Letter, Enter, Visit, Back, Release, Transfer, Mail, Mark, ask_in, entry_in, is_coming, is_release}

@@ -13,3 +13,7 @@ pub mod Prepared
 pub mod Ending
 pub mod Always
 pub mod Showing
+pub mod Lengths
+pub mod Orders
+pub mod Picks
+

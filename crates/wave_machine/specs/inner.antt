@@ -11,3 +11,4 @@ pub mod Endings
 pub mod Driving
 pub mod Drivable
 pub mod Lines
+pub mod Done

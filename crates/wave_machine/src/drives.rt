@@ -16,17 +16,21 @@ ghost use Rattle.wave_states.specs.Canonical.{enabled};
 ghost use Rattle.wave_states.specs.Labels.{Stop};
 ghost use Rattle.plan_actors.specs.PlanActors.{plan_actors};
 ghost use Rattle.wave_machine.specs.Keeping.{kept_of};
+ghost use Rattle.wave_machine.specs.Lengths.{IsMeasured};
 ghost use Rattle.wave_machine.specs.Machines.{Stands, TheState};
 ghost use Rattle.wave_machine.specs.Prepared.{is_start, is_step};
 ghost use Rattle.wave_machine.specs.Rules.{number_of, rule_of};
+ghost use Rattle.wave_machine.specs.inner.Done.{AreDone};
 ghost use Rattle.wave_machine.specs.inner.Driving.{IsTaking, Leads, first_state};
 
 use crate::adding::push;
+use crate::done::done_stays;
 use crate::drivable::states_drive;
 use crate::ends::End;
 use crate::engine::Engine;
 use crate::hands::segments_are_known;
 use crate::laws::states_are_known;
+use crate::lengths::runs_are_measured;
 use crate::listable::states_list;
 use crate::plan::Plan;
 use crate::rules::{PickRule, by_mail_last, by_newest, by_oldest, by_seed};
@@ -39,11 +43,17 @@ use wave_labels::{Act, Label};
 use wave_theory::{empty_at_end, rules_pick};
 
 // What the rule picks of what can be done.
-fn next(engine: &Engine, rule: PickRule, draw: &mut u64) -> Result<Option<Label>, OutOfMemory>
-    requires { (start : start.Start) × (s : TheState) × Stands (kept_of engine.now) start s }
+fn next(
+    engine: &Engine,
+    done: usize,
+    rule: PickRule,
+    draw: &mut u64,
+) -> Result<Option<Label>, OutOfMemory>
+    requires stands { (start : start.Start) × (s : TheState) × Stands (kept_of engine.now) start s }
+    requires done { AreDone (kept_of engine.now) done }
     ensures { IfOk result (λ o. (start : start.Start) (s : TheState) → Stands (kept_of engine.now) start s → rule_of rule draw.old s (enabled (plan_actors (kept_of engine.now).plan.program) (kept_of engine.now).plan.workers (kept_of engine.now).plan.script.hosts s) ≡ (draw.new, option_map label_of o)) }
 {
-    let labels = engine.enabled()?;
+    let labels = engine.enabled(done)?;
     Ok(pick(engine, rule, draw, labels.as_slice()))
 }
 
@@ -165,12 +175,15 @@ pub(crate) fn drive_on(
     runs_are_short();
     rules_pick::<PlanActors>();
     empty_at_end::<PlanActors>();
+    done_stays();
     let mut ends = no_ends(alloc, engine.hands.len())?;
     let mut draw = number_of(rule);
     let mut labels = Vec::new(alloc);
-    while let Some(label) = next(engine, rule, &mut draw)? {
+    let mut done = 0;
+    while let Some(label) = next(engine, done, rule, &mut draw)? {
         take(alloc, engine, &mut ends, &label)?;
         push(&mut labels, label.worker, label.host, label.act)?;
+        done = engine.count_done(done);
     }
     Ok(labels)
 }
@@ -186,7 +199,7 @@ fn number_of(rule: PickRule) -> u64
 }
 
 /// Runs a plan from a Start on one thread: a rule picks from what can be done, until nothing is left. Gives what the run tells,
-/// and the labels that were picked, in their order.
+/// and the labels that were picked, in their order: as many as the plan's work asks for, and the Passes.
 pub fn drive_with(
     alloc: Global,
     plan: &Plan,
@@ -197,7 +210,9 @@ pub fn drive_with(
     requires begins { FitsStart (plan_of plan.now) start.now }
     ensures told { IfOk result (λ r. r.0 ≡ finished_of (code_ran plan.now.program) plan.now.program.shape start.now plan.now.script) }
     ensures driven { IfOk result (λ r. IsDrive (plan_actors plan.now.program) plan.now.workers plan.now.script.hosts (rule_of rule) (number_of rule) (start_state (begin_in (plan_of plan.now) start.now) plan.now.script.batches) (map label_of r.1)) }
+    ensures measured { IfOk result (λ r. IsMeasured (plan_of plan.now) start.now (map label_of r.1)) }
 {
+    runs_are_measured();
     let mut engine = Engine::new_at(alloc, plan, start)?;
     let labels = drive_on(alloc, &mut engine, start, rule)?;
     let finished = told(alloc, engine)?;
@@ -226,6 +241,7 @@ pub fn drive_at(
     requires begins { FitsStart (plan_of plan.now) start.now }
     ensures told { IfOk result (λ r. r.0 ≡ finished_of (code_ran plan.now.program) plan.now.program.shape start.now plan.now.script) }
     ensures driven { IfOk result (λ r. IsDrive (plan_actors plan.now.program) plan.now.workers plan.now.script.hosts (rule_of (rule.Seed seed)) seed (start_state (begin_in (plan_of plan.now) start.now) plan.now.script.batches) (map label_of r.1)) }
+    ensures measured { IfOk result (λ r. IsMeasured (plan_of plan.now) start.now (map label_of r.1)) }
 {
     drive_with(alloc, plan, start, PickRule::Seed(seed))
 }
@@ -235,6 +251,7 @@ pub fn drive(alloc: Global, plan: &Plan, seed: u64) -> Result<(Finished, Seq<Lab
     requires { Fits (plan_of plan.now) }
     ensures told { IfOk result (λ r. r.0 ≡ finished_of (code_ran plan.now.program) plan.now.program.shape (first_start plan.now.program.shape) plan.now.script) }
     ensures driven { IfOk result (λ r. IsDrive (plan_actors plan.now.program) plan.now.workers plan.now.script.hosts (rule_of (rule.Seed seed)) seed (start_state (begin_in (plan_of plan.now) (first_start plan.now.program.shape)) plan.now.script.batches) (map label_of r.1)) }
+    ensures measured { IfOk result (λ r. IsMeasured (plan_of plan.now) (first_start plan.now.program.shape) (map label_of r.1)) }
 {
     trees_that_fit();
     let start = Start::first(alloc, &plan.program.program().shape)?;

@@ -9,6 +9,7 @@ ghost use Rattle.wave_states.specs.Canonical.{enabled, enabled_for};
 ghost use Rattle.plan_actors.specs.PlanActors.{plan_actors};
 ghost use Rattle.wave_machine.specs.Machines.{Stands, TheState};
 ghost use Rattle.wave_machine.specs.inner.Asking.{by_taker, mail_labels, mails_labels, status_labels, stop_labels, stops_labels, cell_labels, admit_labels, commit_labels, asked_in, in_order, IsNumbered, IsListable};
+ghost use Rattle.wave_machine.specs.inner.Done.{AreDone};
 
 use crate::actor::Actor;
 use crate::adding::add;
@@ -28,30 +29,33 @@ impl<'p> Engine<'p> {
     ghost use Rattle.wave_machine.specs.Keeping.{kept_of};
 
     // What can be done: all but the Stops by the lowest idle worker.
-    pub(crate) fn enabled(&self) -> Result<Seq<Label>, OutOfMemory>
-        requires { (start : Start) × (s : TheState) × Stands (kept_of self.now) start s }
+    pub(crate) fn enabled(&self, done: usize) -> Result<Seq<Label>, OutOfMemory>
+        requires stands { (start : Start) × (s : TheState) × Stands (kept_of self.now) start s }
+        requires done { AreDone (kept_of self.now) done }
         ensures { IfOk result (λ ls. (start : Start) (s : TheState) → Stands (kept_of self.now) start s → map label_of ls ≡ enabled (plan_actors (kept_of self.now).plan.program) (kept_of self.now).plan.workers (kept_of self.now).plan.script.hosts s) }
     {
         states_are_known();
         heads_are_known();
         states_list();
-        self.listing(Takers {
+        let takers = Takers {
             idle: lowest_idle(&self.hands),
             from: 0,
             to: self.plan.workers,
-        })
+        };
+        self.listing(takers, done)
     }
 
     // What a worker can do.
-    pub(crate) fn enabled_for(&self, worker: Worker) -> Result<Seq<Label>, OutOfMemory>
-        requires { (start : Start) × (s : TheState) × Stands (kept_of self.now) start s }
+    pub(crate) fn enabled_for(&self, worker: Worker, done: usize) -> Result<Seq<Label>, OutOfMemory>
+        requires stands { (start : Start) × (s : TheState) × Stands (kept_of self.now) start s }
+        requires done { AreDone (kept_of self.now) done }
         ensures { IfOk result (λ ls. (start : Start) (s : TheState) → Stands (kept_of self.now) start s → map label_of ls ≡ enabled_for (plan_actors (kept_of self.now).plan.program) (kept_of self.now).plan.workers (kept_of self.now).plan.script.hosts s worker.0) }
     {
         states_are_known();
         heads_are_known();
         states_list();
         match self.is_idle(worker) {
-            Some(idle) => self.listing(own_takers(worker, idle)),
+            Some(idle) => self.listing(own_takers(worker, idle), done),
             None => Ok(Seq::new(*self.cells.allocator())),
         }
     }
@@ -68,23 +72,25 @@ impl<'p> Engine<'p> {
     }
 
     // What the takers can do, in order.
-    fn listing(&self, takers: Takers) -> Result<Seq<Label>, OutOfMemory>
-        requires { IsListable (kept_of self.now) }
+    fn listing(&self, takers: Takers, done: usize) -> Result<Seq<Label>, OutOfMemory>
+        requires listable { IsListable (kept_of self.now) }
+        requires done { AreDone (kept_of self.now) done }
         ensures { IfOk result (λ ls. map label_of ls ≡ in_order (asked_in (kept_of self.now) (option_map (λ w. w.0) takers.idle) (tickets_from takers.from (takers.to - takers.from)))) }
     {
-        in_order(&self.asked(takers)?)
+        in_order(&self.asked(takers, done)?)
     }
 
-    // All that is asked for.
-    fn asked(&self, takers: Takers) -> Result<Vec<Label>, OutOfMemory>
-        requires { IsListable (kept_of self.now) }
+    // All that is asked for. The first tickets, so many, are done, and ask for nothing.
+    fn asked(&self, takers: Takers, done: usize) -> Result<Vec<Label>, OutOfMemory>
+        requires listable { IsListable (kept_of self.now) }
+        requires done { AreDone (kept_of self.now) done }
         ensures { IfOk result (λ ls. map label_of ls.items ≡ asked_in (kept_of self.now) (option_map (λ w. w.0) takers.idle) (tickets_from takers.from (takers.to - takers.from))) }
     {
         let mut labels = Vec::new(*self.cells.allocator());
         self.ask_head(takers.idle, &mut labels)?;
-        for (i, cell) in self.cells.iter().enumerate() {
+        for i in done..self.cells.len() {
             let ticket = Ticket(self.first + i as u32);
-            self.ask_cell(takers, ticket, cell, &mut labels)?;
+            self.ask_cell(takers, ticket, &self.cells[i], &mut labels)?;
         }
         Ok(labels)
     }

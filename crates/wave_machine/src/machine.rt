@@ -14,8 +14,10 @@ ghost use Rattle.wave_machine.specs.Plans.{plan_of};
 ghost use Rattle.wave_machine.specs.Prepared.{IsStood, is_start, is_step};
 ghost use Rattle.wave_machine.specs.Running.{CanStop, IsStopping, Leases, Stops, stop_of};
 ghost use Rattle.wave_machine.specs.Actors.{MayRun};
+ghost use Rattle.wave_machine.specs.Picks.{IsOneOf};
 ghost use Rattle.wave_machine.specs.Showing.{IsLineOf};
 
+use crate::done::done_stays;
 use crate::engine::Engine;
 use crate::lease::Lease;
 use crate::plan::Plan;
@@ -35,6 +37,8 @@ pub struct Machine<'p> {
     alloc: Global,
     engine: Engine<'p>,
     prepared: Option<(Label, Prepared)>,
+    // so many of the first tickets are done
+    done: usize,
 }
 
 impl<'p> Model for Machine<'p> {
@@ -44,6 +48,7 @@ impl<'p> Model for Machine<'p> {
     ghost use Rattle.host_map.specs.contracts.store.HostStore as store;
     ghost use Rattle.wave_machine.specs.Keeping.{kept_of};
     ghost use Rattle.wave_machine.specs.Prepared.{Shown, IsStood, IsPrepared, shown_of};
+    ghost use Rattle.wave_machine.specs.inner.Done.{AreDone};
 
     ghost Value = { Shown };
 
@@ -51,7 +56,7 @@ impl<'p> Model for Machine<'p> {
 
     ghost view = { λ a. shown_of a.engine a.prepared };
 
-    ghost invariant = { λ a. IsStood (kept_of a.engine) × IsPrepared a.engine a.prepared };
+    ghost invariant = { λ a. IsStood (kept_of a.engine) × IsPrepared a.engine a.prepared × AreDone (kept_of a.engine) a.done };
 }
 
 impl<'p> Machine<'p> {
@@ -80,6 +85,7 @@ impl<'p> Machine<'p> {
             alloc,
             engine,
             prepared: None,
+            done: 0,
         })
     }
 
@@ -87,14 +93,22 @@ impl<'p> Machine<'p> {
     pub fn enabled(&self) -> Result<Seq<Label>, OutOfMemory>
         ensures { IfOk result (λ ls. (start : Start) (s : TheState) → Stands self.now.kept start s → map label_of ls ≡ enabled (plan_actors self.now.kept.plan.program) self.now.kept.plan.workers self.now.kept.plan.script.hosts s) }
     {
-        self.engine.enabled()
+        self.engine.enabled(self.done)
     }
 
     /// What a worker can do, in the same order. For a worker past the plan's number there is nothing.
     pub fn enabled_for(&self, worker: Worker) -> Result<Seq<Label>, OutOfMemory>
         ensures { IfOk result (λ ls. (start : Start) (s : TheState) → Stands self.now.kept start s → map label_of ls ≡ enabled_for (plan_actors self.now.kept.plan.program) self.now.kept.plan.workers self.now.kept.plan.script.hosts s worker.0) }
     {
-        self.engine.enabled_for(worker)
+        self.engine.enabled_for(worker, self.done)
+    }
+
+    /// One of what a worker can do that has no segment out, found without a list and without memory; none where there is nothing.
+    pub fn some_for(&self, worker: Worker) -> Option<Label>
+        requires { slice_get self.now.kept.hands worker.0 ≡ Some None }
+        ensures { (start : Start) (s : TheState) → Stands self.now.kept start s → IsOneOf (enabled_for (plan_actors self.now.kept.plan.program) self.now.kept.plan.workers self.now.kept.plan.script.hosts s worker.0) result }
+    {
+        self.engine.some_for(worker, self.done)
     }
 
     /// Makes all that a label needs which is enabled, so that it can be taken without memory: the machine is reserved for it then. The
@@ -121,10 +135,12 @@ impl<'p> Machine<'p> {
         ensures plan { self.new.kept.plan ≡ self.old.kept.plan }
         ensures reserved { self.new.reserved ≡ None }
     {
+        done_stays();
         match self.prepared.take() {
             Some((_, part)) => self.engine.act(label, part),
             None => unreachable!(),
         }
+        self.done = self.engine.count_done(self.done);
     }
 
     /// Takes a Start for which it is reserved. The lease has the actor and the record that the worker has in its hand then, and a
@@ -140,6 +156,7 @@ impl<'p> Machine<'p> {
         ensures plan { self.new.kept.plan ≡ self.old.kept.plan }
         ensures reserved { self.new.reserved ≡ None }
     {
+        done_stays();
         match self.prepared.take() {
             Some((_, part)) => self.engine.act_start(label, part),
             None => unreachable!(),
@@ -159,6 +176,7 @@ impl<'p> Machine<'p> {
         ensures reserved { OnErr result (self.new.reserved ≡ self.old.reserved) }
         ensures taken { OnOk result (self.new.reserved ≡ None) }
     {
+        done_stays();
         match self.engine.stop(lease, pause) {
             Ok(label) => {
                 forget(&mut self.prepared);
@@ -185,6 +203,7 @@ impl<'p> Machine<'p> {
             alloc,
             engine,
             prepared,
+            done,
         } = self;
         match engine.into_finished(alloc) {
             Ok(finished) => Ok(finished),
@@ -193,6 +212,7 @@ impl<'p> Machine<'p> {
                     alloc,
                     engine,
                     prepared,
+                    done,
                 };
                 Err((machine, error))
             }

@@ -3,7 +3,6 @@ use Rattle.std.specs.Prelude.{◌≡◌, ℕ, List, ◌∷◌, ◌++◌}
 use Rattle.wave_base.specs.declared.shape.Shape.{Shape}
 use Rattle.wave_labels.specs.declared.label.Label.{Label}
 use Rattle.journal_text.specs.Fits.{IsLabel}
-use Rattle.journal_text.specs.JournalTexts.{head_text, line_count}
 use Rattle.journal_text.specs.LabelTexts.{line_text}
 
 -- it is the line of this label, and of no other
@@ -16,11 +15,6 @@ abbrev pub IsNoLine : Shape → ℕ → List ℕ → Type 0
 IsNoLine shape i line = (label : Label) → IsLabel shape label → line ≡ line_text shape i label → ⊥
 
 -- ---- the front of a text
-
--- this stands behind a head that tells the number of its lines
-pub record IsBehindHead (text rest : List ℕ) : Type 0 where
-  pub spelled : text ≡ head_text (line_count rest) ++ 10 ∷ rest
-  pub only : (other : List ℕ) → text ≡ head_text (line_count other) ++ 10 ∷ other → other ≡ rest
 
 -- the text begins with the line of this label, and of no other
 pub record IsOnlyFront (shape : Shape) (i : ℕ) (text : List ℕ) (label : Label) (rest : List ℕ) : Type 0 where

@@ -1,20 +1,8 @@
 -- The step at the front of a text.
-use Rattle.std.specs.Prelude.{◌≡◌, ℕ, Bool, true, ◌==◌, not, List, ◌∷◌, ◌++◌}
-use Rattle.std.specs.List.{list_all}
+use Rattle.std.specs.Prelude.{◌≡◌, ℕ, true, List, ◌∷◌, ◌++◌}
+use Rattle.wave_text.specs.Splits.{IsSplit}
 use Rattle.path_text.specs.declared.written.Written.{Written}
 use Rattle.path_text.specs.Steps.{is_step, step_text}
-
-abbrev pub is_other : ℕ → ℕ → Bool
-is_other b c = not (c == b)
-
--- the byte is nowhere
-abbrev pub HasNone : ℕ → List ℕ → Type 0
-HasNone b bs = list_all (is_other b) bs ≡ true
-
--- what stands before the first such byte, and behind it
-pub record IsSplit (b : ℕ) (text front rest : List ℕ) : Type 0 where
-  pub spelled : text ≡ front ++ b ∷ rest
-  pub first : HasNone b front
 
 -- the text begins with this step
 pub record IsFront (text : List ℕ) (step : Written) (rest : List ℕ) : Type 0 where

@@ -5,6 +5,8 @@ use Rattle.script_reader.specs.declared.error.Fault.{Fault}
 use Rattle.script_reader.specs.declared.error.ScriptError.{ScriptError}
 use Rattle.script_reader.specs.declared.error.ScriptError.TheVariants.{OutOfMemory}
 use Rattle.script_reader.specs.declared.progress.Progress.{Progress}
+use Rattle.script_reader.specs.declared.refusal.Refusal.{Refusal}
+use Rattle.script_reader.specs.declared.refusal.Refusal.TheVariants as refusal
 use Rattle.script_reader.specs.declared.said.Said.{Said}
 use Rattle.script_reader.specs.declared.taken.Taken.{Taken}
 use Rattle.script_reader.specs.inner.Progressed.{with_taken}
@@ -17,6 +19,10 @@ pub record IsStep (shape : Shape) (line : List ℕ) (before after : Progress) : 
   pub says : IsOnlySaid line said
   pub judged_is : judged shape before.hosts before.begun before.events said ≡ Ok taken
   pub after_is : after ≡ with_taken before taken
+
+abbrev pub stopped : Refusal → ℕ → ScriptError
+stopped (refusal.Fault f) number = refused f number
+stopped refusal.OutOfMemory number = OutOfMemory
 
 pub record IsRefused (shape : Shape) (line : List ℕ) (before : Progress) (number : ℕ) (error : ScriptError) : Type 0 where
   pub said : Said

@@ -2,7 +2,7 @@
 use Rattle.std.specs.Prelude.{◌≡◌, ℕ, Bool, true, ◌||◌, List, [], ◌∷◌, ◌++◌, codes, All}
 use Rattle.wave_base.specs.Names.{same_bytes}
 use Rattle.path_text.specs.declared.written.Written.{Written}
-use Rattle.path_text.specs.inner.Fronts.{HasNone}
+use Rattle.wave_text.specs.Splits.{HasNone}
 use Rattle.snapshot_text.specs.Forms.{Literal, IsLiteral, literal_text, Field, IsField, field_text, fields_text, are_pairs, pairs_text, pair_text, is_plain, is_below, HasForm}
 
 abbrev pub BeginsNot : ℕ → List ℕ → Type 0

@@ -2,20 +2,14 @@
 use Rattle.std.specs.Prelude.{◌≡◌, ℕ, ◌+◌, ◌⊎◌, true, List, [], ◌∷◌, ◌++◌, length, All, Result, Ok, Err}
 use Rattle.wave_base.specs.declared.shape.Shape.{Shape}
 use Rattle.wave_base.specs.declared.shot.Shot.{Shot}
-use Rattle.journal_text.specs.JournalTexts.{line_count}
 use Rattle.snapshot_text.specs.declared.error.Fault.{Fault}
 use Rattle.snapshot_text.specs.declared.error.ShotError.{ShotError}
 use Rattle.snapshot_text.specs.declared.error.ShotError.TheVariants as error
 use Rattle.snapshot_text.specs.Refusals.{refused}
 use Rattle.snapshot_text.specs.Shots.{IsShot, are_in_order, comes_next, paths_of}
-use Rattle.snapshot_text.specs.SnapshotTexts.{head_text, shots_text}
+use Rattle.snapshot_text.specs.SnapshotTexts.{shots_text}
 use Rattle.snapshot_text.specs.Verdicts.{IsLineOf, IsFault, BeginsWithFault}
 use Rattle.snapshot_text.specs.inner.Guesses.{IsOnlyLineOf}
-
--- this stands behind a head that tells the number of its lines
-pub record IsBehindHead (text rest : List ℕ) : Type 0 where
-  pub spelled : text ≡ head_text (line_count rest) ++ 10 ∷ rest
-  pub only : (other : List ℕ) → text ≡ head_text (line_count other) ++ 10 ∷ other → other ≡ rest
 
 -- ---- one line
 

@@ -1,5 +1,5 @@
 -- What is asked for, read off what is kept of the head, the cells, the stores and the hands; and its order.
-use Rattle.std.specs.Prelude.{◌≡◌, ◌≤◌, ◌<◌, ◌+◌, ◌^◌, ◌&&◌, ◌==◌, ℕ, suc, Bool, true, false, if◌then◌else◌, List, [], ◌∷◌, ◌++◌, map, flat_map, filter, length, position, Option, Some, None, is_some, option_map, slice_get}
+use Rattle.std.specs.Prelude.{◌≡◌, ◌≤◌, ◌<◌, ◌+◌, ◌^◌, ◌&&◌, ◌==◌, ℕ, suc, Bool, true, false, if◌then◌else◌, List, [], ◌∷◌, ◌++◌, flat_map, filter, length, position, Option, Some, None, is_some, option_map, slice_get}
 use Rattle.std.specs.FinMap as table
 use Rattle.wave_base.specs.declared.path.Path.{Path}
 use Rattle.wave_base.specs.Fold.{tickets_from}
@@ -16,7 +16,7 @@ use Rattle.migration_core.specs.declared.mail.Letter.TheVariants as letter
 use Rattle.event_cells.specs.declared.cell.Cell.{Cell}
 use Rattle.event_cells.specs.declared.outbox.Envelope.{Envelope}
 use Rattle.event_cells.specs.declared.status.Status.{Status}
-use Rattle.event_cells.specs.declared.status.Status.TheVariants.{Travelling, Waiting, Ready, Running, Ended}
+use Rattle.event_cells.specs.declared.status.Status.TheVariants.{Waiting, Ready, Running}
 use Rattle.event_cells.specs.Cells.{is_over}
 use Rattle.event_cells.specs.Keeps.{Sending, is_empty, mail_in}
 use Rattle.wave_states.specs.Labels.{Act, Label, Admit, Queue, Grant, Visit, Start, Stop, Free, Pass, Land, Commit}

@@ -8,4 +8,7 @@ pub returns-clause-tree : goal.returns-clause-tree
 returns-clause-tree c = λ shape. c.exchange.ensures.put shape ∙ ap (put (tree_of shape c.args.contexts.now) c.args.path.now) c.new.ensures
 
 pub returns-clause-there : goal.returns-clause-there
-returns-clause-there c = still_here c.args.contexts.now c.exchange.new.self c.args.path.now c.new.result c.exchange.ensures.put c.requires
+returns-clause-there c = still_here c.args.contexts.now c.exchange.new.self c.args.path.now c.args.path.now c.new.result c.exchange.ensures.put c.requires
+
+pub returns-clause-stays : goal.returns-clause-stays
+returns-clause-stays c = λ p here. still_here c.args.contexts.now c.exchange.new.self c.args.path.now p c.new.result c.exchange.ensures.put here

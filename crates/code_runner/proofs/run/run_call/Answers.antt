@@ -12,7 +12,7 @@ use Rattle.code_runner.proofs.run.run_call.Goals as goal
 
 pub under_way-init : goal.under_way-init
 unfolding trip_after
-under_way-init c = record { verified = c.start.ensures.verified; follows = c.in_ok-walk.ensures.first ∙ sym (ap (λ n. trip_after c.args.program.now n (first_trip c.args.program.now c.args.call.now (tree_of c.args.program.now.shape c.args.contexts.now))) (ap (λ (t : Trip). t.tour.segments) c.in_ok-walk.ensures.first)) }
+under_way-init c = record { verified = c.start.ensures.verified; stays = c.start.ensures.stays; follows = c.in_ok-walk.ensures.first ∙ sym (ap (λ n. trip_after c.args.program.now n (first_trip c.args.program.now c.args.call.now (tree_of c.args.program.now.shape c.args.contexts.now))) (ap (λ (t : Trip). t.tour.segments) c.in_ok-walk.ensures.first)) }
 
 pub step-requires-clause-walks : goal.step-requires-clause-walks
 step-requires-clause-walks c =
@@ -47,6 +47,7 @@ under_way-preserved c =
     let p = c.args.program.now in
     record {
       verified = c.under_way.invariant.verified;
+      stays = λ p h. c.step.ensures.stays p (c.under_way.invariant.stays p h);
       follows = follows_on p c.requires.fit c.under_way.invariant.verified c.args.call.now (tree_of p.shape c.args.contexts.now) (c.requires.call, c.requires.generation) c.requires.tree c.requires.root c.under_way.walk.segments c.step.new.self.segments (trip_of c.under_way.walk (tree_of p.shape c.under_way.contexts) None)
           (trip_of c.step.new.self (tree_of p.shape c.step.new.contexts) None)
           c.under_way.invariant.follows (ap (trip_of c.step.new.self (tree_of p.shape c.step.new.contexts)) (sym c.in_default.is) ∙ c.in_ok-result.ensures.next) c.in_ok-result.ensures.segments;

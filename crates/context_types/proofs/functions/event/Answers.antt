@@ -1,5 +1,5 @@
-use Rattle.std.proofs.Common.{◌≡◌, length, map, sym, ap, subst, ◌∙◌}
-use Rattle.std.specs.Option.{option_map, option_map_or}
+use Rattle.std.proofs.Common.{map, sym, ap, subst, ◌∙◌}
+use Rattle.std.specs.Option.{option_map}
 use Rattle.std.proofs.lemmas.Result.{err_from_is_err_and}
 use Rattle.mace_ast.specs.Decls.{event_tree, phase_tree}
 use Rattle.resolved_service.specs.Steps.{steps_in, surely_ends}

@@ -1,11 +1,10 @@
-use Rattle.std.proofs.Common.{◌≡◌, Option, map, sym, ap, subst, ◌∙◌}
+use Rattle.std.proofs.Common.{map, sym, ap, subst, ◌∙◌}
 use Rattle.std.specs.Option.{option_map}
 use Rattle.std.proofs.lemmas.Result.{err_from_is_err_and}
 use Rattle.mace_ast.specs.Decls.{method_tree}
 use Rattle.mace_ast.specs.Stmts.{stmt_tree, stmts_of}
 use Rattle.resolved_service.specs.Steps.{steps_in, surely_ends}
 use Rattle.type_rules.specs.Demands.{first_wrong, Fails}
-use Rattle.type_rules.specs.Here.{start}
 use Rattle.type_rules.specs.Stmts.{after_all, stmts_demands, resolve_stmts}
 use Rattle.type_rules.specs.Functions.{after_params, method_params_demands, method_demands}
 use Rattle.type_rules.specs.Views.{last_view}

@@ -1,17 +1,17 @@
-use Rattle.std.proofs.Common.{ℕ, ◌≡◌, ◌+◌, ◌++◌, ◌∷◌, [], length, map, take, sym, ap, subst, ◌∙◌, append_assoc, arith, ◌<◌}
+use Rattle.std.proofs.Common.{ℕ, ◌≡◌, ◌+◌, ◌++◌, length, map, take, sym, ap, subst, ◌∙◌, append_assoc, arith}
 use Rattle.std.proofs.lemmas.List.{take_all}
 use Rattle.std.proofs.lemmas.Result.{err_from_is_err_and}
 use Rattle.mace_ast.specs.declared.context.ContextDecl.{out-ContextDecl}
 use Rattle.mace_ast.specs.Decls.{context_tree, contexts_of, method_tree}
 use Rattle.type_rules.specs.Demands.{first_wrong, Fails}
-use Rattle.type_rules.specs.Known.{class_count, classes_count, methods_of, methods_in}
+use Rattle.type_rules.specs.Known.{class_count, classes_count, methods_in}
 use Rattle.type_rules.specs.Services.{context_demands, contexts_demands, methods_demands, fields_demands, resolve_context, resolve_contexts, resolve_methods}
 use Rattle.type_rules.specs.Views.{method_view}
 use Rattle.type_rules.proofs.First.{fails_same}
 use Rattle.type_tables.proofs.Gathers.{tree_parts}
 use Rattle.context_types.proofs.Exits.{exit}
 use Rattle.context_types.proofs.ServiceArms.{next_context, context_asks, context_made, joined, contexts_walk, contexts_made, contexts_made_more, count_context, count_contexts, class_at, name_fails, fields_fail, inside_fails, own_fails, parts_hold}
-use Rattle.context_types.proofs.Walking.{walk, ends, ends_more, walk_more, walk_fails, walk_whole, makes}
+use Rattle.context_types.proofs.Walking.{walk, ends_more, walk_more, walk_fails, walk_whole, makes}
 use Rattle.context_types.proofs.service.+context.Goals as goal
 
 -- ---- a context

@@ -1,8 +1,8 @@
-use Rattle.std.proofs.Common.{◌≡◌, ◌<◌, ◌+◌, ◌++◌, [], length, map, sym, ap, subst, ◌∙◌, arith}
+use Rattle.std.proofs.Common.{◌≡◌, ◌++◌, [], length, map, sym, ap, subst, ◌∙◌, arith}
 use Rattle.std.proofs.lemmas.Result.{err_from_is_err_and}
 use Rattle.mace_ast.specs.Decls.{context_tree, contexts_of, method_tree, event_tree, service_tree}
 use Rattle.type_rules.specs.Demands.{first_wrong, Fails}
-use Rattle.type_rules.specs.Known.{classes_count, methods_in}
+use Rattle.type_rules.specs.Known.{methods_in}
 use Rattle.type_rules.specs.Functions.{resolve_event}
 use Rattle.type_rules.specs.Services.{name_asks, fields_demands, contexts_demands, methods_demands, events_demands, demands_with, resolve_contexts, resolve_methods}
 use Rattle.type_rules.specs.Views.{method_view, event_view}

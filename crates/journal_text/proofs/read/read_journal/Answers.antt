@@ -1,6 +1,7 @@
 use Rattle.std.proofs.Common.{IfSome, IfNone, subst}
+use Rattle.std.specs.Prelude.{codes}
+use Rattle.wave_text.specs.Counted.{IsBehindHead}
 use Rattle.journal_text.specs.Verdicts.{HasNoHead}
-use Rattle.journal_text.specs.inner.Lines.{IsBehindHead}
 use Rattle.journal_text.proofs.VerdictLemmas.{headless, read_verdict}
 use Rattle.journal_text.proofs.read.read_journal.Goals as goal
 
@@ -11,4 +12,4 @@ returns-in_default c =
 pub returns : goal.returns
 returns c =
     read_verdict c.args.shape.now c.requires.names c.args.text.now c.requires.short c.in-Some.tail.now
-    (subst (λ o. IfSome o (λ rest. IsBehindHead c.args.text.now rest.now)) c.in-Some.is c.in_ok-tail.ensures.some) c.read_labels.result c.read_labels.ensures
+    (subst (λ o. IfSome o (λ rest. IsBehindHead (codes "journal ") c.args.text.now rest.now)) c.in-Some.is c.in_ok-tail.ensures.some) c.read_labels.result c.read_labels.ensures

@@ -1,4 +1,4 @@
-use Rattle.std.proofs.Common.{◌≡◌, ℕ, true, false, [], pos, sym, ap}
+use Rattle.std.proofs.Common.{◌≡◌, ℕ, false, [], pos, sym, ap}
 use Rattle.std.proofs.lemmas.Bool.{ne_eqb}
 use Rattle.std.specs.Prelude.{◌==◌, if◌then◌else◌}
 use Rattle.mace_printer.specs.Canon.{number}

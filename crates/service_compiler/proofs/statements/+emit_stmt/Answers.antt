@@ -43,8 +43,8 @@ emit_turn-returns-then-surely_ends t c =
     c.in_ok-put.ensures (c.in_ok-put-2.ensures ∙ ap (λ s. c1 ++ line (i.Store s) at ∷ []) c.in_ok-name.ensures) c.in_ok-emit_stmts.ensures
     ∙ ap (λ b. base ++ wrapped (turn_code counter at b (body (length base + 1 + 1)))) (sym c.if-surely_ends.true ∙ c.surely_ends.ensures)
 
-pub emit_turn-returns-else-surely_ends : goal.emit_turn-returns-else-surely_ends
-emit_turn-returns-else-surely_ends t c =
+pub emit_turn-returns : goal.emit_turn-returns
+emit_turn-returns t c =
     let at = c.args.at in
     let counter = c.args.counter in
     let base = c.args.code.now.items in
@@ -74,8 +74,8 @@ emit_stmt-returns-in-None t c =
     (c.len-body_end.ensures ∙ c.emit_stmts.new.code.ok.0)
     ∙ ap (λ s. base ++ wrapped (step_code m x (length base) s)) (sym (ap (λ a. action_step a at) (c.in-If.is ∙ ap (λ o. action.If c.in-If.test c.in-If.body o) c.in-None.is) ∙ if_action c.in-If.test c.in-If.body at))
 
-pub emit_stmt-returns-in_ok-emit_stmts-then-surely_ends : goal.emit_stmt-returns-in_ok-emit_stmts-then-surely_ends
-emit_stmt-returns-in_ok-emit_stmts-then-surely_ends t c =
+pub emit_stmt-returns-then-surely_ends : goal.emit_stmt-returns-then-surely_ends
+emit_stmt-returns-then-surely_ends t c =
     let m = c.args.methods.now in
     let x = c.args.texts.now in
     let at = c.args.stmt.now.at in
@@ -92,12 +92,12 @@ emit_stmt-returns-in_ok-emit_stmts-then-surely_ends t c =
     c.in_ok-put-in-If.ensures
     (c.in_ok-emit_stmts-in-If.ensures ∙ ap (λ ss. c2 ++ wrapped (steps_code m x (length c2) (steps_in ss))) c.deref.ensures.value)
     (c.len-body_end.ensures ∙ c.emit_stmts.new.code.ok.0)
-    (c.in_ok-emit_stmts-then-surely_ends.ensures ∙ ap (λ ss. c3 ++ wrapped (steps_code m x (length c3) (steps_in ss))) c.deref-then-surely_ends.ensures.value)
+    (c.in_ok-emit_stmts-in-Some.ensures ∙ ap (λ ss. c3 ++ wrapped (steps_code m x (length c3) (steps_in ss))) c.deref-then-surely_ends.ensures.value)
     ∙ ap (λ b. base ++ wrapped (test_then m x (length base) at ct b (steps_code m x (length base + length ct + 1) (steps_in c.in-If.body.items)) (otherwise (steps_in c.in-Some.other.items)))) (sym c.if-surely_ends.true ∙ c.surely_ends.ensures ∙ ap (λ ss. surely_ends (steps_in ss)) c.deref-in-Some.ensures.value)
     ∙ ap (λ s. base ++ wrapped (step_code m x (length base) s)) (sym (ap (λ a. action_step a at) (c.in-If.is ∙ ap (λ o. action.If c.in-If.test c.in-If.body o) c.in-Some.is) ∙ else_action c.in-If.test c.in-If.body c.in-Some.other at))
 
-pub emit_stmt-returns-in_ok-emit_stmts-in-Some : goal.emit_stmt-returns-in_ok-emit_stmts-in-Some
-emit_stmt-returns-in_ok-emit_stmts-in-Some t c =
+pub emit_stmt-returns-in_ok-emit_stmts-in-Some-2 : goal.emit_stmt-returns-in_ok-emit_stmts-in-Some-2
+emit_stmt-returns-in_ok-emit_stmts-in-Some-2 t c =
     let m = c.args.methods.now in
     let x = c.args.texts.now in
     let at = c.args.stmt.now.at in
@@ -116,7 +116,7 @@ emit_stmt-returns-in_ok-emit_stmts-in-Some t c =
     (c.in_ok-emit_stmts-in-If.ensures ∙ ap (λ ss. c2 ++ wrapped (steps_code m x (length c2) (steps_in ss))) c.deref.ensures.value)
     (c.len-body_end.ensures ∙ c.emit_stmts.new.code.ok.0)
     c.in_ok-put-in-Some.ensures
-    (c.in_ok-emit_stmts-in-Some.ensures ∙ ap (λ ss. c4 ++ wrapped (steps_code m x (length c4) (steps_in ss))) c.deref-in-Some.ensures.value)
+    (c.in_ok-emit_stmts-in-Some-2.ensures ∙ ap (λ ss. c4 ++ wrapped (steps_code m x (length c4) (steps_in ss))) c.deref-in-Some-2.ensures.value)
     (c.len-end.ensures ∙ c.emit_stmts-in-Some.new.code.ok.0)
     ∙ ap (λ b. base ++ wrapped (test_then m x (length base) at (tree_code m x (length base) (tree_of c.in-If.test)) b (steps_code m x (length base + length (tree_code m x (length base) (tree_of c.in-If.test)) + 1) (steps_in c.in-If.body.items)) (otherwise (steps_in c.in-Some.other.items)))) (sym c.if-surely_ends.false ∙ c.surely_ends.ensures ∙ ap (λ ss. surely_ends (steps_in ss)) c.deref-in-Some.ensures.value)
     ∙ ap (λ s. base ++ wrapped (step_code m x (length base) s)) (sym (ap (λ a. action_step a at) (c.in-If.is ∙ ap (λ o. action.If c.in-If.test c.in-If.body o) c.in-Some.is) ∙ else_action c.in-If.test c.in-If.body c.in-Some.other at))
@@ -140,7 +140,7 @@ emit_stmt-returns-in_ok-emit_back-in-While t c =
     (c.len-test_end-in-While.ensures ∙ c.emit_expr-in-While.new.code.ok.0)
     c.in_ok-put-in-While.ensures c.in_ok-put-in-While-2.ensures
     (c.in_ok-emit_stmts-in-While.ensures ∙ ap (λ ss. c3 ++ wrapped (steps_code m x (length c3) (steps_in ss))) c.deref-in-While.ensures.value)
-    (c.in_ok-emit_back.ensures ∙ ap (λ b. c4 ++ wrapped (back_code b c.len-start.result at)) tells)
+    (c.in_ok-emit_back-in-While.ensures ∙ ap (λ b. c4 ++ wrapped (back_code b c.len-start.result at)) tells)
     (c.len-end-in-While.ensures ∙ c.emit_back.new.code.ok.0)
     ∙ ap (λ s. base ++ wrapped (step_code m x (length base) s)) (sym (ap (λ a. action_step a at) c.in-While.is ∙ while_action c.in-While.test c.in-While.body at))
 

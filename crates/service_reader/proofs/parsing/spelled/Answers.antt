@@ -1,4 +1,4 @@
-use Rattle.std.proofs.Common.{inl, inr, refl}
+use Rattle.std.proofs.Common.{inr}
 use Rattle.service_reader.proofs.ReadLemmas.{parser_told, read_so, refused_so}
 use Rattle.service_reader.proofs.parsing.spelled.Goals as goal
 

@@ -1,8 +1,9 @@
 use Rattle.std.proofs.Common.{[], IfSome, IfNone, length, ap, subst, arith}
 use Rattle.std.proofs.lemmas.Bool.Decides.{nat_tests}
 use Rattle.path_text.proofs.StepLemmas.{is_nil}
+use Rattle.std.specs.Prelude.{codes}
+use Rattle.wave_text.specs.Counted.{IsBehindHead}
 use Rattle.snapshot_text.specs.Verdicts.{HasNoHead}
-use Rattle.snapshot_text.specs.inner.Tails.{IsBehindHead}
 use Rattle.snapshot_text.proofs.VerdictLemmas.{headless, nothing_follows, read_verdict}
 use Rattle.snapshot_text.proofs.read.read_snapshot.Goals as goal
 
@@ -13,9 +14,9 @@ returns-in_default c =
 pub returns-then-is_empty : goal.returns-then-is_empty
 returns-then-is_empty c =
     nothing_follows c.args.shape.now c.requires.names c.args.text.now c.in-Some.tail.now
-    (subst (λ o. IfSome o (λ rest. IsBehindHead c.args.text.now rest.now)) c.in-Some.is c.in_ok-tail.ensures.some) (is_nil c.in-Some.tail.now c.if-is_empty.ensures)
+    (subst (λ o. IfSome o (λ rest. IsBehindHead (codes "snapshot ") c.args.text.now rest.now)) c.in-Some.is c.in_ok-tail.ensures.some) (is_nil c.in-Some.tail.now c.if-is_empty.ensures)
 
 pub returns : goal.returns
 returns c =
     read_verdict c.args.shape.now c.requires.names c.args.text.now c.in-Some.tail.now
-    (subst (λ o. IfSome o (λ rest. IsBehindHead c.args.text.now rest.now)) c.in-Some.is c.in_ok-tail.ensures.some) (λ e. absurd (grind (arith, nat_tests, ap length e))) c.read_shots.result c.read_shots.ensures
+    (subst (λ o. IfSome o (λ rest. IsBehindHead (codes "snapshot ") c.args.text.now rest.now)) c.in-Some.is c.in_ok-tail.ensures.some) (λ e. absurd (grind (arith, nat_tests, ap length e))) c.read_shots.result c.read_shots.ensures

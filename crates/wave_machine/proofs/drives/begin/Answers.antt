@@ -1,4 +1,4 @@
-use Rattle.std.proofs.Common.{rules, ◌≡◌, ◌<◌, ◌∙◌, length, sym, ap, subst, Bor}
+use Rattle.std.proofs.Common.{rules, ◌<◌, ◌∙◌, length, sym, ap, subst, Bor}
 use Rattle.wave_base.specs.declared.numbers.Worker.{Worker}
 use Rattle.wave_labels.specs.Labels.{label_of}
 use Rattle.wave_states.specs.States.{Hand}

@@ -11,6 +11,7 @@ use Rattle.wave_states.specs.Runs.{IsDrive}
 use Rattle.plan_actors.specs.Calls.{code_ran}
 use Rattle.plan_actors.specs.PlanActors.{plan_actors}
 use Rattle.plan_actors.specs.Plans.{begin_in}
+use Rattle.wave_machine.specs.Lengths.{IsMeasured}
 use Rattle.wave_machine.specs.Plans.{plan_of}
 use Rattle.wave_machine.specs.Rules.{rule_of}
 use Rattle.wave_machine.specs.declared.rules.PickRule.TheVariants.{Seed}
@@ -35,3 +36,9 @@ returns-clause-driven c =
     subst
     (λ (st : Start). IfOk c.drive_at.result (λ r. IsDrive (plan_actors plan.program) plan.workers plan.script.hosts (rule_of (Seed c.args.seed)) c.args.seed (start_state (begin_in (plan_of plan) st) plan.script.batches) (map label_of r.1)))
     start_is c.drive_at.ensures.driven
+
+pub returns-clause-measured : goal.returns-clause-measured
+returns-clause-measured c =
+    let plan = c.args.plan.now in
+    let start_is : c.in_ok-start.start ≡ first_start plan.program.shape = c.in_ok-start.ensures ∙ ap (λ (p : Program). first_start p.shape) c.program.ensures.program in
+    subst (λ (st : Start). IfOk c.drive_at.result (λ r. IsMeasured (plan_of plan) st (map label_of r.1))) start_is c.drive_at.ensures.measured

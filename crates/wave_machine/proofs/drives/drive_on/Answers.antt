@@ -1,9 +1,9 @@
-use Rattle.std.proofs.Common.{◌≡◌, ◌∙◌, ◌++◌, ◌-◌, ◌<◌, List, ◌∷◌, [], ℕ, length, map, sym, ap, subst, arith, Option, Some, None}
+use Rattle.std.proofs.Common.{◌≡◌, ◌∙◌, ◌++◌, ◌-◌, ◌<◌, List, ◌∷◌, [], length, map, sym, ap, subst, arith}
 use Rattle.std.specs.Prelude.{option_map}
 use Rattle.std.proofs.lemmas.List.{length-append, length-map, map-append}
 use Rattle.wave_states.specs.Canonical.{enabled}
 use Rattle.wave_states.specs.Labels.{Label}
-use Rattle.wave_states.specs.Runs.{Finished, IsDrive}
+use Rattle.wave_states.specs.Runs.{Finished}
 use Rattle.wave_labels.specs.Labels.{label_of}
 use Rattle.plan_actors.specs.Efforts.{most_labels}
 use Rattle.plan_actors.specs.Plans.{Plan, Setting, begin_in}
@@ -14,20 +14,31 @@ use Rattle.wave_machine.specs.Keeping.{kept_of}
 use Rattle.wave_machine.specs.Rules.{number_of, rule_of}
 use Rattle.wave_machine.specs.inner.Driving.{IsDriving, first_state}
 use Rattle.wave_machine.proofs.Driven.{drive_done, drive_run, driving_more, next_taking, nothing_left}
+use Rattle.wave_machine.proofs.Untouched.{led_done}
 use Rattle.wave_machine.proofs.drives.drive_on.Goals as goal
 
 pub take-requires : goal.take-requires
 take-requires c =
-    let d = c.loop-labels.invariant in
+    let d = c.loop-labels.invariant.driving in
     let m = kept_of c.loop-labels.engine in
     let st = d.under.stands in
     let can = c.states_drive.ensures m.plan c.args.start.now st.labels d.state st.fits st.begins st.reached in
     let picks = c.in_ok-label.ensures c.args.start.now d.state st ∙ ap (λ o. (c.next.new.draw, option_map label_of o)) c.in-Some.is in
     next_taking c.rules_pick.ensures m c.loop-labels.ends.items c.args.start.now c.args.rule c.loop-labels.draw c.next.new.draw d.state d.under can (label_of c.in-Some.label) picks
 
+pub count_done-done-requires : goal.count_done-done-requires
+count_done-done-requires c =
+    let d = c.loop-labels.invariant.driving in
+    let m = kept_of c.loop-labels.engine in
+    let st = d.under.stands in
+    let can = c.states_drive.ensures m.plan c.args.start.now st.labels d.state st.fits st.begins st.reached in
+    let picks = c.in_ok-label.ensures c.args.start.now d.state st ∙ ap (λ o. (c.next.new.draw, option_map label_of o)) c.in-Some.is in
+    let taking = next_taking c.rules_pick.ensures m c.loop-labels.ends.items c.args.start.now c.args.rule c.loop-labels.draw c.next.new.draw d.state d.under can (label_of c.in-Some.label) picks in
+    led_done c.done_stays.ensures m (kept_of c.take.new.engine) c.loop-labels.done c.loop-labels.invariant.done c.loop-labels.ends.items c.take.new.ends.items (label_of c.in-Some.label) taking c.in_ok-take.ensures.leads
+
 pub loop-labels-preserved : goal.loop-labels-preserved
 loop-labels-preserved c =
-    let d = c.loop-labels.invariant in
+    let d = c.loop-labels.invariant.driving in
     let m = kept_of c.loop-labels.engine in
     let st = d.under.stands in
     let can = c.states_drive.ensures m.plan c.args.start.now st.labels d.state st.fits st.begins st.reached in
@@ -36,11 +47,14 @@ loop-labels-preserved c =
     let l = label_of c.in-Some.label in
     let more = driving_more c.rules_pick.ensures m (kept_of c.take.new.engine) (kept_of c.args.engine.now).plan c.args.start.now c.args.rule c.loop-labels.draw c.next.new.draw before c.loop-labels.ends.items c.take.new.ends.items l d can picks c.in_ok-take.ensures.leads c.take.ensures.plan in
     let same : map label_of c.push.new.labels.items ≡ before ++ l ∷ [] = ap (map label_of) c.in_ok-push.ensures ∙ map-append label_of c.loop-labels.labels.items (c.in-Some.label ∷ []) in
-    subst (λ (ls : List Label). IsDriving (kept_of c.take.new.engine) (kept_of c.args.engine.now).plan c.args.start.now c.args.rule c.next.new.draw ls c.take.new.ends.items) (sym same) more
+    record {
+      driving = subst (λ (ls : List Label). IsDriving (kept_of c.take.new.engine) (kept_of c.args.engine.now).plan c.args.start.now c.args.rule c.next.new.draw ls c.take.new.ends.items) (sym same) more;
+      done = c.count_done-done.ensures;
+    }
 
 pub returns-clause-driven : goal.returns-clause-driven
 returns-clause-driven c =
-    let d = c.loop-labels.invariant in
+    let d = c.loop-labels.invariant.driving in
     let m = kept_of c.loop-labels.engine in
     let st = d.under.stands in
     let p = (kept_of c.args.engine.now).plan in
@@ -52,7 +66,7 @@ returns-clause-driven c =
 
 pub returns-clause-finished : goal.returns-clause-finished
 returns-clause-finished c =
-    let d = c.loop-labels.invariant in
+    let d = c.loop-labels.invariant.driving in
     let m = kept_of c.loop-labels.engine in
     let st = d.under.stands in
     let p = (kept_of c.args.engine.now).plan in
@@ -69,7 +83,7 @@ loop-labels-smaller c =
     let start = c.args.start.now in
     let before = map label_of c.loop-labels.labels.items in
     let l = label_of c.in-Some.label in
-    let d = c.loop-labels.invariant in
+    let d = c.loop-labels.invariant.driving in
     let m = kept_of c.loop-labels.engine in
     let st = d.under.stands in
     let can = c.states_drive.ensures m.plan start st.labels d.state st.fits st.begins st.reached in

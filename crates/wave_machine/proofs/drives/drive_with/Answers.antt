@@ -1,4 +1,4 @@
-use Rattle.std.proofs.Common.{◌≡◌, ◌∙◌, map, sym, ap, subst}
+use Rattle.std.proofs.Common.{◌∙◌, map, sym, ap, subst}
 use Rattle.script_fold.specs.Runs.{finished_of}
 use Rattle.wave_labels.specs.Labels.{label_of}
 use Rattle.wave_states.specs.Runs.{Finished, IsDrive}
@@ -6,6 +6,7 @@ use Rattle.plan_actors.specs.Calls.{code_ran}
 use Rattle.plan_actors.specs.PlanActors.{plan_actors}
 use Rattle.plan_actors.specs.Plans.{Plan}
 use Rattle.wave_machine.specs.Keeping.{kept_of}
+use Rattle.wave_machine.specs.Lengths.{IsMeasured}
 use Rattle.wave_machine.specs.Machines.{Stands}
 use Rattle.wave_machine.specs.Plans.{plan_of}
 use Rattle.wave_machine.specs.Rules.{number_of, rule_of}
@@ -31,3 +32,9 @@ pub returns-clause-driven : goal.returns-clause-driven
 returns-clause-driven c =
     let driven = subst (λ (p : Plan). IsDrive (plan_actors p.program) p.workers p.script.hosts (rule_of c.args.rule) (number_of c.args.rule) (first_state p c.args.start.now) (map label_of c.in_ok-labels.labels.items)) c.in_ok-engine.ensures.plan c.in_ok-labels.ensures.driven in
     subst (λ xs. IsDrive (plan_actors c.args.plan.now.program) c.args.plan.now.workers c.args.plan.now.script.hosts (rule_of c.args.rule) (number_of c.args.rule) (first_state (plan_of c.args.plan.now) c.args.start.now) (map label_of xs)) (sym c.from_vec.ensures) driven
+
+pub returns-clause-measured : goal.returns-clause-measured
+returns-clause-measured c =
+    let driven = subst (λ (p : Plan). IsDrive (plan_actors p.program) p.workers p.script.hosts (rule_of c.args.rule) (number_of c.args.rule) (first_state p c.args.start.now) (map label_of c.in_ok-labels.labels.items)) c.in_ok-engine.ensures.plan c.in_ok-labels.ensures.driven in
+    subst (λ xs. IsMeasured (plan_of c.args.plan.now) c.args.start.now (map label_of xs)) (sym c.from_vec.ensures)
+    (c.runs_are_measured.ensures.drives (plan_of c.args.plan.now) c.args.start.now c.requires.fits c.requires.begins c.args.rule (map label_of c.in_ok-labels.labels.items) driven)

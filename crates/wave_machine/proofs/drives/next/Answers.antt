@@ -1,4 +1,4 @@
-use Rattle.std.proofs.Common.{◌≡◌, ◌∙◌, map, sym, ap}
+use Rattle.std.proofs.Common.{◌∙◌, map, sym, ap}
 use Rattle.wave_labels.specs.Labels.{label_of}
 use Rattle.wave_machine.specs.Rules.{rule_of}
 use Rattle.wave_machine.proofs.drives.next.Goals as goal

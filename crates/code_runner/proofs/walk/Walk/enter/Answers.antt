@@ -13,4 +13,4 @@ pub returns-clause-entered : goal.returns-clause-entered
 returns-clause-entered c = entered_so c.args.self.now.entered.items c.push.new.self.items c.args.self.now.event.event.box.path c.path-path.result false c.path-path.ensures (told c.path-path.result c.as_slice.result.now c.args.self.now.entered.items c.contains.result false c.contains.ensures.value c.as_slice.ensures.value c.if-contains.false) c.in_ok-push.ensures.items
 
 pub returns-clause-tree : goal.returns-clause-tree
-returns-clause-tree c = tree_so c.args.self.now.entered.items (tree_of c.args.shape.now c.args.contexts.now) (tree_of c.args.shape.now c.enter.new.self) c.args.self.now.event.event.box.path c.path-path.result false c.path-path.ensures (told c.path-path.result c.as_slice.result.now c.args.self.now.entered.items c.contains.result false c.contains.ensures.value c.as_slice.ensures.value c.if-contains.false) c.in_ok-enter.ensures.ok
+returns-clause-tree c = tree_so c.args.self.now.entered.items (tree_of c.args.shape.now c.args.contexts.now) (tree_of c.args.shape.now c.join.new.contexts) c.args.self.now.event.event.box.path c.path-path.result false c.path-path.ensures (told c.path-path.result c.as_slice.result.now c.args.self.now.entered.items c.contains.result false c.contains.ensures.value c.as_slice.ensures.value c.if-contains.false) c.in_ok-join.ensures.ok

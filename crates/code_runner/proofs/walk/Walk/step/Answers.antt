@@ -28,7 +28,7 @@ enter-requires-clause-parent c =
     let p = c.args.program.now in
     let has = has_here p c.args.self.now (tree_of p.shape c.args.contexts.now) w c.path-here.result c.take_record-record.result.fields c.path-here.ensures (c.take_record-record.ensures.fields p.shape) in
     let i = into_child p w.path w.calls c.segment-paused.new.event.event c.in_ok-pause.pause c.in-Go.is (c.in_ok-pause.ensures.leaves w.path w.calls w.stands has).1 in
-    still_there p.shape c.args.contexts.now c.put_record.new.contexts c.path-here.result w.path (parent_of c.segment-paused.new.event.event.box.path) c.segment-paused.new.body.fields (put_back c.args.contexts.now c.take_record-record.new.contexts c.put_record.new.contexts c.path-here.result c.segment-paused.new.body.fields c.take_record-record.ensures.tree c.put_record.ensures) i.1 w.here
+    still_there p.shape c.args.contexts.now c.put_record.new.contexts c.path-here.result w.path (parent_of c.segment-paused.new.event.event.box.path) c.segment-paused.new.body.fields (put_back c.args.contexts.now c.take_record-record.new.contexts c.put_record.new.contexts c.path-here.result c.segment-paused.new.body.fields c.take_record-record.ensures.tree c.put_record.ensures.tree) i.1 w.here
 
 plus_one : (n : ℕ) → n + 1 ≡ suc n
 plus_one n = omega arith
@@ -39,7 +39,7 @@ returns-in_ok-enter-in-Go-clause-next c =
     let path = c.segment-paused.new.event.event.box.path in
     let entered = c.args.self.now.entered.items in
     let known = list_any (path_eq path) entered in
-    let is_put = put_back c.args.contexts.now c.take_record-record.new.contexts c.put_record.new.contexts c.path-here.result c.segment-paused.new.body.fields c.take_record-record.ensures.tree c.put_record.ensures p.shape ∙ ap (λ q. put (tree_of p.shape c.args.contexts.now) q c.segment-paused.new.body.fields) c.path-here.ensures in
+    let is_put = put_back c.args.contexts.now c.take_record-record.new.contexts c.put_record.new.contexts c.path-here.result c.segment-paused.new.body.fields c.take_record-record.ensures.tree c.put_record.ensures.tree p.shape ∙ ap (λ q. put (tree_of p.shape c.args.contexts.now) q c.segment-paused.new.body.fields) c.path-here.ensures in
     stepped_into p c.args.self.now (tree_of p.shape c.args.contexts.now) c.requires.walks c.take_record-record.result.fields
     (c.take_record-record.ensures.fields p.shape ∙ ap (tree_of p.shape c.args.contexts.now).fields c.path-here.ensures)
     c.segment-paused.new.event.event c.segment-paused.new.body.fields c.in_ok-pause.pause c.in_ok-pause.ensures.segment
@@ -56,7 +56,7 @@ returns-in-Back-clause-next c =
     c.segment-paused.new.event.event c.segment-paused.new.body.fields c.in_ok-pause.pause c.in_ok-pause.ensures.segment
     (record { event = c.segment-paused.new.event; entered = c.args.self.now.entered; segments = c.args.self.now.segments + 1 })
     (tree_of p.shape c.put_record.new.contexts) refl (plus_one c.args.self.now.segments) c.in-Back.is refl
-    (put_back c.args.contexts.now c.take_record-record.new.contexts c.put_record.new.contexts c.path-here.result c.segment-paused.new.body.fields c.take_record-record.ensures.tree c.put_record.ensures p.shape ∙ ap (λ q. put (tree_of p.shape c.args.contexts.now) q c.segment-paused.new.body.fields) c.path-here.ensures)
+    (put_back c.args.contexts.now c.take_record-record.new.contexts c.put_record.new.contexts c.path-here.result c.segment-paused.new.body.fields c.take_record-record.ensures.tree c.put_record.ensures.tree p.shape ∙ ap (λ q. put (tree_of p.shape c.args.contexts.now) q c.segment-paused.new.body.fields) c.path-here.ensures)
 
 pub returns-in-Over-clause-next : goal.returns-in-Over-clause-next
 returns-in-Over-clause-next c =
@@ -66,4 +66,4 @@ returns-in-Over-clause-next c =
     c.segment-paused.new.event.event c.segment-paused.new.body.fields c.in_ok-pause.pause c.in_ok-pause.ensures.segment
     (record { event = c.segment-paused.new.event; entered = c.args.self.now.entered; segments = c.args.self.now.segments + 1 })
     (tree_of p.shape c.put_record.new.contexts) refl (plus_one c.args.self.now.segments) c.in-Over.result c.in-Over.is refl
-    (put_back c.args.contexts.now c.take_record-record.new.contexts c.put_record.new.contexts c.path-here.result c.segment-paused.new.body.fields c.take_record-record.ensures.tree c.put_record.ensures p.shape ∙ ap (λ q. put (tree_of p.shape c.args.contexts.now) q c.segment-paused.new.body.fields) c.path-here.ensures)
+    (put_back c.args.contexts.now c.take_record-record.new.contexts c.put_record.new.contexts c.path-here.result c.segment-paused.new.body.fields c.take_record-record.ensures.tree c.put_record.ensures.tree p.shape ∙ ap (λ q. put (tree_of p.shape c.args.contexts.now) q c.segment-paused.new.body.fields) c.path-here.ensures)

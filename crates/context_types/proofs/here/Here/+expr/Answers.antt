@@ -1,20 +1,18 @@
-use Rattle.std.proofs.Common.{◌≡◌, ◌==◌, [], ◌∷◌, ◌++◌, map, take, length, get_or, None, Some, refl, sym, ap, subst, ◌∙◌, eq-eqb}
+use Rattle.std.proofs.Common.{◌≡◌, ◌==◌, ◌++◌, map, length, Some, refl, sym, ap, subst, ◌∙◌, eq-eqb}
 use Rattle.std.proofs.lemmas.Bool.{lt-ltb}
 use Rattle.std.proofs.lemmas.List.{take_all}
 use Rattle.std.proofs.lemmas.Result.{err_from_is_err_and}
-use Rattle.wave_base.specs.declared.value.Kind.TheVariants as k
 use Rattle.mace_ast.specs.Exprs as e
 use Rattle.mace_ast.specs.Exprs.{expr_tree, exprs_of, node_tree}
 use Rattle.resolved_service.specs.View.{tree_of, trees_of}
 use Rattle.type_rules.specs.declared.error.TypeError.TheVariants.{ArgCount}
 use Rattle.type_rules.specs.declared.meant.Callee.TheVariants as callee
 use Rattle.type_rules.specs.Demands.{first_wrong, Fails}
-use Rattle.type_rules.specs.Known.{method_named, signature_at}
+use Rattle.type_rules.specs.Known.{method_named}
 use Rattle.type_rules.specs.Here.{called}
-use Rattle.type_rules.specs.Exprs.{count, demands, demands_as, of_kind, typed, args_demands, call_demands, child_demands, call_gives, call_tree, child_gives, child_tree, above_asks, resolve, resolve_all}
+use Rattle.type_rules.specs.Exprs.{count, demands, of_kind, typed, args_demands, call_demands, child_demands, call_gives, call_tree, child_gives, child_tree, resolve, resolve_all}
 use Rattle.type_rules.proofs.First.{fails_at, fails_past, fails_same, fails_front, fails_behind, told_past}
 use Rattle.type_tables.proofs.Walks.{differ}
-use Rattle.context_types.specs.inner.Children.{asks_of_child}
 use Rattle.context_types.specs.inner.Places.{here_of}
 use Rattle.context_types.proofs.Arms.{unary_arm, binary_arm, index_arm, above_index_arm, as_arm, as_fails, worth, place_node}
 use Rattle.context_types.proofs.CallArms.{args_asks, call_same, builtin_called, method_called, child_same, child_called, child_holds, child_fails, child_is, key_fails}

@@ -1,7 +1,6 @@
-use Rattle.std.proofs.Common.{◌≡◌, ◌∷◌, not, false, map, take, length, sym, ap, subst, ◌∙◌, refl}
+use Rattle.std.proofs.Common.{◌∷◌, not, false, map, sym, ap, subst, ◌∙◌, refl}
 use Rattle.std.proofs.lemmas.List.{take_all}
 use Rattle.std.proofs.lemmas.Result.{err_from_is_err_and}
-use Rattle.wave_base.specs.declared.value.Kind.TheVariants as k
 use Rattle.mace_ast.specs.Exprs.{expr_tree, exprs_of}
 use Rattle.mace_ast.specs.Stmts as s
 use Rattle.mace_ast.specs.Stmts.{stmt_tree, stmts_of, action_tree, else_of}
@@ -11,8 +10,7 @@ use Rattle.resolved_service.specs.View.{tree_of}
 use Rattle.std.specs.Option.{option_map}
 use Rattle.type_rules.specs.declared.error.TypeError.TheVariants.{Unreachable}
 use Rattle.type_rules.specs.Demands.{ask, first_wrong, Fails}
-use Rattle.type_rules.specs.Here.{behind, counted}
-use Rattle.type_rules.specs.Exprs.{resolve, resolve_all, child_demands, child_tree}
+use Rattle.type_rules.specs.Here.{behind}
 use Rattle.type_rules.specs.Stmts.{start_of, stmt_demands, stmts_demands}
 use Rattle.type_rules.proofs.First.{told_past, fails_at, fails_past, fails_same}
 use Rattle.context_types.specs.inner.Places.{here_of, else_in}

@@ -1,4 +1,4 @@
-use Rattle.std.proofs.Common.{refl, sym, ap, ◌∙◌, ◌∷◌, [], find}
+use Rattle.std.proofs.Common.{sym, ap, ◌∙◌, ◌∷◌, [], find}
 use Rattle.type_rules.specs.Kinds.{takes_kinds}
 use Rattle.context_types.proofs.Operations.{operation, two_of, sign_kind, sign_tree}
 use Rattle.context_types.proofs.here.Here.binary.Goals as goal

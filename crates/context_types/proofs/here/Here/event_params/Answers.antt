@@ -1,4 +1,4 @@
-use Rattle.std.proofs.Common.{◌≡◌, not, [], take, sym, ap, subst, ◌∙◌, refl}
+use Rattle.std.proofs.Common.{not, [], sym, ap, subst, ◌∙◌}
 use Rattle.std.proofs.lemmas.List.{take_all}
 use Rattle.std.proofs.lemmas.Result.{err_from_is_err_and}
 use Rattle.wave_base.specs.declared.value.Kind.TheVariants as k

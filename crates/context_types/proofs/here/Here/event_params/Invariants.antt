@@ -1,6 +1,5 @@
 use Rattle.std.proofs.Common.{◌≡◌, take, None}
 use Rattle.type_rules.specs.Demands.{first_wrong}
-use Rattle.type_rules.specs.Functions.{param_asks}
 use Rattle.context_types.specs.inner.Places.{here_of}
 use Rattle.context_types.proofs.Lists.{next_param, event_param_asks}
 use Rattle.context_types.proofs.Walking.{walk, ends}

@@ -1,4 +1,4 @@
-use Rattle.std.proofs.Common.{sym, ◌∙◌, arith}
+use Rattle.std.proofs.Common.{sym, ◌∙◌}
 use Rattle.wave_base.specs.Names.{same_bytes}
 use Rattle.type_tables.proofs.Walks.{found, on, not_found}
 use Rattle.context_types.proofs.here.Here.local.Goals as goal

@@ -1,12 +1,12 @@
-use Rattle.std.proofs.Common.{◌≡◌, take, sym, ap, subst, ◌∙◌, refl}
+use Rattle.std.proofs.Common.{sym, ap, subst, ◌∙◌}
 use Rattle.std.proofs.lemmas.List.{take_all}
 use Rattle.std.proofs.lemmas.Result.{err_from_is_err_and}
 use Rattle.type_rules.specs.Demands.{first_wrong, Fails}
-use Rattle.type_rules.specs.Functions.{param_asks, no_map, method_params_demands}
-use Rattle.type_rules.proofs.First.{fails_same, fails_front, fails_behind, fails_at, holds_both, told_past}
+use Rattle.type_rules.specs.Functions.{param_asks, method_params_demands}
+use Rattle.type_rules.proofs.First.{fails_same}
 use Rattle.context_types.specs.inner.Places.{here_of}
 use Rattle.context_types.proofs.Exits.{exit}
-use Rattle.context_types.proofs.Lists.{next_param, event_param_asks, method_params_walk, params_ends}
+use Rattle.context_types.proofs.Lists.{next_param, method_params_walk, params_ends}
 use Rattle.context_types.proofs.Walking.{walk, ends, ends_more, walk_more, walk_fails, walk_whole}
 use Rattle.context_types.proofs.here.Here.method_params.Goals as goal
 

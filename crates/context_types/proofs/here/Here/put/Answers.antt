@@ -1,15 +1,9 @@
-use Rattle.std.proofs.Common.{◌++◌, Some, sym, ap, subst, ◌∙◌}
-use Rattle.std.specs.Option.{option_map}
+use Rattle.std.proofs.Common.{Some, sym, ap, ◌∙◌}
 use Rattle.std.proofs.lemmas.Result.{err_from_is_err_and}
-use Rattle.wave_base.specs.declared.value.Kind.TheVariants as k
 use Rattle.mace_ast.specs.Exprs.{expr_tree}
 use Rattle.resolved_service.specs.Steps.{action_step}
 use Rattle.resolved_service.specs.View.{tree_of}
-use Rattle.type_rules.specs.Demands.{Fails}
-use Rattle.type_rules.specs.Here.{variable_kind}
-use Rattle.type_rules.specs.Exprs.{demands_as}
-use Rattle.type_rules.specs.Stmts.{target_asks, target_kind, key_demands, set_demands, set_step}
-use Rattle.type_rules.proofs.First.{fails_front, fails_behind}
+use Rattle.type_rules.specs.Stmts.{set_demands, set_step}
 use Rattle.context_types.specs.inner.Places.{here_of}
 use Rattle.context_types.proofs.Exits.{exit}
 use Rattle.context_types.proofs.Puts.{put_key_fails, put_value_fails, put_holds, put_made}

@@ -1,5 +1,4 @@
-use Rattle.std.proofs.Common.{◌≡◌, ◌∙◌, ◌-◌, ap, position, is_none, List, map, Option, ℕ}
-use Rattle.std.specs.Prelude.{option_map}
+use Rattle.std.proofs.Common.{◌∙◌, ◌-◌, ap, position, is_none, List, Option, ℕ}
 use Rattle.wave_base.specs.Fold.{tickets_from}
 use Rattle.wave_machine.specs.Keeping.{kept_of}
 use Rattle.wave_machine.specs.declared.kept.Out.{Out}
@@ -9,10 +8,10 @@ use Rattle.wave_machine.proofs.ListingCells.{if_ok}
 use Rattle.wave_machine.proofs.ListingSizes.{listable}
 use Rattle.wave_machine.proofs.engine.Engine.enabled.Goals as goal
 
-pub listing-requires : goal.listing-requires
-listing-requires c =
+pub listing-requires-clause-listable : goal.listing-requires-clause-listable
+listing-requires-clause-listable c =
     let m = kept_of c.args.self.now in
-    let r = c.requires in
+    let r = c.requires.stands in
     listable c.states_are_known.ensures m r.0 r.1 r.2 (c.heads_are_known.ensures m.plan r.0 (r.2).labels r.1 (r.2).fits (r.2).begins (r.2).reached)
 
 pub returns : goal.returns

@@ -8,10 +8,10 @@ use Rattle.wave_machine.proofs.ListingOwn.{own_lists, past_lists}
 use Rattle.wave_machine.proofs.ListingSizes.{listable}
 use Rattle.wave_machine.proofs.engine.Engine.enabled_for.Goals as goal
 
-pub listing-requires : goal.listing-requires
-listing-requires c =
+pub listing-requires-clause-listable : goal.listing-requires-clause-listable
+listing-requires-clause-listable c =
     let m = kept_of c.args.self.now in
-    let r = c.requires in
+    let r = c.requires.stands in
     listable c.states_are_known.ensures m r.0 r.1 r.2 (c.heads_are_known.ensures m.plan r.0 (r.2).labels r.1 (r.2).fits (r.2).begins (r.2).reached)
 
 pub returns-in-Some : goal.returns-in-Some

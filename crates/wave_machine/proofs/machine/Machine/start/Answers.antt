@@ -5,12 +5,16 @@ use Rattle.wave_machine.specs.Machines.{IsEnabled, Takes}
 use Rattle.wave_machine.specs.Prepared.{IsPrepared, Shown}
 use Rattle.wave_machine.specs.Running.{Leases}
 use Rattle.wave_machine.proofs.Labelled.{stood_after}
+use Rattle.wave_machine.proofs.Untouched.{taken_done}
 use Rattle.wave_machine.proofs.machine.Machine.start.Goals as goal
 
 pub invariant_of-self : goal.invariant_of-self
 invariant_of-self c =
-    let on = subst (λ (z : Shown). IsEnabled z.kept (label_of c.args.label.now)) (sym c.self.view_is) c.requires.enabled in
-    (stood_after (kept_of c.self.inside.engine) (kept_of c.act_start.new.self) c.args.label.now on c.act_start.ensures.takes, subst (IsPrepared c.act_start.new.self) (sym c.take.ensures.after) tt)
+    let on = subst (λ (z : Shown). IsEnabled z.kept (label_of c.args.label.now)) (sym c.self.view_is) c.requires.enabled in (
+      stood_after (kept_of c.self.inside.engine) (kept_of c.act_start.new.self) c.args.label.now on c.act_start.ensures.takes,
+      subst (IsPrepared c.act_start.new.self) (sym c.take.ensures.after) tt,
+      taken_done c.done_stays.ensures (kept_of c.self.inside.engine) (kept_of c.act_start.new.self) c.self.inside.done c.self.invariant.2 (label_of c.args.label.now) on c.act_start.ensures.takes,
+    )
 
 pub returns-clause-takes : goal.returns-clause-takes
 returns-clause-takes c = subst (λ (z : Shown). Takes z.kept (kept_of c.act_start.new.self) (label_of c.args.label.now)) c.self.view_is c.act_start.ensures.takes

@@ -1,8 +1,0 @@
-use Rattle.path_text.proofs.FrontLemmas.{is_split, is_nowhere}
-use Rattle.path_text.proofs.written.split_at.Goals as goal
-
-pub returns-then-n-text-clause-none : goal.returns-then-n-text-clause-none
-returns-then-n-text-clause-none c = is_nowhere c.args.end c.count_before-n.result c.args.text.now c.count_before-n.ensures.count c.if-n-text.true
-
-pub returns-clause-some : goal.returns-clause-some
-returns-clause-some c = is_split c.args.end c.count_before-n.result c.args.text.now c.count_before-n.ensures.count c.if-n-text.false c.count_before-n.ensures.within

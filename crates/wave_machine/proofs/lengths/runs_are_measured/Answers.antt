@@ -1,0 +1,28 @@
+use Rattle.std.proofs.Common.{List, sym, subst}
+use Rattle.wave_states.specs.Labels.{Label}
+use Rattle.plan_actors.specs.Plans.{Setting, begin_in}
+use Rattle.plan_actors.proofs.Meeting.{plan_fits, begin_fits}
+use Rattle.plan_actors.proofs.Owing.{setting_of}
+use Rattle.wave_machine.specs.Lengths.{IsMeasured}
+use Rattle.wave_machine.specs.Rules.{number_of, rule_of}
+use Rattle.wave_machine.proofs.Driven.{picks_of}
+use Rattle.wave_machine.proofs.lengths.runs_are_measured.Goals as goal
+
+pub returns-clause-finished : goal.returns-clause-finished
+returns-clause-finished c = λ plan start fits begins labels s reached finished. record {
+  besides_passes = c.runs_are_short.ensures.finished plan start fits begins labels s reached finished;
+  most = c.runs_are_short.ensures.most plan start fits begins labels s reached;
+}
+
+pub returns-clause-drives : goal.returns-clause-drives
+returns-clause-drives c = λ plan start fits begins rule labels is_drive.
+    let d = c.plans_drive.ensures plan start fits begins (rule_of rule) (picks_of c.rules_pick.ensures rule) (number_of rule) in
+    subst (λ (ls : List Label). IsMeasured plan start ls) (sym (d.only labels is_drive)) (record {
+      besides_passes = c.runs_are_short.ensures.finished plan start fits begins d.labels d.state d.is_run d.finished;
+      most = c.runs_are_short.ensures.most plan start fits begins d.labels d.state d.is_run;
+    })
+
+pub returns-clause-passes : goal.returns-clause-passes
+returns-clause-passes c = λ m start s stands.
+    let k : Setting = setting_of m.plan.program stands.fits.fit stands.fits.verified m.plan.script.hosts in
+    c.bounded.ensures k m.plan.workers (begin_in m.plan start) m.plan.script.batches (begin_fits m.plan stands.fits start stands.begins) (plan_fits m.plan stands.fits) stands.labels s stands.reached
