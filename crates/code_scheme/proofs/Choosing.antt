@@ -1,37 +1,17 @@
 -- The kinds at each instruction of loops and choices.
-use Rattle.std.proofs.Common.{◌≡◌, ℕ, suc, ◌+◌, ◌<◌, ◌≤◌, ◌⊎◌, inl, inr, max, pos, List, [], ◌∷◌, ◌++◌, length, map, Bool, true, false, ◌&&◌, not, Option, Some, None, refl, sym, ap, ◌∙◌, subst, arith, length-append}
-use Rattle.std.specs.Prelude.{slice_get, is_some, is_none, option_to_list, Ok}
-use Rattle.std.specs.List.{list_any}
-use Rattle.wave_base.specs.declared.operators.TheConstants.{OPERATORS}
+use Rattle.std.proofs.Common.{◌≡◌, ℕ, ◌+◌, List, [], ◌∷◌, ◌++◌, length, Bool, true, false, ◌&&◌, Some, refl, arith, length-append}
+use Rattle.std.specs.Prelude.{slice_get}
 use Rattle.wave_base.specs.declared.path.Class.{Class}
-use Rattle.wave_base.specs.declared.shape.EventInfo.{EventInfo}
 use Rattle.wave_base.specs.declared.span.Span.{Span}
-use Rattle.wave_base.specs.declared.value.Kind.{Kind}
 use Rattle.wave_base.specs.declared.value.Kind.TheVariants as k
-use Rattle.wave_base.specs.Names.{same_bytes}
-use Rattle.wave_base.specs.Shapes.{kinds_of_class}
-use Rattle.value_ops.specs.Operators.{takes_of, gives_of}
-use Rattle.resolved_service.specs.declared.service.Method.{Method}
-use Rattle.resolved_service.specs.Meaning.{row_add, row_lt}
-use Rattle.resolved_service.specs.Steps.{Step, SetLocal, SetField, PutLocal, PutField, CutLocal, CutField, If, While, For, Require, Send, Spawn, Do, Return, Finish, Steps, no_steps, step, no_else, otherwise, is_end, surely_ends}
-use Rattle.resolved_service.specs.View.{Tree, Const, Local, Field, Above, Op, And, Or, Call, Child}
 use Rattle.service_code.specs.declared.instr.Instr.TheVariants as i
 use Rattle.service_code.specs.declared.program.Function.{Function}
 use Rattle.service_code.specs.declared.program.Program.{Program}
-use Rattle.service_verify.specs.declared.error.Rule.TheVariants as rule
-use Rattle.service_verify.specs.declared.point.Point.{Point}
-use Rattle.service_verify.specs.Rules.{found, must, operands, any, an_int, a_bool, effect_of, left_below, ends, class_after, next_of}
-use Rattle.code_scheme.specs.Heights.{one_if, tree_height, trees_height, maybe_height, step_height, steps_height}
-use Rattle.code_scheme.specs.Programs.{method_function}
-use Rattle.code_scheme.specs.Scheme.{Line, line, gives_in, leaves_value, pop_code, finish_instr, if_code, behind, else_code, while_code, test_code, turn_code, loop_at, block_at, tree_code, trees_code, two_code, maybe_code, step_code, steps_code}
-use Rattle.code_scheme.specs.Texts.{Text, place_of_text, tree_uses, trees_uses, maybe_uses, step_uses, steps_uses}
-use Rattle.code_scheme.specs.Typed.{Within, InMethod, InEvent, NoneBehind, IsMethod, HasKind, IsSilent, IsTypedReturn, IsTypedFinish, IsTypedStep, AreTyped}
+use Rattle.code_scheme.specs.Scheme.{Line, line, if_code, behind, else_code, while_code}
 use Rattle.code_scheme.proofs.Flow.{Flow, flow_none, flow_then, flow_choice, flow_skip, flow_loop, flow_at}
-use Rattle.code_scheme.proofs.Places.{StandsAt, stands_front, stands_back, while_lines, else_lines, turn_lines}
-use Rattle.code_scheme.proofs.Shutting.{Shut, Runs, shut_line, flow_shut, shut_flow, shut_both, flow_past, flow_runs, runs_at}
-use Rattle.service_verify.specs.Rules.{takes_for_map, takes_only}
-use Rattle.code_scheme.proofs.Fixed.{pushed_kinds, kind_self, max_left, max_right, operands_only, Among, among_front, among_back, among_one, text_found, takes_two, gives_two, pt, after_end, line_flow, jump_after, choice_after, tick_flow, int_flow, load_flow, store_flow, row_flow}
-use Rattle.code_scheme.proofs.Flowing.{own_flow, child_flow, kinds_height, tree_flow, trees_flow}
+use Rattle.code_scheme.proofs.Places.{StandsAt, stands_back}
+use Rattle.code_scheme.proofs.Shutting.{Runs, flow_shut, shut_flow, shut_both, flow_past, flow_runs, runs_at}
+use Rattle.code_scheme.proofs.Fixed.{pt, jump_after, choice_after, tick_flow}
 
 module _ (program : Program) (number : ℕ) (function : Function) (ls : List Line) (c : Class) where
   pub while_flow : (pc : ℕ) (at : Span) (ct : List Line) (b : Bool) (ca : List Line) → StandsAt ls pc (while_code pc at ct b ca) → Flow program number function ls pc (pc + length ct) (pt c []) (pt c (k.Bool ∷ [])) → Runs program number function ls b (pc + length ct + 1 + 1) (pc + length ct + 1 + 1 + length ca) (pt c []) (pt c []) →

@@ -1,5 +1,5 @@
 -- The code of statements does what they mean.
-use Rattle.std.proofs.Common.{◌≡◌, ℕ, zero, suc, ◌+◌, ◌-◌, ◌≤◌, ◌⊎◌, inl, inr, pos, List, [], ◌∷◌, ◌++◌, length, Bool, true, false, Option, Some, None, refl, sym, ap, ◌∙◌, subst, arith, length-append}
+use Rattle.std.proofs.Common.{◌≡◌, ℕ, suc, ◌+◌, ◌≤◌, ◌⊎◌, inl, inr, pos, List, [], ◌∷◌, ◌++◌, length, Bool, true, false, Option, Some, None, refl, sym, ap, ◌∙◌, subst, arith, length-append}
 use Rattle.std.specs.Prelude.{slice_get, is_some}
 use Rattle.wave_base.specs.declared.span.Span.{Span}
 use Rattle.wave_base.specs.declared.value.Kind.{Kind}
@@ -8,7 +8,7 @@ use Rattle.wave_base.specs.declared.value.Value.{Value}
 use Rattle.wave_base.specs.declared.value.Value.TheVariants as v
 use Rattle.value_ops.specs.Operators.{operators, takes_of, apply_row}
 use Rattle.resolved_service.specs.declared.service.Method.{Method}
-use Rattle.resolved_service.specs.Meaning.{State, Leave, Returned, Finished, Outcome, Done, Trapped, Left, Act, and_then, give, leave, maybe_value, answer, with_world, tick, choose, get_local, set_local, get_field, put_field, demand, row_add, row_lt, row_put, row_cut, value, values, called, while_turns, for_test, for_body, effect, effects, ◌>>=◌, ◌>>◌}
+use Rattle.resolved_service.specs.Meaning.{State, Leave, Returned, Finished, Done, Act, and_then, give, leave, maybe_value, answer, with_world, choose, get_local, set_local, get_field, put_field, demand, row_add, row_lt, row_put, row_cut, value, values, called, while_turns, for_test, for_body, effect, effects, ◌>>=◌, ◌>>◌}
 use Rattle.resolved_service.specs.Steps.{Step, SetLocal, SetField, PutLocal, PutField, CutLocal, CutField, If, While, For, Require, Send, Spawn, Do, Return, Finish, Steps, no_steps, step, no_else, otherwise, surely_ends}
 use Rattle.resolved_service.specs.View.{Tree, Const, Local, Field, Above, Op, And, Or, Call, Child}
 use Rattle.resolved_service.specs.World as world
@@ -22,9 +22,9 @@ use Rattle.service_verify.specs.Tours.{Tour}
 use Rattle.code_scheme.specs.Scheme.{Line, line, gives_in, leaves_value, pop_code, finish_instr, behind, if_code, else_code, while_code, test_code, turn_code, loop_at, block_at, tree_code, trees_code, two_code, maybe_code, step_code, steps_code}
 use Rattle.code_scheme.specs.Texts.{place_of_text}
 use Rattle.code_scheme.specs.Typed.{Within, InMethod, InEvent, IsMethod, HasKind, IsSilent, IsTypedReturn, IsTypedFinish, IsTypedStep, AreTyped}
-use Rattle.code_scheme.proofs.Follow.{Here, At, Leads, Follows, stay, place_is, bind, ends, done, IsLine}
-use Rattle.code_scheme.proofs.Instructions.{Low, tick_runs, row_runs, load_runs, store_runs, pop_runs, set_field_runs, jump_runs, put_local_runs, cut_local_runs, put_field_runs, cut_field_runs, require_runs, send_runs, spawn_runs, push_runs, reply_runs, end_runs, Onward}
-use Rattle.code_scheme.proofs.Leaving.{NeverDone, never_first, never_effects, assoc, Leaving, leaving_lower, Performs, performs, lead_to, bind_to, bind_on, ends_to, never_ends, picks_on}
+use Rattle.code_scheme.proofs.Follow.{Here, At, Leads, Follows, stay, place_is, bind, done, IsLine}
+use Rattle.code_scheme.proofs.Instructions.{Low, row_runs, load_runs, store_runs, pop_runs, set_field_runs, put_local_runs, cut_local_runs, put_field_runs, cut_field_runs, require_runs, send_runs, spawn_runs, push_runs, reply_runs, end_runs, Onward}
+use Rattle.code_scheme.proofs.Leaving.{NeverDone, never_first, never_effects, assoc, Leaving, Performs, performs, bind_to, bind_on, never_ends, picks_on}
 use Rattle.code_scheme.proofs.Looping.{Effect, Plain, ended, then_jump, while_runs}
 use Rattle.code_scheme.proofs.Places.{next, HasAt, has_front, has_back, while_stands}
 use Rattle.code_scheme.proofs.Values.{Counted, AreMade, CallsFollow, OnTop, OnTops, LeftOn, own_value, child_value, value_runs, values_run}

@@ -8,18 +8,14 @@ use Rattle.std.proofs.lemmas.List.Elements.{All-from_recursion}
 use Rattle.std.proofs.lemmas.Option.{slice_get_within}
 use Rattle.wave_base.specs.declared.shape.EventInfo.{EventInfo}
 use Rattle.wave_base.specs.declared.shape.Shape.{Shape}
-use Rattle.wave_base.specs.declared.span.Span.{Span}
 use Rattle.wave_base.specs.declared.value.Kind.{Kind}
 use Rattle.wave_base.specs.Names.{same_bytes}
 use Rattle.resolved_service.specs.declared.service.Event.{Event}
 use Rattle.resolved_service.specs.declared.service.Last.{Last}
 use Rattle.resolved_service.specs.declared.service.Method.{Method}
-use Rattle.resolved_service.specs.declared.service.Phase.{Phase}
 use Rattle.resolved_service.specs.declared.service.Resolved.{Resolved}
-use Rattle.resolved_service.specs.Steps.{Step, SetLocal, SetField, PutLocal, PutField, CutLocal, CutField, If, While, For, Require, Send, Spawn, Do, Return, Finish, Steps, no_steps, step, no_else, otherwise, steps_in, is_end, surely_ends}
-use Rattle.resolved_service.specs.View.{tree_of}
+use Rattle.resolved_service.specs.Steps.{steps_in, surely_ends}
 use Rattle.service_code.specs.declared.instr.Instr.{Instr}
-use Rattle.service_code.specs.declared.instr.Instr.TheVariants as i
 use Rattle.service_code.specs.declared.program.Function.{Function}
 use Rattle.service_code.specs.declared.program.Program.{Program}
 use Rattle.service_verify.specs.Fit.{Jumps, IsTicked, IsTickedCall, is_call_down, FitsFunction, FitsEvent, IsFit}
@@ -27,7 +23,7 @@ use Rattle.service_verify.specs.declared.point.Point.{Point}
 use Rattle.service_verify.specs.Points.{Table, judged_function, IsVerified}
 use Rattle.code_scheme.specs.Heights.{steps_height, last_height, phases_height, method_height, event_height}
 use Rattle.code_scheme.specs.Programs.{method_function, event_function, event_functions, numbers_from, functions_with, scheme_program}
-use Rattle.code_scheme.specs.Scheme.{Line, line, finish_instr, maybe_code, test_then, step_code, steps_code, tree_code, return_code, reply_code, phases_code, method_code, event_code}
+use Rattle.code_scheme.specs.Scheme.{Line, steps_code, return_code, phases_code, method_code, event_code}
 use Rattle.code_scheme.specs.Texts.{Text, with_text, with_texts, steps_uses, last_uses, phases_uses, method_uses, methods_uses, event_uses, events_uses, service_texts}
 use Rattle.code_scheme.specs.Typed.{InMethod, InEvent, IsTypedLast, AreTypedPhases, IsTypedMethod, IsTypedEvent, IsTyped}
 use Rattle.code_scheme.proofs.Fixed.{Among, among_front, among_back, max_left, max_right, pt}

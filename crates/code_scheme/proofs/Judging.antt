@@ -1,6 +1,6 @@
 -- The ends of functions, and the verifier, which accepts what flows.
-use Rattle.std.proofs.Common.{◌≡◌, ℕ, zero, suc, ◌+◌, ◌<◌, ◌≤◌, ◌⊎◌, inl, inr, ◌&&◌, not, max, List, [], ◌∷◌, ◌++◌, length, map, Bool, true, false, Option, Some, None, refl, sym, ap, ◌∙◌, subst, arith, length-append}
-use Rattle.std.specs.Prelude.{slice_get, option_to_list, is_none, ◌==◌, Ok}
+use Rattle.std.proofs.Common.{◌≡◌, ℕ, zero, suc, ◌+◌, ◌<◌, ◌≤◌, ◌⊎◌, inl, inr, ◌&&◌, max, List, [], ◌∷◌, ◌++◌, length, map, Bool, true, false, Option, Some, None, refl, sym, ap, ◌∙◌, subst, arith, length-append}
+use Rattle.std.specs.Prelude.{slice_get, ◌==◌, Ok}
 use Rattle.wave_base.specs.declared.path.Class.{Class}
 use Rattle.wave_base.specs.declared.span.Span.{Span}
 use Rattle.wave_base.specs.declared.value.Kind.{Kind}
@@ -16,7 +16,7 @@ use Rattle.service_code.specs.declared.program.Program.{Program}
 use Rattle.service_verify.specs.declared.error.Rule.TheVariants as rule
 use Rattle.service_verify.specs.declared.point.Point.{Point}
 use Rattle.service_verify.specs.Points.{point_after}
-use Rattle.service_verify.specs.Rules.{found, must, judged_then, kind_eq, an_int, effect_of, left_below, next_of}
+use Rattle.service_verify.specs.Rules.{found, must, judged_then, kind_eq, an_int, effect_of, next_of}
 use Rattle.code_scheme.specs.Heights.{tree_height, steps_height, last_height, phases_height}
 use Rattle.code_scheme.specs.Programs.{method_function}
 use Rattle.code_scheme.specs.Scheme.{Line, line, tree_code, steps_code, return_code, reply_code, phases_code}
@@ -32,7 +32,7 @@ use Rattle.std.proofs.lemmas.Option.{slice_get_within}
 use Rattle.service_verify.specs.Points.{Table, agreed, arrived_at, arrival, arrivals, visited_then, first_point, first_table, visit, judged_from, judged_function}
 use Rattle.service_verify.specs.Rules.{is_child_class, takes_only}
 use Rattle.service_verify.proofs.Taking.{kinds_eq_refl}
-use Rattle.code_scheme.proofs.Fixed.{kind_self, number_self, max_left, max_right, Among, among_front, among_back, pt, after_line}
+use Rattle.code_scheme.proofs.Fixed.{number_self, max_left, max_right, Among, among_front, among_back, pt, after_line}
 use Rattle.code_scheme.proofs.Flow.{IsNext}
 use Rattle.code_scheme.proofs.Flowing.{tree_flow}
 use Rattle.code_scheme.proofs.Made.{there_is}

@@ -1,5 +1,5 @@
 -- The code follows an outcome, where the rest of a body may be left out.
-use Rattle.std.proofs.Common.{◌≡◌, ℕ, suc, ◌+◌, ◌≤◌, List, [], ◌∷◌, ◌++◌, Bool, true, false, ◌&&◌, Option, Some, None, refl, subst, arith}
+use Rattle.std.proofs.Common.{◌≡◌, ℕ, suc, ◌+◌, ◌≤◌, List, ◌∷◌, ◌++◌, Bool, true, false, ◌&&◌, Option, refl, arith}
 use Rattle.std.specs.Prelude.{option_to_list}
 use Rattle.wave_base.specs.declared.path.Path.{Path}
 use Rattle.wave_base.specs.declared.span.Span.{Span}
@@ -8,7 +8,7 @@ use Rattle.wave_base.specs.declared.value.Value.TheVariants as v
 use Rattle.resolved_service.specs.Jobs.{replied}
 use Rattle.resolved_service.specs.Meaning as m
 use Rattle.resolved_service.specs.Meaning.{State, Leave, Outcome, Done, Trapped, Left, Act, and_then, choose, value, while_turns, effect, effects, else_effect, maybe_value}
-use Rattle.resolved_service.specs.Steps.{Step, SetLocal, SetField, PutLocal, PutField, CutLocal, CutField, If, While, For, Require, Send, Spawn, Do, Return, Finish, Steps, no_steps, step, Else, no_else, otherwise, is_end, surely_ends}
+use Rattle.resolved_service.specs.Steps.{Step, SetLocal, SetField, PutLocal, PutField, CutLocal, CutField, If, While, For, Require, Send, Spawn, Do, Return, Finish, Steps, no_steps, step, no_else, otherwise, is_end, surely_ends}
 use Rattle.resolved_service.specs.World.{is_true}
 use Rattle.service_code.specs.declared.instr.Instr.TheVariants as i
 use Rattle.service_code.specs.declared.program.Program.{Program}

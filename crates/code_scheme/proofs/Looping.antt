@@ -1,32 +1,22 @@
 -- What a piece of code does to the state, and loops.
-use Rattle.std.proofs.Common.{◌≡◌, ℕ, zero, suc, ◌+◌, ◌-◌, ◌≤◌, ◌⊎◌, inl, inr, pos, List, [], ◌∷◌, ◌++◌, length, Bool, true, false, Option, Some, None, refl, sym, ap, ◌∙◌, subst, arith, length-append}
-use Rattle.std.specs.Prelude.{slice_get, is_some}
+use Rattle.std.proofs.Common.{◌≡◌, ℕ, zero, suc, ◌+◌, ◌-◌, ◌≤◌, List, [], ◌∷◌, ◌++◌, length, Bool, true, false, refl, subst, arith, length-append}
 use Rattle.wave_base.specs.declared.span.Span.{Span}
-use Rattle.wave_base.specs.declared.value.Kind.{Kind}
-use Rattle.wave_base.specs.declared.value.Kind.TheVariants as k
 use Rattle.wave_base.specs.declared.value.Value.{Value}
-use Rattle.wave_base.specs.declared.value.Value.TheVariants as v
-use Rattle.value_ops.specs.Operators.{operators, takes_of, apply_row}
 use Rattle.resolved_service.specs.declared.service.Method.{Method}
-use Rattle.resolved_service.specs.Meaning.{State, Leave, Returned, Finished, Outcome, Done, Trapped, Left, Act, and_then, give, leave, maybe_value, answer, with_world, tick, choose, get_local, set_local, get_field, put_field, demand, row_add, row_lt, row_put, row_cut, value, values, called, while_turns, for_test, for_body, effect, effects, ◌>>=◌, ◌>>◌}
-use Rattle.resolved_service.specs.Steps.{Step, SetLocal, SetField, PutLocal, PutField, CutLocal, CutField, If, While, For, Require, Send, Spawn, Do, Return, Finish, Steps, no_steps, step, no_else, otherwise, surely_ends}
-use Rattle.resolved_service.specs.View.{Tree, Const, Local, Field, Above, Op, And, Or, Call, Child}
-use Rattle.resolved_service.specs.World as world
-use Rattle.resolved_service.specs.World.{World, nothing, is_true, sending, spawning}
-use Rattle.service_code.specs.declared.instr.Instr.{Instr}
+use Rattle.resolved_service.specs.Meaning.{State, Leave, Outcome, Done, Trapped, Left, Act, give, tick, choose, while_turns, ◌>>◌}
+use Rattle.resolved_service.specs.World.{is_true}
 use Rattle.service_code.specs.declared.instr.Instr.TheVariants as i
 use Rattle.service_code.specs.declared.program.Program.{Program}
 use Rattle.service_verify.specs.Fit.{IsFit}
 use Rattle.service_verify.specs.Points.{IsVerified}
 use Rattle.service_verify.specs.Tours.{Tour}
-use Rattle.code_scheme.specs.Scheme.{Line, line, gives_in, leaves_value, pop_code, finish_instr, behind, if_code, else_code, while_code, test_code, turn_code, loop_at, block_at, tree_code, trees_code, two_code, maybe_code, step_code, steps_code}
-use Rattle.code_scheme.specs.Texts.{place_of_text}
-use Rattle.code_scheme.specs.Typed.{Within, InMethod, InEvent, IsMethod, HasKind, IsSilent, IsTypedReturn, IsTypedFinish, IsTypedStep, AreTyped}
-use Rattle.code_scheme.proofs.Follow.{Here, At, Leads, Follows, stay, place_is, bind, ends, done, IsLine}
-use Rattle.code_scheme.proofs.Instructions.{Low, tick_runs, row_runs, load_runs, store_runs, pop_runs, set_field_runs, jump_runs, put_local_runs, cut_local_runs, put_field_runs, cut_field_runs, require_runs, send_runs, spawn_runs, push_runs, reply_runs, end_runs, Onward}
-use Rattle.code_scheme.proofs.Leaving.{NeverDone, never_first, never_effects, assoc, Leaving, leaving_lower, Performs, performs, lead_to, bind_to, bind_on, ends_to, never_ends, picks_on}
-use Rattle.code_scheme.proofs.Places.{next, HasAt, has_front, has_back, while_stands}
-use Rattle.code_scheme.proofs.Values.{Counted, AreMade, CallsFollow, OnTop, OnTops, LeftOn, own_value, child_value, value_runs, values_run}
+use Rattle.code_scheme.specs.Scheme.{Line, line, while_code}
+use Rattle.code_scheme.specs.Typed.{Within}
+use Rattle.code_scheme.proofs.Follow.{Here, At, Follows, place_is, ends, done, IsLine}
+use Rattle.code_scheme.proofs.Instructions.{Low, tick_runs, jump_runs, Onward}
+use Rattle.code_scheme.proofs.Leaving.{NeverDone, Leaving, leaving_lower, Performs, performs, lead_to, bind_to, bind_on, ends_to, never_ends, picks_on}
+use Rattle.code_scheme.proofs.Places.{next, HasAt, has_back}
+use Rattle.code_scheme.proofs.Values.{OnTop}
 
 module _ (program : Program) (fit : IsFit program) (verified : IsVerified program) (methods : List Method) (n : ℕ) where
   -- what a piece of code does to the state, in a function of this kind

@@ -1,6 +1,6 @@
 -- An event's code on one tree, one instruction after the other.
 use Rattle.std.proofs.Common.{◌≡◌, ℕ, zero, suc, ◌+◌, Option, Some, None, refl, ap, sym, subst, ◌∙◌, arith}
-use Rattle.std.specs.Prelude.{map, Bool, true, false}
+use Rattle.std.specs.Prelude.{Bool, true, false}
 use Rattle.wave_base.specs.declared.outcome.EventResult.{EventResult}
 use Rattle.wave_base.specs.declared.path.Path.{Path}
 use Rattle.wave_base.specs.declared.pause.Pause.TheVariants as pause

@@ -1,5 +1,5 @@
 -- Code that no instruction runs through to its end: the points that the verifier fixes stay in it.
-use Rattle.std.proofs.Common.{◌≡◌, ℕ, suc, ◌+◌, ◌<◌, ◌≤◌, ◌⊎◌, inl, inr, List, [], ◌∷◌, Bool, true, false, ◌&&◌, Some, refl, sym, ap, ◌∙◌, subst, arith}
+use Rattle.std.proofs.Common.{◌≡◌, ℕ, suc, ◌+◌, ◌<◌, ◌≤◌, inl, inr, List, [], ◌∷◌, Bool, true, false, Some, refl, sym, ap, ◌∙◌, subst, arith}
 use Rattle.std.specs.Prelude.{slice_get, Ok}
 use Rattle.std.proofs.lemmas.Bool.{cases_lt}
 use Rattle.service_code.specs.declared.instr.Instr.TheVariants as i
@@ -9,7 +9,7 @@ use Rattle.service_verify.specs.declared.point.Point.{Point}
 use Rattle.service_verify.specs.Points.{point_after}
 use Rattle.service_verify.specs.Rules.{next_of}
 use Rattle.code_scheme.specs.Scheme.{Line}
-use Rattle.code_scheme.proofs.Flow.{IsNext, glue, glue_low, glue_high, glue_mid, Steps, Reached, Flow, lower, line_same, flow_none, flow_then, flow_choice}
+use Rattle.code_scheme.proofs.Flow.{IsNext, glue, glue_low, glue_high, glue_mid, Steps, Reached, Flow, lower, line_same, flow_then}
 
 module _ (program : Program) (number : ℕ) (function : Function) (ls : List Line) where
   -- what an instruction leaves at the instructions that may come next, all of them in here

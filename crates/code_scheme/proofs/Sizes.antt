@@ -1,42 +1,15 @@
 -- The code of each function has an instruction.
-use Rattle.std.proofs.Common.{◌≡◌, ℕ, zero, suc, ◌+◌, ◌-◌, ◌<◌, ◌≤◌, inl, inr, ◌||◌, max, List, [], ◌∷◌, ◌++◌, length, map, if◌then◌else◌, Bool, true, false, Option, Some, None, refl, sym, ap, ◌∙◌, subst, arith, length-append}
-use Rattle.std.specs.Prelude.{slice_get, Ok}
-use Rattle.std.specs.List.{list_any, AllByRecursion}
-use Rattle.std.specs.Cmp.Lexicographic.{nat_list_eq_equiv}
-use Rattle.std.proofs.lemmas.Bool.{cases_lt}
-use Rattle.std.proofs.lemmas.List.Elements.{All-from_recursion}
-use Rattle.std.proofs.lemmas.Option.{slice_get_within}
-use Rattle.wave_base.specs.declared.shape.EventInfo.{EventInfo}
-use Rattle.wave_base.specs.declared.shape.Shape.{Shape}
+use Rattle.std.proofs.Common.{◌≡◌, ℕ, ◌+◌, ◌<◌, List, [], ◌∷◌, ◌++◌, length, Bool, true, false, Option, Some, None, refl, arith, length-append}
 use Rattle.wave_base.specs.declared.span.Span.{Span}
-use Rattle.wave_base.specs.declared.value.Kind.{Kind}
-use Rattle.wave_base.specs.Names.{same_bytes}
 use Rattle.resolved_service.specs.declared.service.Event.{Event}
 use Rattle.resolved_service.specs.declared.service.Last.{Last}
 use Rattle.resolved_service.specs.declared.service.Method.{Method}
 use Rattle.resolved_service.specs.declared.service.Phase.{Phase}
-use Rattle.resolved_service.specs.declared.service.Resolved.{Resolved}
 use Rattle.resolved_service.specs.Steps.{Step, SetLocal, SetField, PutLocal, PutField, CutLocal, CutField, If, While, For, Require, Send, Spawn, Do, Return, Finish, Steps, no_steps, step, no_else, otherwise, steps_in, is_end, surely_ends}
 use Rattle.resolved_service.specs.View.{tree_of}
-use Rattle.service_code.specs.declared.instr.Instr.{Instr}
 use Rattle.service_code.specs.declared.instr.Instr.TheVariants as i
-use Rattle.service_code.specs.declared.program.Function.{Function}
-use Rattle.service_code.specs.declared.program.Program.{Program}
-use Rattle.service_verify.specs.Fit.{Jumps, IsTicked, IsTickedCall, is_call_down, FitsFunction, FitsEvent, IsFit}
-use Rattle.service_verify.specs.declared.point.Point.{Point}
-use Rattle.service_verify.specs.Points.{Table, judged_function, IsVerified}
-use Rattle.code_scheme.specs.Heights.{steps_height, last_height, phases_height, method_height, event_height}
-use Rattle.code_scheme.specs.Programs.{method_function, event_function, event_functions, numbers_from, functions_with, scheme_program}
 use Rattle.code_scheme.specs.Scheme.{Line, line, finish_instr, maybe_code, test_then, step_code, steps_code, tree_code, return_code, reply_code, phases_code, method_code, event_code}
-use Rattle.code_scheme.specs.Texts.{Text, with_text, with_texts, steps_uses, last_uses, phases_uses, method_uses, methods_uses, event_uses, events_uses, service_texts}
-use Rattle.code_scheme.specs.Typed.{InMethod, InEvent, IsTypedLast, AreTypedPhases, IsTypedMethod, IsTypedEvent, IsTyped}
-use Rattle.code_scheme.proofs.Fixed.{Among, among_front, among_back, max_left, max_right, pt}
-use Rattle.code_scheme.proofs.Judging.{behind_statements, return_ends, phases_none, phases_ends, accepted}
-use Rattle.code_scheme.proofs.Made.{get_back, there_is, program_shape, method_made, event_made, number_made}
-use Rattle.code_scheme.proofs.Parts.{whole_loops, whole_calls, method_part, event_part, code_is}
-use Rattle.code_scheme.proofs.Places.{StandsAt, stands_front, stands_back, stands_all}
-use Rattle.code_scheme.proofs.Shutting.{Shut, runs_at}
-use Rattle.code_scheme.proofs.Stating.{steps_flow}
+use Rattle.code_scheme.specs.Texts.{Text}
 
 module _ (methods : List Method) where
   -- code that surely ends has an instruction

@@ -1,6 +1,6 @@
 -- The code of an expression gives its value, or its trap at its place.
 use Rattle.std.proofs.Common.{◌≡◌, ℕ, suc, ◌+◌, ◌≤◌, List, [], ◌∷◌, ◌++◌, length, Bool, true, false, Option, Some, None, refl, sym, ap, ◌∙◌, subst, arith, length-append}
-use Rattle.std.specs.Prelude.{slice_get, option_to_list, map, drop}
+use Rattle.std.specs.Prelude.{slice_get, option_to_list}
 use Rattle.wave_base.specs.declared.path.Path.{Path}
 use Rattle.wave_base.specs.declared.span.Span.{Span}
 use Rattle.wave_base.specs.declared.value.Kind.{Kind}
@@ -15,7 +15,6 @@ use Rattle.resolved_service.specs.World as world
 use Rattle.resolved_service.specs.World.{World, nothing, is_true, child}
 use Rattle.service_code.specs.declared.instr.Instr.TheVariants as i
 use Rattle.service_code.specs.declared.program.Program.{Program}
-use Rattle.service_verify.specs.Boxes as boxes
 use Rattle.service_verify.specs.Boxes.{first_locals}
 use Rattle.service_verify.specs.Fit.{IsFit}
 use Rattle.service_verify.specs.Points.{IsVerified}

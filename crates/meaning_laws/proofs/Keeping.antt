@@ -1,7 +1,5 @@
 -- What an event does keeps the tree of contexts well, and creates few calls, each a generation later.
-use Rattle.std.proofs.Common.{◌≡◌, ◌≢◌, ℕ, zero, suc, ◌+◌, ◌<◌, ◌≤◌, ◌||◌, ◌==◌, Bool, true, false, if◌then◌else◌, nat_lt, List, [], ◌∷◌, ◌++◌, length, All, Option, Some, None, Result, Ok, Err, refl, sym, ap, subst, ◌∙◌, arith, length-append}
-use Rattle.std.specs.Prelude.{slice_get, filter}
-use Rattle.std.specs.List.{list_any}
+use Rattle.std.proofs.Common.{◌≡◌, ◌≢◌, ℕ, zero, suc, ◌<◌, ◌≤◌, ◌||◌, ◌==◌, Bool, true, false, if◌then◌else◌, nat_lt, List, [], ◌∷◌, ◌++◌, length, All, Option, Ok, Err, refl, sym, ap, ◌∙◌, arith, length-append}
 use Rattle.std.specs.List.Sorted.{IsStrictlySortedBy}
 use Rattle.std.proofs.lemmas.Bool.Decides.{nat_tests}
 use Rattle.std.proofs.lemmas.List.Elements.{All-nil, All-cons, All-filter, All-append, All-weaker}
@@ -12,7 +10,7 @@ use Rattle.wave_base.specs.declared.path.Path.{Path}
 use Rattle.wave_base.specs.declared.path.Step.{Step}
 use Rattle.wave_base.specs.declared.shape.Shape.{Shape}
 use Rattle.wave_base.specs.declared.span.Span.{Span}
-use Rattle.wave_base.specs.declared.trap.TrapKind.TheVariants.{Ticks, Reach, Sends, Spawns, Generation}
+use Rattle.wave_base.specs.declared.trap.TrapKind.TheVariants.{Reach, Sends, Spawns, Generation}
 use Rattle.wave_base.specs.declared.value.Value.{Value}
 use Rattle.wave_base.specs.Paths.{path_eq, path_cmp, is_above, parent_of}
 use Rattle.wave_base.specs.Shapes.{class_of, is_path}
@@ -21,8 +19,8 @@ use Rattle.value_ops.specs.Kinds.{Answer}
 use Rattle.resolved_service.specs.Fits.{IsChildClass}
 use Rattle.resolved_service.specs.Meaning as m
 use Rattle.resolved_service.specs.Meaning.{State, Outcome, Done, Trapped, Left, Act, and_then, answer, with_world, tick, enter_at, demand, choose}
-use Rattle.resolved_service.specs.World.{World, has, key_of, child, took, ticking, changed, with_entered, entering, releasing, sending, spawning, set_field}
-use Rattle.service_eval.proofs.PathLemmas.{class_of-child, parent_of-child, is_path-child, all_there, parent_there, enter_holds, entered_there, still_there, same_paths}
+use Rattle.resolved_service.specs.World.{World, has, key_of, child, took, changed, with_entered, entering, releasing, sending, spawning, set_field}
+use Rattle.service_eval.proofs.PathLemmas.{parent_of-child, is_path-child, all_there, parent_there, enter_holds, entered_there, still_there, same_paths}
 use Rattle.service_eval.specs.Worlds.{Holds}
 use Rattle.meaning_laws.specs.Kept.{IsEarly}
 

@@ -1,10 +1,7 @@
 -- Expressions, statements, calls and phases do so, where the service fits its shape.
-use Rattle.std.proofs.Common.{◌≡◌, ℕ, zero, suc, ◌+◌, ◌≤◌, Bool, true, false, List, [], ◌∷◌, length, All, Option, Some, None, Ok, Err, refl, sym, ap, subst}
-use Rattle.std.specs.Prelude.{slice_get}
-use Rattle.std.proofs.lemmas.List.Elements.{All-head, All-tail}
+use Rattle.std.proofs.Common.{◌≡◌, ℕ, zero, suc, ◌≤◌, Bool, true, false, List, [], ◌∷◌, All, Option, Some, None, refl, sym, subst}
 use Rattle.wave_base.proofs.Lists.{all_at}
 use Rattle.wave_base.specs.declared.path.Path.{Path}
-use Rattle.wave_base.specs.declared.path.Step.{Step as PathStep}
 use Rattle.wave_base.specs.declared.shape.Shape.{Shape}
 use Rattle.wave_base.specs.declared.span.Span.{Span}
 use Rattle.wave_base.specs.declared.value.Value.{Value}
@@ -16,12 +13,12 @@ use Rattle.resolved_service.specs.declared.service.Event.{Event}
 use Rattle.resolved_service.specs.declared.service.Last.{Last}
 use Rattle.resolved_service.specs.declared.service.Method.{Method}
 use Rattle.resolved_service.specs.declared.service.Phase.{Phase}
-use Rattle.resolved_service.specs.Fits.{count_of, IsMethod, IsChildClass, FitsTree, FitsTrees, FitsMaybe, FitsStep, FitsSteps, FitsElse, FitsLast, FitsMethod, FitsPhases, FitsEvent}
+use Rattle.resolved_service.specs.Fits.{count_of, IsMethod, FitsTree, FitsTrees, FitsMaybe, FitsStep, FitsSteps, FitsElse, FitsLast, FitsMethod, FitsPhases, FitsEvent}
 use Rattle.resolved_service.specs.Meaning as m
 use Rattle.resolved_service.specs.Meaning.{State, Outcome, Done, Trapped, Left, Act, and_then, ◌>>=◌, ◌>>◌, give, answer, with_world, tick, enter_at, release, back, choose, get_local, set_local, put_field, demand, leave, value, values, while_turns, for_test, for_body, effect, effects, else_effect, maybe_value, last_value, with_locals, run_method, called, worth, phases_run, event_run}
 use Rattle.resolved_service.specs.Steps.{Step, SetLocal, SetField, PutLocal, PutField, CutLocal, CutField, If, While, For, Require, Send, Spawn, Do, Return, Finish, Steps, no_steps, step, Else, no_else, otherwise, steps_in}
 use Rattle.resolved_service.specs.View.{Tree, Const, Local, Field, Above, Op, And, Or, Call, Child, Trees, no_trees, tree, tree_of}
-use Rattle.resolved_service.specs.World.{World, is_true, key_of, child, releasing}
+use Rattle.resolved_service.specs.World.{World, is_true, key_of, child}
 use Rattle.service_eval.proofs.PathLemmas.{class_of-child}
 use Rattle.meaning_laws.proofs.Keeping.{At, Good, Safe, Ends, ends_good, ends_then, then_at, safe_then, safe_answer, safe_choose, safe_demand, safe_tick, enters_child, rises, releases, puts, sends, spawns}
 

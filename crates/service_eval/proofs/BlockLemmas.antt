@@ -1,18 +1,17 @@
 -- Statements: their expressions first, and then what is done with their values.
-use Rattle.std.proofs.Common.{◌≡◌, ℕ, zero, suc, ◌+◌, Bool, true, false, List, [], ◌∷◌, ◌++◌, length, take, drop, get_or, Option, Some, refl, sym, ap, subst, ◌∙◌, append_assoc}
+use Rattle.std.proofs.Common.{◌≡◌, ℕ, ◌+◌, Bool, true, false, List, [], ◌∷◌, ◌++◌, length, Option, Some, refl, sym, ap, ◌∙◌, append_assoc}
 use Rattle.wave_base.specs.declared.path.Path.{Path}
 use Rattle.wave_base.specs.declared.span.Span.{Span}
 use Rattle.wave_base.specs.declared.value.Value.{Value}
-use Rattle.value_ops.specs.Operators.{apply_row}
 use Rattle.resolved_service.specs.declared.service.Method.{Method}
-use Rattle.resolved_service.specs.Meaning.{State, Returned, Finished, Outcome, Done, Trapped, Left, Act, and_then, ◌>>=◌, ◌>>◌, give, answer, with_world, choose, get_local, set_local, get_field, put_field, demand, leave, row_put, value, values, while_turns, for_test, for_body, effect, effects, else_effect, called}
+use Rattle.resolved_service.specs.Meaning.{State, Returned, Finished, Outcome, Done, Trapped, Left, Act, and_then, ◌>>=◌, ◌>>◌, give, with_world, choose, set_local, put_field, leave, value, values, while_turns, for_test, for_body, effect, effects, else_effect, called}
 use Rattle.resolved_service.specs.Steps as s
 use Rattle.resolved_service.specs.Steps.{Step, Steps, no_steps, step, Else, no_else, otherwise}
 use Rattle.resolved_service.specs.View.{Tree, Trees}
-use Rattle.resolved_service.specs.World.{nothing, is_true, sending, spawning}
-use Rattle.service_eval.specs.Items.{End, SetLocal, SetField, PutLocal, PutField, CutLocal, CutField, Branch, Require, Send, Spawn, Drop, Returns, Finishes, Item, Eval, Evals, Block, Begin, Finish, Turns, Counts, else_steps}
+use Rattle.resolved_service.specs.World.{is_true, spawning}
+use Rattle.service_eval.specs.Items.{End, SetLocal, SetField, PutLocal, PutField, CutLocal, CutField, Branch, Require, Send, Spawn, Drop, Returns, Finishes, Eval, Evals, Block, Begin, Finish, Counts, else_steps}
 use Rattle.service_eval.specs.Machines.{Mach, Rest, on_top, act, finish, resume, comes_to}
-use Rattle.service_eval.proofs.Outcomes.{assoc, regroup, feeds, below, upon}
+use Rattle.service_eval.proofs.Outcomes.{assoc, feeds, below, upon}
 
 module _ (methods : List Method) (m : Mach) where
   abbrev vs : List Value

@@ -1,8 +1,7 @@
 -- Calls: a method runs with locals of its own, and what it gives is put upon what lay there.
-use Rattle.std.proofs.Common.{◌≡◌, ℕ, zero, suc, ◌+◌, ◌-◌, ◌*◌, ◌^◌, ◌≤◌, Bool, true, false, List, [], ◌∷◌, ◌++◌, length, take, drop, Option, Some, None, Result, Ok, Err, refl, sym, ap, subst, ◌∙◌, arith}
+use Rattle.std.proofs.Common.{◌≡◌, ℕ, suc, ◌-◌, Bool, true, false, List, [], ◌∷◌, ◌++◌, take, drop, Option, Some, None, Ok, Err, refl, sym, ap, subst, ◌∙◌}
 use Rattle.std.specs.Prelude.{slice_get}
 use Rattle.wave_base.specs.declared.path.Path.{Path}
-use Rattle.wave_base.specs.declared.shape.Shape.{Shape}
 use Rattle.wave_base.specs.declared.span.Span.{Span}
 use Rattle.wave_base.specs.declared.trap.TrapKind.TheVariants.{Ticks}
 use Rattle.wave_base.specs.declared.value.Value.{Value}
@@ -12,10 +11,10 @@ use Rattle.resolved_service.specs.declared.service.Method.{Method}
 use Rattle.resolved_service.specs.Meaning.{State, Returned, Finished, Outcome, Done, Trapped, Left, Act, and_then, ◌>>=◌, ◌>>◌, give, with_world, enter_at, back, value, effects, last_value, with_locals, with_blanks, run_method, called, worth, nowhere}
 use Rattle.resolved_service.specs.Steps.{steps_in}
 use Rattle.resolved_service.specs.View.{tree_of}
-use Rattle.resolved_service.specs.World.{World, nothing, key_of, child, ticking, entering}
+use Rattle.resolved_service.specs.World.{World, key_of, child, ticking, entering}
 use Rattle.service_eval.specs.declared.stop.Stop.{Stop}
 use Rattle.service_eval.specs.declared.stop.Stop.TheVariants as stop
-use Rattle.service_eval.specs.Items.{Item, Eval, Invoke, Child, Block, Return}
+use Rattle.service_eval.specs.Items.{Eval, Invoke, Child, Block, Return}
 use Rattle.service_eval.specs.Machines.{Mach, Rest, on_top, cut_to, in_world, own, act, path_after, returned, resume, comes_to, with_last, started}
 use Rattle.service_eval.specs.Worlds.{Changes, Traps, Fails}
 use Rattle.service_eval.proofs.Outcomes.{assoc, regroup, fails_through}

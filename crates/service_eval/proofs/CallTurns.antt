@@ -1,24 +1,23 @@
 -- Calls and returns in the machine.
-use Rattle.std.proofs.Common.{◌≡◌, ℕ, zero, suc, ◌+◌, ◌-◌, ◌*◌, ◌^◌, ◌<◌, ◌≤◌, ◌⊎◌, inl, inr, Bool, true, false, nat_lt, if◌then◌else◌, List, [], ◌∷◌, ◌++◌, length, take, drop, get_or, Option, Some, None, Result, Ok, Err, OnOk, IfErr, refl, sym, ap, subst, ◌∙◌, arith}
+use Rattle.std.proofs.Common.{◌≡◌, ℕ, zero, suc, ◌+◌, ◌≤◌, ◌⊎◌, inl, inr, Bool, true, false, nat_lt, if◌then◌else◌, List, [], ◌∷◌, length, take, drop, get_or, Option, Some, None, Result, Ok, Err, OnOk, IfErr, refl, sym, ap, subst, ◌∙◌, arith}
 use Rattle.std.specs.Prelude.{slice_get}
 use Rattle.std.specs.List.{All}
 use Rattle.std.proofs.lemmas.List.Elements.{All-push, All-weaker}
 use Rattle.std.proofs.lemmas.Option.{slice_get_within, get_or_from_slice_get}
-use Rattle.std.proofs.lemmas.Result.{on_ok_weaker}
 use Rattle.wave_base.specs.declared.path.Path.{Path}
 use Rattle.wave_base.specs.declared.path.Step.{Step}
 use Rattle.wave_base.specs.declared.shape.Shape.{Shape}
 use Rattle.wave_base.specs.declared.span.Span.{Span}
-use Rattle.wave_base.specs.declared.trap.TrapKind.TheVariants.{Ticks, Reach}
+use Rattle.wave_base.specs.declared.trap.TrapKind.TheVariants.{Reach}
 use Rattle.wave_base.specs.declared.value.Value.{Value}
 use Rattle.wave_base.specs.Paths.{parent_of}
 use Rattle.wave_base.specs.Shapes.{class_of, is_path, IsShape}
 use Rattle.wave_base.specs.Tree.{Tree, there, enter}
 use Rattle.value_ops.specs.Kinds.{Answer}
-use Rattle.context_tree.specs.Contexts.{Contexts, tree_of as shown}
+use Rattle.context_tree.specs.Contexts.{Contexts}
 use Rattle.resolved_service.specs.declared.service.Last.{Last}
 use Rattle.resolved_service.specs.declared.service.Method.{Method}
-use Rattle.resolved_service.specs.Fits.{FitsSteps, FitsTree, FitsMethod, FitsLast, IsMethod, IsChildClass}
+use Rattle.resolved_service.specs.Fits.{FitsSteps, FitsTree, FitsMethod, FitsLast, IsMethod}
 use Rattle.resolved_service.specs.Steps.{steps_in}
 use Rattle.resolved_service.specs.View.{tree_of}
 use Rattle.resolved_service.specs.World.{World, nothing, has, key_of, child, took, ticking, changed, with_entered, entering}
@@ -26,17 +25,15 @@ use Rattle.service_eval.specs.declared.code.Code.{Code}
 use Rattle.service_eval.specs.declared.machine.Machine.{Machine}
 use Rattle.service_eval.specs.declared.stop.Stop.{Stop}
 use Rattle.service_eval.specs.declared.stop.Stop.TheVariants as stop
-use Rattle.service_eval.specs.declared.trace.Trace.{Trace}
 use Rattle.service_eval.specs.declared.work.Caller.{Caller}
 use Rattle.service_eval.specs.Items as i
 use Rattle.service_eval.specs.Items.{Item, Eval, Invoke, Child, Block, Return, return_of}
 use Rattle.service_eval.specs.Machines.{Mach, mach_of, on_top, cut_to, in_world, own, path_after, back_to, with_last, started, comes_to}
-use Rattle.service_eval.specs.Ready.{FitsItems, FitsItem, owed, downs, Ready}
+use Rattle.service_eval.specs.Ready.{FitsItems, owed, downs, Ready}
 use Rattle.service_eval.specs.Turns.{mach, IsNext, Goes}
-use Rattle.service_eval.specs.Worlds.{world_of, Holds, Changes}
-use Rattle.service_eval.proofs.CallLemmas.{invoked, child_invoked}
+use Rattle.service_eval.specs.Worlds.{Holds}
 use Rattle.service_eval.proofs.PathLemmas.{class_of-child, parent_of-child, is_path-child, is_path-parent, parent_there, enter_holds, all_there, entered_there, still_there}
-use Rattle.service_eval.proofs.ReadyLemmas.{turned, turned_to}
+use Rattle.service_eval.proofs.ReadyLemmas.{turned}
 
 -- a tick is taken, and nothing else
 took_one : (n : ℕ) (w v : World) → took n w ≡ Ok v → (n ≡ suc v.ticks) × (v ≡ record w { ticks = v.ticks })

@@ -1,14 +1,12 @@
 -- An event goes down into a child.
-use Rattle.std.proofs.Common.{◌≡◌, ℕ, ℤ, suc, ◌+◌, ◌*◌, ◌^◌, ◌<◌, ◌≤◌, min, Bool, true, List, [], ◌∷◌, ◌++◌, length, Result, Ok, Err, refl, sym, ap, subst, ◌∙◌, arith, w64, FitsSigned, to_z, of_z}
+use Rattle.std.proofs.Common.{◌≡◌, ℕ, ℤ, ◌+◌, ◌*◌, ◌^◌, ◌<◌, ◌≤◌, min, true, List, [], ◌∷◌, ◌++◌, length, Ok, sym, ap, subst, ◌∙◌, arith, w64, FitsSigned, to_z, of_z}
 use Rattle.std.proofs.lemmas.Int.{to_z-of_z}
 use Rattle.std.proofs.lemmas.List.{length-append}
 use Rattle.std.proofs.lemmas.List.Elements.{All-filter}
-use Rattle.std.specs.List.{All}
 use Rattle.wave_base.specs.declared.path.Class.{Class}
 use Rattle.wave_base.specs.declared.path.Path.{Path}
 use Rattle.wave_base.specs.declared.path.Step.{Step}
 use Rattle.wave_base.specs.declared.shape.Shape.{Shape}
-use Rattle.wave_base.specs.declared.span.Span.{Span}
 use Rattle.wave_base.specs.declared.value.Value.{Value}
 use Rattle.wave_base.specs.Paths.{is_above, parent_of}
 use Rattle.wave_base.specs.Shapes.{IsShape, is_path, class_of}
@@ -18,7 +16,6 @@ use Rattle.resolved_service.specs.Fits.{IsChildClass}
 use Rattle.resolved_service.specs.World.{World, key_of, child, entering, releasing}
 use Rattle.service_eval.specs.Machines.{Mach}
 use Rattle.service_eval.specs.Ready.{FitsItems, downs, owed, Ready}
-use Rattle.service_eval.specs.Worlds.{Holds}
 use Rattle.service_eval.proofs.CallTurns.{Entered, entered, few_downs}
 use Rattle.service_eval.proofs.PathLemmas.{is_path-child, parent_of-child, short_path}
 

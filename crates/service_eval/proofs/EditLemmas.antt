@@ -1,5 +1,5 @@
 -- Maps changed where they stand: what the rows of the table say, and what the machine comes to.
-use Rattle.std.proofs.Common.{◌≡◌, ℤ, ℕ, zero, suc, if◌then◌else◌, List, [], ◌∷◌, drop, get_or, slice_set, Option, Some, None, Result, Ok, Err, refl, sym, ap, subst, ◌∙◌, arith}
+use Rattle.std.proofs.Common.{◌≡◌, ℤ, ℕ, zero, suc, if◌then◌else◌, List, [], ◌∷◌, drop, get_or, slice_set, Some, None, Result, Ok, Err, refl, sym, ap, subst, ◌∙◌, arith}
 use Rattle.wave_base.proofs.Trees.{put_same, put_twice}
 use Rattle.wave_base.specs.declared.path.Path.{Path}
 use Rattle.wave_base.specs.declared.span.Span.{Span}
@@ -11,8 +11,8 @@ use Rattle.wave_base.specs.Tables.{without}
 use Rattle.wave_base.specs.Tree.{Tree, put}
 use Rattle.value_ops.specs.Kinds.{Answer}
 use Rattle.value_ops.specs.Operators.{apply_row, operators}
-use Rattle.context_tree.specs.Contexts.{Contexts, tree_of as shown, with_field}
-use Rattle.resolved_service.specs.Meaning.{State, Outcome, Done, and_then, answer, set_local, put_field, row_put, row_cut, called}
+use Rattle.context_tree.specs.Contexts.{Contexts, with_field}
+use Rattle.resolved_service.specs.Meaning.{Outcome, and_then, answer, set_local, put_field, row_put, row_cut, called}
 use Rattle.resolved_service.specs.World.{World, nothing, read_field, set_field}
 use Rattle.service_eval.specs.declared.code.Code.{Code}
 use Rattle.service_eval.specs.declared.machine.Machine.{Machine}

@@ -1,5 +1,5 @@
 -- Expressions: their parts first, and then what is done with them.
-use Rattle.std.proofs.Common.{◌≡◌, ℕ, zero, suc, ◌+◌, ◌≤◌, Bool, true, false, List, [], ◌∷◌, ◌++◌, length, take, drop, get_or, Option, Result, Ok, Err, refl, sym, ap, subst, ◌∙◌, append_assoc, arith}
+use Rattle.std.proofs.Common.{◌≡◌, ℕ, suc, true, false, List, [], ◌∷◌, ◌++◌, length, take, drop, Option, Ok, Err, refl, sym, ap, ◌∙◌, append_assoc}
 use Rattle.std.proofs.lemmas.List.{append-nil}
 use Rattle.wave_base.specs.declared.path.Path.{Path}
 use Rattle.wave_base.specs.declared.span.Span.{Span}
@@ -14,7 +14,7 @@ use Rattle.service_eval.specs.declared.stop.Stop.{Stop}
 use Rattle.service_eval.specs.declared.stop.Stop.TheVariants as stop
 use Rattle.service_eval.specs.Answers.{Gives}
 use Rattle.service_eval.specs.Worlds.{Traps, Fails}
-use Rattle.service_eval.specs.Items.{Item, Eval, Evals, Apply, AndThen, OrElse, Invoke, Child}
+use Rattle.service_eval.specs.Items.{Eval, Evals, Apply, AndThen, OrElse, Invoke, Child}
 use Rattle.service_eval.specs.Machines.{Mach, Rest, on_top, with_value, cut_to, own, act, resume, comes_to}
 use Rattle.service_eval.proofs.Outcomes.{assoc, regroup, feeds, traps_then, fails_through, below, upon, first_upon, rest_upon}
 

@@ -1,22 +1,20 @@
 -- The parts of an expression, put down in the machine.
-use Rattle.std.proofs.Common.{◌≡◌, ℕ, List, [], ◌∷◌, ◌++◌, length, Result, Ok, Err, OnOk, IfErr, refl, sym, ap, subst, ◌∙◌, arith}
+use Rattle.std.proofs.Common.{◌≡◌, ℕ, List, length, Result, OnOk, IfErr, ap, ◌∙◌, arith}
 use Rattle.std.proofs.lemmas.Result.{on_ok_weaker}
 use Rattle.wave_base.specs.declared.span.Span.{Span}
 use Rattle.wave_base.specs.declared.value.Value.{Value}
 use Rattle.wave_base.specs.Tree.{Tree}
-use Rattle.context_tree.specs.Contexts.{Contexts, tree_of as shown}
-use Rattle.resolved_service.specs.Meaning.{Done, value, called}
+use Rattle.context_tree.specs.Contexts.{Contexts}
 use Rattle.resolved_service.specs.View.{Tree as Expression, Trees, tree, Op, And, Or, Call, Child as ChildOf}
 use Rattle.service_eval.specs.declared.code.Code.{Code}
 use Rattle.service_eval.specs.declared.machine.Machine.{Machine}
 use Rattle.service_eval.specs.declared.stop.Stop.{Stop}
 use Rattle.service_eval.specs.declared.stop.Stop.TheVariants as stop
-use Rattle.service_eval.specs.Answers.{Finds}
-use Rattle.service_eval.specs.Items.{Item, Eval, Evals, Apply, AndThen, OrElse, Invoke, Child}
-use Rattle.service_eval.specs.Machines.{Mach, mach_of, state_of, on_top, with_value}
+use Rattle.service_eval.specs.Items.{Eval, Evals, Apply, AndThen, OrElse, Invoke, Child}
+use Rattle.service_eval.specs.Machines.{Mach, mach_of, on_top}
 use Rattle.service_eval.specs.Turns.{mach, IsNext, Goes}
 use Rattle.service_eval.proofs.EvalLemmas as e
-use Rattle.service_eval.proofs.ReadyLemmas.{ready_with, turned, gives}
+use Rattle.service_eval.proofs.ReadyLemmas.{ready_with, turned}
 
 module _ (code : Code) (contexts : Contexts) (m m' : Machine) (r : Result (Unit {0}) Stop) (n : ℕ) (is : n ≡ length m.values.items) where
   abbrev Puts : (Mach → Mach) → Type 0

@@ -1,9 +1,9 @@
 -- Parts of an event, begun and ended with nothing left to do.
-use Rattle.std.proofs.Common.{◌≡◌, ℕ, ◌+◌, List, [], ◌∷◌, ◌++◌, Option, Result, Ok, Err, OnOk, refl, sym, ap, subst, ◌∙◌, arith}
+use Rattle.std.proofs.Common.{◌≡◌, ℕ, List, [], ◌∷◌, ◌++◌, Result, Ok, Err, OnOk, sym, ap, subst, ◌∙◌}
 use Rattle.wave_base.specs.declared.path.Path.{Path}
 use Rattle.wave_base.specs.declared.value.Value.{Value}
 use Rattle.context_tree.specs.Contexts.{Contexts, tree_of as shown}
-use Rattle.resolved_service.specs.Meaning.{State, Outcome, Done, Trapped, Left, Act, and_then, give, value, effects, called}
+use Rattle.resolved_service.specs.Meaning.{State, Outcome, Done, Trapped, Left, and_then, give, value, effects, called}
 use Rattle.resolved_service.specs.Steps.{Steps}
 use Rattle.resolved_service.specs.View.{Tree}
 use Rattle.resolved_service.specs.World.{World}
@@ -12,9 +12,8 @@ use Rattle.service_eval.specs.declared.machine.Machine.{Machine}
 use Rattle.service_eval.specs.declared.stop.Stop.{Stop}
 use Rattle.service_eval.specs.declared.stop.Stop.TheVariants as stop
 use Rattle.service_eval.specs.Events.{Rests, Comes}
-use Rattle.service_eval.specs.Items.{Item, Eval, Block}
-use Rattle.service_eval.specs.Machines.{Mach, Rest, rest_at, mach_of, state_of, on_top, resume, comes_to}
-use Rattle.service_eval.specs.Ready.{Ready}
+use Rattle.service_eval.specs.Items.{Eval, Block}
+use Rattle.service_eval.specs.Machines.{Mach, Rest, rest_at, state_of, on_top, resume, comes_to}
 use Rattle.service_eval.specs.Turns.{mach, Ran}
 use Rattle.service_eval.specs.Worlds.{Fails, Holds}
 

@@ -1,8 +1,7 @@
 -- Fields of contexts that are there.
-use Rattle.std.proofs.Common.{◌≡◌, ℕ, ◌<◌, ◌≤◌, ◌↔◌, ◌⊎◌, inl, inr, Bool, true, false, IsTrue, nat_lt, if◌then◌else◌, List, [], ◌∷◌, length, Option, Some, None, is_some, unwrap_or, IsSomeAnd, get_or, slice_set, refl, sym, ap, subst, ◌∙◌, arith}
+use Rattle.std.proofs.Common.{◌≡◌, ℕ, ◌<◌, inl, inr, true, false, List, length, Option, Some, None, is_some, unwrap_or, IsSomeAnd, get_or, refl, sym, ap, subst, ◌∙◌}
 use mathlib.Core.Bool.{true≢false}
 use Rattle.std.proofs.lemmas.Bool.{cases_lt}
-use Rattle.std.proofs.lemmas.Bool.Decides.{nat_tests}
 use Rattle.std.proofs.lemmas.List.{set_past, get_or_past}
 use Rattle.wave_base.proofs.Trees.{put_same}
 use Rattle.wave_base.specs.declared.path.Path.{Path}

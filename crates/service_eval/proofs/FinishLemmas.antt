@@ -1,31 +1,24 @@
 -- What statements do with the values of their expressions, and the turns of loops.
-use Rattle.std.proofs.Common.{◌≡◌, ℕ, pos, zero, suc, ◌+◌, ◌-◌, ◌*◌, ◌≤◌, ◌^◌, Bool, true, false, List, [], ◌∷◌, ◌++◌, length, take, drop, get_or, Option, Result, Ok, Err, OnOk, IfErr, refl, sym, ap, subst, ◌∙◌, slice_set, arith}
-use Rattle.std.specs.List.{All}
+use Rattle.std.proofs.Common.{◌≡◌, ℕ, pos, zero, suc, ◌+◌, ◌-◌, true, false, List, [], ◌∷◌, ◌++◌, length, take, drop, get_or, Option, Ok, Err, refl, sym, ap, subst, ◌∙◌, slice_set}
 use Rattle.wave_base.specs.declared.path.Path.{Path}
-use Rattle.wave_base.specs.declared.shape.Shape.{Shape}
 use Rattle.wave_base.specs.declared.span.Span.{Span}
-use Rattle.wave_base.specs.declared.trap.TrapKind.TheVariants.{Require as Requires}
 use Rattle.wave_base.specs.declared.value.Value.{Value}
 use Rattle.wave_base.specs.declared.value.Value.TheVariants.{Int}
-use Rattle.wave_base.specs.Tree.{Tree as Contexts, there}
 use Rattle.value_ops.specs.Kinds.{Answer}
 use Rattle.value_ops.specs.Operators.{apply_row}
 use Rattle.resolved_service.specs.declared.service.Method.{Method}
-use Rattle.resolved_service.specs.Meaning.{State, Outcome, Done, Trapped, Left, Act, and_then, ◌>>=◌, ◌>>◌, give, answer, with_world, tick, choose, get_local, set_local, for_test, for_body, while_turns, value, effects, row_lt, row_add, called}
+use Rattle.resolved_service.specs.Meaning.{State, Outcome, Done, Trapped, Left, Act, and_then, ◌>>◌, give, answer, with_world, tick, choose, set_local, for_test, for_body, while_turns, value, effects, row_lt, row_add, called}
 use Rattle.resolved_service.specs.Steps.{Steps}
 use Rattle.resolved_service.specs.View.{Tree}
-use Rattle.resolved_service.specs.World.{World, nothing, is_true, took, ticking, sending, spawning}
+use Rattle.resolved_service.specs.World.{World, nothing, is_true, ticking}
 use Rattle.service_eval.specs.declared.stop.Stop.{Stop}
 use Rattle.service_eval.specs.declared.stop.Stop.TheVariants as stop
 use Rattle.service_eval.specs.Answers.{Gives}
-use Rattle.service_eval.specs.Items.{End, SetLocal, Branch, Require, Send, Spawn, Drop, Item, Eval, Block, Finish, Turns, Check, Counts, Next}
+use Rattle.service_eval.specs.Items.{End, Branch, Eval, Block, Finish, Turns, Check, Counts, Next}
 use Rattle.service_eval.specs.Machines.{Mach, on_top, cut_to, in_world, in_state, own, act, finish, turn_on, next, resume, comes_to}
-use Rattle.service_eval.specs.Ready.{FitsItems, owed, Ready}
-use Rattle.service_eval.specs.Worlds.{Changes, Traps, Fails, Holds}
+use Rattle.service_eval.specs.Worlds.{Changes, Traps, Fails}
 use Rattle.service_eval.proofs.CallLemmas.{world_fails}
-use Rattle.service_eval.proofs.CallTurns.{ticked}
-use Rattle.service_eval.proofs.Outcomes.{assoc, regroup, feeds, traps_then, fails_through, below, upon, first_upon}
-use Rattle.service_eval.proofs.PathLemmas.{same_paths}
+use Rattle.service_eval.proofs.Outcomes.{assoc, feeds, traps_then, fails_through, below, first_upon}
 
 -- an answer, and what it gives at a place
 pub gives_fails : {B : Type 0} (a : Answer Value) (at : Span) (st : State) (f : Value → Act B) (e : Stop) → Gives a at (Err e) → Traps (and_then (answer a at st) f) e st.world

@@ -1,5 +1,5 @@
 -- A machine stays ready where a statement or a loop did its part.
-use Rattle.std.proofs.Common.{◌≡◌, ℕ, zero, suc, ◌+◌, ◌-◌, ◌*◌, ◌≤◌, ◌^◌, Bool, true, false, nat_lt, ◌==◌, if◌then◌else◌, List, [], ◌∷◌, ◌++◌, length, Result, Ok, Err, OnOk, IfErr, refl, sym, ap, subst, ◌∙◌, arith}
+use Rattle.std.proofs.Common.{◌≡◌, ℕ, suc, ◌+◌, ◌≤◌, true, false, nat_lt, ◌==◌, if◌then◌else◌, List, [], ◌∷◌, ◌++◌, length, Result, Ok, Err, refl, sym, ap, subst, ◌∙◌, arith}
 use Rattle.std.specs.List.{list_any, All}
 use Rattle.wave_base.specs.declared.path.Path.{Path}
 use Rattle.wave_base.specs.declared.shape.Shape.{Shape}
@@ -8,7 +8,7 @@ use Rattle.wave_base.specs.declared.value.Value.{Value}
 use Rattle.wave_base.specs.Paths.{path_eq}
 use Rattle.wave_base.specs.Tree.{there}
 use Rattle.value_ops.specs.Kinds.{Answer}
-use Rattle.context_tree.specs.Contexts.{Contexts, tree_of as shown}
+use Rattle.context_tree.specs.Contexts.{Contexts}
 use Rattle.resolved_service.specs.declared.service.Method.{Method}
 use Rattle.resolved_service.specs.Meaning.{State}
 use Rattle.resolved_service.specs.World.{World, ticking, sending, spawning, set_field}
@@ -18,8 +18,7 @@ use Rattle.service_eval.specs.declared.stop.Stop.{Stop}
 use Rattle.service_eval.specs.Items.{Item}
 use Rattle.service_eval.specs.Machines.{Mach, on_top, comes_to}
 use Rattle.service_eval.specs.Ready.{FitsItems, owed, downs, Ready, Turned}
-use Rattle.service_eval.specs.Turns.{mach, IsNext, Goes}
-use Rattle.service_eval.specs.Worlds.{Holds}
+use Rattle.service_eval.specs.Turns.{mach, Goes}
 use Rattle.service_eval.proofs.CallTurns.{ticked}
 use Rattle.service_eval.proofs.LeaveTurns.{follows_from}
 use Rattle.service_eval.proofs.PathLemmas.{same_paths}

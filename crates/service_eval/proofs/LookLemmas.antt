@@ -1,5 +1,5 @@
 -- A value that is found first, and then another one.
-use Rattle.std.proofs.Common.{◌≡◌, Bool, true, false, Option, Result, sym, subst}
+use Rattle.std.proofs.Common.{◌≡◌, true, false, Option, Result, sym, subst}
 use Rattle.wave_base.specs.declared.value.Value.{Value}
 use Rattle.resolved_service.specs.Meaning.{State, Outcome, Done, Act, and_then, choose}
 use Rattle.resolved_service.specs.World.{is_true}

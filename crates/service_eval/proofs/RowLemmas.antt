@@ -1,5 +1,5 @@
 -- Values that a row doesn't take.
-use Rattle.std.proofs.Common.{◌≡◌, ℕ, zero, suc, ◌<◌, ◌≤◌, Bool, true, false, ◌&&◌, ◌||◌, not, nat_le, IsTrue, List, [], ◌∷◌, length, map, Option, Some, None, is_none, get_or, Result, Ok, Err, refl, sym, ap, subst, ◌∙◌, arith}
+use Rattle.std.proofs.Common.{◌≡◌, ℕ, zero, suc, ◌<◌, ◌≤◌, Bool, true, false, ◌&&◌, nat_le, List, [], ◌∷◌, length, map, Some, Result, Err, refl, sym, ap, subst, ◌∙◌, arith}
 use mathlib.Core.Bool.{true≢false}
 use Rattle.std.proofs.lemmas.Bool.Decides.{nat_tests}
 use Rattle.std.proofs.lemmas.List.{get_or_past}
@@ -11,7 +11,7 @@ use Rattle.wave_base.specs.declared.value.Value.TheVariants as v
 use Rattle.wave_base.specs.Values.{kind_of}
 use Rattle.value_ops.specs.Answers.{Answers}
 use Rattle.value_ops.specs.declared.error.OpError.{OpError}
-use Rattle.value_ops.specs.Kinds.{Answer, Of, From, answer_of, at_values}
+use Rattle.value_ops.specs.Kinds.{Answer, From, answer_of, at_values}
 use Rattle.value_ops.specs.Operators.{Operator, no_operator, operators, operator_at, takes_of, apply_row}
 use Rattle.value_ops.specs.Rows.{three}
 use Rattle.service_eval.specs.Answers.{is_kind, are_kinds}

@@ -1,11 +1,9 @@
 -- A statement that changes the outside alone.
-use Rattle.std.proofs.Common.{◌≡◌, ℕ, List, [], ◌∷◌, drop, Result, Ok, Err, refl, sym, ap, subst, ◌∙◌, arith}
+use Rattle.std.proofs.Common.{◌≡◌, ℕ, drop, Result, Ok, Err, sym, ap, subst, ◌∙◌, arith}
 use Rattle.wave_base.specs.declared.span.Span.{Span}
-use Rattle.wave_base.specs.declared.value.Value.{Value}
-use Rattle.wave_base.specs.Tree.{Tree}
 use Rattle.value_ops.specs.Kinds.{Answer}
 use Rattle.context_tree.specs.Contexts.{Contexts, tree_of as shown}
-use Rattle.resolved_service.specs.Meaning.{State, Outcome, Trapped, with_world, called}
+use Rattle.resolved_service.specs.Meaning.{State, Trapped, with_world, called}
 use Rattle.resolved_service.specs.World.{World}
 use Rattle.service_eval.specs.declared.code.Code.{Code}
 use Rattle.service_eval.specs.declared.machine.Machine.{Machine}
@@ -13,7 +11,7 @@ use Rattle.service_eval.specs.declared.stop.Stop.{Stop}
 use Rattle.service_eval.specs.declared.stop.Stop.TheVariants as stop
 use Rattle.service_eval.specs.declared.trace.Trace.{Trace}
 use Rattle.service_eval.specs.Items.{End, Finish}
-use Rattle.service_eval.specs.Machines.{Mach, mach_of, on_top, cut_to, in_world, finish}
+use Rattle.service_eval.specs.Machines.{mach_of, cut_to, in_world, finish}
 use Rattle.service_eval.specs.Turns.{mach, IsNext, Goes}
 use Rattle.service_eval.specs.Worlds.{world_of, Changes, Traps}
 use Rattle.service_eval.proofs.FinishLemmas.{finished, not_finished}

@@ -1,5 +1,5 @@
 -- Resolved statements with lists in them, by the items of the lists.
-use Rattle.std.proofs.Common.{◌≡◌, ℕ, List, [], ◌∷◌, map, refl, sym, ap, ◌∙◌, rules, Vec, Box, Global, Option, Some, None}
+use Rattle.std.proofs.Common.{◌≡◌, ℕ, map, refl, ap, rules, Vec, Global, Option, Some, None}
 use Rattle.wave_base.specs.declared.span.Span.{Span}
 use Rattle.resolved_service.specs.declared.expr.Expr.{Expr}
 use Rattle.resolved_service.specs.declared.stmt.Stmt.{Stmt}

@@ -4,7 +4,7 @@ use Rattle.wave_base.specs.declared.path.Path.{Path}
 use Rattle.wave_base.specs.declared.span.Span.{Span}
 use Rattle.wave_base.specs.declared.value.Value.{Value}
 use Rattle.wave_base.specs.Tree.{Tree}
-use Rattle.context_tree.specs.Contexts.{Contexts, tree_of as shown}
+use Rattle.context_tree.specs.Contexts.{Contexts}
 use Rattle.resolved_service.specs.declared.service.Event.{Event}
 use Rattle.resolved_service.specs.Jobs.{Meant}
 use Rattle.resolved_service.specs.Meaning.{State, Outcome, Done, Act, ◌>>◌, enter_at, release, effects, phases_run}

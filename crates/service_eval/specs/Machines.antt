@@ -1,5 +1,5 @@
 -- A machine as contracts see it, and what is still to come of it.
-use Rattle.std.specs.Prelude.{◌≡◌, ℕ, zero, suc, ◌+◌, pos, Bool, true, false, List, [], ◌∷◌, ◌++◌, ◌-◌, length, map, reverse, take, drop, get_or, if◌then◌else◌, Option, Some, None}
+use Rattle.std.specs.Prelude.{ℕ, zero, suc, pos, Bool, true, false, List, [], ◌∷◌, ◌++◌, ◌-◌, map, reverse, take, drop, get_or, Option, Some, None}
 use Rattle.wave_base.specs.declared.path.Path.{Path}
 use Rattle.wave_base.specs.declared.span.Span.{Span}
 use Rattle.wave_base.specs.declared.value.Value.{Value}
@@ -9,9 +9,9 @@ use Rattle.wave_base.specs.Tree.{Tree as Contexts}
 use Rattle.value_ops.specs.Operators.{apply_row}
 use Rattle.resolved_service.specs.declared.service.Last.{Last}
 use Rattle.resolved_service.specs.declared.service.Method.{Method}
-use Rattle.resolved_service.specs.Meaning.{State, Leave, Returned, Finished, Outcome, Done, Trapped, Left, Act, and_then, ◌>>=◌, ◌>>◌, give, answer, with_world, tick, enter_at, back, choose, get_local, set_local, get_field, put_field, demand, leave, row_add, row_put, row_cut, worth, value, values, while_turns, for_test, for_body, effect, effects, with_blanks, called}
-use Rattle.resolved_service.specs.Steps.{Steps, steps_in}
-use Rattle.resolved_service.specs.View.{Tree, tree_of}
+use Rattle.resolved_service.specs.Meaning.{State, Returned, Finished, Outcome, Done, Trapped, Left, Act, and_then, ◌>>=◌, ◌>>◌, give, answer, with_world, tick, enter_at, back, choose, get_local, set_local, get_field, put_field, demand, leave, row_add, row_put, row_cut, worth, value, values, while_turns, for_test, for_body, effect, effects, with_blanks, called}
+use Rattle.resolved_service.specs.Steps.{steps_in}
+use Rattle.resolved_service.specs.View.{tree_of}
 use Rattle.resolved_service.specs.World.{World, nothing, is_true, child, changed, sending, spawning}
 use Rattle.service_eval.specs.declared.machine.Machine.{Machine}
 use Rattle.service_eval.specs.declared.work.Caller.{Caller}

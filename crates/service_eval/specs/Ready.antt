@@ -1,5 +1,5 @@
 -- What a machine is known to have while it runs.
-use Rattle.std.specs.Prelude.{◌≡◌, ◌≤◌, ℕ, zero, suc, ◌+◌, ◌*◌, ◌^◌, min, length, Bool, true, false, List, [], ◌∷◌, Result, Ok, Err, All}
+use Rattle.std.specs.Prelude.{◌≡◌, ◌≤◌, ℕ, ◌+◌, ◌*◌, ◌^◌, min, length, true, List, [], ◌∷◌, Result, Ok, Err, All}
 use Rattle.wave_base.specs.declared.limits.TheConstants.{GENERATION}
 use Rattle.wave_base.specs.declared.path.Path.{Path}
 use Rattle.wave_base.specs.declared.shape.Shape.{Shape}
@@ -9,7 +9,7 @@ use Rattle.resolved_service.specs.declared.service.Method.{Method}
 use Rattle.resolved_service.specs.Fits.{FitsTree, FitsTrees, FitsStep, FitsSteps, IsMethod, IsChildClass}
 use Rattle.resolved_service.specs.Meaning.{Outcome}
 use Rattle.service_eval.specs.declared.stop.Stop.{Stop}
-use Rattle.service_eval.specs.Items.{End, Branch, Item, Eval, Evals, Apply, AndThen, OrElse, Invoke, Child, Block, Begin, Finish, Turns, Check, Counts, Next, Return}
+use Rattle.service_eval.specs.Items.{End, Branch, Item, Eval, Evals, AndThen, OrElse, Invoke, Child, Block, Begin, Finish, Turns, Check, Counts, Return}
 use Rattle.service_eval.specs.Machines.{Mach, Rest, comes_to, path_after}
 use Rattle.service_eval.specs.Worlds.{Holds, Fails}
 

@@ -1,5 +1,5 @@
 -- What a call that does an item asks, and what it does.
-use Rattle.std.specs.Prelude.{◌≡◌, ℤ, List, [], Option, Some, None, Result, Ok, Err}
+use Rattle.std.specs.Prelude.{◌≡◌, List, [], Result, Ok, Err}
 use Rattle.wave_base.specs.declared.span.Span.{Span}
 use Rattle.wave_base.specs.declared.value.Value.{Value}
 use Rattle.value_ops.specs.Kinds.{Answer}

@@ -1,6 +1,5 @@
 -- What an event has done, as it is kept, and the state that it stands for.
 use Rattle.std.specs.Prelude.{◌≡◌, true, List, [], Option, Result, Ok, Err, All}
-use Rattle.wave_base.specs.declared.path.Path.{Path}
 use Rattle.wave_base.specs.declared.shape.Shape.{Shape}
 use Rattle.wave_base.specs.declared.span.Span.{Span}
 use Rattle.wave_base.specs.declared.value.Value.{Value}

@@ -1,13 +1,10 @@
-use Rattle.std.proofs.Common.{◌≡◌, ℕ, suc, ◌+◌, List, [], ◌∷◌, map, length, Ok, Err, refl, sym, ap, subst, ◌∙◌, arith}
-use Rattle.std.proofs.lemmas.Result.{on_ok_weaker}
-use Rattle.context_tree.specs.Contexts.{tree_of as shown}
+use Rattle.std.proofs.Common.{ℕ, List, map, length, refl, sym, ap, subst, ◌∙◌, arith}
 use Rattle.resolved_service.specs.Steps as s
 use Rattle.resolved_service.specs.Steps.{action_step, step_of, steps_in}
 use Rattle.resolved_service.specs.View.{tree_of, trees_of}
 use Rattle.service_eval.specs.Items as i
 use Rattle.service_eval.specs.Items.{Eval, Evals, Block, Begin, Finish, Turns, Counts, else_in, else_steps}
-use Rattle.service_eval.specs.Machines.{Mach, mach_of, on_top, comes_to}
-use Rattle.service_eval.specs.Ready.{Ready}
+use Rattle.service_eval.specs.Machines.{on_top, comes_to}
 use Rattle.service_eval.specs.Turns.{mach, IsNext, Goes}
 use Rattle.resolved_service.specs.Fits.{FitsSteps, FitsElse}
 use Rattle.wave_base.specs.declared.shape.Shape.{Shape}
@@ -15,8 +12,7 @@ use Rattle.wave_base.specs.Shapes.{class_of}
 use Rattle.resolved_service.specs.declared.service.Method.{Method}
 use Rattle.service_eval.proofs.BlockLemmas as l
 use Rattle.service_eval.proofs.BlockTurns.{step_turn, at_step, to_parts, from_parts}
-use Rattle.service_eval.proofs.FinishTurns.{goes_from}
-use Rattle.service_eval.proofs.ReadyLemmas.{ready_with, turned_to}
+use Rattle.service_eval.proofs.ReadyLemmas.{ready_with}
 use Rattle.service_eval.proofs.StepRows.{if_step, while_step, for_step, spawn_step}
 use Rattle.service_eval.proofs.block.begin.Goals as goal
 

@@ -1,19 +1,13 @@
-use Rattle.std.proofs.Common.{◌≡◌, ℕ, suc, ◌+◌, List, [], ◌∷◌, map, length, Ok, Err, refl, sym, ap, subst, ◌∙◌, arith}
-use Rattle.std.proofs.lemmas.Result.{on_ok_weaker}
+use Rattle.std.proofs.Common.{refl, sym, ap, subst, ◌∙◌, arith}
 use Rattle.context_tree.specs.Contexts.{tree_of as shown}
-use Rattle.resolved_service.specs.Steps as s
-use Rattle.resolved_service.specs.Steps.{action_step, step_of, steps_in}
-use Rattle.resolved_service.specs.View.{tree_of, trees_of}
-use Rattle.service_eval.specs.Items as i
-use Rattle.service_eval.specs.Items.{Eval, Evals, Block, Begin, Finish, Turns, Counts, else_in, else_steps}
-use Rattle.service_eval.specs.Machines.{Mach, mach_of, on_top, comes_to}
+use Rattle.resolved_service.specs.Steps.{step_of, steps_in}
+use Rattle.service_eval.specs.Items.{Block, Begin}
+use Rattle.service_eval.specs.Machines.{Mach, on_top, comes_to}
 use Rattle.service_eval.specs.Ready.{Ready}
-use Rattle.service_eval.specs.Turns.{mach, IsNext, Goes}
+use Rattle.service_eval.specs.Turns.{mach, IsNext}
 use Rattle.service_eval.proofs.BlockLemmas as l
-use Rattle.service_eval.proofs.BlockTurns.{step_turn, at_step}
 use Rattle.service_eval.proofs.FinishTurns.{goes_from}
-use Rattle.service_eval.proofs.ReadyLemmas.{ready_with, turned_to}
-use Rattle.service_eval.proofs.StepRows.{if_step, while_step}
+use Rattle.service_eval.proofs.ReadyLemmas.{ready_with}
 use Rattle.service_eval.proofs.block.block.Goals as goal
 
 pub returns-in-None : goal.returns-in-None

@@ -1,4 +1,4 @@
-use Rattle.std.proofs.Common.{[], ◌∷◌, refl, ◌∙◌}
+use Rattle.std.proofs.Common.{[], ◌∷◌, refl}
 use Rattle.context_tree.specs.Contexts.{tree_of as shown}
 use Rattle.resolved_service.specs.View.{tree_of}
 use Rattle.service_eval.specs.Items.{Eval, Finish, end_of}

@@ -1,7 +1,7 @@
-use Rattle.std.proofs.Common.{take, refl, ap, sym, subst, ◌∙◌, arith}
+use Rattle.std.proofs.Common.{ap, ◌∙◌, arith}
 use Rattle.std.proofs.lemmas.Result.{on_ok_weaker}
 use Rattle.context_tree.specs.Contexts.{tree_of as shown}
-use Rattle.service_eval.specs.Machines.{Mach, mach_of, path_after, back_to}
+use Rattle.service_eval.specs.Machines.{Mach, path_after, back_to}
 use Rattle.service_eval.specs.Turns.{mach}
 use Rattle.service_eval.proofs.CallTurns.{back_turn, few_downs}
 use Rattle.service_eval.proofs.calls.come_back.Goals as goal

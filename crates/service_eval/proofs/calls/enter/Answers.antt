@@ -1,6 +1,5 @@
-use Rattle.std.proofs.Common.{◌≡◌, ℕ, suc, ◌+◌, [], ◌∷◌, ◌++◌, Ok, ap, sym, ◌∙◌, arith}
+use Rattle.std.proofs.Common.{◌≡◌, ℕ, suc, ◌+◌, Ok, ap, sym, ◌∙◌, arith}
 use Rattle.context_tree.specs.Contexts.{tree_of as shown}
-use Rattle.resolved_service.specs.World.{changed, with_entered}
 use Rattle.service_eval.specs.Worlds.{world_of}
 use Rattle.service_eval.proofs.WorldLemmas.{refuses, enters_again, enters_no_more, enters_new}
 use Rattle.service_eval.proofs.calls.enter.Goals as goal

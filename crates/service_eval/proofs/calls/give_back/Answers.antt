@@ -1,6 +1,5 @@
-use Rattle.std.proofs.Common.{[], ◌∷◌, refl, ap, sym, ◌∙◌, arith}
-use Rattle.context_tree.specs.Contexts.{tree_of as shown}
-use Rattle.service_eval.specs.Machines.{Mach, path_after}
+use Rattle.std.proofs.Common.{refl, arith}
+use Rattle.service_eval.specs.Machines.{path_after}
 use Rattle.service_eval.specs.Turns.{mach}
 use Rattle.service_eval.proofs.CallTurns.{few_downs}
 use Rattle.service_eval.proofs.LeaveTurns.{ready_at_caller, given_back, none_given_back}

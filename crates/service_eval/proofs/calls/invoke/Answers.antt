@@ -1,16 +1,15 @@
-use Rattle.std.proofs.Common.{◌≡◌, ℕ, suc, ◌-◌, ◌<◌, ◌++◌, [], ◌∷◌, true, false, List, drop, take, Ok, Err, ap, sym, subst, ◌∙◌, arith}
+use Rattle.std.proofs.Common.{◌≡◌, ℕ, suc, ◌-◌, false, drop, Err, ap, sym, subst, ◌∙◌, arith}
 use Rattle.std.proofs.lemmas.Result.{on_ok_weaker}
 use Rattle.context_tree.specs.Contexts.{tree_of as shown}
 use Rattle.resolved_service.specs.Meaning.{nowhere}
 use Rattle.wave_base.specs.declared.trap.TrapKind.TheVariants.{Ticks}
 use Rattle.service_eval.specs.declared.stop.Stop.TheVariants.{Trapped}
-use Rattle.service_eval.specs.Items.{Invoke, Child}
-use Rattle.service_eval.specs.Machines.{Mach, mach_of, on_top, cut_to, in_world, started, own}
-use Rattle.service_eval.specs.Turns.{mach, IsNext, Goes}
+use Rattle.service_eval.specs.Items.{Invoke}
+use Rattle.service_eval.specs.Machines.{Mach, on_top, cut_to, in_world, started}
+use Rattle.service_eval.specs.Turns.{mach, Goes}
 use Rattle.service_eval.specs.Worlds.{world_of}
 use Rattle.service_eval.proofs.CallLemmas as l
-use Rattle.service_eval.proofs.CallTurns.{ready_invoked, ready_child, entered}
-use Rattle.service_eval.proofs.PathLemmas.{short_path, is_path-child, parent_of-child}
+use Rattle.service_eval.proofs.CallTurns.{ready_invoked}
 use Rattle.service_eval.proofs.ReadyLemmas.{turned_to}
 use Rattle.service_eval.proofs.calls.invoke.Goals as goal
 

@@ -1,4 +1,4 @@
-use Rattle.std.proofs.Common.{rules, ◌≡◌, ◌∙◌, FitsSigned, w64, get_or, Ok, refl, sym, ap}
+use Rattle.std.proofs.Common.{rules, ◌∙◌, FitsSigned, w64, get_or, Ok, refl, sym, ap}
 use Rattle.std.proofs.lemmas.Int.{to_z-of_z}
 use Rattle.wave_base.specs.declared.value.Value.TheVariants.{Map}
 use Rattle.resolved_service.specs.World.{nothing}

@@ -1,7 +1,6 @@
-use Rattle.std.proofs.Common.{rules, ◌≡◌, ◌∙◌, FitsSigned, w64, get_or, Err, refl, sym, ap}
+use Rattle.std.proofs.Common.{rules, ◌∙◌, FitsSigned, w64, get_or, Err, refl, sym, ap}
 use Rattle.std.proofs.lemmas.Int.{to_z-of_z}
 use Rattle.wave_base.specs.declared.value.Value.TheVariants.{Map}
-use Rattle.value_ops.specs.Operators.{apply_row}
 use Rattle.resolved_service.specs.World.{nothing}
 use Rattle.service_eval.proofs.EditLemmas.{put_answer, put_no_map, put_no_key, put_no_value, put_ints, alters_not}
 use Rattle.service_eval.proofs.edits.put.Goals as goal

@@ -1,11 +1,9 @@
-use Rattle.std.proofs.Common.{◌≡◌, List, [], ◌∷◌, length, drop, map, true, false, Ok, Err, sym, ap, subst, ◌∙◌, refl, arith}
+use Rattle.std.proofs.Common.{true, sym, ap, ◌∙◌, arith}
 use Rattle.std.proofs.lemmas.Result.{on_ok_weaker}
 use Rattle.wave_base.specs.declared.value.Value.TheVariants.{Bool as Truth}
-use Rattle.wave_base.specs.Tree.{Tree}
-use Rattle.resolved_service.specs.View as r
-use Rattle.resolved_service.specs.View.{tree_of, trees_of}
+use Rattle.resolved_service.specs.View.{tree_of}
 use Rattle.service_eval.specs.Items as i
-use Rattle.service_eval.specs.Machines.{mach_of, on_top, with_value, cut_to}
+use Rattle.service_eval.specs.Machines.{on_top, with_value, cut_to}
 use Rattle.service_eval.specs.Turns.{mach}
 use Rattle.service_eval.proofs.EvalLemmas as e
 use Rattle.service_eval.proofs.ReadyLemmas.{ready_with, turned}

@@ -5,7 +5,7 @@ use Rattle.wave_base.specs.Shapes.{is_path}
 use Rattle.wave_base.specs.Tree.{there}
 use Rattle.resolved_service.specs.Meaning.{Done, and_then, with_world, release}
 use Rattle.resolved_service.specs.World.{child, entering, releasing}
-use Rattle.service_eval.specs.Machines.{Mach, mach_of, state_of}
+use Rattle.service_eval.specs.Machines.{Mach, state_of}
 use Rattle.service_eval.specs.Ready.{Ready}
 use Rattle.service_eval.specs.Turns.{mach}
 use Rattle.service_eval.specs.Worlds.{world_of, Changes, Holds}

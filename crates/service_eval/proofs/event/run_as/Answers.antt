@@ -1,13 +1,12 @@
-use Rattle.std.proofs.Common.{◌≡◌, ℕ, [], ◌∷◌, List, Ok, Err, Some, None, true, refl, ap, sym, subst, ◌∙◌, arith}
+use Rattle.std.proofs.Common.{◌≡◌, [], true, refl, ap, sym, subst, ◌∙◌, arith}
 use Rattle.std.proofs.lemmas.List.Elements.{All-nil, All-cons}
 use Rattle.context_tree.specs.Contexts.{tree_of as shown}
 use Rattle.wave_base.specs.Tree.{there}
-use Rattle.resolved_service.specs.Jobs.{Meant, ended, meant_by, first_world}
-use Rattle.resolved_service.specs.Meaning.{State, Leave, Returned, Finished, Left, Outcome, Done, Trapped, called, with_blanks, event_run}
-use Rattle.service_eval.specs.Events.{Rests, performed}
+use Rattle.resolved_service.specs.Jobs.{Meant, ended, meant_by}
+use Rattle.resolved_service.specs.Meaning.{State, Leave, Returned, Finished, Left, called}
+use Rattle.service_eval.specs.Events.{performed}
 use Rattle.service_eval.specs.Machines.{Mach}
 use Rattle.service_eval.specs.Ready.{Ready}
-use Rattle.service_eval.specs.Turns.{mach}
 use Rattle.service_eval.specs.Worlds.{reply_of}
 use Rattle.service_eval.proofs.event.run_as.Goals as goal
 

@@ -1,10 +1,9 @@
-use Rattle.std.proofs.Common.{◌≡◌, [], ◌∷◌, take, ap, sym, subst, ◌∙◌, arith}
+use Rattle.std.proofs.Common.{take, ap, sym, subst, ◌∙◌, arith}
 use Rattle.context_tree.specs.Contexts.{tree_of as shown}
 use Rattle.resolved_service.specs.Meaning.{Done}
 use Rattle.resolved_service.specs.View.{tree_of}
 use Rattle.service_eval.specs.Machines.{Mach, Rest, own}
 use Rattle.service_eval.specs.Ready.{Ready}
-use Rattle.service_eval.specs.Turns.{mach}
 use Rattle.service_eval.proofs.EventLemmas as l
 use Rattle.service_eval.proofs.ReadyLemmas.{ready_with}
 use Rattle.service_eval.proofs.event.value_of.Goals as goal

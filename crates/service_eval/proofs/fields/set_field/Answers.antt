@@ -1,4 +1,4 @@
-use Rattle.std.proofs.Common.{◌≡◌, ap, sym, ◌∙◌, true, false}
+use Rattle.std.proofs.Common.{sym, ◌∙◌}
 use mathlib.Core.Bool.{true≢false}
 use Rattle.service_eval.proofs.FieldLemmas.{no_such_field}
 use Rattle.service_eval.proofs.fields.set_field.Goals as goal

@@ -1,4 +1,4 @@
-use Rattle.std.proofs.Common.{◌≡◌, List, drop, get_or, refl, sym, ap, subst, ◌∙◌}
+use Rattle.std.proofs.Common.{◌≡◌, List, drop, refl, ap, subst, ◌∙◌}
 use Rattle.wave_base.specs.declared.value.Value.{Value}
 use Rattle.wave_base.specs.Tree.{Tree, there}
 use Rattle.context_tree.specs.Contexts.{tree_of as shown, with_field}

@@ -1,4 +1,4 @@
-use Rattle.std.proofs.Common.{◌≡◌, List, drop, get_or, slice_set, refl, sym, ap, subst, ◌∙◌}
+use Rattle.std.proofs.Common.{◌≡◌, List, drop, get_or, slice_set, refl, ap, subst, ◌∙◌}
 use Rattle.wave_base.specs.declared.value.Value.{Value}
 use Rattle.context_tree.specs.Contexts.{tree_of as shown}
 use Rattle.resolved_service.specs.World.{nothing}

@@ -1,9 +1,9 @@
-use Rattle.std.proofs.Common.{◌≡◌, Some, refl, ap, sym, subst, ◌∙◌, arith}
+use Rattle.std.proofs.Common.{Some, sym, subst, arith}
 use Rattle.context_tree.specs.Contexts.{tree_of as shown}
 use Rattle.resolved_service.specs.Meaning.{Returned, Left}
 use Rattle.service_eval.specs.Items as i
 use Rattle.service_eval.specs.Items.{Finish}
-use Rattle.service_eval.specs.Machines.{Mach, on_top, cut_to, own, resume, comes_to}
+use Rattle.service_eval.specs.Machines.{Mach, on_top, cut_to, resume, comes_to}
 use Rattle.service_eval.specs.Ready.{Ready}
 use Rattle.service_eval.specs.Turns.{mach}
 use Rattle.service_eval.proofs.LeaveTurns.{follows_from}

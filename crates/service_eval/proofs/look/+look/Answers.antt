@@ -1,4 +1,4 @@
-use Rattle.std.proofs.Common.{rules, ◌≡◌, map, take, get_or, ℕ, sym, ap, subst, ◌∙◌, refl, arith}
+use Rattle.std.proofs.Common.{◌≡◌, map, get_or, sym, ap, subst, ◌∙◌}
 use Rattle.context_tree.specs.Contexts.{tree_of as shown}
 use Rattle.resolved_service.specs.Meaning.{value, called, Done}
 use Rattle.resolved_service.specs.World.{read_field, read_above, nothing}

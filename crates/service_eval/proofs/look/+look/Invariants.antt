@@ -1,4 +1,4 @@
-use Rattle.std.proofs.Common.{ℕ, ◌+◌, ◌*◌, max}
+use Rattle.std.proofs.Common.{◌+◌, ◌*◌, max}
 use Rattle.resolved_service.specs.declared.expr.Expr.{size-Expr}
 use Rattle.service_eval.proofs.look.+look.Given as goal
 

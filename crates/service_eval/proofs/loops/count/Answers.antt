@@ -1,21 +1,16 @@
-use Rattle.std.proofs.Common.{◌≡◌, ℕ, suc, ◌+◌, ◌-◌, List, [], ◌∷◌, length, true, false, Ok, Err, get_or, slice_set, refl, sym, ap, subst, ◌∙◌, arith}
+use Rattle.std.proofs.Common.{◌≡◌, ℕ, suc, ◌+◌, ◌-◌, get_or, slice_set, ap, ◌∙◌, arith}
 use Rattle.std.proofs.lemmas.Result.{on_ok_weaker}
-use Rattle.std.proofs.lemmas.Result.{IfOk-weaker}
-use Rattle.service_eval.specs.declared.stop.Stop.TheVariants.{OutOfMemory}
-use Rattle.service_eval.specs.Worlds.{Changes}
-use Rattle.resolved_service.specs.World.{ticking}
 use Rattle.context_tree.specs.Contexts.{tree_of as shown}
 use Rattle.resolved_service.specs.Steps.{steps_in}
-use Rattle.resolved_service.specs.View.{tree_of}
-use Rattle.resolved_service.specs.World.{nothing, is_true}
-use Rattle.service_eval.specs.Items.{Eval, Evals, Block, Begin, Turns, Check, Counts, Next}
-use Rattle.service_eval.specs.Machines.{Mach, mach_of, on_top, cut_to, in_world, in_state}
-use Rattle.service_eval.specs.Turns.{mach, IsNext, Goes}
+use Rattle.resolved_service.specs.World.{nothing}
+use Rattle.service_eval.specs.Items.{Block, Counts, Next}
+use Rattle.service_eval.specs.Machines.{Mach, on_top, in_state}
+use Rattle.service_eval.specs.Turns.{mach}
 use Rattle.service_eval.specs.Worlds.{world_of}
 use Rattle.resolved_service.specs.Meaning.{State}
 use Rattle.service_eval.proofs.FinishLemmas as l
-use Rattle.service_eval.proofs.FinishTurns.{Same, same_world, same_ticked, ready_in, did}
-use Rattle.service_eval.proofs.ReadyLemmas.{ready_with, turned, turned_to}
+use Rattle.service_eval.proofs.FinishTurns.{same_ticked, ready_in}
+use Rattle.service_eval.proofs.ReadyLemmas.{turned_to}
 use Rattle.service_eval.proofs.loops.count.Goals as goal
 
 some_left : (n : ℕ) → (n ≡ 0 → ⊥) → n ≡ suc (n - 1)

@@ -9,7 +9,7 @@ use Rattle.service_eval.specs.declared.code.Code.{Code}
 use Rattle.service_eval.specs.declared.machine.Machine.{Machine}
 use Rattle.context_tree.specs.Contexts.{Contexts}
 use Rattle.service_eval.specs.Items.{Eval, Turns, Check}
-use Rattle.service_eval.specs.Machines.{Mach, mach_of, on_top, before_all, comes_to}
+use Rattle.service_eval.specs.Machines.{mach_of, on_top, before_all, comes_to}
 use Rattle.service_eval.specs.Ready.{Ready}
 use Rattle.service_eval.specs.Turns.{mach, IsNext}
 use Rattle.service_eval.specs.Worlds.{Fails}

@@ -2,7 +2,7 @@ use Rattle.std.proofs.Common.{◌≡◌, List, [], refl, sym, ap, subst, ◌∙�
 use Rattle.context_tree.specs.Contexts.{tree_of as shown}
 use Rattle.resolved_service.specs.declared.service.Method.{Method}
 use Rattle.resolved_service.specs.Meaning.{Done}
-use Rattle.service_eval.specs.Machines.{Mach, Rest, rest_at, resume, comes_to}
+use Rattle.service_eval.specs.Machines.{Mach, rest_at, resume, comes_to}
 use Rattle.service_eval.specs.Ready.{Ready}
 use Rattle.service_eval.specs.Turns.{mach}
 use Rattle.service_eval.specs.Worlds.{world_of, Fails}

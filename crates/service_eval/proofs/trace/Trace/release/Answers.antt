@@ -1,4 +1,4 @@
-use Rattle.std.proofs.Common.{◌≡◌, ap, rules}
+use Rattle.std.proofs.Common.{ap, rules}
 use Rattle.std.proofs.lemmas.Fn.{filter_same}
 use Rattle.wave_base.specs.Paths.{is_above}
 use Rattle.service_eval.specs.Worlds.{world_of}
