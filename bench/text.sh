@@ -4,7 +4,7 @@
 set -eu
 cd "$(dirname "$0")/.."
 command=$1 reference=${2:-../shared/tools/reference} runs=${3:-15}
-program=crates/eventwave_program/out/eventwave_program
+program=${PROGRAM:-crates/eventwave_program/out/eventwave_program}
 [ -x "$program" ] || ./eventwave run <examples/counter.wave >/dev/null
 folder=$(mktemp -d); trap 'rm -rf "$folder"' EXIT
 

@@ -5,7 +5,7 @@
 set -eu
 cd "$(dirname "$0")/.."
 reference=${1:-../shared/tools/reference} runs=${2:-9}
-program=crates/eventwave_program/out/eventwave_program
+program=${PROGRAM:-crates/eventwave_program/out/eventwave_program}
 [ -x "$program" ] || ./eventwave run <examples/counter.wave >/dev/null
 folder=$(mktemp -d); trap 'rm -rf "$folder"' EXIT
 
