@@ -5,5 +5,3 @@ pub mod Idle
 pub mod Choosing
 pub mod Leased
 pub mod Telling
-pub mod Turning
-pub mod Trying

@@ -1,3 +1,2 @@
 pub mod Doing
 pub mod Idle
-pub mod Trying

@@ -1,0 +1,79 @@
+//! A board is stopped, and goes to another thread.
+
+ghost use Rattle.std.specs.Prelude.{◌≡◌};
+ghost use Rattle.wave_base.specs.Starts.{first_start};
+ghost use Rattle.plan_actors.specs.Plans.{Fits};
+ghost use Rattle.wave_machine.specs.Plans.{plan_of};
+ghost use Rattle.board_runs.specs.inner.Ready.{IsReady};
+
+use super::turns::{first_of, opened, plan_for, take_step};
+use std::alloc::Global;
+use std::process::Abort;
+use std::test::Fail;
+use std::thread::{Threads, join};
+use text_plans::TICK;
+use wave_base::{OutOfMemory, Start, Worker};
+use wave_board::{Board, StopCause, Work};
+use wave_machine::Plan;
+
+fn stop(plan: &Plan, board: &mut Board, worker: Worker, why: StopCause)
+    requires { IsReady plan.now board.old }
+    ensures { IsReady plan.now board.new }
+{
+    board.stop(worker, why);
+}
+
+// The first worker is told that the sink failed.
+fn is_stopped(rt: &impl Abort, plan: &Plan, board: &mut Board) -> Result<(), OutOfMemory>
+    requires { IsReady plan.now board.old }
+{
+    let work = board.take(Worker(0))?;
+    match work {
+        Work::Stopped(StopCause::SinkFault) => Ok(()),
+        Work::Stopped(StopCause::Memory)
+        | Work::Stepped(_)
+        | Work::Segment(_)
+        | Work::Nothing
+        | Work::Finished => panic!(rt; "not stopped"),
+    }
+}
+
+// A board goes to another thread and comes back.
+fn sent<'p, R: Threads>(rt: &R, board: Board<'p>) -> Board<'p> {
+    join(rt, move || board, || ()).0
+}
+
+// The first Halt counts.
+fn halt(rt: &impl Abort, plan: &Plan, board: &mut Board) -> Result<(), OutOfMemory>
+    requires { IsReady plan.now board.old }
+{
+    take_step(rt, plan, board, Worker(1))?;
+    stop(plan, board, Worker(1), StopCause::SinkFault);
+    stop(plan, board, Worker(0), StopCause::Memory);
+    is_stopped(rt, plan, board)
+}
+
+// A board of the plan, stopped so.
+fn halted<'p>(
+    rt: &impl Abort,
+    alloc: Global,
+    plan: &'p Plan,
+    start: &'p Start,
+) -> Result<Board<'p>, OutOfMemory>
+    requires fits { Fits (plan_of plan.now) }
+    requires first { start.now ≡ first_start plan.now.program.shape }
+{
+    let mut board = opened(alloc, plan, start)?;
+    halt(rt, plan, &mut board)?;
+    Ok(board)
+}
+
+#[test]
+fn a_halt_stops_it(rt: HostRuntime) -> Result<(), Fail> {
+    let alloc = rt.alloc();
+    let plan = plan_for(&rt, alloc, TICK, b"request hit()\n", 2);
+    let start = first_of(alloc, &plan)?;
+    let board = halted(&rt, alloc, &plan, &start)?;
+    drop(sent(&rt, board));
+    Ok(())
+}
