@@ -1,6 +1,7 @@
 -- What a worker knows when it has asked for work.
-use Rattle.std.proofs.Common.{◌≡◌, ◌∙◌, ◌<◌, suc, [], ◌∷◌, ◌++◌, Some, Ok, Err, Result, sym, ap, subst, length, filter, map}
-use Rattle.std.specs.Prelude.{Contains, option_map}
+use Rattle.std.proofs.Common.{◌≡◌, ◌∙◌, ◌<◌, suc, [], ◌∷◌, ◌++◌, Some, Ok, Err, Result, sym, ap, subst, append_assoc, length, filter, map}
+use Rattle.std.specs.Prelude.{All, Contains, option_map}
+use Rattle.std.proofs.lemmas.List.Elements.{All-nil, All-cons, All-append}
 use Rattle.wave_base.specs.declared.memory.OutOfMemory.{OutOfMemory}
 use Rattle.wave_base.specs.declared.numbers.Worker.{Worker}
 use Rattle.kept_lock.specs.declared.attempt.Attempt.{Attempt}
@@ -31,9 +32,10 @@ use Rattle.wave_board.proofs.Staying.{labels_are}
 use Rattle.host_workers.specs.Endings.{IsFinishedRun, IsHaltedBy}
 use Rattle.host_workers.specs.Passes.{GoesOn, IsReady, NoHalts}
 use Rattle.host_workers.specs.inner.Rounds.{Asked, HasLease}
-use Rattle.host_workers.specs.inner.Visits.{HasTaken}
-use Rattle.host_workers.proofs.Entries.{even_step, no_halt_more, odd_start, own_contains, word_halts, word_why}
-use Rattle.host_workers.proofs.Visiting.{Left, adds_one, left, left_own, left_same, made_same}
+use Rattle.host_workers.specs.inner.Visits.{HasTaken, Walked}
+use Rattle.host_workers.proofs.Entries.{no_halt_more, odd_start, own_contains, word_halts, word_why}
+use Rattle.host_workers.proofs.Visiting.{Left, left, left_owns, left_same, made_same}
+use Rattle.host_workers.proofs.Walking.{even_steps, no_halt_steps, own_steps}
 
 module _ (o : Origin) (k : Known Trail) (w : Worker) (ready : IsReady o k w) (y : Board) (meets : Meets history_of owner_of StandsFor o k y) where
   -- the board may be asked
@@ -50,13 +52,22 @@ module _ (o : Origin) (k : Known Trail) (w : Worker) (ready : IsReady o k w) (y 
     pub stands_after : StandsFor z o
     stands_after = still o meets.stands_for_name
 
+    -- where a segment came behind some labels, its Start stands behind them
+    leased_history : (lease : Lease) (mid : Board) (walked : Walked y w mid) (t : Took mid w z (Segment lease)) → history_of z ≡ history_of y ++ (map Step walked.labels ++ Step t.0 ∷ [])
+    leased_history lease mid walked t = t.1.history ∙ ap (λ h. h ++ Step t.0 ∷ []) walked.history ∙ append_assoc (history_of y) (map Step walked.labels) (Step t.0 ∷ [])
+
+    leased_own : (lease : Lease) (mid : Board) (walked : Walked y w mid) (t : Took mid w z (Segment lease)) → All (λ e. owner_of e ≡ k.number) (map Step walked.labels ++ Step t.0 ∷ [])
+    leased_own lease mid walked t =
+        All-append (λ e. owner_of e ≡ k.number) (map Step walked.labels) (Step t.0 ∷ []) (own_steps k.number w walked.labels (sym ready.number) walked.own)
+        (All-cons (λ e. owner_of e ≡ k.number) (Step t.0) [] (ap (λ (v : Worker). v.0) t.2 ∙ sym ready.number) (All-nil (λ e. owner_of e ≡ k.number)))
+
     -- what was appended is the worker's
     pub adds : (told : Attempt (Result Work OutOfMemory)) → HasTaken y w z told → AddsAsTold owner_of k.number told (history_of y) (history_of z)
-    adds (attempt.Added (Ok (Stepped l))) h = adds_one k.number (history_of y) (history_of z) (Step l) h.1.0.history (ap (λ (v : Worker). v.0) h.1.1 ∙ sym ready.number)
-    adds (attempt.Added (Ok (Segment lease))) h = adds_one k.number (history_of y) (history_of z) (Step h.1.0) h.1.1.history (ap (λ (v : Worker). v.0) h.1.2 ∙ sym ready.number)
-    adds (attempt.Added (Ok Nothing)) h = absurd h.0
-    adds (attempt.Added (Ok Finished)) h = absurd h.0
-    adds (attempt.Added (Ok (Stopped why))) h = absurd h.0
+    adds (attempt.Added (Ok (Stepped l))) h = (map Step h.labels, h.history, own_steps k.number w h.labels (sym ready.number) h.own)
+    adds (attempt.Added (Ok (Segment lease))) h = (map Step h.1.labels ++ Step h.2.0 ∷ [], leased_history lease h.0 h.1 h.2, leased_own lease h.0 h.1 h.2)
+    adds (attempt.Added (Ok Nothing)) h = absurd h
+    adds (attempt.Added (Ok Finished)) h = absurd h
+    adds (attempt.Added (Ok (Stopped why))) h = absurd h
     adds (attempt.Added (Err e)) h = absurd h
     adds (attempt.Nothing (Ok (Stepped l))) h = absurd (h.0 tt)
     adds (attempt.Nothing (Ok (Segment lease))) h = absurd (h.0 tt)
@@ -68,9 +79,6 @@ module _ (o : Origin) (k : Known Trail) (w : Worker) (ready : IsReady o k w) (y 
     module _ (k' : Known Trail) (is : k' ≡ left_at (entered k (history_of y)) (history_of z)) where
       same : history_of z ≡ history_of y → Left k k' z []
       same h = left_same k k' y z is h meets.agrees.0
-
-      one : (t : Trail) → history_of z ≡ history_of y ++ t ∷ [] → Left k k' z (t ∷ [])
-      one t h = left k k' y z (t ∷ []) is h meets.agrees.0
 
       -- it is ready where nothing was added
       pub ready_still : history_of z ≡ history_of y → IsReady o k' w
@@ -106,28 +114,29 @@ module _ (o : Origin) (k : Known Trail) (w : Worker) (ready : IsReady o k w) (y 
           )
 
       -- a segment is out
-      leased : (lease : Lease) → Took y w z (Segment lease) → HasLease o k' w lease
-      leased lease t =
+      leased : (lease : Lease) (mid : Board) → Walked y w mid → Took mid w z (Segment lease) → HasLease o k' w lease
+      leased lease mid walked t =
           let l = t.0 in
-          let h = t.1.history in
-          let x = one (Step l) h in
+          let more = map Step walked.labels ++ Step l ∷ [] in
+          let x = left k k' y z more is (leased_history lease mid walked t) meets.agrees.0 in
+          let made : k'.made ≡ (k.made ++ map Step walked.labels) ++ Step l ∷ [] = x.made ∙ sym (append_assoc k.made (map Step walked.labels) (Step l ∷ [])) in
           let at = stands_after in
-          let mine : l.worker.0 ≡ k.number = ap (λ (v : Worker). v.0) t.2 ∙ sym ready.number in
+          let before = walked.stands o meets.stands_for_name in
           let holds : lease.worker ≡ w = t.3.worker ∙ t.2 in
-          let begins_here = odd_start k.made l (ap (λ a. theory.is_start (act_of a)) t.3.act) (ap (λ a. theory.is_stop (act_of a)) t.3.act) ready.even in
+          let begins_here = odd_start (k.made ++ map Step walked.labels) l (ap (λ a. theory.is_start (act_of a)) t.3.act) (ap (λ a. theory.is_stop (act_of a)) t.3.act) (even_steps walked.labels k.made walked.steps ready.even) in
           record {
             out = record {
-              calm = record { number = x.number ∙ ready.number; no_halts = subst NoHalts (sym x.made) (no_halt_more k.made l ready.no_halts) };
+              calm = record { number = x.number ∙ ready.number; no_halts = subst NoHalts (sym made) (no_halt_more (k.made ++ map Step walked.labels) l (no_halt_steps walked.labels k.made ready.no_halts)) };
               is_worker = ready.is_worker;
-              odd = subst (λ ts. length (filter begins ts) ≡ suc (length (filter ends ts))) (sym x.made) begins_here;
+              odd = subst (λ ts. length (filter begins ts) ≡ suc (length (filter ends ts))) (sym made) begins_here;
               board = z;
               state = at.0;
               at = at.1;
               seen = x.seen;
-              own = left_own k k' y z (Step l) x h meets.agrees mine;
+              own = left_owns k k' y z more x (leased_history lease mid walked t) meets.agrees (leased_own lease mid walked t);
             };
             worker_is = holds;
-            in_hand = at_plan at.0 at.1 lease holds (t.3.in_hand o meets.stands_for_name.0 at.0 meets.stands_for_name.1 at.1);
+            in_hand = at_plan at.0 at.1 lease holds (t.3.in_hand o before.0 at.0 before.1 at.1);
             may_run = subst (λ (p : Plan). MayRun p.program lease.actor lease.body) at.1.plan t.3.may_run;
           }
         where
@@ -137,19 +146,19 @@ module _ (o : Origin) (k : Known Trail) (w : Worker) (ready : IsReady o k w) (y 
       -- of a visit that added something
       pub asked_added : (r : Result Work OutOfMemory) → HasTaken y w z (attempt.Added r) → GoesOn k k' × Asked o k' w r
       asked_added (Ok (Stepped l)) h =
-          let x = one (Step l) h.1.0.history in (
+          let x = left k k' y z (map Step h.labels) is h.history meets.agrees.0 in (
             x.on,
             record {
               number = x.number ∙ ready.number;
               is_worker = ready.is_worker;
-              even = subst AreEven (sym x.made) (even_step k.made l h.1.2 ready.even);
-              no_halts = subst NoHalts (sym x.made) (no_halt_more k.made l ready.no_halts);
+              even = subst AreEven (sym x.made) (even_steps h.labels k.made h.steps ready.even);
+              no_halts = subst NoHalts (sym x.made) (no_halt_steps h.labels k.made ready.no_halts);
             },
           )
-      asked_added (Ok (Segment lease)) h = ((one (Step h.1.0) h.1.1.history).on, leased lease h.1)
-      asked_added (Ok Nothing) h = absurd h.0
-      asked_added (Ok Finished) h = absurd h.0
-      asked_added (Ok (Stopped why)) h = absurd h.0
+      asked_added (Ok (Segment lease)) h = ((left k k' y z (map Step h.1.labels ++ Step h.2.0 ∷ []) is (leased_history lease h.0 h.1 h.2) meets.agrees.0).on, leased lease h.0 h.1 h.2)
+      asked_added (Ok Nothing) h = absurd h
+      asked_added (Ok Finished) h = absurd h
+      asked_added (Ok (Stopped why)) h = absurd h
       asked_added (Err e) h = absurd h
 
       -- and of one that added nothing

@@ -1,5 +1,6 @@
 pub mod Entries
 pub mod Visiting
+pub mod Walking
 pub mod Asking
 pub mod Giving
 pub mod Offering

@@ -129,9 +129,9 @@ module _ (laws : Laws) (o : Origin) (k : Known Trail) (w : Worker) (ready : IsRe
       offered_added (Ok (Lines lines)) h = absurd h
       offered_added (Ok (Task (Stepped l))) h = asking.asked_added o k w ready y meets z still k' is (Ok (Stepped l)) h.1
       offered_added (Ok (Task (Segment lease))) h = asking.asked_added o k w ready y meets z still k' is (Ok (Segment lease)) h.1
-      offered_added (Ok (Task Nothing)) h = absurd h.1.0
-      offered_added (Ok (Task Finished)) h = absurd h.1.0
-      offered_added (Ok (Task (Stopped why))) h = absurd h.1.0
+      offered_added (Ok (Task Nothing)) h = absurd h.1
+      offered_added (Ok (Task Finished)) h = absurd h.1
+      offered_added (Ok (Task (Stopped why))) h = absurd h.1
       offered_added (Err e) h = absurd h
 
       pub offered_nothing : (r : Result Offer OutOfMemory) → HasFound y w z written (attempt.Nothing r) → GoesOn k k' × Offered o k' w written r

@@ -1,5 +1,6 @@
 -- What a pass knows after a visit of a board.
 use Rattle.std.proofs.Common.{◌≡◌, ◌∙◌, ℕ, List, [], ◌∷◌, ◌++◌, sym, ap, subst, append-nil}
+use Rattle.std.specs.Prelude.{All}
 use Rattle.std.proofs.lemmas.List.Elements.{All-nil, All-cons}
 use Rattle.kept_lock.specs.declared.view.Known.{Known}
 use Rattle.kept_lock.specs.History.{Adds, StartsWith, entries_of, later_than}
@@ -37,14 +38,18 @@ pub made_same : (k k' : Known Trail) (z : Board) → Left k k' z [] → k'.made 
 made_same k k' z l = l.made ∙ append-nil k.made
 
 -- the history has just the pass's own entries, still
-pub left_own : (k k' : Known Trail) (y z : Board) (t : Trail) → Left k k' z (t ∷ []) → history_of z ≡ history_of y ++ t ∷ [] → Agrees owner_of k (history_of y) → owner_of t ≡ k.number
+pub left_owns : (k k' : Known Trail) (y z : Board) (more : List Trail) → Left k k' z more → history_of z ≡ history_of y ++ more → Agrees owner_of k (history_of y) → All (λ e. owner_of e ≡ k.number) more
     → entries_of owner_of k'.number (history_of z) ≡ k'.made
-left_own k k' y z t l h a o =
+left_owns k k' y z more l h a own =
     ap (λ n. entries_of owner_of n (history_of z)) l.number
     ∙ ap (entries_of owner_of k.number) h
-    ∙ grown_own owner_of k.number (history_of y) (t ∷ []) (All-cons (λ e. owner_of e ≡ k.number) t [] o (All-nil (λ e. owner_of e ≡ k.number)))
-    ∙ ap (λ z. z ++ t ∷ []) a.1
+    ∙ grown_own owner_of k.number (history_of y) more own
+    ∙ ap (λ z. z ++ more) a.1
     ∙ sym l.made
+
+pub left_own : (k k' : Known Trail) (y z : Board) (t : Trail) → Left k k' z (t ∷ []) → history_of z ≡ history_of y ++ t ∷ [] → Agrees owner_of k (history_of y) → owner_of t ≡ k.number
+    → entries_of owner_of k'.number (history_of z) ≡ k'.made
+left_own k k' y z t l h a o = left_owns k k' y z (t ∷ []) l h a (All-cons (λ e. owner_of e ≡ k.number) t [] o (All-nil (λ e. owner_of e ≡ k.number)))
 
 pub adds_one : (n : ℕ) (before after : List Trail) (t : Trail) → after ≡ before ++ t ∷ [] → owner_of t ≡ n → Adds owner_of n before after
 adds_one n before after t h o = (t ∷ [], h, All-cons (λ e. owner_of e ≡ n) t [] o (All-nil (λ e. owner_of e ≡ n)))

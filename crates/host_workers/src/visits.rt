@@ -7,13 +7,14 @@ ghost use Rattle.wave_board.specs.Taking.{MayTake};
 ghost use Rattle.host_workers.specs.Endings.{IsHalted};
 ghost use Rattle.host_workers.specs.Passes.{GoesOn, IsReady, OnlyHalts};
 ghost use Rattle.host_workers.specs.inner.Rounds.{Asked, HasPaused, HasRun, IsCalm};
-ghost use Rattle.host_workers.specs.inner.Visits.{HasTaken, HasGiven, HasStopped};
+ghost use Rattle.host_workers.specs.inner.Visits.{HasTaken, HasGiven, HasStopped, HasWalked};
 
 use crate::post::Post;
 use kept_lock::{Attempt, Pass};
 use std::sync::Wait;
 use wave_base::{OutOfMemory, Pause, Worker};
 use wave_board::{Board, StopCause, Work, leases_stay};
+use wave_labels::Label;
 use wave_machine::Lease;
 
 /// Asks the board for work.
@@ -42,7 +43,11 @@ pub(crate) fn ask<'l, 'p, R: Wait, G>(
     }
 }
 
-/// Takes what there is for a worker, and tells whether the journal grew: where it did not nobody is to be woken.
+// How many labels a worker takes in one visit beside the first, before others come in.
+const MORE: u32 = 15;
+
+/// Takes what there is for a worker, and tells whether the journal grew: where it did not nobody is to be woken. Labels that are done
+/// at once are taken one after the other, until a segment comes or nothing is left.
 pub(crate) fn take(board: &mut Board, number: Worker) -> Attempt<Result<Work, OutOfMemory>>
     requires stands { IsStanding board.old }
     requires may { MayTake board.old number }
@@ -50,13 +55,34 @@ pub(crate) fn take(board: &mut Board, number: Worker) -> Attempt<Result<Work, Ou
     ensures taken { HasTaken board.old number board.new result }
 {
     match board.take(number) {
-        Ok(Work::Stepped(label)) => Attempt::Added(Ok(Work::Stepped(label))),
+        Ok(Work::Stepped(label)) => Attempt::Added(Ok(walk(board, number, label))),
         Ok(Work::Segment(lease)) => Attempt::Added(Ok(Work::Segment(lease))),
         Ok(Work::Nothing) => Attempt::Nothing(Ok(Work::Nothing)),
         Ok(Work::Finished) => Attempt::Nothing(Ok(Work::Finished)),
         Ok(Work::Stopped(why)) => Attempt::Nothing(Ok(Work::Stopped(why))),
         Err(OutOfMemory) => Attempt::Nothing(Err(OutOfMemory)),
     }
+}
+
+// Takes more labels behind the first one. Where no segment comes the last of them is told.
+fn walk(board: &mut Board, number: Worker, first: Label) -> Work
+    requires stands { IsStanding board.old }
+    requires may { MayTake board.old number }
+    ensures stands { StandsStill board.old board.new }
+    ensures walked { HasWalked board.old number board.new result }
+{
+    let mut last = first;
+    for _ in 0..MORE {
+        match board.take(number) {
+            Ok(Work::Stepped(label)) => last = label,
+            Ok(Work::Segment(lease)) => return Work::Segment(lease),
+            Ok(Work::Nothing) => return Work::Stepped(last),
+            Ok(Work::Finished) => return Work::Stepped(last),
+            Ok(Work::Stopped(_)) => return Work::Stepped(last),
+            Err(OutOfMemory) => return Work::Stepped(last),
+        }
+    }
+    Work::Stepped(last)
 }
 
 // What a worker brings back to the board.

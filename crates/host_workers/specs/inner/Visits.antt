@@ -1,14 +1,16 @@
 -- What a worker does at the board in one visit.
-use Rattle.std.specs.Prelude.{◌≡◌, ◌++◌, ◌∷◌, [], ℕ, IsSome, Some, None, Result, Ok, Err}
+use Rattle.std.specs.Prelude.{◌≡◌, ◌++◌, ◌∷◌, [], ℕ, true, List, map, All, IsSome, Some, None, Result, Ok, Err}
 use Rattle.wave_base.specs.declared.memory.OutOfMemory.{OutOfMemory}
 use Rattle.wave_base.specs.declared.numbers.Worker.{Worker}
 use Rattle.wave_base.specs.declared.pause.Pause.{Pause}
 use Rattle.kept_lock.specs.declared.attempt.Attempt.{Attempt}
 use Rattle.kept_lock.specs.declared.attempt.Attempt.TheVariants as attempt
+use Rattle.wave_labels.specs.declared.label.Label.{Label}
 use Rattle.wave_machine.specs.declared.lease.Lease.{Lease}
+use Rattle.wave_machine.specs.Prepared.{is_step}
 use Rattle.wave_board.specs.declared.board.Board.{Board}
 use Rattle.wave_board.specs.declared.trail.StopCause.{StopCause}
-use Rattle.wave_board.specs.declared.trail.Trail.TheVariants.{Halt}
+use Rattle.wave_board.specs.declared.trail.Trail.TheVariants.{Halt, Step}
 use Rattle.wave_board.specs.declared.work.Work.{Work}
 use Rattle.wave_board.specs.declared.work.Work.TheVariants.{Stepped, Segment, Nothing, Finished, Stopped}
 use Rattle.wave_board.specs.Boards.{StandsStill, history_of}
@@ -26,10 +28,25 @@ IsNews Nothing = ⊥
 IsNews Finished = ⊥
 IsNews (Stopped why) = ⊥
 
+-- labels of this worker were appended, of which none is a Start or a Stop
+pub record Walked (before : Board) (worker : Worker) (after : Board) : Type 0 where
+  pub stands : StandsStill before after
+  pub labels : List Label
+  pub own : All (λ l. l.worker ≡ worker) labels
+  pub steps : All (λ l. is_step l.act ≡ true) labels
+  pub history : history_of after ≡ history_of before ++ map Step labels
+
 module _ (before : Board) (worker : Worker) (after : Board) where
-  -- what a worker took, told as news where a label was appended
+  -- what a worker took: some labels, and where a segment came that behind them; it is told as news where a label was appended
+  abbrev pub HasWalked : Work → Type 0
+  HasWalked (Stepped l) = Walked before worker after
+  HasWalked (Segment lease) = (mid : Board) × Walked before worker mid × Took mid worker after (Segment lease)
+  HasWalked Nothing = ⊥
+  HasWalked Finished = ⊥
+  HasWalked (Stopped why) = ⊥
+
   abbrev pub HasTaken : Attempt (Result Work OutOfMemory) → Type 0
-  HasTaken (attempt.Added (Ok work)) = IsNews work × Took before worker after work
+  HasTaken (attempt.Added (Ok work)) = HasWalked work
   HasTaken (attempt.Added (Err e)) = ⊥
   HasTaken (attempt.Nothing (Ok work)) = (IsNews work → ⊥) × Took before worker after work
   HasTaken (attempt.Nothing (Err e)) = history_of after ≡ history_of before
