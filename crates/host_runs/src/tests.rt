@@ -1,0 +1,8 @@
+//! Plans run by workers.
+
+mod cases;
+mod counts;
+mod early;
+mod meets;
+mod runs;
+mod wants;

@@ -1,0 +1,87 @@
+//! Lines are written while the workers run.
+
+ghost use Rattle.std.specs.Prelude.{◌≡◌, ◌<◌, ◌≤◌, length, None, IfOk};
+ghost use Rattle.std.specs.Io.KnownBytes.{WriteAppends};
+ghost use Rattle.wave_io.specs.Causes.{HasCause};
+
+use super::cases::{Case, plan_for};
+use host_workers::run_plan;
+use std::alloc::{AllocError, Global};
+use std::process::Abort;
+use std::sync::Wait;
+use std::sync::atomic::{AtomicU64, Ordering};
+use std::test::Fail;
+use std::thread::Threads;
+use text_plans::MARKET;
+use wave_base::{Path, Ticket};
+use wave_io::{Failed, Gate, Sink};
+
+// A sink that takes everything, and counts its calls where a gate sees the count.
+#[derive(Drop)]
+struct Telling<'a> {
+    taken: &'a AtomicU64,
+}
+
+impl<'a> Sink for Telling<'a> {
+    ghost written = { λ _. None };
+
+    ghost faults = { λ _. 0 };
+
+    fn write(&mut self, piece: &[u8]) -> Result<usize, Failed> {
+        self.taken.fetch_add(1, Ordering::SeqCst);
+        Ok(piece.len())
+    }
+}
+
+// Looks, where ticket 41 comes to it, whether the sink has taken something.
+#[derive(Drop)]
+struct Looking<'a> {
+    taken: &'a AtomicU64,
+    too_late: AtomicU64,
+}
+
+impl<'a> Gate for Looking<'a> {
+    fn reach(&self, ticket: Ticket, _path: &Path) {
+        if ticket.0 == 41 && self.taken.load(Ordering::SeqCst) == 0 {
+            self.too_late.store(1, Ordering::SeqCst);
+        }
+    }
+}
+
+// Forty sales, and one more after them.
+fn sales(alloc: Global) -> Result<String, AllocError> {
+    let mut script = String::new(alloc);
+    for _ in 0..40u8 {
+        script.push_str("request buy(1,1,1)\n")?;
+    }
+    script.push_str("settle\nrequest buy(1,1,1)\n")?;
+    Ok(script)
+}
+
+// Of a run by one worker, whether the sink had taken nothing before ticket 41.
+fn too_late<R: Threads + Wait + Sync + Abort>(rt: &R, alloc: Global, script: &str) -> u64 {
+    let case = Case {
+        service: MARKET,
+        script: script.as_bytes(),
+        workers: 1,
+    };
+    let plan = plan_for(rt, alloc, &case);
+    let taken = AtomicU64::new(0);
+    let gate = Looking {
+        taken: &taken,
+        too_late: AtomicU64::new(0),
+    };
+    let mut sink = Telling { taken: &taken };
+    if run_plan(rt, alloc, &plan, &gate, &mut sink).is_err() {
+        panic!(rt; "no run");
+    }
+    gate.too_late.load(Ordering::SeqCst)
+}
+
+#[test]
+fn lines_are_written_while_the_workers_run(rt: HostRuntime) -> Result<(), Fail> {
+    let alloc = rt.alloc();
+    let script = sales(alloc)?;
+    assert_eq!(rt; too_late(&rt, alloc, script.as_str()), 0);
+    Ok(())
+}
