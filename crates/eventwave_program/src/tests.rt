@@ -6,6 +6,4 @@ mod gates;
 mod memory;
 mod rows;
 mod scripts;
-mod second;
 mod services;
-mod tables;
