@@ -6,4 +6,6 @@ mod gates;
 mod memory;
 mod rows;
 mod scripts;
+mod second;
 mod services;
+mod tables;
