@@ -1,5 +1,6 @@
 use crate::{Command, Crew, Places, Schedule, command_of};
 use std::alloc::Global;
+use std::process::Abort;
 use std::test::Fail;
 use wave_base::{OutOfMemory, Words};
 
@@ -66,26 +67,30 @@ const REFUSED: [&str; 43] = [
     "-- run --map",
 ];
 
+// Each of these words asks for its command.
+fn are_read(
+    rt: &impl Abort,
+    alloc: Global,
+    accepted: &[(&str, Command)],
+) -> Result<(), OutOfMemory> {
+    for (text, command) in accepted {
+        assert_eq!(rt;
+            command_of(alloc, &words(alloc, text)?)?,
+            Some(*command),
+            "at {text}"
+        );
+    }
+    Ok(())
+}
+
 #[test]
-fn words_are_read(rt: HostRuntime) -> Result<(), Fail> {
+fn commands_are_read(rt: HostRuntime) -> Result<(), Fail> {
     let alloc = rt.alloc();
     let accepted = [
         ("run", run(4, None)),
         ("seq", Command::Seq(Places::Unlisted)),
         ("--map seq", Command::Seq(Places::Listed)),
         ("trace", Command::Trace(Places::Unlisted, crew(4, None))),
-        (
-            "--map trace --workers 16",
-            Command::Trace(Places::Listed, crew(16, None)),
-        ),
-        (
-            "trace --schedule 0",
-            Command::Trace(Places::Unlisted, crew(4, Some(Schedule::Seed(0)))),
-        ),
-        (
-            "trace --schedule=newest --workers=2",
-            Command::Trace(Places::Unlisted, crew(2, Some(Schedule::Newest))),
-        ),
         ("check", Command::Check),
         ("print", Command::Print),
         ("code", Command::Code),
@@ -95,35 +100,39 @@ fn words_are_read(rt: HostRuntime) -> Result<(), Fail> {
         ("gen 18446744073709551615", Command::Gen(u64::MAX)),
         ("load 7", Command::Load(7, crew(4, None))),
         ("load --workers 16 7", Command::Load(7, crew(16, None))),
-        ("run --workers=4", run(4, None)),
-        ("--workers 1 run", run(1, None)),
-        (
-            "--map run --workers=16",
-            Command::Run(Places::Listed, crew(16, None)),
-        ),
-        ("run --workers 004", run(4, None)),
         ("-- run", run(4, None)),
         ("run --", run(4, None)),
-        ("--workers=2 -- run", run(2, None)),
-        (
-            "run --schedule=0 --workers 1",
-            run(1, Some(Schedule::Seed(0))),
-        ),
-        ("run --schedule oldest", run(4, Some(Schedule::Oldest))),
-        ("run --schedule newest", run(4, Some(Schedule::Newest))),
-        ("run --schedule movers", run(4, Some(Schedule::Movers))),
-        ("run --schedule maillast", run(4, Some(Schedule::MailLast))),
     ];
-    for (text, command) in &accepted {
-        assert_eq!(rt;
-            command_of(alloc, &words(alloc, text)?)?,
-            Some(*command),
-            "at {text}"
-        );
-    }
+    are_read(&rt, alloc, &accepted)?;
     for text in &REFUSED {
         assert_eq!(rt; command_of(alloc, &words(alloc, text)?)?, None, "at {text}");
     }
     assert_eq!(rt; command_of(alloc, &Words::new(alloc))?, None);
+    Ok(())
+}
+
+#[test]
+fn crews_are_read(rt: HostRuntime) -> Result<(), Fail> {
+    let alloc = rt.alloc();
+    let seed = Some(Schedule::Seed(0));
+    let newest = Some(Schedule::Newest);
+    let unlisted = Places::Unlisted;
+    let listed = Places::Listed;
+    let accepted = [
+        ("run --workers=4", run(4, None)),
+        ("run --workers 004", run(4, None)),
+        ("--workers 1 run", run(1, None)),
+        ("--workers=2 -- run", run(2, None)),
+        ("--map run --workers=16", Command::Run(listed, crew(16, None))),
+        ("--map trace --workers 16", Command::Trace(listed, crew(16, None))),
+        ("trace --schedule 0", Command::Trace(unlisted, crew(4, seed))),
+        ("trace --schedule=newest --workers=2", Command::Trace(unlisted, crew(2, newest))),
+        ("run --schedule=0 --workers 1", run(1, seed)),
+        ("run --schedule oldest", run(4, Some(Schedule::Oldest))),
+        ("run --schedule newest", run(4, newest)),
+        ("run --schedule movers", run(4, Some(Schedule::Movers))),
+        ("run --schedule maillast", run(4, Some(Schedule::MailLast))),
+    ];
+    are_read(&rt, alloc, &accepted)?;
     Ok(())
 }

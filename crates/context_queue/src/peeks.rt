@@ -42,6 +42,7 @@ impl Peeks {
         self.tickets.contains(&ticket.0)
     }
 
+    /// Whether nobody is among them.
     pub fn is_empty(&self) -> bool
         ensures { result ≡ is_nobody self.now.tickets }
     {

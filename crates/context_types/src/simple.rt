@@ -70,6 +70,42 @@ impl Here<'_> {
         Ok(Step { at, action })
     }
 
+    /// A call of an own method, or of a builtin, whose result nobody takes.
+    pub fn do_call(
+        &self,
+        alloc: Global,
+        at: Span,
+        name: &Txt,
+        args: &Seq<Expr>,
+    ) -> Result<Step, TypeError>
+        ensures { let h = here_of self.now in let s = syntax.Call at name.now (map expr_tree args.now) in
+            Judges (rules.stmt_demands h s) (λ step. rules.resolve_stmt h s ≡ step_of step) result }
+    {
+        let called = self.call(alloc, at, name, args.as_slice())?;
+        let action = Action::Do(called.tree);
+        Ok(Step { at, action })
+    }
+
+    /// A call of a child's method, whose result nobody takes.
+    pub fn do_child_call(
+        &self,
+        alloc: Global,
+        at: Span,
+        class: &Txt,
+        key: &Expr,
+        name: &Txt,
+        args: &Seq<Expr>,
+    ) -> Result<Step, TypeError>
+        ensures { let h = here_of self.now in let s = syntax.ChildCall at class.now (expr_tree key.now) name.now (map expr_tree args.now) in
+            Judges (rules.stmt_demands h s) (λ step. rules.resolve_stmt h s ≡ step_of step) result }
+    {
+        let class = self.child(at, class)?;
+        let key = self.expr_of(alloc, Kind::Int, key)?;
+        let called = self.child_call(alloc, at, class, name, args.as_slice(), key)?;
+        let action = Action::Do(called.tree);
+        Ok(Step { at, action })
+    }
+
     /// `drop x[k];`
     pub fn cut(
         &self,

@@ -55,17 +55,9 @@ impl Here<'_> {
             Action::Cut(target, key) => self.cut(alloc, at, target, key),
             Action::Set(target, None, value) => self.set(alloc, at, target, value),
             Action::Set(target, Some(key), value) => self.put(alloc, at, target, key, value),
-            Action::Call(name, args) => {
-                let called = self.call(alloc, at, name, args.as_slice())?;
-                let action = Effect::Do(called.tree);
-                Ok(Step { at, action })
-            }
+            Action::Call(name, args) => self.do_call(alloc, at, name, args),
             Action::ChildCall(class, key, name, args) => {
-                let class = self.child(at, class)?;
-                let key = self.expr_of(alloc, Kind::Int, key)?;
-                let called = self.child_call(alloc, at, class, name, args.as_slice(), key)?;
-                let action = Effect::Do(called.tree);
-                Ok(Step { at, action })
+                self.do_child_call(alloc, at, class, key, name, args)
             }
             Action::Return(value) => self.return_end(alloc, at, value),
             Action::Finish(value) => self.finish_end(alloc, at, value),

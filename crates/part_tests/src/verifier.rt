@@ -77,54 +77,48 @@ fn accepts_a_counter(rt: HostRuntime) -> Result<(), Fail> {
     Ok(())
 }
 
+// Why a program of one event with this code is refused, if it is.
+fn refusal(alloc: Global, code: Vec<Instr>) -> Result<Option<VerifyError>, OutOfMemory>
+    requires { vec_len code ≤ 65535 }
+{
+    Ok(verify(alloc, program(alloc, code)?).err())
+}
+
 #[test]
 fn names_the_instruction_that_breaks_a_rule(rt: HostRuntime) -> Result<(), Fail> {
     let alloc = rt.alloc();
-    let pop = vec![in alloc; Instr::Pop]?;
-    let refusal = verify(alloc, program(alloc, pop)?).err();
-    assert_eq!(rt;
-        refusal,
-        Some(VerifyError::Stack {
-            function: 0,
-            instruction: 0
-        })
-    );
-    let neg = vec![in alloc; Instr::PushBool(true), Instr::Op(5)]?;
-    let refusal = verify(alloc, program(alloc, neg)?).err();
-    assert_eq!(rt;
-        refusal,
-        Some(VerifyError::Kind {
-            function: 0,
-            instruction: 1
-        })
-    );
-    let jump = vec![in alloc; Instr::Jump(9), Instr::End]?;
-    let refusal = verify(alloc, program(alloc, jump)?).err();
-    assert_eq!(rt;
-        refusal,
-        Some(VerifyError::Jump {
-            function: 0,
-            instruction: 0
-        })
-    );
-    let call = vec![in alloc; Instr::Call(1)]?;
-    let refusal = verify(alloc, program(alloc, call)?).err();
-    assert_eq!(rt;
-        refusal,
-        Some(VerifyError::Call {
-            function: 0,
-            instruction: 0
-        })
-    );
-    let field = vec![in alloc; Instr::Field(64)]?;
-    let refusal = verify(alloc, program(alloc, field)?).err();
-    assert_eq!(rt;
-        refusal,
-        Some(VerifyError::Field {
-            function: 0,
-            instruction: 0
-        })
-    );
+    let function = 0;
+    let first = 0;
+    let pop = refusal(alloc, vec![in alloc; Instr::Pop]?)?;
+    let stack = VerifyError::Stack {
+        function,
+        instruction: first,
+    };
+    assert_eq!(rt; pop, Some(stack));
+    let neg = refusal(alloc, vec![in alloc; Instr::PushBool(true), Instr::Op(5)]?)?;
+    let kind = VerifyError::Kind {
+        function,
+        instruction: 1,
+    };
+    assert_eq!(rt; neg, Some(kind));
+    let jump = refusal(alloc, vec![in alloc; Instr::Jump(9), Instr::End]?)?;
+    let target = VerifyError::Jump {
+        function,
+        instruction: first,
+    };
+    assert_eq!(rt; jump, Some(target));
+    let call = refusal(alloc, vec![in alloc; Instr::Call(1)]?)?;
+    let callee = VerifyError::Call {
+        function,
+        instruction: first,
+    };
+    assert_eq!(rt; call, Some(callee));
+    let field = refusal(alloc, vec![in alloc; Instr::Field(64)]?)?;
+    let place = VerifyError::Field {
+        function,
+        instruction: first,
+    };
+    assert_eq!(rt; field, Some(place));
     Ok(())
 }
 
