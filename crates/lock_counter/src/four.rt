@@ -68,34 +68,10 @@ pub fn add_by_four<'p, R: Threads + Wait + Sync>(
     let fourth = lock.split(&mut first);
     let ((one, two), (three, four)) = run_four(
         rt,
-        Job {
-            lock: shared,
-            pass: first,
-            me: 0,
-            amount: amounts.0,
-            times,
-        },
-        Job {
-            lock: shared,
-            pass: second,
-            me: 1,
-            amount: amounts.1,
-            times,
-        },
-        Job {
-            lock: shared,
-            pass: third,
-            me: 2,
-            amount: amounts.2,
-            times,
-        },
-        Job {
-            lock: shared,
-            pass: fourth,
-            me: 3,
-            amount: amounts.3,
-            times,
-        },
+        Job::new(shared, first, 0, amounts.0, times),
+        Job::new(shared, second, 1, amounts.1, times),
+        Job::new(shared, third, 2, amounts.2, times),
+        Job::new(shared, fourth, 3, amounts.3, times),
     );
     let pass = lock.join(one.0, two.0);
     let pass = lock.join(pass, three.0);

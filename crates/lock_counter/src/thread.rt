@@ -1,4 +1,5 @@
 // One thread's share of the work.
+ghost use Rattle.std.specs.Prelude.{◌≡◌};
 ghost use Rattle.lock_counter.specs.Jobs.{IsReady, IsDone};
 
 use crate::counter::Counter;
@@ -15,6 +16,27 @@ pub struct Job<'l, 'p> {
     pub me: u64,
     pub amount: u64,
     pub times: u64,
+}
+
+impl<'l, 'p> Job<'l, 'p> {
+    /// What the thread of this number is to do with its pass.
+    pub fn new(
+        lock: &'l KeptLock<Counter<'p>>,
+        pass: Pass<Counter<'p>>,
+        me: u64,
+        amount: u64,
+        times: u64,
+    ) -> Job<'l, 'p>
+        ensures { result ≡ record { lock = lock.entry; pass = pass.entry; me = me; amount = amount; times = times } }
+    {
+        Job {
+            lock,
+            pass,
+            me,
+            amount,
+            times,
+        }
+    }
 }
 
 /// What a thread gives back.
