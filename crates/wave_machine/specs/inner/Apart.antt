@@ -1,5 +1,5 @@
 -- What a label leaves as it is, as a listing reads it: all but the cell of its ticket, and what one host has of its context.
-use Rattle.std.specs.Prelude.{◌≡◌, ◌≤◌, ◌+◌, ℕ, length, Some, option_map, slice_get}
+use Rattle.std.specs.Prelude.{◌≡◌, ◌≤◌, ◌+◌, ℕ, false, length, Some, option_map, slice_get}
 use Rattle.std.specs.FinMap as table
 use Rattle.wave_base.specs.declared.path.Path.{Path}
 use Rattle.head_tickets.specs.Heads.{next_ticket}
@@ -43,11 +43,11 @@ grown (Admit t) = 1
 grown _ = 0
 
 -- A label changes the cell of its ticket, which has so many mails more at most, and what its host has of its context. The mark of
--- that stays where the context stays there, or stays away.
+-- that stays where the context is away before and after; where it is there an Enter is delivered, whatever the mark says.
 pub record Moves (m m' : Kept) (l : Label) (more : ℕ) : Type 0 where
   pub others : LeavesOthers m m' (λ t. t ≡ ticket_of l.act) (λ h q. (h ≡ l.host) × (q ≡ path_of l.act))
   pub as_many : length m'.cells ≡ grown l.act + length m.cells
   pub mails : (i : ℕ) (c c' : Cell Actor) → slice_get m.cells i ≡ Some c → slice_get m'.cells i ≡ Some c' → length c'.outbox.mails ≤ more + length c.outbox.mails
   pub new : (c' : Cell Actor) → slice_get m'.cells (length m.cells) ≡ Some c' → length c'.outbox.mails ≤ 1
-  pub mark : (st st' : Stores) → slice_get m.stores l.host ≡ Some st → slice_get m'.stores l.host ≡ Some st' → has (path_of l.act) st' ≡ has (path_of l.act) st
+  pub mark : (st st' : Stores) → slice_get m.stores l.host ≡ Some st → slice_get m'.stores l.host ≡ Some st' → has (path_of l.act) st ≡ false → has (path_of l.act) st' ≡ false
       → table.get st'.gone (path_of l.act) ≡ table.get st.gone (path_of l.act)
