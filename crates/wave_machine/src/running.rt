@@ -67,6 +67,7 @@ impl<'p> Engine<'p> {
         requires enabled { IsEnabled (kept_of self.old) (record { worker = worker.0; host = host.0; act = Start ticket.0 path }) }
         requires part { IsCopy (kept_of self.old) host.0 ticket.0 path copy }
         ensures takes { Takes (kept_of self.old) (kept_of self.new) (record { worker = worker.0; host = host.0; act = Start ticket.0 path }) }
+        ensures moves { Moves (kept_of self.old) (kept_of self.new) (record { worker = worker.0; host = host.0; act = Start ticket.0 path }) 0 }
         ensures leases { Leases (kept_of self.old) (record { worker = worker.0; host = host.0; act = Start ticket.0 path }) result }
         ensures may_run { MayRun self.new.plan.now.program result.actor result.body }
         ensures worker { result.worker ≡ worker }
