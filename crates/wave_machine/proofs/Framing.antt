@@ -86,7 +86,7 @@ has_landed st st' p e lands =
 -- ---- a label that puts another cell in the place of one
 
 module _ (m m' : Kept) (l : Label) (more i : ℕ) (c c' : Cell Actor) (at : m.first + i ≡ ticket_of l.act) (as_before : grown l.act ≡ 0) (there : slice_get m.cells i ≡ Some c) (first : m'.first ≡ m.first)
-  (cells : m'.cells ≡ slice_set m.cells i c') (few : length c'.outbox.mails ≤ more + length c.outbox.mails) where
+    (cells : m'.cells ≡ slice_set m.cells i c') (few : length c'.outbox.mails ≤ more + length c.outbox.mails) where
   cell_after : (j : ℕ) (x x' : Cell Actor) → slice_get m.cells j ≡ Some x → slice_get m'.cells j ≡ Some x' → ((i ≡ j) × (x' ≡ c')) ⊎ (x' ≡ x)
   cell_after j x x' was is = after_set m.cells i c' j x x' was (sym (ap (λ cs. slice_get cs j) cells) ∙ is)
 
@@ -136,7 +136,7 @@ module _ (m m' : Kept) (l : Label) (more i : ℕ) (c c' : Cell Actor) (at : m.fi
 
   -- and another store in the place of its host's, which answers the same about all other contexts
   module _ (s s' : Stores) (here : slice_get m.stores l.host ≡ Some s) (stores : m'.stores ≡ slice_set m.stores l.host s') (apart_from_it : (q : Path) → q ≢ path_of l.act → AnswersAs s s' q)
-    (mark_stays : has (path_of l.act) s ≡ false → has (path_of l.act) s' ≡ false → table.get s'.gone (path_of l.act) ≡ table.get s.gone (path_of l.act)) where
+      (mark_stays : has (path_of l.act) s ≡ false → has (path_of l.act) s' ≡ false → table.get s'.gone (path_of l.act) ≡ table.get s.gone (path_of l.act)) where
     stores_after : (h : ℕ) (st st' : Stores) → slice_get m.stores h ≡ Some st → slice_get m'.stores h ≡ Some st' → ((l.host ≡ h) × (st' ≡ s')) ⊎ (st' ≡ st)
     stores_after h st st' was is = after_set m.stores l.host s' h st st' was (sym (ap (λ ss. slice_get ss h) stores) ∙ is)
 
