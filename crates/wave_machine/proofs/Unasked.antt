@@ -1,24 +1,23 @@
 -- What is made beforehand changes nothing that a listing reads.
-use Rattle.std.proofs.Common.{◌≡◌, ◌≢◌, ◌∙◌, ◌⊎◌, inl, inr, ℕ, ◌+◌, ◌<◌, ◌≤◌, Bool, true, false, List, length, is_some, Option, Some, None, refl, sym, ap, subst, arith, true≢false}
-use Rattle.std.specs.Prelude.{option_map, slice_get, slice_set}
+use Rattle.std.proofs.Common.{◌≡◌, ◌∙◌, ◌⊎◌, inl, inr, ℕ, ◌+◌, Bool, true, false, length, is_some, Option, Some, None, refl, sym, ap, subst, arith, true≢false}
+use Rattle.std.specs.Prelude.{option_map, slice_get}
 use Rattle.std.specs.FinMap as table
 use Rattle.std.proofs.lemmas.List.{length-set}
 use Rattle.std.proofs.lemmas.Option.{slice_get_within}
 use Rattle.wave_base.specs.declared.path.Path.{Path}
 use Rattle.wave_base.specs.Paths.{path_eq}
 use Rattle.wave_base.specs.PathLaws.{path_eq_decides}
-use Rattle.commit_order.specs.Commits.{ready_result}
 use Rattle.context_queue.specs.declared.entry.Entry.{Entry}
 use Rattle.context_queue.specs.Entries.{SameButRooms as SameEntry, entry_of}
 use Rattle.head_tickets.specs.Heads.{Heading, next_ticket}
 use Rattle.host_map.specs.Stores.{Stores, has}
 use Rattle.event_cells.specs.declared.cell.Cell.{Cell}
 use Rattle.event_cells.specs.Cells.{SameButRooms as SameCell}
-use Rattle.wave_states.specs.Labels.{Label, ticket_of, path_of}
+use Rattle.wave_states.specs.Labels.{Label, path_of}
 use Rattle.wave_theory.proofs.Basics.{some_same}
 use Rattle.wave_machine.specs.declared.actor.Actor.{Actor}
 use Rattle.wave_machine.specs.Machines.{Kept, Ledger}
-use Rattle.wave_machine.specs.inner.Apart.{AsksAs, AnswersAs, AsksTheSame, Moves, grown}
+use Rattle.wave_machine.specs.inner.Apart.{AsksAs, AnswersAs, AsksTheSame, Moves}
 use Rattle.wave_machine.specs.inner.Spare.{SameButRooms}
 use Rattle.wave_machine.proofs.Calm.{with_cell, with_store}
 use Rattle.wave_machine.proofs.Ending.{some_at}
@@ -32,7 +31,7 @@ answers_on : (s t u : Stores) (q : Path) → AnswersAs s t q → AnswersAs t u q
 answers_on s t u q a b = record { entry = b.entry ∙ a.entry; mark = b.mark ∙ a.mark }
 
 -- a store that answers the same has the context where the other has it
-has_too : (s t : Stores) (q : Path) → AnswersAs s t q → has q t ≡ has q s
+pub has_too : (s t : Stores) (q : Path) → AnswersAs s t q → has q t ≡ has q s
 has_too s t q a = sym (mapped (table.get t.store q)) ∙ ap is_some a.entry ∙ mapped (table.get s.store q)
   where
     mapped : (o : Option Entry) → is_some (option_map entry_of o) ≡ is_some o
