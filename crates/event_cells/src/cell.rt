@@ -56,6 +56,7 @@ impl<A: Drop> Cell<A> {
         ensures actor { IfOk result (λ c. c.actor ≡ Some actor) }
         ensures status { IfOk result (λ c. is_over c.status ≡ false) }
         ensures kind { IfOk result (λ c. c.kind ≡ kind) }
+        ensures one_mail { IfOk result (λ c. length c.outbox.mails ≡ 1) }
     {
         let mut outbox = Outbox::new(alloc);
         outbox.reserve(1)?;
@@ -94,6 +95,7 @@ impl<A: Drop> Cell<A> {
     pub fn take_mail(&mut self, number: u32) -> Option<Envelope>
         ensures mail { (d : Desk A (List Value)) → StandsFor self.old d → Carries result (d.mails number) }
         ensures desk { (d : Desk A (List Value)) → StandsFor self.old d → StandsFor self.new (with_mail d number None) }
+        ensures fewer_mails { length self.new.outbox.mails ≤ length self.old.outbox.mails }
         ensures mails_room { self.old.outbox.room ≤ self.new.outbox.room }
         ensures actor { self.new.actor ≡ self.old.actor }
         ensures status { self.new.status ≡ self.old.status }
@@ -107,6 +109,7 @@ impl<A: Drop> Cell<A> {
     pub fn redirect(&mut self, number: u32, envelope: Envelope)
         requires { IsSome (mail_in self.old.outbox.mails number) }
         ensures desk { (d : Desk A (List Value)) (m : theory.Mail (List Value)) → StandsFor self.old d → IsEnvelope envelope m → StandsFor self.new (with_mail d number (Some m)) }
+        ensures as_many_mails { length self.new.outbox.mails ≡ length self.old.outbox.mails }
         ensures mails_room { self.old.outbox.room ≤ self.new.outbox.room }
         ensures actor { self.new.actor ≡ self.old.actor }
         ensures status { self.new.status ≡ self.old.status }
@@ -180,6 +183,7 @@ impl<A: Drop> Cell<A> {
     pub fn send(&mut self, envelope: Envelope)
         requires { 1 ≤ self.old.outbox.room }
         ensures desk { (d : Desk A (List Value)) (m : theory.Mail (List Value)) → StandsFor self.old d → IsEnvelope envelope m → StandsFor self.new (send d m) }
+        ensures one_mail_more { length self.new.outbox.mails ≡ length self.old.outbox.mails + 1 }
         ensures mails_room { self.old.outbox.room ≤ self.new.outbox.room + 1 }
         ensures actor { self.new.actor ≡ self.old.actor }
         ensures held { self.new.held ≡ self.old.held }
@@ -205,6 +209,7 @@ impl<A: Drop> Cell<A> {
     pub fn release_outside(&mut self, top: &Path)
         requires { length self.old.held.holds ≤ self.old.outbox.room }
         ensures desk { (d : Desk A (List Value)) → StandsFor self.old d → StandsFor self.new (give_up (is_above top.now) d) }
+        ensures few_mails { length self.new.outbox.mails ≤ length self.old.outbox.mails + length self.old.held.holds }
         ensures actor { self.new.actor ≡ self.old.actor }
         ensures status { self.new.status ≡ self.old.status }
         ensures fewer { length self.new.held.holds ≤ length self.old.held.holds }
@@ -218,6 +223,7 @@ impl<A: Drop> Cell<A> {
     pub fn end(&mut self)
         requires { length self.old.held.holds ≤ self.old.outbox.room }
         ensures desk { (d : Desk A (List Value)) → StandsFor self.old d → StandsFor self.new (ended d) }
+        ensures few_mails { length self.new.outbox.mails ≤ length self.old.outbox.mails + length self.old.held.holds }
         ensures actor { self.new.actor ≡ None }
         ensures status { self.new.status ≡ Status.Ended }
         ensures held { self.new.held.holds ≡ [] }
@@ -245,6 +251,7 @@ fn release(held: &[(Path, Hold)], outbox: &mut Outbox, top: Option<&Path>)
     requires { length held.now ≤ outbox.old.room }
     ensures sent { outbox.new.sent ≡ outbox.old.sent + length (releases (keeps (option_copied top.entry)) held.now) }
     ensures mails { outbox.new.mails ≡ sent_on outbox.old.mails outbox.old.sent (releases (keeps (option_copied top.entry)) held.now) }
+    ensures few { length outbox.new.mails ≤ length outbox.old.mails + length held.now }
 {
     for &(path, hold) in held {
         if !keeps(top, &path) {

@@ -1,4 +1,4 @@
-ghost use Rattle.std.specs.Prelude.{◌≡◌, ◌≤◌, ◌+◌, [], ℕ, OnOk, Some, None, nat_eq, if◌then◌else◌, option_copied, IsSome};
+ghost use Rattle.std.specs.Prelude.{◌≡◌, ◌≤◌, ◌+◌, [], ℕ, length, OnOk, Some, None, nat_eq, if◌then◌else◌, option_copied, IsSome};
 ghost use Rattle.std.specs.BTreeMap.{insert_entry};
 ghost use Rattle.std.specs.Ordering.{nat_cmp};
 ghost use Rattle.std.specs.List.Sorted.{IsStrictlySortedBy};
@@ -104,6 +104,7 @@ impl Outbox {
         requires { 1 ≤ self.old.room }
         ensures sent { self.new.sent ≡ self.old.sent + 1 }
         ensures mails { self.new.mails ≡ insert_entry nat_cmp self.old.mails (self.old.sent + 1) envelope }
+        ensures one_more { length self.new.mails ≡ length self.old.mails + 1 }
         ensures room { self.old.room ≤ self.new.room + 1 }
     {
         self.sent += 1;
@@ -115,6 +116,7 @@ impl Outbox {
         ensures mail { result ≡ mail_in self.old.mails number }
         ensures sent { self.new.sent ≡ self.old.sent }
         ensures mails { self.new.mails ≡ without_in self.old.mails number }
+        ensures fewer { length self.new.mails ≤ length self.old.mails }
         ensures others { (k : ℕ) → mail_in self.new.mails k ≡ (if nat_eq number k then None else mail_in self.old.mails k) }
         ensures room { self.old.room ≤ self.new.room }
     {
@@ -132,6 +134,7 @@ impl Outbox {
         requires { IsSome (mail_in self.old.mails number) }
         ensures sent { self.new.sent ≡ self.old.sent }
         ensures mails { self.new.mails ≡ insert_entry nat_cmp self.old.mails number envelope }
+        ensures as_many { length self.new.mails ≡ length self.old.mails }
         ensures room { self.old.room ≤ self.new.room }
     {
         let i = self.place(number).unwrap();

@@ -12,11 +12,15 @@ use Rattle.wave_machine.specs.declared.lease.Lease.{Lease}
 use Rattle.wave_machine.specs.Machines.{Kept, IsEnabled, Keeps, Takes}
 use Rattle.wave_machine.specs.Prepared.{IsStood}
 use Rattle.wave_machine.specs.Running.{CanStop, IsStopping, Leases, Stops, stop_of}
+use Rattle.wave_machine.specs.inner.Apart.{Moves}
 use Rattle.wave_machine.proofs.Queueing.{some_is}
 
 module _ (m m' : Kept) (l : Label) (a : Act) (is : l.act ≡ a) where
   pub takes_it : Takes m m' (record { worker = l.worker.0; host = l.host.0; act = act_of a }) → Takes m m' (label_of l)
   takes_it h = subst (λ x. Takes m m' (record { worker = l.worker.0; host = l.host.0; act = act_of x })) (sym is) h
+
+  pub moves_it : (more : ℕ) → Moves m m' (record { worker = l.worker.0; host = l.host.0; act = act_of a }) more → Moves m m' (label_of l) more
+  moves_it more h = subst (λ x. Moves m m' (record { worker = l.worker.0; host = l.host.0; act = act_of x }) more) (sym is) h
 
   pub leases_it : (lease : Lease) → Leases m (record { worker = l.worker.0; host = l.host.0; act = act_of a }) lease → Leases m (label_of l) lease
   leases_it lease h = subst (λ x. Leases m (record { worker = l.worker.0; host = l.host.0; act = act_of x }) lease) (sym is) h

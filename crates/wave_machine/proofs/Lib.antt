@@ -44,3 +44,5 @@ pub mod Lines
 pub mod Untouched
 pub mod Skipping
 pub mod Picked
+pub mod Framing
+pub mod Unasked

@@ -19,12 +19,13 @@ use Rattle.wave_machine.specs.declared.engine.Engine.{Engine}
 use Rattle.wave_machine.specs.Actors.{IsActor, peeks_now}
 use Rattle.wave_machine.specs.Machines.{Kept, TheState}
 
--- the cell of a line's job under a ticket, which was just admitted
+-- the cell of a line's job under a ticket, which was just admitted: it has one mail
 pub record IsMade (program : Program) (line : Line) (t : ℕ) (c : Cell Actor) : Type 0 where
   pub actor : Actor
   pub there : c.actor ≡ Some actor
   pub made : IsActor program actor (theory.actor_of program line t)
   pub desk : StandsFor c (first_desk actor t (peeks_now actor))
+  pub one_mail : length c.outbox.mails ≡ 1
 
 -- the cell of the job that is admitted next
 abbrev pub IsNext : Kept → Cell Actor → Type 0

@@ -6,6 +6,7 @@ ghost use Rattle.wave_machine.specs.Actors.{MayRun};
 ghost use Rattle.wave_machine.specs.Machines.{IsEnabled, Keeps, Takes};
 ghost use Rattle.wave_machine.specs.Prepared.{IsPart, is_start, is_step};
 ghost use Rattle.wave_machine.specs.Running.{Leases};
+ghost use Rattle.wave_machine.specs.inner.Apart.{AsksTheSame, Moves};
 
 use crate::engine::Engine;
 use crate::lease::Lease;
@@ -22,6 +23,7 @@ impl<'p> Engine<'p> {
         requires { IsEnabled (kept_of self.old) (label_of label.now) }
         ensures part { IfOk result (IsPart self.new label.now.host label.now.act) }
         ensures keeps { Keeps (kept_of self.old) (kept_of self.new) }
+        ensures asks { AsksTheSame (kept_of self.old) (kept_of self.new) }
         ensures plan { self.new.plan ≡ self.old.plan }
     {
         let host = label.host;
@@ -52,6 +54,7 @@ impl<'p> Engine<'p> {
         requires part { IsPart self.old label.now.host label.now.act part }
         requires kind { is_step label.now.act ≡ true }
         ensures takes { Takes (kept_of self.old) (kept_of self.new) (label_of label.now) }
+        ensures moves { Moves (kept_of self.old) (kept_of self.new) (label_of label.now) 0 }
         ensures plan { self.new.plan ≡ self.old.plan }
     {
         let host = label.host;
@@ -89,6 +92,7 @@ impl<'p> Engine<'p> {
         requires part { IsPart self.old label.now.host label.now.act part }
         requires kind { is_start label.now.act ≡ true }
         ensures takes { Takes (kept_of self.old) (kept_of self.new) (label_of label.now) }
+        ensures moves { Moves (kept_of self.old) (kept_of self.new) (label_of label.now) 0 }
         ensures leases { Leases (kept_of self.old) (label_of label.now) result }
         ensures may_run { MayRun self.new.plan.now.program result.actor result.body }
         ensures worker { result.worker ≡ label.now.worker }

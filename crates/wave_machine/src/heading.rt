@@ -7,6 +7,7 @@ ghost use Rattle.head_tickets.specs.Heads.{head_of};
 ghost use Rattle.wave_states.specs.Labels.{Admit, Commit};
 ghost use Rattle.wave_machine.specs.Heading.{AreCreated, IsNext, RoomToAdmit, RoomToCommit};
 ghost use Rattle.wave_machine.specs.Machines.{IsEnabled, Keeps, Takes};
+ghost use Rattle.wave_machine.specs.inner.Apart.{AsksTheSame, Moves};
 
 use crate::actor::Actor;
 use crate::engine::Engine;
@@ -28,6 +29,7 @@ impl<'p> Engine<'p> {
         ensures cell { IfOk result (λ c. IsNext (kept_of self.old) c) }
         ensures room { OnOk result (RoomToAdmit self.new) }
         ensures same { kept_of self.new ≡ kept_of self.old }
+        ensures asks { AsksTheSame (kept_of self.old) (kept_of self.new) }
         ensures plan { self.new.plan ≡ self.old.plan }
     {
         heads_are_known();
@@ -46,6 +48,7 @@ impl<'p> Engine<'p> {
         requires cell { IsNext (kept_of self.old) cell }
         requires room { RoomToAdmit self.old }
         ensures takes { (w host t : ℕ) → Takes (kept_of self.old) (kept_of self.new) (record { worker = w; host = host; act = Admit t }) }
+        ensures moves { (w host t : ℕ) → Moves (kept_of self.old) (kept_of self.new) (record { worker = w; host = host; act = Admit t }) 0 }
         ensures plan { self.new.plan ≡ self.old.plan }
     {
         states_are_known();
@@ -60,6 +63,7 @@ impl<'p> Engine<'p> {
         ensures created { IfOk result (λ calls. AreCreated (kept_of self.new) calls) }
         ensures room { IfOk result (λ calls. RoomToCommit self.new (length calls)) }
         ensures keeps { Keeps (kept_of self.old) (kept_of self.new) }
+        ensures asks { AsksTheSame (kept_of self.old) (kept_of self.new) }
         ensures plan { self.new.plan ≡ self.old.plan }
     {
         states_are_known();
@@ -75,6 +79,7 @@ impl<'p> Engine<'p> {
         requires created { AreCreated (kept_of self.old) created }
         requires room { RoomToCommit self.old (length created) }
         ensures takes { (w host t : ℕ) → Takes (kept_of self.old) (kept_of self.new) (record { worker = w; host = host; act = Commit t }) }
+        ensures moves { (w host t : ℕ) → Moves (kept_of self.old) (kept_of self.new) (record { worker = w; host = host; act = Commit t }) 0 }
         ensures plan { self.new.plan ≡ self.old.plan }
     {
         states_are_known();

@@ -172,6 +172,8 @@ fn go_on(
     requires room { 1 + length cell.old.held.holds ≤ cell.old.outbox.room }
     ensures desk { (e : declared.Envelope) (d : Desk actors.Actor Fields) (m : Mail Fields) → mail ≡ Some e → StandsFor cell.old d → IsEnvelope e m → StandsFor cell.new (send d m) × (result ≡ m.path) }
     ensures room { length cell.new.held.holds ≤ cell.new.outbox.room }
+    ensures one_mail_more { length cell.new.outbox.mails ≡ length cell.old.outbox.mails + 1 }
+    ensures held { cell.new.held ≡ cell.old.held }
     ensures actor { cell.new.actor ≡ cell.old.actor }
     ensures here { (c : Column Fields) (host : ℕ) (en : theory.Entry Fields) → IsAt store.old path.now c host → c.store host ≡ Some en → IsAt store.new path.now (with_entry c host (Some (with_body en (Some (record_of body))))) host }
     ensures store { (q : paths.Path) → q ≢ path.now → map.get store.new.store q ≡ map.get store.old.store q }
@@ -192,6 +194,8 @@ fn send_away(cell: &mut Cell<Actor>, store: &mut HostStore, path: &Path, to: Hos
     requires room { 1 + length cell.old.held.holds ≤ cell.old.outbox.room }
     ensures desk { (d : Desk actors.Actor Fields) (c : Column Fields) (host : ℕ) (en : theory.Entry Fields) → StandsFor cell.old d → IsAt store.old path.now c host → c.store host ≡ Some en → StandsFor cell.new (sent_off d path.now to.0 en) }
     ensures room { length cell.new.held.holds ≤ cell.new.outbox.room }
+    ensures one_mail_more { length cell.new.outbox.mails ≡ length cell.old.outbox.mails + 1 }
+    ensures fewer { length cell.new.held.holds ≤ length cell.old.held.holds }
     ensures here { (c : Column Fields) (host : ℕ) (en : theory.Entry Fields) → IsAt store.old path.now c host → c.store host ≡ Some en → IsAt store.new path.now (departed c host to.0 (suc en.moves)) host }
     ensures store { (q : paths.Path) → q ≢ path.now → map.get store.new.store q ≡ map.get store.old.store q }
     ensures gone { (q : paths.Path) → q ≢ path.now → map.get store.new.gone q ≡ map.get store.old.gone q }
@@ -220,6 +224,7 @@ fn over(
     requires room { 1 + length cell.old.held.holds ≤ cell.old.outbox.room }
     ensures part { (d : Desk actors.Actor Fields) (x y : Part actors.Actor Fields results.EventResult) (en : theory.Entry Fields) (r : results.EventResult) (peek : Bool) → StandsFor cell.old d → IsAt store.old path.now x.column host.0 → x.column.store host.0 ≡ Some en
         → option_map (λ h. h.0) to ≡ away_from host.0 (move_of r) → stopped_by move_of path.now host.0 x d en (record_of body) peek (Over r) (holds_as_peek d.event.held path.now) ≡ Some y → HasLeft cell.new store.new path.now host.0 (Some r) y }
+    ensures few_mails { length cell.new.outbox.mails ≤ 1 + length cell.old.held.holds + length cell.old.outbox.mails }
     ensures actor { cell.new.actor ≡ None }
     ensures store { (q : paths.Path) → q ≢ path.now → map.get store.new.store q ≡ map.get store.old.store q }
     ensures gone { (q : paths.Path) → q ≢ path.now → map.get store.new.gone q ≡ map.get store.old.gone q }
@@ -256,6 +261,7 @@ pub(crate) fn leave(
     ensures part { (d : Desk actors.Actor Fields) (x y : Part actors.Actor Fields results.EventResult) (en : theory.Entry Fields) (r : records.Record) (peek : Bool) → StandsFor cell.old d → IsAt store.old lease.path x.column host.0 → x.column.store host.0 ≡ Some en → x.cell.result ≡ None
         → Tells (onward host.0 lease.path (record_of r) d.event.held peek pause) r mail lease.body
         → stopped_by move_of lease.path host.0 x (with_actor d (Some lease.actor) theory.Travelling) en (record_of r) peek (pause_of pause) (holds_as_peek d.event.held lease.path) ≡ Some y → HasLeft cell.new store.new lease.path host.0 result y }
+    ensures few_mails { length cell.new.outbox.mails ≤ 1 + length cell.old.held.holds + length cell.old.outbox.mails }
     ensures actor { (a : actors.Actor) → cell.new.actor ≡ Some a → a ≡ lease.actor }
     ensures store { (q : paths.Path) → q ≢ lease.path → map.get store.new.store q ≡ map.get store.old.store q }
     ensures gone { (q : paths.Path) → q ≢ lease.path → map.get store.new.gone q ≡ map.get store.old.gone q }

@@ -3,6 +3,7 @@
 ghost use Rattle.std.specs.Prelude.{ℕ, ◌≡◌};
 ghost use Rattle.wave_states.specs.Labels.{Free, Grant, Land, Pass, Queue, Visit};
 ghost use Rattle.wave_machine.specs.Machines.{IsEnabled, Takes};
+ghost use Rattle.wave_machine.specs.inner.Apart.{Moves};
 
 use crate::engine::Engine;
 use crate::finds::{asked_in, entry_in, next_peeks, number_in};
@@ -22,6 +23,7 @@ impl<'p> Engine<'p> {
     pub(crate) fn visit(&mut self, mail: MailId, path: Path)
         requires { (w : ℕ) × (host : ℕ) × IsEnabled (kept_of self.old) (record { worker = w; host = host; act = Visit mail.ticket.0 mail.number path }) }
         ensures takes { (w host : ℕ) → Takes (kept_of self.old) (kept_of self.new) (record { worker = w; host = host; act = Visit mail.ticket.0 mail.number path }) }
+        ensures moves { (w host : ℕ) → Moves (kept_of self.old) (kept_of self.new) (record { worker = w; host = host; act = Visit mail.ticket.0 mail.number path }) 0 }
         ensures plan { self.new.plan ≡ self.old.plan }
     {
         states_are_known();
@@ -34,6 +36,7 @@ impl<'p> Engine<'p> {
     pub(crate) fn free(&mut self, host: Host, mail: MailId, path: Path)
         requires { (w : ℕ) × IsEnabled (kept_of self.old) (record { worker = w; host = host.0; act = Free mail.ticket.0 mail.number path }) }
         ensures takes { (w : ℕ) → Takes (kept_of self.old) (kept_of self.new) (record { worker = w; host = host.0; act = Free mail.ticket.0 mail.number path }) }
+        ensures moves { (w : ℕ) → Moves (kept_of self.old) (kept_of self.new) (record { worker = w; host = host.0; act = Free mail.ticket.0 mail.number path }) 0 }
         ensures plan { self.new.plan ≡ self.old.plan }
     {
         states_are_known();
@@ -48,6 +51,7 @@ impl<'p> Engine<'p> {
         requires enabled { (w : ℕ) × IsEnabled (kept_of self.old) (record { worker = w; host = host.0; act = Grant ticket.0 path }) }
         requires room { RoomToGrant (kept_of self.old) host.0 ticket.0 path }
         ensures takes { (w : ℕ) → Takes (kept_of self.old) (kept_of self.new) (record { worker = w; host = host.0; act = Grant ticket.0 path }) }
+        ensures moves { (w : ℕ) → Moves (kept_of self.old) (kept_of self.new) (record { worker = w; host = host.0; act = Grant ticket.0 path }) 0 }
         ensures plan { self.new.plan ≡ self.old.plan }
     {
         states_are_known();
@@ -64,6 +68,7 @@ impl<'p> Engine<'p> {
         requires enabled { (w : ℕ) × IsEnabled (kept_of self.old) (record { worker = w; host = host.0; act = Land mail.ticket.0 mail.number path }) }
         requires room { RoomToLand (kept_of self.old) host.0 }
         ensures takes { (w : ℕ) → Takes (kept_of self.old) (kept_of self.new) (record { worker = w; host = host.0; act = Land mail.ticket.0 mail.number path }) }
+        ensures moves { (w : ℕ) → Moves (kept_of self.old) (kept_of self.new) (record { worker = w; host = host.0; act = Land mail.ticket.0 mail.number path }) 0 }
         ensures plan { self.new.plan ≡ self.old.plan }
     {
         states_are_known();
@@ -77,6 +82,7 @@ impl<'p> Engine<'p> {
     pub(crate) fn pass(&mut self, host: Host, mail: MailId, path: Path, to: Host)
         requires { (w : ℕ) × IsEnabled (kept_of self.old) (record { worker = w; host = host.0; act = Pass mail.ticket.0 mail.number path to.0 }) }
         ensures takes { (w : ℕ) → Takes (kept_of self.old) (kept_of self.new) (record { worker = w; host = host.0; act = Pass mail.ticket.0 mail.number path to.0 }) }
+        ensures moves { (w : ℕ) → Moves (kept_of self.old) (kept_of self.new) (record { worker = w; host = host.0; act = Pass mail.ticket.0 mail.number path to.0 }) 0 }
         ensures plan { self.new.plan ≡ self.old.plan }
     {
         states_are_known();
@@ -97,6 +103,7 @@ impl<'p> Engine<'p> {
         requires enabled { (w : ℕ) × IsEnabled (kept_of self.old) (record { worker = w; host = host.0; act = Queue mail.ticket.0 mail.number path }) }
         requires part { PartToQueue (kept_of self.old) host.0 path born }
         ensures takes { (w : ℕ) → Takes (kept_of self.old) (kept_of self.new) (record { worker = w; host = host.0; act = Queue mail.ticket.0 mail.number path }) }
+        ensures moves { (w : ℕ) → Moves (kept_of self.old) (kept_of self.new) (record { worker = w; host = host.0; act = Queue mail.ticket.0 mail.number path }) 0 }
         ensures plan { self.new.plan ≡ self.old.plan }
     {
         states_are_known();

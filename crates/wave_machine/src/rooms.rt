@@ -3,6 +3,7 @@
 ghost use Rattle.std.specs.Prelude.{ℕ, ◌≡◌, IfOk, OnOk};
 ghost use Rattle.wave_states.specs.Labels.{Grant, Land, Queue};
 ghost use Rattle.wave_machine.specs.Machines.{IsEnabled, Keeps};
+ghost use Rattle.wave_machine.specs.inner.Apart.{AsksTheSame};
 
 use crate::engine::Engine;
 use crate::first::first_entry;
@@ -26,6 +27,7 @@ impl<'p> Engine<'p> {
         requires { (w : ℕ) × IsEnabled (kept_of self.old) (record { worker = w; host = host.0; act = Grant ticket.0 path.now }) }
         ensures room { OnOk result (RoomToGrant (kept_of self.new) host.0 ticket.0 path.now) }
         ensures keeps { Keeps (kept_of self.old) (kept_of self.new) }
+        ensures asks { AsksTheSame (kept_of self.old) (kept_of self.new) }
         ensures plan { self.new.plan ≡ self.old.plan }
     {
         states_are_known();
@@ -45,6 +47,7 @@ impl<'p> Engine<'p> {
         requires { (w : ℕ) × IsEnabled (kept_of self.old) (record { worker = w; host = host.0; act = Land mail.ticket.0 mail.number path.now }) }
         ensures room { OnOk result (RoomToLand (kept_of self.new) host.0) }
         ensures keeps { Keeps (kept_of self.old) (kept_of self.new) }
+        ensures asks { AsksTheSame (kept_of self.old) (kept_of self.new) }
         ensures plan { self.new.plan ≡ self.old.plan }
     {
         states_are_known();
@@ -63,6 +66,7 @@ impl<'p> Engine<'p> {
         requires { (w : ℕ) × IsEnabled (kept_of self.old) (record { worker = w; host = host.0; act = Queue mail.ticket.0 mail.number path.now }) }
         ensures part { IfOk result (PartToQueue (kept_of self.new) host.0 path.now) }
         ensures keeps { Keeps (kept_of self.old) (kept_of self.new) }
+        ensures asks { AsksTheSame (kept_of self.old) (kept_of self.new) }
         ensures plan { self.new.plan ≡ self.old.plan }
     {
         states_are_known();

@@ -1,6 +1,6 @@
 //! The labels that begin and end a segment: a Start leases the actor and the record out, and a Stop puts them back.
 
-ghost use Rattle.std.specs.Prelude.{◌≡◌, ◌-◌, ℕ, Some, true, is_some, slice_get, IfOk, IfErr, OnOk, OnErr};
+ghost use Rattle.std.specs.Prelude.{◌≡◌, ◌+◌, ◌-◌, ℕ, Some, true, is_some, length, slice_get, IfOk, IfErr, OnOk, OnErr};
 ghost use Rattle.wave_states.specs.Labels.{Start};
 ghost use Rattle.code_actor.specs.CodeActors.{Fields};
 ghost use Rattle.context_queue.specs.Entries.{record_of};
@@ -12,6 +12,7 @@ ghost use Rattle.wave_machine.specs.Actors.{MayRun, peeks_now};
 ghost use Rattle.wave_machine.specs.Machines.{IsEnabled, Keeps, Takes};
 ghost use Rattle.wave_machine.specs.Running.{CanStop, IsCopy, IsStopping, Leases, Stops, stop_of};
 ghost use Rattle.wave_machine.specs.declared.actor.Actor as actors;
+ghost use Rattle.wave_machine.specs.inner.Apart.{Moves};
 ghost use Rattle.wave_machine.specs.inner.Leaving.{CanGoOn, Tells, onward};
 ghost use Rattle.wave_machine.specs.inner.Spare.{HasPlace, IsAsLong, RoomToStop, SameButRooms};
 
@@ -66,6 +67,7 @@ impl<'p> Engine<'p> {
         requires enabled { IsEnabled (kept_of self.old) (record { worker = worker.0; host = host.0; act = Start ticket.0 path }) }
         requires part { IsCopy (kept_of self.old) host.0 ticket.0 path copy }
         ensures takes { Takes (kept_of self.old) (kept_of self.new) (record { worker = worker.0; host = host.0; act = Start ticket.0 path }) }
+        ensures moves { Moves (kept_of self.old) (kept_of self.new) (record { worker = worker.0; host = host.0; act = Start ticket.0 path }) 0 }
         ensures leases { Leases (kept_of self.old) (record { worker = worker.0; host = host.0; act = Start ticket.0 path }) result }
         ensures may_run { MayRun self.new.plan.now.program result.actor result.body }
         ensures worker { result.worker ≡ worker }
@@ -133,6 +135,7 @@ impl<'p> Engine<'p> {
         ensures label { IfOk result (λ l. label_of l ≡ stop_of lease l.host.0) }
         ensures enabled { IfOk result (λ l. CanStop (kept_of self.old) lease pause l.host.0) }
         ensures stops { IfOk result (λ l. Stops (kept_of self.old) lease pause l.host.0 (kept_of self.new)) }
+        ensures moves { IfOk result (λ l. (c : cells.Cell actors.Actor) → slice_get (kept_of self.old).cells (lease.ticket.0 - self.old.first) ≡ Some c → Moves (kept_of self.old) (kept_of self.new) (label_of l) (1 + length c.held.holds)) }
         ensures refused { IfErr result (λ r. (r.lease ≡ lease) × (r.pause ≡ pause)) }
         ensures keeps { OnErr result (Keeps (kept_of self.old) (kept_of self.new)) }
         ensures same { OnErr result (SameButRooms (kept_of self.old) (kept_of self.new)) }

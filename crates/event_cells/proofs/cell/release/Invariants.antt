@@ -8,4 +8,5 @@ abbrev pub invariant-loop-path : goal.invariant-loop-path
 invariant-loop-path l = record {
   sends : Sends (keeps (option_copied l.top)) l.held l.fn.outbox.mails l.fn.outbox.sent l.path-index l.outbox.mails l.outbox.sent;
   room : length l.held ≤ l.path-index + l.outbox.room;
+  few : length l.outbox.mails ≤ length l.fn.outbox.mails + l.path-index;
 }

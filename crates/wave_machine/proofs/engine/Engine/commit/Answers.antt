@@ -1,13 +1,15 @@
-use Rattle.std.proofs.Common.{◌≡◌, ◌∙◌, ◌+◌, Option, Some, ap, is_some, length, sym, arith}
+use Rattle.std.proofs.Common.{◌≡◌, ◌∙◌, ◌+◌, Option, Some, ap, is_some, length, refl, sym, arith}
 use Rattle.std.specs.Prelude.{if◌then◌else◌, option_map}
 use Rattle.wave_base.specs.declared.outcome.EventResult.{EventResult}
 use Rattle.wave_base.specs.Fold.{created_lines}
 use Rattle.head_tickets.specs.Heads.{requests}
 use Rattle.commit_order.specs.Commits.{Committing, ready_result}
 use Rattle.commit_order.specs.declared.commits.Committed.{Committed}
+use Rattle.wave_states.specs.Labels.{Commit}
 use Rattle.wave_machine.specs.Keeping.{kept_of}
 use Rattle.wave_machine.proofs.Committing.{DoesOne, TakesResult}
 use Rattle.wave_machine.proofs.Headings.{commit_order, commit_pushed, commit_ready, commit_room, the_commit}
+use Rattle.wave_machine.proofs.Framing.{moved_none}
 use Rattle.wave_machine.proofs.engine.Engine.commit.Goals as goal
 
 -- a result as the next one that is committed
@@ -70,3 +72,6 @@ returns-clause-takes c = λ w host t.
       done = c.begin_batch.ensures.counts.1 ∙ c.created-made.ensures.counts.1;
     } in
     commit_pushed c.states_are_known.ensures m w host t (record { result = c.unwrap-result.result.result; made = c.created-made.result }) (requests c.args.created) c.begin_batch.new.head c.commit_next.new.self c.push_reserved.new.self.items r created takes does result c.created-made.ensures.tickets c.push_reserved.ensures.items
+
+pub returns-clause-moves : goal.returns-clause-moves
+returns-clause-moves c = λ w host t. moved_none (kept_of c.args.self.now) _ (record { worker = w; host = host; act = Commit t }) refl refl refl refl

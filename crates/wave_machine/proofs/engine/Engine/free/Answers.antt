@@ -2,10 +2,13 @@ use Rattle.std.proofs.Common.{rules, ◌≡◌, ◌<◌, ◌-◌, ◌+◌, lengt
 use Rattle.std.specs.Prelude.{slice_get}
 use Rattle.std.proofs.lemmas.Option.{slice_get_read}
 use Rattle.host_map.specs.Stores.{with_entry}
+use Rattle.wave_states.specs.Labels.{Free}
 use Rattle.wave_machine.specs.Keeping.{kept_of}
 use Rattle.wave_machine.proofs.CellParts.{TakesMail}
 use Rattle.wave_machine.proofs.StoreParts.{Writes}
 use Rattle.wave_machine.proofs.Taking.{free_placed, free_taken}
+use Rattle.wave_machine.proofs.Calm.{with_cell, with_store}
+use Rattle.wave_machine.proofs.Framing.{moved_both, written_apart}
 use Rattle.wave_machine.proofs.engine.Engine.free.Goals as goal
 
 pub overflow_sub-mail : goal.overflow_sub-mail
@@ -47,3 +50,20 @@ returns-clause-takes c = λ w.
     let writes : Writes c.index_mut-store.result.now (with_entry c.index_mut-store.result.now c.args.path c.free.new.self) c.args.path c.free.new.self = record { store = refl; gone = refl } in
     free_taken c.states_are_known.ensures m t c.args.mail.number c.args.path w c.args.host.0 i c.index_mut-cell.result.now c.take_mail.new.self c.index_mut-store.result.now (with_entry c.index_mut-store.result.now c.args.path c.free.new.self) c.entry_mut.result.now c.free.new.self
     place there takes here c.entry_mut.ensures.value writes c.free.ensures.entry
+
+pub returns-clause-moves : goal.returns-clause-moves
+returns-clause-moves c = λ w.
+    let m = kept_of c.args.self.now in
+    let t = c.args.mail.ticket.0 in
+    let at = free_placed c.states_are_known.ensures m t c.args.mail.number c.args.path c.requires.0 c.args.host.0 c.requires.1 in
+    let i = t - m.first in
+    let place : m.first + i ≡ t = omega (arith, at.low) in
+    let within : i < length m.cells = omega (arith, at.low, at.within) in
+    let cell = c.index_mut-cell.result.now in
+    let there : slice_get m.cells i ≡ Some cell = slice_get_read m.cells _ i cell refl within c.index_mut-cell.ensures.value in
+    let store = c.index_mut-store.result.now in
+    let here : slice_get m.stores c.args.host.0 ≡ Some store = slice_get_read m.stores _ c.args.host.0 store refl at.host_in c.index_mut-store.ensures.value in
+    let next = with_entry store c.args.path c.free.new.self in
+    let writes : Writes store next c.args.path c.free.new.self = record { store = refl; gone = refl } in
+    moved_both m (with_store (with_cell m i c.take_mail.new.self) c.args.host.0 next) (record { worker = w; host = c.args.host.0; act = Free t c.args.mail.number c.args.path }) 0 i cell c.take_mail.new.self place refl there refl refl
+    (omega (arith, c.take_mail.ensures.fewer_mails)) store next here refl (written_apart store next c.args.path c.free.new.self writes) (λ away away'. refl)

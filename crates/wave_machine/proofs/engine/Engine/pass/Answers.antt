@@ -4,12 +4,15 @@ use Rattle.std.proofs.lemmas.Option.{slice_get_read}
 use Rattle.migration_core.specs.declared.mail.Letter.TheVariants as letter
 use Rattle.event_cells.specs.declared.outbox.Envelope.{Envelope}
 use Rattle.event_cells.specs.Keeps.{mail_in}
+use Rattle.wave_states.specs.Labels.{Pass}
 use Rattle.wave_states.specs.States.{Ask}
 use Rattle.wave_machine.specs.Keeping.{kept_of}
 use Rattle.wave_machine.specs.inner.Asks.{asked_in, number_in}
 use Rattle.wave_machine.proofs.CellParts.{Redirects}
 use Rattle.wave_machine.proofs.Queueing.{goes_to, pass_finds, some_is}
 use Rattle.wave_machine.proofs.Taking.{pass_placed, pass_taken}
+use Rattle.wave_machine.proofs.Calm.{with_cell}
+use Rattle.wave_machine.proofs.Framing.{moved_cell}
 use Rattle.wave_machine.proofs.engine.Engine.pass.Goals as goal
 
 pub index-store-requires : goal.index-store-requires
@@ -67,3 +70,17 @@ returns-clause-takes c = λ w.
     let follows = ap number_in (sym c.find.ensures) ∙ c.number_in-followed.ensures in
     pass_taken c.states_are_known.ensures m t k c.args.path w c.args.host.0 c.args.to.0 i cell c.redirect.new.self store old.0 env place there turns here old.1
     (goes_to c.states_are_known.ensures m t k c.args.path w c.args.host.0 c.args.to.0 (mail_in cell.outbox.mails k) old.0 store c.asked_in-number.result.0 c.number_in-followed.result c.asked_in-number.result.1 c.args.to refl old.1 numbers peeks (finds.away store here) follows)
+
+pub returns-clause-moves : goal.returns-clause-moves
+returns-clause-moves c = λ w.
+    let m = kept_of c.args.self.now in
+    let t = c.args.mail.ticket.0 in
+    let k = c.args.mail.number in
+    let at = pass_placed c.states_are_known.ensures m t k c.args.path c.requires.0 c.args.host.0 c.args.to.0 c.requires.1 in
+    let i = t - m.first in
+    let place : m.first + i ≡ t = omega (arith, at.low) in
+    let within : i < length m.cells = omega (arith, at.low, at.within) in
+    let cell = c.index_mut-cell.result.now in
+    let there : slice_get m.cells i ≡ Some cell = slice_get_read m.cells _ i cell refl within c.index_mut-cell.ensures.value in
+    moved_cell m (with_cell m i c.redirect.new.self) (record { worker = w; host = c.args.host.0; act = Pass t k c.args.path c.args.to.0 }) 0 i cell c.redirect.new.self place refl there refl refl
+    (omega (arith, c.redirect.ensures.as_many_mails)) refl

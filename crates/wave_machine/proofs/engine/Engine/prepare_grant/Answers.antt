@@ -8,6 +8,7 @@ use Rattle.wave_machine.proofs.Calm.{with_cell, with_store}
 use Rattle.wave_machine.proofs.Freer.{cell_keeps, grant_room, keeps_on, on_ok, same_but_entry, store_keeps}
 use Rattle.wave_machine.proofs.StoreParts.{Writes}
 use Rattle.wave_machine.proofs.Taking.{grant_placed}
+use Rattle.wave_machine.proofs.Unasked.{asks_after, cell_asks, entry_answers, store_asks}
 use Rattle.wave_machine.proofs.engine.Engine.prepare_grant.Goals as goal
 
 pub overflow_sub-ticket : goal.overflow_sub-ticket
@@ -63,3 +64,27 @@ returns-clause-keeps c =
     keeps_on m (with_cell m i c.reserve.new.self) (with_store (with_cell m i c.reserve.new.self) c.args.host.0 next)
     (cell_keeps m i c.index_mut-cell.result.now c.reserve.new.self there c.reserve.ensures.same)
     (store_keeps (with_cell m i c.reserve.new.self) c.args.host.0 store next here (same_but_entry store next c.args.path.now c.entry_mut.result.now entry c.entry_mut.ensures.value c.reserve-2.ensures.same writes))
+
+pub returns-in_err-reserve-clause-asks : goal.returns-in_err-reserve-clause-asks
+returns-in_err-reserve-clause-asks c =
+    let m = kept_of c.args.self.now in
+    let at = grant_placed c.states_are_known.ensures m c.args.ticket.0 c.args.path.now c.requires.0 c.args.host.0 c.requires.1 in
+    let i = c.args.ticket.0 - m.first in
+    let within : i < length m.cells = omega (arith, at.low, at.within) in
+    cell_asks m i c.index_mut-cell.result.now c.reserve.new.self (slice_get_read m.cells _ i c.index_mut-cell.result.now refl within c.index_mut-cell.ensures.value) c.reserve.ensures.same
+
+pub returns-clause-asks : goal.returns-clause-asks
+returns-clause-asks c =
+    let m = kept_of c.args.self.now in
+    let at = grant_placed c.states_are_known.ensures m c.args.ticket.0 c.args.path.now c.requires.0 c.args.host.0 c.requires.1 in
+    let i = c.args.ticket.0 - m.first in
+    let within : i < length m.cells = omega (arith, at.low, at.within) in
+    let there : slice_get m.cells i ≡ Some c.index_mut-cell.result.now = slice_get_read m.cells _ i c.index_mut-cell.result.now refl within c.index_mut-cell.ensures.value in
+    let store = c.index_mut-store.result.now in
+    let here : slice_get m.stores c.args.host.0 ≡ Some store = slice_get_read m.stores _ c.args.host.0 store refl at.host_in c.index_mut-store.ensures.value in
+    let entry = c.reserve-2.new.self in
+    let next = with_entry store c.args.path.now entry in
+    let writes : Writes store next c.args.path.now entry = record { store = refl; gone = refl } in
+    let half = with_cell m i c.reserve.new.self in
+    asks_after m half (with_store half c.args.host.0 next) (cell_asks m i c.index_mut-cell.result.now c.reserve.new.self there c.reserve.ensures.same)
+    (store_asks half c.args.host.0 store next here (entry_answers store next c.args.path.now c.entry_mut.result.now entry c.entry_mut.ensures.value c.reserve-2.ensures.same writes))

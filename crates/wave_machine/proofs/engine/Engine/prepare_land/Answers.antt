@@ -4,6 +4,7 @@ use Rattle.std.proofs.lemmas.Option.{slice_get_read}
 use Rattle.wave_machine.specs.Keeping.{kept_of}
 use Rattle.wave_machine.proofs.Freer.{land_room, on_ok, same_maps, store_keeps}
 use Rattle.wave_machine.proofs.Taking.{land_placed}
+use Rattle.wave_machine.proofs.Unasked.{maps_answer, store_asks}
 use Rattle.wave_machine.proofs.engine.Engine.prepare_land.Goals as goal
 
 pub index_mut-store-requires : goal.index_mut-store-requires
@@ -23,3 +24,11 @@ returns-clause-keeps c =
     let store = c.index_mut-store.result.now in
     let here : slice_get m.stores c.args.host.0 ≡ Some store = slice_get_read m.stores _ c.args.host.0 store refl at.host_in c.index_mut-store.ensures.value in
     store_keeps m c.args.host.0 store c.reserve.new.self here (same_maps store c.reserve.new.self c.reserve.ensures.store c.reserve.ensures.gone)
+
+pub returns-clause-asks : goal.returns-clause-asks
+returns-clause-asks c =
+    let m = kept_of c.args.self.now in
+    let at = land_placed c.states_are_known.ensures m c.args.mail.ticket.0 c.args.mail.number c.args.path.now c.requires.0 c.args.host.0 c.requires.1 in
+    let store = c.index_mut-store.result.now in
+    let here : slice_get m.stores c.args.host.0 ≡ Some store = slice_get_read m.stores _ c.args.host.0 store refl at.host_in c.index_mut-store.ensures.value in
+    store_asks m c.args.host.0 store c.reserve.new.self here (maps_answer store c.reserve.new.self c.reserve.ensures.store c.reserve.ensures.gone)

@@ -7,6 +7,7 @@ use Rattle.wave_machine.specs.Keeping.{kept_of}
 use Rattle.wave_machine.proofs.Freer.{born_part, here_part, same_but_entry, same_maps, store_keeps}
 use Rattle.wave_machine.proofs.StoreParts.{Writes}
 use Rattle.wave_machine.proofs.Queueing.{queue_placed}
+use Rattle.wave_machine.proofs.Unasked.{entry_answers, maps_answer, store_asks}
 use Rattle.wave_machine.proofs.engine.Engine.prepare_queue.Goals as goal
 
 pub index_mut-store-requires : goal.index_mut-store-requires
@@ -73,3 +74,47 @@ returns-clause-keeps c =
     let store = c.index_mut-store.result.now in
     let here : slice_get m.stores c.args.host.0 ≡ Some store = slice_get_read m.stores _ c.args.host.0 store refl at.host_in c.index_mut-store.ensures.value in
     store_keeps m c.args.host.0 store c.reserve-2.new.self here (same_maps store c.reserve-2.new.self c.reserve-2.ensures.store c.reserve-2.ensures.gone)
+
+pub returns-in_err-reserve-clause-asks : goal.returns-in_err-reserve-clause-asks
+returns-in_err-reserve-clause-asks c =
+    let m = kept_of c.args.self.now in
+    let at = queue_placed c.states_are_known.ensures m c.args.mail.ticket.0 c.args.mail.number c.args.path.now c.requires.0 c.args.host.0 c.requires.1 in
+    let store = c.index_mut-store.result.now in
+    let here : slice_get m.stores c.args.host.0 ≡ Some store = slice_get_read m.stores _ c.args.host.0 store refl at.host_in c.index_mut-store.ensures.value in
+    let next = with_entry store c.args.path.now c.reserve.new.self in
+    let writes : Writes store next c.args.path.now c.reserve.new.self = record { store = refl; gone = refl } in
+    store_asks m c.args.host.0 store next here (entry_answers store next c.args.path.now c.entry_mut.result.now c.reserve.new.self c.entry_mut.ensures.value c.reserve.ensures.same writes)
+
+pub returns-then-has-clause-asks : goal.returns-then-has-clause-asks
+returns-then-has-clause-asks c =
+    let m = kept_of c.args.self.now in
+    let at = queue_placed c.states_are_known.ensures m c.args.mail.ticket.0 c.args.mail.number c.args.path.now c.requires.0 c.args.host.0 c.requires.1 in
+    let store = c.index_mut-store.result.now in
+    let here : slice_get m.stores c.args.host.0 ≡ Some store = slice_get_read m.stores _ c.args.host.0 store refl at.host_in c.index_mut-store.ensures.value in
+    let next = with_entry store c.args.path.now c.reserve.new.self in
+    let writes : Writes store next c.args.path.now c.reserve.new.self = record { store = refl; gone = refl } in
+    store_asks m c.args.host.0 store next here (entry_answers store next c.args.path.now c.entry_mut.result.now c.reserve.new.self c.entry_mut.ensures.value c.reserve.ensures.same writes)
+
+pub returns-in_err-reserve-2-clause-asks : goal.returns-in_err-reserve-2-clause-asks
+returns-in_err-reserve-2-clause-asks c =
+    let m = kept_of c.args.self.now in
+    let at = queue_placed c.states_are_known.ensures m c.args.mail.ticket.0 c.args.mail.number c.args.path.now c.requires.0 c.args.host.0 c.requires.1 in
+    let store = c.index_mut-store.result.now in
+    let here : slice_get m.stores c.args.host.0 ≡ Some store = slice_get_read m.stores _ c.args.host.0 store refl at.host_in c.index_mut-store.ensures.value in
+    store_asks m c.args.host.0 store c.reserve-2.new.self here (maps_answer store c.reserve-2.new.self c.reserve-2.ensures.store c.reserve-2.ensures.gone)
+
+pub returns-in_err-first_entry-clause-asks : goal.returns-in_err-first_entry-clause-asks
+returns-in_err-first_entry-clause-asks c =
+    let m = kept_of c.args.self.now in
+    let at = queue_placed c.states_are_known.ensures m c.args.mail.ticket.0 c.args.mail.number c.args.path.now c.requires.0 c.args.host.0 c.requires.1 in
+    let store = c.index_mut-store.result.now in
+    let here : slice_get m.stores c.args.host.0 ≡ Some store = slice_get_read m.stores _ c.args.host.0 store refl at.host_in c.index_mut-store.ensures.value in
+    store_asks m c.args.host.0 store c.reserve-2.new.self here (maps_answer store c.reserve-2.new.self c.reserve-2.ensures.store c.reserve-2.ensures.gone)
+
+pub returns-clause-asks : goal.returns-clause-asks
+returns-clause-asks c =
+    let m = kept_of c.args.self.now in
+    let at = queue_placed c.states_are_known.ensures m c.args.mail.ticket.0 c.args.mail.number c.args.path.now c.requires.0 c.args.host.0 c.requires.1 in
+    let store = c.index_mut-store.result.now in
+    let here : slice_get m.stores c.args.host.0 ≡ Some store = slice_get_read m.stores _ c.args.host.0 store refl at.host_in c.index_mut-store.ensures.value in
+    store_asks m c.args.host.0 store c.reserve-2.new.self here (maps_answer store c.reserve-2.new.self c.reserve-2.ensures.store c.reserve-2.ensures.gone)

@@ -2,12 +2,18 @@ use Rattle.std.proofs.Common.{rules, ◌≡◌, ◌<◌, ◌-◌, ◌+◌, lengt
 use Rattle.std.specs.Prelude.{slice_get, option_map}
 use Rattle.std.proofs.lemmas.Option.{slice_get_read}
 use Rattle.event_cells.specs.Cells.{is_over, with_mail}
+use Rattle.std.specs.FinMap as table
+use Rattle.event_cells.specs.Keeps.{Sending}
+use Rattle.wave_states.specs.Labels.{Queue}
 use Rattle.wave_states.specs.States as theory
 use Rattle.wave_states.specs.States.{Ask}
 use Rattle.wave_machine.specs.Keeping.{kept_of}
 use Rattle.wave_machine.specs.inner.Asks.{asked_in}
 use Rattle.wave_machine.proofs.CellParts.{TakesAndWaits}
 use Rattle.wave_machine.proofs.Queueing.{queue_placed, queue_taken}
+use Rattle.wave_machine.proofs.Calm.{with_cell, with_store}
+use Rattle.wave_machine.proofs.Framing.{moved_both, written_apart}
+use Rattle.wave_machine.proofs.StoreParts.{Writes}
 use Rattle.wave_machine.proofs.engine.Engine.queue.Goals as goal
 
 pub overflow_sub-mail : goal.overflow_sub-mail
@@ -61,3 +67,24 @@ returns-clause-takes c = λ w.
     let numbers = ap (λ o. option_map (λ (a : Ask). a.number) (asked_in o)) (sym c.get.ensures) ∙ c.asked_in-number.ensures.number in
     let peeks = ap (λ o. option_map (λ (a : Ask). a.peek) (asked_in o)) (sym c.get.ensures) ∙ c.asked_in-number.ensures.peek in
     queue_taken c.states_are_known.ensures m t k c.args.path w c.args.host.0 i cell c.set_status.new.self store c.line_up.new.store c.args.born c.asked_in-number.result.0 c.asked_in-number.result.1 place there takes here c.requires.part numbers peeks c.line_up.ensures
+
+pub returns-clause-moves : goal.returns-clause-moves
+returns-clause-moves c = λ w.
+    let m = kept_of c.args.self.now in
+    let t = c.args.mail.ticket.0 in
+    let k = c.args.mail.number in
+    let p = c.args.path in
+    let at = queue_placed c.states_are_known.ensures m t k p c.requires.enabled.0 c.args.host.0 c.requires.enabled.1 in
+    let i = t - m.first in
+    let place : m.first + i ≡ t = omega (arith, at.low) in
+    let within : i < length m.cells = omega (arith, at.low, at.within) in
+    let cell = c.index_mut-cell.result.now in
+    let there : slice_get m.cells i ≡ Some cell = slice_get_read m.cells _ i cell refl within c.index_mut-cell.ensures.value in
+    let store = c.index_mut-store.result.now in
+    let here : slice_get m.stores c.args.host.0 ≡ Some store = slice_get_read m.stores _ c.args.host.0 store refl at.host_in c.index_mut-store.ensures.value in
+    let next = c.line_up.new.store in
+    let lines = c.line_up.ensures in
+    let writes : Writes store next p lines.entry = record { store = lines.store; gone = lines.gone } in
+    let same = ap (λ (o : Sending). length o.mails) c.set_status.ensures.outbox in
+    moved_both m (with_store (with_cell m i c.set_status.new.self) c.args.host.0 next) (record { worker = w; host = c.args.host.0; act = Queue t k p }) 0 i cell c.set_status.new.self place refl there refl refl
+    (omega (arith, same, c.take_mail.ensures.fewer_mails)) store next here refl (written_apart store next p lines.entry writes) (λ away away'. ap (λ g. table.get g p) lines.gone)

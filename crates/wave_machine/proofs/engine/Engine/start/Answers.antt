@@ -2,12 +2,14 @@ use Rattle.std.proofs.Common.{rules, ◌≡◌, ◌∙◌, ◌<◌, ◌-◌, ◌
 use Rattle.std.specs.Prelude.{slice_get}
 use Rattle.std.proofs.lemmas.Option.{slice_get_read}
 use Rattle.host_map.specs.Stores.{with_entry}
+use Rattle.event_cells.specs.Keeps.{Sending}
 use Rattle.wave_states.specs.Labels.{Start}
 use Rattle.wave_machine.specs.declared.lease.Lease.{Lease}
 use Rattle.wave_machine.specs.Keeping.{kept_of}
 use Rattle.wave_machine.proofs.Depth.{leased_may_run}
 use Rattle.wave_machine.proofs.Starting.{RunsIt, start_placed, start_taken, start_leases}
 use Rattle.wave_machine.proofs.StoreParts.{Writes}
+use Rattle.wave_machine.proofs.Framing.{moved_both, written_apart}
 use Rattle.wave_machine.proofs.engine.Engine.start.Goals as goal
 
 pub overflow_sub-ticket : goal.overflow_sub-ticket
@@ -96,3 +98,21 @@ returns-clause-may_run c =
     (start_leases c.states_are_known.ensures m t c.args.path c.args.worker.0 c.args.host.0 i c.index_mut-cell.result.now c.start.new.self c.index_mut-store.result.now (with_entry c.index_mut-store.result.now c.args.path c.taken-body.new.entry)
     c.entry_mut-entry.result.now c.taken-body.new.entry c.args.copy c.taken-body.result (record { ticket = c.args.ticket; path = c.args.path }) place refl there here c.entry_mut-entry.ensures.value c.requires.part c.taken-body.ensures
     lease refl refl (sym c.start.ensures.taken ∙ c.unwrap-actor.ensures) refl on.start on.state on.next on.stands on.enabled)
+
+pub returns-clause-moves : goal.returns-clause-moves
+returns-clause-moves c =
+    let m = kept_of c.args.self.now in
+    let t = c.args.ticket.0 in
+    let at = start_placed c.states_are_known.ensures m t c.args.path c.args.worker.0 c.args.host.0 c.requires.enabled in
+    let i = t - m.first in
+    let place : m.first + i ≡ t = omega (arith, at.low) in
+    let within : i < length m.cells = omega (arith, at.low, at.within) in
+    let cell = c.index_mut-cell.result.now in
+    let there : slice_get m.cells i ≡ Some cell = slice_get_read m.cells _ i cell refl within c.index_mut-cell.ensures.value in
+    let store = c.index_mut-store.result.now in
+    let here : slice_get m.stores c.args.host.0 ≡ Some store = slice_get_read m.stores _ c.args.host.0 store refl at.host_in c.index_mut-store.ensures.value in
+    let next = with_entry store c.args.path c.taken-body.new.entry in
+    let writes : Writes store next c.args.path c.taken-body.new.entry = record { store = refl; gone = refl } in
+    let same = ap (λ (o : Sending). length o.mails) c.start.ensures.outbox in
+    moved_both m _ (record { worker = c.args.worker.0; host = c.args.host.0; act = Start t c.args.path }) 0 i cell c.start.new.self place refl there refl refl
+    (omega (arith, same)) store next here refl (written_apart store next c.args.path c.taken-body.new.entry writes) (λ away away'. refl)

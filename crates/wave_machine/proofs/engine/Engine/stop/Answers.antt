@@ -1,8 +1,12 @@
-use Rattle.std.proofs.Common.{rules, ◌≡◌, ◌∙◌, ◌<◌, ◌-◌, length, is_some, true, Some, refl, sym, ap, arith}
+use Rattle.std.proofs.Common.{rules, ◌≡◌, ◌∙◌, ℕ, ◌+◌, ◌<◌, ◌≤◌, ◌-◌, length, is_some, true, Some, refl, sym, ap, arith, true≢false}
 use Rattle.std.specs.Prelude.{position, slice_get, option_map}
 use Rattle.std.specs.FinMap as table
 use Rattle.std.proofs.lemmas.Option.{slice_get_read, slice_get_within}
 use Rattle.host_map.specs.Stores.{has}
+use Rattle.event_cells.specs.declared.cell.Cell.{Cell}
+use Rattle.wave_theory.proofs.Basics.{some_same}
+use Rattle.wave_machine.specs.Running.{stop_of}
+use Rattle.wave_machine.specs.declared.actor.Actor.{Actor}
 use Rattle.wave_machine.specs.declared.lease.Lease.{Lease}
 use Rattle.wave_machine.specs.Actors.{peeks_now}
 use Rattle.wave_machine.specs.Keeping.{kept_of}
@@ -11,6 +15,8 @@ use Rattle.wave_machine.proofs.Depth.{near}
 use Rattle.wave_machine.proofs.Halting.{above, cell_at, counted, enabled, found, fresh, worker_at}
 use Rattle.wave_machine.proofs.Roomy.{keeps, stopping_still}
 use Rattle.wave_machine.proofs.Stopping.{Adds, has_mail, leaves_as, mapped_some, placed_at, still_has, stop_taken, stops_still}
+use Rattle.wave_machine.proofs.Framing.{moved_both, same_at}
+use Rattle.wave_machine.proofs.Unasked.{moves_after, same_asks}
 use Rattle.wave_machine.proofs.engine.Engine.stop.Goals as goal
 
 pub unwrap-host-requires : goal.unwrap-host-requires
@@ -162,3 +168,34 @@ returns-clause-stops c =
     let adds : Adds m1.commits c.settle.new.commits lease.ticket.0 c.leave-result.result = record { committed = c.settle.ensures.committed; results = c.settle.ensures.results } in
     stops_still m m1 c.prepare_stop.ensures.same lease c.args.pause h _
     (stop_taken c.states_are_known.ensures c.segments_are_known.ensures m1 lease c.args.pause h i x c.leave-result.new.cell st c.leave-result.new.store c.leave-result.result c.settle.new.commits (omega (arith, at.0)) there here leaves adds)
+
+pub returns-clause-moves : goal.returns-clause-moves
+returns-clause-moves c = λ cell was.
+    let m : Kept = kept_of c.args.self.now in
+    let m1 : Kept = kept_of c.prepare_stop.new.self in
+    let same = c.prepare_stop.ensures.same in
+    let lease = c.args.lease in
+    let h = c.unwrap-host.result.0 in
+    let st = c.index_mut-store.result.now in
+    let x = c.index_mut-cell.result.now in
+    let i = lease.ticket.0 - m1.first in
+    let on = stopping_still m m1 same lease c.args.pause c.requires in
+    let at = cell_at c.states_are_known.ensures c.segments_are_known.ensures m1 lease c.args.pause on.start on.state on.stands on.back in
+    let at_place : m1.first + i ≡ lease.ticket.0 = omega (arith, at.0) in
+    let in_cells : i < length m1.cells = omega (arith, at.0, at.1) in
+    let there : slice_get m1.cells i ≡ Some x = slice_get_read m1.cells _ i x refl in_cells c.index_mut-cell.ensures.value in
+    let place = placed_at lease.path m.stores h (ap (position (has lease.path)) (sym c.as_slice.ensures.value) ∙ sym c.place_of.ensures ∙ ap (option_map (λ h. h.0)) c.unwrap-host.ensures) in
+    let old = slice_get_within m.stores h place.0 place.1 in
+    let many = same.as_many_stores in
+    let in_stores : h < length m1.stores = omega (arith, old, many) in
+    let here : slice_get m1.stores h ≡ Some st = slice_get_read m1.stores _ h st refl in_stores c.index_mut-store.ensures.value in
+    let of = same.cells i x there in
+    let one : of.cell ≡ cell = some_same of.cell cell (sym of.there ∙ ap (λ (f : ℕ). slice_get m.cells (lease.ticket.0 - f)) same.first ∙ was) in
+    let held : length x.held.holds ≡ length cell.held.holds = ap length of.same.held ∙ ap (λ (z : Cell Actor). length z.held.holds) one in
+    let path = ap (λ (l : Lease). l.path) c.prepare_stop.ensures.lease in
+    let few : length c.leave-result.new.cell.outbox.mails ≤ 1 + length cell.held.holds + length x.outbox.mails = omega (arith, held, c.leave-result.ensures.few_mails) in
+    let left = c.leave-result.new.store in
+    moves_after m m1 _ (same_asks m m1 same) (stop_of lease h) (1 + length cell.held.holds)
+    (moved_both m1 _ (stop_of lease h) (1 + length cell.held.holds) i x c.leave-result.new.cell at_place refl there refl refl few st left here refl
+    (λ q n. same_at st left q (c.leave-result.ensures.store q (λ e. n (e ∙ path))) (c.leave-result.ensures.gone q (λ e. n (e ∙ path))))
+    (λ away away'. absurd (true≢false (sym (still_has m m1 same lease.path h place.0 st place.1 place.2 here) ∙ away))))

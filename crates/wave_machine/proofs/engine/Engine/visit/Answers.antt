@@ -1,11 +1,15 @@
-use Rattle.std.proofs.Common.{rules, ◌≡◌, ◌<◌, ◌-◌, ◌+◌, length, Some, None, refl, ap, ◌∙◌, arith}
+use Rattle.std.proofs.Common.{rules, ◌≡◌, ◌<◌, ◌-◌, ◌+◌, ◌≤◌, length, Some, None, refl, ap, ◌∙◌, arith}
 use Rattle.std.specs.Prelude.{slice_get}
 use Rattle.std.proofs.lemmas.Option.{slice_get_read}
 use Rattle.wave_states.specs.States as theory
+use Rattle.event_cells.specs.Keeps.{Sending}
+use Rattle.wave_states.specs.Labels.{Visit}
 use Rattle.event_cells.specs.Cells.{is_over, with_mail}
 use Rattle.wave_machine.specs.Keeping.{kept_of}
 use Rattle.wave_machine.proofs.CellParts.{TakesAndWaits}
 use Rattle.wave_machine.proofs.Taking.{visit_placed, visit_taken}
+use Rattle.wave_machine.proofs.Calm.{with_cell}
+use Rattle.wave_machine.proofs.Framing.{moved_cell}
 use Rattle.wave_machine.proofs.engine.Engine.visit.Goals as goal
 
 pub overflow_sub-mail : goal.overflow_sub-mail
@@ -31,3 +35,17 @@ returns-clause-takes c = λ w host.
       actor = c.set_status.ensures.actor ∙ c.take_mail.ensures.actor;
     } in
     visit_taken c.states_are_known.ensures m t c.args.mail.number c.args.path w host i c.index_mut-cell.result.now c.set_status.new.self place there takes
+
+pub returns-clause-moves : goal.returns-clause-moves
+returns-clause-moves c = λ w host.
+    let m = kept_of c.args.self.now in
+    let t = c.args.mail.ticket.0 in
+    let at = visit_placed c.states_are_known.ensures m t c.args.mail.number c.args.path c.requires.0 c.requires.1 c.requires.2 in
+    let i = t - m.first in
+    let place : m.first + i ≡ t = omega (arith, at.0) in
+    let within : i < length m.cells = omega (arith, at.0, at.1) in
+    let cell = c.index_mut-cell.result.now in
+    let there : slice_get m.cells i ≡ Some cell = slice_get_read m.cells _ i cell refl within c.index_mut-cell.ensures.value in
+    let same = ap (λ (o : Sending). length o.mails) c.set_status.ensures.outbox in
+    let few : length c.set_status.new.self.outbox.mails ≤ 0 + length cell.outbox.mails = omega (arith, same, c.take_mail.ensures.fewer_mails) in
+    moved_cell m (with_cell m i c.set_status.new.self) (record { worker = w; host = host; act = Visit t c.args.mail.number c.args.path }) 0 i cell c.set_status.new.self place refl there refl refl few refl
