@@ -68,7 +68,10 @@ impl Here<'_> {
                 let key = self.expr(alloc, key)?;
                 self.index(alloc, at, map, key)
             }
-            Node::Call(name, args) => self.call(alloc, at, name, args)?.worth(at),
+            Node::Call(name, args) => {
+                let called = self.call(alloc, at, name, args)?;
+                called.worth(at)
+            }
             Node::ChildCall(class, key, name, args) => {
                 let class = self.child(at, class)?;
                 let key = self.expr_of(alloc, Kind::Int, key)?;

@@ -76,12 +76,12 @@ impl Here<'_> {
         alloc: Global,
         at: Span,
         name: &Txt,
-        args: &Seq<Expr>,
+        args: &[Expr],
     ) -> Result<Step, TypeError>
         ensures { let h = here_of self.now in let s = syntax.Call at name.now (map expr_tree args.now) in
             Judges (rules.stmt_demands h s) (λ step. rules.resolve_stmt h s ≡ step_of step) result }
     {
-        let called = self.call(alloc, at, name, args.as_slice())?;
+        let called = self.call(alloc, at, name, args)?;
         let action = Action::Do(called.tree);
         Ok(Step { at, action })
     }
@@ -94,14 +94,14 @@ impl Here<'_> {
         class: &Txt,
         key: &Expr,
         name: &Txt,
-        args: &Seq<Expr>,
+        args: &[Expr],
     ) -> Result<Step, TypeError>
         ensures { let h = here_of self.now in let s = syntax.ChildCall at class.now (expr_tree key.now) name.now (map expr_tree args.now) in
             Judges (rules.stmt_demands h s) (λ step. rules.resolve_stmt h s ≡ step_of step) result }
     {
         let class = self.child(at, class)?;
         let key = self.expr_of(alloc, Kind::Int, key)?;
-        let called = self.child_call(alloc, at, class, name, args.as_slice(), key)?;
+        let called = self.child_call(alloc, at, class, name, args, key)?;
         let action = Action::Do(called.tree);
         Ok(Step { at, action })
     }

@@ -55,9 +55,9 @@ impl Here<'_> {
             Action::Cut(target, key) => self.cut(alloc, at, target, key),
             Action::Set(target, None, value) => self.set(alloc, at, target, value),
             Action::Set(target, Some(key), value) => self.put(alloc, at, target, key, value),
-            Action::Call(name, args) => self.do_call(alloc, at, name, args),
+            Action::Call(name, args) => self.do_call(alloc, at, name, args.as_slice()),
             Action::ChildCall(class, key, name, args) => {
-                self.do_child_call(alloc, at, class, key, name, args)
+                self.do_child_call(alloc, at, class, key, name, args.as_slice())
             }
             Action::Return(value) => self.return_end(alloc, at, value),
             Action::Finish(value) => self.finish_end(alloc, at, value),

@@ -11,7 +11,7 @@ use Rattle.context_types.proofs.Exits.{exit}
 use Rattle.context_types.proofs.here.Here.do_child_call.Goals as goal
 
 pub returns-in_err-key : goal.returns-in_err-key
-returns-in_err-key t c =
+returns-in_err-key c =
     let h = here_of c.args.self.now in
     let at = c.args.at in
     let class = c.args.class.now in
@@ -21,17 +21,17 @@ returns-in_err-key t c =
     exit _ _ _ (err_from_is_err_and c.from_residual-in_err-key.result c.from_residual-in_err-key.ensures.1) (stmt_demands h (s.ChildCall at class key name args)) (key_fails h at class key name (exprs_of args) _ c.in_ok-class.ensures.0 c.in_err-key.ensures)
 
 pub returns-in_err-called : goal.returns-in_err-called
-returns-in_err-called t c =
+returns-in_err-called c =
     let h = here_of c.args.self.now in
     let at = c.args.at in
     let class = c.args.class.now in
     let key = expr_tree c.args.key.now in
     let name = c.args.name.now in
     let args = map expr_tree c.args.args.now in
-    exit _ _ _ (err_from_is_err_and c.from_residual-in_err-called.result c.from_residual-in_err-called.ensures.1) (stmt_demands h (s.ChildCall at class key name args)) (child_fails h at class key name (exprs_of args) c.in_ok-class.class c.in_ok-class.ensures.1 _ c.in_ok-class.ensures.0 c.in_ok-key.ensures.0 (subst (λ l. _) c.as_slice.ensures c.in_err-called.ensures))
+    exit _ _ _ (err_from_is_err_and c.from_residual-in_err-called.result c.from_residual-in_err-called.ensures.1) (stmt_demands h (s.ChildCall at class key name args)) (child_fails h at class key name (exprs_of args) c.in_ok-class.class c.in_ok-class.ensures.1 _ c.in_ok-class.ensures.0 c.in_ok-key.ensures.0 c.in_err-called.ensures)
 
-pub returns-in_ok-called : goal.returns-in_ok-called
-returns-in_ok-called t c =
+pub returns : goal.returns
+returns c =
     let h = here_of c.args.self.now in
     let at = c.args.at in
     let class = c.args.class.now in
