@@ -2,6 +2,7 @@
 use Rattle.std.proofs.Common.{◌≡◌, ℕ, suc, ◌+◌, ◌<◌, List, [], ◌∷◌, ◌++◌, length, map, take, get_or, true, false, refl, sym, ap, ap₂, ◌∙◌, arith, append_assoc, length-append}
 use Rattle.std.specs.Prelude.{slice_set}
 use Rattle.std.proofs.Math.Seq.{set-append_seam}
+use Rattle.std.proofs.lemmas.List.{append-nil}
 use Rattle.wave_base.specs.declared.span.Span.{Span}
 use Rattle.resolved_service.specs.declared.expr.Expr.{Expr}
 use Rattle.resolved_service.specs.declared.service.Method.{Method}
@@ -33,6 +34,12 @@ emits_then base c1 c2 f g e1 e2 =
     ∙ ap (λ c. c ++ wrapped (g (length base + length a))) e1
     ∙ append_assoc base (wrapped a) (wrapped (g (length base + length a)))
     ∙ ap (λ l. base ++ l) (sym (wrapped-append a (g (length base + length a))))
+
+-- no piece, and then one
+pub nothing_then : (base c1 c2 a : List Line) (f : ℕ → List Line) → a ≡ [] → c1 ≡ base ++ wrapped a → c2 ≡ c1 ++ wrapped (f (length c1)) → c2 ≡ base ++ wrapped (f (length base))
+nothing_then base c1 c2 a f none e1 e2 =
+    let same : c1 ≡ base = e1 ∙ ap (λ l. base ++ wrapped l) none ∙ append-nil base in
+    e2 ∙ ap (λ c. c ++ wrapped (f (length c))) same
 
 -- a piece, and lines that are no jumps
 pub emits_one : (base c1 c2 : List Line) (f : ℕ → List Line) (l : Line) → wrap_line l ≡ l → c1 ≡ base ++ wrapped (f (length base)) → c2 ≡ c1 ++ l ∷ [] → c2 ≡ base ++ wrapped (f (length base) ++ l ∷ [])
