@@ -1,11 +1,13 @@
 //! The compiler: from a resolved service to its program.
 #![tactic(auto)]
 
+mod code;
 mod collect;
 mod emit;
 mod error;
 mod functions;
 mod heights;
+mod lengths;
 mod loops;
 mod operands;
 mod program;
@@ -14,6 +16,7 @@ mod texts;
 mod verified;
 mod whole;
 
+pub use code::Code;
 pub use collect::texts_of_service;
 pub use emit::{emit_expr, emit_exprs};
 pub use error::CompileError;

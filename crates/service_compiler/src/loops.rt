@@ -5,47 +5,40 @@ ghost use Rattle.resolved_service.specs.Meaning.{row_add};
 ghost use Rattle.service_code.specs.declared.instr.Instr.TheVariants as i;
 ghost use Rattle.code_scheme.specs.Scheme.{line, test_code};
 ghost use Rattle.service_compiler.specs.inner.Fronts.{back_code};
-ghost use Rattle.service_compiler.specs.Wrapped.{wrapped};
 
-use crate::emit::{put, target};
-use code_scheme::Line;
+use crate::code::Code;
 use service_code::Instr;
 use value_ops::rows::{ADD, LT};
 use wave_base::{OutOfMemory, Span};
 
 /// The way back to the start of a loop whose block goes on.
-pub fn emit_back(
-    code: &mut Vec<Line>,
-    ended: bool,
-    start: usize,
-    at: Span,
-) -> Result<(), OutOfMemory>
-    ensures { OnOk result (code.new.items ≡ code.old.items ++ wrapped (back_code ended start at)) }
+pub fn emit_back(code: &mut Code, ended: bool, start: u16, at: Span) -> Result<(), OutOfMemory>
+    ensures { OnOk result (code.new ≡ code.old ++ back_code ended start at) }
 {
     if ended {
         return Ok(());
     }
-    put(code, Instr::Jump(target(start)), at)
+    code.put(Instr::Jump(start), at)
 }
 
 /// Whether another turn follows.
-pub fn emit_test(code: &mut Vec<Line>, counter: u16, at: Span) -> Result<(), OutOfMemory>
-    ensures { OnOk result (code.new.items ≡ code.old.items ++ test_code counter at) }
+pub fn emit_test(code: &mut Code, counter: u16, at: Span) -> Result<(), OutOfMemory>
+    ensures { OnOk result (code.new ≡ code.old ++ test_code counter at) }
 {
     let bound = slot(counter, 1)?;
-    put(code, Instr::Load(counter), at)?;
-    put(code, Instr::Load(bound), at)?;
-    put(code, Instr::Op(LT as u16), at)
+    code.put(Instr::Load(counter), at)?;
+    code.put(Instr::Load(bound), at)?;
+    code.put(Instr::Op(LT as u16), at)
 }
 
 /// The next number.
-pub fn emit_next(code: &mut Vec<Line>, counter: u16, at: Span) -> Result<(), OutOfMemory>
-    ensures { OnOk result (code.new.items ≡ code.old.items ++ line (i.Load counter) at ∷ line (i.PushInt (pos 1)) at ∷ line (i.Op row_add) at ∷ line (i.Store counter) at ∷ []) }
+pub fn emit_next(code: &mut Code, counter: u16, at: Span) -> Result<(), OutOfMemory>
+    ensures { OnOk result (code.new ≡ code.old ++ line (i.Load counter) at ∷ line (i.PushInt (pos 1)) at ∷ line (i.Op row_add) at ∷ line (i.Store counter) at ∷ []) }
 {
-    put(code, Instr::Load(counter), at)?;
-    put(code, Instr::PushInt(1), at)?;
-    put(code, Instr::Op(ADD as u16), at)?;
-    put(code, Instr::Store(counter), at)
+    code.put(Instr::Load(counter), at)?;
+    code.put(Instr::PushInt(1), at)?;
+    code.put(Instr::Op(ADD as u16), at)?;
+    code.put(Instr::Store(counter), at)
 }
 
 /// A slot behind another one. Slots have 16 bits.

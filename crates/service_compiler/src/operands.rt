@@ -1,16 +1,15 @@
 //! What statements work on, and what takes it.
 
-ghost use Rattle.std.specs.Prelude.{◌≡◌, ◌<◌, ◌^◌, ◌++◌, length, OnOk};
+ghost use Rattle.std.specs.Prelude.{◌≡◌, ◌++◌, length, OnOk};
 ghost use Rattle.std.specs.Option.{option_map};
 ghost use Rattle.resolved_service.specs.Steps.{step_of};
 ghost use Rattle.resolved_service.specs.View.{tree_of};
 ghost use Rattle.code_scheme.specs.Scheme.{leaves_value, finish_instr, pop_code, maybe_code};
 ghost use Rattle.service_compiler.specs.inner.Operands.{operands_code};
-ghost use Rattle.service_compiler.specs.Wrapped.{wrapped};
 
-use crate::emit::{emit_expr, emit_exprs, put};
+use crate::code::Code;
+use crate::emit::{emit_expr, emit_exprs};
 use crate::texts::Texts;
-use code_scheme::Line;
 use resolved_service::{Action, Expr, Method, Node, Stmt};
 use service_code::Instr;
 use wave_base::{OutOfMemory, Span};
@@ -32,13 +31,12 @@ pub fn leaves(methods: &[Method], expr: &Expr) -> bool
 
 /// The values that a statement works on. One with a block has its own among its jumps.
 pub fn emit_operands(
-    code: &mut Vec<Line>,
+    code: &mut Code,
     methods: &[Method],
     texts: &Texts,
     stmt: &Stmt,
 ) -> Result<(), OutOfMemory>
-    requires { length texts.now < 2 ^ 32 }
-    ensures { OnOk result (code.new.items ≡ code.old.items ++ wrapped (operands_code methods.now texts.now (length code.old.items) (step_of stmt.now))) }
+    ensures { OnOk result (code.new ≡ code.old ++ operands_code methods.now texts.now (length code.old) (step_of stmt.now)) }
 {
     match &stmt.action {
         Action::SetLocal(_, value)
@@ -60,13 +58,12 @@ pub fn emit_operands(
 
 // A value that may be left out.
 fn emit_value(
-    code: &mut Vec<Line>,
+    code: &mut Code,
     methods: &[Method],
     texts: &Texts,
     value: &Option<Expr>,
 ) -> Result<(), OutOfMemory>
-    requires { length texts.now < 2 ^ 32 }
-    ensures { OnOk result (code.new.items ≡ code.old.items ++ wrapped (maybe_code methods.now texts.now (length code.old.items) (option_map tree_of value.now))) }
+    ensures { OnOk result (code.new ≡ code.old ++ maybe_code methods.now texts.now (length code.old) (option_map tree_of value.now)) }
 {
     match value {
         Some(value) => emit_expr(code, methods, texts, value),
@@ -85,11 +82,11 @@ pub fn finish(value: &Option<Expr>) -> Instr
 }
 
 /// Takes away a value that nothing takes.
-pub fn emit_pop(code: &mut Vec<Line>, leaves: bool, at: Span) -> Result<(), OutOfMemory>
-    ensures { OnOk result (code.new.items ≡ code.old.items ++ pop_code leaves at) }
+pub fn emit_pop(code: &mut Code, leaves: bool, at: Span) -> Result<(), OutOfMemory>
+    ensures { OnOk result (code.new ≡ code.old ++ pop_code leaves at) }
 {
     if leaves {
-        put(code, Instr::Pop, at)?;
+        code.put(Instr::Pop, at)?;
     }
     Ok(())
 }

@@ -3,11 +3,10 @@ use denote.Param.Weighed.{most}
 use Rattle.resolved_service.specs.declared.stmt.Stmt.{size-Stmt}
 use Rattle.resolved_service.specs.Steps.{steps_in}
 use Rattle.code_scheme.specs.Scheme.{steps_code}
-use Rattle.service_compiler.specs.Wrapped.{wrapped}
 use Rattle.service_compiler.proofs.statements.+emit_stmt.Given as goal
 
 abbrev pub invariant-emit_stmts-stmts : goal.invariant-emit_stmts-stmts
-invariant-emit_stmts-stmts l = l.code.items ≡ l.initial.code.items ++ wrapped (steps_code l.methods l.texts (length l.initial.code.items) (steps_in (take l.stmt-index l.stmts)))
+invariant-emit_stmts-stmts l = l.code ≡ l.initial.code ++ steps_code l.methods l.texts (length l.initial.code) (steps_in (take l.stmt-index l.stmts))
 
 -- a statement, its blocks, and what leads to them
 abbrev pub decreases-emit_stmt : goal.decreases-emit_stmt
