@@ -12,7 +12,6 @@ use Rattle.code_scheme.specs.declared.line.Line.{Line}
 use Rattle.code_scheme.specs.Scheme.{line, tree_code, steps_code, return_code, reply_code, phases_code, method_code, event_code}
 use Rattle.code_scheme.specs.Texts.{Text}
 use Rattle.service_compiler.specs.inner.Fronts.{phase_code, phases_front, ended_behind}
-use Rattle.service_compiler.specs.Wrapped.{wrapped}
 use Rattle.service_compiler.proofs.Emits.{emits_then, emits_one}
 use Rattle.service_compiler.proofs.Notes.{item_more}
 
@@ -31,22 +30,22 @@ module _ (methods : List Method) (texts : List Text) where
       ∙ sym (append_assoc cg cs (phase_code methods texts (n + length cg + length cs) f))
       ∙ ap (λ m. (cg ++ cs) ++ phase_code methods texts m f) e
 
-  pub phases_next : (fs : List Phase) (k : ℕ) (f : Phase) → k < length fs → f ≡ get_or fs k f → (base c1 c2 : List Line) → c1 ≡ base ++ wrapped (phases_front methods texts (length base) (take k fs)) → c2 ≡ c1 ++ wrapped (phase_code methods texts (length c1) f) →
-      c2 ≡ base ++ wrapped (phases_front methods texts (length base) (take (k + 1) fs))
+  pub phases_next : (fs : List Phase) (k : ℕ) (f : Phase) → k < length fs → f ≡ get_or fs k f → (base c1 c2 : List Line) → c1 ≡ base ++ phases_front methods texts (length base) (take k fs) → c2 ≡ c1 ++ phase_code methods texts (length c1) f →
+      c2 ≡ base ++ phases_front methods texts (length base) (take (k + 1) fs)
   phases_next fs k f lt at base c1 c2 e1 e2 =
       emits_then base c1 c2 (λ n. phases_front methods texts n (take k fs)) (λ n. phase_code methods texts n f) e1 e2
-      ∙ ap (λ l. base ++ wrapped l) (sym (front_push (take k fs) f (length base)) ∙ ap (phases_front methods texts (length base)) (sym (item_more fs k f lt at)))
+      ∙ ap (λ l. base ++ l) (sym (front_push (take k fs) f (length base)) ∙ ap (phases_front methods texts (length base)) (sym (item_more fs k f lt at)))
 
   -- a key, the way down, and the block
-  pub phase_emitted : (base c1 c2 c3 : List Line) (f : Phase) → c1 ≡ base ++ wrapped (tree_code methods texts (length base) (tree_of f.key)) → c2 ≡ c1 ++ line (i.Go f.class) f.at ∷ [] → c3 ≡ c2 ++ wrapped (steps_code methods texts (length c2) (steps_in f.body)) →
-      c3 ≡ base ++ wrapped (phase_code methods texts (length base) f)
+  pub phase_emitted : (base c1 c2 c3 : List Line) (f : Phase) → c1 ≡ base ++ tree_code methods texts (length base) (tree_of f.key) → c2 ≡ c1 ++ line (i.Go f.class) f.at ∷ [] → c3 ≡ c2 ++ steps_code methods texts (length c2) (steps_in f.body) →
+      c3 ≡ base ++ phase_code methods texts (length base) f
   phase_emitted base c1 c2 c3 f e1 e2 e3 =
       let ck = tree_code methods texts (length base) (tree_of f.key) in
       let l = line (i.Go f.class) f.at in
       let e : length base + length (ck ++ l ∷ []) ≡ length base + length ck + 1 = omega (arith, length-append ck (l ∷ [])) in
-      emits_then base c2 c3 (λ n. tree_code methods texts n (tree_of f.key) ++ l ∷ []) (λ n. steps_code methods texts n (steps_in f.body)) (emits_one base c1 c2 (λ n. tree_code methods texts n (tree_of f.key)) l refl e1 e2) e3
-      ∙ ap (λ m. base ++ wrapped ((ck ++ l ∷ []) ++ steps_code methods texts m (steps_in f.body))) e
-      ∙ ap (λ x. base ++ wrapped x) (append_assoc ck (l ∷ []) (steps_code methods texts (length base + length ck + 1) (steps_in f.body)))
+      emits_then base c2 c3 (λ n. tree_code methods texts n (tree_of f.key) ++ l ∷ []) (λ n. steps_code methods texts n (steps_in f.body)) (emits_one base c1 c2 (λ n. tree_code methods texts n (tree_of f.key)) l e1 e2) e3
+      ∙ ap (λ m. base ++ ((ck ++ l ∷ []) ++ steps_code methods texts m (steps_in f.body))) e
+      ∙ ap (λ x. base ++ x) (append_assoc ck (l ∷ []) (steps_code methods texts (length base + length ck + 1) (steps_in f.body)))
 
   -- all phases, and the reply
   whole_front : (fs : List Phase) (ended : Bool) (n : ℕ) (at : Span) (last : Option Last) → phases_front methods texts n fs ++ reply_code methods texts (n + length (phases_front methods texts n fs)) at (ended_behind ended fs) last ≡ phases_code methods texts n ended fs at last
@@ -65,28 +64,28 @@ module _ (methods : List Method) (texts : List Text) where
       ∙ ap (λ x. cf ++ x) (whole_front fs on (n + length cf) at last ∙ ap (λ m. phases_code methods texts m on fs at last) p)
       ∙ append_assoc ck (l ∷ cb) (phases_code methods texts (n + length ck + 1 + length cb) on fs at last)
 
-  pub method_emitted : (c0 c1 c2 : List Line) (m : Method) → c0 ≡ [] → c1 ≡ c0 ++ wrapped (steps_code methods texts (length c0) (steps_in m.body)) → c2 ≡ c1 ++ wrapped (return_code methods texts (length c1) m.at (surely_ends (steps_in m.body)) m.last) → c2 ≡ wrapped (method_code methods texts m)
+  pub method_emitted : (c0 c1 c2 : List Line) (m : Method) → c0 ≡ [] → c1 ≡ c0 ++ steps_code methods texts (length c0) (steps_in m.body) → c2 ≡ c1 ++ return_code methods texts (length c1) m.at (surely_ends (steps_in m.body)) m.last → c2 ≡ method_code methods texts m
   unfolding method_code
   method_emitted c0 c1 c2 m e0 e1 e2 =
       let cb = steps_code methods texts 0 (steps_in m.body) in
       let ended = surely_ends (steps_in m.body) in
-      let e1' : c1 ≡ [] ++ wrapped cb = e1 ∙ ap (λ c. c ++ wrapped (steps_code methods texts (length c) (steps_in m.body))) e0 in
+      let e1' : c1 ≡ [] ++ cb = e1 ∙ ap (λ c. c ++ steps_code methods texts (length c) (steps_in m.body)) e0 in
       let n : 0 + length cb ≡ length cb = omega arith in
       emits_then [] c1 c2 (λ k. cb) (λ k. return_code methods texts k m.at ended m.last) e1' e2
-      ∙ ap (λ k. wrapped (cb ++ return_code methods texts k m.at ended m.last)) n
+      ∙ ap (λ k. cb ++ return_code methods texts k m.at ended m.last) n
 
-  pub event_emitted : (c0 c1 c2 c3 : List Line) (x : Event) → c0 ≡ [] → c1 ≡ c0 ++ wrapped (steps_code methods texts (length c0) (steps_in x.here)) → c2 ≡ c1 ++ wrapped (phases_front methods texts (length c1) x.phases) → c3 ≡ c2 ++ wrapped (reply_code methods texts (length c2) x.at (ended_behind (surely_ends (steps_in x.here)) x.phases) x.last) → c3 ≡ wrapped (event_code methods texts x)
+  pub event_emitted : (c0 c1 c2 c3 : List Line) (x : Event) → c0 ≡ [] → c1 ≡ c0 ++ steps_code methods texts (length c0) (steps_in x.here) → c2 ≡ c1 ++ phases_front methods texts (length c1) x.phases → c3 ≡ c2 ++ reply_code methods texts (length c2) x.at (ended_behind (surely_ends (steps_in x.here)) x.phases) x.last → c3 ≡ event_code methods texts x
   unfolding event_code
   event_emitted c0 c1 c2 c3 x e0 e1 e2 e3 =
       let cb = steps_code methods texts 0 (steps_in x.here) in
       let ended = surely_ends (steps_in x.here) in
-      let e1' : c1 ≡ [] ++ wrapped cb = e1 ∙ ap (λ c. c ++ wrapped (steps_code methods texts (length c) (steps_in x.here))) e0 in
+      let e1' : c1 ≡ [] ++ cb = e1 ∙ ap (λ c. c ++ steps_code methods texts (length c) (steps_in x.here)) e0 in
       let n : 0 + length cb ≡ length cb = omega arith in
-      let e23 : c3 ≡ c1 ++ wrapped (phases_code methods texts (length c1) ended x.phases x.at x.last) =
+      let e23 : c3 ≡ c1 ++ phases_code methods texts (length c1) ended x.phases x.at x.last =
       emits_then c1 c2 c3 (λ k. phases_front methods texts k x.phases) (λ k. reply_code methods texts k x.at (ended_behind ended x.phases) x.last) e2 e3
-      ∙ ap (λ l. c1 ++ wrapped l) (whole_front x.phases ended (length c1) x.at x.last) in
+      ∙ ap (λ l. c1 ++ l) (whole_front x.phases ended (length c1) x.at x.last) in
       emits_then [] c1 c3 (λ k. cb) (λ k. phases_code methods texts k ended x.phases x.at x.last) e1' e23
-      ∙ ap (λ k. wrapped (cb ++ phases_code methods texts k ended x.phases x.at x.last)) n
+      ∙ ap (λ k. cb ++ phases_code methods texts k ended x.phases x.at x.last) n
 
 -- the last phase tells
 pub last_tells : (fs : List Phase) (n : ℕ) (f : Phase) (ended : Bool) → length fs ≡ suc n → f ≡ get_or fs n f → surely_ends (steps_in f.body) ≡ ended_behind ended fs

@@ -1,7 +1,6 @@
 -- Heights of stacks: counted up to 65,535, of items one after the other, and never above the length of the code.
-use Rattle.std.proofs.Common.{◌≡◌, ℕ, suc, ◌+◌, ◌-◌, ◌^◌, ◌<◌, ◌≤◌, max, min, List, [], ◌∷◌, ◌++◌, length, map, take, get_or, Option, Some, None, Bool, true, false, ap, ◌∙◌, arith, length-append}
+use Rattle.std.proofs.Common.{◌≡◌, ℕ, suc, ◌+◌, ◌-◌, ◌^◌, ◌<◌, ◌≤◌, max, min, List, [], ◌∷◌, ◌++◌, length, map, take, get_or, Option, Some, None, Bool, true, false, ap, arith}
 use Rattle.std.proofs.lemmas.List.{length-take}
-use Rattle.wave_base.specs.declared.span.Span.{Span}
 use Rattle.resolved_service.specs.declared.expr.Expr.{Expr}
 use Rattle.resolved_service.specs.declared.service.Event.{Event}
 use Rattle.resolved_service.specs.declared.service.Last.{Last}
@@ -9,60 +8,13 @@ use Rattle.resolved_service.specs.declared.service.Method.{Method}
 use Rattle.resolved_service.specs.declared.service.Phase.{Phase}
 use Rattle.resolved_service.specs.Steps.{Step, SetLocal, SetField, PutLocal, PutField, CutLocal, CutField, If, While, For, Require, Send, Spawn, Do, Return, Finish, Steps, no_steps, step, Else, no_else, otherwise, steps_in, surely_ends}
 use Rattle.resolved_service.specs.View.{Tree, Const, Local, Field, Above, Op, And, Or, Call, Child, Trees, no_trees, tree, tree_of, trees_of}
-use Rattle.service_code.specs.declared.instr.Instr.TheVariants as i
-use Rattle.code_scheme.specs.declared.line.Line.{Line}
 use Rattle.code_scheme.specs.Heights.{one_if, tree_height, trees_height, maybe_height, step_height, steps_height, else_height, last_height, method_height, phases_height, event_height}
-use Rattle.code_scheme.specs.Scheme.{line, leaves_value, finish_instr, behind, pop_code, test_then, two_code, and_code, or_code, if_code, else_code, test_code, turn_code, while_code, loop_at, block_at, tree_code, trees_code, maybe_code, step_code, steps_code, return_code, reply_code, phases_code, method_code, event_code}
-use Rattle.code_scheme.specs.Texts.{Text, place_of_text}
+use Rattle.code_scheme.specs.Scheme.{leaves_value, method_code, event_code}
+use Rattle.code_scheme.specs.Texts.{Text}
+use Rattle.service_compiler.specs.inner.Fronts.{ended_behind}
+use Rattle.service_compiler.specs.inner.Lengths.{tree_length, trees_length, maybe_length, unless, step_length, steps_length, else_length, end_length, phases_length}
+use Rattle.service_compiler.proofs.LengthLemmas.{method_counted, event_counted}
 use Rattle.service_compiler.proofs.Notes.{item_more}
-
--- ---- how long pieces of code are
-
-one_long : (a : List Line) (l : Line) → length (a ++ l ∷ []) ≡ length a + 1
-one_long a l = length-append a (l ∷ [])
-
-and_long : (n : ℕ) (at : Span) (ca cb : List Line) → length (and_code n at ca cb) ≡ length ca + suc (length cb + 2)
-and_long n at ca cb = length-append ca _ ∙ ap (λ k. length ca + suc k) (length-append cb _)
-
-or_long : (n : ℕ) (at : Span) (ca cb : List Line) → length (or_code n at ca cb) ≡ length ca + suc (suc (suc (length cb)))
-or_long n at ca cb = length-append ca _
-
-if_long : (n : ℕ) (at : Span) (ct ca : List Line) → length (if_code n at ct ca) ≡ length ct + suc (length ca)
-if_long n at ct ca = length-append ct _
-
-else_long : (n : ℕ) (at : Span) (ct : List Line) (ended : Bool) (ca cb : List Line) → length ct + length ca + length cb ≤ length (else_code n at ct ended ca cb)
-else_long n at ct true ca cb =
-    let e : length (else_code n at ct true ca cb) ≡ length ct + suc (length ca + length cb) = length-append ct _ ∙ ap (λ k. length ct + suc k) (length-append ca cb) in
-    omega (arith, e)
-else_long n at ct false ca cb =
-    let e : length (else_code n at ct false ca cb) ≡ length ct + suc (length ca + suc (length cb)) = length-append ct _ ∙ ap (λ k. length ct + suc k) (length-append ca _) in
-    omega (arith, e)
-
-while_long : (n : ℕ) (at : Span) (ct : List Line) (ended : Bool) (ca : List Line) → length ct + length ca ≤ length (while_code n at ct ended ca)
-while_long n at ct true ca =
-    let e : length (while_code n at ct true ca) ≡ length ct + suc (suc (length ca)) = length-append ct _ in
-    omega (arith, e)
-while_long n at ct false ca =
-    let e : length (while_code n at ct false ca) ≡ length ct + suc (suc (length ca + 1)) = length-append ct _ ∙ ap (λ k. length ct + suc (suc k)) (length-append ca _) in
-    omega (arith, e)
-
-turn_long : (counter : ℕ) (at : Span) (ended : Bool) (cb : List Line) → length cb + 2 ≤ length (turn_code counter at ended cb)
-turn_long counter at true cb = omega arith
-turn_long counter at false cb =
-    let e : length (turn_code counter at false cb) ≡ suc (suc (length cb + 4)) = ap (λ k. suc (suc k)) (length-append cb _) in
-    omega (arith, e)
-
-two_long : (a b : List Line) (l : Line) → length (a ++ (b ++ l ∷ [])) ≡ length a + (length b + 1)
-two_long a b l = length-append a _ ∙ ap (λ k. length a + k) (length-append b _)
-
-three_long : (a b : List Line) (l m : Line) → length (a ++ (b ++ l ∷ m ∷ [])) ≡ length a + (length b + 2)
-three_long a b l m = length-append a _ ∙ ap (λ k. length a + k) (length-append b _)
-
-line_long : (a b : List Line) (l : Line) → length (a ++ l ∷ b) ≡ length a + suc (length b)
-line_long a b l = length-append a _
-
-phase_long : (a b c : List Line) (l : Line) → length (a ++ l ∷ (b ++ c)) ≡ length a + suc (length b + length c)
-phase_long a b c l = length-append a _ ∙ ap (λ k. length a + suc k) (length-append b c)
 
 -- ---- no code is shorter than its stack is high
 
@@ -70,148 +22,80 @@ most_one : (b : Bool) → one_if b ≤ 1
 most_one true = omega arith
 most_one false = omega arith
 
-module _ (methods : List Method) (texts : List Text) where
-  tree_some : (t : Tree) (n : ℕ) → 0 < length (tree_code methods texts n t)
-  tree_some (Const at v) n = omega arith
-  tree_some (Local at s) n = omega arith
-  tree_some (Field at f) n = omega arith
-  tree_some (Above at l f) n = omega arith
-  tree_some (Op at row args) n = omega (arith, one_long (trees_code methods texts n args) (line (i.Op row) at))
-  tree_some (And at a b) n =
-      let ca = tree_code methods texts n a in
-      omega (arith, and_long n at ca (tree_code methods texts (n + length ca + 1) b))
-  tree_some (Or at a b) n =
-      let ca = tree_code methods texts n a in
-      omega (arith, or_long n at ca (tree_code methods texts (n + length ca + 3) b))
-  tree_some (Call at m args) n = omega (arith, length-append (trees_code methods texts n args) (line i.Tick at ∷ line (i.Call m) at ∷ []))
-  tree_some (Child at c m key args) n =
-      let ck = tree_code methods texts n key in
-      omega (arith, three_long ck (trees_code methods texts (n + length ck) args) (line i.Tick at) (line (i.CallDown (record { 0 = c }) m) at))
+tree_some : (t : Tree) → 0 < tree_length t
+tree_some (Const at v) = omega arith
+tree_some (Local at s) = omega arith
+tree_some (Field at f) = omega arith
+tree_some (Above at l f) = omega arith
+tree_some (Op at row args) = omega arith
+tree_some (And at a b) = omega arith
+tree_some (Or at a b) = omega arith
+tree_some (Call at m args) = omega arith
+tree_some (Child at c m key args) = omega arith
+
+module _ (methods : List Method) where
+  mutual
+    tree_within : (t : Tree) → tree_height methods t ≤ tree_length t
+    tree_within (Const at v) = omega arith
+    tree_within (Local at s) = omega arith
+    tree_within (Field at f) = omega arith
+    tree_within (Above at l f) = omega arith
+    tree_within (Op at row args) = omega (arith, trees_within args)
+    tree_within (And at a b) = omega (arith, tree_within a, tree_within b)
+    tree_within (Or at a b) = omega (arith, tree_within a, tree_within b)
+    tree_within (Call at m args) = omega (arith, trees_within args, most_one (leaves_value methods (Call at m args)))
+    tree_within (Child at c m key args) = omega (arith, tree_within key, tree_some key, trees_within args, most_one (leaves_value methods (Child at c m key args)))
+
+    trees_within : (ts : Trees) → trees_height methods ts ≤ trees_length ts
+    trees_within no_trees = omega arith
+    trees_within (tree t ts) = omega (arith, tree_within t, tree_some t, trees_within ts)
+
+  maybe_within : (e : Option Tree) → maybe_height methods e ≤ maybe_length e
+  maybe_within None = omega arith
+  maybe_within (Some e) = tree_within e
 
   mutual
-    tree_within : (t : Tree) (n : ℕ) → tree_height methods t ≤ length (tree_code methods texts n t)
-    tree_within (Const at v) n = omega arith
-    tree_within (Local at s) n = omega arith
-    tree_within (Field at f) n = omega arith
-    tree_within (Above at l f) n = omega arith
-    tree_within (Op at row args) n = omega (arith, one_long (trees_code methods texts n args) (line (i.Op row) at), trees_within args n)
-    tree_within (And at a b) n =
-        let ca = tree_code methods texts n a in
-        let m = n + length ca + 1 in
-        omega (arith, and_long n at ca (tree_code methods texts m b), tree_within a n, tree_within b m)
-    tree_within (Or at a b) n =
-        let ca = tree_code methods texts n a in
-        let m = n + length ca + 3 in
-        omega (arith, or_long n at ca (tree_code methods texts m b), tree_within a n, tree_within b m)
-    tree_within (Call at m args) n = omega (arith, length-append (trees_code methods texts n args) (line i.Tick at ∷ line (i.Call m) at ∷ []), trees_within args n, most_one (leaves_value methods (Call at m args)))
-    tree_within (Child at c m key args) n =
-        let ck = tree_code methods texts n key in
-        let k = n + length ck in
-        omega (arith, three_long ck (trees_code methods texts k args) (line i.Tick at) (line (i.CallDown (record { 0 = c }) m) at), tree_within key n, tree_some key n, trees_within args k, most_one (leaves_value methods (Child at c m key args)))
+    step_within : (s : Step) → step_height methods s ≤ step_length methods s
+    step_within (SetLocal at slot e) = omega (arith, tree_within e)
+    step_within (SetField at f e) = omega (arith, tree_within e)
+    step_within (PutLocal at slot k e) = omega (arith, tree_within k, tree_some k, tree_within e)
+    step_within (PutField at f k e) = omega (arith, tree_within k, tree_some k, tree_within e)
+    step_within (CutLocal at slot k) = omega (arith, tree_within k)
+    step_within (CutField at f k) = omega (arith, tree_within k)
+    step_within (If at test body other) = omega (arith, tree_within test, steps_within body, else_within (surely_ends body) other)
+    step_within (While at test body) = omega (arith, tree_within test, steps_within body)
+    step_within (For at counter from to body) = omega (arith, tree_within from, tree_within to, steps_within body)
+    step_within (Require at e) = omega (arith, tree_within e)
+    step_within (Send at label e) = omega (arith, tree_within e)
+    step_within (Spawn at event args) = omega (arith, trees_within args)
+    step_within (Do at e) = omega (arith, tree_within e)
+    step_within (Return at e) = omega (arith, maybe_within e)
+    step_within (Finish at e) = omega (arith, maybe_within e)
 
-    trees_within : (ts : Trees) (n : ℕ) → trees_height methods ts ≤ length (trees_code methods texts n ts)
-    trees_within no_trees n = omega arith
-    trees_within (tree t ts) n =
-        let ct = tree_code methods texts n t in
-        omega (arith, length-append ct (trees_code methods texts (n + length ct) ts), tree_within t n, tree_some t n, trees_within ts (n + length ct))
+    steps_within : (ss : Steps) → steps_height methods ss ≤ steps_length methods ss
+    steps_within no_steps = omega arith
+    steps_within (step s ss) = omega (arith, step_within s, steps_within ss)
 
-  two_within : (k e : Tree) (n : ℕ) (l : Line) → max (tree_height methods k) (suc (tree_height methods e)) ≤ length (two_code methods texts n k e l)
-  two_within k e n l =
-      let ck = tree_code methods texts n k in
-      let m = n + length ck in
-      omega (arith, two_long ck (tree_code methods texts m e) l, tree_within k n, tree_some k n, tree_within e m)
+    else_within : (ended : Bool) (other : Else) → else_height methods other ≤ else_length methods ended other
+    else_within ended no_else = omega arith
+    else_within ended (otherwise ss) = omega (arith, steps_within ss)
 
-  maybe_within : (e : Option Tree) (n : ℕ) → maybe_height methods e ≤ length (maybe_code methods texts n e)
-  maybe_within None n = omega arith
-  maybe_within (Some e) n = tree_within e n
+  last_within : (ended : Bool) (last : Option Last) → last_height methods last ≤ end_length ended last
+  last_within ended None = omega arith
+  last_within ended (Some last) = omega (arith, tree_within (tree_of last.value))
 
-  mutual
-    step_within : (s : Step) (n : ℕ) → step_height methods s ≤ length (step_code methods texts n s)
-    step_within (SetLocal at slot e) n = omega (arith, one_long (tree_code methods texts n e) (line (i.Store slot) at), tree_within e n)
-    step_within (SetField at f e) n = omega (arith, one_long (tree_code methods texts n e) (line (i.SetField f) at), tree_within e n)
-    step_within (PutLocal at slot k e) n = two_within k e n (line (i.PutLocal slot) at)
-    step_within (PutField at f k e) n = two_within k e n (line (i.PutField f) at)
-    step_within (CutLocal at slot k) n = omega (arith, one_long (tree_code methods texts n k) (line (i.CutLocal slot) at), tree_within k n)
-    step_within (CutField at f k) n = omega (arith, one_long (tree_code methods texts n k) (line (i.CutField f) at), tree_within k n)
-    step_within (If at test body other) n =
-        let ct = tree_code methods texts n test in
-        let m = n + length ct + 1 in
-        then_within at ct (tree_height methods test) (tree_within test n) (surely_ends body) (steps_code methods texts m body) (steps_height methods body) (steps_within body m) other n
-    step_within (While at test body) n =
-        let ct = tree_code methods texts n test in
-        let m = n + length ct + 1 + 1 in
-        omega (arith, while_long n at ct (surely_ends body) (steps_code methods texts m body), tree_within test n, steps_within body m)
-    step_within (For at counter from to body) n =
-        let cf = tree_code methods texts n from in
-        let m = n + length cf + 1 in
-        let ct = tree_code methods texts m to in
-        let w = loop_at n (length cf) (length ct) in
-        let cb = steps_code methods texts (block_at w) body in
-        let ended = surely_ends body in
-        let cw = while_code w at (test_code counter at) ended (turn_code counter at ended cb) in
-        omega (
-          arith,
-          line_long cf (ct ++ line (i.Store (counter + 1)) at ∷ cw) (line (i.Store counter) at),
-          line_long ct cw (line (i.Store (counter + 1)) at),
-          while_long w at (test_code counter at) ended (turn_code counter at ended cb),
-          turn_long counter at ended cb,
-          tree_within from n,
-          tree_within to m,
-          steps_within body (block_at w),
-        )
-    step_within (Require at e) n = omega (arith, one_long (tree_code methods texts n e) (line i.Require at), tree_within e n)
-    step_within (Send at label e) n = omega (arith, one_long (tree_code methods texts n e) (line (i.Send (place_of_text texts label)) at), tree_within e n)
-    step_within (Spawn at event args) n = omega (arith, one_long (trees_code methods texts n args) (line (i.Spawn event) at), trees_within args n)
-    step_within (Do at e) n = omega (arith, length-append (tree_code methods texts n e) (pop_code (leaves_value methods e) at), tree_within e n)
-    step_within (Return at e) n = omega (arith, one_long (maybe_code methods texts n e) (line i.Return at), maybe_within e n)
-    step_within (Finish at e) n = omega (arith, one_long (maybe_code methods texts n e) (line (finish_instr e) at), maybe_within e n)
+  phases_within : (fs : List Phase) → phases_height methods fs ≤ phases_length methods fs
+  phases_within [] = omega arith
+  phases_within (f ∷ fs) = omega (arith, tree_within (tree_of f.key), steps_within (steps_in f.body), phases_within fs)
 
-    steps_within : (ss : Steps) (n : ℕ) → steps_height methods ss ≤ length (steps_code methods texts n ss)
-    steps_within no_steps n = omega arith
-    steps_within (step s ss) n =
-        let cs = step_code methods texts n s in
-        omega (arith, length-append cs (steps_code methods texts (n + length cs) ss), step_within s n, steps_within ss (n + length cs))
+  pub method_within : (texts : List Text) (m : Method) → method_height methods m ≤ length (method_code methods texts m)
+  unfolding method_height
+  method_within texts m = omega (arith, method_counted methods texts m, steps_within (steps_in m.body), last_within (surely_ends (steps_in m.body)) m.last)
 
-    then_within : (at : Span) (ct : List Line) (h : ℕ) → h ≤ length ct → (ended : Bool) (ca : List Line) (k : ℕ) → k ≤ length ca → (other : Else) (n : ℕ) → max h (max k (else_height methods other)) ≤ length (test_then methods texts n at ct ended ca other)
-    then_within at ct h ht ended ca k ha no_else n = omega (arith, if_long n at ct ca, ht, ha)
-    then_within at ct h ht ended ca k ha (otherwise ss) n =
-        let m = behind ended (n + length ct + 1 + length ca) in
-        omega (arith, else_long n at ct ended ca (steps_code methods texts m ss), ht, ha, steps_within ss m)
-
-  last_within : (ended : Bool) (last : Option Last) (at : Span) (n : ℕ) → last_height methods last ≤ length (return_code methods texts n at ended last)
-  last_within true None at n = omega arith
-  last_within false None at n = omega arith
-  last_within true (Some last) at n = omega (arith, one_long (tree_code methods texts n (tree_of last.value)) (line i.Return last.at), tree_within (tree_of last.value) n)
-  last_within false (Some last) at n = omega (arith, one_long (tree_code methods texts n (tree_of last.value)) (line i.Return last.at), tree_within (tree_of last.value) n)
-
-  reply_within : (ended : Bool) (last : Option Last) (at : Span) (n : ℕ) → last_height methods last ≤ length (reply_code methods texts n at ended last)
-  reply_within true None at n = omega arith
-  reply_within false None at n = omega arith
-  reply_within true (Some last) at n = omega (arith, one_long (tree_code methods texts n (tree_of last.value)) (line i.Reply last.at), tree_within (tree_of last.value) n)
-  reply_within false (Some last) at n = omega (arith, one_long (tree_code methods texts n (tree_of last.value)) (line i.Reply last.at), tree_within (tree_of last.value) n)
-
-  phases_within : (ended : Bool) (fs : List Phase) (at : Span) (last : Option Last) (n : ℕ) → max (phases_height methods fs) (last_height methods last) ≤ length (phases_code methods texts n ended fs at last)
-  phases_within ended [] at last n = omega (arith, reply_within ended last at n)
-  phases_within ended (f ∷ fs) at last n =
-      let ck = tree_code methods texts n (tree_of f.key) in
-      let m = n + length ck + 1 in
-      let cb = steps_code methods texts m (steps_in f.body) in
-      let on = surely_ends (steps_in f.body) in
-      omega (arith, phase_long ck cb (phases_code methods texts (m + length cb) on fs at last) (line (i.Go f.class) f.at), tree_within (tree_of f.key) n, steps_within (steps_in f.body) m, phases_within on fs at last (m + length cb))
-
-  pub method_within : (m : Method) → method_height methods m ≤ length (method_code methods texts m)
-  unfolding method_height method_code
-  method_within m =
-      let cb = steps_code methods texts 0 (steps_in m.body) in
-      let ended = surely_ends (steps_in m.body) in
-      omega (arith, length-append cb (return_code methods texts (length cb) m.at ended m.last), steps_within (steps_in m.body) 0, last_within ended m.last m.at (length cb))
-
-  pub event_within : (e : Event) → event_height methods e ≤ length (event_code methods texts e)
-  unfolding event_height event_code
-  event_within e =
-      let cb = steps_code methods texts 0 (steps_in e.here) in
-      let ended = surely_ends (steps_in e.here) in
-      omega (arith, length-append cb (phases_code methods texts (length cb) ended e.phases e.at e.last), steps_within (steps_in e.here) 0, phases_within ended e.phases e.at e.last (length cb))
+  pub event_within : (texts : List Text) (e : Event) → event_height methods e ≤ length (event_code methods texts e)
+  unfolding event_height
+  event_within texts e =
+      omega (arith, event_counted methods texts e, steps_within (steps_in e.here), phases_within e.phases, last_within (ended_behind (surely_ends (steps_in e.here)) e.phases) e.last)
 
 -- ---- what passes 65,535 counts as that
 

@@ -3,8 +3,8 @@ pub mod TreeRows
 pub mod Notes
 pub mod Emits
 pub mod Patches
-pub mod Wrapping
 pub mod Fronting
+pub mod LengthLemmas
 pub mod HeightLemmas
 pub mod FunctionLists
 pub mod Listed

@@ -1,5 +1,5 @@
 -- Jumps of statements, written after what they pass.
-use Rattle.std.proofs.Common.{◌≡◌, ℕ, zero, suc, ◌+◌, ◌<◌, pos, Bool, true, false, List, [], ◌∷◌, ◌++◌, length, take, get_or, refl, sym, ap, ap₂, ◌∙◌, arith, append_assoc, length-append}
+use Rattle.std.proofs.Common.{◌≡◌, ℕ, ◌+◌, ◌<◌, pos, Bool, true, false, List, [], ◌∷◌, ◌++◌, length, take, get_or, refl, sym, ap, ap₂, ◌∙◌, arith, append_assoc, length-append}
 use Rattle.std.specs.Prelude.{slice_set}
 use Rattle.std.proofs.Math.Seq.{set-append_seam}
 use Rattle.std.proofs.lemmas.List.{append-nil}
@@ -13,144 +13,100 @@ use Rattle.code_scheme.specs.declared.line.Line.{Line}
 use Rattle.code_scheme.specs.Scheme.{line, if_code, else_code, while_code, turn_code, loop_at, step_code, steps_code}
 use Rattle.code_scheme.specs.Texts.{Text}
 use Rattle.service_compiler.specs.inner.Fronts.{back_code}
-use Rattle.service_compiler.specs.Wrapped.{wrap, wrap_line, wrapped}
-use Rattle.service_compiler.proofs.Emits.{wrapped-append, wrapped-length, long_after, emits_then}
+use Rattle.service_compiler.proofs.Emits.{long_after, emits_then}
 use Rattle.service_compiler.proofs.Notes.{item_more}
 
-set_long : (xs : List Line) (n : ℕ) (y : Line) → length (slice_set xs n y) ≡ length xs
-set_long [] n y = refl
-set_long (x ∷ xs) zero y = refl
-set_long (x ∷ xs) (suc n) y = ap suc (set_long xs n y)
-
-pub if_emitted : (base c1 c2 c3 : List Line) (ct : List Line) (ca : ℕ → List Line) (x : Line) (at : Span) (test end : ℕ) → c1 ≡ base ++ wrapped ct → test ≡ length c1 → c2 ≡ c1 ++ x ∷ [] → c3 ≡ c2 ++ wrapped (ca (length c2)) → end ≡ length c3 →
-    slice_set c3 test (line (i.JumpFalse (wrap end)) at) ≡ base ++ wrapped (if_code (length base) at ct (ca (length base + length ct + 1)))
+pub if_emitted : (base c1 c2 c3 : List Line) (ct : List Line) (ca : ℕ → List Line) (x : Line) (at : Span) (test end : ℕ) → c1 ≡ base ++ ct → test ≡ length c1 → c2 ≡ c1 ++ x ∷ [] → c3 ≡ c2 ++ ca (length c2) → end ≡ length c3 →
+    slice_set c3 test (line (i.JumpFalse end) at) ≡ base ++ if_code (length base) at ct (ca (length base + length ct + 1))
 if_emitted base c1 c2 c3 ct ca x at test end e1 m1 e2 e3 m3 =
     let n = length base in
     let l1 = long_after base c1 ct e1 in
     let l2 : length c2 ≡ n + length ct + 1 = omega (arith, ap length e2, length-append c1 (x ∷ []), l1) in
     let b = ca (n + length ct + 1) in
-    let e3' : c3 ≡ c2 ++ wrapped b = e3 ∙ ap (λ k. c2 ++ wrapped (ca k)) l2 in
+    let e3' : c3 ≡ c2 ++ b = e3 ∙ ap (λ k. c2 ++ ca k) l2 in
     let l3 = long_after c2 c3 b e3' in
     let s : end ≡ n + length ct + 1 + length b = omega (arith, m3, l3, l2) in
-    let all : c3 ≡ c1 ++ x ∷ wrapped b = e3' ∙ ap (λ c. c ++ wrapped b) e2 ∙ append_assoc c1 (x ∷ []) (wrapped b) in
-    ap₂ (λ c k. slice_set c k (line (i.JumpFalse (wrap end)) at)) all m1
-    ∙ set-append_seam c1 x (wrapped b) (line (i.JumpFalse (wrap end)) at)
-    ∙ (λ j. e1 j ++ line (i.JumpFalse (wrap (s j))) at ∷ wrapped b)
-    ∙ append_assoc base (wrapped ct) (line (i.JumpFalse (wrap (n + length ct + 1 + length b))) at ∷ wrapped b)
-    ∙ ap (λ l. base ++ l) (sym (wrapped-append ct (line (i.JumpFalse (n + length ct + 1 + length b)) at ∷ b)))
+    let all : c3 ≡ c1 ++ x ∷ b = e3' ∙ ap (λ c. c ++ b) e2 ∙ append_assoc c1 (x ∷ []) b in
+    ap₂ (λ c k. slice_set c k (line (i.JumpFalse end) at)) all m1
+    ∙ set-append_seam c1 x b (line (i.JumpFalse end) at)
+    ∙ (λ j. e1 j ++ line (i.JumpFalse (s j)) at ∷ b)
+    ∙ append_assoc base ct _
 
-pub else_emitted : (base c1 c2 c3 c4 c5 : List Line) (ct : List Line) (ca cb : ℕ → List Line) (x y : Line) (at : Span) (test skip end : ℕ) → c1 ≡ base ++ wrapped ct → test ≡ length c1 → c2 ≡ c1 ++ x ∷ [] → c3 ≡ c2 ++ wrapped (ca (length c2)) → skip ≡ length c3 → c4 ≡ c3 ++ y ∷ [] → c5 ≡ c4 ++ wrapped (cb (length c4)) → end ≡ length c5 →
-    slice_set (slice_set c5 test (line (i.JumpFalse (wrap (skip + 1))) at)) skip (line (i.Jump (wrap end)) at) ≡ base ++ wrapped (else_code (length base) at ct false (ca (length base + length ct + 1)) (cb (length base + length ct + 1 + length (ca (length base + length ct + 1)) + 1)))
-else_emitted base c1 c2 c3 c4 c5 ct ca cb x y at test skip end e1 m1 e2 e3 m3 e4 e5 m5 =
-    let n = length base in
-    let l1 = long_after base c1 ct e1 in
-    let l2 : length c2 ≡ n + length ct + 1 = omega (arith, ap length e2, length-append c1 (x ∷ []), l1) in
-    let a = ca (n + length ct + 1) in
-    let e3' : c3 ≡ c2 ++ wrapped a = e3 ∙ ap (λ k. c2 ++ wrapped (ca k)) l2 in
-    let l3 = long_after c2 c3 a e3' in
-    let l4 : length c4 ≡ n + length ct + 1 + length a + 1 = omega (arith, ap length e4, length-append c3 (y ∷ []), l3, l2) in
-    let b = cb (n + length ct + 1 + length a + 1) in
-    let e5' : c5 ≡ c4 ++ wrapped b = e5 ∙ ap (λ k. c4 ++ wrapped (cb k)) l4 in
-    let l5 = long_after c4 c5 b e5' in
-    let j1 = line (i.JumpFalse (wrap (skip + 1))) at in
-    let j2 = line (i.Jump (wrap end)) at in
-    let s1 : skip + 1 ≡ n + length ct + 1 + length a + 1 = omega (arith, m3, l3, l2) in
-    let s2 : end ≡ n + length ct + 1 + length a + 1 + length b = omega (arith, m5, l5, l4) in
-    let all : c5 ≡ c1 ++ x ∷ (wrapped a ++ y ∷ wrapped b) =
-    e5' ∙ ap (λ c. c ++ wrapped b) (e4 ∙ ap (λ c. c ++ y ∷ []) (e3' ∙ ap (λ c. c ++ wrapped a) e2))
-    ∙ append_assoc ((c1 ++ x ∷ []) ++ wrapped a) (y ∷ []) (wrapped b)
-    ∙ append_assoc (c1 ++ x ∷ []) (wrapped a) (y ∷ wrapped b)
-    ∙ append_assoc c1 (x ∷ []) (wrapped a ++ y ∷ wrapped b) in
-    let k : skip ≡ length (c1 ++ j1 ∷ wrapped a) = omega (arith, m3, l3, l2, l1, length-append c1 (j1 ∷ wrapped a), wrapped-length a) in
-    ap (λ c. slice_set c skip j2) (ap₂ (λ c k. slice_set c k j1) all m1 ∙ set-append_seam c1 x (wrapped a ++ y ∷ wrapped b) j1 ∙ sym (append_assoc c1 (j1 ∷ wrapped a) (y ∷ wrapped b)))
-    ∙ ap (λ k. slice_set ((c1 ++ j1 ∷ wrapped a) ++ y ∷ wrapped b) k j2) k
-    ∙ set-append_seam (c1 ++ j1 ∷ wrapped a) y (wrapped b) j2
-    ∙ append_assoc c1 (j1 ∷ wrapped a) (j2 ∷ wrapped b)
-    ∙ (λ j. e1 j ++ line (i.JumpFalse (wrap (s1 j))) at ∷ (wrapped a ++ line (i.Jump (wrap (s2 j))) at ∷ wrapped b))
-    ∙ append_assoc base (wrapped ct) _
-    ∙ ap (λ l. base ++ (wrapped ct ++ line (i.JumpFalse (wrap (n + length ct + 1 + length a + 1))) at ∷ l)) (sym (wrapped-append a (line (i.Jump (n + length ct + 1 + length a + 1 + length b)) at ∷ b)))
-    ∙ ap (λ l. base ++ l) (sym (wrapped-append ct (line (i.JumpFalse (n + length ct + 1 + length a + 1)) at ∷ (a ++ line (i.Jump (n + length ct + 1 + length a + 1 + length b)) at ∷ b))))
-
--- the same, where the first block surely ends
-pub ended_emitted : (base c1 c2 c3 c4 : List Line) (ct : List Line) (ca cb : ℕ → List Line) (x : Line) (at : Span) (test skip : ℕ) → c1 ≡ base ++ wrapped ct → test ≡ length c1 → c2 ≡ c1 ++ x ∷ [] → c3 ≡ c2 ++ wrapped (ca (length c2)) → skip ≡ length c3 → c4 ≡ c3 ++ wrapped (cb (length c3)) →
-    slice_set c4 test (line (i.JumpFalse (wrap skip)) at) ≡ base ++ wrapped (else_code (length base) at ct true (ca (length base + length ct + 1)) (cb (length base + length ct + 1 + length (ca (length base + length ct + 1)))))
+-- a choice of two blocks, where the first surely ends
+pub ended_emitted : (base c1 c2 c3 c4 : List Line) (ct : List Line) (ca cb : ℕ → List Line) (x : Line) (at : Span) (test skip : ℕ) → c1 ≡ base ++ ct → test ≡ length c1 → c2 ≡ c1 ++ x ∷ [] → c3 ≡ c2 ++ ca (length c2) → skip ≡ length c3 → c4 ≡ c3 ++ cb (length c3) →
+    slice_set c4 test (line (i.JumpFalse skip) at) ≡ base ++ else_code (length base) at ct true (ca (length base + length ct + 1)) (cb (length base + length ct + 1 + length (ca (length base + length ct + 1))))
 ended_emitted base c1 c2 c3 c4 ct ca cb x at test skip e1 m1 e2 e3 m3 e4 =
     let n = length base in
     let l1 = long_after base c1 ct e1 in
     let l2 : length c2 ≡ n + length ct + 1 = omega (arith, ap length e2, length-append c1 (x ∷ []), l1) in
     let a = ca (n + length ct + 1) in
-    let e3' : c3 ≡ c2 ++ wrapped a = e3 ∙ ap (λ k. c2 ++ wrapped (ca k)) l2 in
+    let e3' : c3 ≡ c2 ++ a = e3 ∙ ap (λ k. c2 ++ ca k) l2 in
     let l3 : length c3 ≡ n + length ct + 1 + length a = omega (arith, long_after c2 c3 a e3', l2) in
     let b = cb (n + length ct + 1 + length a) in
-    let e4' : c4 ≡ c3 ++ wrapped b = e4 ∙ ap (λ k. c3 ++ wrapped (cb k)) l3 in
-    let j1 = line (i.JumpFalse (wrap skip)) at in
+    let e4' : c4 ≡ c3 ++ b = e4 ∙ ap (λ k. c3 ++ cb k) l3 in
+    let j1 = line (i.JumpFalse skip) at in
     let s : skip ≡ n + length ct + 1 + length a = m3 ∙ l3 in
-    let all : c4 ≡ c1 ++ x ∷ (wrapped a ++ wrapped b) =
-    e4' ∙ ap (λ c. c ++ wrapped b) (e3' ∙ ap (λ c. c ++ wrapped a) e2)
-    ∙ append_assoc (c1 ++ x ∷ []) (wrapped a) (wrapped b)
-    ∙ append_assoc c1 (x ∷ []) (wrapped a ++ wrapped b) in
+    let all : c4 ≡ c1 ++ x ∷ (a ++ b) =
+    e4' ∙ ap (λ c. c ++ b) (e3' ∙ ap (λ c. c ++ a) e2)
+    ∙ append_assoc (c1 ++ x ∷ []) a b
+    ∙ append_assoc c1 (x ∷ []) (a ++ b) in
     ap₂ (λ c k. slice_set c k j1) all m1
-    ∙ set-append_seam c1 x (wrapped a ++ wrapped b) j1
-    ∙ (λ j. e1 j ++ line (i.JumpFalse (wrap (s j))) at ∷ (wrapped a ++ wrapped b))
-    ∙ append_assoc base (wrapped ct) _
-    ∙ ap (λ l. base ++ (wrapped ct ++ line (i.JumpFalse (wrap (n + length ct + 1 + length a))) at ∷ l)) (sym (wrapped-append a b))
-    ∙ ap (λ l. base ++ l) (sym (wrapped-append ct (line (i.JumpFalse (n + length ct + 1 + length a)) at ∷ (a ++ b))))
+    ∙ set-append_seam c1 x (a ++ b) j1
+    ∙ (λ j. e1 j ++ line (i.JumpFalse (s j)) at ∷ (a ++ b))
+    ∙ append_assoc base ct _
 
-going_emitted : (base c1 c2 c3 c4 c5 : List Line) (ct : List Line) (ca : ℕ → List Line) (x : Line) (at : Span) (start test end : ℕ) → start ≡ length base → c1 ≡ base ++ wrapped ct → test ≡ length c1 → c2 ≡ c1 ++ x ∷ [] → c3 ≡ c2 ++ line i.Tick at ∷ [] → c4 ≡ c3 ++ wrapped (ca (length c3)) → c5 ≡ c4 ++ line (i.Jump (wrap start)) at ∷ [] → end ≡ length c5 →
-    slice_set c5 test (line (i.JumpFalse (wrap end)) at) ≡ base ++ wrapped (while_code (length base) at ct false (ca (length base + length ct + 1 + 1)))
+going_emitted : (base c1 c2 c3 c4 c5 : List Line) (ct : List Line) (ca : ℕ → List Line) (x : Line) (at : Span) (start test end : ℕ) → start ≡ length base → c1 ≡ base ++ ct → test ≡ length c1 → c2 ≡ c1 ++ x ∷ [] → c3 ≡ c2 ++ line i.Tick at ∷ [] → c4 ≡ c3 ++ ca (length c3) → c5 ≡ c4 ++ line (i.Jump start) at ∷ [] → end ≡ length c5 →
+    slice_set c5 test (line (i.JumpFalse end) at) ≡ base ++ while_code (length base) at ct false (ca (length base + length ct + 1 + 1))
 going_emitted base c1 c2 c3 c4 c5 ct ca x at start test end m0 e1 m1 e2 e3 e4 e5 m5 =
     let n = length base in
     let l1 = long_after base c1 ct e1 in
     let l2 : length c2 ≡ n + length ct + 1 = omega (arith, ap length e2, length-append c1 (x ∷ []), l1) in
     let l3 : length c3 ≡ n + length ct + 1 + 1 = omega (arith, ap length e3, length-append c2 (line i.Tick at ∷ []), l2) in
     let a = ca (n + length ct + 1 + 1) in
-    let e4' : c4 ≡ c3 ++ wrapped a = e4 ∙ ap (λ k. c3 ++ wrapped (ca k)) l3 in
+    let e4' : c4 ≡ c3 ++ a = e4 ∙ ap (λ k. c3 ++ ca k) l3 in
     let l4 = long_after c3 c4 a e4' in
-    let l5 : length c5 ≡ length c4 + 1 = omega (arith, ap length e5, length-append c4 (line (i.Jump (wrap start)) at ∷ [])) in
+    let back = line (i.Jump start) at in
+    let l5 : length c5 ≡ length c4 + 1 = omega (arith, ap length e5, length-append c4 (back ∷ [])) in
     let s : end ≡ n + length ct + 1 + 1 + length a + 1 = omega (arith, m5, l5, l4, l3) in
-    let back = line (i.Jump (wrap start)) at in
-    let out = line (i.JumpFalse (wrap end)) at in
-    let tail = line i.Tick at ∷ (wrapped a ++ back ∷ []) in
+    let out = line (i.JumpFalse end) at in
+    let tail = line i.Tick at ∷ (a ++ back ∷ []) in
     let all : c5 ≡ c1 ++ x ∷ tail =
-    e5 ∙ ap (λ c. c ++ back ∷ []) (e4' ∙ ap (λ c. c ++ wrapped a) (e3 ∙ ap (λ c. c ++ line i.Tick at ∷ []) e2))
-    ∙ append_assoc ((c1 ++ x ∷ []) ++ line i.Tick at ∷ []) (wrapped a) (back ∷ [])
-    ∙ append_assoc (c1 ++ x ∷ []) (line i.Tick at ∷ []) (wrapped a ++ back ∷ [])
+    e5 ∙ ap (λ c. c ++ back ∷ []) (e4' ∙ ap (λ c. c ++ a) (e3 ∙ ap (λ c. c ++ line i.Tick at ∷ []) e2))
+    ∙ append_assoc ((c1 ++ x ∷ []) ++ line i.Tick at ∷ []) a (back ∷ [])
+    ∙ append_assoc (c1 ++ x ∷ []) (line i.Tick at ∷ []) (a ++ back ∷ [])
     ∙ append_assoc c1 (x ∷ []) tail in
     ap₂ (λ c k. slice_set c k out) all m1
     ∙ set-append_seam c1 x tail out
-    ∙ (λ j. e1 j ++ line (i.JumpFalse (wrap (s j))) at ∷ line i.Tick at ∷ (wrapped a ++ line (i.Jump (wrap (m0 j))) at ∷ []))
-    ∙ append_assoc base (wrapped ct) _
-    ∙ ap (λ l. base ++ (wrapped ct ++ line (i.JumpFalse (wrap (n + length ct + 1 + 1 + length a + 1))) at ∷ line i.Tick at ∷ l)) (sym (wrapped-append a (line (i.Jump n) at ∷ [])))
-    ∙ ap (λ l. base ++ l) (sym (wrapped-append ct (line (i.JumpFalse (n + length ct + 1 + 1 + length a + 1)) at ∷ line i.Tick at ∷ (a ++ line (i.Jump n) at ∷ []))))
+    ∙ (λ j. e1 j ++ line (i.JumpFalse (s j)) at ∷ line i.Tick at ∷ (a ++ line (i.Jump (m0 j)) at ∷ []))
+    ∙ append_assoc base ct _
 
 -- a loop whose block surely ends
-once_emitted : (base c1 c2 c3 c4 : List Line) (ct : List Line) (ca : ℕ → List Line) (x : Line) (at : Span) (test end : ℕ) → c1 ≡ base ++ wrapped ct → test ≡ length c1 → c2 ≡ c1 ++ x ∷ [] → c3 ≡ c2 ++ line i.Tick at ∷ [] → c4 ≡ c3 ++ wrapped (ca (length c3)) → end ≡ length c4 →
-    slice_set c4 test (line (i.JumpFalse (wrap end)) at) ≡ base ++ wrapped (while_code (length base) at ct true (ca (length base + length ct + 1 + 1)))
+once_emitted : (base c1 c2 c3 c4 : List Line) (ct : List Line) (ca : ℕ → List Line) (x : Line) (at : Span) (test end : ℕ) → c1 ≡ base ++ ct → test ≡ length c1 → c2 ≡ c1 ++ x ∷ [] → c3 ≡ c2 ++ line i.Tick at ∷ [] → c4 ≡ c3 ++ ca (length c3) → end ≡ length c4 →
+    slice_set c4 test (line (i.JumpFalse end) at) ≡ base ++ while_code (length base) at ct true (ca (length base + length ct + 1 + 1))
 once_emitted base c1 c2 c3 c4 ct ca x at test end e1 m1 e2 e3 e4 m4 =
     let n = length base in
     let l1 = long_after base c1 ct e1 in
     let l2 : length c2 ≡ n + length ct + 1 = omega (arith, ap length e2, length-append c1 (x ∷ []), l1) in
     let l3 : length c3 ≡ n + length ct + 1 + 1 = omega (arith, ap length e3, length-append c2 (line i.Tick at ∷ []), l2) in
     let a = ca (n + length ct + 1 + 1) in
-    let e4' : c4 ≡ c3 ++ wrapped a = e4 ∙ ap (λ k. c3 ++ wrapped (ca k)) l3 in
+    let e4' : c4 ≡ c3 ++ a = e4 ∙ ap (λ k. c3 ++ ca k) l3 in
     let s : end ≡ n + length ct + 1 + 1 + length a = omega (arith, m4, long_after c3 c4 a e4', l3) in
-    let out = line (i.JumpFalse (wrap end)) at in
-    let tail = line i.Tick at ∷ wrapped a in
+    let out = line (i.JumpFalse end) at in
+    let tail = line i.Tick at ∷ a in
     let all : c4 ≡ c1 ++ x ∷ tail =
-    e4' ∙ ap (λ c. c ++ wrapped a) (e3 ∙ ap (λ c. c ++ line i.Tick at ∷ []) e2)
-    ∙ append_assoc (c1 ++ x ∷ []) (line i.Tick at ∷ []) (wrapped a)
+    e4' ∙ ap (λ c. c ++ a) (e3 ∙ ap (λ c. c ++ line i.Tick at ∷ []) e2)
+    ∙ append_assoc (c1 ++ x ∷ []) (line i.Tick at ∷ []) a
     ∙ append_assoc c1 (x ∷ []) tail in
     ap₂ (λ c k. slice_set c k out) all m1
     ∙ set-append_seam c1 x tail out
-    ∙ (λ j. e1 j ++ line (i.JumpFalse (wrap (s j))) at ∷ line i.Tick at ∷ wrapped a)
-    ∙ append_assoc base (wrapped ct) _
-    ∙ ap (λ l. base ++ l) (sym (wrapped-append ct (line (i.JumpFalse (n + length ct + 1 + 1 + length a)) at ∷ line i.Tick at ∷ a)))
+    ∙ (λ j. e1 j ++ line (i.JumpFalse (s j)) at ∷ line i.Tick at ∷ a)
+    ∙ append_assoc base ct _
 
-pub while_emitted : (base c1 c2 c3 c4 c5 : List Line) (ct : List Line) (ended : Bool) (ca : ℕ → List Line) (x : Line) (at : Span) (start test end : ℕ) → start ≡ length base → c1 ≡ base ++ wrapped ct → test ≡ length c1 → c2 ≡ c1 ++ x ∷ [] → c3 ≡ c2 ++ line i.Tick at ∷ [] → c4 ≡ c3 ++ wrapped (ca (length c3)) → c5 ≡ c4 ++ wrapped (back_code ended start at) → end ≡ length c5 →
-    slice_set c5 test (line (i.JumpFalse (wrap end)) at) ≡ base ++ wrapped (while_code (length base) at ct ended (ca (length base + length ct + 1 + 1)))
+pub while_emitted : (base c1 c2 c3 c4 c5 : List Line) (ct : List Line) (ended : Bool) (ca : ℕ → List Line) (x : Line) (at : Span) (start test end : ℕ) → start ≡ length base → c1 ≡ base ++ ct → test ≡ length c1 → c2 ≡ c1 ++ x ∷ [] → c3 ≡ c2 ++ line i.Tick at ∷ [] → c4 ≡ c3 ++ ca (length c3) → c5 ≡ c4 ++ back_code ended start at → end ≡ length c5 →
+    slice_set c5 test (line (i.JumpFalse end) at) ≡ base ++ while_code (length base) at ct ended (ca (length base + length ct + 1 + 1))
 while_emitted base c1 c2 c3 c4 c5 ct true ca x at start test end m0 e1 m1 e2 e3 e4 e5 m5 =
     let same : c5 ≡ c4 = e5 ∙ append-nil c4 in
-    ap (λ c. slice_set c test (line (i.JumpFalse (wrap end)) at)) same
+    ap (λ c. slice_set c test (line (i.JumpFalse end) at)) same
     ∙ once_emitted base c1 c2 c3 c4 ct ca x at test end e1 m1 e2 e3 e4 (m5 ∙ ap length same)
 while_emitted base c1 c2 c3 c4 c5 ct false ca x at start test end m0 e1 m1 e2 e3 e4 e5 m5 = going_emitted base c1 c2 c3 c4 c5 ct ca x at start test end m0 e1 m1 e2 e3 e4 e5 m5
 
@@ -159,47 +115,42 @@ module _ (counter : ℕ) (at : Span) where
   abbrev next_lines : List Line
   next_lines = line (i.Load counter) at ∷ line (i.PushInt (pos 1)) at ∷ line (i.Op row_add) at ∷ line (i.Store counter) at ∷ []
 
-  pub turn_ends : (base c1 c2 c3 : List Line) (ca : ℕ → List Line) → c1 ≡ base ++ line (i.Load counter) at ∷ [] → c2 ≡ c1 ++ line (i.Store (counter + 2)) at ∷ [] → c3 ≡ c2 ++ wrapped (ca (length c2)) →
-      c3 ≡ base ++ wrapped (turn_code counter at true (ca (length base + 1 + 1)))
+  pub turn_ends : (base c1 c2 c3 : List Line) (ca : ℕ → List Line) → c1 ≡ base ++ line (i.Load counter) at ∷ [] → c2 ≡ c1 ++ line (i.Store (counter + 2)) at ∷ [] → c3 ≡ c2 ++ ca (length c2) →
+      c3 ≡ base ++ turn_code counter at true (ca (length base + 1 + 1))
   turn_ends base c1 c2 c3 ca e1 e2 e3 =
       let get = line (i.Load counter) at in
       let put = line (i.Store (counter + 2)) at in
       let a = ca (length base + 1 + 1) in
       let l2 : length c2 ≡ length base + 1 + 1 = omega (arith, ap length e1, length-append base (get ∷ []), ap length e2, length-append c1 (put ∷ [])) in
-      e3 ∙ ap (λ k. c2 ++ wrapped (ca k)) l2
-      ∙ ap (λ c. c ++ wrapped a) (e2 ∙ ap (λ c. c ++ put ∷ []) e1)
-      ∙ append_assoc (base ++ get ∷ []) (put ∷ []) (wrapped a)
-      ∙ append_assoc base (get ∷ []) (put ∷ wrapped a)
+      e3 ∙ ap (λ k. c2 ++ ca k) l2
+      ∙ ap (λ c. c ++ a) (e2 ∙ ap (λ c. c ++ put ∷ []) e1)
+      ∙ append_assoc (base ++ get ∷ []) (put ∷ []) a
+      ∙ append_assoc base (get ∷ []) (put ∷ a)
 
-  pub turn_goes_on : (base c1 c2 c3 c4 : List Line) (ca : ℕ → List Line) → c1 ≡ base ++ line (i.Load counter) at ∷ [] → c2 ≡ c1 ++ line (i.Store (counter + 2)) at ∷ [] → c3 ≡ c2 ++ wrapped (ca (length c2)) → c4 ≡ c3 ++ next_lines →
-      c4 ≡ base ++ wrapped (turn_code counter at false (ca (length base + 1 + 1)))
+  pub turn_goes_on : (base c1 c2 c3 c4 : List Line) (ca : ℕ → List Line) → c1 ≡ base ++ line (i.Load counter) at ∷ [] → c2 ≡ c1 ++ line (i.Store (counter + 2)) at ∷ [] → c3 ≡ c2 ++ ca (length c2) → c4 ≡ c3 ++ next_lines →
+      c4 ≡ base ++ turn_code counter at false (ca (length base + 1 + 1))
   turn_goes_on base c1 c2 c3 c4 ca e1 e2 e3 e4 =
-      let a = ca (length base + 1 + 1) in
       e4 ∙ ap (λ c. c ++ next_lines) (turn_ends base c1 c2 c3 ca e1 e2 e3)
-      ∙ append_assoc base (wrapped (turn_code counter at true a)) next_lines
-      ∙ ap (λ l. base ++ line (i.Load counter) at ∷ line (i.Store (counter + 2)) at ∷ l) (sym (wrapped-append a next_lines))
+      ∙ append_assoc base (turn_code counter at true (ca (length base + 1 + 1))) next_lines
 
 -- both bounds, and then the loop
-pub for_emitted : (base c1 c2 c3 c4 c5 : List Line) (cf : List Line) (ct loop : ℕ → List Line) (l m : Line) → wrap_line l ≡ l → wrap_line m ≡ m → c1 ≡ base ++ wrapped cf → c2 ≡ c1 ++ l ∷ [] → c3 ≡ c2 ++ wrapped (ct (length c2)) → c4 ≡ c3 ++ m ∷ [] → c5 ≡ c4 ++ wrapped (loop (length c4)) →
-    c5 ≡ base ++ wrapped (cf ++ l ∷ (ct (length base + length cf + 1) ++ m ∷ loop (loop_at (length base) (length cf) (length (ct (length base + length cf + 1))))))
-for_emitted base c1 c2 c3 c4 c5 cf ct loop l m w w' e1 e2 e3 e4 e5 =
+pub for_emitted : (base c1 c2 c3 c4 c5 : List Line) (cf : List Line) (ct loop : ℕ → List Line) (l m : Line) → c1 ≡ base ++ cf → c2 ≡ c1 ++ l ∷ [] → c3 ≡ c2 ++ ct (length c2) → c4 ≡ c3 ++ m ∷ [] → c5 ≡ c4 ++ loop (length c4) →
+    c5 ≡ base ++ (cf ++ l ∷ (ct (length base + length cf + 1) ++ m ∷ loop (loop_at (length base) (length cf) (length (ct (length base + length cf + 1))))))
+for_emitted base c1 c2 c3 c4 c5 cf ct loop l m e1 e2 e3 e4 e5 =
     let n = length base in
     let l1 = long_after base c1 cf e1 in
     let l2 : length c2 ≡ n + length cf + 1 = omega (arith, ap length e2, length-append c1 (l ∷ []), l1) in
     let t = ct (n + length cf + 1) in
-    let e3' : c3 ≡ c2 ++ wrapped t = e3 ∙ ap (λ k. c2 ++ wrapped (ct k)) l2 in
+    let e3' : c3 ≡ c2 ++ t = e3 ∙ ap (λ k. c2 ++ ct k) l2 in
     let l3 = long_after c2 c3 t e3' in
     let l4 : length c4 ≡ n + length cf + 1 + length t + 1 = omega (arith, ap length e4, length-append c3 (m ∷ []), l3, l2) in
     let b = loop (n + length cf + 1 + length t + 1) in
-    e5 ∙ ap (λ k. c4 ++ wrapped (loop k)) l4
-    ∙ ap (λ c. c ++ wrapped b) (e4 ∙ ap (λ c. c ++ m ∷ []) (e3' ∙ ap (λ c. c ++ wrapped t) (e2 ∙ ap (λ c. c ++ l ∷ []) e1)))
-    ∙ append_assoc (((base ++ wrapped cf) ++ l ∷ []) ++ wrapped t) (m ∷ []) (wrapped b)
-    ∙ append_assoc ((base ++ wrapped cf) ++ l ∷ []) (wrapped t) (m ∷ wrapped b)
-    ∙ append_assoc (base ++ wrapped cf) (l ∷ []) (wrapped t ++ m ∷ wrapped b)
-    ∙ append_assoc base (wrapped cf) (l ∷ (wrapped t ++ m ∷ wrapped b))
-    ∙ (λ j. base ++ (wrapped cf ++ sym w j ∷ (wrapped t ++ sym w' j ∷ wrapped b)))
-    ∙ ap (λ x. base ++ (wrapped cf ++ wrap_line l ∷ x)) (sym (wrapped-append t (m ∷ b)))
-    ∙ ap (λ x. base ++ x) (sym (wrapped-append cf (l ∷ (t ++ m ∷ b))))
+    e5 ∙ ap (λ k. c4 ++ loop k) l4
+    ∙ ap (λ c. c ++ b) (e4 ∙ ap (λ c. c ++ m ∷ []) (e3' ∙ ap (λ c. c ++ t) (e2 ∙ ap (λ c. c ++ l ∷ []) e1)))
+    ∙ append_assoc (((base ++ cf) ++ l ∷ []) ++ t) (m ∷ []) b
+    ∙ append_assoc ((base ++ cf) ++ l ∷ []) t (m ∷ b)
+    ∙ append_assoc (base ++ cf) (l ∷ []) (t ++ m ∷ b)
+    ∙ append_assoc base cf (l ∷ (t ++ m ∷ b))
 
 -- statements one after the other
 module _ (methods : List Method) (texts : List Text) where
@@ -217,8 +168,8 @@ module _ (methods : List Method) (texts : List Text) where
       ∙ sym (append_assoc cy cs (step_code methods texts (n + length cy + length cs) (step_of x)))
       ∙ ap (λ m. (cy ++ cs) ++ step_code methods texts m (step_of x)) e
 
-  pub steps_next : (xs : List Stmt) (k : ℕ) (x : Stmt) → k < length xs → x ≡ get_or xs k x → (base c1 c2 : List Line) → c1 ≡ base ++ wrapped (steps_code methods texts (length base) (steps_in (take k xs))) → c2 ≡ c1 ++ wrapped (step_code methods texts (length c1) (step_of x)) →
-      c2 ≡ base ++ wrapped (steps_code methods texts (length base) (steps_in (take (k + 1) xs)))
+  pub steps_next : (xs : List Stmt) (k : ℕ) (x : Stmt) → k < length xs → x ≡ get_or xs k x → (base c1 c2 : List Line) → c1 ≡ base ++ steps_code methods texts (length base) (steps_in (take k xs)) → c2 ≡ c1 ++ step_code methods texts (length c1) (step_of x) →
+      c2 ≡ base ++ steps_code methods texts (length base) (steps_in (take (k + 1) xs))
   steps_next xs k x lt at base c1 c2 e1 e2 =
       emits_then base c1 c2 (λ n. steps_code methods texts n (steps_in (take k xs))) (λ n. step_code methods texts n (step_of x)) e1 e2
-      ∙ ap (λ l. base ++ wrapped l) (sym (steps_push (take k xs) x (length base)) ∙ ap (λ ys. steps_code methods texts (length base) (steps_in ys)) (sym (item_more xs k x lt at)))
+      ∙ ap (λ l. base ++ l) (sym (steps_push (take k xs) x (length base)) ∙ ap (λ ys. steps_code methods texts (length base) (steps_in ys)) (sym (item_more xs k x lt at)))

@@ -1,5 +1,5 @@
 -- The texts of a set of byte lists.
-use Rattle.std.proofs.Common.{◌≡◌, ℕ, zero, suc, ◌+◌, ◌<◌, ◌≤◌, ◌||◌, Bool, true, false, cond, not, if◌then◌else◌, nat_eq, nat_lt, List, [], ◌∷◌, ◌++◌, length, get_or, Option, Some, None, Vec, Global, refl, sym, ap, ◌∙◌, subst, arith}
+use Rattle.std.proofs.Common.{◌≡◌, ℕ, zero, suc, ◌+◌, ◌^◌, ◌<◌, ◌≤◌, ◌||◌, Bool, true, false, cond, not, if◌then◌else◌, nat_eq, nat_lt, List, [], ◌∷◌, ◌++◌, length, get_or, Option, Some, None, Vec, Global, refl, sym, ap, ◌∙◌, subst, arith, length-append}
 use Rattle.std.specs.List.{list_any, position_or_len}
 use Rattle.std.specs.Prelude.{All}
 use Rattle.std.specs.Cmp.Lexicographic.{pointwise}
@@ -9,7 +9,7 @@ use Rattle.indexmap.specs.IndexSet.{insert_key}
 use Rattle.wave_base.specs.Names.{same_bytes}
 use Rattle.wave_base.specs.Text.{IsText}
 use Rattle.code_scheme.specs.Texts.{with_text, place_of_text}
-use Rattle.service_compiler.specs.Kept.{texts_of, AreTexts}
+use Rattle.service_compiler.specs.Kept.{texts_of, AreTexts, AreKept}
 
 abbrev pub same_items : Vec ℕ Global → Vec ℕ Global → Bool
 same_items x y = pointwise nat_eq x.items y.items
@@ -75,6 +75,14 @@ noted_are ts t h k = by (list_any (same_bytes t) ts)
     by : (b : Bool) → All IsText (if b then ts else ts ++ t ∷ [])
     by true = h
     by false = All-push IsText ts t h k
+
+-- a text more
+pub kept_more : (ks : List (Vec ℕ Global)) (k : Vec ℕ Global) → AreKept ks → IsText k.items → length ks < 4294967295 → AreKept (insert_key same_items ks k)
+kept_more ks k kept h few = record { texts = subst (All IsText) (sym (noted_texts ks k)) (noted_are (texts_of ks) k.items kept.texts h); few = by (list_any (same_items k) ks) }
+  where
+    by : (b : Bool) → length (if b then ks else ks ++ k ∷ []) < 2 ^ 32
+    by true = omega (arith, few)
+    by false = omega (arith, few, length-append ks (k ∷ []))
 
 texts_get : (ks : List (Vec ℕ Global)) (i : ℕ) (x : Vec ℕ Global) → get_or (texts_of ks) i x.items ≡ (get_or ks i x).items
 texts_get [] i x = refl

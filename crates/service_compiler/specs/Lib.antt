@@ -1,4 +1,3 @@
 pub mod inner
 pub mod Kept
-pub mod Wrapped
 pub mod Faults

@@ -1,16 +1,15 @@
 //! The instructions of methods and events, by the scheme.
 
-ghost use Rattle.std.specs.Prelude.{◌≡◌, ◌<◌, ◌^◌, ◌++◌, length, IfOk, OnOk};
+ghost use Rattle.std.specs.Prelude.{◌≡◌, ◌++◌, length, IfOk, OnOk};
 ghost use Rattle.resolved_service.specs.Steps as steps;
 ghost use Rattle.resolved_service.specs.Steps.{steps_in};
 ghost use Rattle.code_scheme.specs.Scheme.{return_code, reply_code, method_code, event_code};
 ghost use Rattle.service_compiler.specs.inner.Fronts.{phase_code, phases_front, ended_behind};
-ghost use Rattle.service_compiler.specs.Wrapped.{wrapped};
 
-use crate::emit::{emit_expr, put};
+use crate::code::Code;
+use crate::emit::emit_expr;
 use crate::statements::emit_stmts;
 use crate::texts::Texts;
-use code_scheme::Line;
 use resolved_service::{Event, Last, Method, Phase, surely_ends};
 use service_code::Instr;
 use std::alloc::Global;
@@ -22,11 +21,10 @@ pub fn emit_method(
     methods: &[Method],
     texts: &Texts,
     method: &Method,
-) -> Result<Vec<Line>, OutOfMemory>
-    requires { length texts.now < 2 ^ 32 }
-    ensures { IfOk result (λ code. code.items ≡ wrapped (method_code methods.now texts.now method.now)) }
+) -> Result<Code, OutOfMemory>
+    ensures { IfOk result (λ code. code ≡ method_code methods.now texts.now method.now) }
 {
-    let mut code = Vec::new(alloc);
+    let mut code = Code::new(alloc);
     emit_stmts(&mut code, methods, texts, method.body.as_slice())?;
     let ended = surely_ends(method.body.as_slice());
     emit_return(&mut code, methods, texts, method.at, ended, &method.last)?;
@@ -39,11 +37,10 @@ pub fn emit_event(
     methods: &[Method],
     texts: &Texts,
     event: &Event,
-) -> Result<Vec<Line>, OutOfMemory>
-    requires { length texts.now < 2 ^ 32 }
-    ensures { IfOk result (λ code. code.items ≡ wrapped (event_code methods.now texts.now event.now)) }
+) -> Result<Code, OutOfMemory>
+    ensures { IfOk result (λ code. code ≡ event_code methods.now texts.now event.now) }
 {
-    let mut code = Vec::new(alloc);
+    let mut code = Code::new(alloc);
     emit_stmts(&mut code, methods, texts, event.here.as_slice())?;
     emit_phases(&mut code, methods, texts, event.phases.as_slice())?;
     let ended = is_past(event);
@@ -51,8 +48,8 @@ pub fn emit_event(
     Ok(code)
 }
 
-// Whether the last phase of an event surely ends.
-fn is_past(event: &Event) -> bool
+/// Whether the last phase of an event surely ends.
+pub fn is_past(event: &Event) -> bool
     ensures { result ≡ ended_behind (steps.surely_ends (steps_in event.now.here)) event.now.phases }
 {
     match event.phases.as_slice() {
@@ -63,65 +60,62 @@ fn is_past(event: &Event) -> bool
 
 // The end of a method, behind statements that surely end, or not.
 fn emit_return(
-    code: &mut Vec<Line>,
+    code: &mut Code,
     methods: &[Method],
     texts: &Texts,
     at: Span,
     ended: bool,
     last: &Option<Last>,
 ) -> Result<(), OutOfMemory>
-    requires { length texts.now < 2 ^ 32 }
-    ensures { OnOk result (code.new.items ≡ code.old.items ++ wrapped (return_code methods.now texts.now (length code.old.items) at ended last.now)) }
+    ensures { OnOk result (code.new ≡ code.old ++ return_code methods.now texts.now (length code.old) at ended last.now) }
 {
     match last {
         Some(last) => {
             emit_expr(code, methods, texts, &last.value)?;
-            put(code, Instr::Return, last.at)
+            code.put(Instr::Return, last.at)
         }
         None => {
             if ended {
                 return Ok(());
             }
-            put(code, Instr::Return, at)
+            code.put(Instr::Return, at)
         }
     }
 }
 
 // The end of an event, behind statements that surely end, or not.
 fn emit_reply(
-    code: &mut Vec<Line>,
+    code: &mut Code,
     methods: &[Method],
     texts: &Texts,
     at: Span,
     ended: bool,
     last: &Option<Last>,
 ) -> Result<(), OutOfMemory>
-    requires { length texts.now < 2 ^ 32 }
-    ensures { OnOk result (code.new.items ≡ code.old.items ++ wrapped (reply_code methods.now texts.now (length code.old.items) at ended last.now)) }
+    ensures { OnOk result (code.new ≡ code.old ++ reply_code methods.now texts.now (length code.old) at ended last.now) }
 {
     match last {
         Some(last) => {
             emit_expr(code, methods, texts, &last.value)?;
-            put(code, Instr::Reply, last.at)
+            code.put(Instr::Reply, last.at)
         }
         None => {
             if ended {
                 return Ok(());
             }
-            put(code, Instr::End, at)
+            code.put(Instr::End, at)
         }
     }
 }
 
 // The phases of an event.
 fn emit_phases(
-    code: &mut Vec<Line>,
+    code: &mut Code,
     methods: &[Method],
     texts: &Texts,
     phases: &[Phase],
 ) -> Result<(), OutOfMemory>
-    requires { length texts.now < 2 ^ 32 }
-    ensures { OnOk result (code.new.items ≡ code.old.items ++ wrapped (phases_front methods.now texts.now (length code.old.items) phases.now)) }
+    ensures { OnOk result (code.new ≡ code.old ++ phases_front methods.now texts.now (length code.old) phases.now) }
 {
     for phase in phases {
         emit_phase(code, methods, texts, phase)?;
@@ -131,15 +125,14 @@ fn emit_phases(
 
 // A downgrade, and what is done there.
 fn emit_phase(
-    code: &mut Vec<Line>,
+    code: &mut Code,
     methods: &[Method],
     texts: &Texts,
     phase: &Phase,
 ) -> Result<(), OutOfMemory>
-    requires { length texts.now < 2 ^ 32 }
-    ensures { OnOk result (code.new.items ≡ code.old.items ++ wrapped (phase_code methods.now texts.now (length code.old.items) phase.now)) }
+    ensures { OnOk result (code.new ≡ code.old ++ phase_code methods.now texts.now (length code.old) phase.now) }
 {
     emit_expr(code, methods, texts, &phase.key)?;
-    put(code, Instr::Go(phase.class), phase.at)?;
+    code.put(Instr::Go(phase.class), phase.at)?;
     emit_stmts(code, methods, texts, phase.body.as_slice())
 }

@@ -6,7 +6,7 @@ ghost use Rattle.resolved_service.specs.Steps.{step_of, steps_in};
 ghost use Rattle.resolved_service.specs.View.{tree_of, trees_of};
 ghost use Rattle.code_scheme.specs.Heights.{one_if, tree_height, trees_height, maybe_height, step_height, steps_height, last_height, method_height, phases_height, event_height};
 
-use crate::statements::leaves;
+use crate::operands::leaves;
 use resolved_service::{Action, Event, Expr, Last, Method, Node, Phase, Stmt};
 
 /// That of a method.

@@ -25,7 +25,7 @@ pub fn compile(alloc: Global, shape: Shape, service: &Resolved) -> Result<Progra
     let texts = texts_of_service(alloc, service)?;
     let methods = service.methods.as_slice();
     let events = service.events.as_slice();
-    if texts.len() >= 1 << 32 || methods.len() + events.len() >= 1 << 16 {
+    if methods.len() + events.len() >= 1 << 16 {
         return Err(CompileError::OutOfMemory);
     }
     let mut functions = Vec::new(alloc);
@@ -55,7 +55,6 @@ fn add_methods(
     methods: &[Method],
     texts: &Texts,
 ) -> Result<(), CompileError>
-    requires few_texts { length texts.now < 2 ^ 32 }
     requires few { length functions.old.items + length methods.now < 2 ^ 16 }
     requires short { AreShort functions.old.items }
     ensures made { OnOk result (Adds functions.old.items (map (method_function methods.now texts.now) methods.now) functions.new.items) }
@@ -76,7 +75,6 @@ fn add_events(
     infos: &[EventInfo],
     events: &[Event],
 ) -> Result<(), CompileError>
-    requires few_texts { length texts.now < 2 ^ 32 }
     requires few { length functions.old.items + length events.now < 2 ^ 16 }
     requires short { AreShort functions.old.items }
     ensures made { OnOk result (Adds functions.old.items (event_functions methods.now texts.now infos.now events.now) functions.new.items) }
@@ -95,7 +93,6 @@ fn add_method(
     texts: &Texts,
     method: &Method,
 ) -> Result<(), CompileError>
-    requires few_texts { length texts.now < 2 ^ 32 }
     requires few { length functions.old.items < 2 ^ 16 }
     requires short { AreShort functions.old.items }
     ensures made { OnOk result (Adds functions.old.items (method_function methods.now texts.now method.now ∷ []) functions.new.items) }
@@ -117,7 +114,6 @@ fn add_event(
     info: &EventInfo,
     event: &Event,
 ) -> Result<(), CompileError>
-    requires few_texts { length texts.now < 2 ^ 32 }
     requires few { length functions.old.items < 2 ^ 16 }
     requires short { AreShort functions.old.items }
     ensures made { OnOk result (Adds functions.old.items (event_function methods.now texts.now info.now event.now ∷ []) functions.new.items) }

@@ -1,4 +1,4 @@
-ghost use Rattle.std.specs.Prelude.{◌≡◌, ◌≤◌, [], length, IfOk, OnOk};
+ghost use Rattle.std.specs.Prelude.{◌≡◌, [], IfOk, OnOk};
 ghost use Rattle.code_scheme.specs.Texts.{with_text, place_of_text};
 
 use indexmap::IndexSet;
@@ -6,7 +6,7 @@ use std::alloc::Global;
 use std::marker::Model;
 use wave_base::{OutOfMemory, Seq, Txt};
 
-/// The texts of a program, each once, in the order of their first uses.
+/// The texts of a program, each once, in the order of their first uses. Their numbers have 32 bits.
 #[derive(Drop)]
 pub struct Texts {
     set: IndexSet<Vec<u8>>,
@@ -14,13 +14,13 @@ pub struct Texts {
 
 impl Model for Texts {
     ghost use Rattle.std.specs.Prelude.{List, ℕ};
-    ghost use Rattle.service_compiler.specs.Kept.{texts_of, AreTexts};
+    ghost use Rattle.service_compiler.specs.Kept.{texts_of, AreKept};
 
     ghost Value = { List (List ℕ) };
 
     ghost view = { λ t. texts_of t.set.keys };
 
-    ghost invariant = { λ t. AreTexts t.set.keys };
+    ghost invariant = { λ t. AreKept t.set.keys };
 }
 
 impl Texts {
@@ -33,30 +33,25 @@ impl Texts {
         }
     }
 
-    /// How many texts there are.
-    pub fn len(&self) -> usize
-        ensures { result ≡ length self.now }
-    {
-        self.set.len()
-    }
-
     /// Notes a use of a text.
     pub fn note(&mut self, alloc: Global, text: &Txt) -> Result<(), OutOfMemory>
         ensures { OnOk result (self.new ≡ with_text self.old text.now) }
     {
+        if self.set.len() >= u32::MAX as usize {
+            return Err(OutOfMemory);
+        }
         let bytes = Vec::from_slice(alloc, text.bytes())?;
         self.set.insert(bytes)?;
         Ok(())
     }
 
     /// The number of a text, or how many there are where it isn't among them.
-    pub fn place(&self, text: &[u8]) -> usize
-        ensures place { result ≡ place_of_text self.now text.now }
-        ensures within { result ≤ length self.now }
+    pub fn place(&self, text: &[u8]) -> u32
+        ensures { result ≡ place_of_text self.now text.now }
     {
         match self.set.get_index_of(text) {
-            Some(place) => place,
-            None => self.set.len(),
+            Some(place) => place as u32,
+            None => self.set.len() as u32,
         }
     }
 

@@ -1,6 +1,6 @@
 //! Functions with all that they have: what they are called with, the height of their stack, their code and its places.
 
-ghost use Rattle.std.specs.Prelude.{◌≡◌, ◌<◌, ◌≤◌, ◌^◌, length, map, IfOk, IfErr, OnOk};
+ghost use Rattle.std.specs.Prelude.{◌≡◌, ◌≤◌, length, map, IfOk, IfErr, OnOk};
 ghost use Rattle.wave_base.specs.declared.limits.TheConstants.{INSTRUCTIONS};
 ghost use Rattle.code_scheme.specs.Programs.{method_function, event_function};
 ghost use Rattle.code_scheme.specs.declared.line.Line.{Line};
@@ -10,6 +10,7 @@ ghost use Rattle.service_compiler.specs.Faults.{IsShort, IsLong};
 use crate::error::CompileError;
 use crate::functions::{emit_event, emit_method};
 use crate::heights::{height_of_event, height_of_method};
+use crate::lengths::{length_of_event, length_of_method};
 use crate::texts::Texts;
 use code_scheme::Line;
 use resolved_service::{Event, Method};
@@ -25,12 +26,11 @@ pub fn whole_method(
     number: u16,
     method: &Method,
 ) -> Result<Function, CompileError>
-    requires { length texts.now < 2 ^ 32 }
     ensures made { IfOk result (λ f. IsShort f (method_function methods.now texts.now method.now)) }
     ensures refused { IfErr result (IsLong number (length (method_code methods.now texts.now method.now))) }
 {
-    let lines = emit_method(alloc, methods, texts, method)?;
-    check_length(number, lines.len())?;
+    check_length(number, length_of_method(methods, method)?)?;
+    let code = emit_method(alloc, methods, texts, method)?;
     Ok(Function {
         name: method.name.copy(alloc)?,
         class: method.class,
@@ -39,8 +39,8 @@ pub fn whole_method(
         result: method.result,
         locals: method.locals.copy(alloc)?,
         stack: height_of_method(methods, method),
-        code: instrs_of(alloc, lines.as_slice())?,
-        places: places_of(alloc, lines.as_slice())?,
+        code: instrs_of(alloc, code.lines())?,
+        places: places_of(alloc, code.lines())?,
     })
 }
 
@@ -53,12 +53,11 @@ pub fn whole_event(
     info: &EventInfo,
     event: &Event,
 ) -> Result<Function, CompileError>
-    requires { length texts.now < 2 ^ 32 }
     ensures made { IfOk result (λ f. IsShort f (event_function methods.now texts.now info.now event.now)) }
     ensures refused { IfErr result (IsLong number (length (event_code methods.now texts.now event.now))) }
 {
-    let lines = emit_event(alloc, methods, texts, event)?;
-    check_length(number, lines.len())?;
+    check_length(number, length_of_event(methods, event)?)?;
+    let code = emit_event(alloc, methods, texts, event)?;
     Ok(Function {
         name: info.name.copy(alloc)?,
         class: Class(0),
@@ -67,8 +66,8 @@ pub fn whole_event(
         result: info.reply,
         locals: event.locals.copy(alloc)?,
         stack: height_of_event(methods, event),
-        code: instrs_of(alloc, lines.as_slice())?,
-        places: places_of(alloc, lines.as_slice())?,
+        code: instrs_of(alloc, code.lines())?,
+        places: places_of(alloc, code.lines())?,
     })
 }
 

@@ -1,9 +1,11 @@
-use Rattle.std.proofs.Common.{◌≡◌, true, length, map, ap, ◌∙◌, arith}
+use Rattle.std.proofs.Common.{◌≡◌, ◌≤◌, true, length, map, sym, ap, ◌∙◌, subst, arith}
 use Rattle.std.proofs.lemmas.List.{length-map}
 use Rattle.code_scheme.specs.declared.line.Line.{Line}
 use Rattle.code_scheme.specs.Scheme.{event_code}
 use Rattle.service_compiler.proofs.HeightLemmas.{capped_same, event_within}
-use Rattle.service_compiler.proofs.Wrapping.{event_lines}
+use Rattle.service_compiler.specs.Faults.{IsLong}
+use Rattle.service_compiler.proofs.LengthLemmas.{event_counted}
+use Rattle.service_compiler.proofs.Notes.{err_same}
 use Rattle.service_compiler.proofs.whole.whole_event.Goals as goal
 
 pub returns-clause-made : goal.returns-clause-made
@@ -11,10 +13,12 @@ returns-clause-made c =
     let m = c.args.methods.now in
     let x = c.args.texts.now in
     let one = c.args.event.now in
-    let s = event_lines m x one c.in_ok-lines.lines.items c.len.result c.in_ok-lines.ensures (c.len.ensures ∙ c.in_ok-lines.lines.ok.0) c.in_ok-check_length.ensures.short in
-    let stack = capped_same c.height_of_event.result _ (length (event_code m x one)) c.height_of_event.ensures (event_within m x one) s.1 in
-    let code : c.in_ok-instrs_of.field-0 ≡ map (λ (l : Line). l.instr) (event_code m x one) = c.in_ok-instrs_of.ensures ∙ ap (map (λ (l : Line). l.instr)) (c.as_slice.ensures.value ∙ s.0) in
-    let places : c.in_ok-places_of.field-0 ≡ map (λ (l : Line). l.place) (event_code m x one) = c.in_ok-places_of.ensures ∙ ap (map (λ (l : Line). l.place)) (c.as_slice-2.ensures.value ∙ s.0) in
+    let long = event_counted m x one in
+    let few : length (event_code m x one) ≤ 65535 = omega (arith, long, c.in_ok-length_of_event.ensures, c.in_ok-check_length.ensures.short) in
+    let lines = c.in_ok-code.ensures in
+    let stack = capped_same c.height_of_event.result _ (length (event_code m x one)) c.height_of_event.ensures (event_within m x one) few in
+    let code : c.in_ok-instrs_of.field-0 ≡ map (λ (l : Line). l.instr) (event_code m x one) = c.in_ok-instrs_of.ensures ∙ ap (map (λ (l : Line). l.instr)) (c.lines.ensures ∙ lines) in
+    let places : c.in_ok-places_of.field-0 ≡ map (λ (l : Line). l.place) (event_code m x one) = c.in_ok-places_of.ensures ∙ ap (map (λ (l : Line). l.place)) (c.lines-2.ensures ∙ lines) in
     record {
       is = λ i. record {
         name = c.in_ok-copy.ensures i;
@@ -27,5 +31,14 @@ returns-clause-made c =
         code = code i;
         places = places i;
       };
-      short = omega (arith, ap length code, length-map (event_code m x one) (λ (l : Line). l.instr), s.1);
+      short = omega (arith, ap length code, length-map (event_code m x one) (λ (l : Line). l.instr), few);
     }
+
+pub returns-in_err-check_length-clause-refused : goal.returns-in_err-check_length-clause-refused
+returns-in_err-check_length-clause-refused c =
+    let m = c.args.methods.now in
+    let x = c.args.texts.now in
+    let one = c.args.event.now in
+    let error = c.in_err-check_length.field-0.0 in
+    err_same (IsLong c.args.number (length (event_code m x one))) c.from_residual-in_err-check_length.result error c.from_residual-in_err-check_length.ensures.1
+    (subst (λ n. IsLong c.args.number n error) (c.in_ok-length_of_event.ensures ∙ sym (event_counted m x one)) c.in_err-check_length.ensures.long)
