@@ -49,15 +49,21 @@ pop_code false at = []
 -- `&&`: where the left operand is false, so is the whole
 abbrev pub and_code : ℕ → Span → List Line → List Line → List Line
 and_code n at ca cb =
-    ca ++ line (i.JumpFalse (n + length ca + 1 + length cb + 1)) at ∷ (cb ++ line (i.Jump (n + length ca + 1 + length cb + 1 + 1)) at ∷ line (i.PushBool false) at ∷ [])
+    let other = n + length ca + 1 + length cb + 1 in
+    let end = other + 1 in
+    ca ++ line (i.JumpFalse other) at ∷ (cb ++ line (i.Jump end) at ∷ line (i.PushBool false) at ∷ [])
 
 -- `||`: where the left operand is true, so is the whole
 abbrev pub or_code : ℕ → Span → List Line → List Line → List Line
 or_code n at ca cb =
-    ca ++ line (i.JumpFalse (n + length ca + 3)) at ∷ line (i.PushBool true) at ∷ line (i.Jump (n + length ca + 3 + length cb)) at ∷ cb
+    let other = n + length ca + 3 in
+    let end = other + length cb in
+    ca ++ line (i.JumpFalse other) at ∷ line (i.PushBool true) at ∷ line (i.Jump end) at ∷ cb
 
 abbrev pub if_code : ℕ → Span → List Line → List Line → List Line
-if_code n at ct ca = ct ++ line (i.JumpFalse (n + length ct + 1 + length ca)) at ∷ ca
+if_code n at ct ca =
+    let end = n + length ct + 1 + length ca in
+    ct ++ line (i.JumpFalse end) at ∷ ca
 
 -- behind a block that surely ends no Jump stands: the number of what comes then
 abbrev pub behind : Bool → ℕ → ℕ
@@ -66,15 +72,20 @@ behind false n = n + 1
 
 abbrev pub else_code : ℕ → Span → List Line → Bool → List Line → List Line → List Line
 else_code n at ct true ca cb =
-    ct ++ line (i.JumpFalse (n + length ct + 1 + length ca)) at ∷ (ca ++ cb)
+    let other = n + length ct + 1 + length ca in
+    ct ++ line (i.JumpFalse other) at ∷ (ca ++ cb)
 else_code n at ct false ca cb =
-    ct ++ line (i.JumpFalse (n + length ct + 1 + length ca + 1)) at ∷ (ca ++ line (i.Jump (n + length ct + 1 + length ca + 1 + length cb)) at ∷ cb)
+    let other = n + length ct + 1 + length ca + 1 in
+    let end = other + length cb in
+    ct ++ line (i.JumpFalse other) at ∷ (ca ++ line (i.Jump end) at ∷ cb)
 
 abbrev pub while_code : ℕ → Span → List Line → Bool → List Line → List Line
 while_code n at ct true ca =
-    ct ++ line (i.JumpFalse (n + length ct + 1 + 1 + length ca)) at ∷ line i.Tick at ∷ ca
+    let end = n + length ct + 1 + 1 + length ca in
+    ct ++ line (i.JumpFalse end) at ∷ line i.Tick at ∷ ca
 while_code n at ct false ca =
-    ct ++ line (i.JumpFalse (n + length ct + 1 + 1 + length ca + 1)) at ∷ line i.Tick at ∷ (ca ++ line (i.Jump n) at ∷ [])
+    let end = n + length ct + 1 + 1 + length ca + 1 in
+    ct ++ line (i.JumpFalse end) at ∷ line i.Tick at ∷ (ca ++ line (i.Jump n) at ∷ [])
 
 -- a loop over numbers has three slots: the counter's, and behind it those of the bound and the name
 abbrev pub test_code : ℕ → Span → List Line
@@ -108,19 +119,28 @@ module _ (methods : List Method) (texts : List Text) where
     tree_code n (Field at f) = line (i.Field f) at ∷ []
     tree_code n (Above at level f) = line (i.Above level f) at ∷ []
     tree_code n (Op at row args) = trees_code n args ++ line (i.Op row) at ∷ []
-    tree_code n (And at a b) = and_code n at (tree_code n a) (tree_code (n + length (tree_code n a) + 1) b)
-    tree_code n (Or at a b) = or_code n at (tree_code n a) (tree_code (n + length (tree_code n a) + 3) b)
+    tree_code n (And at a b) =
+        let left = tree_code n a in
+        and_code n at left (tree_code (n + length left + 1) b)
+    tree_code n (Or at a b) =
+        let left = tree_code n a in
+        or_code n at left (tree_code (n + length left + 3) b)
     tree_code n (Call at method args) = trees_code n args ++ line i.Tick at ∷ line (i.Call method) at ∷ []
     tree_code n (Child at class method key args) =
-        tree_code n key ++ (trees_code (n + length (tree_code n key)) args ++ line i.Tick at ∷ line (i.CallDown (record { 0 = class }) method) at ∷ [])
+        let child = tree_code n key in
+        child ++ (trees_code (n + length child) args ++ line i.Tick at ∷ line (i.CallDown (record { 0 = class }) method) at ∷ [])
 
     pub trees_code : ℕ → Trees → List Line
     trees_code n no_trees = []
-    trees_code n (tree t ts) = tree_code n t ++ trees_code (n + length (tree_code n t)) ts
+    trees_code n (tree t ts) =
+        let first = tree_code n t in
+        first ++ trees_code (n + length first) ts
 
   -- two operands, and what takes them
   abbrev pub two_code : ℕ → Tree → Tree → Line → List Line
-  two_code n a b last = tree_code n a ++ (tree_code (n + length (tree_code n a)) b ++ last ∷ [])
+  two_code n a b last =
+      let first = tree_code n a in
+      first ++ (tree_code (n + length first) b ++ last ∷ [])
 
   -- a value that may be left out
   abbrev pub maybe_code : ℕ → Option Tree → List Line
@@ -135,13 +155,23 @@ module _ (methods : List Method) (texts : List Text) where
     step_code n (PutField at f key e) = two_code n key e (line (i.PutField f) at)
     step_code n (CutLocal at slot key) = tree_code n key ++ line (i.CutLocal slot) at ∷ []
     step_code n (CutField at f key) = tree_code n key ++ line (i.CutField f) at ∷ []
-    step_code n (If at test body other) = test_then n at (tree_code n test) (surely_ends body) (steps_code (n + length (tree_code n test) + 1) body) other
-    step_code n (While at test body) = while_code n at (tree_code n test) (surely_ends body) (steps_code (n + length (tree_code n test) + 1 + 1) body)
+    step_code n (If at test body other) =
+        let asked = tree_code n test in
+        let block = steps_code (n + length asked + 1) body in
+        test_then n at asked (surely_ends body) block other
+    step_code n (While at test body) =
+        let asked = tree_code n test in
+        let block = steps_code (n + length asked + 1 + 1) body in
+        while_code n at asked (surely_ends body) block
     step_code n (For at counter from to body) =
-        tree_code n from ++ line (i.Store counter) at
-        ∷ (tree_code (n + length (tree_code n from) + 1) to ++ line (i.Store (counter + 1)) at
-        ∷ while_code (loop_at n (length (tree_code n from)) (length (tree_code (n + length (tree_code n from) + 1) to))) at (test_code counter at) (surely_ends body)
-        (turn_code counter at (surely_ends body) (steps_code (block_at (loop_at n (length (tree_code n from)) (length (tree_code (n + length (tree_code n from) + 1) to)))) body)))
+        let first = tree_code n from in
+        let bound = tree_code (n + length first + 1) to in
+        let loop = loop_at n (length first) (length bound) in
+        let block = steps_code (block_at loop) body in
+        let turn = turn_code counter at (surely_ends body) block in
+        first ++ line (i.Store counter) at
+        ∷ (bound ++ line (i.Store (counter + 1)) at
+        ∷ while_code loop at (test_code counter at) (surely_ends body) turn)
     step_code n (Require at e) = tree_code n e ++ line i.Require at ∷ []
     step_code n (Send at label e) = tree_code n e ++ line (i.Send (place_of_text texts label)) at ∷ []
     step_code n (Spawn at event args) = trees_code n args ++ line (i.Spawn event) at ∷ []
@@ -151,11 +181,15 @@ module _ (methods : List Method) (texts : List Text) where
 
     pub steps_code : ℕ → Steps → List Line
     steps_code n no_steps = []
-    steps_code n (step s ss) = step_code n s ++ steps_code (n + length (step_code n s)) ss
+    steps_code n (step s ss) =
+        let first = step_code n s in
+        first ++ steps_code (n + length first) ss
 
     pub test_then : ℕ → Span → List Line → Bool → List Line → Else → List Line
     test_then n at ct ended ca no_else = if_code n at ct ca
-    test_then n at ct ended ca (otherwise ss) = else_code n at ct ended ca (steps_code (behind ended (n + length ct + 1 + length ca)) ss)
+    test_then n at ct ended ca (otherwise ss) =
+        let other = behind ended (n + length ct + 1 + length ca) in
+        else_code n at ct ended ca (steps_code other ss)
 
   -- how a method ends, and an event: at the word that gives its value, or at its own; and not at all where its statements surely end
   abbrev pub return_code : ℕ → Span → Bool → Option Last → List Line
@@ -175,9 +209,11 @@ module _ (methods : List Method) (texts : List Text) where
   abbrev pub phases_code : ℕ → Bool → List Phase → Span → Option Last → List Line
   phases_code n ended [] at last = reply_code n at ended last
   phases_code n ended (f ∷ fs) at last =
-      tree_code n (tree_of f.key) ++ line (i.Go f.class) f.at
-      ∷ (steps_code (n + length (tree_code n (tree_of f.key)) + 1) (steps_in f.body)
-      ++ phases_code (n + length (tree_code n (tree_of f.key)) + 1 + length (steps_code (n + length (tree_code n (tree_of f.key)) + 1) (steps_in f.body))) (surely_ends (steps_in f.body)) fs at last)
+      let key = tree_code n (tree_of f.key) in
+      let body = n + length key + 1 in
+      let block = steps_code body (steps_in f.body) in
+      let rest = phases_code (body + length block) (surely_ends (steps_in f.body)) fs at last in
+      key ++ line (i.Go f.class) f.at ∷ (block ++ rest)
 
   unfoldable pub event_code : Event → List Line
   event_code e = body_then (steps_code 0 (steps_in e.here)) (λ n. phases_code n (surely_ends (steps_in e.here)) e.phases e.at e.last)
