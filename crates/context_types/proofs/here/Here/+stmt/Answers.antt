@@ -1,7 +1,7 @@
-use Rattle.std.proofs.Common.{◌∷◌, not, false, map, sym, ap, subst, ◌∙◌, refl}
+use Rattle.std.proofs.Common.{◌∷◌, not, false, map, sym, ap, subst, ◌∙◌}
 use Rattle.std.proofs.lemmas.List.{take_all}
 use Rattle.std.proofs.lemmas.Result.{err_from_is_err_and}
-use Rattle.mace_ast.specs.Exprs.{expr_tree, exprs_of}
+use Rattle.mace_ast.specs.Exprs.{expr_tree}
 use Rattle.mace_ast.specs.Stmts as s
 use Rattle.mace_ast.specs.Stmts.{stmt_tree, stmts_of, action_tree, else_of}
 use Rattle.resolved_service.specs.Steps as r
@@ -14,7 +14,6 @@ use Rattle.type_rules.specs.Here.{behind}
 use Rattle.type_rules.specs.Stmts.{start_of, stmt_demands, stmts_demands}
 use Rattle.type_rules.proofs.First.{told_past, fails_at, fails_past, fails_same}
 use Rattle.context_types.specs.inner.Places.{here_of, else_in}
-use Rattle.context_types.proofs.CallArms.{child_holds, child_fails, child_is, key_fails}
 use Rattle.context_types.proofs.Exits.{exit}
 use Rattle.context_types.proofs.Lists.{next_stmt, stmt_asks, stmt_made, stmts_walk, stmts_ends, stmts_made}
 use Rattle.context_types.proofs.Scopes.{cut_block, cut_loop, behind_is}
