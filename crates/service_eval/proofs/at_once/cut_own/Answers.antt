@@ -1,17 +1,17 @@
-use Rattle.std.proofs.Common.{◌≡◌, [], ◌∷◌, get_or, slice_set, refl, sym, ap, subst, ◌∙◌}
+use Rattle.std.proofs.Common.{◌≡◌, [], ◌∷◌, refl, sym, ap, subst, ◌∙◌}
 use Rattle.context_tree.specs.Contexts.{tree_of as shown, with_field}
 use Rattle.wave_base.specs.declared.value.Value.{Value}
 use Rattle.wave_base.specs.Tree.{Tree, there}
 use Rattle.std.proofs.Common.{List}
-use Rattle.resolved_service.specs.Meaning.{value, called, ◌>>=◌}
+use Rattle.resolved_service.specs.Meaning.{called}
 use Rattle.resolved_service.specs.Steps as s
 use Rattle.resolved_service.specs.View.{tree_of}
 use Rattle.resolved_service.specs.World.{nothing, read_field}
 use Rattle.service_eval.specs.Items as i
 use Rattle.service_eval.specs.Machines.{Mach, in_state, finish}
 use Rattle.service_eval.specs.Turns.{mach, Alters, AtOnce}
-use Rattle.service_eval.proofs.EditLemmas.{put_answer, cut_answer, set_twice, field_twice}
-use Rattle.service_eval.proofs.OnceLemmas.{one_found, one_fails, two_found, two_fails, slot_once, field_once}
+use Rattle.service_eval.proofs.EditLemmas.{cut_answer, field_twice}
+use Rattle.service_eval.proofs.OnceLemmas.{one_found, one_fails, field_once}
 use Rattle.service_eval.proofs.at_once.cut_own.Goals as goal
 
 pub set_field-requires : goal.set_field-requires

@@ -1,17 +1,14 @@
-use Rattle.std.proofs.Common.{◌≡◌, [], ◌∷◌, get_or, slice_set, refl, sym, ap, subst, ◌∙◌}
-use Rattle.context_tree.specs.Contexts.{tree_of as shown, with_field}
+use Rattle.std.proofs.Common.{[], ◌∷◌, get_or, slice_set, refl, sym, ap, subst, ◌∙◌}
 use Rattle.wave_base.specs.declared.value.Value.{Value}
-use Rattle.wave_base.specs.Tree.{Tree, there}
-use Rattle.std.proofs.Common.{List}
-use Rattle.resolved_service.specs.Meaning.{value, called, ◌>>=◌}
+use Rattle.resolved_service.specs.Meaning.{called}
 use Rattle.resolved_service.specs.Steps as s
 use Rattle.resolved_service.specs.View.{tree_of}
-use Rattle.resolved_service.specs.World.{nothing, read_field}
+use Rattle.resolved_service.specs.World.{nothing}
 use Rattle.service_eval.specs.Items as i
 use Rattle.service_eval.specs.Machines.{Mach, in_state, finish}
 use Rattle.service_eval.specs.Turns.{mach, Alters, AtOnce}
-use Rattle.service_eval.proofs.EditLemmas.{put_answer, cut_answer, set_twice, field_twice}
-use Rattle.service_eval.proofs.OnceLemmas.{one_found, one_fails, two_found, two_fails, slot_once, field_once}
+use Rattle.service_eval.proofs.EditLemmas.{cut_answer, set_twice}
+use Rattle.service_eval.proofs.OnceLemmas.{one_found, one_fails, slot_once}
 use Rattle.service_eval.proofs.at_once.cut_slot.Goals as goal
 
 pub returns-in-Ok-Some : goal.returns-in-Ok-Some

@@ -1,5 +1,4 @@
-use Rattle.std.proofs.Common.{◌≡◌, refl, ap}
-use Rattle.context_tree.specs.Contexts.{tree_of as shown, with_field}
+use Rattle.std.proofs.Common.{refl, ap}
 use Rattle.resolved_service.specs.Meaning.{put_field, called}
 use Rattle.resolved_service.specs.Steps as s
 use Rattle.resolved_service.specs.View.{tree_of}

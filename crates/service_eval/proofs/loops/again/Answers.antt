@@ -1,8 +1,8 @@
-use Rattle.std.proofs.Common.{slice_set, sym, ap, subst, ◌∙◌, arith}
+use Rattle.std.proofs.Common.{sym, ap, subst, ◌∙◌, arith}
 use Rattle.context_tree.specs.Contexts.{tree_of as shown}
 use Rattle.resolved_service.specs.Steps.{steps_in}
 use Rattle.service_eval.specs.Items.{Again, Counts}
-use Rattle.service_eval.specs.Machines.{Mach, on_top, in_state, comes_to}
+use Rattle.service_eval.specs.Machines.{Mach, on_top, comes_to}
 use Rattle.service_eval.specs.Ready.{Ready}
 use Rattle.service_eval.specs.Turns.{mach}
 use Rattle.service_eval.proofs.FinishLemmas as l
