@@ -41,6 +41,15 @@ module _ (methods : List Method) (m : Mach) where
       (assoc (effect k m.depth m.path first m.state) (λ _. effects k m.depth m.path others) under
       ∙ sym (assoc (effect k m.depth m.path first m.state) under (act methods m.path m.depth (Block others))))
 
+  last_is : (o : Outcome (Unit {0})) → and_then o (λ _. give tt) ≡ o
+  last_is (Done u st) = refl
+  last_is (Trapped t at w) = refl
+  last_is (Left l st) = refl
+
+  -- the last of some statements
+  pub block_last : (first : Step) → comes_to methods (on_top (Block (step first no_steps)) m) ≡ comes_to methods (on_top (Begin first) m)
+  block_last first = ap go (ap (λ o. and_then o under) (last_is (effect k m.depth m.path first m.state)))
+
   -- what lies there is cut off again
   ended : (at : Span) (what : End) (xs : List Value) (st : State) → and_then (ends at what xs st) under ≡ finishes at what (m.values ++ xs) st
   ended at what xs st i = and_then (ends at what (sym (upon vs xs) i) st) (λ _. give (sym (below vs xs) i))

@@ -117,7 +117,7 @@ few_downs (i.Finish at what base ∷ items) p = few_downs items p
 few_downs (i.Turns at test body left ∷ items) p = few_downs items p
 few_downs (i.Check at test body left base ∷ items) p = few_downs items p
 few_downs (i.Counts at counter body left ∷ items) p = few_downs items p
-few_downs (i.Next at counter ∷ items) p = few_downs items p
+few_downs (i.Again at counter body left ∷ items) p = few_downs items p
 
 method_fits : (shape : Shape) (methods : List Method) (number : ℕ) (method : Method) → All (FitsMethod shape methods) methods → slice_get methods number ≡ Some method → FitsMethod shape methods method
 method_fits shape methods number method all is = subst (FitsMethod shape methods) (get_or_from_slice_get methods number method method is) (all number method (slice_get_within methods number method is))

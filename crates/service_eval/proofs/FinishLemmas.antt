@@ -14,7 +14,7 @@ use Rattle.resolved_service.specs.World.{World, nothing, is_true, ticking}
 use Rattle.service_eval.specs.declared.stop.Stop.{Stop}
 use Rattle.service_eval.specs.declared.stop.Stop.TheVariants as stop
 use Rattle.service_eval.specs.Answers.{Gives}
-use Rattle.service_eval.specs.Items.{End, Branch, Eval, Block, Finish, Turns, Check, Counts, Next}
+use Rattle.service_eval.specs.Items.{End, Branch, Eval, Block, Finish, Turns, Check, Counts, Again}
 use Rattle.service_eval.specs.Machines.{Mach, on_top, cut_to, in_world, in_state, own, act, finish, turn_on, next, resume, comes_to}
 use Rattle.service_eval.specs.Worlds.{Changes, Traps, Fails}
 use Rattle.service_eval.proofs.CallLemmas.{world_fails}
@@ -102,15 +102,10 @@ module _ (methods : List Method) (m : Mach) (at : Span) (left : ℕ) (body : Ste
         ∙ sym (assoc (inner (record { locals = m.state.locals; world = w })) (λ _. give (take base m.values)) (act methods m.path m.depth (Turns at test body (left - 1)))))
 
 -- the counter of a loop goes on after the body
-two_is : (o : Outcome (Unit {0})) (w : Act (Unit {0})) (vs : List Value) → and_then (and_then o (λ _. w)) (λ _. give vs) ≡ and_then (and_then o (λ _. give vs)) (λ vs. w >> give vs)
-two_is (Done u st) w vs = refl
-two_is (Trapped t at v) w vs = refl
-two_is (Left l st) w vs = refl
-
-three_is : (o : Outcome (Unit {0})) (f w : Act (Unit {0})) (vs : List Value) → and_then (and_then (and_then o (λ _. f)) (λ _. w)) (λ _. give vs) ≡ and_then (and_then (and_then o (λ _. give vs)) (λ vs. f >> give vs)) (λ vs. w >> give vs)
-three_is (Done u st) f w vs = two_is (f st) w vs
-three_is (Trapped t at v) f w vs = refl
-three_is (Left l st) f w vs = refl
+again_then : (o : Outcome (Unit {0})) (f w : Act (Unit {0})) (vs : List Value) → and_then (and_then (and_then o (λ _. f)) (λ _. w)) (λ _. give vs) ≡ and_then (and_then o (λ _. give vs)) (λ vs. f >> (w >> give vs))
+again_then (Done u st) f w vs = assoc (f st) (λ _. w) (λ _. give vs)
+again_then (Trapped t at v) f w vs = refl
+again_then (Left l st) f w vs = refl
 
 module _ (methods : List Method) (m : Mach) (at : Span) (counter : ℕ) where
   abbrev test_row : Answer Value
@@ -145,16 +140,20 @@ module _ (methods : List Method) (m : Mach) (at : Span) (counter : ℕ) where
           ∙ ap (λ o. resume methods m.items m.path m.depth (and_then o (λ _. give m.values))) (turn_last at turn left (for_test counter at) v m.state e h)
           ∙ ap (λ a. resume methods m.items m.path m.depth (and_then (with_world a at m.state) (λ _. give m.values))) t
 
-      pub counts_more : (w : World) → is_true v ≡ true → left ≡ suc (left - 1) → ticking m.state.world ≡ Ok w → comes_to methods (on_top (Counts at counter body left) m) ≡ comes_to methods (on_top (Block body) (on_top (Next at counter) (on_top (Counts at counter body (left - 1)) (in_state (record { locals = slice_set m.state.locals (counter + 2) (get_or m.state.locals counter nothing); world = w }) m))))
+      pub counts_more : (w : World) → is_true v ≡ true → left ≡ suc (left - 1) → ticking m.state.world ≡ Ok w → comes_to methods (on_top (Counts at counter body left) m) ≡ comes_to methods (on_top (Block body) (on_top (Again at counter body (left - 1)) (in_state (record { locals = slice_set m.state.locals (counter + 2) (get_or m.state.locals counter nothing); world = w }) m)))
       counts_more w h e t =
           counts_on
           ∙ ap (λ o. resume methods m.items m.path m.depth (and_then o (λ _. give m.values))) (turn_more at turn left (for_test counter at) v m.state e h)
           ∙ ap (λ a. resume methods m.items m.path m.depth (and_then (and_then (with_world a at m.state) (λ _. turn >> while_turns (left - 1) (for_test counter at) turn at)) (λ _. give m.values))) t
           ∙ ap (resume methods m.items m.path m.depth)
-          (three_is (effects (called methods m.depth) m.depth m.path body (record { locals = slice_set m.state.locals (counter + 2) (get_or m.state.locals counter nothing); world = w })) (next counter at) (while_turns (left - 1) (for_test counter at) turn at) m.values)
+          (again_then (effects (called methods m.depth) m.depth m.path body (record { locals = slice_set m.state.locals (counter + 2) (get_or m.state.locals counter nothing); world = w })) (next counter at) (while_turns (left - 1) (for_test counter at) turn at) m.values)
 
-  pub next_is : (v : Value) → apply_row row_add (get_or m.state.locals counter nothing ∷ Int (pos 1) ∷ []) ≡ Ok v → comes_to methods (on_top (Next at counter) m) ≡ comes_to methods (in_state (record { locals = slice_set m.state.locals counter v; world = m.state.world }) m)
-  next_is v h = ap (λ a. resume methods m.items m.path m.depth (and_then (and_then (answer a at m.state) (set_local counter)) (λ _. give m.values))) h
+  module _ (left : ℕ) (body : Steps) where
+    abbrev others : Act (Unit {0})
+    others = while_turns left (for_test counter at) (for_body counter at (effects (called methods m.depth) m.depth m.path body)) at
 
-  pub next_fails : (e : Stop) → Gives (apply_row row_add (get_or m.state.locals counter nothing ∷ Int (pos 1) ∷ [])) at (Err e) → Fails (comes_to methods (on_top (Next at counter) m)) e m.state.world
-  next_fails e h = fails_through methods m.items m.path m.depth _ e m.state.world (traps_then _ (λ _. give m.values) e m.state.world (gives_fails _ at m.state (set_local counter) e h))
+    pub again_is : (v : Value) → apply_row row_add (get_or m.state.locals counter nothing ∷ Int (pos 1) ∷ []) ≡ Ok v → comes_to methods (on_top (Again at counter body left) m) ≡ comes_to methods (on_top (Counts at counter body left) (in_state (record { locals = slice_set m.state.locals counter v; world = m.state.world }) m))
+    again_is v h = ap (λ a. resume methods m.items m.path m.depth (and_then (and_then (answer a at m.state) (set_local counter)) (λ _. others >> give m.values))) h
+
+    pub again_fails : (e : Stop) → Gives (apply_row row_add (get_or m.state.locals counter nothing ∷ Int (pos 1) ∷ [])) at (Err e) → Fails (comes_to methods (on_top (Again at counter body left) m)) e m.state.world
+    again_fails e h = fails_through methods m.items m.path m.depth _ e m.state.world (traps_then _ (λ _. others >> give m.values) e m.state.world (gives_fails _ at m.state (set_local counter) e h))

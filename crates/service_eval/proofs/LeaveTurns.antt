@@ -43,7 +43,7 @@ fits_to_return shape methods (i.Finish at what base ∷ items) p h = fits_to_ret
 fits_to_return shape methods (i.Turns at test body left ∷ items) p h = fits_to_return shape methods items p h.1
 fits_to_return shape methods (i.Check at test body left base ∷ items) p h = fits_to_return shape methods items p h.1
 fits_to_return shape methods (i.Counts at counter body left ∷ items) p h = fits_to_return shape methods items p h.1
-fits_to_return shape methods (i.Next at counter ∷ items) p h = fits_to_return shape methods items p h.1
+fits_to_return shape methods (i.Again at counter body left ∷ items) p h = fits_to_return shape methods items p h.1
 
 owed_to_return : (items : List Item) → owed (to_return items) ≡ owed items
 owed_to_return [] = refl
@@ -61,7 +61,7 @@ owed_to_return (i.Finish at what base ∷ items) = owed_to_return items ∙ sym 
 owed_to_return (i.Turns at test body left ∷ items) = owed_to_return items ∙ sym (zero-add (owed items))
 owed_to_return (i.Check at test body left base ∷ items) = owed_to_return items ∙ sym (zero-add (owed items))
 owed_to_return (i.Counts at counter body left ∷ items) = owed_to_return items ∙ sym (zero-add (owed items))
-owed_to_return (i.Next at counter ∷ items) = owed_to_return items ∙ sym (zero-add (owed items))
+owed_to_return (i.Again at counter body left ∷ items) = owed_to_return items ∙ sym (zero-add (owed items))
 
 downs_to_return : (items : List Item) (p : Path) → downs (to_return items) p ≡ downs items p
 downs_to_return [] p = refl
@@ -79,7 +79,7 @@ downs_to_return (i.Finish at what base ∷ items) p = downs_to_return items p
 downs_to_return (i.Turns at test body left ∷ items) p = downs_to_return items p
 downs_to_return (i.Check at test body left base ∷ items) p = downs_to_return items p
 downs_to_return (i.Counts at counter body left ∷ items) p = downs_to_return items p
-downs_to_return (i.Next at counter ∷ items) p = downs_to_return items p
+downs_to_return (i.Again at counter body left ∷ items) p = downs_to_return items p
 
 module _ (code : Code) (contexts : Contexts) (m m1 : Machine) (ready : Ready code.shape.now code.methods.now (mach code contexts m)) (rest : (tree : Tree (List Value)) → mach_of tree m1 ≡ record (mach_of tree m) { items = items_of m1 }) where
   abbrev M : Mach

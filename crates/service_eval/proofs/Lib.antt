@@ -16,6 +16,7 @@ pub mod StepRows
 pub mod FinishLemmas
 pub mod FinishTurns
 pub mod EditLemmas
+pub mod OnceLemmas
 pub mod BlockTurns
 pub mod SendTurns
 pub mod EventLemmas

@@ -10,7 +10,7 @@ use Rattle.resolved_service.specs.Meaning.{State, Returned, Finished, Outcome, D
 use Rattle.resolved_service.specs.World.{World, nothing}
 use Rattle.service_eval.specs.declared.stop.Stop.{Stop}
 use Rattle.service_eval.specs.declared.stop.Stop.TheVariants as stop
-use Rattle.service_eval.specs.Items.{Item, Eval, Evals, Apply, AndThen, OrElse, Invoke, Child, Block, Begin, Finish, Turns, Check, Counts, Next, Return, to_return}
+use Rattle.service_eval.specs.Items.{Item, Eval, Evals, Apply, AndThen, OrElse, Invoke, Child, Block, Begin, Finish, Turns, Check, Counts, Again, Return, to_return}
 use Rattle.service_eval.specs.Machines.{resume, own}
 use Rattle.service_eval.specs.Worlds.{Traps, Ends, Fails}
 
@@ -62,7 +62,7 @@ trap_through methods (Finish a what base ∷ items) p n k at w = trap_through me
 trap_through methods (Turns a test body left ∷ items) p n k at w = trap_through methods items p n k at w
 trap_through methods (Check a test body left base ∷ items) p n k at w = trap_through methods items p n k at w
 trap_through methods (Counts a counter body left ∷ items) p n k at w = trap_through methods items p n k at w
-trap_through methods (Next a counter ∷ items) p n k at w = trap_through methods items p n k at w
+trap_through methods (Again a counter body left ∷ items) p n k at w = trap_through methods items p n k at w
 
 pub fails_through : (methods : List Method) (items : List Item) (p : Path) (n : ℕ) (o : Outcome (List Value)) (e : Stop) (w : World) → Traps o e w → Fails (resume methods items p n o) e w
 fails_through methods items p n o stop.OutOfMemory w h = tt
@@ -86,7 +86,7 @@ return_through methods (Finish a what base ∷ items) p n r st = return_through 
 return_through methods (Turns a test body left ∷ items) p n r st = return_through methods items p n r st
 return_through methods (Check a test body left base ∷ items) p n r st = return_through methods items p n r st
 return_through methods (Counts a counter body left ∷ items) p n r st = return_through methods items p n r st
-return_through methods (Next a counter ∷ items) p n r st = return_through methods items p n r st
+return_through methods (Again a counter body left ∷ items) p n r st = return_through methods items p n r st
 
 -- a finish ends all
 pub finish_through : (methods : List Method) (items : List Item) (p : Path) (n : ℕ) (r : Option Value) (st : State) → Ends (resume methods items p n (Left (Finished r) st)) r st.world
@@ -105,7 +105,7 @@ finish_through methods (Finish a what base ∷ items) p n r st = finish_through 
 finish_through methods (Turns a test body left ∷ items) p n r st = finish_through methods items p n r st
 finish_through methods (Check a test body left base ∷ items) p n r st = finish_through methods items p n r st
 finish_through methods (Counts a counter body left ∷ items) p n r st = finish_through methods items p n r st
-finish_through methods (Next a counter ∷ items) p n r st = finish_through methods items p n r st
+finish_through methods (Again a counter body left ∷ items) p n r st = finish_through methods items p n r st
 
 -- values upon those that lie below
 module _ (vs xs : List Value) where

@@ -1,5 +1,5 @@
 -- What is still to be done, item by item, as contracts see it: no pointers.
-use Rattle.std.specs.Prelude.{ℕ, Bool, List, [], ◌∷◌, map, Option, Some, None, Vec}
+use Rattle.std.specs.Prelude.{ℕ, Bool, true, false, List, [], ◌∷◌, map, Option, Some, None, Vec}
 use Rattle.std.specs.Global.{Global}
 use Rattle.wave_base.specs.declared.span.Span.{Span}
 use Rattle.wave_base.specs.declared.value.Value.{Value}
@@ -36,7 +36,7 @@ pub data Item : Type 0 where
   Turns : (at : Span) (test : Tree) (body : Steps) (left : ℕ) → Item
   Check : (at : Span) (test : Tree) (body : Steps) (left base : ℕ) → Item
   Counts : (at : Span) (counter : ℕ) (body : Steps) (left : ℕ) → Item
-  Next : (at : Span) (counter : ℕ) → Item
+  Again : (at : Span) (counter : ℕ) (body : Steps) (left : ℕ) → Item
   Return : (locals values : List Value) (depth : ℕ) (up : Bool) → Item
 
 abbrev pub end_of : Ending → End
@@ -69,8 +69,8 @@ item_of (work.Block body) = Block (steps_in body.now)
 item_of (work.Finish at what base) = Finish at (end_of what) base
 item_of (work.Turns at test body left) = Turns at (tree_of test.now) (steps_in body.now) left
 item_of (work.Check at test body left base) = Check at (tree_of test.now) (steps_in body.now) left base
-item_of (work.Counts at counter body left) = Counts at counter (steps_in body.now) left
-item_of (work.Next at counter) = Next at counter
+item_of (work.Counts at counter body left false) = Counts at counter (steps_in body.now) left
+item_of (work.Counts at counter body left true) = Again at counter (steps_in body.now) left
 item_of (work.Return caller) = return_of caller
 
 -- the statements of an `else`, if there is one

@@ -15,7 +15,7 @@ use Rattle.resolved_service.specs.View.{tree_of}
 use Rattle.resolved_service.specs.World.{World, nothing, is_true, child, changed, sending, spawning}
 use Rattle.service_eval.specs.declared.machine.Machine.{Machine}
 use Rattle.service_eval.specs.declared.work.Caller.{Caller}
-use Rattle.service_eval.specs.Items.{End, SetLocal, SetField, PutLocal, PutField, CutLocal, CutField, Branch, Require, Send, Spawn, Drop, Returns, Finishes, Item, Eval, Evals, Apply, AndThen, OrElse, Invoke, Child, Block, Begin, Finish, Turns, Check, Counts, Next, Return, item_of}
+use Rattle.service_eval.specs.Items.{End, SetLocal, SetField, PutLocal, PutField, CutLocal, CutField, Branch, Require, Send, Spawn, Drop, Returns, Finishes, Item, Eval, Evals, Apply, AndThen, OrElse, Invoke, Child, Block, Begin, Finish, Turns, Check, Counts, Again, Return, item_of}
 use Rattle.service_eval.specs.Worlds.{world_of}
 
 -- what is to be done next stands first
@@ -123,7 +123,7 @@ module _ (methods : List Method) (p : Path) (n : ℕ) where
   act (Turns at test body left) vs = while_turns left (value (called methods n) p test) (effects (called methods n) n p body) at >> give vs
   act (Check at test body left base) vs = turn_on left (value (called methods n) p test) (effects (called methods n) n p body) at (own 0 base vs) >> give (take base vs)
   act (Counts at counter body left) vs = while_turns left (for_test counter at) (for_body counter at (effects (called methods n) n p body)) at >> give vs
-  act (Next at counter) vs = next counter at >> give vs
+  act (Again at counter body left) vs = next counter at >> (while_turns left (for_test counter at) (for_body counter at (effects (called methods n) n p body)) at >> give vs)
   act (Return locals below depth up) vs = give vs
 
 abbrev pub path_after : Bool → Path → Path
@@ -168,7 +168,7 @@ module _ (methods : List Method) where
   resume (Turns at test body left ∷ items) p n out = resume items p n (and_then out (act methods p n (Turns at test body left)))
   resume (Check at test body left base ∷ items) p n out = resume items p n (and_then out (act methods p n (Check at test body left base)))
   resume (Counts at counter body left ∷ items) p n out = resume items p n (and_then out (act methods p n (Counts at counter body left)))
-  resume (Next at counter ∷ items) p n out = resume items p n (and_then out (act methods p n (Next at counter)))
+  resume (Again at counter body left ∷ items) p n out = resume items p n (and_then out (act methods p n (Again at counter body left)))
 
   -- what a machine comes to
   abbrev pub comes_to : Mach → Outcome Rest

@@ -9,7 +9,7 @@ use Rattle.resolved_service.specs.declared.service.Method.{Method}
 use Rattle.resolved_service.specs.Fits.{FitsTree, FitsTrees, FitsStep, FitsSteps, IsMethod, IsChildClass}
 use Rattle.resolved_service.specs.Meaning.{Outcome}
 use Rattle.service_eval.specs.declared.stop.Stop.{Stop}
-use Rattle.service_eval.specs.Items.{End, Branch, Item, Eval, Evals, AndThen, OrElse, Invoke, Child, Block, Begin, Finish, Turns, Check, Counts, Return}
+use Rattle.service_eval.specs.Items.{End, Branch, Item, Eval, Evals, AndThen, OrElse, Invoke, Child, Block, Begin, Finish, Turns, Check, Counts, Again, Return}
 use Rattle.service_eval.specs.Machines.{Mach, Rest, comes_to, path_after}
 use Rattle.service_eval.specs.Worlds.{Holds, Fails}
 
@@ -32,6 +32,7 @@ module _ (shape : Shape) (methods : List Method) where
   FitsItem class (Turns at test body left) = FitsTree shape methods class test × FitsSteps shape methods class body
   FitsItem class (Check at test body left base) = FitsTree shape methods class test × FitsSteps shape methods class body
   FitsItem class (Counts at counter body left) = FitsSteps shape methods class body
+  FitsItem class (Again at counter body left) = FitsSteps shape methods class body
   FitsItem class _ = Unit {0}
 
   -- where an item leads to

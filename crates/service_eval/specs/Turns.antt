@@ -1,5 +1,5 @@
 -- What a call that does an item asks, and what it does.
-use Rattle.std.specs.Prelude.{◌≡◌, List, [], Result, Ok, Err}
+use Rattle.std.specs.Prelude.{◌≡◌, Bool, true, false, List, [], Result, Ok, Err}
 use Rattle.wave_base.specs.declared.span.Span.{Span}
 use Rattle.wave_base.specs.declared.value.Value.{Value}
 use Rattle.value_ops.specs.Kinds.{Answer}
@@ -9,10 +9,11 @@ use Rattle.service_eval.specs.declared.machine.Machine.{Machine}
 use Rattle.service_eval.specs.declared.stop.Stop.{Stop}
 use Rattle.service_eval.specs.declared.stop.Stop.TheVariants as stop
 use Rattle.service_eval.specs.Items.{Item}
-use Rattle.service_eval.specs.Machines.{Mach, mach_of, on_top, before_all, rest_at, resume, comes_to}
-use Rattle.resolved_service.specs.Meaning.{Leave, Done, Left}
+use Rattle.service_eval.specs.Machines.{Mach, mach_of, on_top, before_all, in_state, rest_at, resume, comes_to}
+use Rattle.resolved_service.specs.Meaning.{Leave, Done, Left, effect, called}
+use Rattle.resolved_service.specs.Steps.{Step}
 use Rattle.service_eval.specs.Ready.{Ready, Follows, Turned}
-use Rattle.service_eval.specs.Worlds.{Holds, Fails}
+use Rattle.service_eval.specs.Worlds.{Holds, Traps, Fails}
 
 abbrev pub mach : Code → Contexts → Machine → Mach
 mach code contexts m = mach_of (shown code.shape.now contexts) m
@@ -44,6 +45,17 @@ Alters answer at before (Ok _) after = answer ≡ Ok after
 Alters answer at before (Err (stop.Trapped t)) after = (answer ≡ Err t.kind) × (t.at ≡ at) × (after ≡ before)
 Alters answer at before (Err stop.OutOfMemory) after = after ≡ before
 Alters answer at before (Err (stop.Ended _)) after = ⊥
+
+-- a statement was done at once: what it means, which is all that changed; or nothing was done
+abbrev pub AtOnce : Code → Contexts → Machine → Step → Result Bool Stop → Contexts → Machine → Type 0
+AtOnce code contexts m s (Ok true) contexts' m' =
+    (effect (called code.methods.now m.depth) m.depth m.path s (mach code contexts m).state ≡ Done tt (mach code contexts' m').state)
+    × (mach code contexts' m' ≡ in_state (mach code contexts' m').state (mach code contexts m))
+    × Ready code.shape.now code.methods.now (mach code contexts' m')
+AtOnce code contexts m s (Ok false) contexts' m' = mach code contexts' m' ≡ mach code contexts m
+AtOnce code contexts m s (Err e) contexts' m' =
+    Traps (effect (called code.methods.now m.depth) m.depth m.path s (mach code contexts m).state) e (mach code contexts' m').state.world
+    × Holds code.shape.now (mach code contexts' m').state.world.tree
 
 -- all was done: nothing is left to do
 abbrev pub Ran : Code → Mach → Result (Unit {0}) Stop → Mach → Type 0

@@ -2,12 +2,13 @@
 
 ghost use Rattle.std.specs.Prelude.{◌≡◌, [], ◌∷◌, OnOk, IfErr, IsNone, IfSome};
 ghost use Rattle.std.specs.Option.{option_map};
-ghost use Rattle.resolved_service.specs.Steps.{For, Return, Finish, step_of, steps_in};
+ghost use Rattle.resolved_service.specs.Steps.{For, Return, Finish, step, step_of, steps_in};
 ghost use Rattle.resolved_service.specs.View.{tree_of};
 ghost use Rattle.service_eval.specs.Items.{end_of, else_steps, else_in};
 ghost use Rattle.service_eval.specs.Items as i;
 ghost use Rattle.service_eval.specs.Turns.{IsNext, Goes, AreNext, GoOn};
 
+use crate::at_once::at_once;
 use crate::calls::give_back;
 use crate::code::Code;
 use crate::eval::found;
@@ -19,7 +20,7 @@ use context_tree::Tree;
 use resolved_service::{Action, Expr, Stmt};
 use wave_base::Span;
 
-/// The first of some statements, and then the others.
+/// Some statements: those that can be done at once, up to the first that can't.
 pub fn block<'s>(
     code: Code<'s>,
     contexts: &mut Tree,
@@ -29,9 +30,38 @@ pub fn block<'s>(
     requires { IsNext code contexts.old m.old (i.Block (steps_in stmts.now)) }
     ensures { Goes code.entry contexts.old m.old (i.Block (steps_in stmts.now)) result contexts.new m.new }
 {
-    match first_of(stmts) {
-        None => Ok(()),
-        Some((first, others)) => match m.push(Work::Block(others)) {
+    let mut rest = stmts;
+    'statements: loop {
+        match first_of(rest) {
+            None => return Ok(()),
+            Some((first, others)) => match at_once(code, contexts, m, first) {
+                Ok(done) => {
+                    if done {
+                        rest = others;
+                    } else {
+                        return begin_first(code, contexts, m, first, others);
+                    }
+                }
+                Err(e) => return Err(e),
+            },
+        }
+    }
+}
+
+// A statement, and then the others.
+fn begin_first<'s>(
+    code: Code<'s>,
+    contexts: &mut Tree,
+    m: &mut Machine<'s>,
+    first: &'s Stmt,
+    others: &'s [Stmt],
+) -> Result<(), Stop>
+    requires { IsNext code contexts.old m.old (i.Block (step (step_of first.now) (steps_in others.now))) }
+    ensures { Goes code.entry contexts.old m.old (i.Block (step (step_of first.now) (steps_in others.now))) result contexts.new m.new }
+{
+    match first_of(others) {
+        None => begin(code, contexts, m, first),
+        Some(_) => match m.push(Work::Block(others)) {
             Ok(()) => begin(code, contexts, m, first),
             Err(e) => Err(e),
         },
@@ -227,7 +257,7 @@ fn begin_for<'s>(
     let base = m.height();
     let slot = counter as usize;
     let last = Work::Finish(at, Ending::SetLocal(slot + 1), base);
-    let turns = Work::Counts(at, counter, body, m.depth);
+    let turns = Work::Counts(at, counter, body, m.depth, false);
     match m.push_three(Work::Eval(to), last, turns) {
         Ok(()) => m.push_two(
             Work::Eval(from),

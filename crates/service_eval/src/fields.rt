@@ -23,6 +23,7 @@ pub fn field<'v>(shape: &'v Shape, tree: &'v Tree, path: &Path, field: usize) ->
 }
 
 /// A value of a list, or a number where there is none.
+#[inline(always)]
 pub fn item<'v>(values: &'v [Value], at: usize) -> Operand<'v>
     ensures { value_in result ≡ get_or values.now at nothing }
 {

@@ -1,6 +1,7 @@
 //! The events of a resolved service, run.
 #![tactic(auto)]
 
+mod at_once;
 mod block;
 mod calls;
 mod code;

@@ -44,6 +44,24 @@ pub fn look<'v, 's>(
     }
 }
 
+// The same, at once for a constant and a local.
+#[cycle(look)]
+#[inline(always)]
+fn operand<'v, 's>(
+    code: Code<'v>,
+    contexts: &'v Tree,
+    m: &'v Machine<'s>,
+    e: &'v Expr,
+) -> Result<Option<Operand<'v>>, Stop>
+    ensures { Looks (value (called code.entry.methods.now m.now.depth) m.now.path (tree_of e.now) (state_of (shown code.entry.shape.now contexts.now) m.now)) (state_of (shown code.entry.shape.now contexts.now) m.now) result }
+{
+    match &e.node {
+        Node::Const(value) => Ok(Some(Operand::Held(value))),
+        Node::Local(slot) => Ok(Some(item(m.locals.as_slice(), *slot as usize))),
+        _ => look(code, contexts, m, e),
+    }
+}
+
 /// The value of an operator, as `look` has it.
 #[cycle(look)]
 pub fn look_row<'v, 's>(
@@ -97,8 +115,8 @@ fn look_two<'v, 's>(
 ) -> Result<Option<Operand<'v>>, Stop>
     ensures { Looks (value (called code.entry.methods.now m.now.depth) m.now.path (Op at row (tree (tree_of a.now) (tree (tree_of b.now) no_trees))) (state_of (shown code.entry.shape.now contexts.now) m.now)) (state_of (shown code.entry.shape.now contexts.now) m.now) result }
 {
-    match look(code, contexts, m, a) {
-        Ok(Some(a)) => match look(code, contexts, m, b) {
+    match operand(code, contexts, m, a) {
+        Ok(Some(a)) => match operand(code, contexts, m, b) {
             Ok(Some(b)) => {
                 let value = apply_two(code.alloc, row as usize, a.value(), b.value(), at)?;
                 Ok(Some(Operand::Made(value)))

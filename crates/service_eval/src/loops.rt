@@ -11,6 +11,7 @@ ghost use Rattle.service_eval.specs.Turns.{IsNext, Goes};
 ghost use Rattle.value_ops.specs.Operators.{apply_row};
 ghost use Rattle.wave_base.specs.declared.value.Value.TheVariants.{Int};
 
+use crate::block::block;
 use crate::code::Code;
 use crate::eval::found;
 use crate::fields::item;
@@ -85,15 +86,15 @@ pub fn check<'s>(
 /// A turn of a loop over numbers, where the counter is below the bound.
 pub fn counts<'s>(
     code: Code<'s>,
-    contexts: &Tree,
+    contexts: &mut Tree,
     m: &mut Machine<'s>,
     at: Span,
     counter: u16,
     body: &'s [Stmt],
     left: u32,
 ) -> Result<(), Stop>
-    requires { IsNext code contexts.now m.old (i.Counts at counter (steps_in body.now) left) }
-    ensures { Goes code.entry contexts.now m.old (i.Counts at counter (steps_in body.now) left) result contexts.now m.new }
+    requires { IsNext code contexts.old m.old (i.Counts at counter (steps_in body.now) left) }
+    ensures { Goes code.entry contexts.old m.old (i.Counts at counter (steps_in body.now) left) result contexts.new m.new }
 {
     match is_below(code, m, at, counter as usize) {
         Ok(value) => {
@@ -110,7 +111,7 @@ pub fn counts<'s>(
 // The turn that was found to be due, by what the test gave.
 fn count<'s>(
     code: Code<'s>,
-    contexts: &Tree,
+    contexts: &mut Tree,
     m: &mut Machine<'s>,
     at: Span,
     counter: u16,
@@ -118,10 +119,10 @@ fn count<'s>(
     left: u32,
     value: Value,
 ) -> Result<(), Stop>
-    requires next { IsNext code contexts.now m.old (i.Counts at counter (steps_in body.now) left) }
+    requires next { IsNext code contexts.old m.old (i.Counts at counter (steps_in body.now) left) }
     requires test { apply_row row_lt (get_or m.old.locals.items counter nothing ∷ get_or m.old.locals.items (counter + 1) nothing ∷ []) ≡ Ok value }
     requires holds { is_true value ≡ true }
-    ensures { Goes code.entry contexts.now m.old (i.Counts at counter (steps_in body.now) left) result contexts.now m.new }
+    ensures { Goes code.entry contexts.old m.old (i.Counts at counter (steps_in body.now) left) result contexts.new m.new }
 {
     match m.trace.tick(at) {
         Ok(()) => {}
@@ -134,17 +135,18 @@ fn count<'s>(
     match item(m.locals.as_slice(), slot).owned(code.alloc) {
         Ok(number) => {
             m.set_local(slot + 2, number);
-            m.push_three(
-                Work::Block(body),
-                Work::Next(at, counter),
-                Work::Counts(at, counter, body, left - 1),
-            )
+            match m.push(Work::Counts(at, counter, body, left - 1, true)) {
+                Ok(()) => block(code, contexts, m, body),
+                Err(e) => Err(e),
+            }
         }
         Err(_) => Err(Stop::OutOfMemory),
     }
 }
 
 // What `counter < bound` gives.
+#[inline(always)]
+#[tactic(auto, unfolding(value_ops::specs::Operators::apply_row, value_ops::specs::Operators::operators))]
 fn is_below(code: Code<'_>, m: &Machine<'_>, at: Span, slot: usize) -> Result<Value, Stop>
     requires { slot < 2 ^ 16 }
     ensures { Gives (apply_row row_lt (get_or m.now.locals.items slot nothing ∷ get_or m.now.locals.items (slot + 1) nothing ∷ [])) at result }
@@ -152,30 +154,36 @@ fn is_below(code: Code<'_>, m: &Machine<'_>, at: Span, slot: usize) -> Result<Va
     let locals = m.locals.as_slice();
     let counter = item(locals, slot);
     let bound = item(locals, slot + 1);
-    apply_two(code.alloc, LT, counter.value(), bound.value(), at)
+    match (counter.value(), bound.value()) {
+        (Value::Int(counter), Value::Int(bound)) => Ok(Value::Bool(*counter < *bound)),
+        (counter, bound) => apply_two(code.alloc, LT, counter, bound, at),
+    }
 }
 
-/// The counter goes on by one.
-pub fn next(
-    code: Code<'_>,
-    contexts: &Tree,
-    m: &mut Machine<'_>,
+/// The counter goes on by one, and so does the loop.
+pub fn again<'s>(
+    code: Code<'s>,
+    contexts: &mut Tree,
+    m: &mut Machine<'s>,
     at: Span,
     counter: u16,
+    body: &'s [Stmt],
+    left: u32,
 ) -> Result<(), Stop>
-    requires { IsNext code contexts.now m.old (i.Next at counter) }
-    ensures { Goes code.entry contexts.now m.old (i.Next at counter) result contexts.now m.new }
+    requires { IsNext code contexts.old m.old (i.Again at counter (steps_in body.now) left) }
+    ensures { Goes code.entry contexts.old m.old (i.Again at counter (steps_in body.now) left) result contexts.new m.new }
 {
     match one_more(code, m, at, counter as usize) {
         Ok(number) => {
             m.set_local(counter as usize, number);
-            Ok(())
+            counts(code, contexts, m, at, counter, body, left)
         }
         Err(e) => Err(e),
     }
 }
 
 // What `counter + 1` gives.
+#[inline(always)]
 fn one_more(code: Code<'_>, m: &Machine<'_>, at: Span, slot: usize) -> Result<Value, Stop>
     ensures { Gives (apply_row row_add (get_or m.now.locals.items slot nothing ∷ Int (pos 1) ∷ [])) at result }
 {

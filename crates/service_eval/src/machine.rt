@@ -25,6 +25,7 @@ pub struct Machine<'s> {
 
 impl<'s> Machine<'s> {
     /// One thing more is to be done, before all others.
+    #[inline(always)]
     pub fn push(&mut self, work: Work<'s>) -> Result<(), Stop>
         ensures ok { OnOk result ((tree : _) → mach_of tree self.new ≡ on_top (item_of work.entry) (mach_of tree self.old)) }
         ensures err { IfErr result (λ e. e ≡ Stop.OutOfMemory) }
@@ -57,6 +58,7 @@ impl<'s> Machine<'s> {
     }
 
     /// Takes what is to be done next.
+    #[inline(always)]
     pub fn pop(&mut self) -> Option<Work<'s>>
         ensures none { IsNone result → (tree : _) → (mach_of tree self.new ≡ mach_of tree self.old) × ((mach_of tree self.old).items ≡ []) }
         ensures some { IfSome result (λ w. (tree : _) → mach_of tree self.old ≡ on_top (item_of w) (mach_of tree self.new)) }
@@ -161,6 +163,7 @@ impl<'s> Machine<'s> {
     }
 
     /// Sets a local, where there is one.
+    #[inline(always)]
     pub fn set_local(&mut self, slot: usize, value: Value)
         ensures { (tree : _) → mach_of tree self.new ≡ record (mach_of tree self.old) { state = record { locals = slice_set self.old.locals.items slot value; world = (mach_of tree self.old).state.world } } }
     {

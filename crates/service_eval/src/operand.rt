@@ -13,6 +13,7 @@ pub enum Operand<'v> {
 }
 
 impl<'v> Operand<'v> {
+    #[inline(always)]
     pub fn value(&self) -> &Value
         ensures { result.now ≡ value_in self.now }
     {
@@ -22,6 +23,7 @@ impl<'v> Operand<'v> {
         }
     }
 
+    #[inline(always)]
     pub fn owned(self, alloc: Global) -> Result<Value, OutOfMemory>
         ensures { IfOk result (λ v. v ≡ value_in self.entry) }
     {
@@ -33,6 +35,7 @@ impl<'v> Operand<'v> {
 }
 
 /// Whether a value is true.
+#[inline(always)]
 pub fn is_true(value: &Value) -> bool
     ensures { result ≡ is_true value.now }
 {

@@ -63,11 +63,22 @@ fn is_kind(kind: Option<Kind>, value: &Value) -> bool
 }
 
 /// What a row gives of two values, which are looked at where they are.
+#[inline(always)]
 pub fn apply_two(alloc: Global, row: usize, a: &Value, b: &Value, at: Span) -> Result<Value, Stop>
     ensures { Gives (apply_row row (a.now ∷ b.now ∷ [])) at result }
 {
     match (a, b) {
         (Value::Int(x), Value::Int(y)) if is_ints(row) => trapping(apply_ints(row, *x, *y), at),
+        _ => apply_others(alloc, row, a, b, at),
+    }
+}
+
+// The same, where they are mostly no ints.
+#[inline(never)]
+fn apply_others(alloc: Global, row: usize, a: &Value, b: &Value, at: Span) -> Result<Value, Stop>
+    ensures { Gives (apply_row row (a.now ∷ b.now ∷ [])) at result }
+{
+    match (a, b) {
         (Value::Map(m), Value::Int(k)) if is_read(row) => trapping(read_map(row, m, *k), at),
         (Value::Str(s), Value::Str(t)) if is_texts(row) => {
             placed(apply_texts(alloc, row, s, t), at)
@@ -161,6 +172,7 @@ fn placed(answer: Result<Value, OpError>, at: Span) -> Result<Value, Stop>
 }
 
 // The answer of an operator that takes no memory, at a place.
+#[inline(always)]
 fn trapping(answer: Result<Value, TrapKind>, at: Span) -> Result<Value, Stop>
     ensures { Gives answer at result }
 {

@@ -13,7 +13,7 @@ use crate::calls::{come_back, invoke, invoke_child};
 use crate::code::Code;
 use crate::eval::{and_then, apply, eval, evals, or_else};
 use crate::finish::finish;
-use crate::loops::{check, counts, next, turns};
+use crate::loops::{again, check, counts, turns};
 use crate::machine::Machine;
 use crate::stop::Stop;
 use crate::work::Work;
@@ -70,10 +70,13 @@ fn turn<'s>(
         Work::Check(at, test, body, left, base) => {
             check(code, contexts, m, at, test, body, left, base)
         }
-        Work::Counts(at, counter, body, left) => {
-            counts(code, contexts, m, at, counter, body, left)
+        Work::Counts(at, counter, body, left, more) => {
+            if more {
+                again(code, contexts, m, at, counter, body, left)
+            } else {
+                counts(code, contexts, m, at, counter, body, left)
+            }
         }
-        Work::Next(at, counter) => next(code, contexts, m, at, counter),
         Work::Return(caller) => come_back(code, contexts, m, caller),
     }
 }

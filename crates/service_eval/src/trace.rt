@@ -26,6 +26,7 @@ pub struct Trace {
 
 impl Trace {
     /// Takes a tick.
+    #[inline(always)]
     pub fn tick(&mut self, at: Span) -> Result<(), Stop>
         ensures { (tree : _) → Changes (ticking (world_of tree self.old)) at (world_of tree self.old) result (world_of tree self.new) }
     {

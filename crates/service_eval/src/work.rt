@@ -64,10 +64,8 @@ pub enum Work<'s> {
     Turns(Span, &'s Expr, &'s [Stmt], u32),
     /// The same, where the test has its value.
     Check(Span, &'s Expr, &'s [Stmt], u32, usize),
-    /// So many turns of a `for` at most, with the counter's slot.
-    Counts(Span, u16, &'s [Stmt], u32),
-    /// The counter of a `for` goes on by one.
-    Next(Span, u16),
+    /// So many turns of a `for` at most, with the counter's slot, and whether the counter first goes on by one.
+    Counts(Span, u16, &'s [Stmt], u32, bool),
     /// The caller goes on.
     Return(Caller),
 }

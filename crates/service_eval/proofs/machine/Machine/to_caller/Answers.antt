@@ -1,4 +1,4 @@
-use Rattle.std.proofs.Common.{◌≡◌, List, [], ◌∷◌, length, refl, ap, sym, ◌∙◌, arith}
+use Rattle.std.proofs.Common.{◌≡◌, true, false, List, [], ◌∷◌, length, refl, ap, sym, ◌∙◌, arith}
 use Rattle.wave_base.specs.declared.value.Value.{Value}
 use Rattle.wave_base.specs.Tree.{Tree}
 use Rattle.service_eval.specs.declared.machine.Machine.{Machine}
@@ -25,8 +25,8 @@ passes (work.Block body) items h = refl
 passes (work.Finish at what base) items h = refl
 passes (work.Turns at test body left) items h = refl
 passes (work.Check at test body left base) items h = refl
-passes (work.Counts at counter body left) items h = refl
-passes (work.Next at counter) items h = refl
+passes (work.Counts at counter body left true) items h = refl
+passes (work.Counts at counter body left false) items h = refl
 passes (work.Return caller) items h = absurd (h caller refl)
 
 -- a machine before it gave its first item, and after

@@ -1,0 +1,30 @@
+use Rattle.std.proofs.Common.{sym, ap, subst, ◌∙◌, arith}
+use Rattle.context_tree.specs.Contexts.{tree_of as shown}
+use Rattle.resolved_service.specs.Steps.{steps_in}
+use Rattle.service_eval.specs.Items.{Again, Counts}
+use Rattle.service_eval.specs.Machines.{Mach, on_top, comes_to}
+use Rattle.service_eval.specs.Ready.{Ready}
+use Rattle.service_eval.specs.Turns.{mach}
+use Rattle.service_eval.proofs.FinishLemmas as l
+use Rattle.service_eval.proofs.FinishTurns.{same_world, ready_in, goes_from}
+use Rattle.service_eval.proofs.loops.again.Goals as goal
+
+pub counts-requires : goal.counts-requires
+counts-requires c =
+    let T = shown c.args.code.shape.now c.args.contexts.now in
+    let m = (mach c.args.code c.args.contexts.now c.args.m.now) in
+    subst (λ (x : Mach). Ready c.args.code.shape.now c.args.code.methods.now (on_top (Counts c.args.at c.args.counter (steps_in c.args.body.now) c.args.left) x)) (sym (c.set_local.ensures T))
+    (ready_in _ _ m _ _ _ _ _ c.requires c.requires.items (omega arith) (same_world m.state.world))
+
+pub returns-in-Ok : goal.returns-in-Ok
+returns-in-Ok c =
+    let T = shown c.args.code.shape.now c.args.contexts.now in
+    let m = (mach c.args.code c.args.contexts.now c.args.m.now) in
+    let body = steps_in c.args.body.now in
+    goes_from c.args.code (on_top (Again c.args.at c.args.counter body c.args.left) m) (on_top (Counts c.args.at c.args.counter body c.args.left) (mach c.args.code c.args.contexts.now c.set_local.new.self)) c.counts.result (mach c.args.code c.counts.new.contexts c.counts.new.m)
+    (l.again_is c.args.code.methods.now m c.args.at c.args.counter c.args.left body c.in-Ok.number c.in-Ok.ensures
+    ∙ ap (λ (x : Mach). comes_to c.args.code.methods.now (on_top (Counts c.args.at c.args.counter body c.args.left) x)) (sym (c.set_local.ensures T)))
+    c.counts.ensures
+
+pub returns-in-Err : goal.returns-in-Err
+returns-in-Err c = (l.again_fails c.args.code.methods.now (mach c.args.code c.args.contexts.now c.args.m.now) c.args.at c.args.counter c.args.left (steps_in c.args.body.now) c.in-Err.e c.in-Err.ensures, c.requires.holds)
