@@ -1,2 +1,2 @@
 pub mod Aheads
-pub mod Rare
+pub mod Groups
