@@ -1,4 +1,4 @@
-use Rattle.std.proofs.Common.{◌≡◌, ◌∷◌, ap, subst, ◌∙◌}
+use Rattle.std.proofs.Common.{ap, subst, ◌∙◌}
 use Rattle.wave_base.specs.declared.outcome.Outcome.TheVariants.{Reply as Replied}
 use Rattle.service_verify.specs.Steps.{on_top, finished}
 use Rattle.service_vm.specs.Acts.{box_of, Flows}
