@@ -1,5 +1,5 @@
 -- The program that spins is fit.
-use Rattle.std.proofs.Common.{◌≡◌, ℕ, zero, suc, ◌<◌, ◌≤◌, ◌⊎◌, inl, inr, List, [], ◌∷◌, length, true, false, Option, Some, None, refl, ap, sym, arith}
+use Rattle.std.proofs.Common.{◌≡◌, ℕ, zero, suc, ◌<◌, ◌≤◌, ◌⊎◌, inl, inr, [], ◌∷◌, length, true, Some, None, refl, ap, sym, arith}
 use Rattle.std.specs.Prelude.{All, ℤ, codes, slice_get}
 use Rattle.std.proofs.lemmas.List.Elements.{All-nil}
 use Rattle.wave_base.specs.declared.limits.TheConstants.{CLASS_DEPTH, INSTRUCTIONS}
@@ -13,7 +13,7 @@ use Rattle.wave_base.specs.declared.shape.FieldInfo.{FieldInfo}
 use Rattle.service_code.specs.declared.program.Function.{Function}
 use Rattle.service_code.specs.declared.instr.Instr.{Instr}
 use Rattle.service_code.specs.declared.instr.Instr.TheVariants.{Tick}
-use Rattle.service_verify.specs.Fit.{Jumps, IsTicked, IsTickedCall, FitsFunction, FitsEvent, IsFit, IsSmall, is_call_down}
+use Rattle.service_verify.specs.Fit.{Jumps, IsTicked, FitsFunction, FitsEvent, IsFit, IsSmall, is_call_down}
 use Rattle.service_verify.specs.Standing.{HasFields}
 use Rattle.service_verify.proofs.Judged.{some_same}
 use Rattle.service_vm.specs.Spin.{spin_code, spin_function, spin_shape, spin}

@@ -1,5 +1,6 @@
 pub mod Acts
 pub mod Boxes
 pub mod Frames
+pub mod inner
 pub mod Spin
 pub mod Windows

@@ -1,7 +1,6 @@
 -- A program by hand, for tests and benchmarks: an event that counts to a number, a tick each.
 -- event spin(n: int): int { let i = 0; while i < n { i = i + 1; } reply i; }
-use Rattle.std.specs.Prelude.{false, true, List, [], ◌∷◌, Some, None, pos, codes, replicate}
-use Rattle.wave_base.specs.declared.path.Class.{Class}
+use Rattle.std.specs.Prelude.{true, List, [], ◌∷◌, Some, None, pos, codes, replicate}
 use Rattle.wave_base.specs.declared.shape.Shape.{Shape}
 use Rattle.wave_base.specs.declared.span.Span.{Span}
 use Rattle.wave_base.specs.declared.value.Kind.TheVariants as k

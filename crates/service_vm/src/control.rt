@@ -6,12 +6,13 @@ ghost use Rattle.wave_base.specs.declared.value.Value.{Value};
 ghost use Rattle.service_code.specs.declared.instr.Instr.TheVariants as instr;
 ghost use Rattle.service_code.specs.declared.program.Program.{Program};
 ghost use Rattle.service_verify.specs.Steps.{taken};
-ghost use Rattle.service_vm.specs.Acts.{Did, Stays};
+ghost use Rattle.service_vm.specs.Acts.{Did, Does, Stays};
 ghost use Rattle.service_vm.specs.Frames.{truth_on_top};
 
+use crate::flow::Flow;
 use crate::run::Run;
 use service_code::Function;
-use wave_base::{OutOfMemory, Pause, Span, TrapKind};
+use wave_base::{OutOfMemory, TrapKind};
 
 impl Run {
     /// Goes on at an instruction.
@@ -20,7 +21,7 @@ impl Run {
         ensures did { (program : Program) (at : Span) (fields : List Value) → Did program self.old (instr.Jump to) at fields None self.new fields }
         ensures stays { Stays self.old self.new }
     {
-        self.frames.jump(to);
+        self.frames.jump(to as usize);
     }
 
     /// Throws the value on top away.
@@ -46,38 +47,38 @@ impl Run {
         if self.frames.pop_truth() {
             self.frames.advance();
         } else {
-            self.frames.jump(to);
+            self.frames.jump(to as usize);
         }
     }
 
     /// Takes a tick, or traps where none is left.
     #[tactic(auto, unfolding(service_verify::specs::Steps::acted))]
-    pub fn tick(&mut self, at: Span) -> Option<Pause>
+    pub fn tick(&mut self) -> Flow
         requires place { self.old.frames.top.place < 2 ^ 63 }
-        ensures did { (program : Program) (fields : List Value) → Did program self.old instr.Tick at fields result self.new fields }
+        ensures does { (program : Program) (fields : List Value) → Does program self.old instr.Tick fields result self.new fields }
         ensures stays { Stays self.old self.new }
     {
         if self.ticks == 0 {
-            return Some(self.trap(TrapKind::Ticks, at));
+            return Flow::Traps(TrapKind::Ticks);
         }
         self.ticks -= 1;
         self.frames.advance();
-        None
+        Flow::On
     }
 
     /// Traps where the value on top is false.
     #[tactic(auto, unfolding(service_verify::specs::Steps::acted))]
-    pub fn demand(&mut self, at: Span) -> Option<Pause>
+    pub fn demand(&mut self) -> Flow
         requires place { self.old.frames.top.place < 2 ^ 63 }
         requires truth { IsSome (truth_on_top self.old.frames.top.stack) }
-        ensures did { (program : Program) (fields : List Value) → Did program self.old instr.Require at fields result self.new fields }
+        ensures does { (program : Program) (fields : List Value) → Does program self.old instr.Require fields result self.new fields }
         ensures stays { Stays self.old self.new }
     {
         if !self.frames.pop_truth() {
-            return Some(self.trap(TrapKind::Require, at));
+            return Flow::Traps(TrapKind::Require);
         }
         self.frames.advance();
-        None
+        Flow::On
     }
 
     /// A method of the same context begins.
@@ -90,21 +91,5 @@ impl Run {
         ensures stays { Stays self.old self.new }
     {
         self.frames.begin(self.alloc, number, function, false)
-    }
-
-    /// Takes a tick, where there is one; and whether it was so.
-    #[tactic(auto, unfolding(service_verify::specs::Steps::acted))]
-    pub fn spend(&mut self) -> bool
-        requires place { self.old.frames.top.place < 2 ^ 63 }
-        ensures did { result ≡ true → (program : Program) (at : Span) (fields : List Value) → Did program self.old instr.Tick at fields None self.new fields }
-        ensures left { result ≡ false → self.new ≡ self.old }
-        ensures stays { Stays self.old self.new }
-    {
-        if self.ticks == 0 {
-            return false;
-        }
-        self.ticks -= 1;
-        self.frames.advance();
-        true
     }
 }

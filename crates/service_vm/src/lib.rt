@@ -2,8 +2,10 @@
 #![tactic(auto)]
 
 mod act;
+mod ahead;
 mod control;
 mod event;
+mod flow;
 mod frames;
 mod held;
 mod outputs;

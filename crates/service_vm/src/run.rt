@@ -7,6 +7,7 @@ ghost use Rattle.service_verify.specs.Steps.{is_held, trapped, finished};
 ghost use Rattle.service_vm.specs.Acts.{box_of, moved, Settled, Stays};
 ghost use Rattle.service_vm.specs.Frames.{moved_on};
 
+use crate::flow::Flow;
 use crate::frames::Frames;
 use crate::held::Held;
 use deferred_out::Outputs;
@@ -34,25 +35,15 @@ pub struct Run {
 
 impl Run {
     /// Puts a value on the stack, and goes on.
-    pub fn give(&mut self, x: Value) -> Result<(), OutOfMemory>
+    pub fn put(&mut self, x: Value) -> Result<Flow, OutOfMemory>
         requires { self.old.frames.top.place < 2 ^ 63 }
-        ensures given { OnOk result (self.new ≡ record self.old { frames = moved_on self.old.frames (x ∷ self.old.frames.top.stack) }) }
+        ensures put { OnOk result (self.new ≡ record self.old { frames = moved_on self.old.frames (x ∷ self.old.frames.top.stack) }) }
+        ensures runs { IfOk result (λ flow. flow ≡ Flow.On) }
         ensures stays { Stays self.old self.new }
     {
         self.frames.push(x)?;
         self.frames.advance();
-        Ok(())
-    }
-
-    /// Puts a value on the stack, and goes on without a pause.
-    pub fn put(&mut self, x: Value) -> Result<Option<Pause>, OutOfMemory>
-        requires { self.old.frames.top.place < 2 ^ 63 }
-        ensures put { OnOk result (self.new ≡ record self.old { frames = moved_on self.old.frames (x ∷ self.old.frames.top.stack) }) }
-        ensures runs { IfOk result (λ p. p ≡ None) }
-        ensures stays { Stays self.old self.new }
-    {
-        self.give(x)?;
-        Ok(None)
+        Ok(Flow::On)
     }
 
     /// The end by a trap at a place of the service text, which throws away what the event sent and created.
@@ -69,21 +60,17 @@ impl Run {
     }
 
     /// Goes on, or traps, after a change of a map.
-    pub fn settle(
-        &mut self,
-        changed: Result<(), OpError>,
-        at: Span,
-    ) -> Result<Option<Pause>, OutOfMemory>
+    pub fn settle(&mut self, changed: Result<(), OpError>) -> Result<Flow, OutOfMemory>
         requires { self.old.frames.top.place < 2 ^ 63 }
-        ensures settled { IfOk result (λ p. Settled changed at self.old p self.new) }
+        ensures settled { IfOk result (λ flow. Settled changed self.old flow self.new) }
         ensures stays { Stays self.old self.new }
     {
         match changed {
             Ok(()) => {
                 self.frames.advance();
-                Ok(None)
+                Ok(Flow::On)
             }
-            Err(OpError::Trap(kind)) => Ok(Some(self.trap(kind, at))),
+            Err(OpError::Trap(kind)) => Ok(Flow::Traps(kind)),
             Err(OpError::OutOfMemory) => Err(OutOfMemory),
         }
     }

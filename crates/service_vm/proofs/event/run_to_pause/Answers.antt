@@ -1,6 +1,5 @@
-use Rattle.std.proofs.Common.{◌≡◌, ◌∙◌, ◌<◌, ap, sym, subst, length}
+use Rattle.std.proofs.Common.{◌∙◌, ◌<◌, ap, sym, subst, length}
 use Rattle.wave_base.specs.Shapes.{class_of}
-use Rattle.service_code.specs.declared.program.Program.{Program}
 use Rattle.service_verify.specs.Fit.{IsFit}
 use Rattle.service_verify.specs.Points.{IsVerified}
 use Rattle.service_verify.specs.Reads.{kept}

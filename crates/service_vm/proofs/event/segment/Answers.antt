@@ -1,5 +1,3 @@
-use Rattle.std.proofs.Common.{◌≡◌}
-use Rattle.std.specs.Prelude.{Ok, Err}
 use Rattle.service_vm.proofs.Doing.{if_ok}
 use Rattle.service_vm.proofs.Events.{left_stands}
 use Rattle.service_vm.proofs.event.segment.Goals as goal
