@@ -6,7 +6,7 @@ ghost use Rattle.mace_grammar.specs.Words.{numbered};
 ghost use Rattle.mace_grammar.specs.inner.Readers as reader;
 ghost use Rattle.mace_parser.specs.inner.Gives.{Gives};
 
-use crate::class::{sees_key, sees_number};
+use crate::sees::{sees_key, sees_number};
 use crate::event::events;
 use crate::fault::{Fault, Read};
 use crate::field::vars;

@@ -8,7 +8,7 @@ ghost use Rattle.mace_grammar.specs.Words.{numbered};
 ghost use Rattle.mace_grammar.specs.inner.Readers as reader;
 ghost use Rattle.mace_parser.specs.inner.Gives.{Gives};
 
-use crate::class::sees_key;
+use crate::sees::sees_key;
 use crate::fault::Read;
 use crate::method::{maybe_replied, params, result_kind};
 use crate::simple::any_key;

@@ -8,7 +8,7 @@ ghost use Rattle.mace_grammar.specs.Words.{numbered};
 ghost use Rattle.mace_grammar.specs.inner.Readers as reader;
 ghost use Rattle.mace_parser.specs.inner.Gives.{Gives};
 
-use crate::class::{begins_expr, sees_literal, sees_operator, sees_sign, sees_unary};
+use crate::sees::{begins_expr, sees_literal, sees_operator, sees_sign, sees_unary};
 use crate::fault::{Fault, Read};
 use crate::operator::{operator, unary_op};
 use crate::token::{field, name, sign};

@@ -7,7 +7,7 @@ ghost use Rattle.mace_grammar.specs.Words.{numbered};
 ghost use Rattle.mace_grammar.specs.inner.Readers as reader;
 ghost use Rattle.mace_parser.specs.inner.Gives.{Gives};
 
-use crate::class::{sees_key, sees_literal};
+use crate::sees::{sees_key, sees_literal};
 use crate::fault::{Fault, Read};
 use crate::token::{key, kind, name, number, sign};
 use mace_ast::{Initial, Literal, VarDecl};

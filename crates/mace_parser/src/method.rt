@@ -9,7 +9,7 @@ ghost use Rattle.mace_grammar.specs.Words.{numbered};
 ghost use Rattle.mace_grammar.specs.inner.Readers as reader;
 ghost use Rattle.mace_parser.specs.inner.Gives.{Gives};
 
-use crate::class::{sees_key, sees_name, sees_sign};
+use crate::sees::{sees_key, sees_name, sees_sign};
 use crate::fault::Read;
 use crate::simple::any_expr;
 use crate::stmt::stmts;

@@ -9,7 +9,7 @@ ghost use Rattle.mace_grammar.specs.Words.{numbered};
 ghost use Rattle.mace_grammar.specs.inner.Readers as reader;
 ghost use Rattle.mace_parser.specs.inner.Gives.{Gives};
 
-use crate::class::{begins_expr, sees_finish, sees_key, sees_leave, sees_sign};
+use crate::sees::{begins_expr, sees_finish, sees_key, sees_leave, sees_sign};
 use crate::expr::{arguments, bracketed, expr};
 use crate::fault::Read;
 use crate::token::{field, finish, key, leave, name, sign, text};

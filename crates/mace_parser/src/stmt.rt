@@ -7,7 +7,7 @@ ghost use Rattle.mace_grammar.specs.Words.{numbered};
 ghost use Rattle.mace_grammar.specs.inner.Readers as reader;
 ghost use Rattle.mace_parser.specs.inner.Gives.{Gives};
 
-use crate::class::{begins_stmt, sees_key};
+use crate::sees::{begins_stmt, sees_key};
 use crate::fault::{Fault, Read};
 use crate::simple::{any_expr, ending, let_stmt};
 use crate::token::{key, name, sign};
