@@ -9,10 +9,15 @@ use wave_base::{Seq, Span};
 /// A class of contexts, with the place of `context`.
 #[derive(Debug, Drop)]
 pub struct ContextDecl {
+    /// Where `context` stands.
     pub at: Span,
+    /// The name of the class.
     pub name: Name,
+    /// The fields of a context.
     pub vars: Seq<VarDecl>,
+    /// The classes below it.
     pub contexts: Vec<ContextDecl>,
+    /// What may be called in a context.
     pub methods: Seq<MethodDecl>,
 }
 

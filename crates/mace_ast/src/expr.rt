@@ -51,7 +51,9 @@ pub enum BinaryOp {
 #[derive(Debug, Drop)]
 #[cycle(expr)]
 pub struct Expr {
+    /// Where it starts.
     pub at: Span,
+    /// What it is.
     pub node: Node,
 }
 
@@ -59,9 +61,13 @@ pub struct Expr {
 #[derive(Debug, Drop)]
 #[cycle(expr)]
 pub enum Node {
+    /// `n`
     Number(i64),
+    /// The bytes that are meant, without quotes and escapes.
     Text(Txt),
+    /// `true` or `false`
     Bool(bool),
+    /// `empty`, a map with no entry
     Empty,
     /// `x`
     Read(Txt),
@@ -75,7 +81,9 @@ pub enum Node {
     Call(Txt, Vec<Expr>),
     /// `C[k].f(..)`
     ChildCall(Txt, Box<Expr>, Txt, Vec<Expr>),
+    /// `-e` or `!e`
     Unary(UnaryOp, Box<Expr>),
+    /// Two operands, with the operator that stands between them.
     Binary(BinaryOp, Box<Expr>, Box<Expr>),
 }
 

@@ -8,12 +8,18 @@ use wave_base::{Seq, Span};
 /// A service, with the place of `service`.
 #[derive(Debug, Drop)]
 pub struct Service {
+    /// Where `service` stands.
     pub at: Span,
+    /// The name of the service.
     pub name: Name,
     /// The version of the language that it is written in: 2 where the number stands behind the name, else 1.
     pub version: u8,
+    /// The fields of the root.
     pub vars: Seq<VarDecl>,
+    /// The classes right below the root.
     pub contexts: Seq<ContextDecl>,
+    /// What may be called in the root.
     pub methods: Seq<MethodDecl>,
+    /// What callers may ask of the service.
     pub events: Seq<EventDecl>,
 }

@@ -11,7 +11,9 @@ use wave_base::{Seq, Span, Txt};
 /// What is written or cut: a local or an own field, or `C.f` with its class in `above`.
 #[derive(Debug, Drop, PartialEq, Eq)]
 pub struct Target {
+    /// The class above, of `C.f`.
     pub above: Option<Txt>,
+    /// The name of the local or the field.
     pub name: Txt,
 }
 
@@ -19,7 +21,9 @@ pub struct Target {
 #[derive(Debug, Drop)]
 #[cycle(stmt)]
 pub struct Stmt {
+    /// Where its first token stands.
     pub at: Span,
+    /// What it does.
     pub action: Action,
 }
 
@@ -27,18 +31,25 @@ pub struct Stmt {
 #[derive(Debug, Drop)]
 #[cycle(stmt)]
 pub enum Action {
+    /// `let x = e;`
     Let(Name, Expr),
+    /// `if e { .. }`, with the statements behind `else` where it is there.
     If(Expr, Vec<Stmt>, Option<Vec<Stmt>>),
+    /// `while e { .. }`
     While(Expr, Vec<Stmt>),
     /// The name, the first bound, and the bound above the last turn.
     For(Name, Expr, Expr, Vec<Stmt>),
+    /// `require e;`
     Require(Expr),
+    /// `send "label", e;`
     Send(Txt, Expr),
+    /// `spawn e(..);`
     Spawn(Txt, Seq<Expr>),
     /// `drop x[k];`
     Cut(Target, Expr),
     /// `x = e;`, or `x[k] = e;` with the key in the middle.
     Set(Target, Option<Expr>, Expr),
+    /// `f(..);`
     Call(Txt, Seq<Expr>),
     /// `C[k].f(..);`
     ChildCall(Txt, Expr, Txt, Seq<Expr>),

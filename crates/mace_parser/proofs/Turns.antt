@@ -11,6 +11,7 @@ use Rattle.mace_grammar.specs.Grammar.{joined}
 use Rattle.mace_grammar.specs.inner.Run.{Outcome, Reader, and_then, give, after, sees, each, each_of, with_front}
 use Rattle.mace_grammar.specs.inner.Classes as classes
 use Rattle.mace_grammar.specs.Words.{Version}
+use Rattle.mace_parser.proofs.Progress.{Takes, enough}
 use Rattle.mace_grammar.specs.inner.Readers.{operators_of, operator_at, operand_at, operands_at, turns_of, level_at}
 
 suc_sub : (n k : ℕ) → k < n → n - k ≡ suc (n - (k + 1))
@@ -44,22 +45,21 @@ module _ (version : Version) where
     one_turn : (n : ℕ) (ts : List Token) → sees kind set ts ≡ true → from set run f (suc n) ts ≡ and_then (and_then (run ts) (λ a r. and_then (each kind set run n r) (with_front a))) (λ others. give (f others))
     one_turn n ts s = ap (λ o. and_then o (λ others. give (f others))) (seen (sees kind set ts) _ _ s)
 
-    pub goes_on : (n k : ℕ) (ts rest : List Token) (x : A) → k < n → sees kind set ts ≡ true → run ts ≡ Ok (x, rest) → from set run f (n - k) ts ≡ from set run (λ others. f (x ∷ others)) (n - (k + 1)) rest
-    goes_on n k ts rest x h s e =
-        ap (λ i. from set run f i ts) (suc_sub n k h)
-        ∙ one_turn (n - (k + 1)) ts s
-        ∙ ap (λ o. and_then (and_then o (λ a r. and_then (each kind set run (n - (k + 1)) r) (with_front a))) (λ others. give (f others))) e
-        ∙ behind x (each kind set run (n - (k + 1)) rest)
+    turn : (n : ℕ) (ts rest : List Token) (x : A) → sees kind set ts ≡ true → run ts ≡ Ok (x, rest) → from set run f (suc n) ts ≡ from set run (λ others. f (x ∷ others)) n rest
+    turn n ts rest x s e =
+        one_turn n ts s
+        ∙ ap (λ o. and_then (and_then o (λ a r. and_then (each kind set run n r) (with_front a))) (λ others. give (f others))) e
+        ∙ behind x (each kind set run n rest)
 
-    pub fails : (n k : ℕ) (ts rest : List Token) → k < n → sees kind set ts ≡ true → run ts ≡ Err rest → from set run f (n - k) ts ≡ Err rest
-    fails n k ts rest h s e =
-        ap (λ i. from set run f i ts) (suc_sub n k h)
-        ∙ one_turn (n - (k + 1)) ts s
-        ∙ ap (λ o. and_then (and_then o (λ a r. and_then (each kind set run (n - (k + 1)) r) (with_front a))) (λ others. give (f others))) e
+    stops : (n : ℕ) (ts rest : List Token) → sees kind set ts ≡ true → run ts ≡ Err rest → from set run f (suc n) ts ≡ Err rest
+    stops n ts rest s e = one_turn n ts s ∙ ap (λ o. and_then (and_then o (λ a r. and_then (each kind set run n r) (with_front a))) (λ others. give (f others))) e
+
+    pub goes_on : (n k : ℕ) (ts rest : List Token) (x : A) → k < n → sees kind set ts ≡ true → run ts ≡ Ok (x, rest) → from set run f (n - k) ts ≡ from set run (λ others. f (x ∷ others)) (n - (k + 1)) rest
+    goes_on n k ts rest x h s e = ap (λ i. from set run f i ts) (suc_sub n k h) ∙ turn (n - (k + 1)) ts rest x s e
 
     pub ends : (e : Fault) (n k : ℕ) (ts : List Token) (out : Outcome B) → k < n → sees kind set ts ≡ true → Fails e (run ts) → from set run f (n - k) ts ≡ out → Fails e out
     ends Memory n k ts out h s g i = tt
-    ends (Stuck rest) n k ts out h s g i = sym i ∙ fails n k ts rest.now h s g
+    ends (Stuck rest) n k ts out h s g i = sym i ∙ ap (λ i. from set run f i ts) (suc_sub n k h) ∙ stops (n - (k + 1)) ts rest.now s g
 
     pub done_at : (n : ℕ) (ts : List Token) (out : Outcome B) → n ≡ 0 → from set run f n ts ≡ out → out ≡ Ok (f [], ts)
     done_at zero ts out e i = sym i
@@ -72,31 +72,33 @@ module _ (version : Version) where
   -- ---- lists
 
   -- the items that are left, behind those that were found
-  abbrev pub list_from : {A : Type 0} → List ℕ → Reader A → ℕ → List A → Reader (List A)
-  list_from set run n found = from set run (λ others. found ++ others) n
+  abbrev pub list_from : {A : Type 0} → List ℕ → Reader A → List A → Reader (List A)
+  list_from set run found ts = from set run (λ others. found ++ others) (length ts) ts
 
   module _ {A : Type 0} (set : List ℕ) (run : Reader A) where
     found_more : (found : List A) (x : A) (o : Outcome (List A)) → and_then o (λ others. give (found ++ (x ∷ others))) ≡ and_then o (λ others. give ((found ++ x ∷ []) ++ others))
     found_more found x (Ok p) = ap (λ l. Ok (l, p.1)) (sym (append_assoc found (x ∷ []) p.0))
     found_more found x (Err e) = refl
 
-    pub list_goes_on : (n k : ℕ) (found more : List A) (ts rest : List Token) (x : A) (out : Outcome (List A)) → k < n → sees kind set ts ≡ true → run ts ≡ Ok (x, rest) → more ≡ found ++ x ∷ [] → list_from set run (n - k) found ts ≡ out → list_from set run (n - (k + 1)) more rest ≡ out
-    list_goes_on n k found more ts rest x out h s e m i =
-        ap (λ l. list_from set run (n - (k + 1)) l rest) m
-        ∙ sym (goes_on set run (λ others. found ++ others) n k ts rest x h s e ∙ found_more found x (each kind set run (n - (k + 1)) rest))
+    pub list_goes_on : Takes run → (found more : List A) (ts rest : List Token) (x : A) (out : Outcome (List A)) → sees kind set ts ≡ true → run ts ≡ Ok (x, rest) → more ≡ found ++ x ∷ [] → list_from set run found ts ≡ out → list_from set run more rest ≡ out
+    list_goes_on T found more [] rest x out s e m i = cc
+    list_goes_on T found more (t ∷ ts) rest x out s e m i =
+        let fewer : length rest < suc (length ts) = T.fewer (t ∷ ts) rest x e in
+        ap (λ l. list_from set run l rest) m
+        ∙ ap (λ o. and_then o (λ others. give ((found ++ x ∷ []) ++ others))) (enough kind set T (length rest) (length ts) rest (omega arith) (omega arith))
+        ∙ sym (turn set run (λ others. found ++ others) (length ts) (t ∷ ts) rest x s e ∙ found_more found x (each kind set run (length ts) rest))
         ∙ i
 
-    pub list_ends : (e : Fault) (n k : ℕ) (found : List A) (ts : List Token) (out : Outcome (List A)) → k < n → sees kind set ts ≡ true → Fails e (run ts) → list_from set run (n - k) found ts ≡ out → Fails e out
-    list_ends e n k found ts out h s g i = ends set run (λ others. found ++ others) e n k ts out h s g i
+    pub list_ends : (e : Fault) (found : List A) (ts : List Token) (out : Outcome (List A)) → sees kind set ts ≡ true → Fails e (run ts) → list_from set run found ts ≡ out → Fails e out
+    list_ends e found [] out s g i = cc
+    list_ends Memory found (t ∷ ts) out s g i = tt
+    list_ends (Stuck rest) found (t ∷ ts) out s g i = sym i ∙ stops set run (λ others. found ++ others) (length ts) (t ∷ ts) rest.now s g
 
-    pub list_done_at : (n : ℕ) (found : List A) (ts : List Token) (out : Outcome (List A)) → n ≡ 0 → list_from set run n found ts ≡ out → out ≡ Ok (found, ts)
-    list_done_at n found ts out e i = done_at set run (λ others. found ++ others) n ts out e i ∙ ap (λ l. Ok (l, ts)) (append-nil found)
+    pub list_done : (found : List A) (ts : List Token) (out : Outcome (List A)) → sees kind set ts ≡ false → list_from set run found ts ≡ out → out ≡ Ok (found, ts)
+    list_done found ts out e i = done set run (λ others. found ++ others) (length ts) ts out e i ∙ ap (λ l. Ok (l, ts)) (append-nil found)
 
-    pub list_done : (n : ℕ) (found : List A) (ts : List Token) (out : Outcome (List A)) → sees kind set ts ≡ false → list_from set run n found ts ≡ out → out ≡ Ok (found, ts)
-    list_done n found ts out e i = done set run (λ others. found ++ others) n ts out e i ∙ ap (λ l. Ok (l, ts)) (append-nil found)
-
-    pub list_start : (ts : List Token) (found : List A) → found ≡ [] → list_from set run (length ts) found ts ≡ each_of kind set run ts
-    list_start ts found e = ap (λ l. list_from set run (length ts) l ts) e ∙ all (each kind set run (length ts) ts)
+    pub list_start : (ts : List Token) (found : List A) → found ≡ [] → list_from set run found ts ≡ each_of kind set run ts
+    list_start ts found e = ap (λ l. list_from set run l ts) e ∙ all (each kind set run (length ts) ts)
       where
         all : (o : Outcome (List A)) → and_then o (λ others. give ([] ++ others)) ≡ o
         all (Ok p) = refl

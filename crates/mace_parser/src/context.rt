@@ -6,11 +6,11 @@ ghost use Rattle.mace_grammar.specs.Words.{numbered};
 ghost use Rattle.mace_grammar.specs.inner.Readers as reader;
 ghost use Rattle.mace_parser.specs.inner.Gives.{Gives};
 
-use crate::class::{sees_key, sees_number};
 use crate::event::events;
 use crate::fault::{Fault, Read};
 use crate::field::vars;
 use crate::method::methods;
+use crate::sees::{sees_key, sees_number};
 use crate::token::{key, name, sign, two};
 use mace_ast::{ContextDecl, Name, Service};
 use mace_lexer::{Keyword, Sign, Token};
@@ -57,10 +57,7 @@ fn contexts<'a>(
 {
     let mut rest = tokens;
     let mut found = Vec::new(alloc);
-    'turns: for _ in 0..tokens.len() {
-        if !sees_key(Keyword::Context, version, rest) {
-            break;
-        }
+    'turns: while sees_key(Keyword::Context, version, rest) {
         let (next, after) = context(alloc, depth, version, rest)?;
         found.push(next)?;
         rest = after;

@@ -8,9 +8,9 @@ ghost use Rattle.mace_grammar.specs.Words.{numbered};
 ghost use Rattle.mace_grammar.specs.inner.Readers as reader;
 ghost use Rattle.mace_parser.specs.inner.Gives.{Gives};
 
-use crate::class::sees_key;
 use crate::fault::Read;
 use crate::method::{maybe_replied, params, result_kind};
+use crate::sees::sees_key;
 use crate::simple::any_key;
 use crate::stmt::block;
 use crate::token::{key, name, sign};
@@ -51,10 +51,7 @@ fn phases<'a>(alloc: Global, depth: usize, version: u8, tokens: &'a [Token]) -> 
 {
     let mut rest = tokens;
     let mut found = Vec::new(alloc);
-    'turns: for _ in 0..tokens.len() {
-        if !sees_key(Keyword::Down, version, rest) {
-            break;
-        }
+    'turns: while sees_key(Keyword::Down, version, rest) {
         let (next, after) = phase(alloc, depth, version, rest)?;
         found.push(next)?;
         rest = after;
@@ -117,10 +114,7 @@ pub fn events<'a>(
 {
     let mut rest = tokens;
     let mut found = Vec::new(alloc);
-    'turns: for _ in 0..tokens.len() {
-        if !sees_key(Keyword::Event, version, rest) {
-            break;
-        }
+    'turns: while sees_key(Keyword::Event, version, rest) {
         let (next, after) = event(alloc, depth, version, rest)?;
         found.push(next)?;
         rest = after;

@@ -8,9 +8,9 @@ ghost use Rattle.mace_grammar.specs.Words.{numbered};
 ghost use Rattle.mace_grammar.specs.inner.Readers as reader;
 ghost use Rattle.mace_parser.specs.inner.Gives.{Gives};
 
-use crate::class::{begins_expr, sees_literal, sees_operator, sees_sign, sees_unary};
 use crate::fault::{Fault, Read};
 use crate::operator::{operator, unary_op};
+use crate::sees::{begins_expr, sees_literal, sees_operator, sees_sign, sees_unary};
 use crate::token::{field, name, sign};
 use mace_ast::{BinaryOp, Expr, Name};
 use mace_lexer::{Keyword, Sign, Token, Word};
@@ -228,10 +228,7 @@ fn list<'a>(alloc: Global, depth: usize, version: u8, tokens: &'a [Token]) -> Re
     let (first, mut rest) = expr(alloc, depth, version, tokens)?;
     let mut found = Vec::new(alloc);
     found.push(first)?;
-    'turns: for _ in 0..rest.len() {
-        if !sees_sign(Sign::Comma, version, rest) {
-            break;
-        }
+    'turns: while sees_sign(Sign::Comma, version, rest) {
         let (next, after) = next_expr(alloc, depth, version, rest)?;
         found.push(next)?;
         rest = after;

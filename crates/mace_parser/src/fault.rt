@@ -6,10 +6,13 @@ use wave_base::{OutOfMemory, Span};
 /// Why a text is no service. `token` counts from 0, and the end of the text counts as a token behind the last one.
 #[derive(Debug, Drop, Error, PartialEq, Eq)]
 pub enum ParseError {
+    /// The tokens before this one begin a service, and with it they do not.
     #[error("the tokens up to here begin a service, and with this one they do not")]
     Expected { token: usize, at: Span },
+    /// With this token the nest passes its limit.
     #[error("brackets and operators are nested deeper than 64")]
     TooDeep { token: usize, at: Span },
+    /// There was no memory for the tree.
     #[error("out of memory")]
     OutOfMemory,
 }
@@ -17,7 +20,9 @@ pub enum ParseError {
 /// Why nothing was read: memory, or the tokens at which the reader is stuck.
 #[derive(Drop)]
 pub enum Fault<'a> {
+    /// There was no memory.
     Memory,
+    /// No further token fits: these are left.
     Stuck(&'a [Token]),
 }
 

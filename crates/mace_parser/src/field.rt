@@ -7,8 +7,8 @@ ghost use Rattle.mace_grammar.specs.Words.{numbered};
 ghost use Rattle.mace_grammar.specs.inner.Readers as reader;
 ghost use Rattle.mace_parser.specs.inner.Gives.{Gives};
 
-use crate::class::{sees_key, sees_literal};
 use crate::fault::{Fault, Read};
+use crate::sees::{sees_key, sees_literal};
 use crate::token::{key, kind, name, number, sign};
 use mace_ast::{Initial, Literal, VarDecl};
 use mace_lexer::{Keyword, Sign, Token, Word};
@@ -106,10 +106,7 @@ pub fn vars<'a>(alloc: Global, version: u8, tokens: &'a [Token]) -> Read<'a, Seq
 {
     let mut rest = tokens;
     let mut found = Vec::new(alloc);
-    'turns: for _ in 0..tokens.len() {
-        if !sees_key(Keyword::Var, version, rest) {
-            break;
-        }
+    'turns: while sees_key(Keyword::Var, version, rest) {
         let (next, after) = var(alloc, version, rest)?;
         found.push(next)?;
         rest = after;

@@ -9,8 +9,8 @@ ghost use Rattle.mace_grammar.specs.Words.{numbered};
 ghost use Rattle.mace_grammar.specs.inner.Readers as reader;
 ghost use Rattle.mace_parser.specs.inner.Gives.{Gives};
 
-use crate::class::{sees_key, sees_name, sees_sign};
 use crate::fault::Read;
+use crate::sees::{sees_key, sees_name, sees_sign};
 use crate::simple::any_expr;
 use crate::stmt::stmts;
 use crate::token::{end, key, kind, name, sign};
@@ -44,10 +44,7 @@ fn list<'a>(alloc: Global, version: u8, tokens: &'a [Token]) -> Read<'a, Vec<Par
     let (first, mut rest) = param(alloc, version, tokens)?;
     let mut found = Vec::new(alloc);
     found.push(first)?;
-    'turns: for _ in 0..rest.len() {
-        if !sees_sign(Sign::Comma, version, rest) {
-            break;
-        }
+    'turns: while sees_sign(Sign::Comma, version, rest) {
         let (next, after) = next_param(alloc, version, rest)?;
         found.push(next)?;
         rest = after;
@@ -181,10 +178,7 @@ pub fn methods<'a>(
 {
     let mut rest = tokens;
     let mut found = Vec::new(alloc);
-    'turns: for _ in 0..tokens.len() {
-        if !sees_key(Keyword::Method, version, rest) {
-            break;
-        }
+    'turns: while sees_key(Keyword::Method, version, rest) {
         let (next, after) = method(alloc, depth, version, rest)?;
         found.push(next)?;
         rest = after;

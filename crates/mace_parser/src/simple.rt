@@ -9,9 +9,9 @@ ghost use Rattle.mace_grammar.specs.Words.{numbered};
 ghost use Rattle.mace_grammar.specs.inner.Readers as reader;
 ghost use Rattle.mace_parser.specs.inner.Gives.{Gives};
 
-use crate::class::{begins_expr, sees_finish, sees_key, sees_leave, sees_sign};
 use crate::expr::{arguments, bracketed, expr};
 use crate::fault::Read;
+use crate::sees::{begins_expr, sees_finish, sees_key, sees_leave, sees_sign};
 use crate::token::{field, finish, key, leave, name, sign, text};
 use mace_ast::{Action, Expr, Name, Stmt, Target};
 use mace_lexer::{Keyword, Sign, Token};

@@ -7,8 +7,8 @@ ghost use Rattle.mace_grammar.specs.Words.{numbered};
 ghost use Rattle.mace_grammar.specs.inner.Readers as reader;
 ghost use Rattle.mace_parser.specs.inner.Gives.{Gives};
 
-use crate::class::{begins_stmt, sees_key};
 use crate::fault::{Fault, Read};
+use crate::sees::{begins_stmt, sees_key};
 use crate::simple::{any_expr, ending, let_stmt};
 use crate::token::{key, name, sign};
 use mace_ast::Stmt;
@@ -125,10 +125,7 @@ pub fn stmts<'a>(
 {
     let mut rest = tokens;
     let mut found = Vec::new(alloc);
-    'turns: for _ in 0..tokens.len() {
-        if !begins_stmt(version, rest) {
-            break;
-        }
+    'turns: while begins_stmt(version, rest) {
         let (next, after) = stmt(alloc, depth, version, rest)?;
         found.push(next)?;
         rest = after;

@@ -20,7 +20,7 @@ pub fn key<'a>(want: Keyword, tokens: &'a [Token]) -> Read<'a, Span>
         return Err(Fault::Stuck(tokens));
     };
     match t.word {
-        Word::Key(k) if want.code() == k.code() => Ok((t.span, rest)),
+        Word::Key(k) if k == want => Ok((t.span, rest)),
         _ => Err(Fault::Stuck(tokens)),
     }
 }
@@ -33,7 +33,7 @@ pub fn sign<'a>(want: Sign, tokens: &'a [Token]) -> Read<'a, Span>
         return Err(Fault::Stuck(tokens));
     };
     match t.word {
-        Word::Sign(s) if want.code() == s.code() => Ok((t.span, rest)),
+        Word::Sign(s) if s == want => Ok((t.span, rest)),
         _ => Err(Fault::Stuck(tokens)),
     }
 }

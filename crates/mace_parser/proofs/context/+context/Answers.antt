@@ -1,4 +1,4 @@
-use Rattle.std.proofs.Common.{◌≡◌, ◌-◌, true, length, Ok, sym, ◌∙◌, ap, arith, map}
+use Rattle.std.proofs.Common.{◌≡◌, ◌-◌, true, Ok, sym, ◌∙◌, ap, map}
 use Rattle.std.proofs.lemmas.Result.{err_from_is_err_and}
 use Rattle.std.proofs.lemmas.List.{map_push}
 use Rattle.mace_lexer.specs.declared.keyword.Keyword.TheVariants as k
@@ -7,28 +7,27 @@ use Rattle.mace_grammar.specs.Words.{numbered}
 use Rattle.mace_grammar.specs.inner.Classes.{kind}
 use Rattle.mace_grammar.specs.inner.Run.{sees}
 use Rattle.mace_grammar.specs.inner.Readers as reader
-use Rattle.mace_parser.proofs.Turns.{list_goes_on, list_ends, list_done, list_done_at}
+use Rattle.mace_parser.proofs.Progress.{takes_context}
+use Rattle.mace_parser.proofs.Turns.{list_goes_on, list_ends, list_done}
 use Rattle.mace_parser.proofs.Steps.{deeper_pred, fails_same, inner_fails, methods_fail, brace_fails, context_gives}
 use Rattle.mace_parser.proofs.context.+context.Goals as goal
-use Rattle.mace_parser.proofs.context.+context.Goals.{contexts-else-turns-test, contexts-then-turns-test+then-not-sees_key}
 
 pub contexts-returns-in_err-next : goal.contexts-returns-in_err-next
 contexts-returns-in_err-next t c =
     let p = err_from_is_err_and c.from_residual.result c.from_residual.ensures.1 in
-    let s : sees (kind (numbered c.args.version)) (reader.if_key k.Context) c.turns.rest.now ≡ true = sym c.sees_key.ensures ∙ c.if-not-sees_key.false in
-    rw (p.1, p.2) (list_ends (numbered c.args.version) (reader.if_key k.Context) (reader.context_at (numbered c.args.version) c.args.depth) c.in_err-next.field-0.0 (length c.args.tokens.now) c.turns.counter (map context_tree c.turns.found.items) c.turns.rest.now (reader.contexts_in (numbered c.args.version) (reader.context_at (numbered c.args.version) c.args.depth) c.args.tokens.now) c.turns-test.true s c.in_err-next.ensures c.turns.invariant)
+    let s : sees (kind (numbered c.args.version)) (reader.if_key k.Context) c.turns.rest.now ≡ true = sym c.sees_key.ensures ∙ c.turns-test.true in
+    rw (p.1, p.2) (list_ends (numbered c.args.version) (reader.if_key k.Context) (reader.context_at (numbered c.args.version) c.args.depth) c.in_err-next.field-0.0 (map context_tree c.turns.found.items) c.turns.rest.now (reader.contexts_in (numbered c.args.version) (reader.context_at (numbered c.args.version) c.args.depth) c.args.tokens.now) s c.in_err-next.ensures c.turns.invariant)
 
 pub contexts-turns-preserved : goal.contexts-turns-preserved
 contexts-turns-preserved t c =
-    let s : sees (kind (numbered c.args.version)) (reader.if_key k.Context) c.turns.rest.now ≡ true = sym c.sees_key.ensures ∙ c.if-not-sees_key.false in
-    list_goes_on (numbered c.args.version) (reader.if_key k.Context) (reader.context_at (numbered c.args.version) c.args.depth) (length c.args.tokens.now) c.turns.counter (map context_tree c.turns.found.items) (map context_tree c.push.new.self.items) c.turns.rest.now c.in_ok-next.after.now (context_tree c.in_ok-next.next) (reader.contexts_in (numbered c.args.version) (reader.context_at (numbered c.args.version) c.args.depth) c.args.tokens.now) c.turns-test.true s c.in_ok-next.ensures (rw c.in_ok-push.ensures.items (map_push context_tree c.turns.found.items c.in_ok-next.next)) c.turns.invariant
+    let s : sees (kind (numbered c.args.version)) (reader.if_key k.Context) c.turns.rest.now ≡ true = sym c.sees_key.ensures ∙ c.turns-test.true in
+    list_goes_on (numbered c.args.version) (reader.if_key k.Context) (reader.context_at (numbered c.args.version) c.args.depth) (takes_context c.args.version c.args.depth) (map context_tree c.turns.found.items) (map context_tree c.push.new.self.items) c.turns.rest.now c.in_ok-next.after.now (context_tree c.in_ok-next.next) (reader.contexts_in (numbered c.args.version) (reader.context_at (numbered c.args.version) c.args.depth) c.args.tokens.now) s c.in_ok-next.ensures (rw c.in_ok-push.ensures.items (map_push context_tree c.turns.found.items c.in_ok-next.next)) c.turns.invariant
+
+pub contexts-turns-smaller : goal.contexts-turns-smaller
+contexts-turns-smaller t c = (takes_context c.args.version c.args.depth).fewer c.turns.rest.now c.in_ok-next.after.now (context_tree c.in_ok-next.next) c.in_ok-next.ensures
 
 pub contexts-returns : goal.contexts-returns
-contexts-returns t c =
-    elim c.turns-test.branch [
-      | contexts-else-turns-test w ↦ list_done_at (numbered c.args.version) (reader.if_key k.Context) (reader.context_at (numbered c.args.version) c.args.depth) ((length c.args.tokens.now) - c.turns.counter) (map context_tree c.turns.found.items) c.turns.rest.now (reader.contexts_in (numbered c.args.version) (reader.context_at (numbered c.args.version) c.args.depth) c.args.tokens.now) (omega arith) c.turns.invariant
-      | contexts-then-turns-test+then-not-sees_key w ↦ list_done (numbered c.args.version) (reader.if_key k.Context) (reader.context_at (numbered c.args.version) c.args.depth) ((length c.args.tokens.now) - c.turns.counter) (map context_tree c.turns.found.items) c.turns.rest.now (reader.contexts_in (numbered c.args.version) (reader.context_at (numbered c.args.version) c.args.depth) c.args.tokens.now) (sym w.sees_key.ensures ∙ w.if-not-sees_key.true) c.turns.invariant
-    ]
+contexts-returns t c = list_done (numbered c.args.version) (reader.if_key k.Context) (reader.context_at (numbered c.args.version) c.args.depth) (map context_tree c.turns.found.items) c.turns.rest.now (reader.contexts_in (numbered c.args.version) (reader.context_at (numbered c.args.version) c.args.depth) c.args.tokens.now) (sym c.sees_key.ensures ∙ c.turns-test.false) c.turns.invariant
 
 pub context-returns-in_err-inner : goal.context-returns-in_err-inner
 context-returns-in_err-inner t c =

@@ -1,4 +1,4 @@
-use Rattle.std.proofs.Common.{◌≡◌, ◌-◌, true, length, Ok, sym, ◌∙◌, ap, arith, map}
+use Rattle.std.proofs.Common.{◌≡◌, true, Ok, sym, ◌∙◌, ap, map}
 use Rattle.std.proofs.lemmas.Result.{err_from_is_err_and}
 use Rattle.std.proofs.lemmas.List.{map_push}
 use Rattle.mace_lexer.specs.declared.keyword.Keyword.TheVariants as k
@@ -7,24 +7,23 @@ use Rattle.mace_grammar.specs.Words.{numbered}
 use Rattle.mace_grammar.specs.inner.Classes.{kind}
 use Rattle.mace_grammar.specs.inner.Run.{sees}
 use Rattle.mace_grammar.specs.inner.Readers as reader
-use Rattle.mace_parser.proofs.Turns.{list_goes_on, list_ends, list_done, list_done_at}
+use Rattle.mace_parser.proofs.Progress.{takes_event}
+use Rattle.mace_parser.proofs.Turns.{list_goes_on, list_ends, list_done}
 use Rattle.mace_parser.proofs.event.events.Goals as goal
-use Rattle.mace_parser.proofs.event.events.Goals.{else-turns-test, then-turns-test+then-not-sees_key}
 
 pub returns-in_err-next : goal.returns-in_err-next
 returns-in_err-next c =
     let p = err_from_is_err_and c.from_residual.result c.from_residual.ensures.1 in
-    let s : sees (kind (numbered c.args.version)) (reader.if_key k.Event) c.turns.rest.now ≡ true = sym c.sees_key.ensures ∙ c.if-not-sees_key.false in
-    rw (p.1, p.2) (list_ends (numbered c.args.version) (reader.if_key k.Event) (reader.event_at (numbered c.args.version) c.args.depth) c.in_err-next.field-0.0 (length c.args.tokens.now) c.turns.counter (map event_tree c.turns.found.items) c.turns.rest.now (reader.events_at (numbered c.args.version) c.args.depth c.args.tokens.now) c.turns-test.true s c.in_err-next.ensures c.turns.invariant)
+    let s : sees (kind (numbered c.args.version)) (reader.if_key k.Event) c.turns.rest.now ≡ true = sym c.sees_key.ensures ∙ c.turns-test.true in
+    rw (p.1, p.2) (list_ends (numbered c.args.version) (reader.if_key k.Event) (reader.event_at (numbered c.args.version) c.args.depth) c.in_err-next.field-0.0 (map event_tree c.turns.found.items) c.turns.rest.now (reader.events_at (numbered c.args.version) c.args.depth c.args.tokens.now) s c.in_err-next.ensures c.turns.invariant)
 
 pub turns-preserved : goal.turns-preserved
 turns-preserved c =
-    let s : sees (kind (numbered c.args.version)) (reader.if_key k.Event) c.turns.rest.now ≡ true = sym c.sees_key.ensures ∙ c.if-not-sees_key.false in
-    list_goes_on (numbered c.args.version) (reader.if_key k.Event) (reader.event_at (numbered c.args.version) c.args.depth) (length c.args.tokens.now) c.turns.counter (map event_tree c.turns.found.items) (map event_tree c.push.new.self.items) c.turns.rest.now c.in_ok-next.after.now (event_tree c.in_ok-next.next) (reader.events_at (numbered c.args.version) c.args.depth c.args.tokens.now) c.turns-test.true s c.in_ok-next.ensures (rw c.in_ok-push.ensures.items (map_push event_tree c.turns.found.items c.in_ok-next.next)) c.turns.invariant
+    let s : sees (kind (numbered c.args.version)) (reader.if_key k.Event) c.turns.rest.now ≡ true = sym c.sees_key.ensures ∙ c.turns-test.true in
+    list_goes_on (numbered c.args.version) (reader.if_key k.Event) (reader.event_at (numbered c.args.version) c.args.depth) (takes_event c.args.version c.args.depth) (map event_tree c.turns.found.items) (map event_tree c.push.new.self.items) c.turns.rest.now c.in_ok-next.after.now (event_tree c.in_ok-next.next) (reader.events_at (numbered c.args.version) c.args.depth c.args.tokens.now) s c.in_ok-next.ensures (rw c.in_ok-push.ensures.items (map_push event_tree c.turns.found.items c.in_ok-next.next)) c.turns.invariant
+
+pub turns-smaller : goal.turns-smaller
+turns-smaller c = (takes_event c.args.version c.args.depth).fewer c.turns.rest.now c.in_ok-next.after.now (event_tree c.in_ok-next.next) c.in_ok-next.ensures
 
 pub returns : goal.returns
-returns c =
-    elim c.turns-test.branch [
-      | else-turns-test w ↦ list_done_at (numbered c.args.version) (reader.if_key k.Event) (reader.event_at (numbered c.args.version) c.args.depth) ((length c.args.tokens.now) - c.turns.counter) (map event_tree c.turns.found.items) c.turns.rest.now (reader.events_at (numbered c.args.version) c.args.depth c.args.tokens.now) (omega arith) c.turns.invariant ∙ ap (λ l. Ok (l, c.turns.rest.now)) (sym (ap (map event_tree) c.from_vec.ensures))
-      | then-turns-test+then-not-sees_key w ↦ list_done (numbered c.args.version) (reader.if_key k.Event) (reader.event_at (numbered c.args.version) c.args.depth) ((length c.args.tokens.now) - c.turns.counter) (map event_tree c.turns.found.items) c.turns.rest.now (reader.events_at (numbered c.args.version) c.args.depth c.args.tokens.now) (sym w.sees_key.ensures ∙ w.if-not-sees_key.true) c.turns.invariant ∙ ap (λ l. Ok (l, c.turns.rest.now)) (sym (ap (map event_tree) c.from_vec.ensures))
-    ]
+returns c = list_done (numbered c.args.version) (reader.if_key k.Event) (reader.event_at (numbered c.args.version) c.args.depth) (map event_tree c.turns.found.items) c.turns.rest.now (reader.events_at (numbered c.args.version) c.args.depth c.args.tokens.now) (sym c.sees_key.ensures ∙ c.turns-test.false) c.turns.invariant ∙ ap (λ l. Ok (l, c.turns.rest.now)) (sym (ap (map event_tree) c.from_vec.ensures))

@@ -1,4 +1,4 @@
-use Rattle.std.proofs.Common.{◌≡◌, ◌-◌, true, length, Ok, sym, ◌∙◌, ap, arith, map}
+use Rattle.std.proofs.Common.{◌≡◌, ◌-◌, true, Ok, sym, ◌∙◌, ap, map}
 use Rattle.std.proofs.lemmas.Result.{err_from_is_err_and}
 use Rattle.std.proofs.lemmas.List.{map_push}
 use Rattle.mace_lexer.specs.declared.sign.Sign.TheVariants as sign
@@ -7,28 +7,27 @@ use Rattle.mace_grammar.specs.Words.{numbered}
 use Rattle.mace_grammar.specs.inner.Classes.{kind}
 use Rattle.mace_grammar.specs.inner.Run.{sees}
 use Rattle.mace_grammar.specs.inner.Readers as reader
-use Rattle.mace_parser.proofs.Turns.{list_goes_on, list_ends, list_done, list_done_at, chain_start, chain_goes_on, chain_ends}
+use Rattle.mace_parser.proofs.Progress.{takes_next_expr}
+use Rattle.mace_parser.proofs.Turns.{list_goes_on, list_ends, list_done, chain_start, chain_goes_on, chain_ends}
 use Rattle.mace_parser.proofs.Steps.{keyed_gives, keyed_fails}
 use Rattle.mace_parser.proofs.expr.+expr.Goals as goal
-use Rattle.mace_parser.proofs.expr.+expr.Goals.{list-else-turns-test, list-then-turns-test+then-not-sees_sign}
 
 pub list-returns-in_err-next : goal.list-returns-in_err-next
 list-returns-in_err-next t c =
     let p = err_from_is_err_and c.from_residual-in_err-next.result c.from_residual-in_err-next.ensures.1 in
-    let s : sees (kind (numbered c.args.version)) (reader.if_sign sign.Comma) c.turns.rest.now ≡ true = sym c.sees_sign.ensures ∙ c.if-not-sees_sign.false in
-    rw (p.1, p.2) (list_ends (numbered c.args.version) (reader.if_sign sign.Comma) (reader.next_at (numbered c.args.version) (reader.expr_at (numbered c.args.version) (reader.unary_at (numbered c.args.version) c.args.depth))) c.in_err-next.field-0.0 (length c.in_ok-first.rest.now) c.turns.counter (map expr_tree c.turns.found.items) c.turns.rest.now (reader.list_at (numbered c.args.version) (reader.expr_at (numbered c.args.version) (reader.unary_at (numbered c.args.version) c.args.depth)) c.args.tokens.now) c.turns-test.true s c.in_err-next.ensures c.turns.invariant)
+    let s : sees (kind (numbered c.args.version)) (reader.if_sign sign.Comma) c.turns.rest.now ≡ true = sym c.sees_sign.ensures ∙ c.turns-test.true in
+    rw (p.1, p.2) (list_ends (numbered c.args.version) (reader.if_sign sign.Comma) (reader.next_at (numbered c.args.version) (reader.expr_at (numbered c.args.version) (reader.unary_at (numbered c.args.version) c.args.depth))) c.in_err-next.field-0.0 (map expr_tree c.turns.found.items) c.turns.rest.now (reader.list_at (numbered c.args.version) (reader.expr_at (numbered c.args.version) (reader.unary_at (numbered c.args.version) c.args.depth)) c.args.tokens.now) s c.in_err-next.ensures c.turns.invariant)
 
 pub list-turns-preserved : goal.list-turns-preserved
 list-turns-preserved t c =
-    let s : sees (kind (numbered c.args.version)) (reader.if_sign sign.Comma) c.turns.rest.now ≡ true = sym c.sees_sign.ensures ∙ c.if-not-sees_sign.false in
-    list_goes_on (numbered c.args.version) (reader.if_sign sign.Comma) (reader.next_at (numbered c.args.version) (reader.expr_at (numbered c.args.version) (reader.unary_at (numbered c.args.version) c.args.depth))) (length c.in_ok-first.rest.now) c.turns.counter (map expr_tree c.turns.found.items) (map expr_tree c.push-in-turns.new.self.items) c.turns.rest.now c.in_ok-next.after.now (expr_tree c.in_ok-next.next) (reader.list_at (numbered c.args.version) (reader.expr_at (numbered c.args.version) (reader.unary_at (numbered c.args.version) c.args.depth)) c.args.tokens.now) c.turns-test.true s c.in_ok-next.ensures (rw c.in_ok-push-2.ensures.items (map_push expr_tree c.turns.found.items c.in_ok-next.next)) c.turns.invariant
+    let s : sees (kind (numbered c.args.version)) (reader.if_sign sign.Comma) c.turns.rest.now ≡ true = sym c.sees_sign.ensures ∙ c.turns-test.true in
+    list_goes_on (numbered c.args.version) (reader.if_sign sign.Comma) (reader.next_at (numbered c.args.version) (reader.expr_at (numbered c.args.version) (reader.unary_at (numbered c.args.version) c.args.depth))) (takes_next_expr c.args.version c.args.depth) (map expr_tree c.turns.found.items) (map expr_tree c.push-in-turns.new.self.items) c.turns.rest.now c.in_ok-next.after.now (expr_tree c.in_ok-next.next) (reader.list_at (numbered c.args.version) (reader.expr_at (numbered c.args.version) (reader.unary_at (numbered c.args.version) c.args.depth)) c.args.tokens.now) s c.in_ok-next.ensures (rw c.in_ok-push-2.ensures.items (map_push expr_tree c.turns.found.items c.in_ok-next.next)) c.turns.invariant
+
+pub list-turns-smaller : goal.list-turns-smaller
+list-turns-smaller t c = (takes_next_expr c.args.version c.args.depth).fewer c.turns.rest.now c.in_ok-next.after.now (expr_tree c.in_ok-next.next) c.in_ok-next.ensures
 
 pub list-returns : goal.list-returns
-list-returns t c =
-    elim c.turns-test.branch [
-      | list-else-turns-test w ↦ list_done_at (numbered c.args.version) (reader.if_sign sign.Comma) (reader.next_at (numbered c.args.version) (reader.expr_at (numbered c.args.version) (reader.unary_at (numbered c.args.version) c.args.depth))) ((length c.in_ok-first.rest.now) - c.turns.counter) (map expr_tree c.turns.found.items) c.turns.rest.now (reader.list_at (numbered c.args.version) (reader.expr_at (numbered c.args.version) (reader.unary_at (numbered c.args.version) c.args.depth)) c.args.tokens.now) (omega arith) c.turns.invariant
-      | list-then-turns-test+then-not-sees_sign w ↦ list_done (numbered c.args.version) (reader.if_sign sign.Comma) (reader.next_at (numbered c.args.version) (reader.expr_at (numbered c.args.version) (reader.unary_at (numbered c.args.version) c.args.depth))) ((length c.in_ok-first.rest.now) - c.turns.counter) (map expr_tree c.turns.found.items) c.turns.rest.now (reader.list_at (numbered c.args.version) (reader.expr_at (numbered c.args.version) (reader.unary_at (numbered c.args.version) c.args.depth)) c.args.tokens.now) (sym w.sees_sign.ensures ∙ w.if-not-sees_sign.true) c.turns.invariant
-    ]
+list-returns t c = list_done (numbered c.args.version) (reader.if_sign sign.Comma) (reader.next_at (numbered c.args.version) (reader.expr_at (numbered c.args.version) (reader.unary_at (numbered c.args.version) c.args.depth))) (map expr_tree c.turns.found.items) c.turns.rest.now (reader.list_at (numbered c.args.version) (reader.expr_at (numbered c.args.version) (reader.unary_at (numbered c.args.version) c.args.depth)) c.args.tokens.now) (sym c.sees_sign.ensures ∙ c.turns-test.false) c.turns.invariant
 
 pub chain-turns-init : goal.chain-turns-init
 chain-turns-init t c = chain_start (numbered c.args.version) (reader.unary_at (numbered c.args.version) c.args.depth) c.args.level c.most_operands-end.result (expr_tree c.in_ok-left.left) c.args.tokens.now c.in_ok-left.rest.now c.if-level-eq0.false c.most_operands-end.ensures c.in_ok-left.ensures

@@ -1,4 +1,4 @@
-use Rattle.std.proofs.Common.{◌≡◌, ◌+◌, ◌*◌, ◌-◌, map}
+use Rattle.std.proofs.Common.{◌≡◌, ◌+◌, ◌*◌, ◌-◌, map, length}
 use Rattle.mace_lexer.specs.declared.sign.Sign.TheVariants as s
 use Rattle.mace_ast.specs.Exprs.{expr_tree}
 use Rattle.mace_grammar.specs.Words.{numbered}
@@ -52,7 +52,10 @@ abbrev pub decreases-operand : goal.decreases-operand
 decreases-operand l = 40 * l.depth + 10 + 2 * l.level
 
 abbrev pub invariant-list-turns : goal.invariant-list-turns
-invariant-list-turns l = list_from (numbered l.version) (reader.if_sign s.Comma) (reader.next_at (numbered l.version) (reader.expr_at (numbered l.version) (reader.unary_at (numbered l.version) l.depth))) (l.end - l.counter) (map expr_tree l.found.items) l.rest ≡ reader.list_at (numbered l.version) (reader.expr_at (numbered l.version) (reader.unary_at (numbered l.version) l.depth)) l.tokens
+invariant-list-turns l = list_from (numbered l.version) (reader.if_sign s.Comma) (reader.next_at (numbered l.version) (reader.expr_at (numbered l.version) (reader.unary_at (numbered l.version) l.depth))) (map expr_tree l.found.items) l.rest ≡ reader.list_at (numbered l.version) (reader.expr_at (numbered l.version) (reader.unary_at (numbered l.version) l.depth)) l.tokens
 
 abbrev pub invariant-chain-turns : goal.invariant-chain-turns
 invariant-chain-turns l = reader.operands_at (numbered l.version) (l.level - 1) (reader.level_at (numbered l.version) (reader.unary_at (numbered l.version) l.depth) (l.level - 1)) (l.end - l.counter) (expr_tree l.left) l.rest ≡ reader.level_at (numbered l.version) (reader.unary_at (numbered l.version) l.depth) l.level l.tokens
+
+abbrev pub decreases-list-turns : goal.decreases-list-turns
+decreases-list-turns l = length l.rest

@@ -1,4 +1,4 @@
-use Rattle.std.proofs.Common.{◌≡◌, ◌-◌}
+use Rattle.std.proofs.Common.{◌≡◌, length}
 use Rattle.mace_lexer.specs.declared.sign.Sign.TheVariants as sign
 use Rattle.mace_grammar.specs.Words.{numbered}
 use Rattle.mace_grammar.specs.inner.Readers as reader
@@ -6,4 +6,7 @@ use Rattle.mace_parser.proofs.Turns.{list_from}
 use Rattle.mace_parser.proofs.method.list.Given as goal
 
 abbrev pub invariant-turns : goal.invariant-turns
-invariant-turns l = list_from (numbered l.version) (reader.if_sign sign.Comma) (reader.next_at (numbered l.version) (reader.param_at (numbered l.version))) (l.end - l.counter) (l.found.items) l.rest ≡ reader.list_at (numbered l.version) (reader.param_at (numbered l.version)) l.tokens
+invariant-turns l = list_from (numbered l.version) (reader.if_sign sign.Comma) (reader.next_at (numbered l.version) (reader.param_at (numbered l.version))) (l.found.items) l.rest ≡ reader.list_at (numbered l.version) (reader.param_at (numbered l.version)) l.tokens
+
+abbrev pub decreases-turns : goal.decreases-turns
+decreases-turns l = length l.rest

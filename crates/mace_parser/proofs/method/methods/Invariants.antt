@@ -1,4 +1,4 @@
-use Rattle.std.proofs.Common.{◌≡◌, ◌-◌, map}
+use Rattle.std.proofs.Common.{◌≡◌, map, length}
 use Rattle.mace_lexer.specs.declared.keyword.Keyword.TheVariants as k
 use Rattle.mace_ast.specs.Decls.{method_tree}
 use Rattle.mace_grammar.specs.Words.{numbered}
@@ -7,4 +7,7 @@ use Rattle.mace_parser.proofs.Turns.{list_from}
 use Rattle.mace_parser.proofs.method.methods.Given as goal
 
 abbrev pub invariant-turns : goal.invariant-turns
-invariant-turns l = list_from (numbered l.version) (reader.if_key k.Method) (reader.method_at (numbered l.version) l.depth) (l.end - l.counter) (map method_tree l.found.items) l.rest ≡ reader.methods_at (numbered l.version) l.depth l.tokens
+invariant-turns l = list_from (numbered l.version) (reader.if_key k.Method) (reader.method_at (numbered l.version) l.depth) (map method_tree l.found.items) l.rest ≡ reader.methods_at (numbered l.version) l.depth l.tokens
+
+abbrev pub decreases-turns : goal.decreases-turns
+decreases-turns l = length l.rest
