@@ -25,7 +25,7 @@ use Rattle.wave_machine.specs.declared.engine.Engine.{Engine}
 use Rattle.wave_machine.specs.declared.prepared.Prepared.{Prepared}
 use Rattle.wave_machine.specs.Heading.{AreCreated, IsMade, IsNext, RoomToAdmit, RoomToCommit}
 use Rattle.wave_machine.specs.Keeping.{RoomToGrant, RoomToLand, kept_of}
-use Rattle.wave_machine.specs.Prepared.{IsPart, IsPrepared}
+use Rattle.wave_machine.specs.inner.Made.{IsPart, IsPrepared}
 use Rattle.wave_machine.specs.Rooms.{PartToQueue, RoomInLine}
 use Rattle.wave_machine.specs.Running.{IsCopy, copy_of}
 use Rattle.wave_machine.specs.inner.Spare.{IsAsLong, SameButRooms}

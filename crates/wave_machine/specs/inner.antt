@@ -5,6 +5,7 @@ pub mod Asks
 pub mod Joins
 pub mod Moving
 pub mod Taken
+pub mod Made
 pub mod Leaving
 pub mod Spare
 pub mod Beginnings

@@ -4,9 +4,10 @@ ghost use Rattle.std.specs.Prelude.{◌≡◌, true, IfOk};
 ghost use Rattle.wave_labels.specs.Labels.{label_of};
 ghost use Rattle.wave_machine.specs.Actors.{MayRun};
 ghost use Rattle.wave_machine.specs.Machines.{IsEnabled, Keeps, Takes};
-ghost use Rattle.wave_machine.specs.Prepared.{IsPart, is_start, is_step};
+ghost use Rattle.wave_machine.specs.Prepared.{is_start, is_step};
 ghost use Rattle.wave_machine.specs.Running.{Leases};
 ghost use Rattle.wave_machine.specs.inner.Apart.{AsksTheSame, Moves};
+ghost use Rattle.wave_machine.specs.inner.Made.{IsPart};
 
 use crate::engine::Engine;
 use crate::lease::Lease;

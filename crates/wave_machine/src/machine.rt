@@ -47,8 +47,9 @@ impl<'p> Model for Machine<'p> {
     ghost use Rattle.context_queue.specs.contracts.entry.Entry as entry;
     ghost use Rattle.host_map.specs.contracts.store.HostStore as store;
     ghost use Rattle.wave_machine.specs.Keeping.{kept_of};
-    ghost use Rattle.wave_machine.specs.Prepared.{Shown, IsStood, IsPrepared, shown_of};
+    ghost use Rattle.wave_machine.specs.Prepared.{Shown, IsStood, shown_of};
     ghost use Rattle.wave_machine.specs.inner.Done.{AreDone};
+    ghost use Rattle.wave_machine.specs.inner.Made.{IsPrepared};
 
     ghost Value = { Shown };
 

@@ -1,6 +1,6 @@
 use Rattle.std.proofs.Common.{sym, subst}
 use Rattle.wave_machine.specs.Keeping.{kept_of}
-use Rattle.wave_machine.specs.Prepared.{IsPrepared}
+use Rattle.wave_machine.specs.inner.Made.{IsPrepared}
 use Rattle.wave_machine.proofs.Labelled.{stood_kept}
 use Rattle.wave_machine.proofs.Untouched.{kept_done}
 use Rattle.wave_machine.proofs.machine.Machine.reserve.Goals as goal

@@ -1,7 +1,8 @@
 use Rattle.std.proofs.Common.{sym, subst, ap}
 use Rattle.wave_machine.specs.Keeping.{kept_of}
 use Rattle.wave_machine.specs.Machines.{Keeps}
-use Rattle.wave_machine.specs.Prepared.{IsPrepared, Shown}
+use Rattle.wave_machine.specs.Prepared.{Shown}
+use Rattle.wave_machine.specs.inner.Made.{IsPrepared}
 use Rattle.wave_machine.specs.Running.{CanStop, IsStopping, Stops}
 use Rattle.wave_machine.proofs.Labelled.{stood_kept, stood_stopped}
 use Rattle.wave_machine.proofs.Lasting.{prepared_still}
