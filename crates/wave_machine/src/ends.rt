@@ -1,7 +1,7 @@
 use crate::lease::Lease;
 use wave_base::Pause;
 
-// A segment that was run, and is still out.
+/// A segment that was run, and is still out: what was leased, and how it paused.
 #[derive(Drop)]
 pub struct End {
     pub lease: Lease,
