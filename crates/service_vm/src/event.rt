@@ -11,16 +11,14 @@ ghost use Rattle.service_verify.specs.Standing.{HasFields, Stands, Leaves};
 ghost use Rattle.service_vm.specs.Boxes.{Segment, frames_left};
 
 use crate::act::function;
-use crate::frames::{Frames, add_blanks};
+use crate::frames::add_blanks;
 use crate::held::Held;
 use crate::run::Run;
-use deferred_out::Outputs;
-use downgrade_views::Views;
 use service_code::{Function, Program};
 use service_verify::Verified;
 use std::alloc::Global;
 use std::marker::Model;
-use wave_base::{Call, Class, OutOfMemory, Path, Pause, Record, Seq, TICKS, Ticket, Value};
+use wave_base::{Call, Class, OutOfMemory, Path, Pause, Record, Seq, Ticket, Value};
 
 /// An event between its segments. It is of one program, which each of its calls is given.
 #[derive(Debug, Drop)]
@@ -88,17 +86,7 @@ impl EventBox {
                 OutOfMemory,
             ));
         }
-        let run = Run {
-            frames: Frames::first(alloc, number, locals),
-            views: Views::new(alloc),
-            outputs: Outputs::new(alloc),
-            ticks: TICKS,
-            path: Path::root(),
-            held,
-            entered: 1,
-            generation,
-            alloc,
-        };
+        let run = Run::first(alloc, number, locals, held, generation);
         let peeking = is_peeking(verified, &run, false);
         Ok(EventBox {
             run,

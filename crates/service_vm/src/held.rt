@@ -34,12 +34,14 @@ impl Held {
         Ok(Held { paths })
     }
 
+    /// Whether a context is held.
     pub fn contains(&self, path: &Path) -> bool
         ensures { result ≡ is_held self.now path.now }
     {
         self.paths.contains(path)
     }
 
+    /// Holds a context from now on.
     pub fn insert(&mut self, path: Path) -> Result<(), OutOfMemory>
         ensures { OnOk result (self.new ≡ insert_key path_cmp self.old path) }
     {

@@ -1,8 +1,9 @@
-ghost use Rattle.std.specs.Prelude.{◌≡◌, ◌<◌, ◌^◌, ◌∷◌, List, Some, None, true, false, suc, nat_lt, IfOk, OnOk};
+ghost use Rattle.std.specs.Prelude.{◌≡◌, ◌<◌, ◌^◌, ◌∷◌, [], List, Some, None, true, false, suc, nat_lt, IfOk, OnOk};
 ghost use Rattle.std.specs.BTreeSet.{insert_key};
-ghost use Rattle.wave_base.specs.declared.limits.TheConstants.{CONTEXTS};
+ghost use Rattle.wave_base.specs.declared.limits.TheConstants.{CONTEXTS, TICKS};
 ghost use Rattle.wave_base.specs.declared.value.Value.{Value};
 ghost use Rattle.wave_base.specs.Paths.{path_cmp};
+ghost use Rattle.deferred_out.specs.Kept.{nothing};
 ghost use Rattle.service_verify.specs.Steps.{is_held, trapped, finished};
 ghost use Rattle.service_vm.specs.Acts.{box_of, moved, Settled, Stays};
 ghost use Rattle.service_vm.specs.Frames.{moved_on};
@@ -15,7 +16,8 @@ use downgrade_views::Views;
 use std::alloc::Global;
 use value_ops::OpError;
 use wave_base::{
-    CONTEXTS, EventResult, OutOfMemory, Outcome, Path, Pause, Seq, Span, Trap, TrapKind, Value,
+    CONTEXTS, EventResult, OutOfMemory, Outcome, Path, Pause, Seq, Span, TICKS, Trap, TrapKind,
+    Value,
 };
 
 /// An event that isn't over: its frames, its copies of what stands above it, what it sent and created, the ticks that it
@@ -34,6 +36,24 @@ pub struct Run {
 }
 
 impl Run {
+    /// A function that begins with its locals, in an event at the root: all its ticks are left, and nothing is copied,
+    /// sent or created yet.
+    pub fn first(alloc: Global, number: u16, locals: Vec<Value>, held: Held, generation: u8) -> Run
+        ensures { result ≡ record { frames = record { top = record { function = number; place = 0; stack = []; locals = locals.items; down = false }; below = [] }; views = []; outputs = nothing; ticks = TICKS; path = []; held = held; entered = 1; generation = generation; alloc = alloc } }
+    {
+        Run {
+            frames: Frames::first(alloc, number, locals),
+            views: Views::new(alloc),
+            outputs: Outputs::new(alloc),
+            ticks: TICKS,
+            path: Path::root(),
+            held,
+            entered: 1,
+            generation,
+            alloc,
+        }
+    }
+
     /// Puts a value on the stack, and goes on.
     pub fn put(&mut self, x: Value) -> Result<Flow, OutOfMemory>
         requires { self.old.frames.top.place < 2 ^ 63 }

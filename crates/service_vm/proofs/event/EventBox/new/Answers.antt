@@ -1,10 +1,10 @@
-use Rattle.std.proofs.Common.{◌≡◌, ◌++◌, [], ap, sym, ◌∙◌, subst, drop, map, if◌then◌else◌, arith, false}
+use Rattle.std.proofs.Common.{◌≡◌, ◌++◌, [], ap, sym, ◌∙◌, subst, drop, map, if◌then◌else◌, arith, false, refl}
 use Rattle.std.specs.Prelude.{is_some, slice_get}
+use Rattle.deferred_out.specs.Kept.{nothing}
 use Rattle.service_code.specs.declared.program.Program.{Program}
-use Rattle.service_verify.specs.Boxes.{blank_of, first_locals, first_frame, first_box}
+use Rattle.service_verify.specs.Boxes.{Frame, blank_of, first_locals, first_frame, first_box}
 use Rattle.service_verify.specs.Standing.{Stands}
 use Rattle.service_verify.proofs.Locals.{begins}
-use Rattle.service_vm.specs.declared.run.Run.{Run}
 use Rattle.service_vm.specs.Boxes.{event_in}
 use Rattle.service_vm.proofs.Events.{function_of_event, args_few, first_is}
 use Rattle.service_vm.proofs.event.EventBox.new.Goals as goal
@@ -21,11 +21,8 @@ blanks-requires c =
     let few = args_few c.args.program.now c.requires.fit c.args.call c.requires.call c.event_function-number.result (ap (λ (q : Program). slice_get q.events c.args.call.event) (sym e) ∙ c.event_function-number.ensures) c.function-function.result.now (ap (λ (q : Program). slice_get q.functions c.event_function-number.result) (sym e) ∙ c.function-function.ensures) in
     omega (arith, few, c.len.ensures)
 
-abbrev run_of : (c : goal.After-drop-blanks-2) → Run
-run_of c = record { frames = c.first.result; views = c.new.result; outputs = c.new-2.result; ticks = 100000; path = c.root-2.result; held = c.in-Ok-root.held; entered = 1; generation = c.args.call.generation; alloc = c.args.alloc }
-
 -- the event that comes out
-event_is : (c : goal.After-drop-blanks-2) → event_in false (run_of c) ≡ record { box = first_box c.args.program.now c.args.call; levels = [] }
+event_is : (c : goal.After-drop-blanks-2) → event_in false c.first-run.result ≡ record { box = first_box c.args.program.now c.args.call; levels = [] }
 event_is c =
     let e = c.program-program.ensures.program in
     let function = c.function-function.result.now in
@@ -36,9 +33,11 @@ event_is c =
     ∙ ap (λ b. if b then c.into_vec-locals.result.items ++ c.in-Ok.blanks.items else c.into_vec-locals.result.items) c.if-is_err.ensures.negation
     ∙ (λ i. c.into_vec-locals.ensures i ++ c.in-Ok.ensures i)
     ∙ ap (λ n. c.args.call.args ++ map blank_of (drop n function.locals)) c.len.ensures in
-    let top : c.first.result.top ≡ first_frame c.event_function-number.result function c.args.call.args false =
-    c.first.ensures.top ∙ ap (λ ls. record { function = c.event_function-number.result; place = 0; stack = []; locals = ls; down = false }) locals in
-    first_is c.args.program.now c.requires.fit c.args.call c.requires.call c.event_function-number.result known function c.first.result c.root-2.result c.in-Ok-root.held c.new-2.result c.new.result there top c.first.ensures.below c.root-2.ensures c.in-Ok-root.ensures c.new-2.ensures c.new.ensures
+    let first : Frame = record { function = c.event_function-number.result; place = 0; stack = []; locals = c.append.new.self.items; down = false } in
+    let top : first ≡ first_frame c.event_function-number.result function c.args.call.args false =
+    ap (λ ls. record { function = c.event_function-number.result; place = 0; stack = []; locals = ls; down = false }) locals in
+    ap (event_in false) c.first-run.ensures
+    ∙ first_is c.args.program.now c.requires.fit c.args.call c.requires.call c.event_function-number.result known function (record { top = first; below = [] }) [] c.in-Ok-root.held nothing [] there top refl refl c.in-Ok-root.ensures refl refl
 
 pub returns-clause-event : goal.returns-clause-event
 returns-clause-event c = event_is c
