@@ -1,6 +1,6 @@
 //! Statements: their expressions come first.
 
-ghost use Rattle.std.specs.Prelude.{◌≡◌, [], ◌∷◌, OnOk, IfErr, IsNone, IfSome};
+ghost use Rattle.std.specs.Prelude.{◌≡◌, [], ◌∷◌, OnOk, IfErr, IsNone, IfSome, length};
 ghost use Rattle.std.specs.Option.{option_map};
 ghost use Rattle.resolved_service.specs.Steps.{For, Return, Finish, step, step_of, steps_in};
 ghost use Rattle.resolved_service.specs.View.{tree_of};
@@ -93,12 +93,9 @@ fn begin<'s>(
     match &stmt.action {
         Action::SetLocal(slot, e) => {
             let ending = Ending::SetLocal(*slot as usize);
-            with_one(code, contexts, m, e, Tail { at, ending, base })
+            begin_one(code, contexts, m, at, e, ending)
         }
-        Action::SetField(f, e) => {
-            let ending = Ending::SetField(*f);
-            with_one(code, contexts, m, e, Tail { at, ending, base })
-        }
+        Action::SetField(f, e) => begin_one(code, contexts, m, at, e, Ending::SetField(*f)),
         Action::PutLocal(slot, key, e) => {
             let ending = Ending::PutLocal(*slot);
             with_two(code, contexts, m, key, e, Tail { at, ending, base })
@@ -109,28 +106,19 @@ fn begin<'s>(
         }
         Action::CutLocal(slot, key) => {
             let ending = Ending::CutLocal(*slot);
-            with_one(code, contexts, m, key, Tail { at, ending, base })
+            begin_one(code, contexts, m, at, key, ending)
         }
-        Action::CutField(f, key) => {
-            let ending = Ending::CutField(*f);
-            with_one(code, contexts, m, key, Tail { at, ending, base })
-        }
+        Action::CutField(f, key) => begin_one(code, contexts, m, at, key, Ending::CutField(*f)),
         Action::If(test, body, other) => {
             let ending = Ending::Branch(body.as_slice(), else_of(other));
-            with_one(code, contexts, m, test, Tail { at, ending, base })
+            begin_one(code, contexts, m, at, test, ending)
         }
         Action::While(test, body) => m.push(Work::Turns(at, test, body.as_slice(), m.depth)),
         Action::For(counter, from, to, body) => {
             begin_for(code, contexts, m, at, *counter, from, to, body.as_slice())
         }
-        Action::Require(e) => {
-            let ending = Ending::Require;
-            with_one(code, contexts, m, e, Tail { at, ending, base })
-        }
-        Action::Send(label, e) => {
-            let ending = Ending::Send(label);
-            with_one(code, contexts, m, e, Tail { at, ending, base })
-        }
+        Action::Require(e) => begin_one(code, contexts, m, at, e, Ending::Require),
+        Action::Send(label, e) => begin_one(code, contexts, m, at, e, Ending::Send(label)),
         Action::Spawn(event, args) => m.push_two(
             Work::Evals(args.as_slice()),
             Work::Finish(at, Ending::Spawn(*event), base),
@@ -139,6 +127,22 @@ fn begin<'s>(
         Action::Return(value) => begin_return(code, contexts, m, at, value),
         Action::Finish(value) => begin_finish(code, contexts, m, at, value),
     }
+}
+
+// The one expression of a statement, and then what the statement does with its value.
+fn begin_one<'s>(
+    code: Code<'s>,
+    contexts: &mut Tree,
+    m: &mut Machine<'s>,
+    at: Span,
+    e: &'s Expr,
+    ending: Ending<'s>,
+) -> Result<(), Stop>
+    requires { AreNext code contexts.old m.old (i.Eval (tree_of e.now) ∷ i.Finish at (end_of ending) (length m.old.values.items) ∷ []) }
+    ensures { GoOn code.entry contexts.old m.old (i.Eval (tree_of e.now) ∷ i.Finish at (end_of ending.entry) (length m.old.values.items) ∷ []) result contexts.new m.new }
+{
+    let base = m.height();
+    with_one(code, contexts, m, e, Tail { at, ending, base })
 }
 
 // The method ends, with a value or without one.
@@ -152,10 +156,8 @@ fn begin_return<'s>(
     requires { IsNext code contexts.old m.old (i.Begin (Return at (option_map tree_of value.now))) }
     ensures { Goes code.entry contexts.old m.old (i.Begin (Return at (option_map tree_of value.now))) result contexts.new m.new }
 {
-    let base = m.height();
-    let ending = Ending::Return;
     match value {
-        Some(e) => with_one(code, contexts, m, e, Tail { at, ending, base }),
+        Some(e) => begin_one(code, contexts, m, at, e, Ending::Return),
         None => give_back(code, contexts, m, None),
     }
 }
@@ -171,10 +173,8 @@ fn begin_finish<'s>(
     requires { IsNext code contexts.old m.old (i.Begin (Finish at (option_map tree_of value.now))) }
     ensures { Goes code.entry contexts.old m.old (i.Begin (Finish at (option_map tree_of value.now))) result contexts.new m.new }
 {
-    let base = m.height();
-    let ending = Ending::Finish;
     match value {
-        Some(e) => with_one(code, contexts, m, e, Tail { at, ending, base }),
+        Some(e) => begin_one(code, contexts, m, at, e, Ending::Finish),
         None => Err(Stop::Ended(None)),
     }
 }

@@ -13,6 +13,7 @@ pub enum Operand<'v> {
 }
 
 impl<'v> Operand<'v> {
+    /// The value, where it is kept.
     #[inline(always)]
     pub fn value(&self) -> &Value
         ensures { result.now ≡ value_in self.now }
@@ -23,6 +24,7 @@ impl<'v> Operand<'v> {
         }
     }
 
+    /// The value as the caller's own: one that is kept elsewhere is copied.
     #[inline(always)]
     pub fn owned(self, alloc: Global) -> Result<Value, OutOfMemory>
         ensures { IfOk result (λ v. v ≡ value_in self.entry) }

@@ -20,33 +20,33 @@ fits_else : (shape : Shape) (methods : List Method) (class : ℕ) (other : s.Els
 fits_else shape methods class s.no_else h = tt
 fits_else shape methods class (s.otherwise ss) h = h
 
-pub with_one-requires : goal.with_one-requires
-with_one-requires c =
+pub begin_one-requires : goal.begin_one-requires
+begin_one-requires c =
     let at = c.args.stmt.now.at in
-    to_parts c.args.code c.args.contexts.now c.args.m.now c.height-base.result (step_of c.args.stmt.now) (s.SetLocal at c.in-SetLocal.slot (tree_of c.in-SetLocal.e)) (ap (λ a. action_step a at) c.in-SetLocal.is)
-    (λ h x. on_top (Eval (tree_of c.in-SetLocal.e)) (on_top (Finish at (i.SetLocal c.in-SetLocal.slot) h) x)) c.height-base.ensures
+    to_parts c.args.code c.args.contexts.now c.args.m.now (length c.args.m.now.values.items) (step_of c.args.stmt.now) (s.SetLocal at c.in-SetLocal.slot (tree_of c.in-SetLocal.e)) (ap (λ a. action_step a at) c.in-SetLocal.is)
+    (λ h x. on_top (Eval (tree_of c.in-SetLocal.e)) (on_top (Finish at (i.SetLocal c.in-SetLocal.slot) h) x)) refl
     (λ next. ready_with _ _ _ _ _ _ next (next.items.0, (tt, next.items.1)) (omega arith)) c.requires
 
 pub returns-in-SetLocal : goal.returns-in-SetLocal
 returns-in-SetLocal c =
     let at = c.args.stmt.now.at in
-    from_parts c.args.code c.args.contexts.now c.args.m.now c.height-base.result (step_of c.args.stmt.now) (s.SetLocal at c.in-SetLocal.slot (tree_of c.in-SetLocal.e)) (ap (λ a. action_step a at) c.in-SetLocal.is)
-    (λ h x. on_top (Eval (tree_of c.in-SetLocal.e)) (on_top (Finish at (i.SetLocal c.in-SetLocal.slot) h) x)) c.height-base.ensures c.with_one.new.contexts c.with_one.new.m c.with_one.result
-    (l.set_local_parts c.args.code.methods.now (mach c.args.code c.args.contexts.now c.args.m.now) at c.in-SetLocal.slot (tree_of c.in-SetLocal.e)) c.with_one.ensures
+    from_parts c.args.code c.args.contexts.now c.args.m.now (length c.args.m.now.values.items) (step_of c.args.stmt.now) (s.SetLocal at c.in-SetLocal.slot (tree_of c.in-SetLocal.e)) (ap (λ a. action_step a at) c.in-SetLocal.is)
+    (λ h x. on_top (Eval (tree_of c.in-SetLocal.e)) (on_top (Finish at (i.SetLocal c.in-SetLocal.slot) h) x)) refl c.begin_one.new.contexts c.begin_one.new.m c.begin_one.result
+    (l.set_local_parts c.args.code.methods.now (mach c.args.code c.args.contexts.now c.args.m.now) at c.in-SetLocal.slot (tree_of c.in-SetLocal.e)) c.begin_one.ensures
 
-pub with_one-requires-in-SetField : goal.with_one-requires-in-SetField
-with_one-requires-in-SetField c =
+pub begin_one-requires-in-SetField : goal.begin_one-requires-in-SetField
+begin_one-requires-in-SetField c =
     let at = c.args.stmt.now.at in
-    to_parts c.args.code c.args.contexts.now c.args.m.now c.height-base.result (step_of c.args.stmt.now) (s.SetField at c.in-SetField.f (tree_of c.in-SetField.e)) (ap (λ a. action_step a at) c.in-SetField.is)
-    (λ h x. on_top (Eval (tree_of c.in-SetField.e)) (on_top (Finish at (i.SetField c.in-SetField.f) h) x)) c.height-base.ensures
+    to_parts c.args.code c.args.contexts.now c.args.m.now (length c.args.m.now.values.items) (step_of c.args.stmt.now) (s.SetField at c.in-SetField.f (tree_of c.in-SetField.e)) (ap (λ a. action_step a at) c.in-SetField.is)
+    (λ h x. on_top (Eval (tree_of c.in-SetField.e)) (on_top (Finish at (i.SetField c.in-SetField.f) h) x)) refl
     (λ next. ready_with _ _ _ _ _ _ next (next.items.0.1, (tt, next.items.1)) (omega arith)) c.requires
 
 pub returns-in-SetField : goal.returns-in-SetField
 returns-in-SetField c =
     let at = c.args.stmt.now.at in
-    from_parts c.args.code c.args.contexts.now c.args.m.now c.height-base.result (step_of c.args.stmt.now) (s.SetField at c.in-SetField.f (tree_of c.in-SetField.e)) (ap (λ a. action_step a at) c.in-SetField.is)
-    (λ h x. on_top (Eval (tree_of c.in-SetField.e)) (on_top (Finish at (i.SetField c.in-SetField.f) h) x)) c.height-base.ensures c.with_one-in-SetField.new.contexts c.with_one-in-SetField.new.m c.with_one-in-SetField.result
-    (l.set_field_parts c.args.code.methods.now (mach c.args.code c.args.contexts.now c.args.m.now) at c.in-SetField.f (tree_of c.in-SetField.e)) c.with_one-in-SetField.ensures
+    from_parts c.args.code c.args.contexts.now c.args.m.now (length c.args.m.now.values.items) (step_of c.args.stmt.now) (s.SetField at c.in-SetField.f (tree_of c.in-SetField.e)) (ap (λ a. action_step a at) c.in-SetField.is)
+    (λ h x. on_top (Eval (tree_of c.in-SetField.e)) (on_top (Finish at (i.SetField c.in-SetField.f) h) x)) refl c.begin_one-in-SetField.new.contexts c.begin_one-in-SetField.new.m c.begin_one-in-SetField.result
+    (l.set_field_parts c.args.code.methods.now (mach c.args.code c.args.contexts.now c.args.m.now) at c.in-SetField.f (tree_of c.in-SetField.e)) c.begin_one-in-SetField.ensures
 
 pub with_two-requires : goal.with_two-requires
 with_two-requires c =
@@ -76,75 +76,75 @@ returns-in-PutField c =
     (λ h x. on_top (Eval (tree_of c.in-PutField.key)) (on_top (Eval (tree_of c.in-PutField.e)) (on_top (Finish at (i.PutField c.in-PutField.f) h) x))) c.height-base.ensures c.with_two-in-PutField.new.contexts c.with_two-in-PutField.new.m c.with_two-in-PutField.result
     (l.put_field_parts c.args.code.methods.now (mach c.args.code c.args.contexts.now c.args.m.now) at c.in-PutField.f (tree_of c.in-PutField.key) (tree_of c.in-PutField.e)) c.with_two-in-PutField.ensures
 
-pub with_one-requires-in-CutLocal : goal.with_one-requires-in-CutLocal
-with_one-requires-in-CutLocal c =
+pub begin_one-requires-in-CutLocal : goal.begin_one-requires-in-CutLocal
+begin_one-requires-in-CutLocal c =
     let at = c.args.stmt.now.at in
-    to_parts c.args.code c.args.contexts.now c.args.m.now c.height-base.result (step_of c.args.stmt.now) (s.CutLocal at c.in-CutLocal.slot (tree_of c.in-CutLocal.key)) (ap (λ a. action_step a at) c.in-CutLocal.is)
-    (λ h x. on_top (Eval (tree_of c.in-CutLocal.key)) (on_top (Finish at (i.CutLocal c.in-CutLocal.slot) h) x)) c.height-base.ensures
+    to_parts c.args.code c.args.contexts.now c.args.m.now (length c.args.m.now.values.items) (step_of c.args.stmt.now) (s.CutLocal at c.in-CutLocal.slot (tree_of c.in-CutLocal.key)) (ap (λ a. action_step a at) c.in-CutLocal.is)
+    (λ h x. on_top (Eval (tree_of c.in-CutLocal.key)) (on_top (Finish at (i.CutLocal c.in-CutLocal.slot) h) x)) refl
     (λ next. ready_with _ _ _ _ _ _ next (next.items.0, (tt, next.items.1)) (omega arith)) c.requires
 
 pub returns-in-CutLocal : goal.returns-in-CutLocal
 returns-in-CutLocal c =
     let at = c.args.stmt.now.at in
-    from_parts c.args.code c.args.contexts.now c.args.m.now c.height-base.result (step_of c.args.stmt.now) (s.CutLocal at c.in-CutLocal.slot (tree_of c.in-CutLocal.key)) (ap (λ a. action_step a at) c.in-CutLocal.is)
-    (λ h x. on_top (Eval (tree_of c.in-CutLocal.key)) (on_top (Finish at (i.CutLocal c.in-CutLocal.slot) h) x)) c.height-base.ensures c.with_one-in-CutLocal.new.contexts c.with_one-in-CutLocal.new.m c.with_one-in-CutLocal.result
-    (l.cut_local_parts c.args.code.methods.now (mach c.args.code c.args.contexts.now c.args.m.now) at c.in-CutLocal.slot (tree_of c.in-CutLocal.key)) c.with_one-in-CutLocal.ensures
+    from_parts c.args.code c.args.contexts.now c.args.m.now (length c.args.m.now.values.items) (step_of c.args.stmt.now) (s.CutLocal at c.in-CutLocal.slot (tree_of c.in-CutLocal.key)) (ap (λ a. action_step a at) c.in-CutLocal.is)
+    (λ h x. on_top (Eval (tree_of c.in-CutLocal.key)) (on_top (Finish at (i.CutLocal c.in-CutLocal.slot) h) x)) refl c.begin_one-in-CutLocal.new.contexts c.begin_one-in-CutLocal.new.m c.begin_one-in-CutLocal.result
+    (l.cut_local_parts c.args.code.methods.now (mach c.args.code c.args.contexts.now c.args.m.now) at c.in-CutLocal.slot (tree_of c.in-CutLocal.key)) c.begin_one-in-CutLocal.ensures
 
-pub with_one-requires-in-CutField : goal.with_one-requires-in-CutField
-with_one-requires-in-CutField c =
+pub begin_one-requires-in-CutField : goal.begin_one-requires-in-CutField
+begin_one-requires-in-CutField c =
     let at = c.args.stmt.now.at in
-    to_parts c.args.code c.args.contexts.now c.args.m.now c.height-base.result (step_of c.args.stmt.now) (s.CutField at c.in-CutField.f (tree_of c.in-CutField.key)) (ap (λ a. action_step a at) c.in-CutField.is)
-    (λ h x. on_top (Eval (tree_of c.in-CutField.key)) (on_top (Finish at (i.CutField c.in-CutField.f) h) x)) c.height-base.ensures
+    to_parts c.args.code c.args.contexts.now c.args.m.now (length c.args.m.now.values.items) (step_of c.args.stmt.now) (s.CutField at c.in-CutField.f (tree_of c.in-CutField.key)) (ap (λ a. action_step a at) c.in-CutField.is)
+    (λ h x. on_top (Eval (tree_of c.in-CutField.key)) (on_top (Finish at (i.CutField c.in-CutField.f) h) x)) refl
     (λ next. ready_with _ _ _ _ _ _ next (next.items.0.1, (tt, next.items.1)) (omega arith)) c.requires
 
 pub returns-in-CutField : goal.returns-in-CutField
 returns-in-CutField c =
     let at = c.args.stmt.now.at in
-    from_parts c.args.code c.args.contexts.now c.args.m.now c.height-base.result (step_of c.args.stmt.now) (s.CutField at c.in-CutField.f (tree_of c.in-CutField.key)) (ap (λ a. action_step a at) c.in-CutField.is)
-    (λ h x. on_top (Eval (tree_of c.in-CutField.key)) (on_top (Finish at (i.CutField c.in-CutField.f) h) x)) c.height-base.ensures c.with_one-in-CutField.new.contexts c.with_one-in-CutField.new.m c.with_one-in-CutField.result
-    (l.cut_field_parts c.args.code.methods.now (mach c.args.code c.args.contexts.now c.args.m.now) at c.in-CutField.f (tree_of c.in-CutField.key)) c.with_one-in-CutField.ensures
+    from_parts c.args.code c.args.contexts.now c.args.m.now (length c.args.m.now.values.items) (step_of c.args.stmt.now) (s.CutField at c.in-CutField.f (tree_of c.in-CutField.key)) (ap (λ a. action_step a at) c.in-CutField.is)
+    (λ h x. on_top (Eval (tree_of c.in-CutField.key)) (on_top (Finish at (i.CutField c.in-CutField.f) h) x)) refl c.begin_one-in-CutField.new.contexts c.begin_one-in-CutField.new.m c.begin_one-in-CutField.result
+    (l.cut_field_parts c.args.code.methods.now (mach c.args.code c.args.contexts.now c.args.m.now) at c.in-CutField.f (tree_of c.in-CutField.key)) c.begin_one-in-CutField.ensures
 
-pub with_one-requires-in-If : goal.with_one-requires-in-If
-with_one-requires-in-If c =
+pub begin_one-requires-in-If : goal.begin_one-requires-in-If
+begin_one-requires-in-If c =
     let at = c.args.stmt.now.at in
-    to_parts c.args.code c.args.contexts.now c.args.m.now c.height-base.result (step_of c.args.stmt.now) (s.If at (tree_of c.in-If.test) (steps_in c.as_slice.result.now) (else_in c.in-If.other)) (ap (λ a. action_step a at) c.in-If.is ∙ if_step c.in-If.test c.in-If.body c.in-If.other at ∙ ap (λ b. s.If at (tree_of c.in-If.test) (steps_in b) (else_in c.in-If.other)) (sym c.as_slice.ensures.value))
-    (λ h x. on_top (Eval (tree_of c.in-If.test)) (on_top (Finish at (i.Branch (steps_in c.as_slice.result.now) (steps_in c.else_of.result.now)) h) x)) c.height-base.ensures
+    to_parts c.args.code c.args.contexts.now c.args.m.now (length c.args.m.now.values.items) (step_of c.args.stmt.now) (s.If at (tree_of c.in-If.test) (steps_in c.as_slice.result.now) (else_in c.in-If.other)) (ap (λ a. action_step a at) c.in-If.is ∙ if_step c.in-If.test c.in-If.body c.in-If.other at ∙ ap (λ b. s.If at (tree_of c.in-If.test) (steps_in b) (else_in c.in-If.other)) (sym c.as_slice.ensures.value))
+    (λ h x. on_top (Eval (tree_of c.in-If.test)) (on_top (Finish at (i.Branch (steps_in c.as_slice.result.now) (steps_in c.else_of.result.now)) h) x)) refl
     (λ next. ready_with _ _ _ _ _ _ next (next.items.0.0, ((next.items.0.1, subst (FitsSteps c.args.code.shape.now c.args.code.methods.now (class_of c.args.m.now.path)) (sym c.else_of.ensures) (fits_else c.args.code.shape.now c.args.code.methods.now (class_of c.args.m.now.path) (else_in c.in-If.other) next.items.0.2)), next.items.1)) (omega arith)) c.requires
 
 pub returns-in-If : goal.returns-in-If
 returns-in-If c =
     let at = c.args.stmt.now.at in
-    from_parts c.args.code c.args.contexts.now c.args.m.now c.height-base.result (step_of c.args.stmt.now) (s.If at (tree_of c.in-If.test) (steps_in c.as_slice.result.now) (else_in c.in-If.other)) (ap (λ a. action_step a at) c.in-If.is ∙ if_step c.in-If.test c.in-If.body c.in-If.other at ∙ ap (λ b. s.If at (tree_of c.in-If.test) (steps_in b) (else_in c.in-If.other)) (sym c.as_slice.ensures.value))
-    (λ h x. on_top (Eval (tree_of c.in-If.test)) (on_top (Finish at (i.Branch (steps_in c.as_slice.result.now) (steps_in c.else_of.result.now)) h) x)) c.height-base.ensures c.with_one-in-If.new.contexts c.with_one-in-If.new.m c.with_one-in-If.result
-    (l.if_parts c.args.code.methods.now (mach c.args.code c.args.contexts.now c.args.m.now) at (tree_of c.in-If.test) (steps_in c.as_slice.result.now) (else_in c.in-If.other) ∙ ap (λ b. comes_to c.args.code.methods.now (on_top (Eval (tree_of c.in-If.test)) (on_top (Finish at (i.Branch (steps_in c.as_slice.result.now) b) (length c.args.m.now.values.items)) (mach c.args.code c.args.contexts.now c.args.m.now)))) (sym c.else_of.ensures)) c.with_one-in-If.ensures
+    from_parts c.args.code c.args.contexts.now c.args.m.now (length c.args.m.now.values.items) (step_of c.args.stmt.now) (s.If at (tree_of c.in-If.test) (steps_in c.as_slice.result.now) (else_in c.in-If.other)) (ap (λ a. action_step a at) c.in-If.is ∙ if_step c.in-If.test c.in-If.body c.in-If.other at ∙ ap (λ b. s.If at (tree_of c.in-If.test) (steps_in b) (else_in c.in-If.other)) (sym c.as_slice.ensures.value))
+    (λ h x. on_top (Eval (tree_of c.in-If.test)) (on_top (Finish at (i.Branch (steps_in c.as_slice.result.now) (steps_in c.else_of.result.now)) h) x)) refl c.begin_one-in-If.new.contexts c.begin_one-in-If.new.m c.begin_one-in-If.result
+    (l.if_parts c.args.code.methods.now (mach c.args.code c.args.contexts.now c.args.m.now) at (tree_of c.in-If.test) (steps_in c.as_slice.result.now) (else_in c.in-If.other) ∙ ap (λ b. comes_to c.args.code.methods.now (on_top (Eval (tree_of c.in-If.test)) (on_top (Finish at (i.Branch (steps_in c.as_slice.result.now) b) (length c.args.m.now.values.items)) (mach c.args.code c.args.contexts.now c.args.m.now)))) (sym c.else_of.ensures)) c.begin_one-in-If.ensures
 
-pub with_one-requires-in-Require : goal.with_one-requires-in-Require
-with_one-requires-in-Require c =
+pub begin_one-requires-in-Require : goal.begin_one-requires-in-Require
+begin_one-requires-in-Require c =
     let at = c.args.stmt.now.at in
-    to_parts c.args.code c.args.contexts.now c.args.m.now c.height-base.result (step_of c.args.stmt.now) (s.Require at (tree_of c.in-Require.e)) (ap (λ a. action_step a at) c.in-Require.is)
-    (λ h x. on_top (Eval (tree_of c.in-Require.e)) (on_top (Finish at i.Require h) x)) c.height-base.ensures
+    to_parts c.args.code c.args.contexts.now c.args.m.now (length c.args.m.now.values.items) (step_of c.args.stmt.now) (s.Require at (tree_of c.in-Require.e)) (ap (λ a. action_step a at) c.in-Require.is)
+    (λ h x. on_top (Eval (tree_of c.in-Require.e)) (on_top (Finish at i.Require h) x)) refl
     (λ next. ready_with _ _ _ _ _ _ next (next.items.0, (tt, next.items.1)) (omega arith)) c.requires
 
 pub returns-in-Require : goal.returns-in-Require
 returns-in-Require c =
     let at = c.args.stmt.now.at in
-    from_parts c.args.code c.args.contexts.now c.args.m.now c.height-base.result (step_of c.args.stmt.now) (s.Require at (tree_of c.in-Require.e)) (ap (λ a. action_step a at) c.in-Require.is)
-    (λ h x. on_top (Eval (tree_of c.in-Require.e)) (on_top (Finish at i.Require h) x)) c.height-base.ensures c.with_one-in-Require.new.contexts c.with_one-in-Require.new.m c.with_one-in-Require.result
-    (l.require_parts c.args.code.methods.now (mach c.args.code c.args.contexts.now c.args.m.now) at (tree_of c.in-Require.e)) c.with_one-in-Require.ensures
+    from_parts c.args.code c.args.contexts.now c.args.m.now (length c.args.m.now.values.items) (step_of c.args.stmt.now) (s.Require at (tree_of c.in-Require.e)) (ap (λ a. action_step a at) c.in-Require.is)
+    (λ h x. on_top (Eval (tree_of c.in-Require.e)) (on_top (Finish at i.Require h) x)) refl c.begin_one-in-Require.new.contexts c.begin_one-in-Require.new.m c.begin_one-in-Require.result
+    (l.require_parts c.args.code.methods.now (mach c.args.code c.args.contexts.now c.args.m.now) at (tree_of c.in-Require.e)) c.begin_one-in-Require.ensures
 
-pub with_one-requires-in-Send : goal.with_one-requires-in-Send
-with_one-requires-in-Send c =
+pub begin_one-requires-in-Send : goal.begin_one-requires-in-Send
+begin_one-requires-in-Send c =
     let at = c.args.stmt.now.at in
-    to_parts c.args.code c.args.contexts.now c.args.m.now c.height-base.result (step_of c.args.stmt.now) (s.Send at c.in-Send.label (tree_of c.in-Send.e)) (ap (λ a. action_step a at) c.in-Send.is)
-    (λ h x. on_top (Eval (tree_of c.in-Send.e)) (on_top (Finish at (i.Send c.in-Send.label) h) x)) c.height-base.ensures
+    to_parts c.args.code c.args.contexts.now c.args.m.now (length c.args.m.now.values.items) (step_of c.args.stmt.now) (s.Send at c.in-Send.label (tree_of c.in-Send.e)) (ap (λ a. action_step a at) c.in-Send.is)
+    (λ h x. on_top (Eval (tree_of c.in-Send.e)) (on_top (Finish at (i.Send c.in-Send.label) h) x)) refl
     (λ next. ready_with _ _ _ _ _ _ next (next.items.0, (tt, next.items.1)) (omega arith)) c.requires
 
 pub returns-in-Send : goal.returns-in-Send
 returns-in-Send c =
     let at = c.args.stmt.now.at in
-    from_parts c.args.code c.args.contexts.now c.args.m.now c.height-base.result (step_of c.args.stmt.now) (s.Send at c.in-Send.label (tree_of c.in-Send.e)) (ap (λ a. action_step a at) c.in-Send.is)
-    (λ h x. on_top (Eval (tree_of c.in-Send.e)) (on_top (Finish at (i.Send c.in-Send.label) h) x)) c.height-base.ensures c.with_one-in-Send.new.contexts c.with_one-in-Send.new.m c.with_one-in-Send.result
-    (l.send_parts c.args.code.methods.now (mach c.args.code c.args.contexts.now c.args.m.now) at c.in-Send.label (tree_of c.in-Send.e)) c.with_one-in-Send.ensures
+    from_parts c.args.code c.args.contexts.now c.args.m.now (length c.args.m.now.values.items) (step_of c.args.stmt.now) (s.Send at c.in-Send.label (tree_of c.in-Send.e)) (ap (λ a. action_step a at) c.in-Send.is)
+    (λ h x. on_top (Eval (tree_of c.in-Send.e)) (on_top (Finish at (i.Send c.in-Send.label) h) x)) refl c.begin_one-in-Send.new.contexts c.begin_one-in-Send.new.m c.begin_one-in-Send.result
+    (l.send_parts c.args.code.methods.now (mach c.args.code c.args.contexts.now c.args.m.now) at c.in-Send.label (tree_of c.in-Send.e)) c.begin_one-in-Send.ensures
 
 pub returns-in-While : goal.returns-in-While
 returns-in-While c =
