@@ -123,10 +123,22 @@ fn crews_are_read(rt: HostRuntime) -> Result<(), Fail> {
         ("run --workers 004", run(4, None)),
         ("--workers 1 run", run(1, None)),
         ("--workers=2 -- run", run(2, None)),
-        ("--map run --workers=16", Command::Run(listed, crew(16, None))),
-        ("--map trace --workers 16", Command::Trace(listed, crew(16, None))),
-        ("trace --schedule 0", Command::Trace(unlisted, crew(4, seed))),
-        ("trace --schedule=newest --workers=2", Command::Trace(unlisted, crew(2, newest))),
+        (
+            "--map run --workers=16",
+            Command::Run(listed, crew(16, None)),
+        ),
+        (
+            "--map trace --workers 16",
+            Command::Trace(listed, crew(16, None)),
+        ),
+        (
+            "trace --schedule 0",
+            Command::Trace(unlisted, crew(4, seed)),
+        ),
+        (
+            "trace --schedule=newest --workers=2",
+            Command::Trace(unlisted, crew(2, newest)),
+        ),
         ("run --schedule=0 --workers 1", run(1, seed)),
         ("run --schedule oldest", run(4, Some(Schedule::Oldest))),
         ("run --schedule newest", run(4, newest)),
