@@ -237,3 +237,42 @@ fn goes_on_after_a_script(rt: HostRuntime) -> Result<(), Fail> {
     assert!(rt; read_script_at(alloc, &shape, b"hosts 3", 3, 0) == late);
     Ok(())
 }
+
+// Two events of one name: look(int), and look().
+fn twins(alloc: Global) -> Result<Shape, OutOfMemory>
+    ensures { IfOk result IsShape }
+{
+    let first = event(alloc, b"look", vec![in alloc; Kind::Int]?)?;
+    let second = event(alloc, b"look", Vec::new(alloc))?;
+    let mut events = Vec::new(alloc);
+    events.push(first)?;
+    events.push(second)?;
+    Ok(Shape {
+        classes: classes(alloc)?,
+        events: Seq::from_vec(events),
+    })
+}
+
+#[test]
+fn the_first_event_of_a_name_is_called(rt: HostRuntime) -> Result<(), Fail> {
+    let alloc = rt.alloc();
+    let shape = twins(alloc)?;
+    assert!(rt; refusal(alloc, &shape, b"request look(1)").is_none());
+    let count = Some(ScriptError::ArgCount { line: 1 });
+    assert!(rt; refusal(alloc, &shape, b"request look()") == count);
+    let event = Some(ScriptError::UnknownEvent { line: 2 });
+    assert!(rt; refusal(alloc, &shape, b"request look(1)\nrequest looks(1)") == event);
+    assert!(rt; refusal(alloc, &shape, b"request look(1)\nrequest loo(1)") == event);
+    Ok(())
+}
+
+#[test]
+fn classes_are_found_in_their_parents(rt: HostRuntime) -> Result<(), Fail> {
+    let alloc = rt.alloc();
+    let shape = shape(alloc)?;
+    assert!(rt; refusal(alloc, &shape, b"move /Hall[1] to 0").is_none());
+    let path = Some(ScriptError::BadPath { line: 1 });
+    assert!(rt; refusal(alloc, &shape, b"move /Hall[1]/Hall[1] to 0") == path);
+    assert!(rt; refusal(alloc, &shape, b"move /Halls[1] to 0") == path);
+    Ok(())
+}

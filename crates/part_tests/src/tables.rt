@@ -4,6 +4,7 @@ use mace_ast::{
     BinaryOp, ContextDecl, EventDecl, Initial, Literal, MethodDecl, Name, Param, Service, UnaryOp,
     VarDecl,
 };
+use name_table::Names;
 use std::alloc::Global;
 use std::test::Fail;
 use type_tables::{
@@ -201,5 +202,19 @@ fn rows_take_kinds(rt: HostRuntime) -> Result<(), Fail> {
     assert!(rt; len == 1 && same_kind(kinds[0], Kind::Map));
     let params = param(rt.alloc(), b"x", Kind::Map)?;
     assert_eq!(rt; kinds_of(rt.alloc(), &params)?.as_slice().len(), 1);
+    Ok(())
+}
+
+#[test]
+fn the_first_number_of_a_name_counts(rt: HostRuntime) -> Result<(), Fail> {
+    let alloc = rt.alloc();
+    let mut names = Names::new(alloc);
+    assert_eq!(rt; names.first(b"a"), None);
+    names.note(alloc, b"a", 7)?;
+    names.note(alloc, b"b", 8)?;
+    names.note(alloc, b"a", 9)?;
+    assert_eq!(rt; names.first(b"a"), Some(7));
+    assert_eq!(rt; names.first(b"b"), Some(8));
+    assert_eq!(rt; names.first(b"ab"), None);
     Ok(())
 }

@@ -1,4 +1,5 @@
 mod Examples
+pub mod ChildLemmas
 pub mod FrontLemmas
 pub mod StepLemmas
 pub mod PathLemmas

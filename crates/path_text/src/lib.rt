@@ -1,6 +1,7 @@
 //! Paths and contexts as texts: `/` or `/Class[key]..`, and `at path field=value ..`.
 #![tactic(auto)]
 
+mod classes;
 mod fields;
 mod parse;
 mod put;
@@ -9,6 +10,7 @@ mod resolve;
 mod tests;
 mod written;
 
+pub use classes::{ChildClasses, ClassNames};
 pub use fields::fields_at;
 pub use parse::{PathError, parse_path};
 pub use put::{put_path, put_shot, write_path};

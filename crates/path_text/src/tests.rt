@@ -3,7 +3,7 @@ ghost use Rattle.wave_base.specs.Text.{IsText};
 ghost use Rattle.wave_base.specs.Shapes.{IsShape};
 ghost use Rattle.path_text.specs.Sample.{hall_shape};
 
-use crate::{PathError, parse_path, put_shot, write_path};
+use crate::{ClassNames, PathError, parse_path, put_shot, resolve_steps, write_path, written_steps};
 use std::alloc::Global;
 use std::test::Fail;
 use wave_base::{Class, ClassInfo, OutOfMemory, Path, Seq, Shape, Shot, Step, Txt};
@@ -63,5 +63,25 @@ fn writes_a_context(rt: HostRuntime) -> Result<(), Fail> {
     let mut out = Vec::new(alloc);
     put_shot(alloc, &mut out, &shape, &shot)?;
     assert!(rt; out.as_slice() == b"at /".as_slice());
+    Ok(())
+}
+
+#[test]
+fn finds_classes_by_their_names(rt: HostRuntime) -> Result<(), Fail> {
+    let alloc = rt.alloc();
+    let shape = hall_shape(alloc)?;
+    let names = ClassNames::of(alloc, &shape)?;
+    assert_eq!(rt; names.shape().classes.len(), 2);
+    let hall = Path::root().child(Step {
+        class: Class(1),
+        key: 5,
+    });
+    if let Some(steps) = written_steps(alloc, b"/Hall[5]")? {
+        assert!(rt; resolve_steps(&names, steps.as_slice()) == Some(hall));
+        assert!(rt; resolve_steps(&shape, steps.as_slice()) == Some(hall));
+    }
+    if let Some(steps) = written_steps(alloc, b"/Hall[5]/Hall[5]")? {
+        assert!(rt; resolve_steps(&names, steps.as_slice()).is_none());
+    }
     Ok(())
 }

@@ -1,4 +1,5 @@
 mod Examples
+pub mod EventLemmas
 pub mod FitLemmas
 pub mod FormLemmas
 pub mod FrontLemmas

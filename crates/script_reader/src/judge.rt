@@ -1,4 +1,4 @@
-ghost use Rattle.std.specs.Prelude.{◌≡◌, ◌<◌, ◌≤◌, true, position, slice_get, IfOk, IfSome, IfNone};
+ghost use Rattle.std.specs.Prelude.{◌≡◌, ◌<◌, ◌≤◌, true, IfOk, IfSome, IfNone};
 ghost use Rattle.std.specs.List.{list_all};
 ghost use Rattle.wave_base.specs.Names.{is_digits};
 ghost use Rattle.wave_base.specs.Shapes.{IsShape};
@@ -6,7 +6,7 @@ ghost use Rattle.wave_text.specs.Numbers.{number_of};
 ghost use Rattle.path_text.specs.Paths.{path_of};
 ghost use Rattle.path_text.specs.Steps.{is_step};
 ghost use Rattle.script_reader.specs.Forms.{is_literal, is_form};
-ghost use Rattle.script_reader.specs.Judged.{has_name, value_of, values_of, call_of, params_in, requested, move_to, judged_hosts, judged_form};
+ghost use Rattle.script_reader.specs.Judged.{value_of, values_of, call_of, requested, move_to, judged_hosts, judged_form};
 ghost use Rattle.script_reader.specs.Scripts.{IsWellFormed, judged};
 ghost use Rattle.script_reader.specs.inner.Gives.{Gives};
 ghost use Rattle.script_reader.specs.declared.form.Literal.TheVariants as literal;
@@ -14,16 +14,16 @@ ghost use Rattle.wave_base.specs.declared.value.Kind.TheVariants as kind;
 
 use crate::error::Fault;
 use crate::form::{Form, Literal};
+use crate::named::NamedShape;
 use crate::progress::Progress;
 use crate::quote::Quote;
 use crate::refusal::Refusal;
 use crate::said::Said;
 use crate::taken::Taken;
-use path_text::{Written, resolve_steps};
+use path_text::Written;
 use std::alloc::Global;
 use wave_base::{
-    Call, EVENT_LINES, EventInfo, HOSTS, Host, Kind, LITERAL_BYTES, Line, OutOfMemory, Seq, Shape,
-    Txt, Value,
+    Call, EVENT_LINES, HOSTS, Host, Kind, LITERAL_BYTES, Line, OutOfMemory, Seq, Txt, Value,
 };
 use wave_text::whole_of;
 
@@ -97,37 +97,19 @@ fn call_of(alloc: Global, event: u16, params: &[Kind], args: &[Literal]) -> Resu
     }
 }
 
-fn has_name(name: &[u8], info: &EventInfo) -> bool
-    ensures { result ≡ has_name name.now info.now }
-{
-    info.name.bytes() == name
-}
-
-// The event of that name.
-fn event_named(shape: &Shape, name: &[u8]) -> Option<usize>
-    ensures { result ≡ position (has_name name.now) shape.now.events }
-{
-    let events = shape.events.as_slice();
-    events.iter().position(|info| has_name(name, info))
-}
-
-fn params_of(shape: &Shape, event: usize) -> &[Kind]
-    ensures { result.now ≡ params_in (slice_get shape.now.events event) }
-{
-    match shape.events.get(event) {
-        Some(info) => info.params.as_slice(),
-        None => &[],
-    }
-}
-
 // The call of the event of that name.
-fn requested(alloc: Global, shape: &Shape, name: &[u8], args: &[Literal]) -> Result<Line, Refusal>
+fn requested(
+    alloc: Global,
+    shape: &NamedShape<'_>,
+    name: &[u8],
+    args: &[Literal],
+) -> Result<Line, Refusal>
     requires shape { IsShape shape.now }
     requires form { list_all is_literal args.now ≡ true }
     ensures { Gives result (requested shape.now name.now args.now) }
 {
-    match event_named(shape, name) {
-        Some(event) => call_of(alloc, event as u16, params_of(shape, event), args),
+    match shape.event(name) {
+        Some(event) => call_of(alloc, event, shape.params(event), args),
         None => Err(Refusal::Fault(Fault::UnknownEvent)),
     }
 }
@@ -148,13 +130,18 @@ fn number_within(digits: &[u8], most: u8) -> Option<u8>
 }
 
 // A move to a host below their count.
-fn move_to(shape: &Shape, hosts: u8, steps: &[Written], digits: &[u8]) -> Result<Line, Fault>
+fn move_to(
+    shape: &NamedShape<'_>,
+    hosts: u8,
+    steps: &[Written],
+    digits: &[u8],
+) -> Result<Line, Fault>
     requires shape { IsShape shape.now }
     requires steps { list_all is_step steps.now ≡ true }
     requires digits { is_digits digits.now ≡ true }
     ensures { result ≡ move_to hosts (path_of shape.now steps.now) (number_of digits.now) }
 {
-    let Some(path) = resolve_steps(shape, steps) else {
+    let Some(path) = shape.path(steps) else {
         return Err(Fault::BadPath);
     };
     match number_within(digits, hosts) {
@@ -181,7 +168,7 @@ fn judged_hosts(begun: bool, digits: &[u8]) -> Result<Taken, Fault>
 // What a line of this form is, where so many hosts and event lines stand before.
 fn judged_form(
     alloc: Global,
-    shape: &Shape,
+    shape: &NamedShape<'_>,
     before: &Progress,
     form: &Form,
 ) -> Result<Taken, Refusal>
@@ -208,7 +195,7 @@ fn judged_form(
 /// What a line is, after the lines before: taken, or refused.
 pub(crate) fn judged(
     alloc: Global,
-    shape: &Shape,
+    shape: &NamedShape<'_>,
     before: &Progress,
     said: &Said,
 ) -> Result<Taken, Refusal>

@@ -5,6 +5,7 @@ mod earlier;
 mod error;
 mod form;
 mod judge;
+mod named;
 mod piece;
 mod pieces;
 mod progress;

@@ -9,6 +9,7 @@ ghost use Rattle.script_reader.specs.inner.Steps.{IsStep, IsStop};
 use crate::earlier::Earlier;
 use crate::error::ScriptError;
 use crate::judge::judged;
+use crate::named::NamedShape;
 use crate::progress::Progress;
 use crate::refusal::stopped;
 use crate::said::said_by;
@@ -19,7 +20,7 @@ use wave_text::first_line;
 // Takes one line, which has this number.
 fn take_line(
     alloc: Global,
-    shape: &Shape,
+    shape: &NamedShape<'_>,
     progress: &mut Progress,
     line: &[u8],
     number: u32,
@@ -39,10 +40,10 @@ fn take_line(
     }
 }
 
-// The script that a text stands for, after what was said before.
-fn read_after(
+// Reads a text line by line, after what was said before.
+fn read_lines(
     alloc: Global,
-    shape: &Shape,
+    shape: &NamedShape<'_>,
     text: &[u8],
     earlier: Earlier,
 ) -> Result<Script, ScriptError>
@@ -67,6 +68,25 @@ fn read_after(
         rest = after;
     }
     Ok(progress.into_script()?)
+}
+
+// The script that a text stands for, after what was said before.
+fn read_after(
+    alloc: Global,
+    shape: &Shape,
+    text: &[u8],
+    earlier: Earlier,
+) -> Result<Script, ScriptError>
+    requires shape { IsShape shape.now }
+    requires short { length text.now ≤ PLACED_BYTES }
+    requires some_host { 1 ≤ earlier.hosts }
+    requires few_hosts { earlier.hosts ≤ HOSTS }
+    requires few_lines { earlier.events ≤ EVENT_LINES }
+    ensures answer { IsAnswer shape.now earlier text.now result }
+    ensures fits { IfOk result (IsScript shape.now) }
+{
+    let named = NamedShape::of(alloc, shape)?;
+    read_lines(alloc, &named, text, earlier)
 }
 
 /// The script that a text stands for, or the first line that is refused with its fault.

@@ -16,7 +16,7 @@ use Rattle.type_rules.specs.declared.known.Signature.{Signature}
 use Rattle.type_rules.specs.Known.{Entry, class_count, classes_count, classes_of, classes_in, entry, methods_of, methods_in, signature, event_info, shape_of, known_of}
 use Rattle.type_tables.specs.declared.gather.Gathered.{Gathered}
 use Rattle.type_tables.specs.inner.Gathering.{known_in, IsGathered, grown, Gains}
-use Rattle.type_tables.specs.Numbers.{noted}
+use Rattle.name_table.specs.Numbers.{noted}
 use Rattle.type_tables.proofs.Indexing.{indexed_as, indexed_class, indexed_event, indexed_method}
 
 -- ---- growing

@@ -3,7 +3,7 @@ use Rattle.std.specs.Prelude.{◌≡◌, ◌<◌, ◌^◌, ℕ, List, [], length
 use Rattle.wave_base.specs.declared.shape.ClassInfo.{ClassInfo}
 use Rattle.type_rules.specs.declared.known.Known.{Known}
 use Rattle.type_rules.specs.Known.{class_named, event_named, method_named}
-use Rattle.type_tables.specs.Numbers.{first_number}
+use Rattle.name_table.specs.Numbers.{first_number}
 
 -- by name, each table gives the first number; and all numbers are short
 pub record IsIndexed (known : Known) (classes events : List (List ℕ × ℕ)) (methods : List (List (List ℕ × ℕ))) : Type 0 where

@@ -1,4 +1,3 @@
 pub mod Indexed
-pub mod Numbers
 pub mod Rows
 pub mod inner

@@ -3,9 +3,9 @@ ghost use Rattle.mace_ast.specs.Decls.{method_tree, event_tree, context_tree, co
 ghost use Rattle.type_rules.specs.Known as rules;
 ghost use Rattle.type_tables.specs.inner.Gathering.{IsGathered, Gains, known_in};
 
-use crate::names::Names;
 use crate::params::kinds_of;
 use mace_ast::{ContextDecl, EventDecl, Literal, MethodDecl, Name, Service, VarDecl};
+use name_table::Names;
 use std::alloc::Global;
 use type_rules::Signature;
 use wave_base::{Class, ClassInfo, EventInfo, FieldInfo, OutOfMemory, Seq, Table, Value};

@@ -3,7 +3,6 @@
 
 mod gather;
 mod kinds;
-mod names;
 mod operators;
 mod params;
 mod tables;

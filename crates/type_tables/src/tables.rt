@@ -9,9 +9,9 @@ ghost use Rattle.type_tables.specs.Rows.{IsRow};
 ghost use Rattle.type_tables.specs.inner.Gathering.{IsGathered, known_in};
 
 use crate::gather::Gathered;
-use crate::names::Names;
 use crate::operators::Operators;
 use mace_ast::Service;
+use name_table::Names;
 use std::alloc::Global;
 use std::marker::Model;
 use type_rules::{Known, Signature};

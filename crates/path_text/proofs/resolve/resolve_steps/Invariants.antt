@@ -4,7 +4,9 @@ use Rattle.path_text.specs.Paths.{steps_below}
 use Rattle.path_text.proofs.resolve.resolve_steps.Given as goal
 
 abbrev pub invariant-loop-written : goal.invariant-loop-written
-invariant-loop-written l = record {
-  path : option_map (λ ps. l.path ++ ps) (steps_below l.shape l.class.0 (drop l.written-index l.steps)) ≡ steps_below l.shape 0 l.steps;
-  len : length l.path ≡ l.written-index;
-}
+invariant-loop-written g l =
+    let shape = g.C.ChildClasses.shape l.classes in
+    record {
+      path : option_map (λ ps. l.path ++ ps) (steps_below shape l.class.0 (drop l.written-index l.steps)) ≡ steps_below shape 0 l.steps;
+      len : length l.path ≡ l.written-index;
+    }

@@ -1,5 +1,5 @@
 use Rattle.std.proofs.Common.{◌≡◌, ℕ, ◌<◌, ◌+◌, ◌++◌, ◌∷◌, [], refl, ap, subst, ◌∙◌, arith}
-use Rattle.type_tables.specs.Numbers.{noted}
+use Rattle.name_table.specs.Numbers.{noted}
 use Rattle.type_tables.proofs.Gathers.{class_gained}
 use Rattle.type_tables.proofs.gather.Gathered.class.Goals as goal
 

@@ -1,5 +1,5 @@
 use Rattle.std.proofs.Common.{◌<◌, ◌+◌, refl, ap, subst, ◌∙◌}
-use Rattle.type_tables.specs.Numbers.{noted}
+use Rattle.name_table.specs.Numbers.{noted}
 use Rattle.type_tables.proofs.Gathers.{event_gained}
 use Rattle.type_tables.proofs.gather.Gathered.event.Goals as goal
 

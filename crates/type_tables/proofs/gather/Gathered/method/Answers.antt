@@ -1,6 +1,6 @@
 use Rattle.std.proofs.Common.{◌<◌, ◌+◌, [], set, refl, sym, ap, subst, ◌∙◌}
 use Rattle.std.proofs.lemmas.List.{get_or_default}
-use Rattle.type_tables.specs.Numbers.{noted}
+use Rattle.name_table.specs.Numbers.{noted}
 use Rattle.type_tables.proofs.Gathers.{method_gained}
 use Rattle.type_tables.proofs.gather.Gathered.method.Goals as goal
 

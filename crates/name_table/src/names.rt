@@ -1,5 +1,5 @@
 ghost use Rattle.std.specs.Prelude.{◌≡◌, [], OnOk};
-ghost use Rattle.type_tables.specs.Numbers.{first_number, noted};
+ghost use Rattle.name_table.specs.Numbers.{first_number, noted};
 
 use indexmap::IndexMap;
 use std::alloc::Global;
@@ -14,7 +14,7 @@ pub struct Names {
 
 impl Model for Names {
     ghost use Rattle.std.specs.Prelude.{List, ℕ};
-    ghost use Rattle.type_tables.specs.Numbers.{pairs_of};
+    ghost use Rattle.name_table.specs.Numbers.{pairs_of};
 
     ghost Value = { List (List ℕ × ℕ) };
 

@@ -1,6 +1,6 @@
 use Rattle.std.proofs.Common.{◌≡◌, ℕ, false, Option, Some, None, is_some, refl, sym, ◌∙◌}
-use Rattle.type_tables.proofs.NameLemmas.{pairs_noted}
-use Rattle.type_tables.proofs.names.Names.note.Goals as goal
+use Rattle.name_table.proofs.NameLemmas.{pairs_noted}
+use Rattle.name_table.proofs.names.Names.note.Goals as goal
 
 pub returns-in_ok-insert : goal.returns-in_ok-insert
 returns-in_ok-insert c =

@@ -1,7 +1,7 @@
 use Rattle.std.proofs.Common.{ap, ◌∙◌}
-use Rattle.type_tables.specs.Numbers.{first_number}
-use Rattle.type_tables.proofs.NameLemmas.{lookup_first}
-use Rattle.type_tables.proofs.names.Names.first.Goals as goal
+use Rattle.name_table.specs.Numbers.{first_number}
+use Rattle.name_table.proofs.NameLemmas.{lookup_first}
+use Rattle.name_table.proofs.names.Names.first.Goals as goal
 
 pub returns : goal.returns
 returns c =

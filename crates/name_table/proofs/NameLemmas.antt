@@ -5,7 +5,7 @@ use Rattle.std.specs.Map.{lookup}
 use Rattle.wave_base.specs.Names.{same_bytes}
 use Rattle.indexmap.specs.IndexMap.{IndexMap, insert_entry}
 use Rattle.indexmap.proofs.CallerLemmas.{insert_entry-new}
-use Rattle.type_tables.specs.Numbers.{pairs_of, first_number, noted}
+use Rattle.name_table.specs.Numbers.{pairs_of, first_number, noted}
 
 pub same_symm : (a b : List ℕ) → same_bytes a b ≡ same_bytes b a
 same_symm a b = nat_list_eq_equiv.symm a b

@@ -4,7 +4,7 @@ use Rattle.script_reader.specs.declared.taken.Taken.{Taken}
 use Rattle.script_reader.specs.inner.Progressed.{progress_of}
 use Rattle.script_reader.proofs.FitLemmas.{Fits}
 use Rattle.script_reader.proofs.ReadLemmas.{AreReadTo}
-use Rattle.script_reader.proofs.read.read_after.Given as goal
+use Rattle.script_reader.proofs.read.read_lines.Given as goal
 
 abbrev pub invariant-loop-progress : goal.invariant-loop-progress
 invariant-loop-progress l = record {
