@@ -239,24 +239,30 @@ fn goes_on_after_a_script(rt: HostRuntime) -> Result<(), Fail> {
 }
 
 // Two events of one name: look(int), and look().
-fn twins(alloc: Global) -> Result<Shape, OutOfMemory>
-    ensures { IfOk result IsShape }
+fn namesakes(alloc: Global) -> Result<Seq<EventInfo>, OutOfMemory>
+    ensures { IfOk result (λ es. length es ≤ 2) }
 {
     let first = event(alloc, b"look", vec![in alloc; Kind::Int]?)?;
     let second = event(alloc, b"look", Vec::new(alloc))?;
     let mut events = Vec::new(alloc);
     events.push(first)?;
     events.push(second)?;
+    Ok(Seq::from_vec(events))
+}
+
+fn shape_of_namesakes(alloc: Global) -> Result<Shape, OutOfMemory>
+    ensures { IfOk result IsShape }
+{
     Ok(Shape {
         classes: classes(alloc)?,
-        events: Seq::from_vec(events),
+        events: namesakes(alloc)?,
     })
 }
 
 #[test]
 fn the_first_event_of_a_name_is_called(rt: HostRuntime) -> Result<(), Fail> {
     let alloc = rt.alloc();
-    let shape = twins(alloc)?;
+    let shape = shape_of_namesakes(alloc)?;
     assert!(rt; refusal(alloc, &shape, b"request look(1)").is_none());
     let count = Some(ScriptError::ArgCount { line: 1 });
     assert!(rt; refusal(alloc, &shape, b"request look()") == count);

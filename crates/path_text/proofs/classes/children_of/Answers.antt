@@ -8,19 +8,19 @@ use Rattle.path_text.proofs.classes.children_of.Goals as goal
 pub note_child-requires : goal.note_child-requires
 note_child-requires c =
     let pushed = c.in_ok-push.ensures.items ∙ ap (λ n. c.loop-i.children.items ++ n ∷ []) c.new.ensures in
-    let count : length c.push.new.children.items ≡ c.loop-i.i + 1 = blank_count c.loop-i.children.items c.push.new.children.items c.loop-i.i c.loop-i.invariant.count pushed in
-    parent_there c.args.classes.now c.requires.below c.loop-i.i c.info-item.result (length c.push.new.children.items) c.loop-i-test.true c.info-item.is (omega (arith, count))
+    let count : length c.push.new.self.items ≡ c.loop-i.i + 1 = blank_count c.loop-i.children.items c.push.new.self.items c.loop-i.i c.loop-i.invariant.count pushed in
+    parent_there c.args.classes.now c.requires.below c.loop-i.i c.index-classes-i.result (length c.push.new.self.items) c.loop-i-test.true c.index-classes-i.is (omega (arith, count))
 
 pub loop-i-preserved : goal.loop-i-preserved
 loop-i-preserved c =
     let tables = c.loop-i.children.items in
-    let pushed : c.push.new.children.items ≡ tables ++ [] ∷ [] = c.in_ok-push.ensures.items ∙ ap (λ n. tables ++ n ∷ []) c.new.ensures in
-    let made : c.note_child.new.children.items ≡ with_child (tables ++ [] ∷ []) c.info-item.result c.loop-i.i = c.in_ok-note_child.ensures ∙ ap (λ t. with_child t c.info-item.result c.loop-i.i) pushed in
+    let pushed : c.push.new.self.items ≡ tables ++ [] ∷ [] = c.in_ok-push.ensures.items ∙ ap (λ n. tables ++ n ∷ []) c.new.ensures in
+    let made : c.note_child.new.children.items ≡ with_child (tables ++ [] ∷ []) c.index-classes-i.result c.loop-i.i = c.in_ok-note_child.ensures ∙ ap (λ t. with_child t c.index-classes-i.result c.loop-i.i) pushed in
     let count : length (tables ++ [] ∷ []) ≡ c.loop-i.i + 1 = blank_count tables (tables ++ [] ∷ []) c.loop-i.i c.loop-i.invariant.count refl in
-    let there = parent_there c.args.classes.now c.requires.below c.loop-i.i c.info-item.result (length (tables ++ [] ∷ [])) c.loop-i-test.true c.info-item.is (omega (arith, count)) in
+    let there = parent_there c.args.classes.now c.requires.below c.loop-i.i c.index-classes-i.result (length (tables ++ [] ∷ [])) c.loop-i-test.true c.index-classes-i.is (omega (arith, count)) in
     record {
-      tell = subst (TellFirst is_child (take (c.loop-i.i + 1) c.args.classes.now)) (sym made) (class_told c.args.classes.now c.loop-i.i c.info-item.result tables c.loop-i-test.true c.info-item.is c.loop-i.invariant.tell there);
-      count = ap length made ∙ child_count (tables ++ [] ∷ []) c.info-item.result c.loop-i.i ∙ count;
+      tell = subst (TellFirst is_child (take (c.loop-i.i + 1) c.args.classes.now)) (sym made) (class_told c.args.classes.now c.loop-i.i c.index-classes-i.result tables c.loop-i-test.true c.index-classes-i.is c.loop-i.invariant.tell there);
+      count = ap length made ∙ child_count (tables ++ [] ∷ []) c.index-classes-i.result c.loop-i.i ∙ count;
     }
 
 pub returns : goal.returns
