@@ -1,4 +1,4 @@
-use Rattle.std.proofs.Common.{◌≡◌, ◌<◌, [], IfSome, length, set, sym, ap, subst, ◌∙◌}
+use Rattle.std.proofs.Common.{◌<◌, [], IfSome, length, set, sym, ap, subst, ◌∙◌}
 use Rattle.std.proofs.lemmas.List.{get_or_default}
 use Rattle.name_table.specs.Numbers.{noted}
 use Rattle.path_text.specs.inner.Children.{with_named}
