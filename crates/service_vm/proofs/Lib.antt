@@ -2,6 +2,7 @@ pub mod Counting
 pub mod Doing
 pub mod Events
 pub mod Finding
+pub mod Keeping
 pub mod Leading
 pub mod Looking
 pub mod Seen

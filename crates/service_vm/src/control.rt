@@ -51,19 +51,20 @@ impl Run {
         }
     }
 
-    /// Takes a tick, or traps where none is left.
+    /// Takes a tick, if one is left, and says whether it did.
     #[tactic(auto, unfolding(service_verify::specs::Steps::acted))]
-    pub fn tick(&mut self) -> Flow
+    pub fn tick(&mut self) -> bool
         requires place { self.old.frames.top.place < 2 ^ 63 }
-        ensures does { (program : Program) (fields : List Value) → Does program self.old instr.Tick fields result self.new fields }
+        ensures did { result ≡ true → (program : Program) (at : Span) (fields : List Value) → Did program self.old instr.Tick at fields None self.new fields }
+        ensures none { result ≡ false → (self.old.ticks ≡ 0) × (self.new ≡ self.old) }
         ensures stays { Stays self.old self.new }
     {
         if self.ticks == 0 {
-            return Flow::Traps(TrapKind::Ticks);
+            return false;
         }
         self.ticks -= 1;
         self.frames.advance();
-        Flow::On
+        true
     }
 
     /// Traps where the value on top is false.

@@ -10,6 +10,7 @@ mod frames;
 mod held;
 mod outputs;
 mod places;
+mod plain;
 mod run;
 mod step;
 mod values;
