@@ -37,8 +37,9 @@ use std::alloc::Global;
 use wave_base::{Finished, Host, OutOfMemory, Path, Pause, Start, Ticket};
 use wave_labels::Label;
 
-/// An engine, and in canonical order what can be done by an idle worker. A label changes what its ticket asks for, and whoever is next in
-/// the line of its context; where the context comes or goes, all tickets are listed anew.
+/// An engine, and in canonical order what can be done by an idle worker. A label changes what the status of its ticket asks for, its own
+/// mail and those that it sends, and what whoever is next in the line of its context asks for; where the context comes or goes, all
+/// tickets are listed anew.
 #[derive(Drop)]
 pub(crate) struct Listed<'p> {
     pub(crate) engine: Engine<'p>,
@@ -49,12 +50,14 @@ pub(crate) struct Listed<'p> {
     weight: usize,
 }
 
-// What is looked at before a label is taken: who is next in the line of its context, whether the context is there, and the share of its ticket.
+// What is looked at before a label is taken: who is next in the line of its context, whether the context is there, the share of its
+// ticket, and how many mails that has sent.
 #[derive(Clone, Copy)]
 pub(crate) struct Seen {
     pub(crate) next: Option<Ticket>,
     pub(crate) here: bool,
     pub(crate) share: usize,
+    pub(crate) sent: u32,
 }
 
 impl<'p> Listed<'p> {
@@ -247,6 +250,7 @@ impl<'p> Listed<'p> {
             next: self.engine.next_at(host, path),
             here: self.engine.has_at(host, path),
             share: self.engine.share(ticket),
+            sent: self.engine.sent(ticket),
         }
     }
 

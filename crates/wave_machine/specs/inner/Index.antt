@@ -1,5 +1,5 @@
 -- The list of what can be done, as it is kept from label to label: its order, the parts in which it is searched, and what each ticket has in it.
-use Rattle.std.specs.Prelude.{◌≡◌, ◌≤◌, ◌<◌, ◌+◌, ◌*◌, ◌^◌, ◌-◌, ◌&&◌, ◌||◌, ◌==◌, ℕ, suc, Bool, true, false, if◌then◌else◌, List, [], ◌∷◌, ◌++◌, flat_map, length, map, nat_lt, Option, Some, None, option_map, slice_get, vec_len, vec_capacity}
+use Rattle.std.specs.Prelude.{◌≡◌, ◌≤◌, ◌<◌, ◌+◌, ◌*◌, ◌^◌, ◌-◌, ◌&&◌, ◌||◌, ◌==◌, ℕ, zero, suc, Bool, true, false, if◌then◌else◌, List, [], ◌∷◌, ◌++◌, flat_map, length, map, nat_lt, Option, Some, None, option_map, slice_get, vec_len, vec_capacity}
 use Rattle.std.specs.List.{AllByRecursion}
 use Rattle.std.specs.FinMap as table
 use Rattle.wave_base.specs.declared.path.Path.{Path}
@@ -10,8 +10,9 @@ use Rattle.wave_labels.specs.Labels.{act_of}
 use Rattle.context_queue.specs.declared.entry.Entry.{Entry}
 use Rattle.context_queue.specs.Entries.{entry_of, next_in}
 use Rattle.event_cells.specs.declared.cell.Cell.{Cell}
+use Rattle.event_cells.specs.Keeps.{mail_in}
 use Rattle.host_map.specs.Stores.{Stores, has}
-use Rattle.wave_states.specs.Labels.{Act, Label, path_of, ticket_of}
+use Rattle.wave_states.specs.Labels.{Act, Label, Queue, Visit, Free, Pass, Land, path_of, ticket_of}
 use Rattle.wave_theory.specs.Listed.{IsIn, kind_of}
 use Rattle.wave_machine.specs.declared.actor.Actor.{Actor}
 use Rattle.wave_machine.specs.declared.listed.Listed.{Listed}
@@ -22,7 +23,7 @@ use Rattle.wave_machine.specs.Ending.{is_done}
 use Rattle.wave_machine.specs.Keeping.{kept_of}
 use Rattle.wave_machine.specs.Machines.{Kept, Stands, TheState}
 use Rattle.wave_machine.specs.inner.Apart.{Moves, grown}
-use Rattle.wave_machine.specs.inner.Asking.{admit_labels, commit_labels, in_order, mails_labels, status_labels}
+use Rattle.wave_machine.specs.inner.Asking.{admit_labels, commit_labels, in_order, mail_labels, mails_labels, status_labels}
 use Rattle.wave_machine.specs.inner.Done.{AreDone}
 
 -- as worker 0 takes it
@@ -31,11 +32,32 @@ by_none r = record { worker = 0; host = r.host.0; act = act_of r.act }
 
 -- ---- places
 
--- it comes before those of a kind whose tickets are from this one on
-abbrev pub under : ℕ → ℕ → Act → Bool
-under k n a = nat_lt (kind_of a) k || ((kind_of a == k) && nat_lt (ticket_of a) n)
+-- the number of a label's mail; 0 where it has none
+abbrev pub number_of : Act → ℕ
+number_of (Queue t k p) = k
+number_of (Visit t k p) = k
+number_of (Free t k p) = k
+number_of (Pass t k p g) = k
+number_of (Land t k p) = k
+number_of _ = 0
 
--- the list in two parts: what comes before those of a kind whose tickets are from this one on, and the rest
+-- by ticket, and of a ticket by number
+abbrev pub rank : ℕ → ℕ → ℕ
+rank t k = 2 ^ 32 * t + k
+
+abbrev pub rank_of : Act → ℕ
+rank_of a = rank (ticket_of a) (number_of a)
+
+-- it comes before those of a kind whose ranks are from this one on
+abbrev pub under : ℕ → ℕ → Act → Bool
+under k n a = nat_lt (kind_of a) k || ((kind_of a == k) && nat_lt (rank_of a) n)
+
+-- it is of a kind and a rank
+abbrev pub is_of : ℕ → ℕ → Option Ready → Bool
+is_of k n None = false
+is_of k n (Some r) = (kind_of (act_of r.act) == k) && (rank_of (act_of r.act) == n)
+
+-- the list in two parts: what comes before those of a kind whose ranks are from this one on, and the rest
 pub record Parted (ls : List Label) (k n : ℕ) (low high : List Label) : Type 0 where
   pub all : ls ≡ low ++ high
   pub lower : AllByRecursion (λ (l : Label). under k n l.act ≡ true) low
@@ -46,43 +68,41 @@ pub record Between (a n b : ℕ) : Type 0 where
   pub above : a ≤ n
   pub under : n ≤ b
 
--- the tickets of a kind are below one, or from it on
+-- the ranks of a kind are below one, or from it on
 abbrev pub Low : ℕ → ℕ → Label → Type 0
-Low k n l = kind_of l.act ≡ k → ticket_of l.act < n
+Low k n l = kind_of l.act ≡ k → rank_of l.act < n
 
 abbrev pub High : ℕ → ℕ → Label → Type 0
-High k n l = kind_of l.act ≡ k → n ≤ ticket_of l.act
+High k n l = kind_of l.act ≡ k → n ≤ rank_of l.act
 
--- worker 0's, of which its kind has no later ticket before it, and only later ones behind it
+-- worker 0's, of which its kind has only lower ranks before it, and none of them behind it
 abbrev pub Goes : List Label → List Label → List Label → Type 0
 Goes [] u v = Unit {0}
-Goes (l ∷ ls) u v = (l.worker ≡ 0) × (AllByRecursion (Low (kind_of l.act) (ticket_of l.act + 1)) u × AllByRecursion (High (kind_of l.act) (ticket_of l.act + 1)) v)
+Goes (l ∷ ls) u v = (l.worker ≡ 0) × (AllByRecursion (Low (kind_of l.act) (rank_of l.act)) u × AllByRecursion (High (kind_of l.act) (rank_of l.act)) v)
 
--- ---- what a ticket has in the list
+-- ---- what a ticket has in the list: under number 0 what its status asks for, under the others what its mails ask for
 
--- a ticket's, as worker 0 takes it, and none of the head
-pub record IsOwn (t : ℕ) (l : Label) : Type 0 where
+-- of these ranks, as worker 0 takes it, and none of the head
+pub record IsOwn (low high : ℕ) (l : Label) : Type 0 where
   pub worker : l.worker ≡ 0
-  pub ticket : ticket_of l.act ≡ t
+  pub from : low ≤ rank_of l.act
+  pub before : rank_of l.act < high
   pub above : 1 ≤ kind_of l.act
   pub below : kind_of l.act ≤ 8
 
-abbrev pub UpTo : ℕ → List Label → Type 0
-UpTo t ls = AllByRecursion (λ (l : Label). ticket_of l.act ≤ t) ls
-
 abbrev pub Below : ℕ → List Label → Type 0
-Below t ls = AllByRecursion (λ (l : Label). ticket_of l.act < t) ls
+Below n ls = AllByRecursion (λ (l : Label). rank_of l.act < n) ls
 
-abbrev pub Past : ℕ → List Label → Type 0
-Past t ls = AllByRecursion (λ (l : Label). t < ticket_of l.act) ls
+abbrev pub From : ℕ → List Label → Type 0
+From n ls = AllByRecursion (λ (l : Label). n ≤ rank_of l.act) ls
 
--- these were added for a ticket
-pub record Lists (t : ℕ) (old new : List Ready) (x : List Label) : Type 0 where
-  pub parts : (u v : List Label) → UpTo t u → Past t v → map by_none old ≡ in_order (u ++ v) → map by_none new ≡ in_order ((u ++ x) ++ v)
+-- these were added, of ranks from one on and below another
+pub record Lists (low high : ℕ) (old new : List Ready) (x : List Label) : Type 0 where
+  pub parts : (u v : List Label) → Below low u → From high v → map by_none old ≡ in_order (u ++ v) → map by_none new ≡ in_order ((u ++ x) ++ v)
 
--- all of a ticket was taken out
-pub record Cuts (t : ℕ) (old new : List Ready) : Type 0 where
-  pub parts : (u x v : List Label) → Below t u → AllByRecursion (IsOwn t) x → Past t v → map by_none old ≡ in_order (u ++ (x ++ v)) → map by_none new ≡ in_order (u ++ v)
+-- the one of a rank was taken out, where there was one
+pub record Cuts (n : ℕ) (old new : List Ready) : Type 0 where
+  pub parts : (u x v : List Label) → Below n u → AllByRecursion (IsOwn n (n + 1)) x → length x ≤ 1 → From (n + 1) v → map by_none old ≡ in_order (u ++ (x ++ v)) → map by_none new ≡ in_order (u ++ v)
 
 abbrev pub asked_of : List Stores → ℕ → Cell Actor → List Label
 asked_of stores t c = status_labels stores 0 t c.status ++ mails_labels stores 0 t c.outbox
@@ -98,32 +118,64 @@ cell_at m t = if nat_lt t m.first then None else slice_get m.cells (t - m.first)
 abbrev pub asked_at : Kept → ℕ → List Label
 asked_at m t = asked_by m.stores t (cell_at m t)
 
--- what all tickets of the run have in the list, by ticket; and one that has something else
+-- what a number of a ticket asks for
+abbrev pub asked_as : List Stores → ℕ → Cell Actor → ℕ → List Label
+asked_as stores t c zero = status_labels stores 0 t c.status
+asked_as stores t c (suc k) = mail_labels stores 0 t (suc k) (mail_in c.outbox.mails (suc k))
+
+abbrev pub slot_by : List Stores → ℕ → ℕ → Option (Cell Actor) → List Label
+slot_by stores t k None = []
+slot_by stores t k (Some c) = asked_as stores t c k
+
+abbrev pub slot_at : Kept → ℕ → ℕ → List Label
+slot_at m t k = slot_by m.stores t k (cell_at m t)
+
+-- how many numbers a ticket has
+abbrev pub numbers_in : Option (Cell Actor) → ℕ
+numbers_in None = 0
+numbers_in (Some c) = 1 + c.outbox.sent
+
+-- what all tickets of the run have in the list, by ticket; and by ticket and number
 abbrev pub by_part : Kept → (ℕ → List Label) → List Label
 by_part m part = flat_map part (tickets_from m.first (length m.cells))
 
-abbrev pub with_part : (ℕ → List Label) → ℕ → List Label → ℕ → List Label
-with_part part t ls u = if u == t then ls else part u
+abbrev pub by_slot : Kept → (ℕ → ℕ → List Label) → List Label
+by_slot m part = by_part m (λ t. flat_map (part t) (tickets_from 0 (numbers_in (cell_at m t))))
 
-abbrev pub AreOwn : (ℕ → List Label) → Type 0
-AreOwn part = (u : ℕ) → AllByRecursion (IsOwn u) (part u)
+-- and one number that has something else
+abbrev pub with_slot : (ℕ → ℕ → List Label) → ℕ → ℕ → List Label → ℕ → ℕ → List Label
+with_slot part t k ls u j = if (u == t) && (j == k) then ls else part u j
 
--- what a ticket has in the list is now what it asks for
-pub record Relists (m : Kept) (t : ℕ) (old new : List Ready) : Type 0 where
-  pub parts : (part : ℕ → List Label) → AreOwn part → map by_none old ≡ in_order (by_part m part) → map by_none new ≡ in_order (by_part m (with_part part t (asked_at m t)))
+-- each has one at most, of its rank
+pub record AreOwn (part : ℕ → ℕ → List Label) : Type 0 where
+  pub own : (u j : ℕ) → AllByRecursion (IsOwn (rank u j) (rank u j + 1)) (part u j)
+  pub one : (u j : ℕ) → length (part u j) ≤ 1
 
--- and of the next in a line, where there is one
-abbrev pub with_next : Kept → Option ℕ → (ℕ → List Label) → ℕ → List Label
+-- what a number of a ticket has in the list is now what it asks for
+pub record Relists (m : Kept) (t k : ℕ) (old new : List Ready) : Type 0 where
+  pub parts : (part : ℕ → ℕ → List Label) → AreOwn part → map by_none old ≡ in_order (by_slot m part) → map by_none new ≡ in_order (by_slot m (with_slot part t k (slot_at m t k)))
+
+-- of the next in a line its status, where there is one
+abbrev pub with_next : Kept → Option ℕ → (ℕ → ℕ → List Label) → ℕ → ℕ → List Label
 with_next m None part = part
-with_next m (Some t) part = with_part part t (asked_at m t)
+with_next m (Some t) part = with_slot part t 0 (slot_at m t 0)
 
--- the same beside a ticket whose part is already what it asks for
-pub record RelistsBeside (m : Kept) (next : Option ℕ) (t : ℕ) (old new : List Ready) : Type 0 where
-  pub parts : (part : ℕ → List Label) → AreOwn part → part t ≡ asked_at m t → map by_none old ≡ in_order (by_part m part) → map by_none new ≡ in_order (by_part m (with_next m next part))
+pub record RelistsNext (m : Kept) (next : Option ℕ) (old new : List Ready) : Type 0 where
+  pub parts : (part : ℕ → ℕ → List Label) → AreOwn part → map by_none old ≡ in_order (by_slot m part) → map by_none new ≡ in_order (by_slot m (with_next m next part))
 
--- and of a ticket and of who was and is next
-pub record RelistsNear (m : Kept) (t : ℕ) (before after : Option ℕ) (old new : List Ready) : Type 0 where
-  pub parts : (part : ℕ → List Label) → AreOwn part → map by_none old ≡ in_order (by_part m part) → map by_none new ≡ in_order (by_part m (with_next m after (with_next m before (with_part part t (asked_at m t)))))
+-- of a ticket the mails whose numbers are above one
+abbrev pub with_above : Kept → ℕ → ℕ → (ℕ → ℕ → List Label) → ℕ → ℕ → List Label
+with_above m t n part u j = if (u == t) && nat_lt n j then slot_at m t j else part u j
+
+-- where those had nothing in the list
+pub record ListsNew (m : Kept) (t n : ℕ) (old new : List Ready) : Type 0 where
+  pub parts : (part : ℕ → ℕ → List Label) → AreOwn part → ((j : ℕ) → n < j → part t j ≡ []) → map by_none old ≡ in_order (by_slot m part) → map by_none new ≡ in_order (by_slot m (with_above m t n part))
+
+-- A label of a ticket, on its mail of number k (0 where it is on none), before which the ticket had sent n mails: what the status asks
+-- for, what that mail asks for, what the mails sent by it ask for, and what the statuses of who was and is next ask for.
+pub record RelistsNear (m : Kept) (t k n : ℕ) (before after : Option ℕ) (old new : List Ready) : Type 0 where
+  pub parts : (part : ℕ → ℕ → List Label) → AreOwn part → ((j : ℕ) → n < j → part t j ≡ []) → k ≤ n → map by_none old ≡ in_order (by_slot m part)
+      → map by_none new ≡ in_order (by_slot m (with_next m after (with_next m before (with_above m t n (with_slot (with_slot part t 0 (slot_at m t 0)) t k (slot_at m t k))))))
 
 -- what the head asks for
 abbrev pub head_in : Kept → List Label
@@ -149,6 +201,14 @@ share_at m t = share_by (cell_at m t)
 abbrev pub weight_of : List (Cell Actor) → ℕ
 weight_of [] = 0
 weight_of (c ∷ cs) = share_of c + weight_of cs
+
+-- how many mails a ticket has sent
+abbrev pub sent_by : Option (Cell Actor) → ℕ
+sent_by None = 0
+sent_by (Some c) = c.outbox.sent
+
+abbrev pub sent_at : Kept → ℕ → ℕ
+sent_at m t = sent_by (cell_at m t)
 
 -- how many contexts a ticket holds
 abbrev pub held_by : Option (Cell Actor) → ℕ
@@ -188,11 +248,20 @@ pub record Sees (m : Kept) (host t : ℕ) (p : Path) (seen : Seen) : Type 0 wher
   pub next : option_map (λ t. t.0) seen.next ≡ next_at p (slice_get m.stores host)
   pub here : seen.here ≡ has_at p (slice_get m.stores host)
   pub share : seen.share ≡ share_at m t
+  pub sent : seen.sent ≡ sent_at m t
+
+-- The ticket's cell has the mails that it had, but for that of the label, as a listing reads them; and it has sent no fewer.
+pub record KeepsMails (m m' : Kept) (l : Label) : Type 0 where
+  pub kept : (i : ℕ) (c c' : Cell Actor) → m.first + i ≡ ticket_of l.act → slice_get m.cells i ≡ Some c → slice_get m'.cells i ≡ Some c'
+      → (j : ℕ) → j ≤ c.outbox.sent → j ≢ number_of l.act → (stores : List Stores) → mail_labels stores 0 (ticket_of l.act) j (mail_in c'.outbox.mails j) ≡ mail_labels stores 0 (ticket_of l.act) j (mail_in c.outbox.mails j)
+  pub sent : (i : ℕ) (c c' : Cell Actor) → m.first + i ≡ ticket_of l.act → slice_get m.cells i ≡ Some c → slice_get m'.cells i ≡ Some c' → c.outbox.sent ≤ c'.outbox.sent
+  pub number : number_of l.act ≤ sent_at m (ticket_of l.act)
 
 -- a label was taken, before which so much was seen
 pub record Taken (m m' : Kept) (l : Label) (seen : Seen) (more : ℕ) : Type 0 where
   pub stands : (start : Start) × (s : TheState) × Stands m' start s
   pub moves : Moves m m' l more
+  pub mails : KeepsMails m m' l
   pub grows : grown l.act ≡ 1 → ticket_of l.act ≡ m.first + length m.cells
   pub sees : Sees m l.host (ticket_of l.act) (path_of l.act) seen
 
