@@ -59,3 +59,5 @@ pub mod Unasked
 pub mod Bridged
 pub mod Grows
 pub mod Roomier
+pub mod OwnMails
+pub mod KeptMails

@@ -23,7 +23,7 @@ use Rattle.wave_machine.specs.Ending.{is_done}
 use Rattle.wave_machine.specs.Keeping.{kept_of}
 use Rattle.wave_machine.specs.Machines.{Kept, Stands, TheState}
 use Rattle.wave_machine.specs.inner.Apart.{Moves, grown}
-use Rattle.wave_machine.specs.inner.Asking.{admit_labels, commit_labels, in_order, mail_labels, mails_labels, status_labels}
+use Rattle.wave_machine.specs.inner.Asking.{IsNumbered, admit_labels, commit_labels, in_order, mail_labels, mails_labels, status_labels}
 use Rattle.wave_machine.specs.inner.Done.{AreDone}
 
 -- as worker 0 takes it
@@ -262,6 +262,7 @@ pub record Taken (m m' : Kept) (l : Label) (seen : Seen) (more : ℕ) : Type 0 w
   pub stands : (start : Start) × (s : TheState) × Stands m' start s
   pub moves : Moves m m' l more
   pub mails : KeepsMails m m' l
+  pub numbered : (i : ℕ) (c : Cell Actor) → slice_get m.cells i ≡ Some c → IsNumbered c.outbox
   pub grows : grown l.act ≡ 1 → ticket_of l.act ≡ m.first + length m.cells
   pub sees : Sees m l.host (ticket_of l.act) (path_of l.act) seen
 
