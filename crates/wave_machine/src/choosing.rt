@@ -15,7 +15,7 @@ use crate::listable::states_list;
 use crate::listed::Listed;
 use crate::order::kind_of;
 use crate::ready::Ready;
-use wave_base::Worker;
+use wave_base::{Ticket, Worker};
 use wave_labels::Label;
 
 impl<'p> Listed<'p> {
@@ -50,7 +50,7 @@ fn first_of_last(index: &[Ready]) -> Option<Ready>
     ensures { IsPickOf index.now result }
 {
     match index.last() {
-        Some(last) => match index.get(place(index, kind_of(&last.act), 0)) {
+        Some(last) => match index.get(place(index, kind_of(&last.act), Ticket(0), 0)) {
             Some(first) => Some(*first),
             None => Some(*last),
         },

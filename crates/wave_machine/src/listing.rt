@@ -38,7 +38,7 @@ impl<'p> Listed<'p> {
     // What the takers can do, in order.
     fn listing(&self, takers: Takers) -> Result<Seq<Label>, OutOfMemory> {
         let mut labels = Vec::new(*self.index.allocator());
-        let (early, late) = self.index.as_slice().split_at(place(&self.index, 5, 0));
+        let (early, late) = self.index.as_slice().split_at(place(&self.index, 5, Ticket(0), 0));
         add_all(&mut labels, takers.idle, early)?;
         self.engine.ask_all_stops(takers, self.done, &mut labels)?;
         add_all(&mut labels, takers.idle, late)?;

@@ -13,11 +13,11 @@ ghost use Rattle.wave_theory.specs.Listed.{kind_of};
 ghost use Rattle.wave_machine.specs.Machines.{Kept};
 ghost use Rattle.wave_machine.specs.inner.Asking.{in_order, labels_in, mail_labels, IsListable, IsNumbered};
 ghost use Rattle.wave_machine.specs.inner.Done.{AreDone};
-ghost use Rattle.wave_machine.specs.inner.Index.{Lists, ListsNew, Relists, RelistsNear, RelistsNext, Taken, asked_as, asked_at, asked_of, by_none, by_part, cell_at, has_at, head_in, held_at, next_at, next_of, number_of, rank, sent_at, share_at, share_of, weight_of};
+ghost use Rattle.wave_machine.specs.inner.Index.{Lists, ListsNew, Relists, RelistsNear, RelistsNext, Taken, asked_as, asked_at, asked_of, by_none, by_part, cell_at, has_at, head_in, held_at, next_at, next_of, number_of, sent_at, share_at, share_of, weight_of};
 
 use crate::actor::Actor;
 use crate::engine::Engine;
-use crate::index::{cut_rank, number_of, put_some, rank, ticket_of};
+use crate::index::{cut_slot, number_of, put_some, ticket_of};
 use crate::listed::Seen;
 use crate::ready::Ready;
 use context_queue::{Entry, entries_stand};
@@ -75,7 +75,7 @@ impl<'p> Engine<'p> {
     {
         match self.cell(ticket) {
             Some(cell) => {
-                cut_rank(index, rank(ticket, number));
+                cut_slot(index, ticket, number);
                 put_some(index, self.slot_label(ticket, number, cell));
             }
             None => (),
@@ -167,7 +167,7 @@ impl<'p> Engine<'p> {
         requires stores { length self.now.stores.items ≤ 8 }
         requires numbered { IsNumbered cell.now.outbox }
         requires room { vec_len index.old + share_of cell.now ≤ vec_capacity index.old }
-        ensures lists { Lists (rank ticket.0 0) (rank (ticket.0 + 1) 0) index.old.items index.new.items (asked_of self.now.stores.items ticket.0 cell.now) }
+        ensures lists { Lists ticket.0 0 index.old.items index.new.items (asked_of self.now.stores.items ticket.0 cell.now) }
         ensures len { vec_len index.new ≤ vec_len index.old + share_of cell.now }
         ensures capacity { vec_capacity index.new ≡ vec_capacity index.old }
     {
@@ -182,7 +182,7 @@ impl<'p> Engine<'p> {
     fn list_mails(&self, ticket: Ticket, mails: &[(u32, Envelope)], index: &mut Vec<Ready>)
         requires room { vec_len index.old + length mails.now ≤ vec_capacity index.old }
         requires ordered { IsStrictlySortedBy nat_cmp (keys_of mails.now) }
-        ensures lists { (low : ℕ) → AllByRecursion (λ m. low < m.0) mails.now → Lists (rank ticket.0 (low + 1)) (rank (ticket.0 + 1) 0) index.old.items index.new.items (flat_map (λ m. mail_labels self.now.stores.items 0 ticket.0 m.0 (Some m.1)) mails.now) }
+        ensures lists { (low : ℕ) → AllByRecursion (λ m. low < m.0) mails.now → Lists ticket.0 (low + 1) index.old.items index.new.items (flat_map (λ m. mail_labels self.now.stores.items 0 ticket.0 m.0 (Some m.1)) mails.now) }
         ensures len { vec_len index.new ≤ vec_len index.old + length mails.now }
         ensures capacity { vec_capacity index.new ≡ vec_capacity index.old }
     {

@@ -1,5 +1,5 @@
 -- The list of what can be done, as it is kept from label to label: its order, the parts in which it is searched, and what each ticket has in it.
-use Rattle.std.specs.Prelude.{◌≡◌, ◌≤◌, ◌<◌, ◌+◌, ◌*◌, ◌^◌, ◌-◌, ◌&&◌, ◌||◌, ◌==◌, ℕ, zero, suc, Bool, true, false, if◌then◌else◌, List, [], ◌∷◌, ◌++◌, flat_map, length, map, nat_lt, Option, Some, None, option_map, slice_get, vec_len, vec_capacity}
+use Rattle.std.specs.Prelude.{◌≡◌, ◌≤◌, ◌<◌, ◌+◌, ◌*◌, ◌^◌, ◌-◌, ◌&&◌, ◌||◌, ◌==◌, ℕ, zero, suc, Bool, true, false, if◌then◌else◌, List, [], ◌∷◌, ◌++◌, filter, flat_map, length, map, nat_lt, not, Option, Some, None, option_map, slice_get, vec_len, vec_capacity}
 use Rattle.std.specs.List.{AllByRecursion}
 use Rattle.std.specs.FinMap as table
 use Rattle.wave_base.specs.declared.path.Path.{Path}
@@ -41,68 +41,91 @@ number_of (Pass t k p g) = k
 number_of (Land t k p) = k
 number_of _ = 0
 
--- by ticket, and of a ticket by number
-abbrev pub rank : ℕ → ℕ → ℕ
-rank t k = 2 ^ 32 * t + k
+-- a slot is a ticket t and a number k; it comes before another by ticket, and of a ticket by number
+abbrev pub is_before : ℕ → ℕ → ℕ → ℕ → Bool
+is_before t k u j = nat_lt t u || ((t == u) && nat_lt k j)
 
-abbrev pub rank_of : Act → ℕ
-rank_of a = rank (ticket_of a) (number_of a)
+-- it comes before those of a kind whose slots are from this one on
+abbrev pub under : ℕ → ℕ → ℕ → Act → Bool
+under kind t k a = nat_lt (kind_of a) kind || ((kind_of a == kind) && is_before (ticket_of a) (number_of a) t k)
 
--- it comes before those of a kind whose ranks are from this one on
-abbrev pub under : ℕ → ℕ → Act → Bool
-under k n a = nat_lt (kind_of a) k || ((kind_of a == k) && nat_lt (rank_of a) n)
+-- it is of a kind and a slot
+abbrev pub is_of : ℕ → ℕ → ℕ → Option Ready → Bool
+is_of kind t k None = false
+is_of kind t k (Some r) = (kind_of (act_of r.act) == kind) && ((ticket_of (act_of r.act) == t) && (number_of (act_of r.act) == k))
 
--- it is of a kind and a rank
-abbrev pub is_of : ℕ → ℕ → Option Ready → Bool
-is_of k n None = false
-is_of k n (Some r) = (kind_of (act_of r.act) == k) && (rank_of (act_of r.act) == n)
-
--- the list in two parts: what comes before those of a kind whose ranks are from this one on, and the rest
-pub record Parted (ls : List Label) (k n : ℕ) (low high : List Label) : Type 0 where
+-- the list in two parts: what comes before those of a kind whose slots are from this one on, and the rest
+pub record Parted (ls : List Label) (kind t k : ℕ) (low high : List Label) : Type 0 where
   pub all : ls ≡ low ++ high
-  pub lower : AllByRecursion (λ (l : Label). under k n l.act ≡ true) low
-  pub higher : AllByRecursion (λ (l : Label). under k n l.act ≡ false) high
+  pub lower : AllByRecursion (λ (l : Label). under kind t k l.act ≡ true) low
+  pub higher : AllByRecursion (λ (l : Label). under kind t k l.act ≡ false) high
 
 -- a number from one to another
 pub record Between (a n b : ℕ) : Type 0 where
   pub above : a ≤ n
   pub under : n ≤ b
 
--- the ranks of a kind are below one, or from it on
-abbrev pub Low : ℕ → ℕ → Label → Type 0
-Low k n l = kind_of l.act ≡ k → rank_of l.act < n
+-- the slot (t, k) is before the slot (u, j), or it is that one or before it
+pub record IsBefore (t k u j : ℕ) : Type 0 where
+  pub ticket : t ≤ u
+  pub number : t ≡ u → k < j
 
-abbrev pub High : ℕ → ℕ → Label → Type 0
-High k n l = kind_of l.act ≡ k → n ≤ rank_of l.act
+pub record IsUpTo (t k u j : ℕ) : Type 0 where
+  pub ticket : t ≤ u
+  pub number : t ≡ u → k ≤ j
 
--- worker 0's, of which its kind has only lower ranks before it, and none of them behind it
+abbrev pub IsBelow : ℕ → ℕ → Label → Type 0
+IsBelow t k l = IsBefore (ticket_of l.act) (number_of l.act) t k
+
+abbrev pub IsFrom : ℕ → ℕ → Label → Type 0
+IsFrom t k l = IsUpTo t k (ticket_of l.act) (number_of l.act)
+
+-- the slots of a kind are below one, or from it on
+abbrev pub Low : ℕ → ℕ → ℕ → Label → Type 0
+Low kind t k l = kind_of l.act ≡ kind → IsBelow t k l
+
+abbrev pub High : ℕ → ℕ → ℕ → Label → Type 0
+High kind t k l = kind_of l.act ≡ kind → IsFrom t k l
+
+-- worker 0's, of which its kind has only lower slots before it, and none of them behind it
 abbrev pub Goes : List Label → List Label → List Label → Type 0
 Goes [] u v = Unit {0}
-Goes (l ∷ ls) u v = (l.worker ≡ 0) × (AllByRecursion (Low (kind_of l.act) (rank_of l.act)) u × AllByRecursion (High (kind_of l.act) (rank_of l.act)) v)
+Goes (l ∷ ls) u v = (l.worker ≡ 0) × (AllByRecursion (Low (kind_of l.act) (ticket_of l.act) (number_of l.act)) u × AllByRecursion (High (kind_of l.act) (ticket_of l.act) (number_of l.act)) v)
 
 -- ---- what a ticket has in the list: under number 0 what its status asks for, under the others what its mails ask for
 
--- of these ranks, as worker 0 takes it, and none of the head
-pub record IsOwn (low high : ℕ) (l : Label) : Type 0 where
+-- a status asks for a Grant or a Start; a mail asks for a Queue, Visit, Free, Pass or Land
+abbrev pub kinds_at : ℕ → List ℕ
+kinds_at zero = 2 ∷ 4 ∷ []
+kinds_at (suc k) = 1 ∷ 3 ∷ 6 ∷ 7 ∷ 8 ∷ []
+
+-- a slot's, as worker 0 takes it
+pub record IsOwn (t k : ℕ) (l : Label) : Type 0 where
   pub worker : l.worker ≡ 0
-  pub from : low ≤ rank_of l.act
-  pub before : rank_of l.act < high
-  pub above : 1 ≤ kind_of l.act
-  pub below : kind_of l.act ≤ 8
+  pub ticket : ticket_of l.act ≡ t
+  pub number : number_of l.act ≡ k
+  pub kind : IsIn (kinds_at k) (kind_of l.act)
 
-abbrev pub Below : ℕ → List Label → Type 0
-Below n ls = AllByRecursion (λ (l : Label). rank_of l.act < n) ls
+abbrev pub Below : ℕ → ℕ → List Label → Type 0
+Below t k ls = AllByRecursion (IsBelow t k) ls
 
-abbrev pub From : ℕ → List Label → Type 0
-From n ls = AllByRecursion (λ (l : Label). n ≤ rank_of l.act) ls
+abbrev pub From : ℕ → ℕ → List Label → Type 0
+From t k ls = AllByRecursion (IsFrom t k) ls
 
--- these were added, of ranks from one on and below another
-pub record Lists (low high : ℕ) (old new : List Ready) (x : List Label) : Type 0 where
-  pub parts : (u v : List Label) → Below low u → From high v → map by_none old ≡ in_order (u ++ v) → map by_none new ≡ in_order ((u ++ x) ++ v)
+-- these were added, of a ticket's slots from one number on
+pub record Lists (t k : ℕ) (old new : List Ready) (x : List Label) : Type 0 where
+  pub parts : (u v : List Label) → Below t k u → From (t + 1) 0 v → map by_none old ≡ in_order (u ++ v) → map by_none new ≡ in_order ((u ++ x) ++ v)
 
--- the one of a rank was taken out, where there was one
-pub record Cuts (n : ℕ) (old new : List Ready) : Type 0 where
-  pub parts : (u x v : List Label) → Below n u → AllByRecursion (IsOwn n (n + 1)) x → length x ≤ 1 → From (n + 1) v → map by_none old ≡ in_order (u ++ (x ++ v)) → map by_none new ≡ in_order (u ++ v)
+-- what a slot had of a kind was taken out
+abbrev pub without : ℕ → List Label → List Label
+without kind ls = filter (λ (l : Label). not (kind_of l.act == kind)) ls
+
+pub record CutsKind (kind t k : ℕ) (old new : List Ready) : Type 0 where
+  pub parts : (u x v : List Label) → Below t k u → AllByRecursion (IsOwn t k) x → length x ≤ 1 → From t (k + 1) v → map by_none old ≡ in_order (u ++ (x ++ v)) → map by_none new ≡ in_order (u ++ (without kind x ++ v))
+
+-- what a slot had was taken out
+pub record Cuts (t k : ℕ) (old new : List Ready) : Type 0 where
+  pub parts : (u x v : List Label) → Below t k u → AllByRecursion (IsOwn t k) x → length x ≤ 1 → From t (k + 1) v → map by_none old ≡ in_order (u ++ (x ++ v)) → map by_none new ≡ in_order (u ++ v)
 
 abbrev pub asked_of : List Stores → ℕ → Cell Actor → List Label
 asked_of stores t c = status_labels stores 0 t c.status ++ mails_labels stores 0 t c.outbox
@@ -146,9 +169,9 @@ by_slot m part = by_part m (λ t. flat_map (part t) (tickets_from 0 (numbers_in 
 abbrev pub with_slot : (ℕ → ℕ → List Label) → ℕ → ℕ → List Label → ℕ → ℕ → List Label
 with_slot part t k ls u j = if (u == t) && (j == k) then ls else part u j
 
--- each has one at most, of its rank
+-- each has one at most, its own
 pub record AreOwn (part : ℕ → ℕ → List Label) : Type 0 where
-  pub own : (u j : ℕ) → AllByRecursion (IsOwn (rank u j) (rank u j + 1)) (part u j)
+  pub own : (u j : ℕ) → AllByRecursion (IsOwn u j) (part u j)
   pub one : (u j : ℕ) → length (part u j) ≤ 1
 
 -- what a number of a ticket has in the list is now what it asks for
