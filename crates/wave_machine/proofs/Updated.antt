@@ -21,7 +21,7 @@ use Rattle.wave_machine.proofs.Elsewhere.{asked_mail, grown_few, others_slot, ow
 use Rattle.wave_machine.proofs.ListingLists.{flat_none, flat_same}
 use Rattle.wave_machine.proofs.Ordering.{all_flat, all_map, flat_append, numbers_append, same_numbered}
 use Rattle.wave_machine.proofs.Owned.{cell_is, cell_there, own_slots, slice_some}
-use Rattle.wave_machine.proofs.Relisted.{IsInner}
+use Rattle.wave_machine.proofs.Relisted.{IsInner, own_inner}
 
 equal : (a b : ℕ) → a ≡ b → (a == b) ≡ true
 equal a b e = ap (λ n. a == n) (sym e) ∙ number_self a
@@ -98,7 +98,7 @@ pub inner_part : (m : Kept) → AllByRecursion IsInner (by_part m (asked_at m))
 inner_part m = subst (AllByRecursion IsInner) (by_slots m) (all_flat IsInner (λ t. flat_map (slot_at m t) (tickets_from 0 (numbers_in (cell_at m t)))) of_ticket (tickets_from m.first (length m.cells)))
   where
     of_slot : (t k : ℕ) → AllByRecursion IsInner (slot_at m t k)
-    of_slot t k = all_map IsInner (IsOwn (rank t k) (rank t k + 1)) (λ l h. (h.above, h.below)) (slot_at m t k) ((own_slots m).own t k)
+    of_slot t k = all_map IsInner (IsOwn t k) (λ l h. own_inner t k l h) (slot_at m t k) ((own_slots m).own t k)
 
     of_ticket : (t : ℕ) → AllByRecursion IsInner (flat_map (slot_at m t) (tickets_from 0 (numbers_in (cell_at m t))))
     of_ticket t = all_flat IsInner (slot_at m t) (of_slot t) (tickets_from 0 (numbers_in (cell_at m t)))

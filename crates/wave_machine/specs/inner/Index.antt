@@ -248,9 +248,10 @@ pub record IsListed (x : Listed) : Type 0 where
   pub done : AreDone (kept_of x.engine) x.done
   pub weight : weight_of (kept_of x.engine).cells ≤ x.weight
 
--- room for three tickets that are listed anew, and for the head
+-- Room for what a label lists anew: what the status and the mail of its ticket, and the statuses of who was and is next, ask for; what
+-- the mails ask for that came, or all; and the head.
 pub record HasRoom (x : Listed) (more : ℕ) : Type 0 where
-  pub room : vec_len x.index + (3 * (x.weight + more + 2) + 2) ≤ vec_capacity x.index
+  pub room : vec_len x.index + (x.weight + more + 8) ≤ vec_capacity x.index
   pub fits : x.weight + more + 2 < 2 ^ 64
 
 -- ---- what is looked at before a label is taken

@@ -9,7 +9,6 @@ use Rattle.wave_machine.specs.inner.Asking.{IsListable}
 use Rattle.wave_machine.specs.inner.Index.{asked_at, by_part, share_at}
 use Rattle.wave_machine.proofs.Heads.{admits_first, commits_last}
 use Rattle.wave_machine.proofs.ListingSizes.{listable}
-use Rattle.wave_machine.proofs.Owned.{own_at}
 use Rattle.wave_machine.proofs.Updated.{inner_part}
 use Rattle.wave_machine.proofs.Weighed.{Weighed, weighed}
 use Rattle.wave_machine.proofs.listed.Listed.update.Goals as goal
@@ -40,7 +39,7 @@ pub relist_after-requires-clause-taken : goal.relist_after-requires-clause-taken
 relist_after-requires-clause-taken c =
     let u = c.requires in
     let m = u.0 in
-    (m, u.1, (u.2).taken, c.cut_head.ensures.parts _ _ (by_part m (asked_at m)) (admits_first m.head) (commits_last m) (inner_part m (asked_at m) (own_at m)) (u.2).index)
+    (m, u.1, (u.2).taken, c.cut_head.ensures.parts _ _ (by_part m (asked_at m)) (admits_first m.head) (commits_last m) (inner_part m) (u.2).index)
 
 pub relist_after-requires-clause-room : goal.relist_after-requires-clause-room
 relist_after-requires-clause-room c =
@@ -73,7 +72,7 @@ returns-clause-listed c =
     let l = label_of c.args.label.now in
     let w = weighed u.0 c.args.self.now l c.args.seen u.1 c.share-share.result u.2 (c.share-share.ensures ∙ ap (share_at m') c.ticket_of.ensures) in
     record {
-      index = c.list_head.ensures.parts (by_part m' (asked_at m')) (inner_part m' (asked_at m') (own_at m')) c.relist_after.ensures.all;
+      index = c.list_head.ensures.parts (by_part m' (asked_at m')) (inner_part m') c.relist_after.ensures.all;
       done = c.count_done-self.ensures;
       weight = w.keeps;
     }
