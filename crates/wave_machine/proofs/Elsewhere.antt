@@ -116,6 +116,9 @@ module _ (m m' : Kept) (l : Label) (more : ℕ) (moves : Moves m m' l more) wher
   abbrev p : Path
   p = path_of l.act
 
+  abbrev t : ℕ
+  t = ticket_of l.act
+
   pair : (P : Option Stores → Option Stores → Type 0) (h : ℕ) → P None None → ((st st' : Stores) → slice_get m.stores h ≡ Some st → slice_get m'.stores h ≡ Some st' → P (Some st) (Some st')) → P (slice_get m.stores h) (slice_get m'.stores h)
   pair P h none both = by_two (slice_get m.stores h) (slice_get m'.stores h) refl refl
     where
@@ -286,11 +289,8 @@ module _ (m m' : Kept) (l : Label) (more : ℕ) (moves : Moves m m' l more) wher
     pub own_slot : KeepsMails m m' l → (j : ℕ) → m'.first ≤ ticket_of l.act → ticket_of l.act < m'.first + length m'.cells → j ≢ 0 → j ≢ number_of l.act → j ≤ sent_at m (ticket_of l.act) → slot_at m (ticket_of l.act) j ≡ slot_at m' (ticket_of l.act) j
     own_slot keeps j low high some apart within = by_cell (cell_at m t) refl
       where
-        abbrev t : ℕ
-        t = ticket_of l.act
-
         by_cell : (o : Option (Cell Actor)) → cell_at m t ≡ o → slot_at m t j ≡ slot_at m' t j
-        by_cell None e = absurd (let none = ap sent_by e in let small = within in omega (arith, none, small, some))
+        by_cell None e = absurd (let none : sent_at m (ticket_of l.act) ≡ 0 = ap sent_by e in omega (arith, none, within, some))
         by_cell (Some c) e =
             let first = moves.others.first in
             let there = cell_there m t c e in
@@ -298,7 +298,7 @@ module _ (m m' : Kept) (l : Label) (more : ℕ) (moves : Moves m m' l more) wher
             let place : t - m'.first ≡ t - m.first = ap (λ n. t - n) first in
             let old_low = there.low in
             let here' : m.first + (t - m.first) ≡ t = omega (arith, old_low) in
-            let sent : sent_at m t ≡ c.outbox.sent = ap sent_by e in
+            let sent : sent_at m (ticket_of l.act) ≡ c.outbox.sent = ap sent_by e in
             let small : j ≤ c.outbox.sent = omega (arith, within, sent) in
             let kept = keeps.kept (t - m.first) c new.0 here' there.at (ap (slice_get m'.cells) (sym place) ∙ new.1) j small apart m'.stores in
             ap (slot_by m.stores t j) e

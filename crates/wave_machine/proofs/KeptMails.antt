@@ -41,23 +41,22 @@ use Rattle.wave_machine.proofs.Taking.{Laws, now}
 
 -- ---- a mail, as a listing reads it
 module _ (stores : List Stores) (t k h : ℕ) (p : Path) where
-  letter_act : theory.Letter Fields → Option Act
+  abbrev letter_act : theory.Letter Fields → Option Act
   letter_act (Enter a) = enter_act t k p (route_at (slice_get stores h) p a.followed)
-  letter_act theory.Letter.Visit = Some (Visit t k p)
-  letter_act theory.Letter.Back = Some (Visit t k p)
+  letter_act theory.Visit = Some (Visit t k p)
+  letter_act theory.Back = Some (Visit t k p)
   letter_act Release = Some (Free t k p)
   letter_act (Transfer e) = Some (Land t k p)
 
   act_said : (x : Letter) (l : theory.Letter Fields) → Says x l → mail_act stores t k h p x ≡ letter_act l
-  unfolding letter_act
   act_said (letter.Enter number followed peek) l e = ap letter_act (sym e)
   act_said letter.Visit l e = ap letter_act (sym e)
   act_said letter.Back l e = ap letter_act (sym e)
   act_said letter.Release l e = ap letter_act (sym e)
   act_said (letter.Transfer x) (Transfer e) h = refl
   act_said (letter.Transfer x) (Enter a) h = absurd h
-  act_said (letter.Transfer x) theory.Letter.Visit h = absurd h
-  act_said (letter.Transfer x) theory.Letter.Back h = absurd h
+  act_said (letter.Transfer x) theory.Visit h = absurd h
+  act_said (letter.Transfer x) theory.Back h = absurd h
   act_said (letter.Transfer x) Release h = absurd h
 
 -- two that stand for the same mail ask for the same
@@ -89,40 +88,32 @@ module _ (laws : Laws) (m : Kept) (start : Start) (s : TheState) (stands : Stand
         below = λ n past. none_carries (mail_in c.outbox.mails n) (is.desk.mails n) (is.stands.mails n) (sym (is.mails n) ∙ known.bounds.mails (m.first + i) n _ is.event (subst (λ j. j < n) (sym is.stands.sent) past));
       }
 
-  -- a mail that is there has a number that was sent
-  number_sent : (t k : ℕ) (x : Mail Fields) → (s.cells t).mails k ≡ Some x → k ≤ sent_at m t
-  number_sent t k x at = by_place (cases_lt c.outbox.sent k)
+  number_in : (t k : ℕ) (x : Mail Fields) (c : Cell Actor) → (s.cells t).mails k ≡ Some x → m.first ≤ t → slice_get m.cells (t - m.first) ≡ Some c → k ≤ sent_at m t
+  number_in t k x c at low there = by_place (cases_lt c.outbox.sent k)
     where
-      known : Known m.plan start s
-      known = now laws m start s stands
-
-      placed : (s.before < t) × (t ≤ s.before + s.admitted)
-      placed = mailed_is (plan_kind m.plan.program m.plan.script.hosts) m.plan.workers (begin_in m.plan start) m.plan.script.batches s known.bounds t k x at
-
-      low : m.first ≤ t
-      low = let above = placed.0 in let before = stands.shows.head.before in omega (arith, above, before)
-
-      there : (c : Cell Actor) × (slice_get m.cells (t - m.first) ≡ Some c)
-      there =
-          let under = placed.1 in
-          let above = placed.0 in
-          let before = stands.shows.head.before in
-          let admitted = stands.shows.head.admitted in
-          let many = stands.shows.cells.as_many in
-          owned.slice_some m.cells (t - m.first) (omega (arith, under, above, before, admitted, many))
-
-      c : Cell Actor
-      c = there.0
-
       is : IsCell m.plan.program c (s.cells t)
-      is = let l = low in cell_of_ticket t (t - m.first) c (omega (arith, l)) there.1
+      is = cell_of_ticket t (t - m.first) c (omega (arith, low)) there
 
       sent : sent_at m t ≡ c.outbox.sent
-      sent = ap sent_by (owned.cell_is m t low ∙ there.1)
+      sent = ap sent_by (owned.cell_is m t low ∙ there)
 
       by_place : (c.outbox.sent < k) ⊎ (k ≤ c.outbox.sent) → k ≤ sent_at m t
-      by_place (inl past) = absurd (none_not (sym (known.bounds.mails t k _ is.event (subst (λ j. j < k) (sym is.stands.sent) past)) ∙ at))
+      by_place (inl past) = absurd (none_not (sym ((now laws m start s stands).bounds.mails t k _ is.event (subst (λ j. j < k) (sym is.stands.sent) past)) ∙ at))
       by_place (inr within) = let same = sent in omega (arith, within, same)
+
+  -- a mail that is there has a number that was sent
+  number_sent : (t k : ℕ) (x : Mail Fields) → (s.cells t).mails k ≡ Some x → k ≤ sent_at m t
+  number_sent t k x at =
+      let known = now laws m start s stands in
+      let placed = mailed_is (plan_kind m.plan.program m.plan.script.hosts) m.plan.workers (begin_in m.plan start) m.plan.script.batches s known.bounds t k x at in
+      let above = placed.0 in
+      let under = placed.1 in
+      let before = stands.shows.head.before in
+      let admitted = stands.shows.head.admitted in
+      let many = stands.shows.cells.as_many in
+      let low : m.first ≤ t = omega (arith, above, before) in
+      let there = owned.slice_some m.cells (t - m.first) (omega (arith, under, above, before, admitted, many)) in
+      number_in t k x there.0 at low there.1
 
 -- what brings no cell, or has no mail of its own
 no_number : (a : Act) → grown a ≡ 1 → number_of a ≡ 0
@@ -138,9 +129,6 @@ no_number (Land t k p) e = absurd (omega (arith, e))
 no_number (Commit t) e = absurd (omega (arith, e))
 
 module _ (laws : Laws) (m m' : Kept) (l : Label) (on : IsEnabled m l) (stands' : Stands m' on.start on.next) where
-  abbrev t : ℕ
-  t = ticket_of l.act
-
   first_is : m'.first ≡ m.first
   first_is = sym stands'.shows.head.before ∙ ap suc (changes (plan_actors m.plan.program) m.plan.workers on.state on.next l on.enabled).before ∙ on.stands.shows.head.before
 

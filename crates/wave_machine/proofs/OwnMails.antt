@@ -94,7 +94,7 @@ module _ {A F R J : Type 0} (sys : Actors A F R J) (p : Path) (host : ℕ) (x : 
       let y = into_child p host d en f cs s false (hold_at d.event.held (p ++ s ∷ [])) in
       record { desk = y.0; more = more_child p host d en f cs s false (hold_at d.event.held (p ++ s ∷ [])); event = refl; mails = λ k. refl }
   from_pause en f cs peek Pause.Back =
-      let mail : Mail F = record { host = host_or (hold_at d.event.held (parent_of p)) host; path = parent_of p; letter = theory.Letter.Back } in
+      let mail : Mail F = record { host = host_or (hold_at d.event.held (parent_of p)) host; path = parent_of p; letter = theory.Back } in
       record { desk = send d mail; more = more_send d d mail (more_self d); event = refl; mails = λ k. refl }
   from_pause en f cs peek (Over r) = from_over (with_body en (Some (record { fields = f; children = cs }))) r (sys.moved r)
 

@@ -66,25 +66,23 @@ own_next m (Some t) part own = own_with m part t 0 own
 
 -- ---- by number, and by ticket
 module _ (stores : List Stores) (t : ℕ) where
+  abbrev by_mail : Cell Actor → ℕ → List Label
+  by_mail c k = mail_labels stores 0 t k (mail_in c.outbox.mails k)
+
   numbers_of : (c : Cell Actor) (n : ℕ) → c.outbox.sent ≤ n → ((j : ℕ) → c.outbox.sent < j → j ≤ n → asked_as stores t c j ≡ []) → flat_map (asked_as stores t c) (tickets_from 0 (1 + n)) ≡ asked_of stores t c
   numbers_of c n low none =
+      let f = asked_as stores t c in
       let sent = c.outbox.sent in
       let rest = n - sent in
       let more : 1 + n ≡ suc (sent + rest) = omega (arith, low) in
       ap (λ k. flat_map f (tickets_from 0 k)) more
-      ∙ ap (λ r. f 0 ++ r) (ap (flat_map f) (numbers_append 1 sent rest) ∙ flat_append f (tickets_from 1 sent) (tickets_from (1 + sent) rest) ∙ (λ i. mails i ++ past i) ∙ append-nil (flat_map g (tickets_from 1 c.outbox.sent)))
+      ∙ ap (λ r. f 0 ++ r) (ap (flat_map f) (numbers_append 1 sent rest) ∙ flat_append f (tickets_from 1 sent) (tickets_from (1 + sent) rest) ∙ (λ i. mails i ++ past i) ∙ append-nil (flat_map (by_mail c) (tickets_from 1 sent)))
     where
-      abbrev f : ℕ → List Label
-      f = asked_as stores t c
+      mails : flat_map (asked_as stores t c) (tickets_from 1 c.outbox.sent) ≡ flat_map (by_mail c) (tickets_from 1 c.outbox.sent)
+      mails = same_numbered (asked_as stores t c) (by_mail c) 1 c.outbox.sent (λ k l h. asked_mail stores t c k (λ e. omega (arith, e, l)))
 
-      abbrev g : ℕ → List Label
-      g k = mail_labels stores 0 t k (mail_in c.outbox.mails k)
-
-      mails : flat_map f (tickets_from 1 c.outbox.sent) ≡ flat_map g (tickets_from 1 c.outbox.sent)
-      mails = same_numbered f g 1 c.outbox.sent (λ k l h. asked_mail stores t c k (λ e. omega (arith, e, l)))
-
-      past : flat_map f (tickets_from (1 + c.outbox.sent) (n - c.outbox.sent)) ≡ []
-      past = same_numbered f (λ k. []) (1 + c.outbox.sent) (n - c.outbox.sent) (λ k l h. none k (omega (arith, l)) (omega (arith, h, low))) ∙ flat_none (λ k. []) (λ k. refl) (tickets_from (1 + c.outbox.sent) (n - c.outbox.sent))
+      past : flat_map (asked_as stores t c) (tickets_from (1 + c.outbox.sent) (n - c.outbox.sent)) ≡ []
+      past = same_numbered (asked_as stores t c) (λ k. []) (1 + c.outbox.sent) (n - c.outbox.sent) (λ k l h. none k (omega (arith, l)) (omega (arith, h, low))) ∙ flat_none (λ k. []) (λ k. refl) (tickets_from (1 + c.outbox.sent) (n - c.outbox.sent))
 
   numbers_by : (o : Option (Cell Actor)) → flat_map (λ k. slot_by stores t k o) (tickets_from 0 (numbers_in o)) ≡ asked_by stores t o
   numbers_by None = refl
@@ -218,42 +216,40 @@ module _ (m m' : Kept) (l : Label) (more : ℕ) (moves : Moves m m' l more) (gro
         not_less : (a b : ℕ) → (a < b → ⊥) → b ≤ a
         not_less a b h = omega (arith, h)
 
+    abbrev before : Option ℕ
+    before = next_at (path_of l.act) (slice_get m.stores l.host)
+
+    abbrev after : Option ℕ
+    after = next_at (path_of l.act) (slice_get m'.stores l.host)
+
+    -- what is listed anew, one after the other
+    abbrev status_new : ℕ → ℕ → List Label
+    status_new = with_slot (slot_at m) (ticket_of l.act) 0 (slot_at m' (ticket_of l.act) 0)
+
+    abbrev own_new : ℕ → ℕ → List Label
+    own_new = with_slot status_new (ticket_of l.act) (number_of l.act) (slot_at m' (ticket_of l.act) (number_of l.act))
+
+    abbrev mails_new : ℕ → ℕ → List Label
+    mails_new = with_above m' (ticket_of l.act) (sent_at m (ticket_of l.act)) own_new
+
+    abbrev before_new : ℕ → ℕ → List Label
+    before_new = with_next m' before mails_new
+
+    abbrev all_new : ℕ → ℕ → List Label
+    all_new = with_next m' after before_new
+
+    all_new_is : has_at (path_of l.act) (slice_get m'.stores l.host) ≡ has_at (path_of l.act) (slice_get m.stores l.host) → (u : ℕ) → m'.first ≤ u → u < m'.first + length m'.cells → (j : ℕ) → all_new u j ≡ slot_at m' u j
+    all_new_is here u low high j =
+        next_or m' before_new u j after (λ not_after. next_or m' mails_new u j before (λ not_before. above_or m' own_new u j (ticket_of l.act) (sent_at m (ticket_of l.act)) (λ not_above.
+        slot_or m' status_new u j (ticket_of l.act) (number_of l.act) (λ not_own. slot_or m' (slot_at m) u j (ticket_of l.act) 0 (λ not_status.
+        slots_are here u j low high not_above not_own not_status not_before not_after)))))
+
     near_by : (old new : List Ready) → has_at (path_of l.act) (slice_get m'.stores l.host) ≡ has_at (path_of l.act) (slice_get m.stores l.host)
-        → RelistsNear m' (ticket_of l.act) (number_of l.act) (sent_at m (ticket_of l.act)) (next_at (path_of l.act) (slice_get m.stores l.host)) (next_at (path_of l.act) (slice_get m'.stores l.host)) old new
-        → map by_none old ≡ in_order (by_part m (asked_at m)) → map by_none new ≡ in_order (by_part m' (asked_at m'))
+        → RelistsNear m' (ticket_of l.act) (number_of l.act) (sent_at m (ticket_of l.act)) before after old new → map by_none old ≡ in_order (by_part m (asked_at m)) → map by_none new ≡ in_order (by_part m' (asked_at m'))
     near_by old new here r e =
+        let numbers : ℕ → List ℕ = λ u. tickets_from 0 (numbers_in (cell_at m' u)) in
         r.parts (slot_at m) (own_slots m) (none_above (ticket_of l.act)) keeps.number (e ∙ ap in_order (sym wider_slots))
-        ∙ ap in_order (same_numbered (λ u. flat_map (four u) (numbers u)) (λ u. flat_map (slot_at m' u) (numbers u)) m'.first (length m'.cells) (λ u low high. flat_same (four u) (slot_at m' u) (each u low high) (numbers u)) ∙ by_slots m')
-      where
-        abbrev t : ℕ
-        t = ticket_of l.act
-
-        abbrev numbers : ℕ → List ℕ
-        numbers u = tickets_from 0 (numbers_in (cell_at m' u))
-
-        abbrev before : Option ℕ
-        before = next_at (path_of l.act) (slice_get m.stores l.host)
-
-        abbrev after : Option ℕ
-        after = next_at (path_of l.act) (slice_get m'.stores l.host)
-
-        abbrev one : ℕ → ℕ → List Label
-        one = with_slot (with_slot (slot_at m) t 0 (slot_at m' t 0)) t (number_of l.act) (slot_at m' t (number_of l.act))
-
-        abbrev two : ℕ → ℕ → List Label
-        two = with_above m' t (sent_at m t) one
-
-        abbrev three : ℕ → ℕ → List Label
-        three = with_next m' before two
-
-        abbrev four : ℕ → ℕ → List Label
-        four = with_next m' after three
-
-        each : (u : ℕ) → m'.first ≤ u → u < m'.first + length m'.cells → (j : ℕ) → four u j ≡ slot_at m' u j
-        each u low high j =
-            next_or m' three u j after (λ not_after. next_or m' two u j before (λ not_before. above_or m' one u j t (sent_at m t) (λ not_above.
-            slot_or m' (with_slot (slot_at m) t 0 (slot_at m' t 0)) u j t (number_of l.act) (λ not_own. slot_or m' (slot_at m) u j t 0 (λ not_status.
-            slots_are here u j low high not_above not_own not_status not_before not_after)))))
+        ∙ ap in_order (same_numbered (λ u. flat_map (all_new u) (numbers u)) (λ u. flat_map (slot_at m' u) (numbers u)) m'.first (length m'.cells) (λ u low high. flat_same (all_new u) (slot_at m' u) (all_new_is here u low high) (numbers u)) ∙ by_slots m')
 
 pub near_is : (m m' : Kept) (l : Label) (seen : Seen) (more : ℕ) → Taken m m' l seen more → (old new : List Ready) → has_at (path_of l.act) (slice_get m'.stores l.host) ≡ seen.here
     → RelistsNear m' (ticket_of l.act) (number_of l.act) seen.sent (option_map (λ (t : Ticket). t.0) seen.next) (next_at (path_of l.act) (slice_get m'.stores l.host)) old new
