@@ -89,7 +89,7 @@ module _ (stores : List Stores) (t : ℕ) where
   few_status status.Travelling = omega arith
   few_status (status.Waiting p) = by_place (place_in stores p)
     where
-      by_next : (h : ℕ) (b : Bool) → length (if b then record { worker = 0; host = h; act = Grant t p } ∷ [] else []) ≤ 1
+      by_next : (h : ℕ) (b : Bool) → length {A = Label} (if b then record { worker = 0; host = h; act = Grant t p } ∷ [] else []) ≤ 1
       by_next h true = omega arith
       by_next h false = omega arith
 
@@ -191,8 +191,8 @@ pub own_slots : (m : Kept) → AreOwn (slot_at m)
 own_slots m = record { own = own_slot m; one = one_slot m }
 
 -- what all slots ask for is what all tickets ask for
-pub slots_ask : (m : Kept) → by_slot m (slot_at m) ≡ by_part m (asked_at m)
-slots_ask m = flat_same (λ t. flat_map (slot_at m t) (tickets_from 0 (numbers_in (cell_at m t)))) (asked_at m) (λ t. by_cell t (cell_at m t)) (tickets_from m.first (length m.cells))
+pub by_slots : (m : Kept) → by_slot m (slot_at m) ≡ by_part m (asked_at m)
+by_slots m = flat_same (λ t. flat_map (slot_at m t) (tickets_from 0 (numbers_in (cell_at m t)))) (asked_at m) (λ t. by_cell t (cell_at m t)) (tickets_from m.first (length m.cells))
   where
     by_cell : (t : ℕ) (o : Option (Cell Actor)) → flat_map (λ k. slot_by m.stores t k o) (tickets_from 0 (numbers_in o)) ≡ asked_by m.stores t o
     by_cell t None = refl
@@ -252,20 +252,20 @@ module _ (row : ℕ → List Label) (own : (u : ℕ) → AllByRecursion (λ (l :
 
 -- ---- a ticket that is there
 module _ (m : Kept) (t : ℕ) (c : Cell Actor) (at : cell_at m t ≡ Some c) where
-  numbers : ℕ
+  abbrev numbers : ℕ
   numbers = 1 + c.outbox.sent
 
-  row : (ℕ → ℕ → List Label) → ℕ → List Label
+  abbrev row : (ℕ → ℕ → List Label) → ℕ → List Label
   row part u = flat_map (part u) (tickets_from 0 (numbers_in (cell_at m u)))
 
-  before : (ℕ → ℕ → List Label) → List Label
+  pub before : (ℕ → ℕ → List Label) → List Label
   before part = flat_map (row part) (tickets_from m.first (t - m.first))
 
-  behind : (ℕ → ℕ → List Label) → List Label
+  pub behind : (ℕ → ℕ → List Label) → List Label
   behind part = flat_map (row part) (tickets_from (suc t) (length m.cells - suc (t - m.first)))
 
-  split_at : (part : ℕ → ℕ → List Label) → by_slot m part ≡ before part ++ (flat_map (part t) (tickets_from 0 numbers) ++ behind part)
-  unfolding numbers row before behind
+  pub split_at : (part : ℕ → ℕ → List Label) → by_slot m part ≡ before part ++ (flat_map (part t) (tickets_from 0 numbers) ++ behind part)
+  unfolding before behind
   split_at part =
       let there = cell_there m t c at in
       let low = there.low in
@@ -277,17 +277,16 @@ module _ (m : Kept) (t : ℕ) (c : Cell Actor) (at : cell_at m t ≡ Some c) whe
   -- where another part is the same for all other tickets
   module _ (part new : ℕ → ℕ → List Label) (same : (u j : ℕ) → u ≢ t → new u j ≡ part u j) where
     same_row : (u : ℕ) → u ≢ t → row new u ≡ row part u
-    unfolding row
     same_row u d = flat_same (new u) (part u) (λ j. same u j d) (tickets_from 0 (numbers_in (cell_at m u)))
 
     same_before : before new ≡ before part
-    unfolding before row
+    unfolding before
     same_before =
         let low = (cell_there m t c at).low in
         same_numbered (row new) (row part) m.first (t - m.first) (λ u l h. same_row u (λ e. omega (arith, e, h, low)))
 
     same_behind : behind new ≡ behind part
-    unfolding behind row
+    unfolding behind
     same_behind = same_numbered (row new) (row part) (suc t) (length m.cells - suc (t - m.first)) (λ u l h. same_row u (λ e. omega (arith, e, l)))
 
     pub split_new : by_slot m new ≡ before part ++ (flat_map (new t) (tickets_from 0 numbers) ++ behind part)
@@ -295,13 +294,13 @@ module _ (m : Kept) (t : ℕ) (c : Cell Actor) (at : cell_at m t ≡ Some c) whe
 
   module _ (part : ℕ → ℕ → List Label) (own : AreOwn part) where
     pub before_below : (k : ℕ) → Below t k (before part)
-    unfolding before row
+    unfolding before
     before_below k =
         let low = (cell_there m t c at).low in
         tickets_below (row part) (λ u. own_row part own u (numbers_in (cell_at m u))) t k m.first (t - m.first) (omega (arith, low))
 
     pub behind_from : From (t + 1) 0 (behind part)
-    unfolding behind row
+    unfolding behind
     behind_from = tickets_behind (row part) (λ u. own_row part own u (numbers_in (cell_at m u))) t (suc t) (length m.cells - suc (t - m.first)) (omega arith)
 
 -- ---- all tickets, from the first on

@@ -57,6 +57,15 @@ module _ {X Y : Type 0} (f : X → Y) where
       let tail : map f xs ≡ low ++ y ∷ high = cc in
       λ i. head i ∷ but_one xs low y high tail i
 
+pub drop_one : {X : Type 0} (xs : List X) (i : ℕ) → drop 1 (drop i xs) ≡ drop (i + 1) xs
+drop_one xs i = let next : suc i ≡ i + 1 = omega arith in more xs i ∙ ap (λ n. drop n xs) next
+  where
+    more : {X : Type 0} (ys : List X) (j : ℕ) → drop 1 (drop j ys) ≡ drop (suc j) ys
+    more [] zero = refl
+    more [] (suc j) = refl
+    more (y ∷ ys) zero = refl
+    more (y ∷ ys) (suc j) = more ys j
+
 slice_of_map : {X Y : Type 0} (f : X → Y) (xs : List X) (i : ℕ) (x : X) → slice_get xs i ≡ Some x → slice_get (map f xs) i ≡ Some (f x)
 slice_of_map f [] i x e = cc
 slice_of_map f (y ∷ xs) zero x e = let same : y ≡ x = cc in ap (λ z. Some (f z)) same
@@ -85,12 +94,11 @@ module _ (kind t k : ℕ) where
   abbrev pub is_slot : Act → Bool
   is_slot a = (kind_of a == kind) && ((ticket_of a == t) && (number_of a == k))
 
-  first_is : List Label → Bool
+  abbrev first_is : List Label → Bool
   first_is [] = false
   first_is (l ∷ ls) = is_slot l.act
 
   at_place : (old : List Ready) (low rest : List Label) → map by_none old ≡ low ++ rest → is_of kind t k (slice_get old (length low)) ≡ first_is rest
-  unfolding first_is
   at_place [] [] [] e = refl
   at_place [] [] (l ∷ rest) e = cc
   at_place (r ∷ old) [] [] e = cc
@@ -106,11 +114,9 @@ module _ (kind t k : ℕ) where
   -- what stands there is the only one, and there is none where another stands there
   pub cut_hit : (old : List Ready) (at : ℕ) (low own high : List Label) → at ≡ length low → map by_none old ≡ low ++ (own ++ high) → length own ≤ 1 → AllByRecursion (λ (l : Label). is_slot l.act ≡ false) high
       → is_of kind t k (slice_get old at) ≡ true → map by_none (take at old ++ drop (at + 1) old) ≡ low ++ high
-  unfolding first_is
   cut_hit old at low [] high e all few none hit = absurd (true≢false (sym hit ∙ ap (λ i. is_of kind t k (slice_get old i)) e ∙ at_place old low high all ∙ first high none))
     where
       first : (ls : List Label) → AllByRecursion (λ (l : Label). is_slot l.act ≡ false) ls → first_is ls ≡ false
-      unfolding first_is
       first [] a = refl
       first (l ∷ ls) a = a.0
   cut_hit old at low (l ∷ []) high e all few none hit =
@@ -120,6 +126,5 @@ module _ (kind t k : ℕ) where
 
   pub cut_miss : (old : List Ready) (at : ℕ) (low own high : List Label) → at ≡ length low → map by_none old ≡ low ++ (own ++ high) → AllByRecursion (λ (l : Label). is_slot l.act ≡ true) own
       → is_of kind t k (slice_get old at) ≡ false → map by_none old ≡ low ++ high
-  unfolding first_is
   cut_miss old at low [] high e all own miss = all
   cut_miss old at low (l ∷ ls) high e all own miss = absurd (true≢false (sym own.0 ∙ sym (at_place old low (l ∷ (ls ++ high)) all) ∙ ap (λ i. is_of kind t k (slice_get old i)) (sym e) ∙ miss))

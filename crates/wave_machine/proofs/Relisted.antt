@@ -1,5 +1,5 @@
 -- What is put for a ticket, and taken out, in a list by kinds.
-use Rattle.std.proofs.Common.{◌≡◌, ◌≢◌, ◌∙◌, ◌⊎◌, inl, inr, ℕ, zero, suc, ◌+◌, ◌-◌, ◌<◌, ◌≤◌, ◌==◌, ◌&&◌, Bool, true, false, cond, not, List, [], ◌∷◌, ◌++◌, length, map, take, Option, Some, None, refl, sym, ap, subst, arith, append_assoc, append-nil, true≢false}
+use Rattle.std.proofs.Common.{◌≡◌, ◌≢◌, ◌∙◌, ◌⊎◌, inl, inr, ℕ, zero, suc, ◌+◌, ◌-◌, ◌<◌, ◌≤◌, ◌==◌, ◌&&◌, Bool, true, false, cond, not, List, [], ◌∷◌, ◌++◌, length, map, get_or, take, Option, Some, None, refl, sym, ap, subst, arith, append_assoc, append-nil, true≢false}
 use Rattle.std.specs.Prelude.{flat_map, filter, nat_lt, nat_eq, slice_get}
 use Rattle.std.specs.List.{AllByRecursion}
 use Rattle.std.proofs.lemmas.Bool.Decides.{nat_tests}
@@ -203,9 +203,17 @@ pub outs_last : (t k : ℕ) (old new : List Ready) → Outs (kinds_at k) t k old
 outs_last t k old new o = record { parts = λ u x v a own few b e. o.parts u x v a own few b e
     ∙ ap (λ r. in_order (u ++ (r ++ v))) (none_left (kinds_at k) x (all_map (λ (l : Label). IsIn (kinds_at k) (kind_of l.act)) (IsOwn t k) (λ l h. h.kind) x own)) }
 
-pub kinds_few : (k : ℕ) → AllByRecursion (λ kind. kind < 10) (kinds_at k)
+kinds_few : (k : ℕ) → AllByRecursion (λ kind. kind < 10) (kinds_at k)
 kinds_few zero = (omega arith, (omega arith, tt))
 kinds_few (suc k) = (omega arith, (omega arith, (omega arith, (omega arith, (omega arith, tt)))))
+
+all_read : (P : ℕ → Type 0) (xs : List ℕ) (i : ℕ) → i < length xs → AllByRecursion P xs → P (get_or xs i 0)
+all_read P [] i l a = absurd (omega (arith, l))
+all_read P (x ∷ xs) zero l a = a.0
+all_read P (x ∷ xs) (suc i) l a = all_read P xs i (omega (arith, l)) a.1
+
+pub kind_few : (k i : ℕ) → i < length (kinds_at k) → get_or (kinds_at k) i 0 < 10
+kind_few k i l = all_read (λ kind. kind < 10) (kinds_at k) i l (kinds_few k)
 
 -- ---- the head's, which are the first kind and the last
 abbrev pub IsFirst : Label → Type 0

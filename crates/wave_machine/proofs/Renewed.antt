@@ -26,7 +26,7 @@ use Rattle.wave_machine.specs.inner.Asking.{IsNumbered, in_order, mail_labels}
 use Rattle.wave_machine.specs.inner.Index.{AreOwn, Below, Cuts, From, Goes, IsBelow, IsFrom, IsOwn, Lists, ListsNew, Relists, RelistsNear, RelistsNext, RelistsOwn, asked_as, by_none, by_slot, cell_at, numbers_in, slot_at, share_of, slot_by, with_above, with_next, with_own, with_slot}
 use Rattle.wave_machine.proofs.ListingLists.{by_number, find_apart, find_first, flat_none, flat_same, less_is}
 use Rattle.wave_machine.proofs.Ordering.{all_append, all_flat, all_map, flat_append, middle_of, numbers_append, same_numbered}
-use Rattle.wave_machine.proofs.Owned.{at_slot, before, before_below, behind, behind_from, cell_is, numbers, numbers_below, numbers_from, one_slot, other_number, other_ticket, own_as, own_mail, own_next, own_slot, own_with, split_at, split_new}
+use Rattle.wave_machine.proofs.Owned.{at_slot, before, before_below, behind, behind_from, numbers_below, numbers_from, one_slot, other_number, other_ticket, own_as, own_mail, own_next, own_slot, own_with, split_at, split_new}
 use Rattle.wave_machine.proofs.Relisted.{later_from, own_goes}
 
 -- ---- parts that are the same for each number that a ticket has
@@ -80,7 +80,6 @@ module _ (m : Kept) (t k : ℕ) (c : Cell Actor) (at : cell_at m t ≡ Some c) (
   ls = asked_as m.stores t c k
 
   relists_by : (part : ℕ → ℕ → List Label) → AreOwn part → (a x b : List Label) → Divided part t k (1 + c.outbox.sent) ls a x b → map by_none old ≡ in_order (by_slot m part) → map by_none new ≡ in_order (by_slot m (with_slot part t k ls))
-  unfolding numbers
   relists_by part own a x b d e =
       let first = before m t c at part in
       let last = behind m t c at part in
@@ -131,7 +130,7 @@ module _ {E : Type 0} where
   find_drop (suc n) [] k a = refl
   find_drop (suc n) (e ∷ es) k a = let up = a.0 in find_drop n es k a.1 ∙ sym (find_apart e es k (λ h. omega (arith, h, up)))
 
-  sorted_drop : (n : ℕ) (es : List (ℕ × E)) → IsStrictlySortedBy nat_cmp (keys_of es) → IsStrictlySortedBy nat_cmp (keys_of (drop n es))
+  pub sorted_drop : (n : ℕ) (es : List (ℕ × E)) → IsStrictlySortedBy nat_cmp (keys_of es) → IsStrictlySortedBy nat_cmp (keys_of (drop n es))
   unfolding IsStrictlySortedBy
   sorted_drop zero es s = s
   sorted_drop (suc n) [] s = s
@@ -187,6 +186,12 @@ module _ (stores : List Stores) (t : ℕ) where
       ∙ same_numbered (λ k. mail_labels stores 0 t k (mail_in last k)) (λ k. mail_labels stores 0 t k (mail_in o.mails k)) (n + 1) (o.sent - n) (λ k low high. ap (mail_labels stores 0 t k) (found k (omega (arith, low))))
 
 -- ---- the mails that are new
+-- a row of numbers that gets some more at its end
+record Rows (old new : ℕ → List Label) (t k n : ℕ) (a x : List Label) : Type 0 where
+  pub was : flat_map old (tickets_from 0 n) ≡ a
+  pub is : flat_map new (tickets_from 0 n) ≡ a ++ x
+  pub below : Below t k a
+
 module _ (m : Kept) (t n : ℕ) where
   new_mail : (part : ℕ → ℕ → List Label) (j : ℕ) → n < j → with_above m t n part t j ≡ slot_at m t j
   new_mail part j l = let up : nat_lt n j ≡ true = grind (arith, nat_tests) in ap (λ b. if b then slot_at m t j else part t j) (λ i. number_self t i && up i)
@@ -206,24 +211,18 @@ module _ (m : Kept) (t n : ℕ) where
     asks zero l = absurd (omega (arith, l))
     asks (suc j) l = ap (slot_by m.stores t (suc j)) at
 
-    -- the row of its numbers, before and after
-    record Rows (part : ℕ → ℕ → List Label) (a : List Label) : Type 0 where
-      pub old : flat_map (part t) (tickets_from 0 (1 + c.outbox.sent)) ≡ a
-      pub new : flat_map (with_above m t n part t) (tickets_from 0 (1 + c.outbox.sent)) ≡ a ++ x
-      pub below : Below t (n + 1) a
-
-    rows_same : (part : ℕ → ℕ → List Label) → AreOwn part → c.outbox.sent ≤ n → Rows part (flat_map (part t) (tickets_from 0 (1 + c.outbox.sent)))
+    rows_same : (part : ℕ → ℕ → List Label) → AreOwn part → c.outbox.sent ≤ n → Rows (part t) (with_above m t n part t) t (n + 1) (1 + c.outbox.sent) (flat_map (part t) (tickets_from 0 (1 + c.outbox.sent))) x
     rows_same part own l =
         let none : c.outbox.sent - n ≡ 0 = omega (arith, l) in
         let empty : x ≡ [] = are ∙ ap (λ k. flat_map (λ k. mail_labels m.stores 0 t k (mail_in c.outbox.mails k)) (tickets_from (n + 1) k)) none in
         let whole = flat_map (part t) (tickets_from 0 (1 + c.outbox.sent)) in
         record {
-          old = refl;
-          new = same_numbered (with_above m t n part t) (part t) 0 (1 + c.outbox.sent) (λ j low high. old_mail part j (omega (arith, high, l))) ∙ sym (append-nil whole) ∙ ap (λ r. whole ++ r) (sym empty);
+          was = refl;
+          is = same_numbered (with_above m t n part t) (part t) 0 (1 + c.outbox.sent) (λ j low high. old_mail part j (omega (arith, high, l))) ∙ sym (append-nil whole) ∙ ap (λ r. whole ++ r) (sym empty);
           below = numbers_below part own t (n + 1) 0 (1 + c.outbox.sent) (omega (arith, l));
         }
 
-    rows_more : (part : ℕ → ℕ → List Label) → AreOwn part → ((j : ℕ) → n < j → part t j ≡ []) → n ≤ c.outbox.sent → Rows part (flat_map (part t) (tickets_from 0 (n + 1)))
+    rows_more : (part : ℕ → ℕ → List Label) → AreOwn part → ((j : ℕ) → n < j → part t j ≡ []) → n ≤ c.outbox.sent → Rows (part t) (with_above m t n part t) t (n + 1) (1 + c.outbox.sent) (flat_map (part t) (tickets_from 0 (n + 1))) x
     rows_more part own gone l =
         let many : 1 + c.outbox.sent ≡ (n + 1) + (c.outbox.sent - n) = omega (arith, l) in
         let here : 0 + (n + 1) ≡ n + 1 = omega arith in
@@ -236,21 +235,20 @@ module _ (m : Kept) (t n : ℕ) where
         let rest : flat_map (with_above m t n part t) (tickets_from (n + 1) (c.outbox.sent - n)) ≡ x =
         same_numbered (with_above m t n part t) (λ k. mail_labels m.stores 0 t k (mail_in c.outbox.mails k)) (n + 1) (c.outbox.sent - n) (λ j low high. new_mail part j (omega (arith, low)) ∙ asks j (omega (arith, low))) ∙ sym are in
         record {
-          old = split (part t) ∙ ap (λ r. first ++ r) none ∙ append-nil first;
-          new = split (with_above m t n part t) ∙ (λ i. start i ++ rest i);
+          was = split (part t) ∙ ap (λ r. first ++ r) none ∙ append-nil first;
+          is = split (with_above m t n part t) ∙ (λ i. start i ++ rest i);
           below = numbers_below part own t (n + 1) 0 (n + 1) (omega arith);
         }
 
-    new_by : (part : ℕ → ℕ → List Label) → AreOwn part → (a : List Label) → Rows part a → map by_none old ≡ in_order (by_slot m part) → map by_none new ≡ in_order (by_slot m (with_above m t n part))
-    unfolding numbers
+    new_by : (part : ℕ → ℕ → List Label) → AreOwn part → (a : List Label) → Rows (part t) (with_above m t n part t) t (n + 1) (1 + c.outbox.sent) a x → map by_none old ≡ in_order (by_slot m part) → map by_none new ≡ in_order (by_slot m (with_above m t n part))
     new_by part own a r e =
         let first = before m t c at part in
         let last = behind m t c at part in
         let u = first ++ a in
         let below : Below t (n + 1) u = all_append (IsBelow t (n + 1)) first a (before_below m t c at part own (n + 1)) r.below in
-        let was : by_slot m part ≡ u ++ last = split_at m t c at part ∙ ap (λ r. first ++ (r ++ last)) r.old ∙ sym (append_assoc first a last) in
+        let was : by_slot m part ≡ u ++ last = split_at m t c at part ∙ ap (λ r. first ++ (r ++ last)) r.was ∙ sym (append_assoc first a last) in
         let is : by_slot m (with_above m t n part) ≡ (u ++ x) ++ last =
-        split_new m t c at part (with_above m t n part) (λ w j apart. other_mails part w j apart) ∙ ap (λ r. first ++ (r ++ last)) r.new ∙ sym (append_assoc first (a ++ x) last) ∙ ap (λ r. r ++ last) (sym (append_assoc first a x)) in
+        split_new m t c at part (with_above m t n part) (λ w j apart. other_mails part w j apart) ∙ ap (λ r. first ++ (r ++ last)) r.is ∙ sym (append_assoc first (a ++ x) last) ∙ ap (λ r. r ++ last) (sym (append_assoc first a x)) in
         lists.parts u last below (behind_from m t c at part own) (e ∙ ap in_order was) ∙ ap in_order (sym is)
 
     pub new_at : ListsNew m t n old new
@@ -259,8 +257,8 @@ module _ (m : Kept) (t n : ℕ) where
       | inr l ↦ new_by part own _ (rows_same part own l) e
     ] }
 
-pub own_above : (m : Kept) (t n : ℕ) (part : ℕ → ℕ → List Label) → AreOwn part → AreOwn (with_above m t n part)
-own_above m t n part own = record {
+pub own_above : (m : Kept) (part : ℕ → ℕ → List Label) (t n : ℕ) → AreOwn part → AreOwn (with_above m t n part)
+own_above m part t n own = record {
   own = λ u j. above_or (λ u j ls. AllByRecursion (IsOwn u j) ls) u j (own_slot m t j) (own.own u j);
   one = λ u j. above_or (λ u j ls. length ls ≤ 1) u j (one_slot m t j) (own.one u j);
 }
@@ -295,7 +293,7 @@ near m t k n before after a b c d e first second third fourth = record { parts =
     let one = with_own m t k part in
     let own_one = own_with m (with_slot part t 0 (slot_at m t 0)) t k (own_with m part t 0 own) in
     let two = with_above m t n one in
-    let own_two = own_above m t n one own_one in
+    let own_two = own_above m one t n own_one in
     fourth.parts (with_next m before two) (own_next m before two own_two) (third.parts two own_two (second.parts one own_one (λ j past. still part gone l j past) (first.parts part own is))) }
   where
     still : (part : ℕ → ℕ → List Label) → ((j : ℕ) → n < j → part t j ≡ []) → k ≤ n → (j : ℕ) → n < j → with_own m t k part t j ≡ []

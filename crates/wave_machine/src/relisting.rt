@@ -149,9 +149,9 @@ impl<'p> Engine<'p> {
         requires listable { IsListable (kept_of self.now) }
         requires taken { (m : Kept) × (more : ℕ) × Taken m (kept_of self.now) (label_of label.now) seen more × (map by_none index.old.items ≡ in_order (by_part m (asked_at m))) }
         requires done { AreDone (kept_of self.now) done }
-        requires room { vec_len index.old + 3 * weight_of self.now.cells.items ≤ vec_capacity index.old }
+        requires room { vec_len index.old + (4 + weight_of self.now.cells.items) ≤ vec_capacity index.old }
         ensures all { map by_none index.new.items ≡ in_order (by_part (kept_of self.now) (asked_at (kept_of self.now))) }
-        ensures len { vec_len index.new ≤ vec_len index.old + 3 * weight_of self.now.cells.items }
+        ensures len { vec_len index.new ≤ vec_len index.old + (4 + weight_of self.now.cells.items) }
         ensures capacity { vec_capacity index.new ≡ vec_capacity index.old }
     {
         let path = path_of(&label.act);
@@ -272,7 +272,10 @@ fn first_above(mails: &[(u32, Envelope)], number: u32) -> usize
     ensures below { IsStrictlySortedBy nat_cmp (keys_of mails.now) → AllByRecursion (λ m. m.0 ≤ number) (take result mails.now) }
 {
     let mut first = mails.len();
-    while first > 0 && mails[first - 1].0 > number {
+    while first > 0 {
+        if mails[first - 1].0 <= number {
+            return first;
+        }
         first -= 1;
     }
     first
