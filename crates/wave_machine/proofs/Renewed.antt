@@ -1,5 +1,5 @@
 -- What a ticket has in the list, listed anew: one slot, or the mails past a number.
-use Rattle.std.proofs.Common.{◌≡◌, ◌≢◌, ◌∙◌, ◌⊎◌, inl, inr, ℕ, zero, suc, ◌&&◌, ◌+◌, ◌-◌, ◌<◌, ◌≤◌, ◌==◌, Bool, true, false, List, [], ◌∷◌, ◌++◌, length, map, take, drop, Option, Some, None, refl, sym, ap, subst, arith, append_assoc, append-nil}
+use Rattle.std.proofs.Common.{◌≡◌, ◌≢◌, ◌∙◌, ◌⊎◌, inl, inr, ℕ, zero, suc, ◌&&◌, ◌+◌, ◌-◌, ◌<◌, ◌≤◌, ◌==◌, Bool, true, false, List, [], ◌∷◌, ◌++◌, length, map, take, drop, Option, Some, None, refl, sym, ap, subst, arith, append_assoc, append-nil, length-drop}
 use Rattle.std.specs.Prelude.{flat_map, if◌then◌else◌, nat_lt, slice_get}
 use Rattle.std.specs.List.{AllByRecursion}
 use Rattle.std.specs.List.Sorted.{IsStrictlySortedBy}
@@ -8,6 +8,7 @@ use Rattle.std.specs.Map.{keys_of, lookup}
 use Rattle.std.specs.Ordering.{nat_cmp}
 use Rattle.std.specs.declared.cmp.Ordering.TheVariants.{Less}
 use Rattle.std.proofs.lemmas.Bool.{cases_lt}
+use Rattle.std.proofs.lemmas.List.{take_all}
 use Rattle.std.proofs.lemmas.Bool.Decides.{nat_tests}
 use Rattle.wave_base.specs.Fold.{tickets_from}
 use Rattle.event_cells.specs.declared.cell.Cell.{Cell}
@@ -120,6 +121,10 @@ pub next_some : (m : Kept) (t : ℕ) (old new : List Ready) → Relists m t 0 ol
 next_some m t old new r = record { parts = r.parts }
 
 -- ---- mails whose numbers are above one
+-- a list from a place on
+pub rest_is : {X : Type 0} (xs : List X) (i : ℕ) → take (length xs - i) (drop i xs) ≡ drop i xs
+rest_is xs i = take_all (length xs - i) (drop i xs) (omega (arith, length-drop i xs))
+
 module _ {E : Type 0} where
   none_low : (es : List (ℕ × E)) (k : ℕ) → AllByRecursion (λ e. k < e.0) es → lookup (is_at (nat_cmp k)) es ≡ None
   none_low [] k a = refl
@@ -159,6 +164,16 @@ module _ {E : Type 0} where
   before_it low [] i x at s a = cc
   before_it low (e ∷ es) zero x at s a = tt
   before_it low (e ∷ es) (suc i) x at s a = ((a.0, less_is e.0 x.0 (key_at (λ y. nat_cmp e.0 y ≡ Less) es i x at s.0)), before_it low es i x at s.1 a.1)
+
+  -- up to one, and from one on
+  pub up_to_it : (n : ℕ) (es : List (ℕ × E)) (i : ℕ) (x : ℕ × E) → slice_get es i ≡ Some x → IsStrictlySortedBy nat_cmp (keys_of es) → x.0 ≤ n → AllByRecursion (λ e. e.0 ≤ n) (take (i + 1) es)
+  unfolding IsStrictlySortedBy
+  up_to_it n es i x at s l = let next : suc i ≡ i + 1 = omega arith in subst (λ j. AllByRecursion (λ e. e.0 ≤ n) (take j es)) next (each es i at s)
+    where
+      each : (ys : List (ℕ × E)) (j : ℕ) → slice_get ys j ≡ Some x → IsStrictlySortedBy nat_cmp (keys_of ys) → AllByRecursion (λ e. e.0 ≤ n) (take (suc j) ys)
+      each [] j at s = cc
+      each (e ∷ ys) zero at s = let same : e ≡ x = cc in (subst (λ (y : ℕ × E). y.0 ≤ n) (sym same) l, tt)
+      each (e ∷ ys) (suc j) at s = let less = less_is e.0 x.0 (key_at (λ y. nat_cmp e.0 y ≡ Less) ys j x at s.0) in (omega (arith, less, l), each ys j at s.1)
 
 module _ (stores : List Stores) (t : ℕ) where
   pub own_mail_at : (k : ℕ) → 0 < k → (o : Option Envelope) → AllByRecursion (IsOwn t k) (mail_labels stores 0 t k o)
