@@ -33,11 +33,11 @@ admit_goes h b inner = by_next (next_ticket h)
   where
     by_next : (o : Option Ticket) → Goes (label_at 0 0 (option_map (λ t. Admit t.0) o)) [] b
     by_next None = tt
-    by_next (Some t) = (refl, (tt, all_map (High 0 (t.0 + 1)) IsInner (λ l x e. absurd (omega (arith, x.0, e))) b inner))
+    by_next (Some t) = (refl, (tt, all_map (High 0 t.0 0) IsInner (λ l x e. absurd (omega (arith, x.0, e))) b inner))
 
 pub commit_goes : (m : Kept) (a : List Label) → AllByRecursion IsFirst a → (b : List Label) → AllByRecursion IsInner b → Goes (commit_labels 0 (m.first + length m.settled.results) m.commits) a b
 commit_goes m a firsts b inner = by_ready (ready_result m.commits)
   where
     by_ready : (o : Option EventResult) → Goes (label_at 0 0 (option_map (λ r. Commit (m.first + length m.settled.results)) o)) a b
     by_ready None = tt
-    by_ready (Some r) = (refl, (all_map (Low 9 (m.first + length m.settled.results + 1)) IsFirst (λ l x e. absurd (omega (arith, x, e))) a firsts, all_map (High 9 (m.first + length m.settled.results + 1)) IsInner (λ l x e. absurd (omega (arith, x.1, e))) b inner))
+    by_ready (Some r) = (refl, (all_map (Low 9 (m.first + length m.settled.results) 0) IsFirst (λ l x e. absurd (omega (arith, x, e))) a firsts, all_map (High 9 (m.first + length m.settled.results) 0) IsInner (λ l x e. absurd (omega (arith, x.1, e))) b inner))

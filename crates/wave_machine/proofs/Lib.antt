@@ -48,6 +48,7 @@ pub mod Parting
 pub mod Ordering
 pub mod Relisted
 pub mod Owned
+pub mod Renewed
 pub mod Heads
 pub mod Elsewhere
 pub mod Weighing

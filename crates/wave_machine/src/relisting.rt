@@ -13,7 +13,7 @@ ghost use Rattle.wave_theory.specs.Listed.{kind_of};
 ghost use Rattle.wave_machine.specs.Machines.{Kept};
 ghost use Rattle.wave_machine.specs.inner.Asking.{in_order, labels_in, mail_labels, IsListable, IsNumbered};
 ghost use Rattle.wave_machine.specs.inner.Done.{AreDone};
-ghost use Rattle.wave_machine.specs.inner.Index.{Lists, ListsNew, Relists, RelistsNear, RelistsNext, Taken, asked_as, asked_at, asked_of, by_none, by_part, cell_at, has_at, head_in, held_at, next_at, next_of, number_of, sent_at, share_at, share_of, weight_of};
+ghost use Rattle.wave_machine.specs.inner.Index.{Lists, ListsNew, Relists, RelistsNear, RelistsNext, RelistsOwn, Taken, asked_as, asked_at, asked_of, by_none, by_part, cell_at, has_at, head_in, held_at, next_at, next_of, number_of, sent_at, share_at, share_of, weight_of};
 
 use crate::actor::Actor;
 use crate::engine::Engine;
@@ -55,14 +55,24 @@ impl<'p> Engine<'p> {
         ensures capacity { vec_capacity index.new ≡ vec_capacity index.old }
     {
         let ticket = ticket_of(&label.act);
-        self.relist_slot(ticket, 0, index);
-        let number = number_of(&label.act);
-        if number != 0 {
-            self.relist_slot(ticket, number, index);
-        }
+        self.relist_own(ticket, number_of(&label.act), index);
         self.list_new(ticket, seen.sent, index);
         self.relist_next(seen.next, index);
         self.relist_next(self.next_at(label.host, &path_of(&label.act)), index);
+    }
+
+    // Lists anew what the status of a ticket asks for, and one of its mails; number 0 where there is none.
+    fn relist_own(&self, ticket: Ticket, number: u32, index: &mut Vec<Ready>)
+        requires listable { IsListable (kept_of self.now) }
+        requires room { vec_len index.old + 2 ≤ vec_capacity index.old }
+        ensures relists { RelistsOwn (kept_of self.now) ticket.0 number index.old.items index.new.items }
+        ensures len { vec_len index.new ≤ vec_len index.old + 2 }
+        ensures capacity { vec_capacity index.new ≡ vec_capacity index.old }
+    {
+        self.relist_slot(ticket, 0, index);
+        if number != 0 {
+            self.relist_slot(ticket, number, index);
+        }
     }
 
     // Lists anew what a number of a ticket asks for.
@@ -139,9 +149,9 @@ impl<'p> Engine<'p> {
         requires listable { IsListable (kept_of self.now) }
         requires taken { (m : Kept) × (more : ℕ) × Taken m (kept_of self.now) (label_of label.now) seen more × (map by_none index.old.items ≡ in_order (by_part m (asked_at m))) }
         requires done { AreDone (kept_of self.now) done }
-        requires room { vec_len index.old + 3 * weight_of self.now.cells.items ≤ vec_capacity index.old }
+        requires room { vec_len index.old + (4 + weight_of self.now.cells.items) ≤ vec_capacity index.old }
         ensures all { map by_none index.new.items ≡ in_order (by_part (kept_of self.now) (asked_at (kept_of self.now))) }
-        ensures len { vec_len index.new ≤ vec_len index.old + 3 * weight_of self.now.cells.items }
+        ensures len { vec_len index.new ≤ vec_len index.old + (4 + weight_of self.now.cells.items) }
         ensures capacity { vec_capacity index.new ≡ vec_capacity index.old }
     {
         let path = path_of(&label.act);
@@ -262,7 +272,10 @@ fn first_above(mails: &[(u32, Envelope)], number: u32) -> usize
     ensures below { IsStrictlySortedBy nat_cmp (keys_of mails.now) → AllByRecursion (λ m. m.0 ≤ number) (take result mails.now) }
 {
     let mut first = mails.len();
-    while first > 0 && mails[first - 1].0 > number {
+    while first > 0 {
+        if mails[first - 1].0 <= number {
+            return first;
+        }
         first -= 1;
     }
     first

@@ -178,6 +178,13 @@ pub record AreOwn (part : ℕ → ℕ → List Label) : Type 0 where
 pub record Relists (m : Kept) (t k : ℕ) (old new : List Ready) : Type 0 where
   pub parts : (part : ℕ → ℕ → List Label) → AreOwn part → map by_none old ≡ in_order (by_slot m part) → map by_none new ≡ in_order (by_slot m (with_slot part t k (slot_at m t k)))
 
+-- what its status asks for, and one of its mails (number 0 where there is none)
+abbrev pub with_own : Kept → ℕ → ℕ → (ℕ → ℕ → List Label) → ℕ → ℕ → List Label
+with_own m t k part = with_slot (with_slot part t 0 (slot_at m t 0)) t k (slot_at m t k)
+
+pub record RelistsOwn (m : Kept) (t k : ℕ) (old new : List Ready) : Type 0 where
+  pub parts : (part : ℕ → ℕ → List Label) → AreOwn part → map by_none old ≡ in_order (by_slot m part) → map by_none new ≡ in_order (by_slot m (with_own m t k part))
+
 -- of the next in a line its status, where there is one
 abbrev pub with_next : Kept → Option ℕ → (ℕ → ℕ → List Label) → ℕ → ℕ → List Label
 with_next m None part = part
@@ -198,7 +205,7 @@ pub record ListsNew (m : Kept) (t n : ℕ) (old new : List Ready) : Type 0 where
 -- for, what that mail asks for, what the mails sent by it ask for, and what the statuses of who was and is next ask for.
 pub record RelistsNear (m : Kept) (t k n : ℕ) (before after : Option ℕ) (old new : List Ready) : Type 0 where
   pub parts : (part : ℕ → ℕ → List Label) → AreOwn part → ((j : ℕ) → n < j → part t j ≡ []) → k ≤ n → map by_none old ≡ in_order (by_slot m part)
-      → map by_none new ≡ in_order (by_slot m (with_next m after (with_next m before (with_above m t n (with_slot (with_slot part t 0 (slot_at m t 0)) t k (slot_at m t k))))))
+      → map by_none new ≡ in_order (by_slot m (with_next m after (with_next m before (with_above m t n (with_own m t k part)))))
 
 -- what the head asks for
 abbrev pub head_in : Kept → List Label
