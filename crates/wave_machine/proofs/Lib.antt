@@ -60,3 +60,5 @@ pub mod Unasked
 pub mod Bridged
 pub mod Grows
 pub mod Roomier
+pub mod OwnMails
+pub mod KeptMails

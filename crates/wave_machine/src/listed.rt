@@ -134,15 +134,13 @@ impl<'p> Listed<'p> {
         self.engine.prepare(alloc, label)
     }
 
-    // Makes room for what a label may add to the index: of each of three tickets that are listed anew its share, and the head's entries.
+    // Makes room for what a label lists anew: all tickets, or a few entries and those of the mails that came; and the head's entries.
     fn reserve(&mut self, more: usize) -> Result<(), OutOfMemory>
         ensures room { OnOk result (HasRoom self.new more) }
         ensures same { SameList self.old self.new }
     {
-        let most = self.weight.checked_add(more).ok_or(OutOfMemory)?;
-        let most = most.checked_add(2).ok_or(OutOfMemory)?;
-        let room = most.checked_mul(3).ok_or(OutOfMemory)?;
-        let room = room.checked_add(2).ok_or(OutOfMemory)?;
+        let room = self.weight.checked_add(more).ok_or(OutOfMemory)?;
+        let room = room.checked_add(8).ok_or(OutOfMemory)?;
         self.index.reserve(room)?;
         Ok(())
     }
@@ -158,6 +156,7 @@ impl<'p> Listed<'p> {
         ensures plan { self.new.engine.plan ≡ self.old.engine.plan }
         ensures listed { IsListed self.new }
     {
+        states_are_known();
         done_stays();
         let seen = self.look(label.host, ticket_of(&label.act), &path_of(&label.act));
         self.engine.act(label, part);
@@ -178,6 +177,7 @@ impl<'p> Listed<'p> {
         ensures plan { self.new.engine.plan ≡ self.old.engine.plan }
         ensures listed { IsListed self.new }
     {
+        states_are_known();
         done_stays();
         let seen = self.look(label.host, ticket_of(&label.act), &path_of(&label.act));
         let lease = self.engine.act_start(label, part);

@@ -24,7 +24,7 @@ use Rattle.wave_machine.specs.Ending.{is_done}
 use Rattle.wave_machine.specs.Keeping.{kept_of}
 use Rattle.wave_machine.specs.Machines.{Kept, Stands, TheState}
 use Rattle.wave_machine.specs.inner.Apart.{Moves, grown}
-use Rattle.wave_machine.specs.inner.Asking.{admit_labels, commit_labels, in_order, label_at, mail_labels, mails_labels, status_labels}
+use Rattle.wave_machine.specs.inner.Asking.{IsNumbered, admit_labels, commit_labels, in_order, label_at, mail_labels, mails_labels, status_labels}
 use Rattle.wave_machine.specs.inner.Done.{AreDone}
 
 -- as worker 0 takes it
@@ -275,9 +275,10 @@ pub record IsListed (x : Listed) : Type 0 where
   pub done : AreDone (kept_of x.engine) x.done
   pub weight : weight_of (kept_of x.engine).cells ≤ x.weight
 
--- room for three tickets that are listed anew, and for the head
+-- Room for what a label lists anew: what the status and the mail of its ticket, and the statuses of who was and is next, ask for; what
+-- the mails ask for that came, or all; and the head.
 pub record HasRoom (x : Listed) (more : ℕ) : Type 0 where
-  pub room : vec_len x.index + (3 * (x.weight + more + 2) + 2) ≤ vec_capacity x.index
+  pub room : vec_len x.index + (x.weight + more + 8) ≤ vec_capacity x.index
   pub fits : x.weight + more + 2 < 2 ^ 64
 
 -- ---- what is looked at before a label is taken
@@ -312,6 +313,7 @@ pub record Taken (m m' : Kept) (l : Label) (seen : Seen) (more : ℕ) : Type 0 w
   pub stands : (start : Start) × (s : TheState) × Stands m' start s
   pub moves : Moves m m' l more
   pub mails : KeepsMails m m' l
+  pub numbered : (i : ℕ) (c : Cell Actor) → slice_get m.cells i ≡ Some c → IsNumbered c.outbox
   pub grows : grown l.act ≡ 1 → ticket_of l.act ≡ m.first + length m.cells
   pub sees : Sees m l.host (ticket_of l.act) (path_of l.act) seen
 
