@@ -237,18 +237,18 @@ module _ (part : ℕ → ℕ → List Label) (own : AreOwn part) where
   own_row u n = all_flat (λ (l : Label). ticket_of l.act ≡ u) (part u) (λ j. all_map (λ (l : Label). ticket_of l.act ≡ u) (IsOwn u j) (λ l h. h.ticket) (part u j) (own.own u j)) (tickets_from 0 n)
 
   pub numbers_below : (t k a n : ℕ) → a + n ≤ k → Below t k (flat_map (part t) (tickets_from a n))
-  numbers_below t k a n l = all_numbered (IsBelow t k) (part t) a n (λ j low high. all_map (IsBelow t k) (IsOwn t j) (λ x h. record { ticket = let it = h.ticket in omega (arith, it); number = λ same. let is = h.number in omega (arith, is, high, l) }) (part t j) (own.own t j))
+  numbers_below t k a n l = all_numbered (IsBelow t k) (part t) a n (λ j low high. all_map (IsBelow t k) (IsOwn t j) (λ x h i. record { ticket = let it = h.ticket in omega (arith, it); number = λ same. let is = h.number in omega (arith, is, high, l) }) (part t j) (own.own t j))
 
   pub numbers_from : (t k a n : ℕ) → k ≤ a → From t k (flat_map (part t) (tickets_from a n))
-  numbers_from t k a n l = all_numbered (IsFrom t k) (part t) a n (λ j low high. all_map (IsFrom t k) (IsOwn t j) (λ x h. record { ticket = let it = h.ticket in omega (arith, it); number = λ same. let is = h.number in omega (arith, is, low, l) }) (part t j) (own.own t j))
+  numbers_from t k a n l = all_numbered (IsFrom t k) (part t) a n (λ j low high. all_map (IsFrom t k) (IsOwn t j) (λ x h i. record { ticket = let it = h.ticket in omega (arith, it); number = λ same. let is = h.number in omega (arith, is, low, l) }) (part t j) (own.own t j))
 
 -- rows of tickets
 module _ (row : ℕ → List Label) (own : (u : ℕ) → AllByRecursion (λ (l : Label). ticket_of l.act ≡ u) (row u)) where
   pub tickets_below : (t k a n : ℕ) → a + n ≤ t → Below t k (flat_map row (tickets_from a n))
-  tickets_below t k a n l = all_numbered (IsBelow t k) row a n (λ u low high. all_map (IsBelow t k) (λ (x : Label). ticket_of x.act ≡ u) (λ x h. record { ticket = omega (arith, h, high, l); number = λ same. absurd (omega (arith, h, high, l, same)) }) (row u) (own u))
+  tickets_below t k a n l = all_numbered (IsBelow t k) row a n (λ u low high. all_map (IsBelow t k) (λ (x : Label). ticket_of x.act ≡ u) (λ x h i. record { ticket = omega (arith, h, high, l); number = λ same. absurd (omega (arith, h, high, l, same)) }) (row u) (own u))
 
   pub tickets_behind : (t a n : ℕ) → t < a → From (t + 1) 0 (flat_map row (tickets_from a n))
-  tickets_behind t a n l = all_numbered (IsFrom (t + 1) 0) row a n (λ u low high. all_map (IsFrom (t + 1) 0) (λ (x : Label). ticket_of x.act ≡ u) (λ x h. record { ticket = omega (arith, h, low, l); number = λ same. omega arith }) (row u) (own u))
+  tickets_behind t a n l = all_numbered (IsFrom (t + 1) 0) row a n (λ u low high. all_map (IsFrom (t + 1) 0) (λ (x : Label). ticket_of x.act ≡ u) (λ x h i. record { ticket = omega (arith, h, low, l); number = λ same. omega arith }) (row u) (own u))
 
 -- ---- a ticket that is there
 module _ (m : Kept) (t : ℕ) (c : Cell Actor) (at : cell_at m t ≡ Some c) where

@@ -94,11 +94,11 @@ module _ (kind t k : ℕ) where
   abbrev pub is_slot : Act → Bool
   is_slot a = (kind_of a == kind) && ((ticket_of a == t) && (number_of a == k))
 
-  abbrev first_is : List Label → Bool
+  abbrev pub first_is : List Label → Bool
   first_is [] = false
   first_is (l ∷ ls) = is_slot l.act
 
-  at_place : (old : List Ready) (low rest : List Label) → map by_none old ≡ low ++ rest → is_of kind t k (slice_get old (length low)) ≡ first_is rest
+  pub at_place : (old : List Ready) (low rest : List Label) → map by_none old ≡ low ++ rest → is_of kind t k (slice_get old (length low)) ≡ first_is rest
   at_place [] [] [] e = refl
   at_place [] [] (l ∷ rest) e = cc
   at_place (r ∷ old) [] [] e = cc
@@ -111,14 +111,14 @@ module _ (kind t k : ℕ) where
   is_within (r ∷ old) zero e = omega arith
   is_within (r ∷ old) (suc i) e = let more = is_within old i e in omega (arith, more)
 
+  pub first_none : (ls : List Label) → AllByRecursion (λ (l : Label). is_slot l.act ≡ false) ls → first_is ls ≡ false
+  first_none [] a = refl
+  first_none (l ∷ ls) a = a.0
+
   -- what stands there is the only one, and there is none where another stands there
   pub cut_hit : (old : List Ready) (at : ℕ) (low own high : List Label) → at ≡ length low → map by_none old ≡ low ++ (own ++ high) → length own ≤ 1 → AllByRecursion (λ (l : Label). is_slot l.act ≡ false) high
       → is_of kind t k (slice_get old at) ≡ true → map by_none (take at old ++ drop (at + 1) old) ≡ low ++ high
-  cut_hit old at low [] high e all few none hit = absurd (true≢false (sym hit ∙ ap (λ i. is_of kind t k (slice_get old i)) e ∙ at_place old low high all ∙ first high none))
-    where
-      first : (ls : List Label) → AllByRecursion (λ (l : Label). is_slot l.act ≡ false) ls → first_is ls ≡ false
-      first [] a = refl
-      first (l ∷ ls) a = a.0
+  cut_hit old at low [] high e all few none hit = absurd (true≢false (sym hit ∙ ap (λ i. is_of kind t k (slice_get old i)) e ∙ at_place old low high all ∙ first_none high none))
   cut_hit old at low (l ∷ []) high e all few none hit =
       let next : at + 1 ≡ suc (length low) = omega (arith, e) in
       (λ i. map by_none (take (e i) old ++ drop (next i) old)) ∙ but_one by_none old low l high all

@@ -10,7 +10,7 @@ use Rattle.wave_states.specs.Labels.{Act, Label, Admit, Queue, Grant, Visit, Sta
 use Rattle.wave_theory.specs.Listed.{IsIn, kind_of}
 use Rattle.wave_machine.specs.declared.ready.Ready.{Ready}
 use Rattle.wave_machine.specs.inner.Asking.{in_order, of_kind, labels_in}
-use Rattle.wave_machine.specs.inner.Index.{Below, Cuts, CutsKind, From, Goes, High, IsBelow, IsFrom, IsOwn, Lists, Low, Parted, by_none, is_of, kinds_at, number_of, without}
+use Rattle.wave_machine.specs.inner.Index.{Below, Cuts, CutsKind, From, Goes, High, IsBelow, IsFrom, IsInner, IsOwn, IsUpTo, Lists, Low, Parted, by_none, is_of, kinds_at, number_of, without}
 use Rattle.wave_theory.proofs.Basics.{and_both, differ, number_cases, number_is, number_self}
 use Rattle.wave_machine.proofs.Ordering.{always, all_append, all_filter, all_map, all_numbered, kind_append, lower, one_kind_less, one_more, parted, upper}
 use Rattle.wave_machine.proofs.Parting.{is_slot}
@@ -43,25 +43,46 @@ one_put old new r l u v same low high was put =
 pub none_put : (old : List Ready) (u v : List Label) → map by_none old ≡ in_order (u ++ v) → map by_none old ≡ in_order ((u ++ []) ++ v)
 none_put old u v e = e ∙ ap (λ r. in_order (r ++ v)) (sym (append-nil u))
 
--- ---- what is a slot's own goes behind the slots before it, and before those behind it
+-- ---- what is a slot's own is none of the head's, and goes behind the slots before it, and before those behind it
+pub own_inner : (t k : ℕ) (l : Label) → IsOwn t k l → IsInner l
+own_inner t k l own = by_number k own.kind
+  where
+    at : (n : ℕ) → 1 ≤ n → n ≤ 8 → n ≡ kind_of l.act → IsInner l
+    at n low high e = (omega (arith, low, e), omega (arith, high, e))
+
+    by_number : (j : ℕ) → IsIn (kinds_at j) (kind_of l.act) → IsInner l
+    by_number zero (inl e) = at 2 (omega arith) (omega arith) e
+    by_number zero (inr (inl e)) = at 4 (omega arith) (omega arith) e
+    by_number zero (inr (inr h)) = absurd h
+    by_number (suc j) (inl e) = at 1 (omega arith) (omega arith) e
+    by_number (suc j) (inr (inl e)) = at 3 (omega arith) (omega arith) e
+    by_number (suc j) (inr (inr (inl e))) = at 6 (omega arith) (omega arith) e
+    by_number (suc j) (inr (inr (inr (inl e)))) = at 7 (omega arith) (omega arith) e
+    by_number (suc j) (inr (inr (inr (inr (inl e))))) = at 8 (omega arith) (omega arith) e
+    by_number (suc j) (inr (inr (inr (inr (inr h))))) = absurd h
+
+inner_as : (l x : Label) → IsInner l → kind_of x.act ≡ kind_of l.act → IsInner x
+inner_as l x h e = let low = h.0 in let high = h.1 in (omega (arith, e, low), omega (arith, e, high))
+
 pub own_goes : (t k : ℕ) (ls u v : List Label) → AllByRecursion (IsOwn t k) ls → Below t k u → From t (k + 1) v → Goes ls u v
 own_goes t k [] u v own a b = tt
 own_goes t k (l ∷ ls) u v own a b =
     let it = own.0.ticket in
     let is = own.0.number in
+    let inner = own_inner t k l own.0 in
     (own.0.worker,
-    (all_map (Low (kind_of l.act) (ticket_of l.act) (number_of l.act)) (IsBelow t k) (λ x h e. record { ticket = let up = h.ticket in omega (arith, it, up); number = λ same. let up = h.number (same ∙ it) in omega (arith, is, up) }) u a,
-    all_map (High (kind_of l.act) (ticket_of l.act) (number_of l.act)) (IsFrom t (k + 1)) (λ x h e. record { ticket = let up = h.ticket in omega (arith, it, up); number = λ same. let up = h.number (sym it ∙ same) in omega (arith, is, up) }) v b))
+    (all_map (Low (kind_of l.act) (ticket_of l.act) (number_of l.act)) (IsBelow t k) (λ x h e. record { ticket = let up = (h (inner_as l x inner e)).ticket in omega (arith, it, up); number = λ same. let up = (h (inner_as l x inner e)).number (same ∙ it) in omega (arith, is, up) }) u a,
+    all_map (High (kind_of l.act) (ticket_of l.act) (number_of l.act)) (IsFrom t (k + 1)) (λ x h e. record { ticket = let up = (h (inner_as l x inner e)).ticket in omega (arith, it, up); number = λ same. let up = (h (inner_as l x inner e)).number (sym it ∙ same) in omega (arith, is, up) }) v b))
 
 -- all of a later ticket is behind
 pub later_from : (t k : ℕ) (v : List Label) → From (t + 1) 0 v → From t k v
-later_from t k v a = all_map (IsFrom t k) (IsFrom (t + 1) 0) (λ x h. record { ticket = let up = h.ticket in omega (arith, up); number = λ same. let up = h.ticket in absurd (omega (arith, up, same)) }) v a
+later_from t k v a = all_map (IsFrom t k) (IsFrom (t + 1) 0) (λ x h i. record { ticket = let up = (h i).ticket in omega (arith, up); number = λ same. let up = (h i).ticket in absurd (omega (arith, up, same)) }) v a
 
 pub below_more : (t j k : ℕ) (u : List Label) → j ≤ k → Below t j u → Below t k u
-below_more t j k u l a = all_map (IsBelow t k) (IsBelow t j) (λ x h. record { ticket = h.ticket; number = λ same. let up = h.number same in omega (arith, up, l) }) u a
+below_more t j k u l a = all_map (IsBelow t k) (IsBelow t j) (λ x h i. record { ticket = (h i).ticket; number = λ same. let up = (h i).number same in omega (arith, up, l) }) u a
 
 pub own_below : (t k : ℕ) (x : List Label) → AllByRecursion (IsOwn t k) x → Below t (k + 1) x
-own_below t k x a = all_map (IsBelow t (k + 1)) (IsOwn t k) (λ l h. record { ticket = let it = h.ticket in omega (arith, it); number = λ same. let is = h.number in omega (arith, is) }) x a
+own_below t k x a = all_map (IsBelow t (k + 1)) (IsOwn t k) (λ l h i. record { ticket = let it = h.ticket in omega (arith, it); number = λ same. let is = h.number in omega (arith, is) }) x a
 
 -- ---- what is put for a ticket, one after the other
 pub lists_none : (t k : ℕ) (xs : List Ready) → Lists t k xs xs []
@@ -93,7 +114,10 @@ other_kinds j kind (l ∷ x) d = by_test (kind_of l.act == kind) refl (other_kin
     by_test false e r = ap (λ y. cond (kind_of l.act == j) (l ∷ y) y) r
     by_test true e r = r ∙ sym (ap (λ c. cond c (l ∷ of_kind j x) (of_kind j x)) (differ (kind_of l.act) j (λ same. d (sym same ∙ number_is (kind_of l.act) kind e))))
 
-module _ (kind t k : ℕ) where
+module _ (kind t k : ℕ) (above : 1 ≤ kind) (under : kind ≤ 8) where
+  inner_at : (l : Label) → kind_of l.act ≡ kind → IsInner l
+  inner_at l e = (omega (arith, e, above), omega (arith, e, under))
+
   abbrev Here : Label → Type 0
   Here l = is_slot kind t k l.act ≡ true
 
@@ -105,9 +129,9 @@ module _ (kind t k : ℕ) where
       (and_both (ticket_of l.act == t) (number_of l.act == k) (ap (λ n. n == t) h.ticket ∙ number_self t) (ap (λ n. n == k) h.number ∙ number_self k))) x own
 
   behind_elsewhere : (v : List Label) → From t (k + 1) v → AllByRecursion Elsewhere (of_kind kind v)
-  behind_elsewhere v past = all_filter Elsewhere (IsFrom t (k + 1)) (λ (l : Label). kind_of l.act == kind) (λ l e h. by_ticket l e h (number_cases (ticket_of l.act) t)) v past
+  behind_elsewhere v past = all_filter Elsewhere (IsFrom t (k + 1)) (λ (l : Label). kind_of l.act == kind) (λ l e h. by_ticket l e (h (inner_at l (number_is (kind_of l.act) kind e))) (number_cases (ticket_of l.act) t)) v past
     where
-      by_ticket : (l : Label) → (kind_of l.act == kind) ≡ true → IsFrom t (k + 1) l → (ticket_of l.act ≡ t) ⊎ ((ticket_of l.act == t) ≡ false) → Elsewhere l
+      by_ticket : (l : Label) → (kind_of l.act == kind) ≡ true → IsUpTo t (k + 1) (ticket_of l.act) (number_of l.act) → (ticket_of l.act ≡ t) ⊎ ((ticket_of l.act == t) ≡ false) → Elsewhere l
       by_ticket l e h (inl it) = λ i. e i && (same_number (ticket_of l.act) t it i && differ (number_of l.act) k (λ is. let up = h.number (sym it) in omega (arith, up, is)) i)
         where
           same_number : (a b : ℕ) → a ≡ b → (a == b) ≡ true
@@ -127,20 +151,21 @@ module _ (kind t k : ℕ) where
       by_test false = omega arith
   few_kinds (l ∷ (m ∷ x)) few = absurd (omega (arith, few))
 
-  pub cuts_kind : (old new : List Ready) → kind < 10
+  pub cuts_kind : (old new : List Ready)
       → ((low own high : List Label) → Parted (map by_none old) kind t k low (own ++ high) → length own ≤ 1 → AllByRecursion (λ (l : Label). is_slot kind t k l.act ≡ true) own → AllByRecursion (λ (l : Label). is_slot kind t k l.act ≡ false) high → map by_none new ≡ low ++ high)
       → CutsKind kind t k old new
-  cuts_kind old new small cut = record { parts = λ u x v a own few b e.
+  cuts_kind old new cut = record { parts = λ u x v a own few b e.
+      let small : kind < 10 = omega (arith, under) in
       let z = without kind x in
       let ls = u ++ (x ++ v) in
       let ms = u ++ (z ++ v) in
       let low = lower kind ls ++ of_kind kind u in
       let high = of_kind kind v ++ upper kind ls in
       let kinds_xv : of_kind kind (x ++ v) ++ upper kind ls ≡ of_kind kind x ++ high = ap (λ r. r ++ upper kind ls) (kind_append kind x v) ∙ append_assoc (of_kind kind x) (of_kind kind v) (upper kind ls) in
-      let lows : AllByRecursion (Low kind t k) u = all_map (Low kind t k) (IsBelow t k) (λ l h same. h) u a in
+      let lows : AllByRecursion (Low kind t k) u = all_map (Low kind t k) (IsBelow t k) (λ l h same. h (inner_at l same)) u a in
       let highs : AllByRecursion (High kind t k) (x ++ v) = all_append (High kind t k) x v
           (all_map (High kind t k) (IsOwn t k) (λ l h same. record { ticket = let it = h.ticket in omega (arith, it); number = λ q. let is = h.number in omega (arith, is) }) x own)
-          (all_map (High kind t k) (IsFrom t (k + 1)) (λ l h same. record { ticket = h.ticket; number = λ q. let up = h.number q in omega (arith, up) }) v b) in
+          (all_map (High kind t k) (IsFrom t (k + 1)) (λ l h same. record { ticket = (h (inner_at l same)).ticket; number = λ q. let up = (h (inner_at l same)).number q in omega (arith, up) }) v b) in
       let p : Parted (map by_none old) kind t k low (of_kind kind x ++ high) =
       subst (λ r. Parted (map by_none old) kind t k low r) kinds_xv (subst (λ r. Parted r kind t k low (of_kind kind (x ++ v) ++ upper kind ls)) (sym e)
       (parted kind t k ls u (x ++ v) small (kind_append kind u (x ++ v)) lows highs)) in
@@ -203,17 +228,17 @@ pub outs_last : (t k : ℕ) (old new : List Ready) → Outs (kinds_at k) t k old
 outs_last t k old new o = record { parts = λ u x v a own few b e. o.parts u x v a own few b e
     ∙ ap (λ r. in_order (u ++ (r ++ v))) (none_left (kinds_at k) x (all_map (λ (l : Label). IsIn (kinds_at k) (kind_of l.act)) (IsOwn t k) (λ l h. h.kind) x own)) }
 
-kinds_few : (k : ℕ) → AllByRecursion (λ kind. kind < 10) (kinds_at k)
-kinds_few zero = (omega arith, (omega arith, tt))
-kinds_few (suc k) = (omega arith, (omega arith, (omega arith, (omega arith, (omega arith, tt)))))
+kinds_few : (k : ℕ) → AllByRecursion (λ kind. (1 ≤ kind) × (kind ≤ 8)) (kinds_at k)
+kinds_few zero = ((omega arith, omega arith), ((omega arith, omega arith), tt))
+kinds_few (suc k) = ((omega arith, omega arith), ((omega arith, omega arith), ((omega arith, omega arith), ((omega arith, omega arith), ((omega arith, omega arith), tt)))))
 
 all_read : (P : ℕ → Type 0) (xs : List ℕ) (i : ℕ) → i < length xs → AllByRecursion P xs → P (get_or xs i 0)
 all_read P [] i l a = absurd (omega (arith, l))
 all_read P (x ∷ xs) zero l a = a.0
 all_read P (x ∷ xs) (suc i) l a = all_read P xs i (omega (arith, l)) a.1
 
-pub kind_few : (k i : ℕ) → i < length (kinds_at k) → get_or (kinds_at k) i 0 < 10
-kind_few k i l = all_read (λ kind. kind < 10) (kinds_at k) i l (kinds_few k)
+pub kind_few : (k i : ℕ) → i < length (kinds_at k) → (1 ≤ get_or (kinds_at k) i 0) × (get_or (kinds_at k) i 0 ≤ 8)
+kind_few k i l = all_read (λ kind. (1 ≤ kind) × (kind ≤ 8)) (kinds_at k) i l (kinds_few k)
 
 -- ---- the head's, which are the first kind and the last
 abbrev pub IsFirst : Label → Type 0
@@ -222,28 +247,7 @@ IsFirst l = kind_of l.act ≡ 0
 abbrev pub IsLast : Label → Type 0
 IsLast l = kind_of l.act ≡ 9
 
-abbrev pub IsInner : Label → Type 0
-IsInner l = (1 ≤ kind_of l.act) × (kind_of l.act ≤ 8)
-
--- whatever is asked for by a slot is none of these
-pub own_inner : (t k : ℕ) (l : Label) → IsOwn t k l → IsInner l
-own_inner t k l own = by_number k own.kind
-  where
-    at : (n : ℕ) → 1 ≤ n → n ≤ 8 → n ≡ kind_of l.act → IsInner l
-    at n low high e = (omega (arith, low, e), omega (arith, high, e))
-
-    by_number : (j : ℕ) → IsIn (kinds_at j) (kind_of l.act) → IsInner l
-    by_number zero (inl e) = at 2 (omega arith) (omega arith) e
-    by_number zero (inr (inl e)) = at 4 (omega arith) (omega arith) e
-    by_number zero (inr (inr h)) = absurd h
-    by_number (suc j) (inl e) = at 1 (omega arith) (omega arith) e
-    by_number (suc j) (inr (inl e)) = at 3 (omega arith) (omega arith) e
-    by_number (suc j) (inr (inr (inl e))) = at 6 (omega arith) (omega arith) e
-    by_number (suc j) (inr (inr (inr (inl e)))) = at 7 (omega arith) (omega arith) e
-    by_number (suc j) (inr (inr (inr (inr (inl e))))) = at 8 (omega arith) (omega arith) e
-    by_number (suc j) (inr (inr (inr (inr (inr h))))) = absurd h
-
-from_first : (l : Label) → IsFrom 0 0 l
+from_first : (l : Label) → IsUpTo 0 0 (ticket_of l.act) (number_of l.act)
 from_first l = record { ticket = omega arith; number = λ e. omega arith }
 
 none_of_kind : (P : Label → Type 0) (k : ℕ) → ((l : Label) → P l → kind_of l.act ≡ k → ⊥) → (ls : List Label) → AllByRecursion P ls → of_kind k ls ≡ []

@@ -1,6 +1,6 @@
 -- What a ticket has in the list, listed anew: one slot, or the mails past a number.
 use Rattle.std.proofs.Common.{◌≡◌, ◌≢◌, ◌∙◌, ◌⊎◌, inl, inr, ℕ, zero, suc, ◌&&◌, ◌+◌, ◌-◌, ◌<◌, ◌≤◌, ◌==◌, Bool, true, false, List, [], ◌∷◌, ◌++◌, length, map, take, drop, Option, Some, None, refl, sym, ap, subst, arith, append_assoc, append-nil, length-drop}
-use Rattle.std.specs.Prelude.{flat_map, if◌then◌else◌, nat_lt, slice_get}
+use Rattle.std.specs.Prelude.{flat_map, option_map, if◌then◌else◌, nat_lt, slice_get}
 use Rattle.std.specs.List.{AllByRecursion}
 use Rattle.std.specs.List.Sorted.{IsStrictlySortedBy}
 use Rattle.std.specs.BTreeMap.{is_at}
@@ -18,13 +18,13 @@ use Rattle.event_cells.specs.declared.status.Status.TheVariants as status
 use Rattle.event_cells.specs.Cells.{is_over}
 use Rattle.event_cells.specs.Keeps.{Sending, is_empty, mail_in}
 use Rattle.host_map.specs.Stores.{Stores}
-use Rattle.wave_states.specs.Labels.{Label}
+use Rattle.wave_states.specs.Labels.{Label, Admit, Commit}
 use Rattle.wave_theory.proofs.Basics.{differ, none_not, not_same, number_cases, number_self, some_not}
 use Rattle.wave_machine.specs.declared.actor.Actor.{Actor}
 use Rattle.wave_machine.specs.declared.ready.Ready.{Ready}
 use Rattle.wave_machine.specs.Machines.{Kept}
-use Rattle.wave_machine.specs.inner.Asking.{IsNumbered, in_order, mail_labels}
-use Rattle.wave_machine.specs.inner.Index.{AreOwn, Below, Cuts, From, Goes, IsBelow, IsFrom, IsOwn, Lists, ListsNew, Relists, RelistsNear, RelistsNext, RelistsOwn, asked_as, by_none, by_slot, cell_at, numbers_in, slot_at, share_of, slot_by, with_above, with_next, with_own, with_slot}
+use Rattle.wave_machine.specs.inner.Asking.{IsNumbered, in_order, label_at, mail_labels}
+use Rattle.wave_machine.specs.inner.Index.{AreOwn, Below, Cuts, From, Goes, IsBelow, IsFrom, IsHead, IsOwn, Lists, ListsNew, Relists, RelistsNear, RelistsNext, RelistsOwn, asked_as, by_none, by_slot, cell_at, numbers_in, slot_at, share_of, slot_by, with_above, with_next, with_own, with_slot}
 use Rattle.wave_machine.proofs.ListingLists.{by_number, find_apart, find_first, flat_none, flat_same, less_is}
 use Rattle.wave_machine.proofs.Ordering.{all_append, all_flat, all_map, flat_append, middle_of, numbers_append, same_numbered}
 use Rattle.wave_machine.proofs.Owned.{at_slot, before, before_below, behind, behind_from, numbers_below, numbers_from, one_slot, other_number, other_ticket, own_as, own_mail, own_next, own_slot, own_with, split_at, split_new}
@@ -73,6 +73,18 @@ module _ (part : ℕ → ℕ → List Label) (own : AreOwn part) (t k n : ℕ) (
         few = omega arith;
       }
 
+-- the head's is below all slots
+head_below : (t k : ℕ) (h : List Label) → IsHead h → Below t k h
+head_below t k h head = subst (Below t k) (sym head.are) (all_append (IsBelow t k) (label_at 0 0 (option_map (λ n. Admit n) head.admit)) (label_at 0 0 (option_map (λ n. Commit n) head.commit)) (first head.admit) (last head.commit))
+  where
+    first : (o : Option ℕ) → Below t k (label_at 0 0 (option_map (λ n. Admit n) o))
+    first None = tt
+    first (Some n) = ((λ i. absurd (omega (arith, i.0))), tt)
+
+    last : (o : Option ℕ) → Below t k (label_at 0 0 (option_map (λ n. Commit n) o))
+    last None = tt
+    last (Some n) = ((λ i. absurd (omega (arith, i.1))), tt)
+
 regroup : (a b x c d : List Label) → a ++ ((b ++ (x ++ c)) ++ d) ≡ (a ++ b) ++ (x ++ (c ++ d))
 regroup a b x c d = ap (λ r. a ++ r) (append_assoc b (x ++ c) d ∙ ap (λ r. b ++ r) (append_assoc x c d)) ∙ sym (append_assoc a b (x ++ (c ++ d)))
 
@@ -80,17 +92,17 @@ module _ (m : Kept) (t k : ℕ) (c : Cell Actor) (at : cell_at m t ≡ Some c) (
   abbrev ls : List Label
   ls = asked_as m.stores t c k
 
-  relists_by : (part : ℕ → ℕ → List Label) → AreOwn part → (a x b : List Label) → Divided part t k (1 + c.outbox.sent) ls a x b → map by_none old ≡ in_order (by_slot m part) → map by_none new ≡ in_order (by_slot m (with_slot part t k ls))
-  relists_by part own a x b d e =
+  relists_by : (h : List Label) → IsHead h → (part : ℕ → ℕ → List Label) → AreOwn part → (a x b : List Label) → Divided part t k (1 + c.outbox.sent) ls a x b → map by_none old ≡ in_order (h ++ by_slot m part) → map by_none new ≡ in_order (h ++ by_slot m (with_slot part t k ls))
+  relists_by h head part own a x b d e =
       let first = before m t c at part in
       let last = behind m t c at part in
-      let u = first ++ a in
+      let u = h ++ (first ++ a) in
       let v = b ++ last in
-      let below : Below t k u = all_append (IsBelow t k) first a (before_below m t c at part own k) d.below in
+      let below : Below t k u = all_append (IsBelow t k) h (first ++ a) (head_below t k h head) (all_append (IsBelow t k) first a (before_below m t c at part own k) d.below) in
       let past : From t (k + 1) v = all_append (IsFrom t (k + 1)) b last d.past (later_from t (k + 1) last (behind_from m t c at part own)) in
-      let was : by_slot m part ≡ u ++ (x ++ v) = split_at m t c at part ∙ ap (λ r. first ++ (r ++ last)) d.old ∙ regroup first a x b last in
-      let is : by_slot m (with_slot part t k ls) ≡ u ++ (ls ++ v) =
-      split_new m t c at part (with_slot part t k ls) (λ w j apart. other_ticket part t k ls w j apart) ∙ ap (λ r. first ++ (r ++ last)) d.new ∙ regroup first a ls b last in
+      let was : h ++ by_slot m part ≡ u ++ (x ++ v) = ap (λ r. h ++ r) (split_at m t c at part ∙ ap (λ r. first ++ (r ++ last)) d.old ∙ regroup first a x b last) ∙ sym (append_assoc h (first ++ a) (x ++ v)) in
+      let is : h ++ by_slot m (with_slot part t k ls) ≡ u ++ (ls ++ v) =
+      ap (λ r. h ++ r) (split_new m t c at part (with_slot part t k ls) (λ w j apart. other_ticket part t k ls w j apart) ∙ ap (λ r. first ++ (r ++ last)) d.new ∙ regroup first a ls b last) ∙ sym (append_assoc h (first ++ a) (ls ++ v)) in
       let gone : map by_none mid ≡ in_order (u ++ v) = cuts.parts u x v below d.own d.few past (e ∙ ap in_order was) in
       puts u v (own_goes t k ls u v (own_as m.stores t k c) below past) gone ∙ ap in_order (append_assoc u ls v ∙ sym is)
 
@@ -103,19 +115,19 @@ module _ (m : Kept) (t k : ℕ) (c : Cell Actor) (at : cell_at m t ≡ Some c) (
       by_number_of (suc j) l = ap (mail_labels m.stores 0 t (suc j)) (numbered.below (suc j) (omega (arith, l)))
 
   pub relists_at : IsNumbered c.outbox → Relists m t k old new
-  relists_at numbered = record { parts = λ part own e. let asked : ls ≡ slot_at m t k = ap (slot_by m.stores t k) (sym at) in
-      subst (λ (x : List Label). map by_none new ≡ in_order (by_slot m (with_slot part t k x))) asked (elim (cases_lt k (1 + c.outbox.sent)) [
-      | inl l ↦ relists_by part own _ _ _ (divided_within part own t k (1 + c.outbox.sent) ls l) e
-      | inr l ↦ relists_by part own _ _ _ (divided_past part own t k (1 + c.outbox.sent) ls l (nothing_past numbered l)) e
+  relists_at numbered = record { parts = λ h head part own e. let asked : ls ≡ slot_at m t k = ap (slot_by m.stores t k) (sym at) in
+      subst (λ (x : List Label). map by_none new ≡ in_order (h ++ by_slot m (with_slot part t k x))) asked (elim (cases_lt k (1 + c.outbox.sent)) [
+      | inl l ↦ relists_by h head part own _ _ _ (divided_within part own t k (1 + c.outbox.sent) ls l) e
+      | inr l ↦ relists_by h head part own _ _ _ (divided_past part own t k (1 + c.outbox.sent) ls l (nothing_past numbered l)) e
       ]) }
 
 -- a ticket that is not there has nothing
 pub relists_none : (m : Kept) (t k : ℕ) (xs : List Ready) → cell_at m t ≡ None → Relists m t k xs xs
-relists_none m t k xs none = record { parts = λ part own e. e ∙ ap in_order (same_slots m part (with_slot part t k (slot_at m t k)) (λ u j low high within. sym (other_ticket part t k (slot_at m t k) u j (λ same.
+relists_none m t k xs none = record { parts = λ h head part own e. e ∙ ap (λ r. in_order (h ++ r)) (same_slots m part (with_slot part t k (slot_at m t k)) (λ u j low high within. sym (other_ticket part t k (slot_at m t k) u j (λ same.
     let few : numbers_in (cell_at m u) ≡ 0 = ap (λ n. numbers_in (cell_at m n)) same ∙ ap numbers_in none in omega (arith, few, within))))) }
 
 pub next_none : (m : Kept) (xs : List Ready) → RelistsNext m None xs xs
-next_none m xs = record { parts = λ part own e. e }
+next_none m xs = record { parts = λ h head part own e. e }
 
 pub next_some : (m : Kept) (t : ℕ) (old new : List Ready) → Relists m t 0 old new → RelistsNext m (Some t) old new
 next_some m t old new r = record { parts = r.parts }
@@ -186,7 +198,7 @@ module _ (stores : List Stores) (t : ℕ) where
       let above = a.0.0 in
       let under = a.0.1 in
       all_append (IsBelow t k) (mail_labels stores 0 t e.0 (Some e.1)) (flat_map (λ e. mail_labels stores 0 t e.0 (Some e.1)) es)
-      (all_map (IsBelow t k) (IsOwn t e.0) (λ l h. record { ticket = let it = h.ticket in omega (arith, it); number = λ same. let is = h.number in omega (arith, is, under) }) (mail_labels stores 0 t e.0 (Some e.1)) (own_mail_at e.0 (omega (arith, above)) (Some e.1)))
+      (all_map (IsBelow t k) (IsOwn t e.0) (λ l h i. record { ticket = let it = h.ticket in omega (arith, it); number = λ same. let is = h.number in omega (arith, is, under) }) (mail_labels stores 0 t e.0 (Some e.1)) (own_mail_at e.0 (omega (arith, above)) (Some e.1)))
       (mails_below low k es a.1)
 
   -- the last mails, whose numbers are above one, by number
@@ -218,7 +230,7 @@ module _ (m : Kept) (t n : ℕ) where
   other_mails part u j d = ap (λ b. if b && nat_lt n j then slot_at m t j else part u j) (differ u t d)
 
   pub new_none : (xs : List Ready) → cell_at m t ≡ None → ListsNew m t n xs xs
-  new_none xs none = record { parts = λ part own gone e. e ∙ ap in_order (same_slots m part (with_above m t n part) (λ u j low high within. sym (other_mails part u j (λ same.
+  new_none xs none = record { parts = λ h head part own gone e. e ∙ ap (λ r. in_order (h ++ r)) (same_slots m part (with_above m t n part) (λ u j low high within. sym (other_mails part u j (λ same.
       let few : numbers_in (cell_at m u) ≡ 0 = ap (λ k. numbers_in (cell_at m k)) same ∙ ap numbers_in none in omega (arith, few, within))))) }
 
   module _ (c : Cell Actor) (at : cell_at m t ≡ Some c) (old new : List Ready) (x : List Label) (are : x ≡ flat_map (λ k. mail_labels m.stores 0 t k (mail_in c.outbox.mails k)) (tickets_from (n + 1) (c.outbox.sent - n))) (lists : Lists t (n + 1) old new x) where
@@ -255,21 +267,23 @@ module _ (m : Kept) (t n : ℕ) where
           below = numbers_below part own t (n + 1) 0 (n + 1) (omega arith);
         }
 
-    new_by : (part : ℕ → ℕ → List Label) → AreOwn part → (a : List Label) → Rows (part t) (with_above m t n part t) t (n + 1) (1 + c.outbox.sent) a x → map by_none old ≡ in_order (by_slot m part) → map by_none new ≡ in_order (by_slot m (with_above m t n part))
-    new_by part own a r e =
+    new_by : (h : List Label) → IsHead h → (part : ℕ → ℕ → List Label) → AreOwn part → (a : List Label) → Rows (part t) (with_above m t n part t) t (n + 1) (1 + c.outbox.sent) a x → map by_none old ≡ in_order (h ++ by_slot m part) → map by_none new ≡ in_order (h ++ by_slot m (with_above m t n part))
+    new_by h head part own a r e =
         let first = before m t c at part in
         let last = behind m t c at part in
-        let u = first ++ a in
-        let below : Below t (n + 1) u = all_append (IsBelow t (n + 1)) first a (before_below m t c at part own (n + 1)) r.below in
-        let was : by_slot m part ≡ u ++ last = split_at m t c at part ∙ ap (λ r. first ++ (r ++ last)) r.was ∙ sym (append_assoc first a last) in
-        let is : by_slot m (with_above m t n part) ≡ (u ++ x) ++ last =
-        split_new m t c at part (with_above m t n part) (λ w j apart. other_mails part w j apart) ∙ ap (λ r. first ++ (r ++ last)) r.is ∙ sym (append_assoc first (a ++ x) last) ∙ ap (λ r. r ++ last) (sym (append_assoc first a x)) in
+        let start = first ++ a in
+        let u = h ++ start in
+        let below : Below t (n + 1) u = all_append (IsBelow t (n + 1)) h start (head_below t (n + 1) h head) (all_append (IsBelow t (n + 1)) first a (before_below m t c at part own (n + 1)) r.below) in
+        let was : h ++ by_slot m part ≡ u ++ last = ap (λ r. h ++ r) (split_at m t c at part ∙ ap (λ r. first ++ (r ++ last)) r.was ∙ sym (append_assoc first a last)) ∙ sym (append_assoc h start last) in
+        let is : h ++ by_slot m (with_above m t n part) ≡ (u ++ x) ++ last =
+        ap (λ r. h ++ r) (split_new m t c at part (with_above m t n part) (λ w j apart. other_mails part w j apart) ∙ ap (λ r. first ++ (r ++ last)) r.is ∙ sym (append_assoc first (a ++ x) last) ∙ ap (λ r. r ++ last) (sym (append_assoc first a x)))
+        ∙ sym (append_assoc h (start ++ x) last) ∙ ap (λ r. r ++ last) (sym (append_assoc h start x)) in
         lists.parts u last below (behind_from m t c at part own) (e ∙ ap in_order was) ∙ ap in_order (sym is)
 
     pub new_at : ListsNew m t n old new
-    new_at = record { parts = λ part own gone e. elim (cases_lt n c.outbox.sent) [
-      | inl l ↦ new_by part own _ (rows_more part own gone (omega (arith, l))) e
-      | inr l ↦ new_by part own _ (rows_same part own l) e
+    new_at = record { parts = λ h head part own gone e. elim (cases_lt n c.outbox.sent) [
+      | inl l ↦ new_by h head part own _ (rows_more part own gone (omega (arith, l))) e
+      | inr l ↦ new_by h head part own _ (rows_same part own l) e
     ] }
 
 pub own_above : (m : Kept) (part : ℕ → ℕ → List Label) (t n : ℕ) → AreOwn part → AreOwn (with_above m t n part)
@@ -291,10 +305,10 @@ own_above m part t n own = record {
 
 -- ---- all that a label changes near it
 pub own_two : (m : Kept) (t k : ℕ) (a b c : List Ready) → Relists m t 0 a b → Relists m t k b c → RelistsOwn m t k a c
-own_two m t k a b c first second = record { parts = λ part own e. second.parts (with_slot part t 0 (slot_at m t 0)) (own_with m part t 0 own) (first.parts part own e) }
+own_two m t k a b c first second = record { parts = λ h head part own e. second.parts h head (with_slot part t 0 (slot_at m t 0)) (own_with m part t 0 own) (first.parts h head part own e) }
 
 pub own_one : (m : Kept) (t k : ℕ) (a b : List Ready) → k ≡ 0 → Relists m t 0 a b → RelistsOwn m t k a b
-own_one m t k a b zero_is first = subst (λ n. RelistsOwn m t n a b) (sym zero_is) (record { parts = λ part own e. first.parts part own e ∙ ap in_order (same_slots m (with_slot part t 0 (slot_at m t 0)) (with_own m t 0 part) (λ u j low high within. sym (twice part u j))) })
+own_one m t k a b zero_is first = subst (λ n. RelistsOwn m t n a b) (sym zero_is) (record { parts = λ h head part own e. first.parts h head part own e ∙ ap (λ r. in_order (h ++ r)) (same_slots m (with_slot part t 0 (slot_at m t 0)) (with_own m t 0 part) (λ u j low high within. sym (twice part u j))) })
   where
     twice : (part : ℕ → ℕ → List Label) (u j : ℕ) → with_own m t 0 part u j ≡ with_slot part t 0 (slot_at m t 0) u j
     twice part u j = by_test ((u == t) && (j == 0))
@@ -304,12 +318,12 @@ own_one m t k a b zero_is first = subst (λ n. RelistsOwn m t n a b) (sym zero_i
         by_test false = refl
 
 pub near : (m : Kept) (t k n : ℕ) (before after : Option ℕ) (a b c d e : List Ready) → RelistsOwn m t k a b → ListsNew m t n b c → RelistsNext m before c d → RelistsNext m after d e → RelistsNear m t k n before after a e
-near m t k n before after a b c d e first second third fourth = record { parts = λ part own gone l is.
+near m t k n before after a b c d e first second third fourth = record { parts = λ h head part own gone l is.
     let one = with_own m t k part in
     let own_one = own_with m (with_slot part t 0 (slot_at m t 0)) t k (own_with m part t 0 own) in
     let two = with_above m t n one in
     let own_two = own_above m one t n own_one in
-    fourth.parts (with_next m before two) (own_next m before two own_two) (third.parts two own_two (second.parts one own_one (λ j past. still part gone l j past) (first.parts part own is))) }
+    fourth.parts h head (with_next m before two) (own_next m before two own_two) (third.parts h head two own_two (second.parts h head one own_one (λ j past. still part gone l j past) (first.parts h head part own is))) }
   where
     still : (part : ℕ → ℕ → List Label) → ((j : ℕ) → n < j → part t j ≡ []) → k ≤ n → (j : ℕ) → n < j → with_own m t k part t j ≡ []
     still part gone l j past =

@@ -8,7 +8,7 @@ ghost use Rattle.wave_states.specs.Labels as theory;
 ghost use Rattle.wave_states.specs.Labels.{ticket_of};
 ghost use Rattle.wave_theory.specs.Listed.{kind_of};
 ghost use Rattle.wave_machine.specs.inner.Asking.{in_order, labels_in};
-ghost use Rattle.wave_machine.specs.inner.Index.{Cuts, CutsKind, Goes, Parted, by_none, is_before, is_of, kinds_at, number_of, under};
+ghost use Rattle.wave_machine.specs.inner.Index.{Cuts, CutsKind, Goes, IsInner, Parted, by_none, is_before, is_of, kinds_at, number_of, under};
 
 use crate::order::kind_of;
 use crate::ready::Ready;
@@ -129,7 +129,7 @@ fn kinds_at(number: u32) -> &'static [u8]
 
 // Takes out that of a kind and a slot, where there is one.
 fn cut_kind(index: &mut Vec<Ready>, kind: u8, ticket: Ticket, number: u32)
-    ensures cuts { kind < 10 → CutsKind kind ticket.0 number index.old.items index.new.items }
+    ensures cuts { 1 ≤ kind → kind ≤ 8 → CutsKind kind ticket.0 number index.old.items index.new.items }
     ensures len { vec_len index.new ≤ vec_len index.old }
     ensures capacity { vec_capacity index.new ≡ vec_capacity index.old }
 {
@@ -140,7 +140,7 @@ fn cut_kind(index: &mut Vec<Ready>, kind: u8, ticket: Ticket, number: u32)
 }
 
 // Whether that of a kind and a slot stands there.
-fn is_at(index: &[Ready], at: usize, kind: u8, ticket: Ticket, number: u32) -> bool
+pub(crate) fn is_at(index: &[Ready], at: usize, kind: u8, ticket: Ticket, number: u32) -> bool
     ensures { result ≡ is_of kind ticket.0 number (slice_get index.now at) }
 {
     match index.get(at) {
@@ -153,14 +153,22 @@ fn is_at(index: &[Ready], at: usize, kind: u8, ticket: Ticket, number: u32) -> b
     }
 }
 
-// Takes out what the head asked for: an Admit, which is the first, and a Commit, the last.
-pub(crate) fn cut_head(index: &mut Vec<Ready>)
-    ensures parts { (a c b : List theory.Label) → AllByRecursion (λ (l : theory.Label). kind_of l.act ≡ 0) a → AllByRecursion (λ (l : theory.Label). kind_of l.act ≡ 9) c → AllByRecursion (λ (l : theory.Label). (1 ≤ kind_of l.act) × (kind_of l.act ≤ 8)) b → map by_none index.old.items ≡ in_order ((a ++ c) ++ b) → map by_none index.new.items ≡ in_order b }
+// Takes out the Commit that the head asked for, which is the last.
+pub(crate) fn cut_commit(index: &mut Vec<Ready>)
+    ensures parts { (a c b : List theory.Label) → AllByRecursion (λ (l : theory.Label). kind_of l.act ≡ 0) a → AllByRecursion (λ (l : theory.Label). kind_of l.act ≡ 9) c → AllByRecursion IsInner b → map by_none index.old.items ≡ in_order ((a ++ c) ++ b) → map by_none index.new.items ≡ in_order (a ++ b) }
     ensures len { vec_len index.new ≤ vec_len index.old }
     ensures capacity { vec_capacity index.new ≡ vec_capacity index.old }
 {
     let last = place(index, 9, Ticket(0), 0);
     index.truncate(last);
+}
+
+// Takes out the Admit that the head asked for, which is the first.
+pub(crate) fn cut_admit(index: &mut Vec<Ready>)
+    ensures parts { (a b : List theory.Label) → AllByRecursion (λ (l : theory.Label). kind_of l.act ≡ 0) a → AllByRecursion IsInner b → map by_none index.old.items ≡ in_order (a ++ b) → map by_none index.new.items ≡ in_order b }
+    ensures len { vec_len index.new ≤ vec_len index.old }
+    ensures capacity { vec_capacity index.new ≡ vec_capacity index.old }
+{
     let first = place(index, 1, Ticket(0), 0);
     cut_first(index, first);
 }

@@ -23,7 +23,7 @@ ghost use Rattle.wave_machine.specs.inner.Spare.{IsAsLong, SameButRooms};
 use crate::done::done_stays;
 use crate::engine::Engine;
 use crate::hands::segments_are_known;
-use crate::index::{cut_head, ticket_of};
+use crate::index::ticket_of;
 use crate::known::heads_are_known;
 use crate::laws::states_are_known;
 use crate::lease::Lease;
@@ -78,7 +78,7 @@ impl<'p> Listed<'p> {
         let engine = Engine::new_at(alloc, plan, start)?;
         let mut index = Vec::new(alloc);
         index.reserve(2)?;
-        engine.list_head(&mut index);
+        engine.relist_head(&mut index);
         Ok(Listed {
             engine,
             index,
@@ -264,10 +264,9 @@ impl<'p> Listed<'p> {
         heads_are_known();
         let share = self.engine.share(ticket_of(&label.act));
         self.weight = self.weight - seen.share + share;
-        cut_head(&mut self.index);
         self.engine
             .relist_after(label, seen, self.done, &mut self.index);
-        self.engine.list_head(&mut self.index);
+        self.engine.relist_head(&mut self.index);
         self.done = self.engine.count_done(self.done);
     }
 }

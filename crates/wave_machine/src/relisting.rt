@@ -1,23 +1,23 @@
 //! What the index has of a ticket, of all tickets and of the head, listed anew.
 
-ghost use Rattle.std.specs.Prelude.{◌≡◌, ◌↔◌, ◌≤◌, ◌<◌, ◌+◌, ◌*◌, ◌++◌, ◌^◌, ℕ, IsTrue, List, Some, true, drop, flat_map, length, map, is_some, option_copied, option_map, slice_get, take, vec_len, vec_capacity};
+ghost use Rattle.std.specs.Prelude.{◌≡◌, ◌↔◌, ◌≤◌, ◌<◌, ◌+◌, ◌*◌, ◌++◌, ◌^◌, ℕ, IsTrue, List, Option, Some, true, drop, flat_map, length, map, is_some, option_copied, option_map, slice_get, take, vec_len, vec_capacity};
 ghost use Rattle.std.specs.List.{AllByRecursion};
 ghost use Rattle.std.specs.List.Sorted.{IsStrictlySortedBy};
 ghost use Rattle.std.specs.Map.{keys_of};
 ghost use Rattle.std.specs.Ordering.{nat_cmp};
 ghost use Rattle.commit_order.specs.Commits.{ready_result};
+ghost use Rattle.head_tickets.specs.Heads.{next_ticket};
 ghost use Rattle.wave_labels.specs.Labels.{act_of, label_of};
 ghost use Rattle.wave_states.specs.Labels as theory;
 ghost use Rattle.wave_states.specs.Labels.{path_of, ticket_of};
-ghost use Rattle.wave_theory.specs.Listed.{kind_of};
 ghost use Rattle.wave_machine.specs.Machines.{Kept};
-ghost use Rattle.wave_machine.specs.inner.Asking.{in_order, labels_in, mail_labels, IsListable, IsNumbered};
+ghost use Rattle.wave_machine.specs.inner.Asking.{admit_labels, in_order, label_at, labels_in, mail_labels, IsListable, IsNumbered};
 ghost use Rattle.wave_machine.specs.inner.Done.{AreDone};
-ghost use Rattle.wave_machine.specs.inner.Index.{Lists, ListsNew, Relists, RelistsNear, RelistsNext, RelistsOwn, Taken, asked_as, asked_at, asked_of, by_none, by_part, cell_at, has_at, head_in, held_at, next_at, next_of, number_of, sent_at, share_at, share_of, weight_of};
+ghost use Rattle.wave_machine.specs.inner.Index.{IsHead, IsInner, Lists, ListsNew, Relists, RelistsNear, RelistsNext, RelistsOwn, Taken, asked_as, asked_at, asked_of, by_none, by_part, cell_at, has_at, head_in, held_at, is_admit, next_at, next_of, number_of, sent_at, share_at, share_of, weight_of};
 
 use crate::actor::Actor;
 use crate::engine::Engine;
-use crate::index::{cut_slot, number_of, put_some, ticket_of};
+use crate::index::{cut_admit, cut_commit, cut_slot, is_at, number_of, put_some, ticket_of};
 use crate::listed::Seen;
 use crate::ready::Ready;
 use context_queue::{Entry, entries_stand};
@@ -147,10 +147,10 @@ impl<'p> Engine<'p> {
         index: &mut Vec<Ready>,
     )
         requires listable { IsListable (kept_of self.now) }
-        requires taken { (m : Kept) × (more : ℕ) × Taken m (kept_of self.now) (label_of label.now) seen more × (map by_none index.old.items ≡ in_order (by_part m (asked_at m))) }
+        requires taken { (m : Kept) × (more : ℕ) × (h : List theory.Label) × Taken m (kept_of self.now) (label_of label.now) seen more × IsHead h × (map by_none index.old.items ≡ in_order (h ++ by_part m (asked_at m))) }
         requires done { AreDone (kept_of self.now) done }
         requires room { vec_len index.old + (4 + weight_of self.now.cells.items) ≤ vec_capacity index.old }
-        ensures all { map by_none index.new.items ≡ in_order (by_part (kept_of self.now) (asked_at (kept_of self.now))) }
+        ensures all { (h : List theory.Label) × IsHead h × (map by_none index.new.items ≡ in_order (h ++ by_part (kept_of self.now) (asked_at (kept_of self.now)))) }
         ensures len { vec_len index.new ≤ vec_len index.old + (4 + weight_of self.now.cells.items) }
         ensures capacity { vec_capacity index.new ≡ vec_capacity index.old }
     {
@@ -203,15 +203,41 @@ impl<'p> Engine<'p> {
         }
     }
 
-    // Lists the next ticket that can be admitted, and the next that can be committed.
-    pub(crate) fn list_head(&self, index: &mut Vec<Ready>)
+    // Lists anew the next ticket that can be admitted, and the next that can be committed.
+    pub(crate) fn relist_head(&self, index: &mut Vec<Ready>)
         requires commits { is_some (ready_result self.now.commits) ≡ true → self.now.first + length self.now.settled.items < 2 ^ 32 }
         requires room { vec_len index.old + 2 ≤ vec_capacity index.old }
-        ensures parts { (b : List theory.Label) → AllByRecursion (λ (l : theory.Label). (1 ≤ kind_of l.act) × (kind_of l.act ≤ 8)) b → map by_none index.old.items ≡ in_order b → map by_none index.new.items ≡ in_order (head_in (kept_of self.now) ++ b) }
+        ensures parts { (h b : List theory.Label) → IsHead h → AllByRecursion IsInner b → map by_none index.old.items ≡ in_order (h ++ b) → map by_none index.new.items ≡ in_order (head_in (kept_of self.now) ++ b) }
         ensures capacity { vec_capacity index.new ≡ vec_capacity index.old }
     {
-        put_some(index, self.admit_label(Worker(0)));
+        cut_commit(index);
+        self.relist_admit(index);
         put_some(index, self.commit_label(Worker(0)));
+    }
+
+    // Lists anew the next ticket that can be admitted. It is the first of the list, and stays where it stands already, so that nothing
+    // behind it has to move.
+    fn relist_admit(&self, index: &mut Vec<Ready>)
+        requires room { vec_len index.old < vec_capacity index.old }
+        ensures parts { (o : Option ℕ) (b : List theory.Label) → AllByRecursion IsInner b → map by_none index.old.items ≡ in_order (label_at 0 0 (option_map (λ t. theory.Admit t) o) ++ b) → map by_none index.new.items ≡ in_order (admit_labels 0 self.now.head ++ b) }
+        ensures len { vec_len index.new ≤ vec_len index.old + 1 }
+        ensures capacity { vec_capacity index.new ≡ vec_capacity index.old }
+    {
+        if self.has_admit(index) {
+            return;
+        }
+        cut_admit(index);
+        put_some(index, self.admit_label(Worker(0)));
+    }
+
+    // Whether the next ticket that can be admitted stands in the list.
+    fn has_admit(&self, index: &[Ready]) -> bool
+        ensures { result ≡ is_admit (next_ticket self.now.head) (slice_get index.now 0) }
+    {
+        match self.head.next() {
+            Some(ticket) => is_at(index, 0, 0, ticket, 0),
+            None => false,
+        }
     }
 
     // The ticket that is next in the line of a context at a host, where one gets in.

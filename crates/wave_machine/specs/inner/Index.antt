@@ -2,6 +2,7 @@
 use Rattle.std.specs.Prelude.{◌≡◌, ◌≢◌, ◌≤◌, ◌<◌, ◌+◌, ◌*◌, ◌^◌, ◌-◌, ◌&&◌, ◌||◌, ◌==◌, ℕ, zero, suc, Bool, true, false, if◌then◌else◌, List, [], ◌∷◌, ◌++◌, filter, flat_map, length, map, nat_lt, not, Option, Some, None, option_map, slice_get, vec_len, vec_capacity}
 use Rattle.std.specs.List.{AllByRecursion}
 use Rattle.std.specs.FinMap as table
+use Rattle.wave_base.specs.declared.numbers.Ticket.{Ticket}
 use Rattle.wave_base.specs.declared.path.Path.{Path}
 use Rattle.wave_base.specs.declared.start.Start.{Start}
 use Rattle.wave_base.specs.Fold.{tickets_from}
@@ -12,7 +13,7 @@ use Rattle.context_queue.specs.Entries.{entry_of, next_in}
 use Rattle.event_cells.specs.declared.cell.Cell.{Cell}
 use Rattle.event_cells.specs.Keeps.{mail_in}
 use Rattle.host_map.specs.Stores.{Stores, has}
-use Rattle.wave_states.specs.Labels.{Act, Label, Queue, Visit, Free, Pass, Land, path_of, ticket_of}
+use Rattle.wave_states.specs.Labels.{Act, Label, Admit, Queue, Visit, Free, Pass, Land, Commit, path_of, ticket_of}
 use Rattle.wave_theory.specs.Listed.{IsIn, kind_of}
 use Rattle.wave_machine.specs.declared.actor.Actor.{Actor}
 use Rattle.wave_machine.specs.declared.listed.Listed.{Listed}
@@ -23,7 +24,7 @@ use Rattle.wave_machine.specs.Ending.{is_done}
 use Rattle.wave_machine.specs.Keeping.{kept_of}
 use Rattle.wave_machine.specs.Machines.{Kept, Stands, TheState}
 use Rattle.wave_machine.specs.inner.Apart.{Moves, grown}
-use Rattle.wave_machine.specs.inner.Asking.{IsNumbered, admit_labels, commit_labels, in_order, mail_labels, mails_labels, status_labels}
+use Rattle.wave_machine.specs.inner.Asking.{IsNumbered, admit_labels, commit_labels, in_order, label_at, mail_labels, mails_labels, status_labels}
 use Rattle.wave_machine.specs.inner.Done.{AreDone}
 
 -- as worker 0 takes it
@@ -74,18 +75,12 @@ pub record IsUpTo (t k u j : ℕ) : Type 0 where
   pub ticket : t ≤ u
   pub number : t ≡ u → k ≤ j
 
-abbrev pub IsBelow : ℕ → ℕ → Label → Type 0
-IsBelow t k l = IsBefore (ticket_of l.act) (number_of l.act) t k
-
-abbrev pub IsFrom : ℕ → ℕ → Label → Type 0
-IsFrom t k l = IsUpTo t k (ticket_of l.act) (number_of l.act)
-
 -- the slots of a kind are below one, or from it on
 abbrev pub Low : ℕ → ℕ → ℕ → Label → Type 0
-Low kind t k l = kind_of l.act ≡ kind → IsBelow t k l
+Low kind t k l = kind_of l.act ≡ kind → IsBefore (ticket_of l.act) (number_of l.act) t k
 
 abbrev pub High : ℕ → ℕ → ℕ → Label → Type 0
-High kind t k l = kind_of l.act ≡ kind → IsFrom t k l
+High kind t k l = kind_of l.act ≡ kind → IsUpTo t k (ticket_of l.act) (number_of l.act)
 
 -- worker 0's, of which its kind has only lower slots before it, and none of them behind it
 abbrev pub Goes : List Label → List Label → List Label → Type 0
@@ -105,6 +100,17 @@ pub record IsOwn (t k : ℕ) (l : Label) : Type 0 where
   pub ticket : ticket_of l.act ≡ t
   pub number : number_of l.act ≡ k
   pub kind : IsIn (kinds_at k) (kind_of l.act)
+
+-- neither an Admit nor a Commit, which the head asks for
+abbrev pub IsInner : Label → Type 0
+IsInner l = (1 ≤ kind_of l.act) × (kind_of l.act ≤ 8)
+
+-- what slots ask for is below one, or from it on
+abbrev pub IsBelow : ℕ → ℕ → Label → Type 0
+IsBelow t k l = IsInner l → IsBefore (ticket_of l.act) (number_of l.act) t k
+
+abbrev pub IsFrom : ℕ → ℕ → Label → Type 0
+IsFrom t k l = IsInner l → IsUpTo t k (ticket_of l.act) (number_of l.act)
 
 abbrev pub Below : ℕ → ℕ → List Label → Type 0
 Below t k ls = AllByRecursion (IsBelow t k) ls
@@ -174,16 +180,25 @@ pub record AreOwn (part : ℕ → ℕ → List Label) : Type 0 where
   pub own : (u j : ℕ) → AllByRecursion (IsOwn u j) (part u j)
   pub one : (u j : ℕ) → length (part u j) ≤ 1
 
--- what a number of a ticket has in the list is now what it asks for
+-- what a head asks for: an Admit at most, and a Commit at most
+abbrev pub head_of : Option ℕ → Option ℕ → List Label
+head_of o p = label_at 0 0 (option_map (λ t. Admit t) o) ++ label_at 0 0 (option_map (λ t. Commit t) p)
+
+pub record IsHead (h : List Label) : Type 0 where
+  pub admit : Option ℕ
+  pub commit : Option ℕ
+  pub are : h ≡ head_of admit commit
+
+-- what a number of a ticket has in the list is now what it asks for; the head's stays
 pub record Relists (m : Kept) (t k : ℕ) (old new : List Ready) : Type 0 where
-  pub parts : (part : ℕ → ℕ → List Label) → AreOwn part → map by_none old ≡ in_order (by_slot m part) → map by_none new ≡ in_order (by_slot m (with_slot part t k (slot_at m t k)))
+  pub parts : (h : List Label) → IsHead h → (part : ℕ → ℕ → List Label) → AreOwn part → map by_none old ≡ in_order (h ++ by_slot m part) → map by_none new ≡ in_order (h ++ by_slot m (with_slot part t k (slot_at m t k)))
 
 -- what its status asks for, and one of its mails (number 0 where there is none)
 abbrev pub with_own : Kept → ℕ → ℕ → (ℕ → ℕ → List Label) → ℕ → ℕ → List Label
 with_own m t k part = with_slot (with_slot part t 0 (slot_at m t 0)) t k (slot_at m t k)
 
 pub record RelistsOwn (m : Kept) (t k : ℕ) (old new : List Ready) : Type 0 where
-  pub parts : (part : ℕ → ℕ → List Label) → AreOwn part → map by_none old ≡ in_order (by_slot m part) → map by_none new ≡ in_order (by_slot m (with_own m t k part))
+  pub parts : (h : List Label) → IsHead h → (part : ℕ → ℕ → List Label) → AreOwn part → map by_none old ≡ in_order (h ++ by_slot m part) → map by_none new ≡ in_order (h ++ by_slot m (with_own m t k part))
 
 -- of the next in a line its status, where there is one
 abbrev pub with_next : Kept → Option ℕ → (ℕ → ℕ → List Label) → ℕ → ℕ → List Label
@@ -191,7 +206,7 @@ with_next m None part = part
 with_next m (Some t) part = with_slot part t 0 (slot_at m t 0)
 
 pub record RelistsNext (m : Kept) (next : Option ℕ) (old new : List Ready) : Type 0 where
-  pub parts : (part : ℕ → ℕ → List Label) → AreOwn part → map by_none old ≡ in_order (by_slot m part) → map by_none new ≡ in_order (by_slot m (with_next m next part))
+  pub parts : (h : List Label) → IsHead h → (part : ℕ → ℕ → List Label) → AreOwn part → map by_none old ≡ in_order (h ++ by_slot m part) → map by_none new ≡ in_order (h ++ by_slot m (with_next m next part))
 
 -- of a ticket the mails whose numbers are above one
 abbrev pub with_above : Kept → ℕ → ℕ → (ℕ → ℕ → List Label) → ℕ → ℕ → List Label
@@ -199,13 +214,18 @@ with_above m t n part u j = if (u == t) && nat_lt n j then slot_at m t j else pa
 
 -- where those had nothing in the list
 pub record ListsNew (m : Kept) (t n : ℕ) (old new : List Ready) : Type 0 where
-  pub parts : (part : ℕ → ℕ → List Label) → AreOwn part → ((j : ℕ) → n < j → part t j ≡ []) → map by_none old ≡ in_order (by_slot m part) → map by_none new ≡ in_order (by_slot m (with_above m t n part))
+  pub parts : (h : List Label) → IsHead h → (part : ℕ → ℕ → List Label) → AreOwn part → ((j : ℕ) → n < j → part t j ≡ []) → map by_none old ≡ in_order (h ++ by_slot m part) → map by_none new ≡ in_order (h ++ by_slot m (with_above m t n part))
 
 -- A label of a ticket, on its mail of number k (0 where it is on none), before which the ticket had sent n mails: what the status asks
 -- for, what that mail asks for, what the mails sent by it ask for, and what the statuses of who was and is next ask for.
 pub record RelistsNear (m : Kept) (t k n : ℕ) (before after : Option ℕ) (old new : List Ready) : Type 0 where
-  pub parts : (part : ℕ → ℕ → List Label) → AreOwn part → ((j : ℕ) → n < j → part t j ≡ []) → k ≤ n → map by_none old ≡ in_order (by_slot m part)
-      → map by_none new ≡ in_order (by_slot m (with_next m after (with_next m before (with_above m t n (with_own m t k part)))))
+  pub parts : (h : List Label) → IsHead h → (part : ℕ → ℕ → List Label) → AreOwn part → ((j : ℕ) → n < j → part t j ≡ []) → k ≤ n → map by_none old ≡ in_order (h ++ by_slot m part)
+      → map by_none new ≡ in_order (h ++ by_slot m (with_next m after (with_next m before (with_above m t n (with_own m t k part)))))
+
+-- the Admit of the next ticket stands there
+abbrev pub is_admit : Option Ticket → Option Ready → Bool
+is_admit None r = false
+is_admit (Some t) r = is_of 0 t.0 0 r
 
 -- what the head asks for
 abbrev pub head_in : Kept → List Label

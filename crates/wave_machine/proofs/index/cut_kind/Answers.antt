@@ -11,24 +11,24 @@ remove-requires c =
     (is_within c.args.kind c.args.ticket.0 c.args.number c.deref-2.result.now c.place-at.result (sym c.is_at.ensures ∙ c.if-is_at.true))
 
 pub returns-then-is_at-clause-cuts : goal.returns-then-is_at-clause-cuts
-returns-then-is_at-clause-cuts c = λ small.
+returns-then-is_at-clause-cuts c = λ above under.
     let old = c.args.index.now.items in
     let kind = c.args.kind in
     let t = c.args.ticket.0 in
     let k = c.args.number in
-    cuts_kind kind t k old c.remove.new.self.items small (λ low own high p few yes no.
+    cuts_kind kind t k above under old c.remove.new.self.items (λ low own high p few yes no.
     let at : c.place-at.result ≡ length low = c.place-at.ensures.place low (own ++ high) (subst (λ xs. Parted (map by_none xs) kind t k low (own ++ high)) (sym c.deref.ensures.value) p) in
     ap (map by_none) c.remove.ensures.by_index.2
     ∙ cut_hit kind t k old c.place-at.result low own high at p.all few no
     (ap (λ xs. is_of kind t k (slice_get xs c.place-at.result)) (sym c.deref-2.ensures.value) ∙ sym c.is_at.ensures ∙ c.if-is_at.true))
 
 pub returns-else-is_at-clause-cuts : goal.returns-else-is_at-clause-cuts
-returns-else-is_at-clause-cuts c = λ small.
+returns-else-is_at-clause-cuts c = λ above under.
     let old = c.args.index.now.items in
     let kind = c.args.kind in
     let t = c.args.ticket.0 in
     let k = c.args.number in
-    cuts_kind kind t k old old small (λ low own high p few yes no.
+    cuts_kind kind t k above under old old (λ low own high p few yes no.
     let at : c.place-at.result ≡ length low = c.place-at.ensures.place low (own ++ high) (subst (λ xs. Parted (map by_none xs) kind t k low (own ++ high)) (sym c.deref.ensures.value) p) in
     cut_miss kind t k old c.place-at.result low own high at p.all yes
     (ap (λ xs. is_of kind t k (slice_get xs c.place-at.result)) (sym c.deref-2.ensures.value) ∙ sym c.is_at.ensures ∙ c.if-is_at.false))

@@ -20,8 +20,8 @@ loop-kind-preserved c =
     let new = c.cut_kind.new.index.items in
     let within : i < length kinds = subst (λ xs. i < length xs) are c.loop-kind-test.true in
     let read : get_or c.kinds_at-kind-items.result.now i 0 ≡ kind = ap (λ xs. get_or xs i 0) are in
-    let few : kind < 10 = kind_few k i within in
-    let cuts : CutsKind kind t k mid new = subst (λ n. CutsKind n t k mid new) read (c.cut_kind.ensures.cuts (subst (λ n. n < 10) (sym read) few)) in
+    let few = kind_few k i within in
+    let cuts : CutsKind kind t k mid new = subst (λ n. CutsKind n t k mid new) read (c.cut_kind.ensures.cuts (subst (λ n. 1 ≤ n) (sym read) few.0) (subst (λ n. n ≤ 8) (sym read) few.1)) in
     record {
       outs = subst (λ ks. Outs ks t k old new) (sym (take_more kinds i 0 within)) (outs_more (take i kinds) kind t k old mid new c.loop-kind.invariant.outs cuts);
       len = omega (arith, c.cut_kind.ensures.len, c.loop-kind.invariant.len);
