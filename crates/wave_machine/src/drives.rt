@@ -43,11 +43,7 @@ use wave_labels::{Act, Label};
 use wave_theory::{empty_at_end, rules_pick};
 
 // What the rule picks of what can be done.
-fn next(
-    listed: &Listed,
-    rule: PickRule,
-    draw: &mut u64,
-) -> Result<Option<Label>, OutOfMemory>
+fn next(listed: &Listed, rule: PickRule, draw: &mut u64) -> Result<Option<Label>, OutOfMemory>
     requires stands { (start : start.Start) × (s : TheState) × Stands (kept_of listed.now.engine) start s }
     requires listed { IsListed listed.now }
     ensures { IfOk result (λ o. (start : start.Start) (s : TheState) → Stands (kept_of listed.now.engine) start s → rule_of rule draw.old s (enabled (plan_actors (kept_of listed.now.engine).plan.program) (kept_of listed.now.engine).plan.workers (kept_of listed.now.engine).plan.script.hosts s) ≡ (draw.new, option_map label_of o)) }
