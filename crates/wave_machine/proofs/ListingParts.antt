@@ -1,5 +1,5 @@
 -- A listing in three parts: what the index has before the Stops, as the idle worker takes it, the Stops, and what it has behind them.
-use Rattle.std.proofs.Common.{◌≡◌, ◌≢◌, ◌∙◌, ℕ, zero, suc, ◌==◌, Bool, true, false, List, [], ◌∷◌, ◌++◌, length, map, take, drop, Option, Some, None, refl, sym, ap, subst, arith, append-nil}
+use Rattle.std.proofs.Common.{◌≡◌, ◌≢◌, ◌∙◌, ℕ, zero, suc, ◌+◌, ◌==◌, Bool, true, false, List, [], ◌∷◌, ◌++◌, length, map, take, drop, Option, Some, None, refl, sym, ap, subst, arith, append-nil}
 use Rattle.std.specs.Prelude.{flat_map, if◌then◌else◌, option_map}
 use Rattle.wave_base.specs.declared.numbers.Ticket.{Ticket}
 use Rattle.wave_base.specs.declared.outcome.EventResult.{EventResult}
@@ -74,8 +74,8 @@ module _ (m : Kept) where
 -- ---- a list of what is asked for, about the Stops
 
 -- a ticket's Stops are what it asks for where nobody is idle
-cell_stops : (m : Kept) (ws : List ℕ) (t : ℕ) (c : Cell Actor) → stops_labels m.stores m.hands ws t c.status ≡ cell_labels m.stores m.hands None ws t c
-cell_asked_in m None ws t c = sym (cell_is m.stores m.hands None ws t c ∙ append-nil (stops_labels m.stores m.hands ws t c.status))
+pub cell_stops : (m : Kept) (ws : List ℕ) (t : ℕ) (c : Cell Actor) → stops_labels m.stores m.hands ws t c.status ≡ cell_labels m.stores m.hands None ws t c
+cell_stops m ws t c = sym (cell_is m.stores m.hands None ws t c ∙ append-nil (stops_labels m.stores m.hands ws t c.status))
 
 module _ (m : Kept) (idle : Option ℕ) (ws : List ℕ) where
   abbrev cells : List ℕ → List Label
