@@ -37,7 +37,7 @@ index_mut-requires c =
 pub returns-clause-leads : goal.returns-clause-leads
 returns-clause-leads c =
     let m = kept_of c.args.listed.now.engine in
-    let m₁ = kept_of c.prepare.new.self in
+    let m₁ = kept_of c.prepare.new.self.engine in
     let m' = kept_of c.act_start-lease.new.self.engine in
     let l = label_of c.args.label.now in
     let ends = c.args.ends.now.items in

@@ -16,8 +16,8 @@ use Rattle.wave_machine.specs.inner.Driving.{IsDriving, first_state}
 use Rattle.wave_machine.proofs.Driven.{drive_done, drive_run, driving_more, next_taking, nothing_left}
 use Rattle.wave_machine.proofs.drives.drive_on.Goals as goal
 
-pub take-requires : goal.take-requires
-take-requires c =
+pub take-requires-clause-taking : goal.take-requires-clause-taking
+take-requires-clause-taking c =
     let d = c.loop-labels.invariant.driving in
     let m = kept_of c.loop-labels.listed.engine in
     let st = d.under.stands in

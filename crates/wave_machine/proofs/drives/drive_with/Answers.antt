@@ -13,8 +13,8 @@ use Rattle.wave_machine.specs.Rules.{number_of, rule_of}
 use Rattle.wave_machine.specs.inner.Driving.{first_state}
 use Rattle.wave_machine.proofs.drives.drive_with.Goals as goal
 
-pub drive_on-requires : goal.drive_on-requires
-drive_on-requires c =
+pub drive_on-requires-clause-stands : goal.drive_on-requires-clause-stands
+drive_on-requires-clause-stands c =
     subst (λ (p : Plan). Stands (kept_of c.in_ok-listed.listed.engine) c.args.start.now (first_state p c.args.start.now)) (sym c.in_ok-listed.ensures.plan) c.in_ok-listed.ensures.stands
 
 pub told-requires : goal.told-requires

@@ -29,8 +29,8 @@ unwrap-lease-requires c =
     let it : IsEnd m.plan.program w of.hand (Some c.index_mut.result.now) = subst (λ (x : Option (Option End)). IsEnd m.plan.program w of.hand x) at (on.under.ends w of.hand of.there) in
     ap is_some c.replace-end.ensures.value ∙ has_end m.plan.program w of.hand c.index_mut.result.now it
 
-pub stop-requires : goal.stop-requires
-stop-requires c =
+pub stop-requires-clause-stopping : goal.stop-requires-clause-stopping
+stop-requires-clause-stopping c =
     let m = kept_of c.args.listed.now.engine in
     let w = c.args.worker.0 in
     let ends = c.args.ends.now.items in

@@ -9,8 +9,8 @@ use Rattle.wave_machine.proofs.Labelled.{stood_kept, stood_stopped}
 use Rattle.wave_machine.proofs.Lasting.{prepared_still, room_still}
 use Rattle.wave_machine.proofs.machine.Machine.stop.Goals as goal
 
-pub stop-requires : goal.stop-requires
-stop-requires c = subst (λ (z : Shown). IsStopping z.kept c.args.lease c.args.pause) (sym c.self.view_is) c.requires
+pub stop-requires-clause-stopping : goal.stop-requires-clause-stopping
+stop-requires-clause-stopping c = subst (λ (z : Shown). IsStopping z.kept c.args.lease c.args.pause) (sym c.self.view_is) c.requires
 
 pub invariant_of-self : goal.invariant_of-self
 invariant_of-self c =
