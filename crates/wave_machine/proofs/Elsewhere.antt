@@ -27,10 +27,10 @@ use Rattle.wave_machine.specs.declared.actor.Actor.{Actor}
 use Rattle.wave_machine.specs.Machines.{Kept}
 use Rattle.wave_machine.specs.inner.Apart.{AnswersAs, AsksAs, Moves, grown}
 use Rattle.wave_machine.specs.inner.Asking.{enter_act, grant_labels, is_claim, is_next, is_next_in, label_at, mail_act, mail_labels, mails_labels, place_in, route_at, start_labels, status_labels}
-use Rattle.wave_machine.specs.inner.Index.{asked_at, asked_by, asked_of, cell_at, has_at, next_at, next_of}
+use Rattle.wave_machine.specs.inner.Index.{KeepsMails, asked_as, asked_at, asked_by, asked_of, cell_at, has_at, next_at, next_of, number_of, sent_at, sent_by, slot_at, slot_by}
 use Rattle.wave_machine.proofs.ListingKinds.{slice_none}
 use Rattle.wave_machine.proofs.ListingLists.{flat_same}
-use Rattle.wave_machine.proofs.Owned.{asked_here, cell_is, slice_some}
+use Rattle.wave_machine.proofs.Owned.{cell_is, cell_there, slice_some}
 
 some_map : {X Y : Type 0} (f : X → Y) (o : Option X) → is_some (option_map f o) ≡ is_some o
 some_map f None = refl
@@ -107,9 +107,17 @@ grown_few (Pass t k p g) = omega arith
 grown_few (Land t k p) = omega arith
 grown_few (Commit t) = omega arith
 
+-- a number but 0 is that of a mail
+pub asked_mail : (stores : List Stores) (t : ℕ) (c : Cell Actor) (j : ℕ) → j ≢ 0 → asked_as stores t c j ≡ mail_labels stores 0 t j (mail_in c.outbox.mails j)
+asked_mail stores t c zero some = absurd (some refl)
+asked_mail stores t c (suc k) some = refl
+
 module _ (m m' : Kept) (l : Label) (more : ℕ) (moves : Moves m m' l more) where
   abbrev p : Path
   p = path_of l.act
+
+  abbrev t : ℕ
+  t = ticket_of l.act
 
   pair : (P : Option Stores → Option Stores → Type 0) (h : ℕ) → P None None → ((st st' : Stores) → slice_get m.stores h ≡ Some st → slice_get m'.stores h ≡ Some st' → P (Some st) (Some st')) → P (slice_get m.stores h) (slice_get m'.stores h)
   pair P h none both = by_two (slice_get m.stores h) (slice_get m'.stores h) refl refl
@@ -145,6 +153,45 @@ module _ (m m' : Kept) (l : Label) (more : ℕ) (moves : Moves m m' l more) wher
       by_host : (h ≡ l.host) ⊎ ((h == l.host) ≡ false) → ((h ≡ l.host) × (q ≡ p)) ⊎ ((h ≡ l.host) × (q ≡ p) → ⊥)
       by_host (inl e) = by_path e (path_cases q p)
       by_host (inr d) = inr (λ both. not_same h l.host d both.0)
+
+  -- the cells of another ticket, before and after
+  record TwoCells (u : ℕ) : Type 0 where
+    old : Cell Actor
+    new : Cell Actor
+    old_is : cell_at m u ≡ Some old
+    new_is : cell_at m' u ≡ Some new
+    asks : AsksAs old new
+
+  two_cells : (grown l.act ≡ 1 → ticket_of l.act ≡ m.first + length m.cells) → (u : ℕ) → m'.first ≤ u → u < m'.first + length m'.cells → u ≢ ticket_of l.act → TwoCells u
+  two_cells grows u low high apart =
+      let first = moves.others.first in
+      let many = moves.as_many in
+      let few = grown_few l.act in
+      let old_low : m.first ≤ u = omega (arith, low, first) in
+      let old_high : u - m.first < length m.cells = within first many few in
+      let some = slice_some m.cells (u - m.first) old_high in
+      let some' = slice_some m'.cells (u - m'.first) (omega (arith, low, high)) in
+      let place : u - m'.first ≡ u - m.first = ap (λ n. u - n) first in
+      let at' : slice_get m'.cells (u - m.first) ≡ Some some'.0 = ap (slice_get m'.cells) (sym place) ∙ some'.1 in
+      let here' : m.first + (u - m.first) ≡ u = omega (arith, old_low) in
+      record {
+        old = some.0;
+        new = some'.0;
+        old_is = cell_is m u old_low ∙ some.1;
+        new_is = cell_is m' u low ∙ some'.1;
+        asks = moves.others.cells (u - m.first) some.0 some'.0 (λ e. apart (sym here' ∙ e)) some.1 at';
+      }
+    where
+      within : m'.first ≡ m.first → length m'.cells ≡ grown l.act + length m.cells → grown l.act ≤ 1 → u - m.first < length m.cells
+      within first many few = elim (number_cases (grown l.act) 1) [
+        | inl one ↦
+            let t = grows one in
+            let apart_t : u ≢ m.first + length m.cells = λ e. apart (e ∙ sym t) in
+            omega (arith, first, many, one, low, high, apart_t)
+        | inr d ↦
+            let zero_is : grown l.act ≢ 1 = not_same (grown l.act) 1 d in
+            omega (arith, first, many, few, zero_is, low, high)
+      ]
 
   module _ (here : has_at p (slice_get m'.stores l.host) ≡ has_at p (slice_get m.stores l.host)) where
     has_same : (h : ℕ) (q : Path) → has_at q (slice_get m'.stores h) ≡ has_at q (slice_get m.stores h)
@@ -224,28 +271,39 @@ module _ (m m' : Kept) (l : Label) (more : ℕ) (moves : Moves m m' l more) wher
       -- another ticket asks for the same
       pub others_ask : (grown l.act ≡ 1 → ticket_of l.act ≡ m.first + length m.cells) → m'.first ≤ u → u < m'.first + length m'.cells → u ≢ ticket_of l.act → asked_at m u ≡ asked_at m' u
       others_ask grows low high apart =
-          let first = moves.others.first in
-          let many = moves.as_many in
-          let few = grown_few l.act in
-          let old_low : m.first ≤ u = omega (arith, low, first) in
-          let old_high : u - m.first < length m.cells = within first many few in
-          let some = slice_some m.cells (u - m.first) old_high in
-          let some' = slice_some m'.cells (u - m'.first) (omega (arith, low, high)) in
-          let place : u - m'.first ≡ u - m.first = ap (λ n. u - n) first in
-          let at' : slice_get m'.cells (u - m.first) ≡ Some some'.0 = ap (slice_get m'.cells) (sym place) ∙ some'.1 in
-          let here' : m.first + (u - m.first) ≡ u = omega (arith, old_low) in
-          let asks : AsksAs some.0 some'.0 = moves.others.cells (u - m.first) some.0 some'.0 (λ e. apart (sym here' ∙ e)) some.1 at' in
-          ap (asked_by m.stores u) (cell_is m u old_low ∙ some.1)
-          ∙ sym (asked_same some.0 some'.0 asks)
-          ∙ sym (ap (asked_by m'.stores u) (cell_is m' u low ∙ some'.1))
-        where
-          within : m'.first ≡ m.first → length m'.cells ≡ grown l.act + length m.cells → grown l.act ≤ 1 → u - m.first < length m.cells
-          within first many few = elim (number_cases (grown l.act) 1) [
-            | inl one ↦
-                let t = grows one in
-                let apart_t : u ≢ m.first + length m.cells = λ e. apart (e ∙ sym t) in
-                omega (arith, first, many, one, low, high, apart_t)
-            | inr d ↦
-                let zero_is : grown l.act ≢ 1 = not_same (grown l.act) 1 d in
-                omega (arith, first, many, few, zero_is, low, high)
-          ]
+          let it = two_cells grows u low high apart in
+          ap (asked_by m.stores u) it.old_is ∙ sym (asked_same it.old it.new it.asks) ∙ sym (ap (asked_by m'.stores u) it.new_is)
+
+    -- and so does each of its numbers; 0 is the status of who neither was nor is next
+    pub others_slot : (grown l.act ≡ 1 → ticket_of l.act ≡ m.first + length m.cells) → (u j : ℕ) → m'.first ≤ u → u < m'.first + length m'.cells → u ≢ ticket_of l.act
+        → (j ≡ 0 → next_at p (slice_get m.stores l.host) ≡ Some u → ⊥) → (j ≡ 0 → next_at p (slice_get m'.stores l.host) ≡ Some u → ⊥) → slot_at m u j ≡ slot_at m' u j
+    others_slot grows u j low high apart before after =
+        let it = two_cells grows u low high apart in
+        ap (slot_by m.stores u j) it.old_is ∙ sym (by_number j before after it.old it.new it.asks) ∙ sym (ap (slot_by m'.stores u j) it.new_is)
+      where
+        by_number : (j : ℕ) → (j ≡ 0 → next_at p (slice_get m.stores l.host) ≡ Some u → ⊥) → (j ≡ 0 → next_at p (slice_get m'.stores l.host) ≡ Some u → ⊥) → (c c' : Cell Actor) → AsksAs c c' → asked_as m'.stores u c' j ≡ asked_as m.stores u c j
+        by_number zero before after c c' a = ap (status_labels m'.stores 0 u) a.status ∙ status_same u (before refl) (after refl) c.status
+        by_number (suc k) before after c c' a = ap (λ ms. mail_labels m'.stores 0 u (suc k) (mail_in ms (suc k))) a.mails ∙ mail_same u (suc k) (mail_in c.outbox.mails (suc k))
+
+    -- of the label's ticket each mail that was sent before, but the label's own, asks for the same
+    pub own_slot : KeepsMails m m' l → (j : ℕ) → m'.first ≤ ticket_of l.act → ticket_of l.act < m'.first + length m'.cells → j ≢ 0 → j ≢ number_of l.act → j ≤ sent_at m (ticket_of l.act) → slot_at m (ticket_of l.act) j ≡ slot_at m' (ticket_of l.act) j
+    own_slot keeps j low high some apart within = by_cell (cell_at m t) refl
+      where
+        by_cell : (o : Option (Cell Actor)) → cell_at m t ≡ o → slot_at m t j ≡ slot_at m' t j
+        by_cell None e = absurd (let none : sent_at m (ticket_of l.act) ≡ 0 = ap sent_by e in omega (arith, none, within, some))
+        by_cell (Some c) e =
+            let first = moves.others.first in
+            let there = cell_there m t c e in
+            let new = slice_some m'.cells (t - m'.first) (omega (arith, low, high)) in
+            let place : t - m'.first ≡ t - m.first = ap (λ n. t - n) first in
+            let old_low = there.low in
+            let here' : m.first + (t - m.first) ≡ t = omega (arith, old_low) in
+            let sent : sent_at m (ticket_of l.act) ≡ c.outbox.sent = ap sent_by e in
+            let small : j ≤ c.outbox.sent = omega (arith, within, sent) in
+            let kept = keeps.kept (t - m.first) c new.0 here' there.at (ap (slice_get m'.cells) (sym place) ∙ new.1) j small apart m'.stores in
+            ap (slot_by m.stores t j) e
+            ∙ asked_mail m.stores t c j some
+            ∙ sym (mail_same t j (mail_in c.outbox.mails j))
+            ∙ sym kept
+            ∙ sym (asked_mail m'.stores t new.0 j some)
+            ∙ sym (ap (slot_by m'.stores t j) (cell_is m' t low ∙ new.1))

@@ -48,6 +48,7 @@ pub mod Parting
 pub mod Ordering
 pub mod Relisted
 pub mod Owned
+pub mod Renewed
 pub mod Heads
 pub mod Elsewhere
 pub mod Weighing
@@ -60,3 +61,5 @@ pub mod Bridged
 pub mod ListingParts
 pub mod Grows
 pub mod Roomier
+pub mod OwnMails
+pub mod KeptMails

@@ -66,10 +66,10 @@ module _ (m : Kept) where
       ∙ (λ i. no_head 0 i ++ (filter_flat (is_kind 5) (asked_at m) (tickets_from m.first (length m.cells)) ∙ flat_none (λ u. of_kind 5 (asked_at m u)) no_stop_at (tickets_from m.first (length m.cells))) i)
 
   -- so the index is in two parts about the Stops
-  pub about_stops : (index : List Ready) → IsIndex m index → Parted (map by_none index) 5 0 (lower 5 all) (upper 5 all)
+  pub about_stops : (index : List Ready) → IsIndex m index → Parted (map by_none index) 5 0 0 (lower 5 all) (upper 5 all)
   about_stops index e =
-      subst (λ ls. Parted ls 5 0 (lower 5 all) (upper 5 all)) (sym e)
-      (subst (λ low. Parted (in_order all) 5 0 low (upper 5 all)) (append-nil (lower 5 all)) (parted 5 0 all [] [] (omega arith) no_stops tt tt))
+      subst (λ ls. Parted ls 5 0 0 (lower 5 all) (upper 5 all)) (sym e)
+      (subst (λ low. Parted (in_order all) 5 0 0 low (upper 5 all)) (append-nil (lower 5 all)) (parted 5 0 0 all [] [] (omega arith) no_stops tt tt))
 
 -- ---- a list of what is asked for, about the Stops
 

@@ -7,9 +7,9 @@ use Rattle.std.proofs.lemmas.List.Elements.{filter-append}
 use Rattle.wave_base.specs.Fold.{tickets_from}
 use Rattle.wave_states.specs.Labels.{Act, Label, ticket_of}
 use Rattle.wave_theory.specs.Listed.{kind_of}
-use Rattle.wave_theory.proofs.Basics.{number_is, number_self, differ}
+use Rattle.wave_theory.proofs.Basics.{number_cases, number_is, number_self, not_same, differ}
 use Rattle.wave_machine.specs.inner.Asking.{in_order, of_kind}
-use Rattle.wave_machine.specs.inner.Index.{High, Low, Parted, under}
+use Rattle.wave_machine.specs.inner.Index.{High, IsBefore, IsUpTo, Low, Parted, is_before, number_of, under}
 
 -- ---- what holds of all of a list
 module _ {X : Type 0} (P : X → Type 0) where
@@ -101,39 +101,74 @@ upper_same k xs ys h = same_numbered (λ j. of_kind j xs) (λ j. of_kind j ys) (
 pub kind_append : (k : ℕ) (xs ys : List Label) → of_kind k (xs ++ ys) ≡ of_kind k xs ++ of_kind k ys
 kind_append k xs ys = filter-append (λ (l : Label). kind_of l.act == k) xs ys
 
--- ---- the parts of the list about a kind and a ticket
-under_lower : (k n i t : ℕ) → i < k → (nat_lt i k || (nat_eq i k && nat_lt t n)) ≡ true
-under_lower k n i t l = grind (arith, nat_tests)
+-- ---- the parts of the list about a kind and a slot
+less : (a b : ℕ) → a < b → nat_lt a b ≡ true
+less a b l = grind (arith, nat_tests)
 
-under_upper : (k n i t : ℕ) → k < i → (nat_lt i k || (nat_eq i k && nat_lt t n)) ≡ false
-under_upper k n i t l = grind (arith, nat_tests)
+not_less : (a b : ℕ) → b ≤ a → nat_lt a b ≡ false
+not_less a b l = grind (arith, nat_tests)
 
-under_own : (k n i t : ℕ) → i ≡ k → t < n → (nat_lt i k || (nat_eq i k && nat_lt t n)) ≡ true
-under_own k n i t e l = grind (arith, nat_tests)
+same : (a b : ℕ) → a ≡ b → (a == b) ≡ true
+same a b e = ap (λ n. n == b) e ∙ number_self b
 
-past_own : (k n i t : ℕ) → i ≡ k → n ≤ t → (nat_lt i k || (nat_eq i k && nat_lt t n)) ≡ false
-past_own k n i t e l = grind (arith, nat_tests)
+pub before_true : (t k u j : ℕ) → IsBefore t k u j → is_before t k u j ≡ true
+before_true t k u j b = by_ticket (number_cases t u)
+  where
+    by_ticket : (t ≡ u) ⊎ ((t == u) ≡ false) → (nat_lt t u || ((t == u) && nat_lt k j)) ≡ true
+    by_ticket (inl e) = λ i. not_less t u (omega (arith, e)) i || (same t u e i && less k j (b.number e) i)
+    by_ticket (inr d) =
+        let apart : t ≢ u = not_same t u d in
+        let up = b.ticket in
+        ap (λ c. c || ((t == u) && nat_lt k j)) (less t u (omega (arith, apart, up)))
 
-module _ (k n : ℕ) where
-  all_lower : (ls : List Label) → AllByRecursion (λ (l : Label). under k n l.act ≡ true) (lower k ls)
-  all_lower ls = all_numbered (λ (l : Label). under k n l.act ≡ true) (λ j. of_kind j ls) 0 k (λ j low high.
-      all_filter (λ (l : Label). under k n l.act ≡ true) (λ l. Unit {0}) (λ (l : Label). kind_of l.act == j) (λ l e u. let is : kind_of l.act ≡ j = number_is (kind_of l.act) j e in under_lower k n (kind_of l.act) (ticket_of l.act) (omega (arith, is, high))) ls (always ls))
+pub before_false : (t k u j : ℕ) → IsUpTo u j t k → is_before t k u j ≡ false
+before_false t k u j b = by_ticket (number_cases t u)
+  where
+    by_ticket : (t ≡ u) ⊎ ((t == u) ≡ false) → (nat_lt t u || ((t == u) && nat_lt k j)) ≡ false
+    by_ticket (inl e) = λ i. not_less t u b.ticket i || (same t u e i && not_less k j (b.number (sym e)) i)
+    by_ticket (inr d) = λ i. not_less t u b.ticket i || (d i && nat_lt k j)
 
-  all_upper : (ls : List Label) → AllByRecursion (λ (l : Label). under k n l.act ≡ false) (upper k ls)
-  all_upper ls = all_numbered (λ (l : Label). under k n l.act ≡ false) (λ j. of_kind j ls) (suc k) (10 - suc k) (λ j low high.
-      all_filter (λ (l : Label). under k n l.act ≡ false) (λ l. Unit {0}) (λ (l : Label). kind_of l.act == j) (λ l e u. let is : kind_of l.act ≡ j = number_is (kind_of l.act) j e in under_upper k n (kind_of l.act) (ticket_of l.act) (omega (arith, is, low))) ls (always ls))
+under_lower : (kind i : ℕ) (b : Bool) → i < kind → (nat_lt i kind || ((i == kind) && b)) ≡ true
+under_lower kind i b l = ap (λ c. c || ((i == kind) && b)) (less i kind l)
 
-  all_low : (ls : List Label) → AllByRecursion (Low k n) ls → AllByRecursion (λ (l : Label). under k n l.act ≡ true) (of_kind k ls)
-  all_low ls a = all_filter (λ (l : Label). under k n l.act ≡ true) (Low k n) (λ (l : Label). kind_of l.act == k) (λ l e u. let is : kind_of l.act ≡ k = number_is (kind_of l.act) k e in under_own k n (kind_of l.act) (ticket_of l.act) is (u is)) ls a
+under_upper : (kind i : ℕ) (b : Bool) → kind < i → (nat_lt i kind || ((i == kind) && b)) ≡ false
+under_upper kind i b l = λ n. not_less i kind (omega (arith, l)) n || (differ i kind (λ e. omega (arith, e, l)) n && b)
 
-  all_high : (ls : List Label) → AllByRecursion (High k n) ls → AllByRecursion (λ (l : Label). under k n l.act ≡ false) (of_kind k ls)
-  all_high ls a = all_filter (λ (l : Label). under k n l.act ≡ false) (High k n) (λ (l : Label). kind_of l.act == k) (λ l e u. let is : kind_of l.act ≡ k = number_is (kind_of l.act) k e in past_own k n (kind_of l.act) (ticket_of l.act) is (u is)) ls a
+under_own : (kind i : ℕ) (b : Bool) → i ≡ kind → b ≡ true → (nat_lt i kind || ((i == kind) && b)) ≡ true
+under_own kind i b e y = λ n. not_less i kind (omega (arith, e)) n || (same i kind e n && y n)
 
-  pub parted : (ls u v : List Label) → k < 10 → of_kind k ls ≡ of_kind k u ++ of_kind k v → AllByRecursion (Low k n) u → AllByRecursion (High k n) v → Parted (in_order ls) k n (lower k ls ++ of_kind k u) (of_kind k v ++ upper k ls)
+past_own : (kind i : ℕ) (b : Bool) → i ≡ kind → b ≡ false → (nat_lt i kind || ((i == kind) && b)) ≡ false
+past_own kind i b e y = λ n. not_less i kind (omega (arith, e)) n || (same i kind e n && y n)
+
+module _ (kind t k : ℕ) where
+  abbrev Passes : Label → Type 0
+  Passes l = under kind t k l.act ≡ true
+
+  abbrev Fails : Label → Type 0
+  Fails l = under kind t k l.act ≡ false
+
+  abbrev own_before : Label → Bool
+  own_before l = is_before (ticket_of l.act) (number_of l.act) t k
+
+  all_lower : (ls : List Label) → AllByRecursion Passes (lower kind ls)
+  all_lower ls = all_numbered Passes (λ j. of_kind j ls) 0 kind (λ j low high.
+      all_filter Passes (λ l. Unit {0}) (λ (l : Label). kind_of l.act == j) (λ l e u. let is : kind_of l.act ≡ j = number_is (kind_of l.act) j e in under_lower kind (kind_of l.act) (own_before l) (omega (arith, is, high))) ls (always ls))
+
+  all_upper : (ls : List Label) → AllByRecursion Fails (upper kind ls)
+  all_upper ls = all_numbered Fails (λ j. of_kind j ls) (suc kind) (10 - suc kind) (λ j low high.
+      all_filter Fails (λ l. Unit {0}) (λ (l : Label). kind_of l.act == j) (λ l e u. let is : kind_of l.act ≡ j = number_is (kind_of l.act) j e in under_upper kind (kind_of l.act) (own_before l) (omega (arith, is, low))) ls (always ls))
+
+  all_low : (ls : List Label) → AllByRecursion (Low kind t k) ls → AllByRecursion Passes (of_kind kind ls)
+  all_low ls a = all_filter Passes (Low kind t k) (λ (l : Label). kind_of l.act == kind) (λ l e u. let is : kind_of l.act ≡ kind = number_is (kind_of l.act) kind e in under_own kind (kind_of l.act) (own_before l) is (before_true (ticket_of l.act) (number_of l.act) t k (u is))) ls a
+
+  all_high : (ls : List Label) → AllByRecursion (High kind t k) ls → AllByRecursion Fails (of_kind kind ls)
+  all_high ls a = all_filter Fails (High kind t k) (λ (l : Label). kind_of l.act == kind) (λ l e u. let is : kind_of l.act ≡ kind = number_is (kind_of l.act) kind e in past_own kind (kind_of l.act) (own_before l) is (before_false (ticket_of l.act) (number_of l.act) t k (u is))) ls a
+
+  pub parted : (ls u v : List Label) → kind < 10 → of_kind kind ls ≡ of_kind kind u ++ of_kind kind v → AllByRecursion (Low kind t k) u → AllByRecursion (High kind t k) v → Parted (in_order ls) kind t k (lower kind ls ++ of_kind kind u) (of_kind kind v ++ upper kind ls)
   parted ls u v small are low high = record {
-    all = kinds_are k ls small ∙ ap (λ m. lower k ls ++ (m ++ upper k ls)) are ∙ ap (λ r. lower k ls ++ r) (append_assoc (of_kind k u) (of_kind k v) (upper k ls)) ∙ sym (append_assoc (lower k ls) (of_kind k u) (of_kind k v ++ upper k ls));
-    lower = all_append (λ (l : Label). under k n l.act ≡ true) (lower k ls) (of_kind k u) (all_lower ls) (all_low u low);
-    higher = all_append (λ (l : Label). under k n l.act ≡ false) (of_kind k v) (upper k ls) (all_high v high) (all_upper ls);
+    all = kinds_are kind ls small ∙ ap (λ m. lower kind ls ++ (m ++ upper kind ls)) are ∙ ap (λ r. lower kind ls ++ r) (append_assoc (of_kind kind u) (of_kind kind v) (upper kind ls)) ∙ sym (append_assoc (lower kind ls) (of_kind kind u) (of_kind kind v ++ upper kind ls));
+    lower = all_append Passes (lower kind ls) (of_kind kind u) (all_lower ls) (all_low u low);
+    higher = all_append Fails (of_kind kind v) (upper kind ls) (all_high v high) (all_upper ls);
   }
 
 -- ---- one more of a kind

@@ -1,10 +1,11 @@
 -- Lists in two parts, and what an edit at the place between them makes of them.
-use Rattle.std.proofs.Common.{◌≡◌, ◌∙◌, ◌⊎◌, inl, inr, ℕ, zero, suc, ◌+◌, ◌-◌, ◌<◌, ◌≤◌, Bool, true, false, List, [], ◌∷◌, ◌++◌, length, map, get_or, take, drop, Option, Some, None, Result, Ok, Err, refl, sym, ap, subst, arith, true≢false}
+use Rattle.std.proofs.Common.{◌≡◌, ◌∙◌, ◌⊎◌, inl, inr, ℕ, zero, suc, ◌+◌, ◌-◌, ◌<◌, ◌≤◌, ◌==◌, ◌&&◌, Bool, true, false, List, [], ◌∷◌, ◌++◌, length, map, get_or, take, drop, Option, Some, None, Result, Ok, Err, refl, sym, ap, subst, arith, true≢false}
 use Rattle.std.specs.Prelude.{slice_get, is_ok, IsOk, if◌then◌else◌}
-use Rattle.std.specs.List.{AllByRecursion, insert, remove_range}
-use Rattle.std.proofs.lemmas.List.{length-append, length-map}
-use Rattle.wave_states.specs.Labels.{Label}
-use Rattle.wave_machine.specs.inner.Index.{Parted, by_none, under}
+use Rattle.std.specs.List.{AllByRecursion, insert}
+use Rattle.wave_labels.specs.Labels.{act_of}
+use Rattle.wave_states.specs.Labels.{Act, Label, ticket_of}
+use Rattle.wave_theory.specs.Listed.{kind_of}
+use Rattle.wave_machine.specs.inner.Index.{Parted, by_none, is_of, number_of, under}
 use Rattle.wave_machine.specs.declared.ready.Ready.{Ready}
 
 module _ {X : Type 0} (test : X → Bool) where
@@ -33,19 +34,37 @@ module _ {X Y : Type 0} (f : X → Y) where
       let tail : map f xs ≡ low ++ high = cc in
       λ i. head i ∷ inserted xs low high x tail i
 
-  -- what stands between two places is out
-  dropped : (xs : List X) (own high : List Y) → map f xs ≡ own ++ high → map f (drop (length own) xs) ≡ high
+  -- all but the first ones, and all but one
+  pub dropped : (xs : List X) (own high : List Y) → map f xs ≡ own ++ high → map f (drop (length own) xs) ≡ high
   dropped xs [] high e = e
   dropped [] (y ∷ own) high e = cc
   dropped (x ∷ xs) (y ∷ own) high e = let tail : map f xs ≡ own ++ high = cc in dropped xs own high tail
 
-  pub ranged : (xs : List X) (low own high : List Y) → map f xs ≡ low ++ (own ++ high) → map f (take (length low) xs ++ drop (length (low ++ own)) xs) ≡ low ++ high
-  ranged xs [] own high e = dropped xs own high e
-  ranged [] (y ∷ low) own high e = cc
-  ranged (x ∷ xs) (y ∷ low) own high e =
+  pub taken : (xs : List X) (low high : List Y) → map f xs ≡ low ++ high → map f (take (length low) xs) ≡ low
+  taken xs [] high e = refl
+  taken [] (y ∷ low) high e = cc
+  taken (x ∷ xs) (y ∷ low) high e =
       let head : f x ≡ y = cc in
-      let tail : map f xs ≡ low ++ (own ++ high) = cc in
-      λ i. head i ∷ ranged xs low own high tail i
+      let tail : map f xs ≡ low ++ high = cc in
+      λ i. head i ∷ taken xs low high tail i
+
+  pub but_one : (xs : List X) (low : List Y) (y : Y) (high : List Y) → map f xs ≡ low ++ y ∷ high → map f (take (length low) xs ++ drop (suc (length low)) xs) ≡ low ++ high
+  but_one [] [] y high e = cc
+  but_one (x ∷ xs) [] y high e = let tail : map f xs ≡ high = cc in tail
+  but_one [] (z ∷ low) y high e = cc
+  but_one (x ∷ xs) (z ∷ low) y high e =
+      let head : f x ≡ z = cc in
+      let tail : map f xs ≡ low ++ y ∷ high = cc in
+      λ i. head i ∷ but_one xs low y high tail i
+
+pub drop_one : {X : Type 0} (xs : List X) (i : ℕ) → drop 1 (drop i xs) ≡ drop (i + 1) xs
+drop_one xs i = let next : suc i ≡ i + 1 = omega arith in more xs i ∙ ap (λ n. drop n xs) next
+  where
+    more : {X : Type 0} (ys : List X) (j : ℕ) → drop 1 (drop j ys) ≡ drop (suc j) ys
+    more [] zero = refl
+    more [] (suc j) = refl
+    more (y ∷ ys) zero = refl
+    more (y ∷ ys) (suc j) = more ys j
 
 slice_of_map : {X Y : Type 0} (f : X → Y) (xs : List X) (i : ℕ) (x : X) → slice_get xs i ≡ Some x → slice_get (map f xs) i ≡ Some (f x)
 slice_of_map f [] i x e = cc
@@ -53,22 +72,59 @@ slice_of_map f (y ∷ xs) zero x e = let same : y ≡ x = cc in ap (λ z. Some (
 slice_of_map f (y ∷ xs) (suc i) x e = slice_of_map f xs i x e
 
 -- where one that is read belongs
-module _ (index : List Ready) (k n : ℕ) (low high : List Label) (p : Parted (map by_none index) k n low high) (i : ℕ) (x : Ready) (at : slice_get index i ≡ Some x) where
+module _ (index : List Ready) (kind t k : ℕ) (low high : List Label) (p : Parted (map by_none index) kind t k low high) (i : ℕ) (x : Ready) (at : slice_get index i ≡ Some x) where
   there : slice_get (low ++ high) i ≡ Some (by_none x)
   there = ap (λ ls. slice_get ls i) (sym p.all) ∙ slice_of_map by_none index i x at
 
-  pub is_lower : under k n (by_none x).act ≡ true → i < length low
-  is_lower e = in_lower (λ (l : Label). under k n l.act) low high p.higher i (by_none x) there e
+  pub is_lower : under kind t k (by_none x).act ≡ true → i < length low
+  is_lower e = in_lower (λ (l : Label). under kind t k l.act) low high p.higher i (by_none x) there e
 
-  pub is_higher : under k n (by_none x).act ≡ false → length low ≤ i
-  is_higher e = in_higher (λ (l : Label). under k n l.act) low high p.lower i (by_none x) there e
+  pub is_higher : under kind t k (by_none x).act ≡ false → length low ≤ i
+  is_higher e = in_higher (λ (l : Label). under kind t k l.act) low high p.lower i (by_none x) there e
 
-pub cut_out : (old : List Ready) (first end : ℕ) (low own high : List Label) → first ≡ length low → end ≡ length (low ++ own) → map by_none old ≡ low ++ (own ++ high) → map by_none (remove_range old first end) ≡ low ++ high
-cut_out old first end low own high a b e = (λ i. map by_none (remove_range old (a i) (b i))) ∙ ranged by_none old low own high e
-
-pub put_in : (old : List Ready) (k n at : ℕ) (x : Ready) (low high : List Label) → at ≡ length low → Parted (map by_none old) k n low high → map by_none (insert old at x) ≡ low ++ by_none x ∷ high
-put_in old k n at x low high e p = ap (λ j. map by_none (insert old j x)) e ∙ inserted by_none old low high x p.all
+pub put_in : (old : List Ready) (kind t k at : ℕ) (x : Ready) (low high : List Label) → at ≡ length low → Parted (map by_none old) kind t k low high → map by_none (insert old at x) ≡ low ++ by_none x ∷ high
+put_in old kind t k at x low high e p = ap (λ j. map by_none (insert old j x)) e ∙ inserted by_none old low high x p.all
 
 -- what can be done is done
 pub done_by : {A T E : Type 0} (r : Result T E) (a b : A) → IsOk r → (if is_ok r then a else b) ≡ a
 done_by r a b h = ap (λ t. if t then a else b) h
+
+-- ---- what is taken out at a place
+module _ (kind t k : ℕ) where
+  abbrev pub is_slot : Act → Bool
+  is_slot a = (kind_of a == kind) && ((ticket_of a == t) && (number_of a == k))
+
+  abbrev pub first_is : List Label → Bool
+  first_is [] = false
+  first_is (l ∷ ls) = is_slot l.act
+
+  pub at_place : (old : List Ready) (low rest : List Label) → map by_none old ≡ low ++ rest → is_of kind t k (slice_get old (length low)) ≡ first_is rest
+  at_place [] [] [] e = refl
+  at_place [] [] (l ∷ rest) e = cc
+  at_place (r ∷ old) [] [] e = cc
+  at_place (r ∷ old) [] (l ∷ rest) e = let head : by_none r ≡ l = cc in ap (λ (x : Label). is_slot x.act) head
+  at_place [] (l ∷ low) rest e = cc
+  at_place (r ∷ old) (l ∷ low) rest e = let tail : map by_none old ≡ low ++ rest = cc in at_place old low rest tail
+
+  pub is_within : (old : List Ready) (i : ℕ) → is_of kind t k (slice_get old i) ≡ true → i < length old
+  is_within [] i e = absurd (true≢false (sym e))
+  is_within (r ∷ old) zero e = omega arith
+  is_within (r ∷ old) (suc i) e = let more = is_within old i e in omega (arith, more)
+
+  pub first_none : (ls : List Label) → AllByRecursion (λ (l : Label). is_slot l.act ≡ false) ls → first_is ls ≡ false
+  first_none [] a = refl
+  first_none (l ∷ ls) a = a.0
+
+  -- what stands there is the only one, and there is none where another stands there
+  pub cut_hit : (old : List Ready) (at : ℕ) (low own high : List Label) → at ≡ length low → map by_none old ≡ low ++ (own ++ high) → length own ≤ 1 → AllByRecursion (λ (l : Label). is_slot l.act ≡ false) high
+      → is_of kind t k (slice_get old at) ≡ true → map by_none (take at old ++ drop (at + 1) old) ≡ low ++ high
+  cut_hit old at low [] high e all few none hit = absurd (true≢false (sym hit ∙ ap (λ i. is_of kind t k (slice_get old i)) e ∙ at_place old low high all ∙ first_none high none))
+  cut_hit old at low (l ∷ []) high e all few none hit =
+      let next : at + 1 ≡ suc (length low) = omega (arith, e) in
+      (λ i. map by_none (take (e i) old ++ drop (next i) old)) ∙ but_one by_none old low l high all
+  cut_hit old at low (l ∷ (x ∷ own)) high e all few none hit = absurd (omega (arith, few))
+
+  pub cut_miss : (old : List Ready) (at : ℕ) (low own high : List Label) → at ≡ length low → map by_none old ≡ low ++ (own ++ high) → AllByRecursion (λ (l : Label). is_slot l.act ≡ true) own
+      → is_of kind t k (slice_get old at) ≡ false → map by_none old ≡ low ++ high
+  cut_miss old at low [] high e all own miss = all
+  cut_miss old at low (l ∷ ls) high e all own miss = absurd (true≢false (sym own.0 ∙ sym (at_place old low (l ∷ (ls ++ high)) all) ∙ ap (λ i. is_of kind t k (slice_get old i)) (sym e) ∙ miss))

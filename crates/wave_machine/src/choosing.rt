@@ -15,7 +15,7 @@ use crate::listable::states_list;
 use crate::listed::Listed;
 use crate::order::kind_of;
 use crate::ready::Ready;
-use wave_base::Worker;
+use wave_base::{Ticket, Worker};
 use wave_labels::Label;
 
 impl<'p> Listed<'p> {
@@ -29,8 +29,8 @@ impl<'p> Listed<'p> {
         self.index.as_slice()
     }
 
-    // One of what an idle worker can do: of the last kind of which there is something, what the first ticket asks for. So the next
-    // result comes first and the next job last, and little is under way.
+    // One of what an idle worker can do, of the last kind of which there is something. So the next result comes first and the next job
+    // last, and little is under way.
     pub(crate) fn some_for(&self, worker: Worker) -> Option<Label>
         requires listed { IsListed self.now }
         requires idle { slice_get self.now.engine.hands.items worker.0 ≡ Some None }
@@ -38,22 +38,29 @@ impl<'p> Listed<'p> {
     {
         states_are_known();
         states_list();
-        match first_of_last(&self.index) {
+        match one_of_last(&self.index) {
             Some(ready) => Some(ready.by(worker)),
             None => None,
         }
     }
 }
 
-// The first one of the last kind.
-fn first_of_last(index: &[Ready]) -> Option<Ready>
+// One of the last kind: of a Free, Pass, Land or Commit the last one, behind which nothing moves when it is taken out, and else the
+// first one.
+fn one_of_last(index: &[Ready]) -> Option<Ready>
     ensures { IsPickOf index.now result }
 {
     match index.last() {
-        Some(last) => match index.get(place(index, kind_of(&last.act), 0)) {
-            Some(first) => Some(*first),
-            None => Some(*last),
-        },
+        Some(last) => {
+            let kind = kind_of(&last.act);
+            if kind > 5 {
+                return Some(*last);
+            }
+            match index.get(place(index, kind, Ticket(0), 0)) {
+                Some(first) => Some(*first),
+                None => Some(*last),
+            }
+        }
         None => None,
     }
 }

@@ -23,7 +23,7 @@ ghost use Rattle.wave_machine.specs.inner.Spare.{IsAsLong, SameButRooms};
 use crate::done::done_stays;
 use crate::engine::Engine;
 use crate::hands::segments_are_known;
-use crate::index::{cut_head, ticket_of};
+use crate::index::ticket_of;
 use crate::known::heads_are_known;
 use crate::laws::states_are_known;
 use crate::lease::Lease;
@@ -37,8 +37,9 @@ use std::alloc::Global;
 use wave_base::{Finished, Host, OutOfMemory, Path, Pause, Start, Ticket};
 use wave_labels::Label;
 
-/// An engine, and in canonical order what can be done by an idle worker. A label changes what its ticket asks for, and whoever is next in
-/// the line of its context; where the context comes or goes, all tickets are listed anew.
+/// An engine, and in canonical order what can be done by an idle worker. A label changes what the status of its ticket asks for, its own
+/// mail and those that it sends, and what whoever is next in the line of its context asks for; where the context comes or goes, all
+/// tickets are listed anew.
 #[derive(Drop)]
 pub(crate) struct Listed<'p> {
     pub(crate) engine: Engine<'p>,
@@ -49,12 +50,14 @@ pub(crate) struct Listed<'p> {
     weight: usize,
 }
 
-// What is looked at before a label is taken: who is next in the line of its context, whether the context is there, and the share of its ticket.
+// What is looked at before a label is taken: who is next in the line of its context, whether the context is there, the share of its
+// ticket, and how many mails that has sent.
 #[derive(Clone, Copy)]
 pub(crate) struct Seen {
     pub(crate) next: Option<Ticket>,
     pub(crate) here: bool,
     pub(crate) share: usize,
+    pub(crate) sent: u32,
 }
 
 impl<'p> Listed<'p> {
@@ -75,7 +78,7 @@ impl<'p> Listed<'p> {
         let engine = Engine::new_at(alloc, plan, start)?;
         let mut index = Vec::new(alloc);
         index.reserve(2)?;
-        engine.list_head(&mut index);
+        engine.relist_head(&mut index);
         Ok(Listed {
             engine,
             index,
@@ -131,15 +134,13 @@ impl<'p> Listed<'p> {
         self.engine.prepare(alloc, label)
     }
 
-    // Makes room for what a label may add to the index: of each of three tickets that are listed anew its share, and the head's entries.
+    // Makes room for what a label lists anew: all tickets, or a few entries and those of the mails that came; and the head's entries.
     fn reserve(&mut self, more: usize) -> Result<(), OutOfMemory>
         ensures room { OnOk result (HasRoom self.new more) }
         ensures same { SameList self.old self.new }
     {
-        let most = self.weight.checked_add(more).ok_or(OutOfMemory)?;
-        let most = most.checked_add(2).ok_or(OutOfMemory)?;
-        let room = most.checked_mul(3).ok_or(OutOfMemory)?;
-        let room = room.checked_add(2).ok_or(OutOfMemory)?;
+        let room = self.weight.checked_add(more).ok_or(OutOfMemory)?;
+        let room = room.checked_add(8).ok_or(OutOfMemory)?;
         self.index.reserve(room)?;
         Ok(())
     }
@@ -155,6 +156,7 @@ impl<'p> Listed<'p> {
         ensures plan { self.new.engine.plan ≡ self.old.engine.plan }
         ensures listed { IsListed self.new }
     {
+        states_are_known();
         done_stays();
         let seen = self.look(label.host, ticket_of(&label.act), &path_of(&label.act));
         self.engine.act(label, part);
@@ -175,6 +177,7 @@ impl<'p> Listed<'p> {
         ensures plan { self.new.engine.plan ≡ self.old.engine.plan }
         ensures listed { IsListed self.new }
     {
+        states_are_known();
         done_stays();
         let seen = self.look(label.host, ticket_of(&label.act), &path_of(&label.act));
         let lease = self.engine.act_start(label, part);
@@ -247,6 +250,7 @@ impl<'p> Listed<'p> {
             next: self.engine.next_at(host, path),
             here: self.engine.has_at(host, path),
             share: self.engine.share(ticket),
+            sent: self.engine.sent(ticket),
         }
     }
 
@@ -260,10 +264,9 @@ impl<'p> Listed<'p> {
         heads_are_known();
         let share = self.engine.share(ticket_of(&label.act));
         self.weight = self.weight - seen.share + share;
-        cut_head(&mut self.index);
         self.engine
             .relist_after(label, seen, self.done, &mut self.index);
-        self.engine.list_head(&mut self.index);
+        self.engine.relist_head(&mut self.index);
         self.done = self.engine.count_done(self.done);
     }
 }

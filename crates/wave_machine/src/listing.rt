@@ -69,7 +69,7 @@ impl<'p> Listed<'p> {
     {
         let mut labels = Vec::new(*self.index.allocator());
         let index = self.index.as_slice();
-        let (early, late) = index.split_at(place(index, 5, 0));
+        let (early, late) = index.split_at(place(index, 5, Ticket(0), 0));
         add_all(&mut labels, takers.idle, early)?;
         self.engine.ask_all_stops(takers, self.done, &mut labels)?;
         add_all(&mut labels, takers.idle, late)?;

@@ -14,12 +14,12 @@ loop-low-preserved-then-is_under c =
     let x = c.index-index-middle.result in
     let within : i < length index = omega (arith, c.loop-low-test.true, c.loop-low.invariant.within) in
     let at : slice_get index i ≡ Some x = slice_get_read index _ i x refl within c.index-index-middle.is in
-    let same = ap (λ (z : Ready). under c.args.kind c.args.from (act_of z.act)) c.index-index-middle.is in
+    let same = ap (λ (z : Ready). under c.args.kind c.args.ticket.0 c.args.number (act_of z.act)) c.index-index-middle.is in
     record {
       order = omega (arith, c.loop-low-test.true);
       within = c.loop-low.invariant.within;
       between = λ low high p. let was = c.loop-low.invariant.between low high p in
-      let more = is_lower index c.args.kind c.args.from low high p i x at (same ∙ sym c.is_under.ensures ∙ c.if-is_under.true) in
+      let more = is_lower index c.args.kind c.args.ticket.0 c.args.number low high p i x at (same ∙ sym c.is_under.ensures ∙ c.if-is_under.true) in
       record { above = omega (arith, more); under = was.under };
     }
 
@@ -30,10 +30,10 @@ loop-low-preserved c =
     let x = c.index-index-middle.result in
     let within : i < length index = omega (arith, c.loop-low-test.true, c.loop-low.invariant.within) in
     let at : slice_get index i ≡ Some x = slice_get_read index _ i x refl within c.index-index-middle.is in
-    let same = ap (λ (z : Ready). under c.args.kind c.args.from (act_of z.act)) c.index-index-middle.is in
+    let same = ap (λ (z : Ready). under c.args.kind c.args.ticket.0 c.args.number (act_of z.act)) c.index-index-middle.is in
     record {
       order = omega arith;
       within = omega (arith, within);
       between = λ low high p. let was = c.loop-low.invariant.between low high p in
-      record { above = was.above; under = is_higher index c.args.kind c.args.from low high p i x at (same ∙ sym c.is_under.ensures ∙ c.if-is_under.false) };
+      record { above = was.above; under = is_higher index c.args.kind c.args.ticket.0 c.args.number low high p i x at (same ∙ sym c.is_under.ensures ∙ c.if-is_under.false) };
     }

@@ -7,7 +7,7 @@ abbrev pub invariant-loop-low : goal.invariant-loop-low
 invariant-loop-low l = record {
   order : l.low ≤ l.high;
   within : l.high ≤ length l.index;
-  between : (low high : List Label) → Parted (map by_none l.index) l.kind l.from low high → Between l.low (length low) l.high;
+  between : (low high : List Label) → Parted (map by_none l.index) l.kind l.ticket.0 l.number low high → Between l.low (length low) l.high;
 }
 
 abbrev pub decreases-loop-low : goal.decreases-loop-low

@@ -5,14 +5,15 @@ use Rattle.wave_machine.specs.inner.Asking.{mail_labels, mails_labels, status_la
 use Rattle.wave_machine.specs.inner.Index.{Lists}
 use Rattle.wave_machine.proofs.ListingLists.{by_number}
 use Rattle.wave_machine.proofs.Owned.{done_asks, own_status}
-use Rattle.wave_machine.proofs.Relisted.{lists_more, lists_none, lists_put}
+use Rattle.wave_machine.proofs.Relisted.{lists_more, lists_none, lists_put, own_below}
+use Rattle.wave_machine.proofs.Renewed.{all_above_zero}
 use Rattle.wave_machine.proofs.engine.Engine.list.Goals as goal
 
 pub returns-then-is_done-clause-lists : goal.returns-then-is_done-clause-lists
 returns-then-is_done-clause-lists c =
     let t = c.args.ticket.0 in
     let index = c.args.index.now.items in
-    subst (Lists t index index) (sym (done_asks c.args.self.now.stores.items t c.args.cell.now (sym c.is_done.ensures ∙ c.if-is_done.true))) (lists_none t index)
+    subst (Lists t 0 index index) (sym (done_asks c.args.self.now.stores.items t c.args.cell.now (sym c.is_done.ensures ∙ c.if-is_done.true))) (lists_none t 0 index)
 
 pub returns-clause-lists : goal.returns-clause-lists
 returns-clause-lists c =
@@ -29,5 +30,7 @@ returns-clause-lists c =
     let mid = c.put_some.new.index.items in
     let new = c.list_mails.new.index.items in
     let status = status_labels stores 0 t c.args.cell.now.status in
-    let first : Lists t old mid status = lists_put t old mid c.status_label.result status c.status_label.ensures (own_status stores t c.args.cell.now.status) c.put_some.ensures.parts in
-    subst (λ xs. Lists t old new (status ++ xs)) numbered (lists_more t old mid new status _ (own_status stores t c.args.cell.now.status) first c.list_mails.ensures.lists)
+    let own = own_status stores t c.args.cell.now.status in
+    let first : Lists t 0 old mid status = lists_put t 0 old mid c.status_label.result status c.status_label.ensures own c.put_some.ensures.parts in
+    let positive = all_above_zero mails (ap (λ ms. mail_in ms 0) same ∙ c.requires.numbered.from_one) in
+    subst (λ xs. Lists t 0 old new (status ++ xs)) numbered (lists_more t 0 1 old mid new status _ (omega arith) (own_below t 0 status own) first (c.list_mails.ensures.lists 0 positive))

@@ -7,6 +7,7 @@ use Rattle.wave_machine.specs.Keeping.{kept_of}
 use Rattle.wave_machine.specs.Machines.{Takes}
 use Rattle.wave_machine.specs.inner.Index.{Sees}
 use Rattle.wave_machine.proofs.Grows.{admit_grows}
+use Rattle.wave_machine.proofs.KeptMails.{mails_taken, numbered_stood}
 use Rattle.wave_machine.proofs.Labelled.{stood_after}
 use Rattle.wave_machine.proofs.Untouched.{taken_done}
 use Rattle.wave_machine.proofs.listed.Listed.act.Goals as goal
@@ -24,6 +25,8 @@ update-requires c =
       taken = record {
         stands = (stood.start, stood.state, stood.stands);
         moves = c.act.ensures.moves;
+        mails = mails_taken c.states_are_known.ensures m m' l on c.act.ensures.takes;
+        numbered = numbered_stood c.states_are_known.ensures m (record { start = on.start; state = on.state; stands = on.stands });
         grows = admit_grows m l on;
         sees = sees;
       };

@@ -6,6 +6,7 @@ use Rattle.wave_machine.specs.declared.actor.Actor.{Actor}
 use Rattle.wave_machine.specs.Keeping.{kept_of}
 use Rattle.wave_machine.specs.inner.Asking.{in_order}
 use Rattle.wave_machine.specs.inner.Index.{asked_at, by_none, by_part, head_in, weight_of}
+use Rattle.wave_machine.proofs.Heads.{no_head}
 use Rattle.wave_machine.proofs.Skipping.{none_done}
 use Rattle.wave_machine.proofs.listed.Listed.new_at.Goals as goal
 
@@ -21,7 +22,7 @@ returns-clause-listed c =
     let none : length m.cells ≡ 0 = shows.cells.as_many ∙ sym zero in
     let empty : by_part m (asked_at m) ≡ [] = ap (λ n. flat_map (asked_at m) (tickets_from m.first n)) none in
     record {
-      index = c.list_head.ensures.parts [] tt (ap (map by_none) (c.reserve.ensures.items ∙ c.new-index.ensures.items)) ∙ ap (λ r. in_order (head_in m ++ r)) (sym empty);
+      index = c.relist_head.ensures.parts [] [] no_head tt (ap (map by_none) (c.reserve.ensures.items ∙ c.new-index.ensures.items)) ∙ ap (λ r. in_order (head_in m ++ r)) (sym empty);
       done = none_done m;
       weight = light m.cells none;
     }

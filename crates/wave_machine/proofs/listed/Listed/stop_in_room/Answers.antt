@@ -7,9 +7,10 @@ use Rattle.wave_machine.specs.Keeping.{kept_of}
 use Rattle.wave_machine.specs.Running.{Stops, stop_of}
 use Rattle.wave_machine.specs.inner.Apart.{Moves, grown}
 use Rattle.wave_machine.specs.inner.Asking.{place_in}
-use Rattle.wave_machine.specs.inner.Index.{HasRoom, Sees, held_at, held_by}
+use Rattle.wave_machine.specs.inner.Index.{HasRoom, KeepsMails, Sees, held_at, held_by}
 use Rattle.wave_machine.proofs.Asked.{listed_same, room_same}
 use Rattle.wave_machine.proofs.Halting.{cell_at}
+use Rattle.wave_machine.proofs.KeptMails.{mails_stopped, numbered_stood}
 use Rattle.wave_machine.proofs.Labelled.{stood_stopped}
 use Rattle.wave_machine.proofs.Owned as owned
 use Rattle.wave_machine.proofs.Unasked.{same_asks}
@@ -42,6 +43,8 @@ update-requires c =
       taken = record {
         stands = (stood.start, stood.state, stood.stands);
         moves = moves;
+        mails = subst (λ (z : Label). KeepsMails m m' z) (sym is) (mails_stopped c.states_are_known.ensures m m' lease c.args.pause h on c.in-Ok.ensures.enabled c.in-Ok.ensures.stops);
+        numbered = numbered_stood c.states_are_known.ensures m (record { start = on.start; state = on.state; stands = on.stands });
         grows = λ one. absurd (let none : grown l.act ≡ 0 = ap (λ (z : Label). grown z.act) is in omega (arith, one, none));
         sees = sees;
       };

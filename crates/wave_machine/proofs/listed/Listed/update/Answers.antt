@@ -6,10 +6,9 @@ use Rattle.wave_machine.specs.declared.listed.Seen.{Seen}
 use Rattle.wave_machine.specs.Keeping.{kept_of}
 use Rattle.wave_machine.specs.Machines.{Kept}
 use Rattle.wave_machine.specs.inner.Asking.{IsListable}
-use Rattle.wave_machine.specs.inner.Index.{asked_at, by_part, share_at}
-use Rattle.wave_machine.proofs.Heads.{admits_first, commits_last}
+use Rattle.wave_machine.specs.inner.Index.{asked_at, by_part, head_in, share_at}
+use Rattle.wave_machine.proofs.Heads.{head_is}
 use Rattle.wave_machine.proofs.ListingSizes.{listable}
-use Rattle.wave_machine.proofs.Owned.{own_at}
 use Rattle.wave_machine.proofs.Updated.{inner_part}
 use Rattle.wave_machine.proofs.Weighed.{Weighed, weighed}
 use Rattle.wave_machine.proofs.listed.Listed.update.Goals as goal
@@ -40,7 +39,7 @@ pub relist_after-requires-clause-taken : goal.relist_after-requires-clause-taken
 relist_after-requires-clause-taken c =
     let u = c.requires in
     let m = u.0 in
-    (m, u.1, (u.2).taken, c.cut_head.ensures.parts _ _ (by_part m (asked_at m)) (admits_first m.head) (commits_last m) (inner_part m (asked_at m) (own_at m)) (u.2).index)
+    (m, u.1, head_in m, (u.2).taken, head_is m, (u.2).index)
 
 pub relist_after-requires-clause-room : goal.relist_after-requires-clause-room
 relist_after-requires-clause-room c =
@@ -49,22 +48,22 @@ relist_after-requires-clause-room c =
     let w = weighed u.0 c.args.self.now l c.args.seen u.1 c.share-share.result u.2 (c.share-share.ensures ∙ ap (share_at (kept_of c.args.self.now.engine)) c.ticket_of.ensures) in
     let small = w.small in
     let room = (u.2).room.room in
-    omega (arith, small, room, c.cut_head.ensures.len, c.cut_head.ensures.capacity)
+    omega (arith, small, room)
 
-pub list_head-requires-clause-commits : goal.list_head-requires-clause-commits
-list_head-requires-clause-commits c =
+pub relist_head-requires-clause-commits : goal.relist_head-requires-clause-commits
+relist_head-requires-clause-commits c =
     let m = kept_of c.args.self.now.engine in
     let r = (c.requires.2).taken.stands in
     (listable c.states_are_known.ensures m r.0 r.1 r.2 (c.heads_are_known.ensures m.plan r.0 (r.2).labels r.1 (r.2).fits (r.2).begins (r.2).reached)).commits
 
-pub list_head-requires-clause-room : goal.list_head-requires-clause-room
-list_head-requires-clause-room c =
+pub relist_head-requires-clause-room : goal.relist_head-requires-clause-room
+relist_head-requires-clause-room c =
     let u = c.requires in
     let l = label_of c.args.label.now in
     let w = weighed u.0 c.args.self.now l c.args.seen u.1 c.share-share.result u.2 (c.share-share.ensures ∙ ap (share_at (kept_of c.args.self.now.engine)) c.ticket_of.ensures) in
     let small = w.small in
     let room = (u.2).room.room in
-    omega (arith, small, room, c.cut_head.ensures.len, c.cut_head.ensures.capacity, c.relist_after.ensures.len, c.relist_after.ensures.capacity)
+    omega (arith, small, room, c.relist_after.ensures.len, c.relist_after.ensures.capacity)
 
 pub returns-clause-listed : goal.returns-clause-listed
 returns-clause-listed c =
@@ -72,8 +71,9 @@ returns-clause-listed c =
     let m' = kept_of c.args.self.now.engine in
     let l = label_of c.args.label.now in
     let w = weighed u.0 c.args.self.now l c.args.seen u.1 c.share-share.result u.2 (c.share-share.ensures ∙ ap (share_at m') c.ticket_of.ensures) in
+    let after = c.relist_after.ensures.all in
     record {
-      index = c.list_head.ensures.parts (by_part m' (asked_at m')) (inner_part m' (asked_at m') (own_at m')) c.relist_after.ensures.all;
+      index = c.relist_head.ensures.parts after.0 (by_part m' (asked_at m')) after.1 (inner_part m') after.2;
       done = c.count_done-self.ensures;
       weight = w.keeps;
     }
