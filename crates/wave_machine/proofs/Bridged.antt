@@ -105,11 +105,11 @@ order_as w ls =
     flat_same (λ k. of_kind k (map (with_worker w) ls)) (λ k. map (with_worker w) (of_kind k ls)) (λ k. filter_of_map (λ (l : Label). kind_of l.act == k) (with_worker w) ls) (tickets_from 0 10)
     ∙ sym (map_flat (with_worker w) (λ k. of_kind k ls) (tickets_from 0 10))
 
-map_twice : {X Y Z : Type 0} (g : Y → Z) (f : X → Y) (xs : List X) → map g (map f xs) ≡ map (λ x. g (f x)) xs
+pub map_twice : {X Y Z : Type 0} (g : Y → Z) (f : X → Y) (xs : List X) → map g (map f xs) ≡ map (λ x. g (f x)) xs
 map_twice g f [] = refl
 map_twice g f (x ∷ xs) = ap (λ r. g (f x) ∷ r) (map_twice g f xs)
 
-no_workers : (m : Kept) (t : ℕ) (st : Status) → stops_labels m.stores m.hands [] t st ≡ []
+pub no_workers : (m : Kept) (t : ℕ) (st : Status) → stops_labels m.stores m.hands [] t st ≡ []
 no_workers m t status.Travelling = refl
 no_workers m t (status.Waiting p) = refl
 no_workers m t (status.Ready p) = refl

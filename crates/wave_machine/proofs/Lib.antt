@@ -58,6 +58,7 @@ pub mod Weighed
 pub mod Framing
 pub mod Unasked
 pub mod Bridged
+pub mod ListingParts
 pub mod Grows
 pub mod Roomier
 pub mod OwnMails

@@ -21,6 +21,7 @@ ghost use Rattle.wave_machine.specs.Machines.{Stands, TheState};
 ghost use Rattle.wave_machine.specs.Prepared.{is_start, is_step};
 ghost use Rattle.wave_machine.specs.Rules.{number_of, rule_of};
 ghost use Rattle.wave_machine.specs.inner.Driving.{IsTaking, Leads, first_state};
+ghost use Rattle.wave_machine.specs.inner.Index.{IsListed};
 
 use crate::adding::push;
 use crate::drivable::states_drive;
@@ -42,12 +43,9 @@ use wave_labels::{Act, Label};
 use wave_theory::{empty_at_end, rules_pick};
 
 // What the rule picks of what can be done.
-fn next(
-    listed: &Listed,
-    rule: PickRule,
-    draw: &mut u64,
-) -> Result<Option<Label>, OutOfMemory>
+fn next(listed: &Listed, rule: PickRule, draw: &mut u64) -> Result<Option<Label>, OutOfMemory>
     requires stands { (start : start.Start) × (s : TheState) × Stands (kept_of listed.now.engine) start s }
+    requires listed { IsListed listed.now }
     ensures { IfOk result (λ o. (start : start.Start) (s : TheState) → Stands (kept_of listed.now.engine) start s → rule_of rule draw.old s (enabled (plan_actors (kept_of listed.now.engine).plan.program) (kept_of listed.now.engine).plan.workers (kept_of listed.now.engine).plan.script.hosts s) ≡ (draw.new, option_map label_of o)) }
 {
     let labels = listed.enabled()?;
@@ -75,9 +73,11 @@ fn take(
     ends: &mut Vec<Option<End>>,
     label: &Label,
 ) -> Result<(), OutOfMemory>
-    requires { IsTaking (kept_of listed.old.engine) ends.old.items (label_of label.now) }
+    requires taking { IsTaking (kept_of listed.old.engine) ends.old.items (label_of label.now) }
+    requires listed { IsListed listed.old }
     ensures leads { OnOk result (Leads (kept_of listed.old.engine) ends.old.items (label_of label.now) (kept_of listed.new.engine) ends.new.items) }
     ensures plan { (kept_of listed.new.engine).plan ≡ (kept_of listed.old.engine).plan }
+    ensures listed { IsListed listed.new }
 {
     match label.act {
         Act::Start(_, _) => begin(alloc, listed, ends, label),
@@ -93,9 +93,11 @@ fn step(
     label: &Label,
 ) -> Result<(), OutOfMemory>
     requires taking { IsTaking (kept_of listed.old.engine) ends.now.items (label_of label.now) }
+    requires listed { IsListed listed.old }
     requires kind { is_step label.now.act ≡ true }
     ensures leads { OnOk result (Leads (kept_of listed.old.engine) ends.now.items (label_of label.now) (kept_of listed.new.engine) ends.now.items) }
     ensures plan { (kept_of listed.new.engine).plan ≡ (kept_of listed.old.engine).plan }
+    ensures listed { IsListed listed.new }
 {
     let part = listed.prepare(alloc, label)?;
     listed.act(label, part);
@@ -110,9 +112,11 @@ fn begin(
     label: &Label,
 ) -> Result<(), OutOfMemory>
     requires taking { IsTaking (kept_of listed.old.engine) ends.old.items (label_of label.now) }
+    requires listed { IsListed listed.old }
     requires kind { is_start label.now.act ≡ true }
     ensures leads { OnOk result (Leads (kept_of listed.old.engine) ends.old.items (label_of label.now) (kept_of listed.new.engine) ends.new.items) }
     ensures plan { (kept_of listed.new.engine).plan ≡ (kept_of listed.old.engine).plan }
+    ensures listed { IsListed listed.new }
 {
     segments_are_known();
     let part = listed.prepare(alloc, label)?;
@@ -131,9 +135,11 @@ fn stop(
     ticket: Ticket,
     path: Path,
 ) -> Result<(), OutOfMemory>
-    requires { IsTaking (kept_of listed.old.engine) ends.old.items (record { worker = worker.0; host = host.0; act = Stop ticket.0 path }) }
+    requires taking { IsTaking (kept_of listed.old.engine) ends.old.items (record { worker = worker.0; host = host.0; act = Stop ticket.0 path }) }
+    requires listed { IsListed listed.old }
     ensures leads { OnOk result (Leads (kept_of listed.old.engine) ends.old.items (record { worker = worker.0; host = host.0; act = Stop ticket.0 path }) (kept_of listed.new.engine) ends.new.items) }
     ensures plan { (kept_of listed.new.engine).plan ≡ (kept_of listed.old.engine).plan }
+    ensures listed { IsListed listed.new }
 {
     states_list();
     states_drive();
@@ -163,10 +169,12 @@ pub(crate) fn drive_on(
     start: &Start,
     rule: PickRule,
 ) -> Result<Vec<Label>, OutOfMemory>
-    requires { Stands (kept_of listed.old.engine) start.now (first_state (kept_of listed.old.engine).plan start.now) }
+    requires stands { Stands (kept_of listed.old.engine) start.now (first_state (kept_of listed.old.engine).plan start.now) }
+    requires listed { IsListed listed.old }
     ensures driven { IfOk result (λ ls. IsDrive (plan_actors (kept_of listed.old.engine).plan.program) (kept_of listed.old.engine).plan.workers (kept_of listed.old.engine).plan.script.hosts (rule_of rule) (number_of rule) (first_state (kept_of listed.old.engine).plan start.now) (map label_of ls.items)) }
     ensures finished { IfOk result (λ ls. (s : TheState) × Stands (kept_of listed.new.engine) start.now s × runs.Finished (plan_actors (kept_of listed.old.engine).plan.program) (kept_of listed.old.engine).plan.workers s) }
     ensures plan { (kept_of listed.new.engine).plan ≡ (kept_of listed.old.engine).plan }
+    ensures listed { IsListed listed.new }
 {
     states_drive();
     runs_are_short();

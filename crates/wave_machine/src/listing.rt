@@ -1,14 +1,25 @@
 //! What can be done, in the canonical order: what is listed, with the worker that takes it, and the Stops between Start and Free.
 
-ghost use Rattle.std.specs.Prelude.{◌≡◌, ◌≤◌, ◌<◌, ◌+◌, ◌-◌, ◌++◌, map, length, is_none, OnOk, IfSome, Some, option_map, slice_get};
+ghost use Rattle.std.specs.Prelude.{◌≡◌, ◌≤◌, ◌<◌, ◌+◌, ◌-◌, ◌++◌, map, length, is_none, IfOk, OnOk, IfSome, Some, None, option_map, slice_get};
+ghost use Rattle.wave_base.specs.declared.start.Start.{Start};
 ghost use Rattle.wave_base.specs.Fold.{tickets_from};
 ghost use Rattle.wave_labels.specs.Labels.{label_of};
-ghost use Rattle.wave_machine.specs.inner.Asking.{stop_labels, stops_labels};
+ghost use Rattle.wave_states.specs.Canonical.{enabled, enabled_for, taken_as};
+ghost use Rattle.plan_actors.specs.PlanActors.{plan_actors};
+ghost use Rattle.wave_machine.specs.Keeping.{kept_of};
+ghost use Rattle.wave_machine.specs.Machines.{Stands, TheState};
+ghost use Rattle.wave_machine.specs.Readies.{choice_of};
+ghost use Rattle.wave_machine.specs.inner.Asking.{asked_in, by_taker, in_order, stop_labels, stops_labels, IsListable};
+ghost use Rattle.wave_machine.specs.inner.Done.{AreDone};
+ghost use Rattle.wave_machine.specs.inner.Index.{IsListed};
 
 use crate::adding::add;
 use crate::engine::Engine;
 use crate::index::place;
 use crate::kept::Out;
+use crate::known::heads_are_known;
+use crate::laws::states_are_known;
+use crate::listable::states_list;
 use crate::listed::Listed;
 use crate::ready::Ready;
 use crate::takers::{Takers, lowest_idle, own_takers};
@@ -19,16 +30,31 @@ use wave_labels::Label;
 
 impl<'p> Listed<'p> {
     // What can be done: all but the Stops by the lowest idle worker.
-    pub(crate) fn enabled(&self) -> Result<Seq<Label>, OutOfMemory> {
-        self.listing(Takers {
+    pub(crate) fn enabled(&self) -> Result<Seq<Label>, OutOfMemory>
+        requires stands { (start : Start) × (s : TheState) × Stands (kept_of self.now.engine) start s }
+        requires listed { IsListed self.now }
+        ensures { IfOk result (λ ls. (start : Start) (s : TheState) → Stands (kept_of self.now.engine) start s → map label_of ls ≡ enabled (plan_actors (kept_of self.now.engine).plan.program) (kept_of self.now.engine).plan.workers (kept_of self.now.engine).plan.script.hosts s) }
+    {
+        states_are_known();
+        heads_are_known();
+        states_list();
+        let takers = Takers {
             idle: lowest_idle(&self.engine.hands),
             from: 0,
             to: self.engine.plan.workers,
-        })
+        };
+        self.listing(takers)
     }
 
     // What a worker can do.
-    pub(crate) fn enabled_for(&self, worker: Worker) -> Result<Seq<Label>, OutOfMemory> {
+    pub(crate) fn enabled_for(&self, worker: Worker) -> Result<Seq<Label>, OutOfMemory>
+        requires stands { (start : Start) × (s : TheState) × Stands (kept_of self.now.engine) start s }
+        requires listed { IsListed self.now }
+        ensures { IfOk result (λ ls. (start : Start) (s : TheState) → Stands (kept_of self.now.engine) start s → map label_of ls ≡ enabled_for (plan_actors (kept_of self.now.engine).plan.program) (kept_of self.now.engine).plan.workers (kept_of self.now.engine).plan.script.hosts s worker.0) }
+    {
+        states_are_known();
+        heads_are_known();
+        states_list();
         match self.engine.is_idle(worker) {
             Some(idle) => self.listing(own_takers(worker, idle)),
             None => Ok(Seq::new(*self.index.allocator())),
@@ -36,9 +62,14 @@ impl<'p> Listed<'p> {
     }
 
     // What the takers can do, in order.
-    fn listing(&self, takers: Takers) -> Result<Seq<Label>, OutOfMemory> {
+    fn listing(&self, takers: Takers) -> Result<Seq<Label>, OutOfMemory>
+        requires listable { IsListable (kept_of self.now.engine) }
+        requires listed { IsListed self.now }
+        ensures { IfOk result (λ ls. map label_of ls ≡ in_order (asked_in (kept_of self.now.engine) (option_map (λ w. w.0) takers.idle) (tickets_from takers.from (takers.to - takers.from)))) }
+    {
         let mut labels = Vec::new(*self.index.allocator());
-        let (early, late) = self.index.as_slice().split_at(place(&self.index, 5, Ticket(0), 0));
+        let index = self.index.as_slice();
+        let (early, late) = index.split_at(place(index, 5, Ticket(0), 0));
         add_all(&mut labels, takers.idle, early)?;
         self.engine.ask_all_stops(takers, self.done, &mut labels)?;
         add_all(&mut labels, takers.idle, late)?;
@@ -51,14 +82,18 @@ fn add_all(
     labels: &mut Vec<Label>,
     idle: Option<Worker>,
     ready: &[Ready],
-) -> Result<(), OutOfMemory> {
+) -> Result<(), OutOfMemory>
+    ensures { OnOk result (map label_of labels.new.items ≡ map label_of labels.old.items ++ by_taker (option_map (λ w. w.0) idle) (λ w. map (λ r. taken_as w (choice_of r)) ready.now)) }
+{
     match idle {
         Some(worker) => add_by(labels, worker, ready),
         None => Ok(()),
     }
 }
 
-fn add_by(labels: &mut Vec<Label>, worker: Worker, ready: &[Ready]) -> Result<(), OutOfMemory> {
+fn add_by(labels: &mut Vec<Label>, worker: Worker, ready: &[Ready]) -> Result<(), OutOfMemory>
+    ensures { OnOk result (map label_of labels.new.items ≡ map label_of labels.old.items ++ map (λ r. taken_as worker.0 (choice_of r)) ready.now) }
+{
     for one in ready {
         add(labels, Some(one.by(worker)))?;
     }
@@ -83,7 +118,11 @@ impl<'p> Engine<'p> {
         takers: Takers,
         done: usize,
         labels: &mut Vec<Label>,
-    ) -> Result<(), OutOfMemory> {
+    ) -> Result<(), OutOfMemory>
+        requires listable { IsListable (kept_of self.now) }
+        requires done { AreDone (kept_of self.now) done }
+        ensures { OnOk result (map label_of labels.new.items ≡ map label_of labels.old.items ++ asked_in (kept_of self.now) None (tickets_from takers.from (takers.to - takers.from))) }
+    {
         for i in done..self.cells.len() {
             let ticket = Ticket(self.first + i as u32);
             self.ask_stops(takers, ticket, self.cells[i].status, labels)?;
