@@ -1,22 +1,21 @@
 -- What a label changes of the list.
-use Rattle.std.proofs.Common.{◌≡◌, ◌≢◌, ◌∙◌, ◌⊎◌, inl, inr, ℕ, zero, suc, ◌+◌, ◌-◌, ◌<◌, ◌≤◌, ◌==◌, ◌&&◌, Bool, true, false, List, [], ◌∷◌, ◌++◌, length, map, Option, Some, None, refl, sym, ap, subst, arith, append-nil}
+use Rattle.std.proofs.Common.{◌≡◌, ◌≢◌, ◌∙◌, inl, inr, ℕ, ◌+◌, ◌-◌, ◌<◌, ◌≤◌, ◌==◌, ◌&&◌, Bool, true, false, List, [], ◌∷◌, ◌++◌, length, map, Option, Some, None, refl, sym, ap, subst, arith, append-nil}
 use Rattle.std.specs.Prelude.{flat_map, if◌then◌else◌, nat_lt, option_map, slice_get}
 use Rattle.std.specs.List.{AllByRecursion}
 use Rattle.std.proofs.lemmas.Bool.Decides.{nat_tests}
 use Rattle.wave_base.specs.declared.numbers.Ticket.{Ticket}
 use Rattle.wave_base.specs.Fold.{tickets_from}
 use Rattle.event_cells.specs.declared.cell.Cell.{Cell}
-use Rattle.event_cells.specs.Keeps.{mail_in}
 use Rattle.host_map.specs.Stores.{Stores}
-use Rattle.wave_states.specs.Labels.{Act, Label, path_of, ticket_of}
+use Rattle.wave_states.specs.Labels.{Label, path_of, ticket_of}
 use Rattle.wave_theory.proofs.Basics.{and_both, and_first, and_second, clash, none_not, not_same, number_cases, number_is, number_self}
 use Rattle.wave_machine.specs.declared.actor.Actor.{Actor}
 use Rattle.wave_machine.specs.declared.listed.Seen.{Seen}
 use Rattle.wave_machine.specs.declared.ready.Ready.{Ready}
 use Rattle.wave_machine.specs.Machines.{Kept}
-use Rattle.wave_machine.specs.inner.Apart.{AsksAs, Moves, grown}
+use Rattle.wave_machine.specs.inner.Apart.{Moves, grown}
 use Rattle.wave_machine.specs.inner.Asking.{IsNumbered, in_order, mail_labels}
-use Rattle.wave_machine.specs.inner.Index.{AreOwn, IsHead, IsInner, IsOwn, KeepsMails, RelistsNear, Taken, asked_as, asked_at, asked_by, asked_of, by_none, by_part, by_slot, cell_at, has_at, next_at, number_of, numbers_in, sent_at, sent_by, slot_at, slot_by, with_above, with_next, with_slot}
+use Rattle.wave_machine.specs.inner.Index.{IsHead, IsInner, IsOwn, KeepsMails, RelistsNear, Taken, asked_as, asked_at, asked_by, asked_of, by_none, by_part, by_slot, cell_at, has_at, next_at, number_of, numbers_in, sent_at, sent_by, slot_at, slot_by, with_above, with_next, with_slot}
 use Rattle.wave_machine.proofs.Elsewhere.{asked_mail, grown_few, others_slot, own_slot}
 use Rattle.wave_machine.proofs.ListingLists.{flat_none, flat_same}
 use Rattle.wave_machine.proofs.Ordering.{all_flat, all_map, flat_append, numbers_append, same_numbered}
@@ -153,6 +152,7 @@ module _ (m m' : Kept) (l : Label) (more : ℕ) (moves : Moves m m' l more) (gro
         by_cell : (o : Option (Cell Actor)) → cell_at m t ≡ o → sent_at m t < j → slot_by m.stores t j o ≡ []
         by_cell None e past = refl
         by_cell (Some c) e past = past_sent t c e j (subst (λ o. sent_by o < j) e past)
+
     -- where the context stays, or stays away, each slot has what it asks for
     slots_are : has_at (path_of l.act) (slice_get m'.stores l.host) ≡ has_at (path_of l.act) (slice_get m.stores l.host)
         → (u j : ℕ) → m'.first ≤ u → u < m'.first + length m'.cells → (u ≡ ticket_of l.act → sent_at m (ticket_of l.act) < j → ⊥) → (u ≡ ticket_of l.act → j ≡ number_of l.act → ⊥) → (u ≡ ticket_of l.act → j ≡ 0 → ⊥)
