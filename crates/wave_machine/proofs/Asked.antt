@@ -1,20 +1,17 @@
 -- What is made beforehand changes nothing of the list.
-use Rattle.std.proofs.Common.{◌≡◌, ◌≢◌, ◌∙◌, ℕ, suc, ◌+◌, ◌-◌, ◌<◌, ◌≤◌, List, [], ◌∷◌, ◌++◌, length, map, Option, Some, None, refl, sym, ap, subst, arith}
+use Rattle.std.proofs.Common.{◌≡◌, ◌∙◌, ℕ, suc, ◌+◌, ◌<◌, ◌≤◌, List, [], ◌∷◌, ◌++◌, length, None, refl, sym, ap, subst, arith}
 use Rattle.std.specs.Prelude.{flat_map, option_map, slice_get, vec_len, vec_capacity}
 use Rattle.std.proofs.lemmas.Option.{slice_get_within}
 use Rattle.wave_base.specs.declared.numbers.Ticket.{Ticket}
 use Rattle.wave_base.specs.declared.outcome.EventResult.{EventResult}
 use Rattle.wave_base.specs.Fold.{tickets_from}
-use Rattle.commit_order.specs.Commits.{ready_result}
-use Rattle.head_tickets.specs.Heads.{next_ticket}
-use Rattle.host_map.specs.Stores.{Stores}
 use Rattle.wave_states.specs.Labels.{Label, Admit, Commit}
 use Rattle.wave_theory.proofs.Basics.{none_not}
 use Rattle.wave_machine.specs.declared.ready.Ready.{Ready}
 use Rattle.wave_machine.specs.Machines.{Kept}
 use Rattle.wave_machine.specs.inner.Apart.{AsksTheSame, Moves}
 use Rattle.wave_machine.specs.inner.Asking.{in_order, label_at}
-use Rattle.wave_machine.specs.inner.Index.{IsIndex, asked_at, by_none, by_part, has_at, head_in, next_at}
+use Rattle.wave_machine.specs.inner.Index.{IsIndex, asked_at, by_part, has_at, head_in, next_at}
 use Rattle.wave_machine.specs.declared.listed.Listed.{Listed}
 use Rattle.wave_machine.specs.Keeping.{kept_of}
 use Rattle.wave_machine.specs.Machines.{Keeps}

@@ -1,7 +1,7 @@
 -- What a label leaves of what other tickets ask for.
-use Rattle.std.proofs.Common.{◌≡◌, ◌≢◌, ◌∙◌, ◌⊎◌, inl, inr, ℕ, zero, suc, ◌+◌, ◌-◌, ◌<◌, ◌≤◌, ◌==◌, Bool, true, false, cond, not, List, [], ◌∷◌, ◌++◌, length, Option, Some, None, is_some, refl, sym, ap, subst, arith, position, true≢false}
+use Rattle.std.proofs.Common.{◌≡◌, ◌≢◌, ◌∙◌, ◌⊎◌, inl, inr, ℕ, zero, suc, ◌+◌, ◌-◌, ◌<◌, ◌≤◌, ◌==◌, Bool, true, false, cond, not, List, [], ◌∷◌, ◌++◌, length, Option, Some, None, is_some, refl, sym, ap, arith, position, true≢false}
 use Rattle.std.specs.Prelude.{flat_map, if◌then◌else◌, nat_lt, option_map, slice_get}
-use Rattle.std.specs.List.{position_or_len, prefix_len}
+use Rattle.std.specs.List.{prefix_len}
 use Rattle.std.specs.FinMap as table
 use Rattle.std.proofs.lemmas.Option.{slice_get_within}
 use Rattle.wave_base.specs.declared.path.Path.{Path}
@@ -14,19 +14,19 @@ use Rattle.event_cells.specs.declared.outbox.Envelope.{Envelope}
 use Rattle.event_cells.specs.declared.status.Status.{Status}
 use Rattle.event_cells.specs.declared.status.Status.TheVariants as status
 use Rattle.event_cells.specs.Keeps.{mail_in}
-use Rattle.host_map.specs.Stores.{Stores, column_of, has, mark_of}
+use Rattle.host_map.specs.Stores.{Stores, has, mark_of}
 use Rattle.migration_core.specs.declared.mail.Letter.{Letter}
 use Rattle.migration_core.specs.declared.mail.Letter.TheVariants as letter
 use Rattle.code_actor.specs.CodeActors.{Fields}
 use Rattle.wave_states.specs.Labels.{Act, Label, Grant, Admit, Queue, Visit, Start, Stop, Free, Pass, Land, Commit, path_of, ticket_of}
 use Rattle.wave_states.specs.States as theory
 use Rattle.wave_states.specs.States.{Claim}
-use Rattle.wave_states.specs.Steps.{Route, Deliver, route_by}
-use Rattle.wave_theory.proofs.Basics.{differ, none_not, not_same, number_cases, number_self, path_cases, path_self}
+use Rattle.wave_states.specs.Steps.{Deliver, route_by}
+use Rattle.wave_theory.proofs.Basics.{differ, not_same, number_cases, path_cases, path_self}
 use Rattle.wave_machine.specs.declared.actor.Actor.{Actor}
 use Rattle.wave_machine.specs.Machines.{Kept}
 use Rattle.wave_machine.specs.inner.Apart.{AnswersAs, AsksAs, Moves, grown}
-use Rattle.wave_machine.specs.inner.Asking.{enter_act, grant_labels, is_claim, is_next, is_next_in, label_at, mail_act, mail_labels, mails_labels, place_in, route_at, start_labels, status_labels}
+use Rattle.wave_machine.specs.inner.Asking.{enter_act, grant_labels, is_claim, is_next, is_next_in, label_at, mail_act, mail_labels, place_in, route_at, start_labels, status_labels}
 use Rattle.wave_machine.specs.inner.Index.{KeepsMails, asked_as, asked_at, asked_by, asked_of, cell_at, has_at, next_at, next_of, number_of, sent_at, sent_by, slot_at, slot_by}
 use Rattle.wave_machine.proofs.ListingKinds.{slice_none}
 use Rattle.wave_machine.proofs.ListingLists.{flat_same}

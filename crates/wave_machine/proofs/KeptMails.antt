@@ -1,5 +1,5 @@
 -- What a label leaves of its ticket's mails, as a listing reads them.
-use Rattle.std.proofs.Common.{◌≡◌, ◌≢◌, ◌∙◌, ◌⊎◌, inl, inr, ℕ, zero, suc, ◌+◌, ◌-◌, ◌<◌, ◌≤◌, List, [], ◌∷◌, ◌++◌, length, Option, Some, None, refl, sym, ap, subst, arith}
+use Rattle.std.proofs.Common.{◌≡◌, ◌∙◌, ◌⊎◌, inl, inr, ℕ, suc, ◌+◌, ◌-◌, ◌<◌, ◌≤◌, List, Option, Some, None, refl, sym, ap, subst, arith}
 use Rattle.std.specs.Prelude.{slice_get}
 use Rattle.std.proofs.lemmas.Bool.{cases_lt}
 use Rattle.std.proofs.lemmas.Option.{slice_get_within}
@@ -25,7 +25,7 @@ use Rattle.plan_actors.specs.PlanActors.{plan_actors, plan_kind}
 use Rattle.plan_actors.specs.Plans.{begin_in}
 use Rattle.wave_machine.specs.declared.actor.Actor.{Actor}
 use Rattle.wave_machine.specs.declared.lease.Lease.{Lease}
-use Rattle.wave_machine.specs.Machines.{IsCell, IsEnabled, Kept, Known, Stands, Takes, TheState, event_as}
+use Rattle.wave_machine.specs.Machines.{IsCell, IsEnabled, Kept, Stands, Takes, TheState, event_as}
 use Rattle.wave_machine.specs.Prepared.{IsStood}
 use Rattle.wave_machine.specs.Running.{CanStop, IsStopping, Stops, stop_of}
 use Rattle.wave_machine.specs.inner.Apart.{grown}

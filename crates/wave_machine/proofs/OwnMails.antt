@@ -1,5 +1,5 @@
 -- A label leaves of its ticket's mails all but its own, and takes back none that was sent.
-use Rattle.std.proofs.Common.{◌≡◌, ◌≢◌, ◌∙◌, ◌⊎◌, inl, inr, ℕ, zero, suc, ◌+◌, ◌<◌, ◌≤◌, ◌==◌, ◌&&◌, Bool, true, false, List, [], ◌∷◌, ◌++◌, Option, Some, None, refl, sym, ap, subst, arith}
+use Rattle.std.proofs.Common.{◌≡◌, ◌≢◌, ◌∙◌, ◌⊎◌, inl, inr, ℕ, suc, ◌≤◌, ◌==◌, ◌&&◌, Bool, true, false, List, [], ◌∷◌, ◌++◌, Option, Some, None, refl, sym, ap, subst, arith}
 use Rattle.std.specs.Prelude.{if◌then◌else◌, nat_eq}
 use Rattle.std.specs.BTreeMap.{insert_entry}
 use Rattle.wave_base.specs.declared.path.Step.{Step}
@@ -7,7 +7,7 @@ use Rattle.wave_base.specs.declared.path.Path.{Path}
 use Rattle.wave_base.specs.declared.children.Child.{Child}
 use Rattle.wave_base.specs.Paths.{is_above, parent_of, path_cmp, path_eq}
 use Rattle.wave_states.specs.Actors.{Actors, Pause, Left, Go, Down, Over}
-use Rattle.wave_states.specs.Labels.{Act, Label, Admit, Commit, Queue, Grant, Visit, Start as Starting, Stop, Free, Pass, Land, ticket_of}
+use Rattle.wave_states.specs.Labels.{Act, Admit, Commit, Queue, Grant, Visit, Start as Starting, Stop, Free, Pass, Land, ticket_of}
 use Rattle.wave_states.specs.States as theory
 use Rattle.wave_states.specs.States.{Enter, Entry, Event, Hand, Hold, Mail, Release, State, Transfer, Ended, Ready, Running, Waiting, hold_at, holds_as_peek, set}
 use Rattle.wave_states.specs.Steps.{Bench, Desk, Part, act_bench, desk_back, ended, give_up, granted, host_or, into_child, kept_of, left_of, looked, moved_on, not_at, nothing_kept, over_by, over_here, over_there, part_of, paused, queued, release, segment_of, send, started, step, stop, stopped, with_bench, with_body, with_event, with_hand, with_held, with_status, without_mail}

@@ -1,26 +1,25 @@
 -- What a label changes of the list.
-use Rattle.std.proofs.Common.{◌≡◌, ◌≢◌, ◌∙◌, ◌⊎◌, inl, inr, ℕ, zero, suc, ◌+◌, ◌-◌, ◌<◌, ◌≤◌, ◌==◌, ◌&&◌, Bool, true, false, List, [], ◌∷◌, ◌++◌, length, map, Option, Some, None, refl, sym, ap, subst, arith, append-nil}
+use Rattle.std.proofs.Common.{◌≡◌, ◌≢◌, ◌∙◌, inl, inr, ℕ, ◌+◌, ◌-◌, ◌<◌, ◌≤◌, ◌==◌, ◌&&◌, Bool, true, false, List, [], ◌∷◌, ◌++◌, length, map, Option, Some, None, refl, sym, ap, subst, arith, append-nil}
 use Rattle.std.specs.Prelude.{flat_map, if◌then◌else◌, nat_lt, option_map, slice_get}
 use Rattle.std.specs.List.{AllByRecursion}
 use Rattle.std.proofs.lemmas.Bool.Decides.{nat_tests}
 use Rattle.wave_base.specs.declared.numbers.Ticket.{Ticket}
 use Rattle.wave_base.specs.Fold.{tickets_from}
 use Rattle.event_cells.specs.declared.cell.Cell.{Cell}
-use Rattle.event_cells.specs.Keeps.{mail_in}
 use Rattle.host_map.specs.Stores.{Stores}
-use Rattle.wave_states.specs.Labels.{Act, Label, path_of, ticket_of}
+use Rattle.wave_states.specs.Labels.{Label, path_of, ticket_of}
 use Rattle.wave_theory.proofs.Basics.{and_both, and_first, and_second, clash, none_not, not_same, number_cases, number_is, number_self}
 use Rattle.wave_machine.specs.declared.actor.Actor.{Actor}
 use Rattle.wave_machine.specs.declared.listed.Seen.{Seen}
 use Rattle.wave_machine.specs.declared.ready.Ready.{Ready}
 use Rattle.wave_machine.specs.Machines.{Kept}
-use Rattle.wave_machine.specs.inner.Apart.{AsksAs, Moves, grown}
+use Rattle.wave_machine.specs.inner.Apart.{Moves, grown}
 use Rattle.wave_machine.specs.inner.Asking.{IsNumbered, in_order, mail_labels}
-use Rattle.wave_machine.specs.inner.Index.{AreOwn, IsHead, IsInner, IsOwn, KeepsMails, RelistsNear, Taken, asked_as, asked_at, asked_by, asked_of, by_none, by_part, by_slot, cell_at, has_at, next_at, number_of, numbers_in, sent_at, sent_by, slot_at, slot_by, with_above, with_next, with_slot}
+use Rattle.wave_machine.specs.inner.Index.{IsHead, IsInner, IsOwn, KeepsMails, RelistsNear, Taken, asked_as, asked_at, asked_by, asked_of, by_none, by_part, by_slot, cell_at, has_at, next_at, number_of, numbers_in, sent_at, sent_by, slot_at, slot_by, with_above, with_next, with_slot}
 use Rattle.wave_machine.proofs.Elsewhere.{asked_mail, grown_few, others_slot, own_slot}
 use Rattle.wave_machine.proofs.ListingLists.{flat_none, flat_same}
 use Rattle.wave_machine.proofs.Ordering.{all_flat, all_map, flat_append, numbers_append, same_numbered}
-use Rattle.wave_machine.proofs.Owned.{cell_is, cell_there, own_slots, slice_some}
+use Rattle.wave_machine.proofs.Owned.{by_numbers, by_slots, cell_is, cell_there, own_slots, slice_some}
 use Rattle.wave_machine.proofs.Relisted.{own_inner}
 
 equal : (a b : ℕ) → a ≡ b → (a == b) ≡ true
@@ -29,67 +28,20 @@ equal a b e = ap (λ n. a == n) (sym e) ∙ number_self a
 less_is : (a b : ℕ) → a < b → nat_lt a b ≡ true
 less_is a b l = grind (arith, nat_tests)
 
--- ---- what is listed anew is each number's own
-module _ (m : Kept) (part : ℕ → ℕ → List Label) (own : AreOwn part) where
-  -- of a list of slots, where those that a test passes are what is asked for
-  own_if : (t j k : ℕ) (u : ℕ) (b : Bool) → (b ≡ true → (u ≡ t) × (j ≡ k)) → AllByRecursion (IsOwn u j) (if b then slot_at m t k else part u j)
-  own_if t j k u true is =
-      let at = is refl in
-      subst (λ n. AllByRecursion (IsOwn n j) (slot_at m t k)) (sym at.0) (subst (λ n. AllByRecursion (IsOwn t n) (slot_at m t k)) (sym at.1) ((own_slots m).own t k))
-  own_if t j k u false is = own.own u j
-
-  one_if : (t j k : ℕ) (u : ℕ) (b : Bool) → length (if b then slot_at m t k else part u j) ≤ 1
-  one_if t j k u true = (own_slots m).one t k
-  one_if t j k u false = own.one u j
-
-  pub own_slot_with : (t k : ℕ) → AreOwn (with_slot part t k (slot_at m t k))
-  own_slot_with t k = record {
-    own = λ u j. own_if t j k u ((u == t) && (j == k)) (λ e. (number_is u t (and_first (u == t) (j == k) e), number_is j k (and_second (u == t) (j == k) e)));
-    one = λ u j. one_if t j k u ((u == t) && (j == k));
-  }
-
-  pub own_slots_above : (t n : ℕ) → AreOwn (with_above m t n part)
-  own_slots_above t n = record {
-    own = λ u j. own_if t j j u ((u == t) && nat_lt n j) (λ e. (number_is u t (and_first (u == t) (nat_lt n j) e), refl));
-    one = λ u j. one_if t j j u ((u == t) && nat_lt n j);
-  }
-
-pub own_with : (m : Kept) (part : ℕ → ℕ → List Label) (t k : ℕ) → AreOwn part → AreOwn (with_slot part t k (slot_at m t k))
-own_with m part t k own = own_slot_with m part own t k
-
-pub own_above : (m : Kept) (part : ℕ → ℕ → List Label) (t n : ℕ) → AreOwn part → AreOwn (with_above m t n part)
-own_above m part t n own = own_slots_above m part own t n
-
-pub own_next : (m : Kept) (next : Option ℕ) (part : ℕ → ℕ → List Label) → AreOwn part → AreOwn (with_next m next part)
-own_next m None part own = own
-own_next m (Some t) part own = own_with m part t 0 own
-
--- ---- by number, and by ticket
+-- ---- a ticket that has more numbers than mails
 module _ (stores : List Stores) (t : ℕ) where
-  abbrev by_mail : Cell Actor → ℕ → List Label
-  by_mail c k = mail_labels stores 0 t k (mail_in c.outbox.mails k)
-
-  numbers_of : (c : Cell Actor) (n : ℕ) → c.outbox.sent ≤ n → ((j : ℕ) → c.outbox.sent < j → j ≤ n → asked_as stores t c j ≡ []) → flat_map (asked_as stores t c) (tickets_from 0 (1 + n)) ≡ asked_of stores t c
+  numbers_of : (c : Cell Actor) (n : ℕ) → c.outbox.sent ≤ n → ((j : ℕ) → c.outbox.sent < j → asked_as stores t c j ≡ []) → flat_map (asked_as stores t c) (tickets_from 0 (1 + n)) ≡ asked_of stores t c
   numbers_of c n low none =
       let f = asked_as stores t c in
-      let sent = c.outbox.sent in
-      let rest = n - sent in
-      let more : 1 + n ≡ suc (sent + rest) = omega (arith, low) in
-      ap (λ k. flat_map f (tickets_from 0 k)) more
-      ∙ ap (λ r. f 0 ++ r) (ap (flat_map f) (numbers_append 1 sent rest) ∙ flat_append f (tickets_from 1 sent) (tickets_from (1 + sent) rest) ∙ (λ i. mails i ++ past i) ∙ append-nil (flat_map (by_mail c) (tickets_from 1 sent)))
-    where
-      mails : flat_map (asked_as stores t c) (tickets_from 1 c.outbox.sent) ≡ flat_map (by_mail c) (tickets_from 1 c.outbox.sent)
-      mails = same_numbered (asked_as stores t c) (by_mail c) 1 c.outbox.sent (λ k l h. asked_mail stores t c k (λ e. omega (arith, e, l)))
-
-      past : flat_map (asked_as stores t c) (tickets_from (1 + c.outbox.sent) (n - c.outbox.sent)) ≡ []
-      past = same_numbered (asked_as stores t c) (λ k. []) (1 + c.outbox.sent) (n - c.outbox.sent) (λ k l h. none k (omega (arith, l)) (omega (arith, h, low))) ∙ flat_none (λ k. []) (λ k. refl) (tickets_from (1 + c.outbox.sent) (n - c.outbox.sent))
-
-  numbers_by : (o : Option (Cell Actor)) → flat_map (λ k. slot_by stores t k o) (tickets_from 0 (numbers_in o)) ≡ asked_by stores t o
-  numbers_by None = refl
-  numbers_by (Some c) = numbers_of c c.outbox.sent (omega arith) (λ j low high. absurd (omega (arith, low, high)))
-
-pub by_slots : (m : Kept) → by_slot m (slot_at m) ≡ by_part m (asked_at m)
-by_slots m = flat_same (λ t. flat_map (slot_at m t) (tickets_from 0 (numbers_in (cell_at m t)))) (asked_at m) (λ t. numbers_by m.stores t (cell_at m t)) (tickets_from m.first (length m.cells))
+      let first = 1 + c.outbox.sent in
+      let rest = n - c.outbox.sent in
+      let many : 1 + n ≡ first + rest = omega (arith, low) in
+      let past : flat_map f (tickets_from (0 + first) rest) ≡ [] = same_numbered f (λ k. []) (0 + first) rest (λ k from below. none k (omega (arith, from))) ∙ flat_none (λ k. []) (λ k. refl) (tickets_from (0 + first) rest) in
+      ap (λ k. flat_map f (tickets_from 0 k)) many
+      ∙ ap (flat_map f) (numbers_append 0 first rest)
+      ∙ flat_append f (tickets_from 0 first) (tickets_from (0 + first) rest)
+      ∙ (λ i. by_numbers stores t c i ++ past i)
+      ∙ append-nil (asked_of stores t c)
 
 -- all of them are between an Admit and a Commit
 pub inner_part : (m : Kept) → AllByRecursion IsInner (by_part m (asked_at m))
@@ -188,7 +140,7 @@ module _ (m m' : Kept) (l : Label) (more : ℕ) (moves : Moves m m' l more) (gro
             let some = slice_some m'.cells (u - m'.first) (omega (arith, low', high)) in
             let at' : cell_at m' u ≡ Some some.0 = cell_is m' u low' ∙ some.1 in
             ap (λ o. flat_map (asked_as m.stores u c) (tickets_from 0 (numbers_in o))) at'
-            ∙ numbers_of m.stores u c some.0.outbox.sent (sends_more u c some.0 e at') (λ j past within. past_sent u c e j past)
+            ∙ numbers_of m.stores u c some.0.outbox.sent (sends_more u c some.0 e at') (past_sent u c e)
 
     wider_slots : by_slot m' (slot_at m) ≡ by_part m (asked_at m)
     wider_slots =
@@ -200,6 +152,7 @@ module _ (m m' : Kept) (l : Label) (more : ℕ) (moves : Moves m m' l more) (gro
         by_cell : (o : Option (Cell Actor)) → cell_at m t ≡ o → sent_at m t < j → slot_by m.stores t j o ≡ []
         by_cell None e past = refl
         by_cell (Some c) e past = past_sent t c e j (subst (λ o. sent_by o < j) e past)
+
     -- where the context stays, or stays away, each slot has what it asks for
     slots_are : has_at (path_of l.act) (slice_get m'.stores l.host) ≡ has_at (path_of l.act) (slice_get m.stores l.host)
         → (u j : ℕ) → m'.first ≤ u → u < m'.first + length m'.cells → (u ≡ ticket_of l.act → sent_at m (ticket_of l.act) < j → ⊥) → (u ≡ ticket_of l.act → j ≡ number_of l.act → ⊥) → (u ≡ ticket_of l.act → j ≡ 0 → ⊥)

@@ -88,10 +88,7 @@ impl<'p> Listed<'p> {
     }
 
     // What a finished run gives. After want of memory all comes back as it was.
-    pub(crate) fn into_finished(
-        self,
-        alloc: Global,
-    ) -> Result<Finished, (Listed<'p>, OutOfMemory)>
+    pub(crate) fn into_finished(self, alloc: Global) -> Result<Finished, (Listed<'p>, OutOfMemory)>
         requires { (start : start.Start) × (s : TheState) × Stands (kept_of self.engine) start s × runs.Finished (plan_actors (kept_of self.engine).plan.program) (kept_of self.engine).plan.workers s }
         ensures told { IfOk result (λ f. (start : start.Start) (s : TheState) → Stands (kept_of self.entry.engine) start s → f ≡ finished_of (code_ran (kept_of self.entry.engine).plan.program) (kept_of self.entry.engine).plan.program.shape start (kept_of self.entry.engine).plan.script) }
         ensures back { IfErr result (λ e. e.0 ≡ self.entry) }
@@ -117,11 +114,7 @@ impl<'p> Listed<'p> {
     }
 
     // Makes what a label needs.
-    pub(crate) fn prepare(
-        &mut self,
-        alloc: Global,
-        label: &Label,
-    ) -> Result<Prepared, OutOfMemory>
+    pub(crate) fn prepare(&mut self, alloc: Global, label: &Label) -> Result<Prepared, OutOfMemory>
         requires enabled { IsEnabled (kept_of self.old.engine) (label_of label.now) }
         requires listed { IsListed self.old }
         ensures part { IfOk result (IsPart self.new.engine label.now.host label.now.act) }

@@ -1,4 +1,4 @@
-use Rattle.std.proofs.Common.{◌≡◌, ◌∙◌, ◌≤◌, List, [], ◌∷◌, ◌++◌, length, map, refl, sym, ap, arith}
+use Rattle.std.proofs.Common.{◌≡◌, ◌∙◌, ◌≤◌, List, [], ◌∷◌, ◌++◌, length, map, sym, ap, arith}
 use Rattle.std.specs.Prelude.{flat_map}
 use Rattle.wave_base.specs.Fold.{tickets_from}
 use Rattle.event_cells.specs.declared.cell.Cell.{Cell}

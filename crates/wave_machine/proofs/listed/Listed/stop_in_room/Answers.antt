@@ -1,5 +1,4 @@
-use Rattle.std.proofs.Common.{◌≡◌, ◌∙◌, ◌+◌, ◌-◌, Some, length, refl, sym, ap, subst, arith}
-use Rattle.std.specs.Prelude.{slice_get}
+use Rattle.std.proofs.Common.{◌≡◌, ◌∙◌, ◌+◌, ◌-◌, length, refl, sym, ap, subst, arith}
 use Rattle.wave_labels.specs.Labels.{label_of}
 use Rattle.wave_states.specs.Labels.{Label, path_of, ticket_of}
 use Rattle.wave_machine.specs.declared.engine.Engine.{Engine}
@@ -8,7 +7,7 @@ use Rattle.wave_machine.specs.Running.{Stops, stop_of}
 use Rattle.wave_machine.specs.inner.Apart.{Moves, grown}
 use Rattle.wave_machine.specs.inner.Asking.{place_in}
 use Rattle.wave_machine.specs.inner.Index.{HasRoom, KeepsMails, Sees, held_at, held_by}
-use Rattle.wave_machine.proofs.Asked.{listed_same, room_same}
+use Rattle.wave_machine.proofs.Asked.{listed_same}
 use Rattle.wave_machine.proofs.Halting.{cell_at}
 use Rattle.wave_machine.proofs.KeptMails.{mails_stopped, numbered_stood}
 use Rattle.wave_machine.proofs.Labelled.{stood_stopped}
@@ -38,21 +37,24 @@ update-requires c =
     let sees : Sees m l.host (ticket_of l.act) (path_of l.act) c.look-seen.result =
     subst (λ (z : Label). Sees m z.host (ticket_of z.act) (path_of z.act) c.look-seen.result) (sym is) (subst (λ n. Sees m n t lease.path c.look-seen.result) host_is c.look-seen.ensures) in
     let stood = stood_stopped m m' lease c.args.pause h on c.in-Ok.ensures.enabled c.in-Ok.ensures.stops in
-    let room : HasRoom x (1 + length some.0.held.holds) = subst (λ n. HasRoom x (1 + n)) held c.requires.room in
-    (m, 1 + length some.0.held.holds, record {
-      taken = record {
-        stands = (stood.start, stood.state, stood.stands);
-        moves = moves;
-        mails = subst (λ (z : Label). KeepsMails m m' z) (sym is) (mails_stopped c.states_are_known.ensures m m' lease c.args.pause h on c.in-Ok.ensures.enabled c.in-Ok.ensures.stops);
-        numbered = numbered_stood c.states_are_known.ensures m (record { start = on.start; state = on.state; stands = on.stands });
-        grows = λ one. absurd (let none : grown l.act ≡ 0 = ap (λ (z : Label). grown z.act) is in omega (arith, one, none));
-        sees = sees;
-      };
-      index = c.requires.listed.index;
-      done = stopped_done c.done_stays.ensures m m' x.done c.requires.listed.done lease c.args.pause h on c.in-Ok.ensures.enabled c.in-Ok.ensures.stops;
-      weight = c.requires.listed.weight;
-      room = record { room = room.room; fits = room.fits };
-    })
+    let room : HasRoom x (1 + length some.0.held.holds) = subst (λ n. HasRoom x (1 + n)) held c.requires.room in (
+      m,
+      1 + length some.0.held.holds,
+      record {
+        taken = record {
+          stands = (stood.start, stood.state, stood.stands);
+          moves = moves;
+          mails = subst (λ (z : Label). KeepsMails m m' z) (sym is) (mails_stopped c.states_are_known.ensures m m' lease c.args.pause h on c.in-Ok.ensures.enabled c.in-Ok.ensures.stops);
+          numbered = numbered_stood c.states_are_known.ensures m (record { start = on.start; state = on.state; stands = on.stands });
+          grows = λ one. absurd (let none : grown l.act ≡ 0 = ap (λ (z : Label). grown z.act) is in omega (arith, one, none));
+          sees = sees;
+        };
+        index = c.requires.listed.index;
+        done = stopped_done c.done_stays.ensures m m' x.done c.requires.listed.done lease c.args.pause h on c.in-Ok.ensures.enabled c.in-Ok.ensures.stops;
+        weight = c.requires.listed.weight;
+        room = record { room = room.room; fits = room.fits };
+      },
+    )
 
 pub returns-in-Ok-clause-stops : goal.returns-in-Ok-clause-stops
 returns-in-Ok-clause-stops c =

@@ -1,16 +1,11 @@
-use Rattle.std.proofs.Common.{◌≡◌, ◌∙◌, ◌+◌, ◌-◌, ◌<◌, ◌≤◌, ap, arith}
+use Rattle.std.proofs.Common.{◌∙◌, ap, arith}
 use Rattle.wave_labels.specs.Labels.{label_of}
-use Rattle.wave_states.specs.Labels.{ticket_of}
-use Rattle.wave_machine.specs.declared.listed.Listed.{Listed}
-use Rattle.wave_machine.specs.declared.listed.Seen.{Seen}
 use Rattle.wave_machine.specs.Keeping.{kept_of}
-use Rattle.wave_machine.specs.Machines.{Kept}
-use Rattle.wave_machine.specs.inner.Asking.{IsListable}
 use Rattle.wave_machine.specs.inner.Index.{asked_at, by_part, head_in, share_at}
 use Rattle.wave_machine.proofs.Heads.{head_is}
 use Rattle.wave_machine.proofs.ListingSizes.{listable}
 use Rattle.wave_machine.proofs.Updated.{inner_part}
-use Rattle.wave_machine.proofs.Weighed.{Weighed, weighed}
+use Rattle.wave_machine.proofs.Weighed.{weighed}
 use Rattle.wave_machine.proofs.listed.Listed.update.Goals as goal
 
 pub overflow_sub-self : goal.overflow_sub-self
