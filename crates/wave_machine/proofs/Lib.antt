@@ -43,7 +43,6 @@ pub mod Telling
 pub mod Lines
 pub mod Untouched
 pub mod Skipping
-pub mod Picked
 pub mod Parting
 pub mod Ordering
 pub mod Relisted

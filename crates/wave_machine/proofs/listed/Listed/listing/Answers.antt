@@ -1,4 +1,4 @@
-use Rattle.std.proofs.Common.{◌≡◌, ◌∙◌, ◌-◌, ◌++◌, List, map, None, sym, ap, subst, append_assoc}
+use Rattle.std.proofs.Common.{◌∙◌, ◌-◌, ◌++◌, List, map, None, sym, ap, subst, append_assoc}
 use Rattle.std.specs.Prelude.{option_map}
 use Rattle.wave_base.specs.Fold.{tickets_from}
 use Rattle.wave_labels.specs.declared.label.Label.{Label}
