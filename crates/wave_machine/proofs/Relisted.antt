@@ -69,10 +69,13 @@ own_goes t k [] u v own a b = tt
 own_goes t k (l ∷ ls) u v own a b =
     let it = own.0.ticket in
     let is = own.0.number in
-    let inner = own_inner t k l own.0 in
-    (own.0.worker,
-    (all_map (Low (kind_of l.act) (ticket_of l.act) (number_of l.act)) (IsBelow t k) (λ x h e. record { ticket = let up = (h (inner_as l x inner e)).ticket in omega (arith, it, up); number = λ same. let up = (h (inner_as l x inner e)).number (same ∙ it) in omega (arith, is, up) }) u a,
-    all_map (High (kind_of l.act) (ticket_of l.act) (number_of l.act)) (IsFrom t (k + 1)) (λ x h e. record { ticket = let up = (h (inner_as l x inner e)).ticket in omega (arith, it, up); number = λ same. let up = (h (inner_as l x inner e)).number (sym it ∙ same) in omega (arith, is, up) }) v b))
+    let inner = own_inner t k l own.0 in (
+      own.0.worker,
+      (
+        all_map (Low (kind_of l.act) (ticket_of l.act) (number_of l.act)) (IsBelow t k) (λ x h e. record { ticket = let up = (h (inner_as l x inner e)).ticket in omega (arith, it, up); number = λ same. let up = (h (inner_as l x inner e)).number (same ∙ it) in omega (arith, is, up) }) u a,
+        all_map (High (kind_of l.act) (ticket_of l.act) (number_of l.act)) (IsFrom t (k + 1)) (λ x h e. record { ticket = let up = (h (inner_as l x inner e)).ticket in omega (arith, it, up); number = λ same. let up = (h (inner_as l x inner e)).number (sym it ∙ same) in omega (arith, is, up) }) v b,
+      ),
+    )
 
 -- all of a later ticket is behind
 pub later_from : (t k : ℕ) (v : List Label) → From (t + 1) 0 v → From t k v
@@ -89,13 +92,17 @@ pub lists_none : (t k : ℕ) (xs : List Ready) → Lists t k xs xs []
 lists_none t k xs = record { parts = λ u v a b e. none_put xs u v e }
 
 pub lists_more : (t j k : ℕ) (a b c : List Ready) (x y : List Label) → j ≤ k → Below t k x → Lists t j a b x → Lists t k b c y → Lists t j a c (x ++ y)
-lists_more t j k a b c x y l below first second = record { parts = λ u v up past e.
-    second.parts (u ++ x) v (all_append (IsBelow t k) u x (below_more t j k u l up) below) past (first.parts u v up past e)
-    ∙ ap (λ r. in_order (r ++ v)) (append_assoc u x y) }
+lists_more t j k a b c x y l below first second = record {
+  parts = λ u v up past e.
+      second.parts (u ++ x) v (all_append (IsBelow t k) u x (below_more t j k u l up) below) past (first.parts u v up past e)
+      ∙ ap (λ r. in_order (r ++ v)) (append_assoc u x y);
+}
 
 pub lists_put : (t k : ℕ) (old new : List Ready) (o : Option program.Label) (x : List Label) → labels_in o ≡ x → AllByRecursion (IsOwn t k) x → ((u v : List Label) → Goes (labels_in o) u v → map by_none old ≡ in_order (u ++ v) → map by_none new ≡ in_order ((u ++ labels_in o) ++ v)) → Lists t k old new x
-lists_put t k old new o x same own put = record { parts = λ u v up past e.
-    put u v (subst (λ ls. Goes ls u v) (sym same) (own_goes t k x u v own up (later_from t (k + 1) v past))) e ∙ ap (λ r. in_order ((u ++ r) ++ v)) same }
+lists_put t k old new o x same own put = record {
+  parts = λ u v up past e.
+      put u v (subst (λ ls. Goes ls u v) (sym same) (own_goes t k x u v own up (later_from t (k + 1) v past))) e ∙ ap (λ r. in_order ((u ++ r) ++ v)) same;
+}
 
 -- ---- what is taken out of a slot, kind by kind
 but_kind : (kind : ℕ) (x : List Label) → of_kind kind (without kind x) ≡ []
@@ -154,25 +161,27 @@ module _ (kind t k : ℕ) (above : 1 ≤ kind) (under : kind ≤ 8) where
   pub cuts_kind : (old new : List Ready)
       → ((low own high : List Label) → Parted (map by_none old) kind t k low (own ++ high) → length own ≤ 1 → AllByRecursion (λ (l : Label). is_slot kind t k l.act ≡ true) own → AllByRecursion (λ (l : Label). is_slot kind t k l.act ≡ false) high → map by_none new ≡ low ++ high)
       → CutsKind kind t k old new
-  cuts_kind old new cut = record { parts = λ u x v a own few b e.
-      let small : kind < 10 = omega (arith, under) in
-      let z = without kind x in
-      let ls = u ++ (x ++ v) in
-      let ms = u ++ (z ++ v) in
-      let low = lower kind ls ++ of_kind kind u in
-      let high = of_kind kind v ++ upper kind ls in
-      let kinds_xv : of_kind kind (x ++ v) ++ upper kind ls ≡ of_kind kind x ++ high = ap (λ r. r ++ upper kind ls) (kind_append kind x v) ∙ append_assoc (of_kind kind x) (of_kind kind v) (upper kind ls) in
-      let lows : AllByRecursion (Low kind t k) u = all_map (Low kind t k) (IsBelow t k) (λ l h same. h (inner_at l same)) u a in
-      let highs : AllByRecursion (High kind t k) (x ++ v) = all_append (High kind t k) x v
-          (all_map (High kind t k) (IsOwn t k) (λ l h same. record { ticket = let it = h.ticket in omega (arith, it); number = λ q. let is = h.number in omega (arith, is) }) x own)
-          (all_map (High kind t k) (IsFrom t (k + 1)) (λ l h same. record { ticket = (h (inner_at l same)).ticket; number = λ q. let up = (h (inner_at l same)).number q in omega (arith, up) }) v b) in
-      let p : Parted (map by_none old) kind t k low (of_kind kind x ++ high) =
-      subst (λ r. Parted (map by_none old) kind t k low r) kinds_xv (subst (λ r. Parted r kind t k low (of_kind kind (x ++ v) ++ upper kind ls)) (sym e)
-      (parted kind t k ls u (x ++ v) small (kind_append kind u (x ++ v)) lows highs)) in
-      let others : (j : ℕ) → j ≢ kind → of_kind j ls ≡ of_kind j ms = λ j d. kind_append j u (x ++ v) ∙ ap (λ r. of_kind j u ++ r) (kind_append j x v ∙ ap (λ r. r ++ of_kind j v) (sym (other_kinds j kind x d)) ∙ sym (kind_append j z v)) ∙ sym (kind_append j u (z ++ v)) in
-      let mine : of_kind kind ms ≡ of_kind kind u ++ of_kind kind v = kind_append kind u (z ++ v) ∙ ap (λ r. of_kind kind u ++ r) (kind_append kind z v ∙ ap (λ r. r ++ of_kind kind v) (but_kind kind x)) in
-      let none : AllByRecursion Elsewhere high = all_append Elsewhere (of_kind kind v) (upper kind ls) (behind_elsewhere v b) (above_elsewhere ls) in
-      cut low (of_kind kind x) high p (few_kinds x few) (own_here x own) none ∙ sym (one_kind_less kind ls ms u v small others mine) }
+  cuts_kind old new cut = record {
+    parts = λ u x v a own few b e.
+        let small : kind < 10 = omega (arith, under) in
+        let z = without kind x in
+        let ls = u ++ (x ++ v) in
+        let ms = u ++ (z ++ v) in
+        let low = lower kind ls ++ of_kind kind u in
+        let high = of_kind kind v ++ upper kind ls in
+        let kinds_xv : of_kind kind (x ++ v) ++ upper kind ls ≡ of_kind kind x ++ high = ap (λ r. r ++ upper kind ls) (kind_append kind x v) ∙ append_assoc (of_kind kind x) (of_kind kind v) (upper kind ls) in
+        let lows : AllByRecursion (Low kind t k) u = all_map (Low kind t k) (IsBelow t k) (λ l h same. h (inner_at l same)) u a in
+        let highs : AllByRecursion (High kind t k) (x ++ v) = all_append (High kind t k) x v
+        (all_map (High kind t k) (IsOwn t k) (λ l h same. record { ticket = let it = h.ticket in omega (arith, it); number = λ q. let is = h.number in omega (arith, is) }) x own)
+        (all_map (High kind t k) (IsFrom t (k + 1)) (λ l h same. record { ticket = (h (inner_at l same)).ticket; number = λ q. let up = (h (inner_at l same)).number q in omega (arith, up) }) v b) in
+        let p : Parted (map by_none old) kind t k low (of_kind kind x ++ high) =
+        subst (λ r. Parted (map by_none old) kind t k low r) kinds_xv (subst (λ r. Parted r kind t k low (of_kind kind (x ++ v) ++ upper kind ls)) (sym e)
+        (parted kind t k ls u (x ++ v) small (kind_append kind u (x ++ v)) lows highs)) in
+        let others : (j : ℕ) → j ≢ kind → of_kind j ls ≡ of_kind j ms = λ j d. kind_append j u (x ++ v) ∙ ap (λ r. of_kind j u ++ r) (kind_append j x v ∙ ap (λ r. r ++ of_kind j v) (sym (other_kinds j kind x d)) ∙ sym (kind_append j z v)) ∙ sym (kind_append j u (z ++ v)) in
+        let mine : of_kind kind ms ≡ of_kind kind u ++ of_kind kind v = kind_append kind u (z ++ v) ∙ ap (λ r. of_kind kind u ++ r) (kind_append kind z v ∙ ap (λ r. r ++ of_kind kind v) (but_kind kind x)) in
+        let none : AllByRecursion Elsewhere high = all_append Elsewhere (of_kind kind v) (upper kind ls) (behind_elsewhere v b) (above_elsewhere ls) in
+        cut low (of_kind kind x) high p (few_kinds x few) (own_here x own) none ∙ sym (one_kind_less kind ls ms u v small others mine);
+  }
 
 -- so many kinds are out
 abbrev pub without_all : List ℕ → List Label → List Label
@@ -210,23 +219,27 @@ without_more [] kind x = refl
 without_more (k ∷ kinds) kind x = without_more kinds kind (without k x)
 
 pub outs_more : (kinds : List ℕ) (kind t k : ℕ) (old mid new : List Ready) → Outs kinds t k old mid → CutsKind kind t k mid new → Outs (kinds ++ kind ∷ []) t k old new
-outs_more kinds kind t k old mid new was cut = record { parts = λ u x v a own few b e.
-    let less = few_without_all kinds x in
-    cut.parts u (without_all kinds x) v a (all_without_all (IsOwn t k) kinds x own) (omega (arith, few, less)) b (was.parts u x v a own few b e)
-    ∙ ap (λ y. in_order (u ++ (y ++ v))) (sym (without_more kinds kind x)) }
+outs_more kinds kind t k old mid new was cut = record {
+  parts = λ u x v a own few b e.
+      let less = few_without_all kinds x in
+      cut.parts u (without_all kinds x) v a (all_without_all (IsOwn t k) kinds x own) (omega (arith, few, less)) b (was.parts u x v a own few b e)
+      ∙ ap (λ y. in_order (u ++ (y ++ v))) (sym (without_more kinds kind x));
+}
 
 -- when all kinds that are asked for are out, nothing is left
 none_left : (kinds : List ℕ) (x : List Label) → AllByRecursion (λ (l : Label). IsIn kinds (kind_of l.act)) x → without_all kinds x ≡ []
 none_left [] [] a = refl
 none_left [] (l ∷ x) a = absurd a.0
 none_left (kind ∷ kinds) x a = none_left kinds (without kind x) (all_filter (λ (l : Label). IsIn kinds (kind_of l.act)) (λ (l : Label). IsIn (kind ∷ kinds) (kind_of l.act)) (λ (l : Label). not (kind_of l.act == kind)) (λ l e h. elim h [
-    | inl is ↦ absurd (true≢false (sym e ∙ ap (λ b. not b) (ap (λ n. n == kind) (sym is) ∙ number_self kind)))
-    | inr more ↦ more
+  | inl is ↦ absurd (true≢false (sym e ∙ ap (λ b. not b) (ap (λ n. n == kind) (sym is) ∙ number_self kind)))
+  | inr more ↦ more
 ]) x a)
 
 pub outs_last : (t k : ℕ) (old new : List Ready) → Outs (kinds_at k) t k old new → Cuts t k old new
-outs_last t k old new o = record { parts = λ u x v a own few b e. o.parts u x v a own few b e
-    ∙ ap (λ r. in_order (u ++ (r ++ v))) (none_left (kinds_at k) x (all_map (λ (l : Label). IsIn (kinds_at k) (kind_of l.act)) (IsOwn t k) (λ l h. h.kind) x own)) }
+outs_last t k old new o = record {
+  parts = λ u x v a own few b e. o.parts u x v a own few b e
+      ∙ ap (λ r. in_order (u ++ (r ++ v))) (none_left (kinds_at k) x (all_map (λ (l : Label). IsIn (kinds_at k) (kind_of l.act)) (IsOwn t k) (λ l h. h.kind) x own));
+}
 
 kinds_few : (k : ℕ) → AllByRecursion (λ kind. (1 ≤ kind) × (kind ≤ 8)) (kinds_at k)
 kinds_few zero = ((omega arith, omega arith), ((omega arith, omega arith), tt))

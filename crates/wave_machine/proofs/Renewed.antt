@@ -115,16 +115,20 @@ module _ (m : Kept) (t k : ℕ) (c : Cell Actor) (at : cell_at m t ≡ Some c) (
       by_number_of (suc j) l = ap (mail_labels m.stores 0 t (suc j)) (numbered.below (suc j) (omega (arith, l)))
 
   pub relists_at : IsNumbered c.outbox → Relists m t k old new
-  relists_at numbered = record { parts = λ h head part own e. let asked : ls ≡ slot_at m t k = ap (slot_by m.stores t k) (sym at) in
-      subst (λ (x : List Label). map by_none new ≡ in_order (h ++ by_slot m (with_slot part t k x))) asked (elim (cases_lt k (1 + c.outbox.sent)) [
-      | inl l ↦ relists_by h head part own _ _ _ (divided_within part own t k (1 + c.outbox.sent) ls l) e
-      | inr l ↦ relists_by h head part own _ _ _ (divided_past part own t k (1 + c.outbox.sent) ls l (nothing_past numbered l)) e
-      ]) }
+  relists_at numbered = record {
+    parts = λ h head part own e. let asked : ls ≡ slot_at m t k = ap (slot_by m.stores t k) (sym at) in
+        subst (λ (x : List Label). map by_none new ≡ in_order (h ++ by_slot m (with_slot part t k x))) asked (elim (cases_lt k (1 + c.outbox.sent)) [
+          | inl l ↦ relists_by h head part own _ _ _ (divided_within part own t k (1 + c.outbox.sent) ls l) e
+          | inr l ↦ relists_by h head part own _ _ _ (divided_past part own t k (1 + c.outbox.sent) ls l (nothing_past numbered l)) e
+        ]);
+  }
 
 -- a ticket that is not there has nothing
 pub relists_none : (m : Kept) (t k : ℕ) (xs : List Ready) → cell_at m t ≡ None → Relists m t k xs xs
-relists_none m t k xs none = record { parts = λ h head part own e. e ∙ ap (λ r. in_order (h ++ r)) (same_slots m part (with_slot part t k (slot_at m t k)) (λ u j low high within. sym (other_ticket part t k (slot_at m t k) u j (λ same.
-    let few : numbers_in (cell_at m u) ≡ 0 = ap (λ n. numbers_in (cell_at m n)) same ∙ ap numbers_in none in omega (arith, few, within))))) }
+relists_none m t k xs none = record {
+  parts = λ h head part own e. e ∙ ap (λ r. in_order (h ++ r)) (same_slots m part (with_slot part t k (slot_at m t k)) (λ u j low high within. sym (other_ticket part t k (slot_at m t k) u j (λ same.
+      let few : numbers_in (cell_at m u) ≡ 0 = ap (λ n. numbers_in (cell_at m n)) same ∙ ap numbers_in none in omega (arith, few, within)))));
+}
 
 pub next_none : (m : Kept) (xs : List Ready) → RelistsNext m None xs xs
 next_none m xs = record { parts = λ h head part own e. e }
@@ -230,8 +234,10 @@ module _ (m : Kept) (t n : ℕ) where
   other_mails part u j d = ap (λ b. if b && nat_lt n j then slot_at m t j else part u j) (differ u t d)
 
   pub new_none : (xs : List Ready) → cell_at m t ≡ None → ListsNew m t n xs xs
-  new_none xs none = record { parts = λ h head part own gone e. e ∙ ap (λ r. in_order (h ++ r)) (same_slots m part (with_above m t n part) (λ u j low high within. sym (other_mails part u j (λ same.
-      let few : numbers_in (cell_at m u) ≡ 0 = ap (λ k. numbers_in (cell_at m k)) same ∙ ap numbers_in none in omega (arith, few, within))))) }
+  new_none xs none = record {
+    parts = λ h head part own gone e. e ∙ ap (λ r. in_order (h ++ r)) (same_slots m part (with_above m t n part) (λ u j low high within. sym (other_mails part u j (λ same.
+        let few : numbers_in (cell_at m u) ≡ 0 = ap (λ k. numbers_in (cell_at m k)) same ∙ ap numbers_in none in omega (arith, few, within)))));
+  }
 
   module _ (c : Cell Actor) (at : cell_at m t ≡ Some c) (old new : List Ready) (x : List Label) (are : x ≡ flat_map (λ k. mail_labels m.stores 0 t k (mail_in c.outbox.mails k)) (tickets_from (n + 1) (c.outbox.sent - n))) (lists : Lists t (n + 1) old new x) where
     asks : (j : ℕ) → n < j → slot_at m t j ≡ mail_labels m.stores 0 t j (mail_in c.outbox.mails j)
@@ -281,10 +287,12 @@ module _ (m : Kept) (t n : ℕ) where
         lists.parts u last below (behind_from m t c at part own) (e ∙ ap in_order was) ∙ ap in_order (sym is)
 
     pub new_at : ListsNew m t n old new
-    new_at = record { parts = λ h head part own gone e. elim (cases_lt n c.outbox.sent) [
-      | inl l ↦ new_by h head part own _ (rows_more part own gone (omega (arith, l))) e
-      | inr l ↦ new_by h head part own _ (rows_same part own l) e
-    ] }
+    new_at = record {
+      parts = λ h head part own gone e. elim (cases_lt n c.outbox.sent) [
+        | inl l ↦ new_by h head part own _ (rows_more part own gone (omega (arith, l))) e
+        | inr l ↦ new_by h head part own _ (rows_same part own l) e
+      ];
+    }
 
 pub own_above : (m : Kept) (part : ℕ → ℕ → List Label) (t n : ℕ) → AreOwn part → AreOwn (with_above m t n part)
 own_above m part t n own = record {
@@ -318,12 +326,14 @@ own_one m t k a b zero_is first = subst (λ n. RelistsOwn m t n a b) (sym zero_i
         by_test false = refl
 
 pub near : (m : Kept) (t k n : ℕ) (before after : Option ℕ) (a b c d e : List Ready) → RelistsOwn m t k a b → ListsNew m t n b c → RelistsNext m before c d → RelistsNext m after d e → RelistsNear m t k n before after a e
-near m t k n before after a b c d e first second third fourth = record { parts = λ h head part own gone l is.
-    let one = with_own m t k part in
-    let own_one = own_with m (with_slot part t 0 (slot_at m t 0)) t k (own_with m part t 0 own) in
-    let two = with_above m t n one in
-    let own_two = own_above m one t n own_one in
-    fourth.parts h head (with_next m before two) (own_next m before two own_two) (third.parts h head two own_two (second.parts h head one own_one (λ j past. still part gone l j past) (first.parts h head part own is))) }
+near m t k n before after a b c d e first second third fourth = record {
+  parts = λ h head part own gone l is.
+      let one = with_own m t k part in
+      let own_one = own_with m (with_slot part t 0 (slot_at m t 0)) t k (own_with m part t 0 own) in
+      let two = with_above m t n one in
+      let own_two = own_above m one t n own_one in
+      fourth.parts h head (with_next m before two) (own_next m before two own_two) (third.parts h head two own_two (second.parts h head one own_one (λ j past. still part gone l j past) (first.parts h head part own is)));
+}
   where
     still : (part : ℕ → ℕ → List Label) → ((j : ℕ) → n < j → part t j ≡ []) → k ≤ n → (j : ℕ) → n < j → with_own m t k part t j ≡ []
     still part gone l j past =

@@ -96,11 +96,13 @@ pub(crate) fn put_some(index: &mut Vec<Ready>, label: Option<Label>)
     ensures capacity { vec_capacity index.new ≡ vec_capacity index.old }
 {
     match label {
-        Some(Label {
-            worker: _,
-            host,
-            act,
-        }) => put(index, Ready { host, act }),
+        Some(
+            Label {
+                worker: _,
+                host,
+                act,
+            },
+        ) => put(index, Ready { host, act }),
         None => (),
     }
 }

@@ -19,8 +19,8 @@ loop-low-preserved-then-is_under c =
       order = omega (arith, c.loop-low-test.true);
       within = c.loop-low.invariant.within;
       between = λ low high p. let was = c.loop-low.invariant.between low high p in
-      let more = is_lower index c.args.kind c.args.ticket.0 c.args.number low high p i x at (same ∙ sym c.is_under.ensures ∙ c.if-is_under.true) in
-      record { above = omega (arith, more); under = was.under };
+          let more = is_lower index c.args.kind c.args.ticket.0 c.args.number low high p i x at (same ∙ sym c.is_under.ensures ∙ c.if-is_under.true) in
+          record { above = omega (arith, more); under = was.under };
     }
 
 pub loop-low-preserved : goal.loop-low-preserved
@@ -35,5 +35,5 @@ loop-low-preserved c =
       order = omega arith;
       within = omega (arith, within);
       between = λ low high p. let was = c.loop-low.invariant.between low high p in
-      record { above = was.above; under = is_higher index c.args.kind c.args.ticket.0 c.args.number low high p i x at (same ∙ sym c.is_under.ensures ∙ c.if-is_under.false) };
+          record { above = was.above; under = is_higher index c.args.kind c.args.ticket.0 c.args.number low high p i x at (same ∙ sym c.is_under.ensures ∙ c.if-is_under.false) };
     }
