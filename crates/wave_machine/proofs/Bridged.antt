@@ -1,24 +1,21 @@
 -- The list as one worker takes it.
-use Rattle.std.proofs.Common.{◌≡◌, ◌∙◌, ◌⊎◌, inl, inr, ℕ, zero, suc, ◌+◌, ◌-◌, ◌<◌, ◌≤◌, ◌==◌, Bool, true, false, cond, List, [], ◌∷◌, ◌++◌, length, map, is_none, Option, Some, None, refl, sym, ap, subst, arith, append_assoc, append-nil}
-use Rattle.std.specs.Prelude.{flat_map, filter, if◌then◌else◌, option_map, slice_get}
+use Rattle.std.proofs.Common.{◌≡◌, ◌∙◌, inl, inr, ℕ, zero, suc, ◌+◌, ◌-◌, ◌==◌, Bool, true, false, List, [], ◌∷◌, ◌++◌, length, map, is_none, Option, Some, None, refl, sym, ap, arith}
+use Rattle.std.specs.Prelude.{flat_map, if◌then◌else◌, option_map, slice_get}
 use Rattle.std.proofs.lemmas.List.{map-append}
 use Rattle.wave_base.specs.declared.numbers.Ticket.{Ticket}
 use Rattle.wave_base.specs.declared.outcome.EventResult.{EventResult}
-use Rattle.wave_base.specs.declared.path.Path.{Path}
 use Rattle.wave_base.specs.declared.start.Start.{Start}
 use Rattle.wave_base.specs.Fold.{tickets_from}
-use Rattle.commit_order.specs.Commits.{Committing, ready_result}
-use Rattle.head_tickets.specs.Heads.{Heading, next_ticket}
+use Rattle.commit_order.specs.Commits.{ready_result}
+use Rattle.head_tickets.specs.Heads.{next_ticket}
 use Rattle.event_cells.specs.declared.cell.Cell.{Cell}
 use Rattle.event_cells.specs.declared.outbox.Envelope.{Envelope}
 use Rattle.event_cells.specs.declared.status.Status.{Status}
 use Rattle.event_cells.specs.declared.status.Status.TheVariants as status
-use Rattle.event_cells.specs.Keeps.{Sending, mail_in}
+use Rattle.event_cells.specs.Keeps.{mail_in}
 use Rattle.host_map.specs.Stores.{Stores}
-use Rattle.wave_labels.specs.declared.label.Label as program
-use Rattle.wave_labels.specs.Labels.{act_of, label_of}
-use Rattle.wave_states.specs.Canonical.{enabled_for, taken_as}
-use Rattle.wave_states.specs.Labels.{Act, Choice, Label, Admit, Commit, Grant}
+use Rattle.wave_states.specs.Canonical.{enabled_for}
+use Rattle.wave_states.specs.Labels.{Act, Label, Admit, Commit, Grant}
 use Rattle.wave_theory.specs.Listed.{IsIn, kind_of}
 use Rattle.wave_theory.proofs.Basics.{some_same}
 use Rattle.plan_actors.specs.PlanActors.{plan_actors}
@@ -27,12 +24,11 @@ use Rattle.wave_machine.specs.declared.kept.Out.{Out}
 use Rattle.wave_machine.specs.declared.ready.Ready.{Ready}
 use Rattle.wave_machine.specs.Ending.{is_done}
 use Rattle.wave_machine.specs.Machines.{Kept, Stands, TheState}
-use Rattle.wave_machine.specs.Picks.{IsOneOf}
 use Rattle.wave_machine.specs.Readies.{choice_of, ready_in, unlabelled}
-use Rattle.wave_machine.specs.inner.Asking.{admit_labels, asked_in, by_taker, by_ticket, cell_labels, commit_labels, grant_labels, in_order, is_next, label_at, mail_act, mail_labels, mails_labels, of_kind, place_in, start_labels, status_labels, stop_if, stop_labels, stops_labels, runs_out}
-use Rattle.wave_machine.specs.inner.Index.{IsIndex, asked_at, asked_by, asked_of, by_none, by_part, head_in}
+use Rattle.wave_machine.specs.inner.Asking.{admit_labels, asked_in, by_ticket, cell_labels, commit_labels, grant_labels, in_order, is_next, label_at, mail_act, mail_labels, mails_labels, of_kind, place_in, start_labels, status_labels, stop_if, stop_labels, stops_labels, runs_out}
+use Rattle.wave_machine.specs.inner.Index.{IsIndex, asked_at, asked_of, by_none, by_part, head_in}
 use Rattle.wave_machine.specs.inner.Listable.{CanList}
-use Rattle.wave_machine.proofs.ListingLists.{by_ticket_is, filter_of_map, flat_none, flat_same, map_flat}
+use Rattle.wave_machine.proofs.ListingLists.{by_ticket_is, filter_of_map, flat_same, map_flat}
 use Rattle.wave_machine.proofs.ListingOwn.{own_lists}
 use Rattle.wave_machine.proofs.Owned.{asked_here, done_asks}
 use Rattle.wave_machine.proofs.Taking.{Laws}

@@ -1,5 +1,5 @@
 -- An Admit brings the cell behind the last one.
-use Rattle.std.proofs.Common.{◌≡◌, ◌+◌, ℕ, suc, length, Some, arith}
+use Rattle.std.proofs.Common.{◌≡◌, ◌+◌, length, Some, arith}
 use Rattle.wave_states.specs.Labels.{Act, Label, Admit, Queue, Grant, Visit, Start, Stop, Free, Pass, Land, Commit, ticket_of}
 use Rattle.wave_states.specs.Steps.{step}
 use Rattle.plan_actors.specs.PlanActors.{plan_actors}

@@ -1,5 +1,5 @@
 -- What the head asks for is the first kind, and the last.
-use Rattle.std.proofs.Common.{◌≡◌, ◌∙◌, ◌+◌, ◌≤◌, ◌&&◌, ◌==◌, ℕ, true, false, List, [], ◌∷◌, ◌++◌, length, map, Option, Some, None, refl, sym, ap, arith, true≢false}
+use Rattle.std.proofs.Common.{◌≡◌, ◌∙◌, ◌+◌, ◌&&◌, ◌==◌, ℕ, true, false, List, [], ◌++◌, length, map, Option, Some, None, refl, sym, ap, arith, true≢false}
 use Rattle.std.specs.Prelude.{option_map, slice_get}
 use Rattle.std.specs.List.{AllByRecursion}
 use Rattle.wave_base.specs.declared.numbers.Ticket.{Ticket}
@@ -9,13 +9,13 @@ use Rattle.commit_order.specs.Commits.{ready_result}
 use Rattle.head_tickets.specs.Heads.{Heading, next_ticket}
 use Rattle.wave_states.specs.Labels.{Label, Admit, Commit, ticket_of}
 use Rattle.wave_theory.specs.Listed.{kind_of}
-use Rattle.wave_theory.proofs.Basics.{and_first, and_second, differ, number_is}
+use Rattle.wave_theory.proofs.Basics.{and_first, differ, number_is}
 use Rattle.wave_machine.specs.declared.ready.Ready.{Ready}
 use Rattle.wave_machine.specs.Machines.{Kept}
 use Rattle.wave_machine.specs.inner.Asking.{admit_labels, commit_labels, in_order, label_at, of_kind}
-use Rattle.wave_machine.specs.inner.Index.{Goes, High, IsHead, IsInner, Low, by_none, head_in, head_of, is_admit, is_of, number_of}
+use Rattle.wave_machine.specs.inner.Index.{Goes, High, IsHead, IsInner, Low, by_none, head_in, head_of, is_admit, number_of}
 use Rattle.wave_machine.proofs.Ordering.{all_filter, all_flat, all_map}
-use Rattle.wave_machine.proofs.Parting.{at_place, first_is, first_none, is_slot}
+use Rattle.wave_machine.proofs.Parting.{at_place, first_none, is_slot}
 use Rattle.wave_machine.proofs.Relisted.{IsFirst, IsLast}
 
 pub admits_first : (h : Heading) → AllByRecursion IsFirst (admit_labels 0 h)

@@ -1,15 +1,14 @@
 -- A listing in three parts: what the index has before the Stops, as the idle worker takes it, the Stops, and what it has behind them.
-use Rattle.std.proofs.Common.{◌≡◌, ◌≢◌, ◌∙◌, ℕ, zero, suc, ◌+◌, ◌==◌, Bool, true, false, List, [], ◌∷◌, ◌++◌, length, map, take, drop, Option, Some, None, refl, sym, ap, subst, arith, append-nil}
+use Rattle.std.proofs.Common.{◌≡◌, ◌≢◌, ◌∙◌, ℕ, suc, ◌+◌, ◌==◌, Bool, true, false, List, [], ◌∷◌, ◌++◌, length, map, take, drop, Option, Some, None, refl, sym, ap, subst, arith, append-nil}
 use Rattle.std.specs.Prelude.{flat_map, if◌then◌else◌, option_map}
 use Rattle.wave_base.specs.declared.numbers.Ticket.{Ticket}
 use Rattle.wave_base.specs.declared.outcome.EventResult.{EventResult}
 use Rattle.wave_base.specs.Fold.{tickets_from}
 use Rattle.commit_order.specs.Commits.{ready_result}
-use Rattle.head_tickets.specs.Heads.{Heading, next_ticket}
+use Rattle.head_tickets.specs.Heads.{next_ticket}
 use Rattle.event_cells.specs.declared.cell.Cell.{Cell}
 use Rattle.host_map.specs.Stores.{Stores}
 use Rattle.wave_states.specs.Labels.{Label, Admit, Commit}
-use Rattle.wave_theory.specs.Listed.{kind_of}
 use Rattle.wave_theory.proofs.Basics.{differ}
 use Rattle.wave_machine.specs.declared.actor.Actor.{Actor}
 use Rattle.wave_machine.specs.declared.ready.Ready.{Ready}

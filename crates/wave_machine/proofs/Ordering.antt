@@ -1,11 +1,11 @@
 -- A list by kinds: it is in two parts about each kind, and what is added to a kind, or left out, is added at that place.
-use Rattle.std.proofs.Common.{◌≡◌, ◌≢◌, ◌||◌, ◌&&◌, ◌∙◌, ◌⊎◌, inl, inr, ℕ, zero, suc, ◌+◌, ◌-◌, ◌<◌, ◌≤◌, ◌==◌, Bool, true, false, cond, not, List, [], ◌∷◌, ◌++◌, length, map, refl, sym, ap, subst, arith, append_assoc, append-nil, true≢false}
-use Rattle.std.specs.Prelude.{flat_map, filter, nat_lt, nat_eq}
+use Rattle.std.proofs.Common.{◌≡◌, ◌≢◌, ◌||◌, ◌&&◌, ◌∙◌, ◌⊎◌, inl, inr, ℕ, zero, suc, ◌+◌, ◌-◌, ◌<◌, ◌≤◌, ◌==◌, Bool, true, false, cond, List, [], ◌∷◌, ◌++◌, refl, sym, ap, arith, append_assoc, append-nil}
+use Rattle.std.specs.Prelude.{flat_map, filter, nat_lt}
 use Rattle.std.specs.List.{AllByRecursion}
 use Rattle.std.proofs.lemmas.Bool.Decides.{nat_tests}
 use Rattle.std.proofs.lemmas.List.Elements.{filter-append}
 use Rattle.wave_base.specs.Fold.{tickets_from}
-use Rattle.wave_states.specs.Labels.{Act, Label, ticket_of}
+use Rattle.wave_states.specs.Labels.{Label, ticket_of}
 use Rattle.wave_theory.specs.Listed.{kind_of}
 use Rattle.wave_theory.proofs.Basics.{number_cases, number_is, number_self, not_same, differ}
 use Rattle.wave_machine.specs.inner.Asking.{in_order, of_kind}

@@ -1,8 +1,7 @@
 -- What a ticket asks for is its own, and as much as its share.
-use Rattle.std.proofs.Common.{◌≡◌, ◌≢◌, ◌∙◌, ◌⊎◌, inl, inr, ℕ, zero, suc, ◌&&◌, ◌+◌, ◌-◌, ◌<◌, ◌≤◌, ◌==◌, Bool, true, false, cond, not, List, [], ◌∷◌, ◌++◌, length, map, take, drop, Option, Some, None, refl, sym, ap, subst, arith, append_assoc, append-nil}
-use Rattle.std.specs.Prelude.{flat_map, if◌then◌else◌, nat_lt, nat_eq, slice_get}
+use Rattle.std.proofs.Common.{◌≡◌, ◌≢◌, ◌∙◌, ◌⊎◌, inl, inr, ℕ, zero, suc, ◌&&◌, ◌+◌, ◌-◌, ◌<◌, ◌≤◌, ◌==◌, Bool, true, false, List, [], ◌∷◌, ◌++◌, length, map, take, drop, Option, Some, None, refl, sym, ap, subst, arith, append_assoc, append-nil}
+use Rattle.std.specs.Prelude.{flat_map, if◌then◌else◌, nat_lt, slice_get}
 use Rattle.std.specs.List.{AllByRecursion}
-use Rattle.std.proofs.lemmas.Bool.{cases_lt, lt-ltb}
 use Rattle.std.proofs.lemmas.Bool.Decides.{nat_tests}
 use Rattle.std.proofs.lemmas.Option.{slice_get_within}
 use Rattle.wave_base.specs.declared.path.Path.{Path}
@@ -13,7 +12,7 @@ use Rattle.event_cells.specs.declared.outbox.Envelope.{Envelope}
 use Rattle.event_cells.specs.declared.status.Status.{Status}
 use Rattle.event_cells.specs.declared.status.Status.TheVariants as status
 use Rattle.event_cells.specs.Cells.{is_over}
-use Rattle.event_cells.specs.Keeps.{Sending, is_empty, mail_in}
+use Rattle.event_cells.specs.Keeps.{is_empty, mail_in}
 use Rattle.host_map.specs.Stores.{Stores}
 use Rattle.migration_core.specs.declared.mail.Letter.{Letter}
 use Rattle.migration_core.specs.declared.mail.Letter.TheVariants as letter
@@ -29,7 +28,7 @@ use Rattle.wave_machine.specs.inner.Asking.{enter_act, grant_labels, in_order, i
 use Rattle.wave_machine.specs.inner.Done.{AreDone}
 use Rattle.wave_machine.specs.inner.Index.{AreOwn, Below, From, IsBelow, IsFrom, IsOwn, Lists, asked_as, asked_at, asked_by, asked_of, by_none, by_part, by_slot, cell_at, kinds_at, number_of, numbers_in, share_of, slot_at, slot_by, weight_of, with_next, with_slot}
 use Rattle.wave_machine.proofs.ListingLists.{flat_none, flat_same}
-use Rattle.wave_machine.proofs.Ordering.{all_append, all_flat, all_map, all_numbered, flat_append, middle_of, numbers_append, same_numbered}
+use Rattle.wave_machine.proofs.Ordering.{all_flat, all_map, all_numbered, flat_append, middle_of, numbers_append, same_numbered}
 
 -- ---- whose they are
 abbrev OwnAct : ℕ → ℕ → Option Act → Type 0

@@ -1,8 +1,7 @@
 -- Lists in two parts, and what an edit at the place between them makes of them.
-use Rattle.std.proofs.Common.{◌≡◌, ◌∙◌, ◌⊎◌, inl, inr, ℕ, zero, suc, ◌+◌, ◌-◌, ◌<◌, ◌≤◌, ◌==◌, ◌&&◌, Bool, true, false, List, [], ◌∷◌, ◌++◌, length, map, get_or, take, drop, Option, Some, None, Result, Ok, Err, refl, sym, ap, subst, arith, true≢false}
+use Rattle.std.proofs.Common.{◌≡◌, ◌∙◌, ℕ, zero, suc, ◌+◌, ◌<◌, ◌≤◌, ◌==◌, ◌&&◌, Bool, true, false, List, [], ◌∷◌, ◌++◌, length, map, take, drop, Some, Result, refl, sym, ap, arith, true≢false}
 use Rattle.std.specs.Prelude.{slice_get, is_ok, IsOk, if◌then◌else◌}
 use Rattle.std.specs.List.{AllByRecursion, insert}
-use Rattle.wave_labels.specs.Labels.{act_of}
 use Rattle.wave_states.specs.Labels.{Act, Label, ticket_of}
 use Rattle.wave_theory.specs.Listed.{kind_of}
 use Rattle.wave_machine.specs.inner.Index.{Parted, by_none, is_of, number_of, under}

@@ -1,16 +1,12 @@
 -- What is put for a ticket, and taken out, in a list by kinds.
-use Rattle.std.proofs.Common.{◌≡◌, ◌≢◌, ◌∙◌, ◌⊎◌, inl, inr, ℕ, zero, suc, ◌+◌, ◌-◌, ◌<◌, ◌≤◌, ◌==◌, ◌&&◌, Bool, true, false, cond, not, List, [], ◌∷◌, ◌++◌, length, map, get_or, take, Option, Some, None, refl, sym, ap, subst, arith, append_assoc, append-nil, true≢false}
-use Rattle.std.specs.Prelude.{flat_map, filter, nat_lt, nat_eq, slice_get}
+use Rattle.std.proofs.Common.{◌≡◌, ◌≢◌, ◌∙◌, ◌⊎◌, inl, inr, ℕ, zero, suc, ◌+◌, ◌-◌, ◌<◌, ◌≤◌, ◌==◌, ◌&&◌, Bool, true, false, cond, not, List, [], ◌∷◌, ◌++◌, length, map, get_or, Option, refl, sym, ap, subst, arith, append_assoc, append-nil, true≢false}
 use Rattle.std.specs.List.{AllByRecursion}
-use Rattle.std.proofs.lemmas.Bool.Decides.{nat_tests}
-use Rattle.wave_base.specs.Fold.{tickets_from}
 use Rattle.wave_labels.specs.declared.label.Label as program
-use Rattle.wave_labels.specs.Labels.{act_of, label_of}
 use Rattle.wave_states.specs.Labels.{Act, Label, Admit, Queue, Grant, Visit, Start, Stop, Free, Pass, Land, Commit, ticket_of}
 use Rattle.wave_theory.specs.Listed.{IsIn, kind_of}
 use Rattle.wave_machine.specs.declared.ready.Ready.{Ready}
 use Rattle.wave_machine.specs.inner.Asking.{in_order, of_kind, labels_in}
-use Rattle.wave_machine.specs.inner.Index.{Below, Cuts, CutsKind, From, Goes, High, IsBelow, IsFrom, IsInner, IsOwn, IsUpTo, Lists, Low, Parted, by_none, is_of, kinds_at, number_of, without}
+use Rattle.wave_machine.specs.inner.Index.{Below, Cuts, CutsKind, From, Goes, High, IsBelow, IsFrom, IsInner, IsOwn, IsUpTo, Lists, Low, Parted, by_none, kinds_at, number_of, without}
 use Rattle.wave_theory.proofs.Basics.{and_both, differ, number_cases, number_is, number_self}
 use Rattle.wave_machine.proofs.Ordering.{always, all_append, all_filter, all_map, all_numbered, kind_append, lower, one_kind_less, one_more, parted, upper}
 use Rattle.wave_machine.proofs.Parting.{is_slot}

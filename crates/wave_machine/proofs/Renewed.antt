@@ -19,14 +19,14 @@ use Rattle.event_cells.specs.Cells.{is_over}
 use Rattle.event_cells.specs.Keeps.{Sending, is_empty, mail_in}
 use Rattle.host_map.specs.Stores.{Stores}
 use Rattle.wave_states.specs.Labels.{Label, Admit, Commit}
-use Rattle.wave_theory.proofs.Basics.{differ, none_not, not_same, number_cases, number_self, some_not}
+use Rattle.wave_theory.proofs.Basics.{differ, not_same, number_cases, number_self, some_not}
 use Rattle.wave_machine.specs.declared.actor.Actor.{Actor}
 use Rattle.wave_machine.specs.declared.ready.Ready.{Ready}
 use Rattle.wave_machine.specs.Machines.{Kept}
 use Rattle.wave_machine.specs.inner.Asking.{IsNumbered, in_order, label_at, mail_labels}
 use Rattle.wave_machine.specs.inner.Index.{AreOwn, Below, Cuts, From, Goes, IsBelow, IsFrom, IsHead, IsOwn, Lists, ListsNew, Relists, RelistsNear, RelistsNext, RelistsOwn, asked_as, by_none, by_slot, cell_at, numbers_in, slot_at, share_of, slot_by, with_above, with_next, with_own, with_slot}
-use Rattle.wave_machine.proofs.ListingLists.{by_number, find_apart, find_first, flat_none, flat_same, less_is}
-use Rattle.wave_machine.proofs.Ordering.{all_append, all_flat, all_map, flat_append, middle_of, numbers_append, same_numbered}
+use Rattle.wave_machine.proofs.ListingLists.{by_number, find_apart, find_first, flat_none, less_is}
+use Rattle.wave_machine.proofs.Ordering.{all_append, all_map, flat_append, middle_of, numbers_append, same_numbered}
 use Rattle.wave_machine.proofs.Owned.{at_slot, before, before_below, behind, behind_from, numbers_below, numbers_from, one_slot, other_number, other_ticket, own_as, own_mail, own_next, own_slot, own_with, split_at, split_new}
 use Rattle.wave_machine.proofs.Relisted.{later_from, own_goes}
 

@@ -1,5 +1,5 @@
 -- How long the list may be, before a label and after it.
-use Rattle.std.proofs.Common.{◌≡◌, ◌≢◌, ◌∙◌, ◌⊎◌, inl, inr, ℕ, zero, suc, ◌+◌, ◌-◌, ◌<◌, ◌≤◌, ◌==◌, ◌&&◌, Bool, true, false, List, [], ◌∷◌, length, Option, Some, None, refl, sym, ap, subst, arith}
+use Rattle.std.proofs.Common.{◌≡◌, ◌≢◌, ◌∙◌, ◌⊎◌, inl, inr, ℕ, zero, suc, ◌+◌, ◌-◌, ◌<◌, ◌≤◌, ◌&&◌, Bool, true, false, List, [], ◌∷◌, length, Option, Some, None, refl, sym, ap, arith}
 use Rattle.std.specs.Prelude.{if◌then◌else◌, nat_lt, slice_get}
 use Rattle.std.proofs.lemmas.Bool.{cases_lt}
 use Rattle.std.proofs.lemmas.Bool.Decides.{nat_tests}
@@ -9,7 +9,7 @@ use Rattle.event_cells.specs.declared.outbox.Envelope.{Envelope}
 use Rattle.event_cells.specs.Cells.{is_over}
 use Rattle.event_cells.specs.Keeps.{is_empty}
 use Rattle.wave_states.specs.Labels.{Label, ticket_of}
-use Rattle.wave_theory.proofs.Basics.{not_same, none_not, number_cases}
+use Rattle.wave_theory.proofs.Basics.{not_same, number_cases}
 use Rattle.wave_machine.specs.declared.actor.Actor.{Actor}
 use Rattle.wave_machine.specs.Ending.{is_done}
 use Rattle.wave_machine.specs.Machines.{Kept}
@@ -17,7 +17,7 @@ use Rattle.wave_machine.specs.inner.Apart.{AsksAs, AsksTheSame, Moves, grown}
 use Rattle.wave_machine.specs.inner.Index.{cell_at, share_at, share_by, share_of, weight_of}
 use Rattle.wave_machine.proofs.ListingKinds.{slice_none}
 use Rattle.wave_machine.proofs.Elsewhere.{grown_few}
-use Rattle.wave_machine.proofs.Owned.{cell_is, cell_there, slice_some}
+use Rattle.wave_machine.proofs.Owned.{cell_is, cell_there}
 
 same_share : (c c' : Cell Actor) → AsksAs c c' → share_of c' ≡ share_of c
 same_share c c' a = λ i. if is_over (a.status i) && is_empty (a.mails i) then 0 else 1 + length (a.mails i)

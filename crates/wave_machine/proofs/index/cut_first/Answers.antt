@@ -1,4 +1,4 @@
-use Rattle.std.proofs.Common.{◌≡◌, ◌∙◌, ◌+◌, drop, refl, sym, ap, arith}
+use Rattle.std.proofs.Common.{◌∙◌, drop, ap, arith}
 use Rattle.wave_machine.proofs.Parting.{drop_one}
 use Rattle.wave_machine.proofs.index.cut_first.Goals as goal
 

@@ -1,4 +1,4 @@
-use Rattle.std.proofs.Common.{◌≡◌, ◌∙◌, ◌<◌, ◌+◌, ◌++◌, true, length, map, take, drop, refl, sym, ap, subst}
+use Rattle.std.proofs.Common.{◌≡◌, ◌∙◌, ◌<◌, ◌++◌, length, map, sym, ap, subst}
 use Rattle.std.specs.Prelude.{slice_get}
 use Rattle.wave_machine.specs.inner.Index.{Parted, by_none, is_of}
 use Rattle.wave_machine.proofs.Parting.{cut_hit, cut_miss, is_within}

@@ -1,4 +1,4 @@
-use Rattle.std.proofs.Common.{◌-◌, ◌≤◌, ◌≡◌, ◌++◌, List, length, map}
+use Rattle.std.proofs.Common.{◌-◌, ◌≤◌, List, length, map}
 use Rattle.wave_states.specs.Labels.{Label}
 use Rattle.wave_machine.specs.inner.Index.{Between, Parted, by_none}
 use Rattle.wave_machine.proofs.index.place.Given as goal

@@ -1,4 +1,4 @@
-use Rattle.std.proofs.Common.{◌≤◌, ◌<◌, ℕ, drop, length}
+use Rattle.std.proofs.Common.{◌≤◌, ◌<◌, drop, length}
 use Rattle.std.specs.List.{AllByRecursion}
 use Rattle.wave_machine.proofs.relisting.first_above.Given as goal
 

@@ -8,7 +8,7 @@ use Rattle.wave_base.specs.Fold.{tickets_from}
 use Rattle.event_cells.specs.Keeps.{mail_in}
 use Rattle.wave_machine.specs.Keeping.{kept_of}
 use Rattle.wave_machine.specs.inner.Asking.{mail_labels}
-use Rattle.wave_machine.specs.inner.Index.{Lists, share_by, share_of, weight_of}
+use Rattle.wave_machine.specs.inner.Index.{Lists, share_by}
 use Rattle.wave_machine.proofs.Owned.{cell_there}
 use Rattle.wave_machine.proofs.Renewed.{above_asked, mails_share, new_at, new_none, rest_is, sorted_drop}
 use Rattle.wave_machine.proofs.Weighing.{share_within}

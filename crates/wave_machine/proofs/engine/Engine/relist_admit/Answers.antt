@@ -2,7 +2,7 @@ use Rattle.std.proofs.Common.{◌≡◌, ◌∙◌, ◌++◌, [], map, ap, sym, 
 use Rattle.std.specs.Prelude.{option_map, slice_get}
 use Rattle.head_tickets.specs.Heads.{next_ticket}
 use Rattle.wave_states.specs.Labels.{Admit}
-use Rattle.wave_machine.specs.inner.Asking.{in_order, label_at, labels_in}
+use Rattle.wave_machine.specs.inner.Asking.{in_order, label_at}
 use Rattle.wave_machine.specs.inner.Index.{Goes, by_none, is_admit}
 use Rattle.wave_machine.proofs.Heads.{admit_goes, admit_stands, admits_are}
 use Rattle.wave_machine.proofs.engine.Engine.relist_admit.Goals as goal

@@ -1,10 +1,9 @@
-use Rattle.std.proofs.Common.{◌≡◌, ◌∙◌, [], sym, ap, subst}
-use Rattle.std.specs.Prelude.{option_map, slice_get}
-use Rattle.wave_base.specs.declared.numbers.Ticket.{Ticket}
-use Rattle.wave_labels.specs.Labels.{act_of, label_of}
-use Rattle.wave_states.specs.Labels.{path_of, ticket_of}
+use Rattle.std.proofs.Common.{◌≡◌, ◌∙◌, [], sym, ap}
+use Rattle.std.specs.Prelude.{slice_get}
+use Rattle.wave_labels.specs.Labels.{label_of}
+use Rattle.wave_states.specs.Labels.{path_of}
 use Rattle.wave_machine.specs.Keeping.{kept_of}
-use Rattle.wave_machine.specs.inner.Index.{has_at, next_at}
+use Rattle.wave_machine.specs.inner.Index.{has_at}
 use Rattle.wave_machine.proofs.Heads.{no_head}
 use Rattle.wave_machine.proofs.Updated.{near_is}
 use Rattle.wave_machine.proofs.engine.Engine.relist_after.Goals as goal

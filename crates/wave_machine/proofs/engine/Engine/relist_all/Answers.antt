@@ -1,8 +1,7 @@
-use Rattle.std.proofs.Common.{◌≡◌, ◌∙◌, ◌<◌, ◌≤◌, ◌+◌, Some, length, drop, refl, sym, arith}
+use Rattle.std.proofs.Common.{◌≡◌, ◌∙◌, ◌<◌, Some, length, refl, arith}
 use Rattle.std.specs.Prelude.{slice_get}
 use Rattle.std.proofs.lemmas.Option.{slice_get_read}
 use Rattle.wave_machine.specs.Keeping.{kept_of}
-use Rattle.wave_machine.specs.inner.Index.{share_of, weight_of}
 use Rattle.wave_machine.proofs.Owned.{all_first, all_last, all_more, weight_drop, weight_next}
 use Rattle.wave_machine.proofs.engine.Engine.relist_all.Goals as goal
 

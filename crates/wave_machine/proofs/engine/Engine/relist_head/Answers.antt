@@ -2,7 +2,7 @@ use Rattle.std.proofs.Common.{◌≡◌, ◌∙◌, ◌+◌, ◌++◌, length, m
 use Rattle.std.specs.Prelude.{option_map}
 use Rattle.wave_states.specs.Labels.{Admit, Commit}
 use Rattle.wave_machine.specs.Keeping.{kept_of}
-use Rattle.wave_machine.specs.inner.Asking.{admit_labels, commit_labels, in_order, label_at, labels_in}
+use Rattle.wave_machine.specs.inner.Asking.{admit_labels, commit_labels, in_order, label_at}
 use Rattle.wave_machine.specs.inner.Index.{Goes, by_none}
 use Rattle.wave_machine.proofs.Heads.{admits_are, admits_first, commit_goes, commits_are}
 use Rattle.wave_machine.proofs.engine.Engine.relist_head.Goals as goal

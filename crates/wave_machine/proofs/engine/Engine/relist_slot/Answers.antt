@@ -1,8 +1,8 @@
-use Rattle.std.proofs.Common.{◌≡◌, ◌∙◌, ◌++◌, ◌-◌, List, map, ap, sym, subst}
+use Rattle.std.proofs.Common.{◌≡◌, ◌++◌, ◌-◌, List, map, sym, subst}
 use Rattle.wave_states.specs.Labels.{Label}
 use Rattle.wave_machine.specs.Keeping.{kept_of}
 use Rattle.wave_machine.specs.inner.Asking.{in_order}
-use Rattle.wave_machine.specs.inner.Index.{Goes, asked_as, by_none}
+use Rattle.wave_machine.specs.inner.Index.{Goes, by_none}
 use Rattle.wave_machine.proofs.Owned.{cell_there}
 use Rattle.wave_machine.proofs.Renewed.{relists_at, relists_none}
 use Rattle.wave_machine.proofs.engine.Engine.relist_slot.Goals as goal
