@@ -22,9 +22,11 @@ use Rattle.wave_states.specs.States.{holds_as_peek}
 use Rattle.wave_states.specs.Steps.{new_entry}
 use Rattle.wave_machine.specs.declared.actor.Actor.{Actor}
 use Rattle.wave_machine.specs.declared.engine.Engine.{Engine}
+use Rattle.wave_machine.specs.declared.listed.Listed.{Listed}
 use Rattle.wave_machine.specs.declared.prepared.Prepared.{Prepared}
 use Rattle.wave_machine.specs.Heading.{AreCreated, IsMade, IsNext, RoomToAdmit, RoomToCommit}
 use Rattle.wave_machine.specs.Keeping.{RoomToGrant, RoomToLand, kept_of}
+use Rattle.wave_machine.specs.inner.Index.{HasRoom, RoomFor}
 use Rattle.wave_machine.specs.inner.Made.{IsPart, IsPrepared}
 use Rattle.wave_machine.specs.Rooms.{PartToQueue, RoomInLine}
 use Rattle.wave_machine.specs.Running.{IsCopy, copy_of}
@@ -104,3 +106,8 @@ module _ (m m' : Engine) (same : SameButRooms (kept_of m) (kept_of m')) (long : 
   pub prepared_still : (x : Option (Label × Prepared)) → IsPrepared m x → IsPrepared m' x
   prepared_still None h = h
   prepared_still (Some x) h = part_still x.0.host x.0.act x.1 h
+
+-- and the room that a label asks for is still there where each room is
+pub room_still : (x y : Listed) → ((more : ℕ) → HasRoom x more → HasRoom y more) → (o : Option (Label × Prepared)) → RoomFor x o → RoomFor y o
+room_still x y still None room = tt
+room_still x y still (Some p) room = still 0 room

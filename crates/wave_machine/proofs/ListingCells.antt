@@ -82,7 +82,7 @@ module _ (stores : List Stores) (n : ℕ) where
   status_not g b w t status.Ended = refl
 
   module _ (hands : List (Option Out)) where
-    stops_not : (5 == n) ≡ false → (ws : List ℕ) (t : ℕ) (st : S.Status) → of_kind n (stops_labels stores hands ws t st) ≡ []
+    pub stops_not : (5 == n) ≡ false → (ws : List ℕ) (t : ℕ) (st : S.Status) → of_kind n (stops_labels stores hands ws t st) ≡ []
     stops_not x ws t status.Travelling = refl
     stops_not x ws t (status.Waiting p) = refl
     stops_not x ws t (status.Ready p) = refl

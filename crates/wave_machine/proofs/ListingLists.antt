@@ -125,7 +125,7 @@ at_apart k y n = at_number k y ∙ differ k y n
 at_itself : (k : ℕ) → is_at (nat_cmp k) k ≡ true
 at_itself k = at_number k k ∙ number_self k
 
-less_is : (x y : ℕ) → nat_cmp x y ≡ Less → x < y
+pub less_is : (x y : ℕ) → nat_cmp x y ≡ Less → x < y
 less_is x y e = by_test (nat_lt x y) refl (x_is (nat_eq x y)) e
   where
     x_is : (b : Bool) → cond b Equal Greater ≡ Less → ⊥
@@ -140,10 +140,10 @@ module _ {E : Type 0} where
   abbrev Find : List (ℕ × E) → ℕ → Option E
   Find es k = lookup (is_at (nat_cmp k)) es
 
-  find_first : (e : ℕ × E) (es : List (ℕ × E)) → Find (e ∷ es) e.0 ≡ Some e.1
+  pub find_first : (e : ℕ × E) (es : List (ℕ × E)) → Find (e ∷ es) e.0 ≡ Some e.1
   find_first e es = ap (λ b. cond b (Some e.1) (Find es e.0)) (at_itself e.0)
 
-  find_apart : (e : ℕ × E) (es : List (ℕ × E)) (k : ℕ) → (k ≡ e.0 → ⊥) → Find (e ∷ es) k ≡ Find es k
+  pub find_apart : (e : ℕ × E) (es : List (ℕ × E)) (k : ℕ) → (k ≡ e.0 → ⊥) → Find (e ∷ es) k ≡ Find es k
   find_apart e es k n = ap (λ b. cond b (Some e.1) (Find es k)) (at_apart k e.0 n)
 
   -- what is in order has nothing below its first

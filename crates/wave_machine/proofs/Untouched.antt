@@ -1,5 +1,5 @@
 -- What is done stays done: no label touches a cell that has ended and has no mail under way.
-use Rattle.std.proofs.Common.{◌≡◌, ◌∙◌, ℕ, zero, suc, ◌+◌, ◌<◌, ◌≤◌, true, List, ◌++◌, ◌∷◌, [], length, Option, Some, None, refl, sym, ap, subst, arith}
+use Rattle.std.proofs.Common.{◌≡◌, ◌∙◌, ℕ, zero, suc, ◌+◌, ◌<◌, ◌≤◌, true, ◌++◌, ◌∷◌, [], length, Some, None, refl, sym, ap, subst, arith}
 use Rattle.std.specs.Prelude.{slice_get}
 use Rattle.wave_base.specs.declared.outcome.EventResult.{EventResult}
 use Rattle.wave_base.specs.declared.path.Path.{Path}
@@ -22,14 +22,12 @@ use Rattle.plan_actors.specs.PlanActors as actors
 use Rattle.plan_actors.specs.PlanActors.{plan_actors, plan_kind}
 use Rattle.plan_actors.specs.Plans.{begin_in}
 use Rattle.wave_machine.specs.declared.actor.Actor.{Actor}
-use Rattle.wave_machine.specs.declared.ends.End.{End}
 use Rattle.wave_machine.specs.declared.lease.Lease.{Lease}
 use Rattle.wave_machine.specs.Ending.{is_done}
 use Rattle.wave_machine.specs.Machines.{IsCell, IsEnabled, Keeps, Kept, Known, Shows, Stands, Takes, TheState, event_as}
 use Rattle.wave_machine.specs.Prepared.{IsStood}
 use Rattle.wave_machine.specs.Running.{CanStop, IsStopping, Stops, stop_of}
 use Rattle.wave_machine.specs.inner.Done.{AreDone, DoneStays}
-use Rattle.wave_machine.specs.inner.Driving.{IsTaking, Leads}
 use Rattle.wave_machine.proofs.Calm.{grant_on}
 use Rattle.wave_machine.proofs.CellParts.{same_event}
 use Rattle.wave_machine.proofs.Driven.{stopped_by}
@@ -214,6 +212,3 @@ module _ (stays : DoneStays) (m m' : Kept) (n : ℕ) (done : AreDone m n) where
   stopped_done lease why host on can stops =
       let next = some_is (step (plan_actors m.plan.program) m.plan.workers on.state (stop_of lease host)) (can on.start on.state on.stands on.back) in
       stays m m' on.start on.state next.0 (stop_of lease host) n on.stands (stops on.start on.state next.0 on.stands on.back next.1) next.1 done
-
-  pub led_done : (ends ends' : List (Option End)) (l : Label) → IsTaking m ends l → Leads m ends l m' ends' → AreDone m' n
-  led_done ends ends' l on leads = stays m m' on.start on.state on.next l n on.under.stands (leads on.start on.state on.next on.under on.enabled).stands on.enabled done

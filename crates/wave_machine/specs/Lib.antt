@@ -16,3 +16,4 @@ pub mod Showing
 pub mod Lengths
 pub mod Orders
 pub mod Picks
+pub mod Readies

@@ -14,3 +14,4 @@ pub mod Driving
 pub mod Drivable
 pub mod Lines
 pub mod Done
+pub mod Index

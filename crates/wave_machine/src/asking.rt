@@ -77,7 +77,7 @@ impl<'p> Engine<'p> {
         })
     }
 
-    fn store(&self, host: Host) -> Option<&HostStore>
+    pub(crate) fn store(&self, host: Host) -> Option<&HostStore>
         ensures { option_copied result ≡ slice_get self.now.stores.items host.0 }
     {
         self.stores.get(host.0 as usize)

@@ -20,11 +20,10 @@ ghost use Rattle.wave_machine.specs.Lengths.{IsMeasured};
 ghost use Rattle.wave_machine.specs.Machines.{Stands, TheState};
 ghost use Rattle.wave_machine.specs.Prepared.{is_start, is_step};
 ghost use Rattle.wave_machine.specs.Rules.{number_of, rule_of};
-ghost use Rattle.wave_machine.specs.inner.Done.{AreDone};
 ghost use Rattle.wave_machine.specs.inner.Driving.{IsTaking, Leads, first_state};
+ghost use Rattle.wave_machine.specs.inner.Index.{IsListed};
 
 use crate::adding::push;
-use crate::done::done_stays;
 use crate::drivable::states_drive;
 use crate::ends::End;
 use crate::engine::Engine;
@@ -32,6 +31,7 @@ use crate::hands::segments_are_known;
 use crate::laws::states_are_known;
 use crate::lengths::runs_are_measured;
 use crate::listable::states_list;
+use crate::listed::Listed;
 use crate::plan::Plan;
 use crate::rules::{PickRule, by_mail_last, by_newest, by_oldest, by_seed};
 use crate::runs::run_lease;
@@ -43,18 +43,13 @@ use wave_labels::{Act, Label};
 use wave_theory::{empty_at_end, rules_pick};
 
 // What the rule picks of what can be done.
-fn next(
-    engine: &Engine,
-    done: usize,
-    rule: PickRule,
-    draw: &mut u64,
-) -> Result<Option<Label>, OutOfMemory>
-    requires stands { (start : start.Start) × (s : TheState) × Stands (kept_of engine.now) start s }
-    requires done { AreDone (kept_of engine.now) done }
-    ensures { IfOk result (λ o. (start : start.Start) (s : TheState) → Stands (kept_of engine.now) start s → rule_of rule draw.old s (enabled (plan_actors (kept_of engine.now).plan.program) (kept_of engine.now).plan.workers (kept_of engine.now).plan.script.hosts s) ≡ (draw.new, option_map label_of o)) }
+fn next(listed: &Listed, rule: PickRule, draw: &mut u64) -> Result<Option<Label>, OutOfMemory>
+    requires stands { (start : start.Start) × (s : TheState) × Stands (kept_of listed.now.engine) start s }
+    requires listed { IsListed listed.now }
+    ensures { IfOk result (λ o. (start : start.Start) (s : TheState) → Stands (kept_of listed.now.engine) start s → rule_of rule draw.old s (enabled (plan_actors (kept_of listed.now.engine).plan.program) (kept_of listed.now.engine).plan.workers (kept_of listed.now.engine).plan.script.hosts s) ≡ (draw.new, option_map label_of o)) }
 {
-    let labels = engine.enabled(done)?;
-    Ok(pick(engine, rule, draw, labels.as_slice()))
+    let labels = listed.enabled()?;
+    Ok(pick(&listed.engine, rule, draw, labels.as_slice()))
 }
 
 fn pick(engine: &Engine, rule: PickRule, draw: &mut u64, labels: &[Label]) -> Option<Label>
@@ -74,75 +69,83 @@ fn pick(engine: &Engine, rule: PickRule, draw: &mut u64, labels: &[Label]) -> Op
 // Takes a label. A segment that it begins is run at once, and its end is kept.
 fn take(
     alloc: Global,
-    engine: &mut Engine,
+    listed: &mut Listed,
     ends: &mut Vec<Option<End>>,
     label: &Label,
 ) -> Result<(), OutOfMemory>
-    requires { IsTaking (kept_of engine.old) ends.old.items (label_of label.now) }
-    ensures leads { OnOk result (Leads (kept_of engine.old) ends.old.items (label_of label.now) (kept_of engine.new) ends.new.items) }
-    ensures plan { (kept_of engine.new).plan ≡ (kept_of engine.old).plan }
+    requires taking { IsTaking (kept_of listed.old.engine) ends.old.items (label_of label.now) }
+    requires listed { IsListed listed.old }
+    ensures leads { OnOk result (Leads (kept_of listed.old.engine) ends.old.items (label_of label.now) (kept_of listed.new.engine) ends.new.items) }
+    ensures plan { (kept_of listed.new.engine).plan ≡ (kept_of listed.old.engine).plan }
+    ensures listed { IsListed listed.new }
 {
     match label.act {
-        Act::Start(_, _) => begin(alloc, engine, ends, label),
-        Act::Stop(ticket, path) => stop(engine, ends, label.worker, label.host, ticket, path),
-        _ => step(alloc, engine, ends, label),
+        Act::Start(_, _) => begin(alloc, listed, ends, label),
+        Act::Stop(ticket, path) => stop(listed, ends, label.worker, label.host, ticket, path),
+        _ => step(alloc, listed, ends, label),
     }
 }
 
 fn step(
     alloc: Global,
-    engine: &mut Engine,
+    listed: &mut Listed,
     ends: &Vec<Option<End>>,
     label: &Label,
 ) -> Result<(), OutOfMemory>
-    requires taking { IsTaking (kept_of engine.old) ends.now.items (label_of label.now) }
+    requires taking { IsTaking (kept_of listed.old.engine) ends.now.items (label_of label.now) }
+    requires listed { IsListed listed.old }
     requires kind { is_step label.now.act ≡ true }
-    ensures leads { OnOk result (Leads (kept_of engine.old) ends.now.items (label_of label.now) (kept_of engine.new) ends.now.items) }
-    ensures plan { (kept_of engine.new).plan ≡ (kept_of engine.old).plan }
+    ensures leads { OnOk result (Leads (kept_of listed.old.engine) ends.now.items (label_of label.now) (kept_of listed.new.engine) ends.now.items) }
+    ensures plan { (kept_of listed.new.engine).plan ≡ (kept_of listed.old.engine).plan }
+    ensures listed { IsListed listed.new }
 {
-    let part = engine.prepare(alloc, label)?;
-    engine.act(label, part);
+    let part = listed.prepare(alloc, label)?;
+    listed.act(label, part);
     Ok(())
 }
 
 // A Start, and the segment.
 fn begin(
     alloc: Global,
-    engine: &mut Engine,
+    listed: &mut Listed,
     ends: &mut Vec<Option<End>>,
     label: &Label,
 ) -> Result<(), OutOfMemory>
-    requires taking { IsTaking (kept_of engine.old) ends.old.items (label_of label.now) }
+    requires taking { IsTaking (kept_of listed.old.engine) ends.old.items (label_of label.now) }
+    requires listed { IsListed listed.old }
     requires kind { is_start label.now.act ≡ true }
-    ensures leads { OnOk result (Leads (kept_of engine.old) ends.old.items (label_of label.now) (kept_of engine.new) ends.new.items) }
-    ensures plan { (kept_of engine.new).plan ≡ (kept_of engine.old).plan }
+    ensures leads { OnOk result (Leads (kept_of listed.old.engine) ends.old.items (label_of label.now) (kept_of listed.new.engine) ends.new.items) }
+    ensures plan { (kept_of listed.new.engine).plan ≡ (kept_of listed.old.engine).plan }
+    ensures listed { IsListed listed.new }
 {
     segments_are_known();
-    let part = engine.prepare(alloc, label)?;
-    let mut lease = engine.act_start(label, part);
-    let pause = run_lease(alloc, &engine.plan.program, &mut lease)?;
+    let part = listed.prepare(alloc, label)?;
+    let mut lease = listed.act_start(label, part);
+    let pause = run_lease(alloc, &listed.engine.plan.program, &mut lease)?;
     ends[label.worker.0 as usize] = Some(End { lease, pause });
     Ok(())
 }
 
 // A Stop, with what the segment left.
 fn stop(
-    engine: &mut Engine,
+    listed: &mut Listed,
     ends: &mut Vec<Option<End>>,
     worker: Worker,
     host: Host,
     ticket: Ticket,
     path: Path,
 ) -> Result<(), OutOfMemory>
-    requires { IsTaking (kept_of engine.old) ends.old.items (record { worker = worker.0; host = host.0; act = Stop ticket.0 path }) }
-    ensures leads { OnOk result (Leads (kept_of engine.old) ends.old.items (record { worker = worker.0; host = host.0; act = Stop ticket.0 path }) (kept_of engine.new) ends.new.items) }
-    ensures plan { (kept_of engine.new).plan ≡ (kept_of engine.old).plan }
+    requires taking { IsTaking (kept_of listed.old.engine) ends.old.items (record { worker = worker.0; host = host.0; act = Stop ticket.0 path }) }
+    requires listed { IsListed listed.old }
+    ensures leads { OnOk result (Leads (kept_of listed.old.engine) ends.old.items (record { worker = worker.0; host = host.0; act = Stop ticket.0 path }) (kept_of listed.new.engine) ends.new.items) }
+    ensures plan { (kept_of listed.new.engine).plan ≡ (kept_of listed.old.engine).plan }
+    ensures listed { IsListed listed.new }
 {
     states_list();
     states_drive();
     let end = std::mem::replace(&mut ends[worker.0 as usize], None);
     let End { lease, pause } = end.unwrap();
-    match engine.stop(lease, pause) {
+    match listed.stop(lease, pause) {
         Ok(_) => Ok(()),
         Err(refused) => Err(refused.error),
     }
@@ -162,28 +165,27 @@ fn no_ends(alloc: Global, workers: usize) -> Result<Vec<Option<End>>, OutOfMemor
 // Drives a machine from where a run begins to its end.
 pub(crate) fn drive_on(
     alloc: Global,
-    engine: &mut Engine,
+    listed: &mut Listed,
     start: &Start,
     rule: PickRule,
 ) -> Result<Vec<Label>, OutOfMemory>
-    requires { Stands (kept_of engine.old) start.now (first_state (kept_of engine.old).plan start.now) }
-    ensures driven { IfOk result (λ ls. IsDrive (plan_actors (kept_of engine.old).plan.program) (kept_of engine.old).plan.workers (kept_of engine.old).plan.script.hosts (rule_of rule) (number_of rule) (first_state (kept_of engine.old).plan start.now) (map label_of ls.items)) }
-    ensures finished { IfOk result (λ ls. (s : TheState) × Stands (kept_of engine.new) start.now s × runs.Finished (plan_actors (kept_of engine.old).plan.program) (kept_of engine.old).plan.workers s) }
-    ensures plan { (kept_of engine.new).plan ≡ (kept_of engine.old).plan }
+    requires stands { Stands (kept_of listed.old.engine) start.now (first_state (kept_of listed.old.engine).plan start.now) }
+    requires listed { IsListed listed.old }
+    ensures driven { IfOk result (λ ls. IsDrive (plan_actors (kept_of listed.old.engine).plan.program) (kept_of listed.old.engine).plan.workers (kept_of listed.old.engine).plan.script.hosts (rule_of rule) (number_of rule) (first_state (kept_of listed.old.engine).plan start.now) (map label_of ls.items)) }
+    ensures finished { IfOk result (λ ls. (s : TheState) × Stands (kept_of listed.new.engine) start.now s × runs.Finished (plan_actors (kept_of listed.old.engine).plan.program) (kept_of listed.old.engine).plan.workers s) }
+    ensures plan { (kept_of listed.new.engine).plan ≡ (kept_of listed.old.engine).plan }
+    ensures listed { IsListed listed.new }
 {
     states_drive();
     runs_are_short();
     rules_pick::<PlanActors>();
     empty_at_end::<PlanActors>();
-    done_stays();
-    let mut ends = no_ends(alloc, engine.hands.len())?;
+    let mut ends = no_ends(alloc, listed.engine.hands.len())?;
     let mut draw = number_of(rule);
     let mut labels = Vec::new(alloc);
-    let mut done = 0;
-    while let Some(label) = next(engine, done, rule, &mut draw)? {
-        take(alloc, engine, &mut ends, &label)?;
+    while let Some(label) = next(listed, rule, &mut draw)? {
+        take(alloc, listed, &mut ends, &label)?;
         push(&mut labels, label.worker, label.host, label.act)?;
-        done = engine.count_done(done);
     }
     Ok(labels)
 }
@@ -213,9 +215,9 @@ pub fn drive_with(
     ensures measured { IfOk result (λ r. IsMeasured (plan_of plan.now) start.now (map label_of r.1)) }
 {
     runs_are_measured();
-    let mut engine = Engine::new_at(alloc, plan, start)?;
-    let labels = drive_on(alloc, &mut engine, start, rule)?;
-    let finished = told(alloc, engine)?;
+    let mut listed = Listed::new_at(alloc, plan, start)?;
+    let labels = drive_on(alloc, &mut listed, start, rule)?;
+    let finished = told(alloc, listed.engine)?;
     Ok((finished, Seq::from_vec(labels)))
 }
 

@@ -1,65 +1,106 @@
-//! What can be done, in the canonical order. What is asked for is read off the head and off each ticket's status and mails.
+//! What can be done, in the canonical order: what is listed, with the worker that takes it, and the Stops between Start and Free.
 
-ghost use Rattle.std.specs.Prelude.{◌≡◌, ◌≤◌, ◌<◌, ◌+◌, ◌-◌, ◌++◌, ◌^◌, true, flat_map, map, length, is_none, is_some, IfOk, OnOk, IfSome, Some, option_map, slice_get};
-ghost use Rattle.commit_order.specs.Commits.{ready_result};
+ghost use Rattle.std.specs.Prelude.{◌≡◌, ◌≤◌, ◌<◌, ◌+◌, ◌-◌, ◌++◌, map, length, is_none, IfOk, OnOk, IfSome, Some, None, option_map, slice_get};
 ghost use Rattle.wave_base.specs.declared.start.Start.{Start};
 ghost use Rattle.wave_base.specs.Fold.{tickets_from};
 ghost use Rattle.wave_labels.specs.Labels.{label_of};
-ghost use Rattle.wave_states.specs.Canonical.{enabled, enabled_for};
+ghost use Rattle.wave_states.specs.Canonical.{enabled, enabled_for, taken_as};
 ghost use Rattle.plan_actors.specs.PlanActors.{plan_actors};
+ghost use Rattle.wave_machine.specs.Keeping.{kept_of};
 ghost use Rattle.wave_machine.specs.Machines.{Stands, TheState};
-ghost use Rattle.wave_machine.specs.inner.Asking.{by_taker, mail_labels, mails_labels, status_labels, stop_labels, stops_labels, cell_labels, admit_labels, commit_labels, asked_in, in_order, IsNumbered, IsListable};
+ghost use Rattle.wave_machine.specs.Readies.{choice_of};
+ghost use Rattle.wave_machine.specs.inner.Asking.{asked_in, by_taker, in_order, stop_labels, stops_labels, IsListable};
 ghost use Rattle.wave_machine.specs.inner.Done.{AreDone};
+ghost use Rattle.wave_machine.specs.inner.Index.{IsListed};
 
-use crate::actor::Actor;
 use crate::adding::add;
 use crate::engine::Engine;
+use crate::index::place;
 use crate::kept::Out;
 use crate::known::heads_are_known;
 use crate::laws::states_are_known;
 use crate::listable::states_list;
-use crate::order::in_order;
+use crate::listed::Listed;
+use crate::ready::Ready;
 use crate::takers::{Takers, lowest_idle, own_takers};
-use event_cells::{Cell, Envelope, Status};
+use event_cells::Status;
 use host_map::place_of;
 use wave_base::{Host, OutOfMemory, Seq, Ticket, Worker};
-use wave_labels::{Label, MailId};
+use wave_labels::Label;
 
-impl<'p> Engine<'p> {
-    ghost use Rattle.wave_machine.specs.Keeping.{kept_of};
-
+impl<'p> Listed<'p> {
     // What can be done: all but the Stops by the lowest idle worker.
-    pub(crate) fn enabled(&self, done: usize) -> Result<Seq<Label>, OutOfMemory>
-        requires stands { (start : Start) × (s : TheState) × Stands (kept_of self.now) start s }
-        requires done { AreDone (kept_of self.now) done }
-        ensures { IfOk result (λ ls. (start : Start) (s : TheState) → Stands (kept_of self.now) start s → map label_of ls ≡ enabled (plan_actors (kept_of self.now).plan.program) (kept_of self.now).plan.workers (kept_of self.now).plan.script.hosts s) }
+    pub(crate) fn enabled(&self) -> Result<Seq<Label>, OutOfMemory>
+        requires stands { (start : Start) × (s : TheState) × Stands (kept_of self.now.engine) start s }
+        requires listed { IsListed self.now }
+        ensures { IfOk result (λ ls. (start : Start) (s : TheState) → Stands (kept_of self.now.engine) start s → map label_of ls ≡ enabled (plan_actors (kept_of self.now.engine).plan.program) (kept_of self.now.engine).plan.workers (kept_of self.now.engine).plan.script.hosts s) }
     {
         states_are_known();
         heads_are_known();
         states_list();
         let takers = Takers {
-            idle: lowest_idle(&self.hands),
+            idle: lowest_idle(&self.engine.hands),
             from: 0,
-            to: self.plan.workers,
+            to: self.engine.plan.workers,
         };
-        self.listing(takers, done)
+        self.listing(takers)
     }
 
     // What a worker can do.
-    pub(crate) fn enabled_for(&self, worker: Worker, done: usize) -> Result<Seq<Label>, OutOfMemory>
-        requires stands { (start : Start) × (s : TheState) × Stands (kept_of self.now) start s }
-        requires done { AreDone (kept_of self.now) done }
-        ensures { IfOk result (λ ls. (start : Start) (s : TheState) → Stands (kept_of self.now) start s → map label_of ls ≡ enabled_for (plan_actors (kept_of self.now).plan.program) (kept_of self.now).plan.workers (kept_of self.now).plan.script.hosts s worker.0) }
+    pub(crate) fn enabled_for(&self, worker: Worker) -> Result<Seq<Label>, OutOfMemory>
+        requires stands { (start : Start) × (s : TheState) × Stands (kept_of self.now.engine) start s }
+        requires listed { IsListed self.now }
+        ensures { IfOk result (λ ls. (start : Start) (s : TheState) → Stands (kept_of self.now.engine) start s → map label_of ls ≡ enabled_for (plan_actors (kept_of self.now.engine).plan.program) (kept_of self.now.engine).plan.workers (kept_of self.now.engine).plan.script.hosts s worker.0) }
     {
         states_are_known();
         heads_are_known();
         states_list();
-        match self.is_idle(worker) {
-            Some(idle) => self.listing(own_takers(worker, idle), done),
-            None => Ok(Seq::new(*self.cells.allocator())),
+        match self.engine.is_idle(worker) {
+            Some(idle) => self.listing(own_takers(worker, idle)),
+            None => Ok(Seq::new(*self.index.allocator())),
         }
     }
 
+    // What the takers can do, in order.
+    fn listing(&self, takers: Takers) -> Result<Seq<Label>, OutOfMemory>
+        requires listable { IsListable (kept_of self.now.engine) }
+        requires listed { IsListed self.now }
+        ensures { IfOk result (λ ls. map label_of ls ≡ in_order (asked_in (kept_of self.now.engine) (option_map (λ w. w.0) takers.idle) (tickets_from takers.from (takers.to - takers.from)))) }
+    {
+        let mut labels = Vec::new(*self.index.allocator());
+        let index = self.index.as_slice();
+        let (early, late) = index.split_at(place(index, 5, Ticket(0), 0));
+        add_all(&mut labels, takers.idle, early)?;
+        self.engine.ask_all_stops(takers, self.done, &mut labels)?;
+        add_all(&mut labels, takers.idle, late)?;
+        Ok(Seq::from_vec(labels))
+    }
+}
+
+// Adds what the idle worker takes, where there is one.
+fn add_all(
+    labels: &mut Vec<Label>,
+    idle: Option<Worker>,
+    ready: &[Ready],
+) -> Result<(), OutOfMemory>
+    ensures { OnOk result (map label_of labels.new.items ≡ map label_of labels.old.items ++ by_taker (option_map (λ w. w.0) idle) (λ w. map (λ r. taken_as w (choice_of r)) ready.now)) }
+{
+    match idle {
+        Some(worker) => add_by(labels, worker, ready),
+        None => Ok(()),
+    }
+}
+
+fn add_by(labels: &mut Vec<Label>, worker: Worker, ready: &[Ready]) -> Result<(), OutOfMemory>
+    ensures { OnOk result (map label_of labels.new.items ≡ map label_of labels.old.items ++ map (λ r. taken_as worker.0 (choice_of r)) ready.now) }
+{
+    for one in ready {
+        add(labels, Some(one.by(worker)))?;
+    }
+    Ok(())
+}
+
+impl<'p> Engine<'p> {
     // Whether a worker has no segment out; none where there is no such worker.
     fn is_idle(&self, worker: Worker) -> Option<bool>
         ensures idle { result ≡ option_map is_none (slice_get self.now.hands.items worker.0) }
@@ -71,98 +112,20 @@ impl<'p> Engine<'p> {
         }
     }
 
-    // What the takers can do, in order.
-    fn listing(&self, takers: Takers, done: usize) -> Result<Seq<Label>, OutOfMemory>
-        requires listable { IsListable (kept_of self.now) }
-        requires done { AreDone (kept_of self.now) done }
-        ensures { IfOk result (λ ls. map label_of ls ≡ in_order (asked_in (kept_of self.now) (option_map (λ w. w.0) takers.idle) (tickets_from takers.from (takers.to - takers.from)))) }
-    {
-        in_order(&self.asked(takers, done)?)
-    }
-
-    // All that is asked for. The first tickets, so many, are done, and ask for nothing.
-    fn asked(&self, takers: Takers, done: usize) -> Result<Vec<Label>, OutOfMemory>
-        requires listable { IsListable (kept_of self.now) }
-        requires done { AreDone (kept_of self.now) done }
-        ensures { IfOk result (λ ls. map label_of ls.items ≡ asked_in (kept_of self.now) (option_map (λ w. w.0) takers.idle) (tickets_from takers.from (takers.to - takers.from))) }
-    {
-        let mut labels = Vec::new(*self.cells.allocator());
-        self.ask_head(takers.idle, &mut labels)?;
-        for i in done..self.cells.len() {
-            let ticket = Ticket(self.first + i as u32);
-            self.ask_cell(takers, ticket, &self.cells[i], &mut labels)?;
-        }
-        Ok(labels)
-    }
-
-    // The next ticket that can be admitted, and the next that can be committed.
-    fn ask_head(&self, idle: Option<Worker>, labels: &mut Vec<Label>) -> Result<(), OutOfMemory>
-        requires { is_some (ready_result self.now.commits) ≡ true → self.now.first + length self.now.settled.items < 2 ^ 32 }
-        ensures { OnOk result (map label_of labels.new.items ≡ map label_of labels.old.items ++ by_taker (option_map (λ w. w.0) idle) (λ w. admit_labels w self.now.head ++ commit_labels w (self.now.first + length self.now.settled.items) self.now.commits)) }
-    {
-        match idle {
-            Some(worker) => {
-                add(labels, self.admit_label(worker))?;
-                add(labels, self.commit_label(worker))
-            }
-            None => Ok(()),
-        }
-    }
-
-    // What a ticket's status and mails ask for. One that is done is passed by.
-    fn ask_cell(
+    // The Stops of all tickets. The first ones, so many, are done.
+    fn ask_all_stops(
         &self,
         takers: Takers,
-        ticket: Ticket,
-        cell: &Cell<Actor>,
+        done: usize,
         labels: &mut Vec<Label>,
     ) -> Result<(), OutOfMemory>
-        requires stores { length self.now.stores.items ≤ 8 }
-        requires numbered { IsNumbered cell.now.outbox }
-        ensures { OnOk result (map label_of labels.new.items ≡ map label_of labels.old.items ++ cell_labels self.now.stores.items self.now.hands.items (option_map (λ w. w.0) takers.idle) (tickets_from takers.from (takers.to - takers.from)) ticket.0 cell.now) }
+        requires listable { IsListable (kept_of self.now) }
+        requires done { AreDone (kept_of self.now) done }
+        ensures { OnOk result (map label_of labels.new.items ≡ map label_of labels.old.items ++ asked_in (kept_of self.now) None (tickets_from takers.from (takers.to - takers.from))) }
     {
-        if cell.is_done() {
-            return Ok(());
-        }
-        self.ask_stops(takers, ticket, cell.status, labels)?;
-        match takers.idle {
-            Some(worker) => self.ask_idle(worker, ticket, cell, labels),
-            None => Ok(()),
-        }
-    }
-
-    // What the idle worker can do of a ticket.
-    fn ask_idle(
-        &self,
-        worker: Worker,
-        ticket: Ticket,
-        cell: &Cell<Actor>,
-        labels: &mut Vec<Label>,
-    ) -> Result<(), OutOfMemory>
-        requires stores { length self.now.stores.items ≤ 8 }
-        requires numbered { IsNumbered cell.now.outbox }
-        ensures { OnOk result (map label_of labels.new.items ≡ map label_of labels.old.items ++ (status_labels self.now.stores.items worker.0 ticket.0 cell.now.status ++ mails_labels self.now.stores.items worker.0 ticket.0 cell.now.outbox)) }
-    {
-        add(labels, self.status_label(worker, ticket, cell.status))?;
-        self.ask_mails(worker, ticket, cell.outbox.as_slice(), labels)
-    }
-
-    // The mails of a ticket, in ascending order.
-    fn ask_mails(
-        &self,
-        worker: Worker,
-        ticket: Ticket,
-        mails: &[(u32, Envelope)],
-        labels: &mut Vec<Label>,
-    ) -> Result<(), OutOfMemory>
-        ensures { OnOk result (map label_of labels.new.items ≡ map label_of labels.old.items ++ flat_map (λ m. mail_labels self.now.stores.items worker.0 ticket.0 m.0 (Some m.1)) mails.now) }
-    {
-        for mail in mails {
-            let number = mail.0;
-            add(
-                labels,
-                self.mail_label(worker, MailId { ticket, number }, &mail.1),
-            )?;
+        for i in done..self.cells.len() {
+            let ticket = Ticket(self.first + i as u32);
+            self.ask_stops(takers, ticket, self.cells[i].status, labels)?;
         }
         Ok(())
     }

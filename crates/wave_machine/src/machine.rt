@@ -15,13 +15,14 @@ ghost use Rattle.wave_machine.specs.Prepared.{IsStood, is_start, is_step};
 ghost use Rattle.wave_machine.specs.Running.{CanStop, IsStopping, Leases, Stops, stop_of};
 ghost use Rattle.wave_machine.specs.Actors.{MayRun};
 ghost use Rattle.wave_machine.specs.Picks.{IsOneOf};
+ghost use Rattle.wave_machine.specs.Readies.{choice_of, ready_in};
 ghost use Rattle.wave_machine.specs.Showing.{IsLineOf};
 
-use crate::done::done_stays;
-use crate::engine::Engine;
 use crate::lease::Lease;
+use crate::listed::Listed;
 use crate::plan::Plan;
 use crate::prepared::Prepared;
+use crate::ready::Ready;
 use crate::refused::Refused;
 use context_tree::trees_that_fit;
 use std::alloc::Global;
@@ -35,10 +36,8 @@ use wave_labels::Label;
 #[derive(Drop)]
 pub struct Machine<'p> {
     alloc: Global,
-    engine: Engine<'p>,
+    listed: Listed<'p>,
     prepared: Option<(Label, Prepared)>,
-    // so many of the first tickets are done
-    done: usize,
 }
 
 impl<'p> Model for Machine<'p> {
@@ -48,16 +47,16 @@ impl<'p> Model for Machine<'p> {
     ghost use Rattle.host_map.specs.contracts.store.HostStore as store;
     ghost use Rattle.wave_machine.specs.Keeping.{kept_of};
     ghost use Rattle.wave_machine.specs.Prepared.{Shown, IsStood, shown_of};
-    ghost use Rattle.wave_machine.specs.inner.Done.{AreDone};
+    ghost use Rattle.wave_machine.specs.inner.Index.{IsListed, RoomFor};
     ghost use Rattle.wave_machine.specs.inner.Made.{IsPrepared};
 
     ghost Value = { Shown };
 
     ghost coded = { Prim.hlevel (codes, commits.the_row.coded, entry.the_row.coded, store.the_row.coded) };
 
-    ghost view = { λ a. shown_of a.engine a.prepared };
+    ghost view = { λ a. shown_of a.listed.engine a.prepared };
 
-    ghost invariant = { λ a. IsStood (kept_of a.engine) × IsPrepared a.engine a.prepared × AreDone (kept_of a.engine) a.done };
+    ghost invariant = { λ a. IsStood (kept_of a.listed.engine) × IsPrepared a.listed.engine a.prepared × IsListed a.listed × RoomFor a.listed a.prepared };
 }
 
 impl<'p> Machine<'p> {
@@ -81,27 +80,33 @@ impl<'p> Machine<'p> {
         ensures plan { IfOk result (λ m. m.kept.plan ≡ plan_of plan.now) }
         ensures reserved { IfOk result (λ m. m.reserved ≡ None) }
     {
-        let engine = Engine::new_at(alloc, plan, start)?;
+        let listed = Listed::new_at(alloc, plan, start)?;
         Ok(Machine {
             alloc,
-            engine,
+            listed,
             prepared: None,
-            done: 0,
         })
+    }
+
+    /// What an idle worker can do, in the canonical order, without who does it. It is kept from label to label, and takes no memory.
+    pub fn index(&self) -> &[Ready]
+        ensures { map choice_of result.now ≡ ready_in self.now.kept }
+    {
+        self.listed.ready()
     }
 
     /// What can be done, in the canonical order: all but the Stops by the lowest idle worker.
     pub fn enabled(&self) -> Result<Seq<Label>, OutOfMemory>
         ensures { IfOk result (λ ls. (start : Start) (s : TheState) → Stands self.now.kept start s → map label_of ls ≡ enabled (plan_actors self.now.kept.plan.program) self.now.kept.plan.workers self.now.kept.plan.script.hosts s) }
     {
-        self.engine.enabled(self.done)
+        self.listed.enabled()
     }
 
     /// What a worker can do, in the same order. For a worker past the plan's number there is nothing.
     pub fn enabled_for(&self, worker: Worker) -> Result<Seq<Label>, OutOfMemory>
         ensures { IfOk result (λ ls. (start : Start) (s : TheState) → Stands self.now.kept start s → map label_of ls ≡ enabled_for (plan_actors self.now.kept.plan.program) self.now.kept.plan.workers self.now.kept.plan.script.hosts s worker.0) }
     {
-        self.engine.enabled_for(worker, self.done)
+        self.listed.enabled_for(worker)
     }
 
     /// One of what a worker can do that has no segment out, found without a list and without memory; none where there is nothing.
@@ -109,7 +114,7 @@ impl<'p> Machine<'p> {
         requires { slice_get self.now.kept.hands worker.0 ≡ Some None }
         ensures { (start : Start) (s : TheState) → Stands self.now.kept start s → IsOneOf (enabled_for (plan_actors self.now.kept.plan.program) self.now.kept.plan.workers self.now.kept.plan.script.hosts s worker.0) result }
     {
-        self.engine.some_for(worker, self.done)
+        self.listed.some_for(worker)
     }
 
     /// Makes all that a label needs which is enabled, so that it can be taken without memory: the machine is reserved for it then. The
@@ -122,7 +127,7 @@ impl<'p> Machine<'p> {
         ensures err { OnErr result (self.new.reserved ≡ None) }
     {
         forget(&mut self.prepared);
-        let part = self.engine.prepare(self.alloc, label)?;
+        let part = self.listed.prepare(self.alloc, label)?;
         keep(&mut self.prepared, *label, part);
         Ok(())
     }
@@ -136,12 +141,10 @@ impl<'p> Machine<'p> {
         ensures plan { self.new.kept.plan ≡ self.old.kept.plan }
         ensures reserved { self.new.reserved ≡ None }
     {
-        done_stays();
         match self.prepared.take() {
-            Some((_, part)) => self.engine.act(label, part),
+            Some((_, part)) => self.listed.act(label, part),
             None => unreachable!(),
         }
-        self.done = self.engine.count_done(self.done);
     }
 
     /// Takes a Start for which it is reserved. The lease has the actor and the record that the worker has in its hand then, and a
@@ -157,9 +160,8 @@ impl<'p> Machine<'p> {
         ensures plan { self.new.kept.plan ≡ self.old.kept.plan }
         ensures reserved { self.new.reserved ≡ None }
     {
-        done_stays();
         match self.prepared.take() {
-            Some((_, part)) => self.engine.act_start(label, part),
+            Some((_, part)) => self.listed.act_start(label, part),
             None => unreachable!(),
         }
     }
@@ -177,8 +179,7 @@ impl<'p> Machine<'p> {
         ensures reserved { OnErr result (self.new.reserved ≡ self.old.reserved) }
         ensures taken { OnOk result (self.new.reserved ≡ None) }
     {
-        done_stays();
-        match self.engine.stop(lease, pause) {
+        match self.listed.stop(lease, pause) {
             Ok(label) => {
                 forget(&mut self.prepared);
                 Ok(label)
@@ -191,7 +192,7 @@ impl<'p> Machine<'p> {
     pub fn finished(&self) -> bool
         ensures { (start : Start) (s : TheState) → Stands self.now.kept start s → IsTrue result ↔ runs.Finished (plan_actors self.now.kept.plan.program) self.now.kept.plan.workers s }
     {
-        self.engine.finished()
+        self.listed.engine.finished()
     }
 
     /// What a finished run gives. After want of memory the machine comes back as it was.
@@ -202,18 +203,16 @@ impl<'p> Machine<'p> {
     {
         let Machine {
             alloc,
-            engine,
+            listed,
             prepared,
-            done,
         } = self;
-        match engine.into_finished(alloc) {
+        match listed.into_finished(alloc) {
             Ok(finished) => Ok(finished),
-            Err((engine, error)) => {
+            Err((listed, error)) => {
                 let machine = Machine {
                     alloc,
-                    engine,
+                    listed,
                     prepared,
-                    done,
                 };
                 Err((machine, error))
             }
@@ -225,7 +224,7 @@ impl<'p> Machine<'p> {
         ensures settled { result ≡ length self.now.kept.settled.results }
         ensures done { (start : Start) (s : TheState) → Stands self.now.kept start s → s.head.done ≡ result }
     {
-        self.engine.settled.len()
+        self.listed.engine.settled.len()
     }
 
     /// The committed tickets without the first `from`, at most so many: what the whole run gives of each of them, whatever comes yet.
@@ -234,7 +233,7 @@ impl<'p> Machine<'p> {
         ensures count { IfOk result (λ xs. length xs ≡ min most (length self.now.kept.settled.results - from)) }
         ensures lines { IfOk result (λ xs. (start : Start) (s : TheState) → Stands self.now.kept start s → (i : ℕ) (x : Shown) → slice_get xs i ≡ Some x → IsLineOf (finished_of (code_ran self.now.kept.plan.program) self.now.kept.plan.program.shape start self.now.kept.plan.script) (from + i) x) }
     {
-        self.engine.shown(self.alloc, from, most)
+        self.listed.engine.shown(self.alloc, from, most)
     }
 }
 
@@ -242,7 +241,7 @@ impl<'p> Machine<'p> {
 pub fn machine_stands(machine: &Machine)
     ensures { IsStood machine.now.kept }
 {
-    let _ = &machine.engine;
+    let _ = &machine.listed.engine;
 }
 
 // Nothing is made any more.

@@ -13,6 +13,7 @@ ghost use Rattle.wave_machine.specs.Machines.{IsEnabled, Keeps, Takes};
 ghost use Rattle.wave_machine.specs.Running.{CanStop, IsCopy, IsStopping, Leases, Stops, stop_of};
 ghost use Rattle.wave_machine.specs.declared.actor.Actor as actors;
 ghost use Rattle.wave_machine.specs.inner.Apart.{Moves};
+ghost use Rattle.wave_machine.specs.inner.Asking.{place_in};
 ghost use Rattle.wave_machine.specs.inner.Leaving.{CanGoOn, Tells, onward};
 ghost use Rattle.wave_machine.specs.inner.Spare.{HasPlace, IsAsLong, RoomToStop, SameButRooms};
 
@@ -135,6 +136,7 @@ impl<'p> Engine<'p> {
         ensures label { IfOk result (λ l. label_of l ≡ stop_of lease l.host.0) }
         ensures enabled { IfOk result (λ l. CanStop (kept_of self.old) lease pause l.host.0) }
         ensures stops { IfOk result (λ l. Stops (kept_of self.old) lease pause l.host.0 (kept_of self.new)) }
+        ensures place { IfOk result (λ l. place_in (kept_of self.old).stores lease.path ≡ Some l.host.0) }
         ensures moves { IfOk result (λ l. (c : cells.Cell actors.Actor) → slice_get (kept_of self.old).cells (lease.ticket.0 - self.old.first) ≡ Some c → Moves (kept_of self.old) (kept_of self.new) (label_of l) (1 + length c.held.holds)) }
         ensures refused { IfErr result (λ r. (r.lease ≡ lease) × (r.pause ≡ pause)) }
         ensures keeps { OnErr result (Keeps (kept_of self.old) (kept_of self.new)) }

@@ -15,30 +15,30 @@ use Rattle.wave_machine.proofs.drives.begin.Goals as goal
 
 pub act_start-lease-requires-clause-enabled : goal.act_start-lease-requires-clause-enabled
 act_start-lease-requires-clause-enabled c =
-    let m = kept_of c.args.engine.now in
+    let m = kept_of c.args.listed.now.engine in
     let l = label_of c.args.label.now in
     let plan = ap (λ (p : Bor Plan). plan_of p.now) c.prepare.ensures.plan in
-    keeps_enabled m (kept_of c.prepare.new.self) c.prepare.ensures.keeps plan l (enabled_of m c.args.ends.now.items l c.requires.taking)
+    keeps_enabled m (kept_of c.prepare.new.self.engine) c.prepare.ensures.keeps plan l (enabled_of m c.args.ends.now.items l c.requires.taking)
 
 pub run_lease-requires-clause-may_run : goal.run_lease-requires-clause-may_run
 run_lease-requires-clause-may_run c =
-    let m = kept_of c.args.engine.now in
+    let m = kept_of c.args.listed.now.engine in
     let l = label_of c.args.label.now in
     let lease = c.act_start-lease.result in
     let plan = ap (λ (p : Bor Plan). plan_of p.now) c.prepare.ensures.plan in
     subst (λ (p : Bor Plan). MayRun p.now.program lease.actor lease.body) (sym (c.act_start-lease.ensures.plan ∙ c.prepare.ensures.plan))
-    (lease_may_run m (kept_of c.prepare.new.self) c.prepare.ensures.keeps plan l lease c.act_start-lease.ensures.leases c.segments_are_known.ensures c.args.ends.now.items c.requires.taking)
+    (lease_may_run m (kept_of c.prepare.new.self.engine) c.prepare.ensures.keeps plan l lease c.act_start-lease.ensures.leases c.segments_are_known.ensures c.args.ends.now.items c.requires.taking)
 
 pub index_mut-requires : goal.index_mut-requires
 index_mut-requires c =
-    let within : c.args.label.now.worker.0 < length c.args.ends.now.items = within_ends (kept_of c.args.engine.now) c.args.ends.now.items (label_of c.args.label.now) c.requires.taking in
+    let within : c.args.label.now.worker.0 < length c.args.ends.now.items = within_ends (kept_of c.args.listed.now.engine) c.args.ends.now.items (label_of c.args.label.now) c.requires.taking in
     search (rules, within)
 
 pub returns-clause-leads : goal.returns-clause-leads
 returns-clause-leads c =
-    let m = kept_of c.args.engine.now in
-    let m₁ = kept_of c.prepare.new.self in
-    let m' = kept_of c.act_start-lease.new.self in
+    let m = kept_of c.args.listed.now.engine in
+    let m₁ = kept_of c.prepare.new.self.engine in
+    let m' = kept_of c.act_start-lease.new.self.engine in
     let l = label_of c.args.label.now in
     let ends = c.args.ends.now.items in
     let lease = c.act_start-lease.result in

@@ -14,50 +14,39 @@ use Rattle.wave_machine.specs.Keeping.{kept_of}
 use Rattle.wave_machine.specs.Rules.{number_of, rule_of}
 use Rattle.wave_machine.specs.inner.Driving.{IsDriving, first_state}
 use Rattle.wave_machine.proofs.Driven.{drive_done, drive_run, driving_more, next_taking, nothing_left}
-use Rattle.wave_machine.proofs.Untouched.{led_done}
 use Rattle.wave_machine.proofs.drives.drive_on.Goals as goal
 
-pub take-requires : goal.take-requires
-take-requires c =
+pub take-requires-clause-taking : goal.take-requires-clause-taking
+take-requires-clause-taking c =
     let d = c.loop-labels.invariant.driving in
-    let m = kept_of c.loop-labels.engine in
+    let m = kept_of c.loop-labels.listed.engine in
     let st = d.under.stands in
     let can = c.states_drive.ensures m.plan c.args.start.now st.labels d.state st.fits st.begins st.reached in
     let picks = c.in_ok-label.ensures c.args.start.now d.state st ∙ ap (λ o. (c.next.new.draw, option_map label_of o)) c.in-Some.is in
     next_taking c.rules_pick.ensures m c.loop-labels.ends.items c.args.start.now c.args.rule c.loop-labels.draw c.next.new.draw d.state d.under can (label_of c.in-Some.label) picks
 
-pub count_done-done-requires : goal.count_done-done-requires
-count_done-done-requires c =
-    let d = c.loop-labels.invariant.driving in
-    let m = kept_of c.loop-labels.engine in
-    let st = d.under.stands in
-    let can = c.states_drive.ensures m.plan c.args.start.now st.labels d.state st.fits st.begins st.reached in
-    let picks = c.in_ok-label.ensures c.args.start.now d.state st ∙ ap (λ o. (c.next.new.draw, option_map label_of o)) c.in-Some.is in
-    let taking = next_taking c.rules_pick.ensures m c.loop-labels.ends.items c.args.start.now c.args.rule c.loop-labels.draw c.next.new.draw d.state d.under can (label_of c.in-Some.label) picks in
-    led_done c.done_stays.ensures m (kept_of c.take.new.engine) c.loop-labels.done c.loop-labels.invariant.done c.loop-labels.ends.items c.take.new.ends.items (label_of c.in-Some.label) taking c.in_ok-take.ensures.leads
-
 pub loop-labels-preserved : goal.loop-labels-preserved
 loop-labels-preserved c =
     let d = c.loop-labels.invariant.driving in
-    let m = kept_of c.loop-labels.engine in
+    let m = kept_of c.loop-labels.listed.engine in
     let st = d.under.stands in
     let can = c.states_drive.ensures m.plan c.args.start.now st.labels d.state st.fits st.begins st.reached in
     let picks = c.in_ok-label.ensures c.args.start.now d.state st ∙ ap (λ o. (c.next.new.draw, option_map label_of o)) c.in-Some.is in
     let before = map label_of c.loop-labels.labels.items in
     let l = label_of c.in-Some.label in
-    let more = driving_more c.rules_pick.ensures m (kept_of c.take.new.engine) (kept_of c.args.engine.now).plan c.args.start.now c.args.rule c.loop-labels.draw c.next.new.draw before c.loop-labels.ends.items c.take.new.ends.items l d can picks c.in_ok-take.ensures.leads c.take.ensures.plan in
+    let more = driving_more c.rules_pick.ensures m (kept_of c.take.new.listed.engine) (kept_of c.args.listed.now.engine).plan c.args.start.now c.args.rule c.loop-labels.draw c.next.new.draw before c.loop-labels.ends.items c.take.new.ends.items l d can picks c.in_ok-take.ensures.leads c.take.ensures.plan in
     let same : map label_of c.push.new.labels.items ≡ before ++ l ∷ [] = ap (map label_of) c.in_ok-push.ensures ∙ map-append label_of c.loop-labels.labels.items (c.in-Some.label ∷ []) in
     record {
-      driving = subst (λ (ls : List Label). IsDriving (kept_of c.take.new.engine) (kept_of c.args.engine.now).plan c.args.start.now c.args.rule c.next.new.draw ls c.take.new.ends.items) (sym same) more;
-      done = c.count_done-done.ensures;
+      driving = subst (λ (ls : List Label). IsDriving (kept_of c.take.new.listed.engine) (kept_of c.args.listed.now.engine).plan c.args.start.now c.args.rule c.next.new.draw ls c.take.new.ends.items) (sym same) more;
+      listed = c.take.ensures.listed;
     }
 
 pub returns-clause-driven : goal.returns-clause-driven
 returns-clause-driven c =
     let d = c.loop-labels.invariant.driving in
-    let m = kept_of c.loop-labels.engine in
+    let m = kept_of c.loop-labels.listed.engine in
     let st = d.under.stands in
-    let p = (kept_of c.args.engine.now).plan in
+    let p = (kept_of c.args.listed.now.engine).plan in
     let can = c.states_drive.ensures m.plan c.args.start.now st.labels d.state st.fits st.begins st.reached in
     let picks = c.in_ok-label.ensures c.args.start.now d.state st ∙ ap (λ o. (c.next.new.draw, option_map label_of o)) c.in_default.is in
     let none = nothing_left c.rules_pick.ensures m c.loop-labels.ends.items c.args.start.now c.args.rule c.loop-labels.draw c.next.new.draw d.state d.under can picks in
@@ -67,9 +56,9 @@ returns-clause-driven c =
 pub returns-clause-finished : goal.returns-clause-finished
 returns-clause-finished c =
     let d = c.loop-labels.invariant.driving in
-    let m = kept_of c.loop-labels.engine in
+    let m = kept_of c.loop-labels.listed.engine in
     let st = d.under.stands in
-    let p = (kept_of c.args.engine.now).plan in
+    let p = (kept_of c.args.listed.now.engine).plan in
     let can = c.states_drive.ensures m.plan c.args.start.now st.labels d.state st.fits st.begins st.reached in
     let picks = c.in_ok-label.ensures c.args.start.now d.state st ∙ ap (λ o. (c.next.new.draw, option_map label_of o)) c.in_default.is in
     let none = nothing_left c.rules_pick.ensures m c.loop-labels.ends.items c.args.start.now c.args.rule c.loop-labels.draw c.next.new.draw d.state d.under can picks in
@@ -79,19 +68,19 @@ returns-clause-finished c =
 
 pub loop-labels-smaller : goal.loop-labels-smaller
 loop-labels-smaller c =
-    let p = (kept_of c.args.engine.now).plan in
+    let p = (kept_of c.args.listed.now.engine).plan in
     let start = c.args.start.now in
     let before = map label_of c.loop-labels.labels.items in
     let l = label_of c.in-Some.label in
     let d = c.loop-labels.invariant.driving in
-    let m = kept_of c.loop-labels.engine in
+    let m = kept_of c.loop-labels.listed.engine in
     let st = d.under.stands in
     let can = c.states_drive.ensures m.plan start st.labels d.state st.fits st.begins st.reached in
     let picks = c.in_ok-label.ensures start d.state st ∙ ap (λ o. (c.next.new.draw, option_map label_of o)) c.in-Some.is in
-    let more = driving_more c.rules_pick.ensures m (kept_of c.take.new.engine) p start c.args.rule c.loop-labels.draw c.next.new.draw before c.loop-labels.ends.items c.take.new.ends.items l d can picks c.in_ok-take.ensures.leads c.take.ensures.plan in
+    let more = driving_more c.rules_pick.ensures m (kept_of c.take.new.listed.engine) p start c.args.rule c.loop-labels.draw c.next.new.draw before c.loop-labels.ends.items c.take.new.ends.items l d can picks c.in_ok-take.ensures.leads c.take.ensures.plan in
     let all = before ++ l ∷ [] in
     let runs = drive_run (plan_actors p.program) p.workers p.script.hosts (rule_of c.args.rule) all (number_of c.args.rule) (first_state p start) c.next.new.draw more.state more.drives in
-    let most = c.runs_are_short.ensures.most p start c.requires.fits c.requires.begins all more.state runs in
+    let most = c.runs_are_short.ensures.most p start c.requires.stands.fits c.requires.stands.begins all more.state runs in
     let old = length-map c.loop-labels.labels.items label_of in
     let long = length-append before (l ∷ []) in
     let new = ap length c.in_ok-push.ensures ∙ length-append c.loop-labels.labels.items (c.in-Some.label ∷ []) in

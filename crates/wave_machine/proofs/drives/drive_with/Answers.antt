@@ -13,9 +13,9 @@ use Rattle.wave_machine.specs.Rules.{number_of, rule_of}
 use Rattle.wave_machine.specs.inner.Driving.{first_state}
 use Rattle.wave_machine.proofs.drives.drive_with.Goals as goal
 
-pub drive_on-requires : goal.drive_on-requires
-drive_on-requires c =
-    subst (λ (p : Plan). Stands (kept_of c.in_ok-engine.engine) c.args.start.now (first_state p c.args.start.now)) (sym c.in_ok-engine.ensures.plan) c.in_ok-engine.ensures.stands
+pub drive_on-requires-clause-stands : goal.drive_on-requires-clause-stands
+drive_on-requires-clause-stands c =
+    subst (λ (p : Plan). Stands (kept_of c.in_ok-listed.listed.engine) c.args.start.now (first_state p c.args.start.now)) (sym c.in_ok-listed.ensures.plan) c.in_ok-listed.ensures.stands
 
 pub told-requires : goal.told-requires
 told-requires c =
@@ -26,15 +26,15 @@ pub returns-clause-told : goal.returns-clause-told
 returns-clause-told c =
     let f = c.in_ok-labels.ensures.finished in
     c.in_ok-finished.ensures c.args.start.now f.0 f.1
-    ∙ ap (λ (p : Plan). finished_of (code_ran p.program) p.program.shape c.args.start.now p.script) (c.drive_on.ensures.plan ∙ c.in_ok-engine.ensures.plan)
+    ∙ ap (λ (p : Plan). finished_of (code_ran p.program) p.program.shape c.args.start.now p.script) (c.drive_on.ensures.plan ∙ c.in_ok-listed.ensures.plan)
 
 pub returns-clause-driven : goal.returns-clause-driven
 returns-clause-driven c =
-    let driven = subst (λ (p : Plan). IsDrive (plan_actors p.program) p.workers p.script.hosts (rule_of c.args.rule) (number_of c.args.rule) (first_state p c.args.start.now) (map label_of c.in_ok-labels.labels.items)) c.in_ok-engine.ensures.plan c.in_ok-labels.ensures.driven in
+    let driven = subst (λ (p : Plan). IsDrive (plan_actors p.program) p.workers p.script.hosts (rule_of c.args.rule) (number_of c.args.rule) (first_state p c.args.start.now) (map label_of c.in_ok-labels.labels.items)) c.in_ok-listed.ensures.plan c.in_ok-labels.ensures.driven in
     subst (λ xs. IsDrive (plan_actors c.args.plan.now.program) c.args.plan.now.workers c.args.plan.now.script.hosts (rule_of c.args.rule) (number_of c.args.rule) (first_state (plan_of c.args.plan.now) c.args.start.now) (map label_of xs)) (sym c.from_vec.ensures) driven
 
 pub returns-clause-measured : goal.returns-clause-measured
 returns-clause-measured c =
-    let driven = subst (λ (p : Plan). IsDrive (plan_actors p.program) p.workers p.script.hosts (rule_of c.args.rule) (number_of c.args.rule) (first_state p c.args.start.now) (map label_of c.in_ok-labels.labels.items)) c.in_ok-engine.ensures.plan c.in_ok-labels.ensures.driven in
+    let driven = subst (λ (p : Plan). IsDrive (plan_actors p.program) p.workers p.script.hosts (rule_of c.args.rule) (number_of c.args.rule) (first_state p c.args.start.now) (map label_of c.in_ok-labels.labels.items)) c.in_ok-listed.ensures.plan c.in_ok-labels.ensures.driven in
     subst (λ xs. IsMeasured (plan_of c.args.plan.now) c.args.start.now (map label_of xs)) (sym c.from_vec.ensures)
     (c.runs_are_measured.ensures.drives (plan_of c.args.plan.now) c.args.start.now c.requires.fits c.requires.begins c.args.rule (map label_of c.in_ok-labels.labels.items) driven)

@@ -8,15 +8,15 @@ use Rattle.wave_machine.proofs.drives.step.Goals as goal
 
 pub act-requires-clause-enabled : goal.act-requires-clause-enabled
 act-requires-clause-enabled c =
-    let m = kept_of c.args.engine.now in
+    let m = kept_of c.args.listed.now.engine in
     let l = label_of c.args.label.now in
     let plan = ap (λ (p : Bor Plan). plan_of p.now) c.prepare.ensures.plan in
-    keeps_enabled m (kept_of c.prepare.new.self) c.prepare.ensures.keeps plan l (enabled_of m c.args.ends.now.items l c.requires.taking)
+    keeps_enabled m (kept_of c.prepare.new.self.engine) c.prepare.ensures.keeps plan l (enabled_of m c.args.ends.now.items l c.requires.taking)
 
 pub returns-clause-leads : goal.returns-clause-leads
 returns-clause-leads c =
-    let m = kept_of c.args.engine.now in
-    let m' = kept_of c.act.new.self in
+    let m = kept_of c.args.listed.now.engine in
+    let m' = kept_of c.act.new.self.engine in
     let l = label_of c.args.label.now in
     let plan = ap (λ (p : Bor Plan). plan_of p.now) c.prepare.ensures.plan in
-    calm_leads m m' c.args.ends.now.items l (step_is_calm c.args.label.now.act c.requires.kind) (keeps_takes m (kept_of c.prepare.new.self) c.prepare.ensures.keeps plan l m' c.act.ensures.takes) (ap (λ (p : Bor Plan). plan_of p.now) c.act.ensures.plan ∙ plan)
+    calm_leads m m' c.args.ends.now.items l (step_is_calm c.args.label.now.act c.requires.kind) (keeps_takes m (kept_of c.prepare.new.self.engine) c.prepare.ensures.keeps plan l m' c.act.ensures.takes) (ap (λ (p : Bor Plan). plan_of p.now) c.act.ensures.plan ∙ plan)

@@ -14,28 +14,28 @@ use Rattle.wave_machine.proofs.drives.stop.Goals as goal
 pub index_mut-requires : goal.index_mut-requires
 index_mut-requires c =
     let l : Label = record { worker = c.args.worker.0; host = c.args.host.0; act = Stop c.args.ticket.0 c.args.path } in
-    let within : c.args.worker.0 < length c.args.ends.now.items = within_ends (kept_of c.args.engine.now) c.args.ends.now.items l c.requires in
+    let within : c.args.worker.0 < length c.args.ends.now.items = within_ends (kept_of c.args.listed.now.engine) c.args.ends.now.items l c.requires.taking in
     search (rules, within)
 
 pub unwrap-lease-requires : goal.unwrap-lease-requires
 unwrap-lease-requires c =
-    let m = kept_of c.args.engine.now in
+    let m = kept_of c.args.listed.now.engine in
     let w = c.args.worker.0 in
     let ends = c.args.ends.now.items in
     let l : Label = record { worker = w; host = c.args.host.0; act = Stop c.args.ticket.0 c.args.path } in
-    let on = c.requires in
+    let on = c.requires.taking in
     let of = stopped_by (plan_actors m.plan.program) m.plan.workers on.state on.next w c.args.host.0 c.args.ticket.0 c.args.path on.enabled in
     let at : slice_get ends w ≡ Some c.index_mut.result.now = slice_get_read ends _ w c.index_mut.result.now refl (within_ends m ends l on) c.index_mut.ensures.value in
     let it : IsEnd m.plan.program w of.hand (Some c.index_mut.result.now) = subst (λ (x : Option (Option End)). IsEnd m.plan.program w of.hand x) at (on.under.ends w of.hand of.there) in
     ap is_some c.replace-end.ensures.value ∙ has_end m.plan.program w of.hand c.index_mut.result.now it
 
-pub stop-requires : goal.stop-requires
-stop-requires c =
-    let m = kept_of c.args.engine.now in
+pub stop-requires-clause-stopping : goal.stop-requires-clause-stopping
+stop-requires-clause-stopping c =
+    let m = kept_of c.args.listed.now.engine in
     let w = c.args.worker.0 in
     let ends = c.args.ends.now.items in
     let l : Label = record { worker = w; host = c.args.host.0; act = Stop c.args.ticket.0 c.args.path } in
-    let on = c.requires in
+    let on = c.requires.taking in
     let end = c.unwrap-lease.result in
     let at : slice_get ends w ≡ Some c.index_mut.result.now = slice_get_read ends _ w c.index_mut.result.now refl (within_ends m ends l on) c.index_mut.ensures.value in
     let there : slice_get ends w ≡ Some (Some end) = at ∙ ap Some (sym c.replace-end.ensures.value ∙ c.unwrap-lease.ensures) in
@@ -48,12 +48,12 @@ stop-requires c =
 
 pub returns-in-Ok-clause-leads : goal.returns-in-Ok-clause-leads
 returns-in-Ok-clause-leads c =
-    let m = kept_of c.args.engine.now in
-    let m' = kept_of c.stop.new.self in
+    let m = kept_of c.args.listed.now.engine in
+    let m' = kept_of c.stop.new.self.engine in
     let w = c.args.worker.0 in
     let ends = c.args.ends.now.items in
     let l : Label = record { worker = w; host = c.args.host.0; act = Stop c.args.ticket.0 c.args.path } in
-    let on = c.requires in
+    let on = c.requires.taking in
     let end = c.unwrap-lease.result in
     let at : slice_get ends w ≡ Some c.index_mut.result.now = slice_get_read ends _ w c.index_mut.result.now refl (within_ends m ends l on) c.index_mut.ensures.value in
     let there : slice_get ends w ≡ Some (Some end) = at ∙ ap Some (sym c.replace-end.ensures.value ∙ c.unwrap-lease.ensures) in

@@ -9,4 +9,4 @@ use Rattle.wave_machine.proofs.drives.take.Goals as goal
 pub returns-in-Stop-clause-leads : goal.returns-in-Stop-clause-leads
 returns-in-Stop-clause-leads c =
     let label = c.args.label.now in
-    subst (λ (a : Act). OnOk c.stop.result (Leads (kept_of c.args.engine.now) c.args.ends.now.items (record { worker = label.worker.0; host = label.host.0; act = act_of a }) (kept_of c.stop.new.engine) c.stop.new.ends.items)) (sym c.in-Stop.is) c.stop.ensures.leads
+    subst (λ (a : Act). OnOk c.stop.result (Leads (kept_of c.args.listed.now.engine) c.args.ends.now.items (record { worker = label.worker.0; host = label.host.0; act = act_of a }) (kept_of c.stop.new.listed.engine) c.stop.new.ends.items)) (sym c.in-Stop.is) c.stop.ensures.leads

@@ -13,6 +13,6 @@ done_is m start s stands = ap (λ (h : Head Line). h.done) stands.shows.head.hea
 
 pub returns-clause-done : goal.returns-clause-done
 returns-clause-done c =
-    let many : length (kept_of c.self.inside.engine).settled.results ≡ c.len.result = omega (arith, c.len.ensures) in
+    let many : length (kept_of c.self.inside.listed.engine).settled.results ≡ c.len.result = omega (arith, c.len.ensures) in
     subst (λ (z : Shown). (start : Start) (s : TheState) → Stands z.kept start s → s.head.done ≡ c.len.result) c.self.view_is
-    (λ start s stands. done_is (kept_of c.self.inside.engine) start s stands ∙ many)
+    (λ start s stands. done_is (kept_of c.self.inside.listed.engine) start s stands ∙ many)

@@ -10,7 +10,7 @@ use Rattle.wave_machine.proofs.machine.Machine.into_finished.Goals as goal
 
 pub into_finished-requires : goal.into_finished-requires
 into_finished-requires c =
-    record { finished = subst (λ (z : Shown). (start : Start) × (s : TheState) × Stands z.kept start s × Finished (plan_actors z.kept.plan.program) z.kept.plan.workers s) (sym c.self.view_is) c.requires }
+    subst (λ (z : Shown). (start : Start) × (s : TheState) × Stands z.kept start s × Finished (plan_actors z.kept.plan.program) z.kept.plan.workers s) (sym c.self.view_is) c.requires
 
 pub returns-in-Ok-clause-told : goal.returns-in-Ok-clause-told
 returns-in-Ok-clause-told c =

@@ -3,20 +3,15 @@ use Rattle.wave_labels.specs.Labels.{label_of}
 use Rattle.wave_machine.specs.Keeping.{kept_of}
 use Rattle.wave_machine.specs.Machines.{IsEnabled, Takes}
 use Rattle.wave_machine.specs.Prepared.{Shown}
+use Rattle.wave_machine.specs.inner.Index.{RoomFor}
 use Rattle.wave_machine.specs.inner.Made.{IsPrepared}
 use Rattle.wave_machine.proofs.Labelled.{stood_after}
-use Rattle.wave_machine.proofs.Untouched.{taken_done}
 use Rattle.wave_machine.proofs.machine.Machine.step.Goals as goal
-
-pub count_done-self-inside-requires : goal.count_done-self-inside-requires
-count_done-self-inside-requires c =
-    let on = subst (λ (z : Shown). IsEnabled z.kept (label_of c.args.label.now)) (sym c.self.view_is) c.requires.enabled in
-    taken_done c.done_stays.ensures (kept_of c.self.inside.engine) (kept_of c.act.new.self) c.self.inside.done c.self.invariant.2 (label_of c.args.label.now) on c.act.ensures.takes
 
 pub invariant_of-self : goal.invariant_of-self
 invariant_of-self c =
     let on = subst (λ (z : Shown). IsEnabled z.kept (label_of c.args.label.now)) (sym c.self.view_is) c.requires.enabled in
-    (stood_after (kept_of c.self.inside.engine) (kept_of c.act.new.self) c.args.label.now on c.act.ensures.takes, subst (IsPrepared c.act.new.self) (sym c.take.ensures.after) tt, c.count_done-self-inside.ensures)
+    (stood_after (kept_of c.self.inside.listed.engine) (kept_of c.act.new.self.engine) c.args.label.now on c.act.ensures.takes, subst (IsPrepared c.act.new.self.engine) (sym c.take.ensures.after) tt, c.act.ensures.listed, subst (RoomFor c.act.new.self) (sym c.take.ensures.after) tt)
 
 pub returns-clause-takes : goal.returns-clause-takes
-returns-clause-takes c = subst (λ (z : Shown). Takes z.kept (kept_of c.act.new.self) (label_of c.args.label.now)) c.self.view_is c.act.ensures.takes
+returns-clause-takes c = subst (λ (z : Shown). Takes z.kept (kept_of c.act.new.self.engine) (label_of c.args.label.now)) c.self.view_is c.act.ensures.takes

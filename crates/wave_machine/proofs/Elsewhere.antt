@@ -1,0 +1,309 @@
+-- What a label leaves of what other tickets ask for.
+use Rattle.std.proofs.Common.{◌≡◌, ◌≢◌, ◌∙◌, ◌⊎◌, inl, inr, ℕ, zero, suc, ◌+◌, ◌-◌, ◌<◌, ◌≤◌, ◌==◌, Bool, true, false, cond, not, List, [], ◌∷◌, ◌++◌, length, Option, Some, None, is_some, refl, sym, ap, arith, position, true≢false}
+use Rattle.std.specs.Prelude.{flat_map, if◌then◌else◌, nat_lt, option_map, slice_get}
+use Rattle.std.specs.List.{prefix_len}
+use Rattle.std.specs.FinMap as table
+use Rattle.std.proofs.lemmas.Option.{slice_get_within}
+use Rattle.wave_base.specs.declared.path.Path.{Path}
+use Rattle.wave_base.specs.Fold.{tickets_from}
+use Rattle.wave_base.specs.Paths.{path_eq}
+use Rattle.context_queue.specs.declared.entry.Entry.{Entry}
+use Rattle.context_queue.specs.Entries.{entry_of, next_in}
+use Rattle.event_cells.specs.declared.cell.Cell.{Cell}
+use Rattle.event_cells.specs.declared.outbox.Envelope.{Envelope}
+use Rattle.event_cells.specs.declared.status.Status.{Status}
+use Rattle.event_cells.specs.declared.status.Status.TheVariants as status
+use Rattle.event_cells.specs.Keeps.{mail_in}
+use Rattle.host_map.specs.Stores.{Stores, has, mark_of}
+use Rattle.migration_core.specs.declared.mail.Letter.{Letter}
+use Rattle.migration_core.specs.declared.mail.Letter.TheVariants as letter
+use Rattle.code_actor.specs.CodeActors.{Fields}
+use Rattle.wave_states.specs.Labels.{Act, Label, Grant, Admit, Queue, Visit, Start, Stop, Free, Pass, Land, Commit, path_of, ticket_of}
+use Rattle.wave_states.specs.States as theory
+use Rattle.wave_states.specs.States.{Claim}
+use Rattle.wave_states.specs.Steps.{Deliver, route_by}
+use Rattle.wave_theory.proofs.Basics.{differ, not_same, number_cases, path_cases, path_self}
+use Rattle.wave_machine.specs.declared.actor.Actor.{Actor}
+use Rattle.wave_machine.specs.Machines.{Kept}
+use Rattle.wave_machine.specs.inner.Apart.{AnswersAs, AsksAs, Moves, grown}
+use Rattle.wave_machine.specs.inner.Asking.{enter_act, grant_labels, is_claim, is_next, is_next_in, label_at, mail_act, mail_labels, place_in, route_at, start_labels, status_labels}
+use Rattle.wave_machine.specs.inner.Index.{KeepsMails, asked_as, asked_at, asked_by, asked_of, cell_at, has_at, next_at, next_of, number_of, sent_at, sent_by, slot_at, slot_by}
+use Rattle.wave_machine.proofs.ListingKinds.{slice_none}
+use Rattle.wave_machine.proofs.ListingLists.{flat_same}
+use Rattle.wave_machine.proofs.Owned.{cell_is, cell_there, slice_some}
+
+some_map : {X Y : Type 0} (f : X → Y) (o : Option X) → is_some (option_map f o) ≡ is_some o
+some_map f None = refl
+some_map f (Some x) = refl
+
+-- the first place where a test passes is the same where the tests are the same at each place
+module _ {X : Type 0} (p : X → Bool) where
+  prefix_same : (xs ys : List X) → length ys ≡ length xs → ((i : ℕ) (x y : X) → slice_get xs i ≡ Some x → slice_get ys i ≡ Some y → p y ≡ p x) → prefix_len (λ x. not (p x)) ys ≡ prefix_len (λ x. not (p x)) xs
+  prefix_same [] [] e h = refl
+  prefix_same [] (y ∷ ys) e h = absurd (omega (arith, e))
+  prefix_same (x ∷ xs) [] e h = absurd (omega (arith, e))
+  prefix_same (x ∷ xs) (y ∷ ys) e h =
+      let rest = prefix_same xs ys (omega (arith, e)) (λ i a b u v. h (suc i) a b u v) in
+      λ j. cond (not (h 0 x y refl refl j)) (1 + rest j) 0
+
+  pub position_same : (xs ys : List X) → length ys ≡ length xs → ((i : ℕ) (x y : X) → slice_get xs i ≡ Some x → slice_get ys i ≡ Some y → p y ≡ p x) → position p ys ≡ position p xs
+  position_same xs ys e h = λ j. cond (nat_lt (prefix_same xs ys e h j) (e j)) (Some (prefix_same xs ys e h j)) None
+
+-- what two stores say of a context
+abbrev Answer : Option Stores → Option Stores → Path → Type 0
+Answer None None q = Unit {0}
+Answer (Some st) (Some st') q = AnswersAs st st' q
+Answer None (Some st') q = ⊥
+Answer (Some st) None q = ⊥
+
+has_by : (q : Path) (o o' : Option Stores) → Answer o o' q → has_at q o' ≡ has_at q o
+has_by q None None a = refl
+has_by q (Some st) (Some st') a = sym (some_map entry_of (table.get st'.store q)) ∙ ap is_some a.entry ∙ some_map entry_of (table.get st.store q)
+has_by q None (Some st') a = absurd a
+has_by q (Some st) None a = absurd a
+
+abbrev next_map : ℕ → Option (theory.Entry Fields) → Bool
+next_map u None = false
+next_map u (Some en) = is_claim u (next_in en)
+
+is_next_map : (u : ℕ) (o : Option Entry) → is_next_in u o ≡ next_map u (option_map entry_of o)
+is_next_map u None = refl
+is_next_map u (Some e) = refl
+
+next_by : (u : ℕ) (q : Path) (o o' : Option Stores) → Answer o o' q → is_next u q o' ≡ is_next u q o
+next_by u q None None a = refl
+next_by u q (Some st) (Some st') a = is_next_map u (table.get st'.store q) ∙ ap (next_map u) a.entry ∙ sym (is_next_map u (table.get st.store q))
+next_by u q None (Some st') a = absurd a
+next_by u q (Some st) None a = absurd a
+
+route_with : (q : Path) (f : ℕ) (o o' : Option Stores) → Answer o o' q → route_at o' q f ≡ route_at o q f
+route_with q f None None a = refl
+route_with q f (Some st) (Some st') a = λ i. if is_some (a.entry i) then Deliver else route_by (option_map mark_of (a.mark i)) f
+route_with q f None (Some st') a = absurd a
+route_with q f (Some st) None a = absurd a
+
+-- who is not next in a line has no Grant there
+next_false : (u : ℕ) (q : Path) (o : Option Stores) → (next_at q o ≡ Some u → ⊥) → is_next u q o ≡ false
+next_false u q None apart = refl
+next_false u q (Some st) apart = by_entry (table.get st.store q) apart
+  where
+    by_claim : (c : Option Claim) → (option_map (λ (x : Claim). x.ticket) c ≡ Some u → ⊥) → is_claim u c ≡ false
+    by_claim None h = refl
+    by_claim (Some c) h = differ c.ticket u (λ e. h (ap Some e))
+
+    by_entry : (e : Option Entry) → (next_of e ≡ Some u → ⊥) → is_next_in u e ≡ false
+    by_entry None h = refl
+    by_entry (Some e) h = by_claim (next_in (entry_of e)) h
+
+pub grown_few : (a : Act) → grown a ≤ 1
+grown_few (Admit t) = omega arith
+grown_few (Queue t k p) = omega arith
+grown_few (Grant t p) = omega arith
+grown_few (Visit t k p) = omega arith
+grown_few (Start t p) = omega arith
+grown_few (Stop t p) = omega arith
+grown_few (Free t k p) = omega arith
+grown_few (Pass t k p g) = omega arith
+grown_few (Land t k p) = omega arith
+grown_few (Commit t) = omega arith
+
+-- a number but 0 is that of a mail
+pub asked_mail : (stores : List Stores) (t : ℕ) (c : Cell Actor) (j : ℕ) → j ≢ 0 → asked_as stores t c j ≡ mail_labels stores 0 t j (mail_in c.outbox.mails j)
+asked_mail stores t c zero some = absurd (some refl)
+asked_mail stores t c (suc k) some = refl
+
+module _ (m m' : Kept) (l : Label) (more : ℕ) (moves : Moves m m' l more) where
+  abbrev p : Path
+  p = path_of l.act
+
+  abbrev t : ℕ
+  t = ticket_of l.act
+
+  pair : (P : Option Stores → Option Stores → Type 0) (h : ℕ) → P None None → ((st st' : Stores) → slice_get m.stores h ≡ Some st → slice_get m'.stores h ≡ Some st' → P (Some st) (Some st')) → P (slice_get m.stores h) (slice_get m'.stores h)
+  pair P h none both = by_two (slice_get m.stores h) (slice_get m'.stores h) refl refl
+    where
+      many : length m'.stores ≡ length m.stores
+      many = moves.others.as_many_stores
+
+      by_two : (o o' : Option Stores) → slice_get m.stores h ≡ o → slice_get m'.stores h ≡ o' → P o o'
+      by_two None None e e' = none
+      by_two (Some st) (Some st') e e' = both st st' e e'
+      by_two None (Some st') e e' =
+          let out = slice_none m.stores h e in
+          let within = slice_get_within m'.stores h st' e' in
+          let same = many in
+          absurd (omega (arith, out, within, same))
+      by_two (Some st) None e e' =
+          let out = slice_none m'.stores h e' in
+          let within = slice_get_within m.stores h st e in
+          let same = many in
+          absurd (omega (arith, out, within, same))
+
+  answers : (h : ℕ) (q : Path) → ((h ≡ l.host) × (q ≡ p) → ⊥) → Answer (slice_get m.stores h) (slice_get m'.stores h) q
+  answers h q apart = pair (λ o o'. Answer o o' q) h tt (λ st st' e e'. moves.others.stores h q st st' apart e e')
+
+  -- it is the label's own context at its host, or not
+  own_or : (h : ℕ) (q : Path) → ((h ≡ l.host) × (q ≡ p)) ⊎ ((h ≡ l.host) × (q ≡ p) → ⊥)
+  own_or h q = by_host (number_cases h l.host)
+    where
+      by_path : h ≡ l.host → (q ≡ p) ⊎ (path_eq q p ≡ false) → ((h ≡ l.host) × (q ≡ p)) ⊎ ((h ≡ l.host) × (q ≡ p) → ⊥)
+      by_path e (inl f) = inl (e, f)
+      by_path e (inr f) = inr (λ both. true≢false (sym (path_self q) ∙ ap (path_eq q) both.1 ∙ f))
+
+      by_host : (h ≡ l.host) ⊎ ((h == l.host) ≡ false) → ((h ≡ l.host) × (q ≡ p)) ⊎ ((h ≡ l.host) × (q ≡ p) → ⊥)
+      by_host (inl e) = by_path e (path_cases q p)
+      by_host (inr d) = inr (λ both. not_same h l.host d both.0)
+
+  -- the cells of another ticket, before and after
+  record TwoCells (u : ℕ) : Type 0 where
+    old : Cell Actor
+    new : Cell Actor
+    old_is : cell_at m u ≡ Some old
+    new_is : cell_at m' u ≡ Some new
+    asks : AsksAs old new
+
+  two_cells : (grown l.act ≡ 1 → ticket_of l.act ≡ m.first + length m.cells) → (u : ℕ) → m'.first ≤ u → u < m'.first + length m'.cells → u ≢ ticket_of l.act → TwoCells u
+  two_cells grows u low high apart =
+      let first = moves.others.first in
+      let many = moves.as_many in
+      let few = grown_few l.act in
+      let old_low : m.first ≤ u = omega (arith, low, first) in
+      let old_high : u - m.first < length m.cells = within first many few in
+      let some = slice_some m.cells (u - m.first) old_high in
+      let some' = slice_some m'.cells (u - m'.first) (omega (arith, low, high)) in
+      let place : u - m'.first ≡ u - m.first = ap (λ n. u - n) first in
+      let at' : slice_get m'.cells (u - m.first) ≡ Some some'.0 = ap (slice_get m'.cells) (sym place) ∙ some'.1 in
+      let here' : m.first + (u - m.first) ≡ u = omega (arith, old_low) in
+      record {
+        old = some.0;
+        new = some'.0;
+        old_is = cell_is m u old_low ∙ some.1;
+        new_is = cell_is m' u low ∙ some'.1;
+        asks = moves.others.cells (u - m.first) some.0 some'.0 (λ e. apart (sym here' ∙ e)) some.1 at';
+      }
+    where
+      within : m'.first ≡ m.first → length m'.cells ≡ grown l.act + length m.cells → grown l.act ≤ 1 → u - m.first < length m.cells
+      within first many few = elim (number_cases (grown l.act) 1) [
+        | inl one ↦
+            let t = grows one in
+            let apart_t : u ≢ m.first + length m.cells = λ e. apart (e ∙ sym t) in
+            omega (arith, first, many, one, low, high, apart_t)
+        | inr d ↦
+            let zero_is : grown l.act ≢ 1 = not_same (grown l.act) 1 d in
+            omega (arith, first, many, few, zero_is, low, high)
+      ]
+
+  module _ (here : has_at p (slice_get m'.stores l.host) ≡ has_at p (slice_get m.stores l.host)) where
+    has_same : (h : ℕ) (q : Path) → has_at q (slice_get m'.stores h) ≡ has_at q (slice_get m.stores h)
+    has_same h q = elim (own_or h q) [
+      | inl own ↦ (λ i. has_at (own.1 i) (slice_get m'.stores (own.0 i))) ∙ here ∙ (λ i. has_at (sym own.1 i) (slice_get m.stores (sym own.0 i)))
+      | inr apart ↦ has_by q (slice_get m.stores h) (slice_get m'.stores h) (answers h q apart)
+    ]
+
+    place_still : (q : Path) → place_in m'.stores q ≡ place_in m.stores q
+    place_still q = position_same (has q) m.stores m'.stores moves.others.as_many_stores (λ i x y e e'. ap (has_at q) (sym e') ∙ has_same i q ∙ ap (has_at q) e)
+
+    -- an Enter goes the same way
+    route_has : (st : Stores) (f : ℕ) → has p st ≡ true → route_at (Some st) p f ≡ Deliver
+    route_has st f e = ap (λ b. if b then Deliver else route_by (option_map mark_of (table.get st.gone p)) f) (some_map entry_of (table.get st.store p) ∙ e)
+
+    route_away : (st : Stores) (f : ℕ) → has p st ≡ false → route_at (Some st) p f ≡ route_by (option_map mark_of (table.get st.gone p)) f
+    route_away st f e = ap (λ b. if b then Deliver else route_by (option_map mark_of (table.get st.gone p)) f) (some_map entry_of (table.get st.store p) ∙ e)
+
+    route_own : (f : ℕ) → route_at (slice_get m'.stores l.host) p f ≡ route_at (slice_get m.stores l.host) p f
+    route_own f = pair (λ o o'. has_at p o' ≡ has_at p o → route_at o' p f ≡ route_at o p f) l.host (λ e. refl) both here
+      where
+        both : (st st' : Stores) → slice_get m.stores l.host ≡ Some st → slice_get m'.stores l.host ≡ Some st' → has p st' ≡ has p st → route_at (Some st') p f ≡ route_at (Some st) p f
+        both st st' e e' same = by_has (has p st) refl
+          where
+            by_has : (b : Bool) → has p st ≡ b → route_at (Some st') p f ≡ route_at (Some st) p f
+            by_has true y = route_has st' f (same ∙ y) ∙ sym (route_has st f y)
+            by_has false n = route_away st' f (same ∙ n) ∙ ap (λ g. route_by (option_map mark_of g) f) (moves.mark st st' e e' n (same ∙ n)) ∙ sym (route_away st f n)
+
+    route_same : (h : ℕ) (q : Path) (f : ℕ) → route_at (slice_get m'.stores h) q f ≡ route_at (slice_get m.stores h) q f
+    route_same h q f = elim (own_or h q) [
+      | inl own ↦ (λ i. route_at (slice_get m'.stores (own.0 i)) (own.1 i) f) ∙ route_own f ∙ (λ i. route_at (slice_get m.stores (sym own.0 i)) (sym own.1 i) f)
+      | inr apart ↦ route_with q f (slice_get m.stores h) (slice_get m'.stores h) (answers h q apart)
+    ]
+
+    act_same : (u k h : ℕ) (q : Path) (x : Letter) → mail_act m'.stores u k h q x ≡ mail_act m.stores u k h q x
+    act_same u k h q (letter.Enter number followed peek) = ap (enter_act u k q) (route_same h q followed)
+    act_same u k h q letter.Visit = refl
+    act_same u k h q letter.Back = refl
+    act_same u k h q letter.Release = refl
+    act_same u k h q (letter.Transfer e) = refl
+
+    mail_same : (u k : ℕ) (o : Option Envelope) → mail_labels m'.stores 0 u k o ≡ mail_labels m.stores 0 u k o
+    mail_same u k None = refl
+    mail_same u k (Some e) = ap (label_at 0 e.to.0) (act_same u k e.to.0 e.path e.letter)
+
+    module _ (u : ℕ) (before : next_at p (slice_get m.stores l.host) ≡ Some u → ⊥) (after : next_at p (slice_get m'.stores l.host) ≡ Some u → ⊥) where
+      next_same : (h : ℕ) (q : Path) → is_next u q (slice_get m'.stores h) ≡ is_next u q (slice_get m.stores h)
+      next_same h q = elim (own_or h q) [
+        | inl own ↦
+            (λ i. is_next u (own.1 i) (slice_get m'.stores (own.0 i)))
+            ∙ next_false u p (slice_get m'.stores l.host) after
+            ∙ sym (next_false u p (slice_get m.stores l.host) before)
+            ∙ (λ i. is_next u (sym own.1 i) (slice_get m.stores (sym own.0 i)))
+        | inr apart ↦ next_by u q (slice_get m.stores h) (slice_get m'.stores h) (answers h q apart)
+      ]
+
+      status_same : (st : Status) → status_labels m'.stores 0 u st ≡ status_labels m.stores 0 u st
+      status_same status.Travelling = refl
+      status_same (status.Running q) = refl
+      status_same status.Ended = refl
+      status_same (status.Waiting q) = ap (grant_labels m'.stores 0 u q) (place_still q) ∙ by_place (place_in m.stores q)
+        where
+          by_place : (o : Option ℕ) → grant_labels m'.stores 0 u q o ≡ grant_labels m.stores 0 u q o
+          by_place None = refl
+          by_place (Some h) = ap (λ b. if b then record { worker = 0; host = h; act = Grant u q } ∷ [] else []) (next_same h q)
+      status_same (status.Ready q) = ap (start_labels m'.stores 0 u q) (place_still q) ∙ by_place (place_in m.stores q)
+        where
+          by_place : (o : Option ℕ) → start_labels m'.stores 0 u q o ≡ start_labels m.stores 0 u q o
+          by_place None = refl
+          by_place (Some h) = refl
+
+      asked_same : (c c' : Cell Actor) → AsksAs c c' → asked_of m'.stores u c' ≡ asked_of m.stores u c
+      asked_same c c' a =
+          (λ i. status_labels m'.stores 0 u (a.status i) ++ flat_map (λ k. mail_labels m'.stores 0 u k (mail_in (a.mails i) k)) (tickets_from 1 (a.sent i)))
+          ∙ (λ i. status_same c.status i ++ flat_same (λ k. mail_labels m'.stores 0 u k (mail_in c.outbox.mails k)) (λ k. mail_labels m.stores 0 u k (mail_in c.outbox.mails k)) (λ k. mail_same u k (mail_in c.outbox.mails k)) (tickets_from 1 c.outbox.sent) i)
+
+      -- another ticket asks for the same
+      pub others_ask : (grown l.act ≡ 1 → ticket_of l.act ≡ m.first + length m.cells) → m'.first ≤ u → u < m'.first + length m'.cells → u ≢ ticket_of l.act → asked_at m u ≡ asked_at m' u
+      others_ask grows low high apart =
+          let it = two_cells grows u low high apart in
+          ap (asked_by m.stores u) it.old_is ∙ sym (asked_same it.old it.new it.asks) ∙ sym (ap (asked_by m'.stores u) it.new_is)
+
+    -- and so does each of its numbers; 0 is the status of who neither was nor is next
+    pub others_slot : (grown l.act ≡ 1 → ticket_of l.act ≡ m.first + length m.cells) → (u j : ℕ) → m'.first ≤ u → u < m'.first + length m'.cells → u ≢ ticket_of l.act
+        → (j ≡ 0 → next_at p (slice_get m.stores l.host) ≡ Some u → ⊥) → (j ≡ 0 → next_at p (slice_get m'.stores l.host) ≡ Some u → ⊥) → slot_at m u j ≡ slot_at m' u j
+    others_slot grows u j low high apart before after =
+        let it = two_cells grows u low high apart in
+        ap (slot_by m.stores u j) it.old_is ∙ sym (by_number j before after it.old it.new it.asks) ∙ sym (ap (slot_by m'.stores u j) it.new_is)
+      where
+        by_number : (j : ℕ) → (j ≡ 0 → next_at p (slice_get m.stores l.host) ≡ Some u → ⊥) → (j ≡ 0 → next_at p (slice_get m'.stores l.host) ≡ Some u → ⊥) → (c c' : Cell Actor) → AsksAs c c' → asked_as m'.stores u c' j ≡ asked_as m.stores u c j
+        by_number zero before after c c' a = ap (status_labels m'.stores 0 u) a.status ∙ status_same u (before refl) (after refl) c.status
+        by_number (suc k) before after c c' a = ap (λ ms. mail_labels m'.stores 0 u (suc k) (mail_in ms (suc k))) a.mails ∙ mail_same u (suc k) (mail_in c.outbox.mails (suc k))
+
+    -- of the label's ticket each mail that was sent before, but the label's own, asks for the same
+    pub own_slot : KeepsMails m m' l → (j : ℕ) → m'.first ≤ ticket_of l.act → ticket_of l.act < m'.first + length m'.cells → j ≢ 0 → j ≢ number_of l.act → j ≤ sent_at m (ticket_of l.act) → slot_at m (ticket_of l.act) j ≡ slot_at m' (ticket_of l.act) j
+    own_slot keeps j low high some apart within = by_cell (cell_at m t) refl
+      where
+        by_cell : (o : Option (Cell Actor)) → cell_at m t ≡ o → slot_at m t j ≡ slot_at m' t j
+        by_cell None e = absurd (let none : sent_at m (ticket_of l.act) ≡ 0 = ap sent_by e in omega (arith, none, within, some))
+        by_cell (Some c) e =
+            let first = moves.others.first in
+            let there = cell_there m t c e in
+            let new = slice_some m'.cells (t - m'.first) (omega (arith, low, high)) in
+            let place : t - m'.first ≡ t - m.first = ap (λ n. t - n) first in
+            let old_low = there.low in
+            let here' : m.first + (t - m.first) ≡ t = omega (arith, old_low) in
+            let sent : sent_at m (ticket_of l.act) ≡ c.outbox.sent = ap sent_by e in
+            let small : j ≤ c.outbox.sent = omega (arith, within, sent) in
+            let kept = keeps.kept (t - m.first) c new.0 here' there.at (ap (slice_get m'.cells) (sym place) ∙ new.1) j small apart m'.stores in
+            ap (slot_by m.stores t j) e
+            ∙ asked_mail m.stores t c j some
+            ∙ sym (mail_same t j (mail_in c.outbox.mails j))
+            ∙ sym kept
+            ∙ sym (asked_mail m'.stores t new.0 j some)
+            ∙ sym (ap (slot_by m'.stores t j) (cell_is m' t low ∙ new.1))

@@ -1,0 +1,345 @@
+-- The list of what can be done, as it is kept from label to label: its order, the parts in which it is searched, and what each ticket has in it.
+use Rattle.std.specs.Prelude.{◌≡◌, ◌≢◌, ◌≤◌, ◌<◌, ◌+◌, ◌^◌, ◌-◌, ◌&&◌, ◌||◌, ◌==◌, ℕ, zero, suc, Bool, true, false, if◌then◌else◌, List, [], ◌∷◌, ◌++◌, filter, flat_map, length, map, nat_lt, not, Option, Some, None, option_map, slice_get, vec_len, vec_capacity}
+use Rattle.std.specs.List.{AllByRecursion}
+use Rattle.std.specs.FinMap as table
+use Rattle.wave_base.specs.declared.numbers.Ticket.{Ticket}
+use Rattle.wave_base.specs.declared.path.Path.{Path}
+use Rattle.wave_base.specs.declared.start.Start.{Start}
+use Rattle.wave_base.specs.Fold.{tickets_from}
+use Rattle.wave_labels.specs.declared.label.Label as program
+use Rattle.wave_labels.specs.Labels.{act_of}
+use Rattle.context_queue.specs.declared.entry.Entry.{Entry}
+use Rattle.context_queue.specs.Entries.{entry_of, next_in}
+use Rattle.event_cells.specs.declared.cell.Cell.{Cell}
+use Rattle.event_cells.specs.Keeps.{mail_in}
+use Rattle.host_map.specs.Stores.{Stores, has}
+use Rattle.wave_states.specs.Labels.{Act, Label, Admit, Queue, Visit, Free, Pass, Land, Commit, path_of, ticket_of}
+use Rattle.wave_theory.specs.Listed.{IsIn, kind_of}
+use Rattle.wave_machine.specs.declared.actor.Actor.{Actor}
+use Rattle.wave_machine.specs.declared.listed.Listed.{Listed}
+use Rattle.wave_machine.specs.declared.listed.Seen.{Seen}
+use Rattle.wave_machine.specs.declared.prepared.Prepared.{Prepared}
+use Rattle.wave_machine.specs.declared.ready.Ready.{Ready}
+use Rattle.wave_machine.specs.Ending.{is_done}
+use Rattle.wave_machine.specs.Keeping.{kept_of}
+use Rattle.wave_machine.specs.Machines.{Kept, Stands, TheState}
+use Rattle.wave_machine.specs.inner.Apart.{Moves, grown}
+use Rattle.wave_machine.specs.inner.Asking.{IsNumbered, admit_labels, commit_labels, in_order, label_at, mail_labels, mails_labels, status_labels}
+use Rattle.wave_machine.specs.inner.Done.{AreDone}
+
+-- as worker 0 takes it
+abbrev pub by_none : Ready → Label
+by_none r = record { worker = 0; host = r.host.0; act = act_of r.act }
+
+-- ---- places
+
+-- the number of a label's mail; 0 where it has none
+abbrev pub number_of : Act → ℕ
+number_of (Queue t k p) = k
+number_of (Visit t k p) = k
+number_of (Free t k p) = k
+number_of (Pass t k p g) = k
+number_of (Land t k p) = k
+number_of _ = 0
+
+-- a slot is a ticket t and a number k; it comes before another by ticket, and of a ticket by number
+abbrev pub is_before : ℕ → ℕ → ℕ → ℕ → Bool
+is_before t k u j = nat_lt t u || ((t == u) && nat_lt k j)
+
+-- it comes before those of a kind whose slots are from this one on
+abbrev pub under : ℕ → ℕ → ℕ → Act → Bool
+under kind t k a = nat_lt (kind_of a) kind || ((kind_of a == kind) && is_before (ticket_of a) (number_of a) t k)
+
+-- it is of a kind and a slot
+abbrev pub is_of : ℕ → ℕ → ℕ → Option Ready → Bool
+is_of kind t k None = false
+is_of kind t k (Some r) = (kind_of (act_of r.act) == kind) && ((ticket_of (act_of r.act) == t) && (number_of (act_of r.act) == k))
+
+-- the list in two parts: what comes before those of a kind whose slots are from this one on, and the rest
+pub record Parted (ls : List Label) (kind t k : ℕ) (low high : List Label) : Type 0 where
+  pub all : ls ≡ low ++ high
+  pub lower : AllByRecursion (λ (l : Label). under kind t k l.act ≡ true) low
+  pub higher : AllByRecursion (λ (l : Label). under kind t k l.act ≡ false) high
+
+-- a number from one to another
+pub record Between (a n b : ℕ) : Type 0 where
+  pub above : a ≤ n
+  pub under : n ≤ b
+
+-- the slot (t, k) is before the slot (u, j), or it is that one or before it
+pub record IsBefore (t k u j : ℕ) : Type 0 where
+  pub ticket : t ≤ u
+  pub number : t ≡ u → k < j
+
+pub record IsUpTo (t k u j : ℕ) : Type 0 where
+  pub ticket : t ≤ u
+  pub number : t ≡ u → k ≤ j
+
+-- the slots of a kind are below one, or from it on
+abbrev pub Low : ℕ → ℕ → ℕ → Label → Type 0
+Low kind t k l = kind_of l.act ≡ kind → IsBefore (ticket_of l.act) (number_of l.act) t k
+
+abbrev pub High : ℕ → ℕ → ℕ → Label → Type 0
+High kind t k l = kind_of l.act ≡ kind → IsUpTo t k (ticket_of l.act) (number_of l.act)
+
+-- worker 0's, of which its kind has only lower slots before it, and none of them behind it
+abbrev pub Goes : List Label → List Label → List Label → Type 0
+Goes [] u v = Unit {0}
+Goes (l ∷ ls) u v = (l.worker ≡ 0) × (AllByRecursion (Low (kind_of l.act) (ticket_of l.act) (number_of l.act)) u × AllByRecursion (High (kind_of l.act) (ticket_of l.act) (number_of l.act)) v)
+
+-- ---- what a ticket has in the list: under number 0 what its status asks for, under the others what its mails ask for
+
+-- a status asks for a Grant or a Start; a mail asks for a Queue, Visit, Free, Pass or Land
+abbrev pub kinds_at : ℕ → List ℕ
+kinds_at zero = 2 ∷ 4 ∷ []
+kinds_at (suc k) = 1 ∷ 3 ∷ 6 ∷ 7 ∷ 8 ∷ []
+
+-- a slot's, as worker 0 takes it
+pub record IsOwn (t k : ℕ) (l : Label) : Type 0 where
+  pub worker : l.worker ≡ 0
+  pub ticket : ticket_of l.act ≡ t
+  pub number : number_of l.act ≡ k
+  pub kind : IsIn (kinds_at k) (kind_of l.act)
+
+-- neither an Admit nor a Commit, which the head asks for
+abbrev pub IsInner : Label → Type 0
+IsInner l = (1 ≤ kind_of l.act) × (kind_of l.act ≤ 8)
+
+-- what slots ask for is below one, or from it on
+abbrev pub IsBelow : ℕ → ℕ → Label → Type 0
+IsBelow t k l = IsInner l → IsBefore (ticket_of l.act) (number_of l.act) t k
+
+abbrev pub IsFrom : ℕ → ℕ → Label → Type 0
+IsFrom t k l = IsInner l → IsUpTo t k (ticket_of l.act) (number_of l.act)
+
+abbrev pub Below : ℕ → ℕ → List Label → Type 0
+Below t k ls = AllByRecursion (IsBelow t k) ls
+
+abbrev pub From : ℕ → ℕ → List Label → Type 0
+From t k ls = AllByRecursion (IsFrom t k) ls
+
+-- these were added, of a ticket's slots from one number on
+pub record Lists (t k : ℕ) (old new : List Ready) (x : List Label) : Type 0 where
+  pub parts : (u v : List Label) → Below t k u → From (t + 1) 0 v → map by_none old ≡ in_order (u ++ v) → map by_none new ≡ in_order ((u ++ x) ++ v)
+
+-- what a slot had of a kind was taken out
+abbrev pub without : ℕ → List Label → List Label
+without kind ls = filter (λ (l : Label). not (kind_of l.act == kind)) ls
+
+pub record CutsKind (kind t k : ℕ) (old new : List Ready) : Type 0 where
+  pub parts : (u x v : List Label) → Below t k u → AllByRecursion (IsOwn t k) x → length x ≤ 1 → From t (k + 1) v → map by_none old ≡ in_order (u ++ (x ++ v)) → map by_none new ≡ in_order (u ++ (without kind x ++ v))
+
+-- what a slot had was taken out
+pub record Cuts (t k : ℕ) (old new : List Ready) : Type 0 where
+  pub parts : (u x v : List Label) → Below t k u → AllByRecursion (IsOwn t k) x → length x ≤ 1 → From t (k + 1) v → map by_none old ≡ in_order (u ++ (x ++ v)) → map by_none new ≡ in_order (u ++ v)
+
+abbrev pub asked_of : List Stores → ℕ → Cell Actor → List Label
+asked_of stores t c = status_labels stores 0 t c.status ++ mails_labels stores 0 t c.outbox
+
+abbrev pub asked_by : List Stores → ℕ → Option (Cell Actor) → List Label
+asked_by stores t None = []
+asked_by stores t (Some c) = asked_of stores t c
+
+-- the cell of a ticket, where it was admitted in this run
+abbrev pub cell_at : Kept → ℕ → Option (Cell Actor)
+cell_at m t = if nat_lt t m.first then None else slice_get m.cells (t - m.first)
+
+abbrev pub asked_at : Kept → ℕ → List Label
+asked_at m t = asked_by m.stores t (cell_at m t)
+
+-- what a number of a ticket asks for
+abbrev pub asked_as : List Stores → ℕ → Cell Actor → ℕ → List Label
+asked_as stores t c zero = status_labels stores 0 t c.status
+asked_as stores t c (suc k) = mail_labels stores 0 t (suc k) (mail_in c.outbox.mails (suc k))
+
+abbrev pub slot_by : List Stores → ℕ → ℕ → Option (Cell Actor) → List Label
+slot_by stores t k None = []
+slot_by stores t k (Some c) = asked_as stores t c k
+
+abbrev pub slot_at : Kept → ℕ → ℕ → List Label
+slot_at m t k = slot_by m.stores t k (cell_at m t)
+
+-- how many numbers a ticket has
+abbrev pub numbers_in : Option (Cell Actor) → ℕ
+numbers_in None = 0
+numbers_in (Some c) = 1 + c.outbox.sent
+
+-- what all tickets of the run have in the list, by ticket; and by ticket and number
+abbrev pub by_part : Kept → (ℕ → List Label) → List Label
+by_part m part = flat_map part (tickets_from m.first (length m.cells))
+
+abbrev pub by_slot : Kept → (ℕ → ℕ → List Label) → List Label
+by_slot m part = by_part m (λ t. flat_map (part t) (tickets_from 0 (numbers_in (cell_at m t))))
+
+-- and one number that has something else
+abbrev pub with_slot : (ℕ → ℕ → List Label) → ℕ → ℕ → List Label → ℕ → ℕ → List Label
+with_slot part t k ls u j = if (u == t) && (j == k) then ls else part u j
+
+-- each has one at most, its own
+pub record AreOwn (part : ℕ → ℕ → List Label) : Type 0 where
+  pub own : (u j : ℕ) → AllByRecursion (IsOwn u j) (part u j)
+  pub one : (u j : ℕ) → length (part u j) ≤ 1
+
+-- what a head asks for: an Admit at most, and a Commit at most
+abbrev pub head_of : Option ℕ → Option ℕ → List Label
+head_of o p = label_at 0 0 (option_map (λ t. Admit t) o) ++ label_at 0 0 (option_map (λ t. Commit t) p)
+
+pub record IsHead (h : List Label) : Type 0 where
+  pub admit : Option ℕ
+  pub commit : Option ℕ
+  pub are : h ≡ head_of admit commit
+
+-- what a number of a ticket has in the list is now what it asks for; the head's stays
+pub record Relists (m : Kept) (t k : ℕ) (old new : List Ready) : Type 0 where
+  pub parts : (h : List Label) → IsHead h → (part : ℕ → ℕ → List Label) → AreOwn part → map by_none old ≡ in_order (h ++ by_slot m part) → map by_none new ≡ in_order (h ++ by_slot m (with_slot part t k (slot_at m t k)))
+
+-- what its status asks for, and one of its mails (number 0 where there is none)
+abbrev pub with_own : Kept → ℕ → ℕ → (ℕ → ℕ → List Label) → ℕ → ℕ → List Label
+with_own m t k part = with_slot (with_slot part t 0 (slot_at m t 0)) t k (slot_at m t k)
+
+pub record RelistsOwn (m : Kept) (t k : ℕ) (old new : List Ready) : Type 0 where
+  pub parts : (h : List Label) → IsHead h → (part : ℕ → ℕ → List Label) → AreOwn part → map by_none old ≡ in_order (h ++ by_slot m part) → map by_none new ≡ in_order (h ++ by_slot m (with_own m t k part))
+
+-- of the next in a line its status, where there is one
+abbrev pub with_next : Kept → Option ℕ → (ℕ → ℕ → List Label) → ℕ → ℕ → List Label
+with_next m None part = part
+with_next m (Some t) part = with_slot part t 0 (slot_at m t 0)
+
+pub record RelistsNext (m : Kept) (next : Option ℕ) (old new : List Ready) : Type 0 where
+  pub parts : (h : List Label) → IsHead h → (part : ℕ → ℕ → List Label) → AreOwn part → map by_none old ≡ in_order (h ++ by_slot m part) → map by_none new ≡ in_order (h ++ by_slot m (with_next m next part))
+
+-- of a ticket the mails whose numbers are above one
+abbrev pub with_above : Kept → ℕ → ℕ → (ℕ → ℕ → List Label) → ℕ → ℕ → List Label
+with_above m t n part u j = if (u == t) && nat_lt n j then slot_at m t j else part u j
+
+-- where those had nothing in the list
+pub record ListsNew (m : Kept) (t n : ℕ) (old new : List Ready) : Type 0 where
+  pub parts : (h : List Label) → IsHead h → (part : ℕ → ℕ → List Label) → AreOwn part → ((j : ℕ) → n < j → part t j ≡ []) → map by_none old ≡ in_order (h ++ by_slot m part) → map by_none new ≡ in_order (h ++ by_slot m (with_above m t n part))
+
+-- A label of a ticket, on its mail of number k (0 where it is on none), before which the ticket had sent n mails: what the status asks
+-- for, what that mail asks for, what the mails sent by it ask for, and what the statuses of who was and is next ask for.
+pub record RelistsNear (m : Kept) (t k n : ℕ) (before after : Option ℕ) (old new : List Ready) : Type 0 where
+  pub parts : (h : List Label) → IsHead h → (part : ℕ → ℕ → List Label) → AreOwn part → ((j : ℕ) → n < j → part t j ≡ []) → k ≤ n → map by_none old ≡ in_order (h ++ by_slot m part)
+      → map by_none new ≡ in_order (h ++ by_slot m (with_next m after (with_next m before (with_above m t n (with_own m t k part)))))
+
+-- the Admit of the next ticket stands there
+abbrev pub is_admit : Option Ticket → Option Ready → Bool
+is_admit None r = false
+is_admit (Some t) r = is_of 0 t.0 0 r
+
+-- what the head asks for
+abbrev pub head_in : Kept → List Label
+head_in m = admit_labels 0 m.head ++ commit_labels 0 (m.first + length m.settled.results) m.commits
+
+-- all that is asked for, in order
+abbrev pub IsIndex : Kept → List Ready → Type 0
+IsIndex m index = map by_none index ≡ in_order (head_in m ++ by_part m (asked_at m))
+
+-- ---- how long it may be
+
+-- one for the status and one for each mail; none where it is done
+abbrev pub share_of : Cell Actor → ℕ
+share_of c = if is_done c then 0 else 1 + length c.outbox.mails
+
+abbrev pub share_by : Option (Cell Actor) → ℕ
+share_by None = 0
+share_by (Some c) = share_of c
+
+abbrev pub share_at : Kept → ℕ → ℕ
+share_at m t = share_by (cell_at m t)
+
+abbrev pub weight_of : List (Cell Actor) → ℕ
+weight_of [] = 0
+weight_of (c ∷ cs) = share_of c + weight_of cs
+
+-- how many mails a ticket has sent
+abbrev pub sent_by : Option (Cell Actor) → ℕ
+sent_by None = 0
+sent_by (Some c) = c.outbox.sent
+
+abbrev pub sent_at : Kept → ℕ → ℕ
+sent_at m t = sent_by (cell_at m t)
+
+-- how many contexts a ticket holds
+abbrev pub held_by : Option (Cell Actor) → ℕ
+held_by None = 0
+held_by (Some c) = length c.held.holds
+
+abbrev pub held_at : Kept → ℕ → ℕ
+held_at m t = held_by (cell_at m t)
+
+-- ---- what is kept
+
+pub record IsListed (x : Listed) : Type 0 where
+  pub index : IsIndex (kept_of x.engine) x.index.items
+  pub done : AreDone (kept_of x.engine) x.done
+  pub weight : weight_of (kept_of x.engine).cells ≤ x.weight
+
+-- Room for what a label lists anew: what the status and the mail of its ticket, and the statuses of who was and is next, ask for; what
+-- the mails ask for that came, or all; and the head.
+pub record HasRoom (x : Listed) (more : ℕ) : Type 0 where
+  pub room : vec_len x.index + (x.weight + more + 8) ≤ vec_capacity x.index
+  pub fits : x.weight + more + 2 < 2 ^ 64
+
+-- ---- what is looked at before a label is taken
+
+abbrev pub next_of : Option Entry → Option ℕ
+next_of None = None
+next_of (Some e) = option_map (λ c. c.ticket) (next_in (entry_of e))
+
+abbrev pub next_at : Path → Option Stores → Option ℕ
+next_at p None = None
+next_at p (Some st) = next_of (table.get st.store p)
+
+abbrev pub has_at : Path → Option Stores → Bool
+has_at p None = false
+has_at p (Some st) = has p st
+
+pub record Sees (m : Kept) (host t : ℕ) (p : Path) (seen : Seen) : Type 0 where
+  pub next : option_map (λ t. t.0) seen.next ≡ next_at p (slice_get m.stores host)
+  pub here : seen.here ≡ has_at p (slice_get m.stores host)
+  pub share : seen.share ≡ share_at m t
+  pub sent : seen.sent ≡ sent_at m t
+
+-- The ticket's cell has the mails that it had, but for that of the label, as a listing reads them; and it has sent no fewer.
+pub record KeepsMails (m m' : Kept) (l : Label) : Type 0 where
+  pub kept : (i : ℕ) (c c' : Cell Actor) → m.first + i ≡ ticket_of l.act → slice_get m.cells i ≡ Some c → slice_get m'.cells i ≡ Some c'
+      → (j : ℕ) → j ≤ c.outbox.sent → j ≢ number_of l.act → (stores : List Stores) → mail_labels stores 0 (ticket_of l.act) j (mail_in c'.outbox.mails j) ≡ mail_labels stores 0 (ticket_of l.act) j (mail_in c.outbox.mails j)
+  pub sent : (i : ℕ) (c c' : Cell Actor) → m.first + i ≡ ticket_of l.act → slice_get m.cells i ≡ Some c → slice_get m'.cells i ≡ Some c' → c.outbox.sent ≤ c'.outbox.sent
+  pub number : number_of l.act ≤ sent_at m (ticket_of l.act)
+
+-- a label was taken, before which so much was seen
+pub record Taken (m m' : Kept) (l : Label) (seen : Seen) (more : ℕ) : Type 0 where
+  pub stands : (start : Start) × (s : TheState) × Stands m' start s
+  pub moves : Moves m m' l more
+  pub mails : KeepsMails m m' l
+  pub numbered : (i : ℕ) (c : Cell Actor) → slice_get m.cells i ≡ Some c → IsNumbered c.outbox
+  pub grows : grown l.act ≡ 1 → ticket_of l.act ≡ m.first + length m.cells
+  pub sees : Sees m l.host (ticket_of l.act) (path_of l.act) seen
+
+-- and the list is still that of what was kept before
+pub record Updating (m : Kept) (x : Listed) (l : Label) (seen : Seen) (more : ℕ) : Type 0 where
+  pub taken : Taken m (kept_of x.engine) l seen more
+  pub index : IsIndex m x.index.items
+  pub done : AreDone (kept_of x.engine) x.done
+  pub weight : weight_of m.cells ≤ x.weight
+  pub room : HasRoom x more
+
+-- more room was made, and else nothing
+pub record SameList (x y : Listed) : Type 0 where
+  pub engine : y.engine ≡ x.engine
+  pub items : y.index.items ≡ x.index.items
+  pub done : y.done ≡ x.done
+  pub weight : y.weight ≡ x.weight
+  pub len : vec_len y.index ≡ vec_len x.index
+  pub capacity : vec_capacity x.index ≤ vec_capacity y.index
+
+-- room for the label for which a machine is reserved
+abbrev pub RoomFor : Listed → Option (program.Label × Prepared) → Type 0
+RoomFor x None = Unit {0}
+RoomFor x (Some p) = HasRoom x 0
+
+-- one of them; none where there is none
+abbrev pub IsPickOf : List Ready → Option Ready → Type 0
+IsPickOf xs None = xs ≡ []
+IsPickOf xs (Some x) = IsIn xs x

@@ -1,0 +1,276 @@
+//! An engine with the list of what can be done, which is kept from label to label.
+
+ghost use Rattle.std.specs.Prelude.{◌≡◌, ◌≤◌, ◌+◌, ℕ, Some, true, length, slice_get, IfOk, IfErr, OnOk, OnErr};
+ghost use Rattle.wave_base.specs.declared.start.Start as start;
+ghost use Rattle.wave_labels.specs.Labels.{label_of};
+ghost use Rattle.script_fold.specs.Runs.{finished_of};
+ghost use Rattle.wave_states.specs.Begins.{start_state};
+ghost use Rattle.wave_states.specs.Runs as runs;
+ghost use Rattle.plan_actors.specs.Calls.{code_ran};
+ghost use Rattle.plan_actors.specs.PlanActors.{plan_actors};
+ghost use Rattle.plan_actors.specs.Plans.{Fits, FitsStart, begin_in};
+ghost use Rattle.wave_machine.specs.Actors.{MayRun};
+ghost use Rattle.wave_machine.specs.Keeping.{kept_of};
+ghost use Rattle.wave_machine.specs.Machines.{IsEnabled, Keeps, Kept, Stands, Takes, TheState};
+ghost use Rattle.wave_machine.specs.Plans.{plan_of};
+ghost use Rattle.wave_machine.specs.Prepared.{is_start, is_step};
+ghost use Rattle.wave_machine.specs.Running.{CanStop, IsStopping, Leases, Stops, stop_of};
+ghost use Rattle.wave_machine.specs.inner.Asking.{place_in};
+ghost use Rattle.wave_machine.specs.inner.Index.{HasRoom, IsListed, SameList, Sees, Updating, held_at};
+ghost use Rattle.wave_machine.specs.inner.Made.{IsPart};
+ghost use Rattle.wave_machine.specs.inner.Spare.{IsAsLong, SameButRooms};
+
+use crate::done::done_stays;
+use crate::engine::Engine;
+use crate::hands::segments_are_known;
+use crate::index::ticket_of;
+use crate::known::heads_are_known;
+use crate::laws::states_are_known;
+use crate::lease::Lease;
+use crate::plan::Plan;
+use crate::prepared::Prepared;
+use crate::ready::Ready;
+use crate::refused::Refused;
+use crate::relisting::path_of;
+use host_map::{HostStore, place_of};
+use std::alloc::Global;
+use wave_base::{Finished, Host, OutOfMemory, Path, Pause, Start, Ticket};
+use wave_labels::Label;
+
+/// An engine, and in canonical order what can be done by an idle worker. A label changes what the status of its ticket asks for, its own
+/// mail and those that it sends, and what whoever is next in the line of its context asks for; where the context comes or goes, all
+/// tickets are listed anew.
+#[derive(Drop)]
+pub(crate) struct Listed<'p> {
+    pub(crate) engine: Engine<'p>,
+    pub(crate) index: Vec<Ready>,
+    // so many of the first tickets are done
+    pub(crate) done: usize,
+    // the index is never longer, but for the head's two entries
+    weight: usize,
+}
+
+// What is looked at before a label is taken: who is next in the line of its context, whether the context is there, the share of its
+// ticket, and how many mails that has sent.
+#[derive(Clone, Copy)]
+pub(crate) struct Seen {
+    pub(crate) next: Option<Ticket>,
+    pub(crate) here: bool,
+    pub(crate) share: usize,
+    pub(crate) sent: u32,
+}
+
+impl<'p> Listed<'p> {
+    // Where a run begins.
+    pub(crate) fn new_at(
+        alloc: Global,
+        plan: &'p Plan,
+        start: &Start,
+    ) -> Result<Listed<'p>, OutOfMemory>
+        requires fits { Fits (plan_of plan.now) }
+        requires begins { FitsStart (plan_of plan.now) start.now }
+        ensures stands { IfOk result (λ x. Stands (kept_of x.engine) start.now (start_state (begin_in (plan_of plan.now) start.now) plan.now.script.batches)) }
+        ensures plan { IfOk result (λ x. (kept_of x.engine).plan ≡ plan_of plan.now) }
+        ensures listed { IfOk result (λ x. IsListed x) }
+    {
+        states_are_known();
+        heads_are_known();
+        let engine = Engine::new_at(alloc, plan, start)?;
+        let mut index = Vec::new(alloc);
+        index.reserve(2)?;
+        engine.relist_head(&mut index);
+        Ok(Listed {
+            engine,
+            index,
+            done: 0,
+            weight: 0,
+        })
+    }
+
+    // What a finished run gives. After want of memory all comes back as it was.
+    pub(crate) fn into_finished(self, alloc: Global) -> Result<Finished, (Listed<'p>, OutOfMemory)>
+        requires { (start : start.Start) × (s : TheState) × Stands (kept_of self.engine) start s × runs.Finished (plan_actors (kept_of self.engine).plan.program) (kept_of self.engine).plan.workers s }
+        ensures told { IfOk result (λ f. (start : start.Start) (s : TheState) → Stands (kept_of self.entry.engine) start s → f ≡ finished_of (code_ran (kept_of self.entry.engine).plan.program) (kept_of self.entry.engine).plan.program.shape start (kept_of self.entry.engine).plan.script) }
+        ensures back { IfErr result (λ e. e.0 ≡ self.entry) }
+    {
+        let Listed {
+            engine,
+            index,
+            done,
+            weight,
+        } = self;
+        match engine.into_finished(alloc) {
+            Ok(finished) => Ok(finished),
+            Err((engine, error)) => {
+                let listed = Listed {
+                    engine,
+                    index,
+                    done,
+                    weight,
+                };
+                Err((listed, error))
+            }
+        }
+    }
+
+    // Makes what a label needs.
+    pub(crate) fn prepare(&mut self, alloc: Global, label: &Label) -> Result<Prepared, OutOfMemory>
+        requires enabled { IsEnabled (kept_of self.old.engine) (label_of label.now) }
+        requires listed { IsListed self.old }
+        ensures part { IfOk result (IsPart self.new.engine label.now.host label.now.act) }
+        ensures keeps { Keeps (kept_of self.old.engine) (kept_of self.new.engine) }
+        ensures plan { self.new.engine.plan ≡ self.old.engine.plan }
+        ensures listed { IsListed self.new }
+        ensures room { OnOk result (HasRoom self.new 0) }
+    {
+        self.reserve(0)?;
+        self.engine.prepare(alloc, label)
+    }
+
+    // Makes room for what a label lists anew: all tickets, or a few entries and those of the mails that came; and the head's entries.
+    fn reserve(&mut self, more: usize) -> Result<(), OutOfMemory>
+        ensures room { OnOk result (HasRoom self.new more) }
+        ensures same { SameList self.old self.new }
+    {
+        let room = self.weight.checked_add(more).ok_or(OutOfMemory)?;
+        let room = room.checked_add(8).ok_or(OutOfMemory)?;
+        self.index.reserve(room)?;
+        Ok(())
+    }
+
+    // Takes a label that is neither a Start nor a Stop.
+    pub(crate) fn act(&mut self, label: &Label, part: Prepared)
+        requires enabled { IsEnabled (kept_of self.old.engine) (label_of label.now) }
+        requires part { IsPart self.old.engine label.now.host label.now.act part }
+        requires kind { is_step label.now.act ≡ true }
+        requires listed { IsListed self.old }
+        requires room { HasRoom self.old 0 }
+        ensures takes { Takes (kept_of self.old.engine) (kept_of self.new.engine) (label_of label.now) }
+        ensures plan { self.new.engine.plan ≡ self.old.engine.plan }
+        ensures listed { IsListed self.new }
+    {
+        states_are_known();
+        done_stays();
+        let seen = self.look(label.host, ticket_of(&label.act), &path_of(&label.act));
+        self.engine.act(label, part);
+        self.update(label, seen);
+    }
+
+    // Takes a Start.
+    pub(crate) fn act_start(&mut self, label: &Label, part: Prepared) -> Lease
+        requires enabled { IsEnabled (kept_of self.old.engine) (label_of label.now) }
+        requires part { IsPart self.old.engine label.now.host label.now.act part }
+        requires kind { is_start label.now.act ≡ true }
+        requires listed { IsListed self.old }
+        requires room { HasRoom self.old 0 }
+        ensures takes { Takes (kept_of self.old.engine) (kept_of self.new.engine) (label_of label.now) }
+        ensures leases { Leases (kept_of self.old.engine) (label_of label.now) result }
+        ensures may_run { MayRun self.new.engine.plan.now.program result.actor result.body }
+        ensures worker { result.worker ≡ label.now.worker }
+        ensures plan { self.new.engine.plan ≡ self.old.engine.plan }
+        ensures listed { IsListed self.new }
+    {
+        states_are_known();
+        done_stays();
+        let seen = self.look(label.host, ticket_of(&label.act), &path_of(&label.act));
+        let lease = self.engine.act_start(label, part);
+        self.update(label, seen);
+        lease
+    }
+
+    // Takes the Stop of a lease with its pause. After want of memory they come back.
+    pub(crate) fn stop(&mut self, lease: Lease, pause: Pause) -> Result<Label, Refused>
+        requires stopping { IsStopping (kept_of self.old.engine) lease pause }
+        requires listed { IsListed self.old }
+        ensures label { IfOk result (λ l. label_of l ≡ stop_of lease l.host.0) }
+        ensures enabled { IfOk result (λ l. CanStop (kept_of self.old.engine) lease pause l.host.0) }
+        ensures stops { IfOk result (λ l. Stops (kept_of self.old.engine) lease pause l.host.0 (kept_of self.new.engine)) }
+        ensures refused { IfErr result (λ r. (r.lease ≡ lease) × (r.pause ≡ pause)) }
+        ensures keeps { OnErr result (Keeps (kept_of self.old.engine) (kept_of self.new.engine)) }
+        ensures same { OnErr result (SameButRooms (kept_of self.old.engine) (kept_of self.new.engine)) }
+        ensures long { OnErr result (IsAsLong self.old.engine self.new.engine) }
+        ensures plan { self.new.engine.plan ≡ self.old.engine.plan }
+        ensures listed { IsListed self.new }
+        ensures room { OnErr result ((more : ℕ) → HasRoom self.old more → HasRoom self.new more) }
+    {
+        let more = self.engine.may_leave(lease.ticket);
+        match self.reserve(more) {
+            Ok(()) => self.stop_in_room(lease, pause),
+            Err(error) => Err(Refused {
+                lease,
+                pause,
+                error,
+            }),
+        }
+    }
+
+    // The same, where the index has room for it.
+    fn stop_in_room(&mut self, lease: Lease, pause: Pause) -> Result<Label, Refused>
+        requires stopping { IsStopping (kept_of self.old.engine) lease pause }
+        requires listed { IsListed self.old }
+        requires room { HasRoom self.old (1 + held_at (kept_of self.old.engine) lease.ticket.0) }
+        ensures label { IfOk result (λ l. label_of l ≡ stop_of lease l.host.0) }
+        ensures enabled { IfOk result (λ l. CanStop (kept_of self.old.engine) lease pause l.host.0) }
+        ensures stops { IfOk result (λ l. Stops (kept_of self.old.engine) lease pause l.host.0 (kept_of self.new.engine)) }
+        ensures refused { IfErr result (λ r. (r.lease ≡ lease) × (r.pause ≡ pause)) }
+        ensures keeps { OnErr result (Keeps (kept_of self.old.engine) (kept_of self.new.engine)) }
+        ensures same { OnErr result (SameButRooms (kept_of self.old.engine) (kept_of self.new.engine)) }
+        ensures long { OnErr result (IsAsLong self.old.engine self.new.engine) }
+        ensures plan { self.new.engine.plan ≡ self.old.engine.plan }
+        ensures listed { IsListed self.new }
+        ensures room { OnErr result ((more : ℕ) → HasRoom self.old more → HasRoom self.new more) }
+    {
+        states_are_known();
+        heads_are_known();
+        segments_are_known();
+        done_stays();
+        let (ticket, path) = (lease.ticket, lease.path);
+        let host = place_or_first(&self.engine.stores, &path);
+        let seen = self.look(host, ticket, &path);
+        match self.engine.stop(lease, pause) {
+            Ok(label) => {
+                self.update(&label, seen);
+                Ok(label)
+            }
+            Err(refused) => Err(refused),
+        }
+    }
+
+    fn look(&self, host: Host, ticket: Ticket, path: &Path) -> Seen
+        ensures { Sees (kept_of self.now.engine) host.0 ticket.0 path.now result }
+    {
+        Seen {
+            next: self.engine.next_at(host, path),
+            here: self.engine.has_at(host, path),
+            share: self.engine.share(ticket),
+            sent: self.engine.sent(ticket),
+        }
+    }
+
+    // Lists anew what a label that was taken has changed.
+    fn update(&mut self, label: &Label, seen: Seen)
+        requires { (m : Kept) × (more : ℕ) × Updating m self.old (label_of label.now) seen more }
+        ensures listed { IsListed self.new }
+        ensures engine { self.new.engine ≡ self.old.engine }
+    {
+        states_are_known();
+        heads_are_known();
+        let share = self.engine.share(ticket_of(&label.act));
+        self.weight = self.weight - seen.share + share;
+        self.engine
+            .relist_after(label, seen, self.done, &mut self.index);
+        self.engine.relist_head(&mut self.index);
+        self.done = self.engine.count_done(self.done);
+    }
+}
+
+// The host that has a context; the first one where none has it.
+fn place_or_first(stores: &[HostStore], path: &Path) -> Host
+    requires { length stores.now ≤ 8 }
+    ensures { (h : ℕ) → place_in stores.now path.now ≡ Some h → result.0 ≡ h }
+{
+    match place_of(stores, path) {
+        Some(host) => host,
+        None => Host(0),
+    }
+}
