@@ -1,8 +1,8 @@
 //! One of what an idle worker can do, found without a list of its own.
 
-ghost use Rattle.std.specs.Prelude.{◌≡◌, Some, None, map, slice_get};
+ghost use Rattle.std.specs.Prelude.{◌≡◌, ℕ, Some, None, map, slice_get};
 ghost use Rattle.wave_base.specs.declared.start.Start.{Start};
-ghost use Rattle.wave_states.specs.Canonical.{enabled_for};
+ghost use Rattle.wave_states.specs.Canonical.{enabled_for, taken_as};
 ghost use Rattle.plan_actors.specs.PlanActors.{plan_actors};
 ghost use Rattle.wave_machine.specs.Machines.{Stands, TheState};
 ghost use Rattle.wave_machine.specs.Picks.{IsOneOf};
@@ -25,7 +25,10 @@ impl<'p> Listed<'p> {
     pub(crate) fn ready(&self) -> &[Ready]
         requires { IsListed self.now }
         ensures ready { map choice_of result.now ≡ ready_in (kept_of self.now.engine) }
+        ensures taken { (w : ℕ) (start : Start) (s : TheState) → slice_get self.now.engine.hands.items w ≡ Some None → Stands (kept_of self.now.engine) start s → map (λ r. taken_as w (choice_of r)) result.now ≡ enabled_for (plan_actors (kept_of self.now.engine).plan.program) (kept_of self.now.engine).plan.workers (kept_of self.now.engine).plan.script.hosts s w }
     {
+        states_are_known();
+        states_list();
         self.index.as_slice()
     }
 

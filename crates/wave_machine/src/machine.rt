@@ -4,7 +4,7 @@ ghost use Rattle.wave_base.specs.declared.start.Start.{Start};
 ghost use Rattle.wave_base.specs.Starts.{first_start};
 ghost use Rattle.wave_labels.specs.Labels.{label_of};
 ghost use Rattle.wave_states.specs.Begins.{start_state};
-ghost use Rattle.wave_states.specs.Canonical.{enabled, enabled_for};
+ghost use Rattle.wave_states.specs.Canonical.{enabled, enabled_for, taken_as};
 ghost use Rattle.wave_states.specs.Runs as runs;
 ghost use Rattle.plan_actors.specs.Calls.{code_ran};
 ghost use Rattle.plan_actors.specs.PlanActors.{plan_actors};
@@ -88,9 +88,11 @@ impl<'p> Machine<'p> {
         })
     }
 
-    /// What an idle worker can do, in the canonical order, without who does it. It is kept from label to label, and takes no memory.
+    /// What an idle worker can do, or could if there were one, in the canonical order, without who does it. It is kept from label to
+    /// label, and takes no memory.
     pub fn index(&self) -> &[Ready]
-        ensures { map choice_of result.now ≡ ready_in self.now.kept }
+        ensures ready { map choice_of result.now ≡ ready_in self.now.kept }
+        ensures taken { (w : ℕ) (start : Start) (s : TheState) → slice_get self.now.kept.hands w ≡ Some None → Stands self.now.kept start s → map (λ r. taken_as w (choice_of r)) result.now ≡ enabled_for (plan_actors self.now.kept.plan.program) self.now.kept.plan.workers self.now.kept.plan.script.hosts s w }
     {
         self.listed.ready()
     }

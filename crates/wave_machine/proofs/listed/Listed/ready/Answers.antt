@@ -1,8 +1,18 @@
-use Rattle.std.proofs.Common.{◌∙◌, map, ap}
+use Rattle.std.proofs.Common.{◌≡◌, ◌∙◌, ℕ, map, ap, subst, sym}
+use Rattle.wave_states.specs.Canonical.{enabled_for, taken_as}
+use Rattle.plan_actors.specs.PlanActors.{plan_actors}
+use Rattle.wave_machine.specs.declared.ready.Ready.{Ready}
 use Rattle.wave_machine.specs.Keeping.{kept_of}
 use Rattle.wave_machine.specs.Readies.{choice_of}
-use Rattle.wave_machine.proofs.Bridged.{choices_are}
+use Rattle.wave_machine.proofs.Bridged.{choices_are, taken_is}
 use Rattle.wave_machine.proofs.listed.Listed.ready.Goals as goal
 
 pub returns : goal.returns
-returns c = record { ready = ap (map choice_of) c.as_slice.ensures.value ∙ choices_are (kept_of c.args.self.now.engine) c.args.self.now.index.items c.requires.index }
+returns c = record {
+  ready = ap (map choice_of) c.as_slice.ensures.value ∙ choices_are (kept_of c.args.self.now.engine) c.args.self.now.index.items c.requires.index;
+  taken = λ w start s idle stands.
+      let m = kept_of c.args.self.now.engine in
+      let list = c.states_list.ensures m.plan start stands.labels s stands.fits stands.begins stands.reached in
+      ap (map (λ (r : Ready). taken_as w (choice_of r))) c.as_slice.ensures.value
+      ∙ taken_is w m idle c.states_are_known.ensures start s stands list c.args.self.now.index.items c.requires.index;
+}
