@@ -1,6 +1,5 @@
-use Rattle.std.proofs.Common.{◌≡◌, ◌∙◌, ℕ, map, ap, subst, sym}
-use Rattle.wave_states.specs.Canonical.{enabled_for, taken_as}
-use Rattle.plan_actors.specs.PlanActors.{plan_actors}
+use Rattle.std.proofs.Common.{◌∙◌, map, ap}
+use Rattle.wave_states.specs.Canonical.{taken_as}
 use Rattle.wave_machine.specs.declared.ready.Ready.{Ready}
 use Rattle.wave_machine.specs.Keeping.{kept_of}
 use Rattle.wave_machine.specs.Readies.{choice_of}
