@@ -1,5 +1,5 @@
 -- Tables of child classes by name, one class more after the other.
-use Rattle.std.proofs.Common.{◌≡◌, ◌≢◌, ◌⊎◌, inl, inr, ◌+◌, ◌<◌, ◌≤◌, ◌==◌, ◌&&◌, ℕ, zero, suc, Bool, true, false, List, [], ◌∷◌, ◌++◌, length, position, get_or, slice_get, set, take, Option, Some, None, IfSome, refl, sym, ap, subst, ◌∙◌, length-append, arith}
+use Rattle.std.proofs.Common.{◌≡◌, ◌≢◌, ◌⊎◌, inl, inr, ◌+◌, ◌<◌, ◌≤◌, ◌==◌, ◌&&◌, ℕ, zero, suc, true, false, List, [], ◌∷◌, ◌++◌, length, get_or, slice_get, take, Option, Some, None, IfSome, refl, sym, ap, subst, ◌∙◌, length-append, arith}
 use Rattle.std.proofs.lemmas.Bool.{eq-eqb}
 use Rattle.std.proofs.lemmas.Bool.Decides.{eqb_tells}
 use Rattle.std.proofs.lemmas.List.{take_more, take_all, length-take-le, length-set}
@@ -7,7 +7,7 @@ use Rattle.wave_base.specs.declared.path.Class.{Class}
 use Rattle.wave_base.specs.declared.shape.ClassInfo.{ClassInfo}
 use Rattle.wave_base.specs.declared.shape.Shape.{Shape}
 use Rattle.wave_base.specs.Names.{same_bytes}
-use Rattle.wave_base.specs.Shapes.{IsShape, is_class, parent_in, parent_class}
+use Rattle.wave_base.specs.Shapes.{IsShape, is_class, parent_in}
 use Rattle.name_table.specs.Numbers.{noted, TellFirst}
 use Rattle.name_table.proofs.Noting.{told_blank, told_other, told_in}
 use Rattle.path_text.specs.Paths.{is_child}

@@ -1,5 +1,5 @@
 -- The text of a path.
-use Rattle.std.specs.Prelude.{◌≡◌, ℕ, List, [], map, Some, None, slice_get}
+use Rattle.std.specs.Prelude.{◌≡◌, ℕ, List, map, Some, None}
 use Rattle.std.specs.Fmt.{signed_decimal}
 use Rattle.wave_base.specs.Shapes.{class_name}
 use Rattle.wave_base.specs.declared.path.Path.{Path}

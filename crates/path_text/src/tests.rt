@@ -3,7 +3,9 @@ ghost use Rattle.wave_base.specs.Text.{IsText};
 ghost use Rattle.wave_base.specs.Shapes.{IsShape};
 ghost use Rattle.path_text.specs.Sample.{hall_shape};
 
-use crate::{ClassNames, PathError, parse_path, put_shot, resolve_steps, write_path, written_steps};
+use crate::{
+    ClassNames, PathError, parse_path, put_shot, resolve_steps, write_path, written_steps,
+};
 use std::alloc::Global;
 use std::test::Fail;
 use wave_base::{Class, ClassInfo, OutOfMemory, Path, Seq, Shape, Shot, Step, Txt};
