@@ -8,6 +8,8 @@ use Rattle.resolved_service.specs.Steps.{Step, Steps, no_steps, Else, no_else, o
 use Rattle.resolved_service.specs.View.{Tree, Trees, tree_of, trees_of}
 use Rattle.service_eval.specs.declared.work.Caller.{Caller}
 use Rattle.service_eval.specs.declared.work.Ending.{Ending}
+use Rattle.service_eval.specs.declared.work.For.{For}
+use Rattle.service_eval.specs.declared.work.While.{While}
 use Rattle.service_eval.specs.declared.work.Ending.TheVariants as ending
 use Rattle.service_eval.specs.declared.work.Work.{Work}
 use Rattle.service_eval.specs.declared.work.Work.TheVariants as work
@@ -46,7 +48,7 @@ end_of (ending.PutLocal s) = PutLocal s
 end_of (ending.PutField f) = PutField f
 end_of (ending.CutLocal s) = CutLocal s
 end_of (ending.CutField f) = CutField f
-end_of (ending.Branch body other) = Branch (steps_in body.now) (steps_in other.now)
+end_of (ending.Branch b) = Branch (steps_in b.body.now) (steps_in b.other.now)
 end_of ending.Require = Require
 end_of (ending.Send label) = Send label.now
 end_of (ending.Spawn event) = Spawn event
@@ -57,6 +59,18 @@ end_of ending.Finish = Finishes
 abbrev pub return_of : Caller → Item
 return_of c = Return c.locals.items c.values.items c.depth c.up
 
+abbrev pub turns_of : While → Item
+turns_of w = Turns w.at (tree_of w.test.now) (steps_in w.body.now) w.left
+
+abbrev pub check_of : While → ℕ → Item
+check_of w base = Check w.at (tree_of w.test.now) (steps_in w.body.now) w.left base
+
+abbrev pub counts_of : For → Item
+counts_of f = Counts f.at f.counter (steps_in f.body.now) f.left
+
+abbrev pub again_of : For → Item
+again_of f = Again f.at f.counter (steps_in f.body.now) f.left
+
 abbrev pub item_of : Work → Item
 item_of (work.Eval e) = Eval (tree_of e.now)
 item_of (work.Evals es) = Evals (trees_of (map tree_of es.now))
@@ -64,13 +78,13 @@ item_of (work.Apply at row base) = Apply at row base
 item_of (work.AndThen e base) = AndThen (tree_of e.now) base
 item_of (work.OrElse e base) = OrElse (tree_of e.now) base
 item_of (work.Invoke at method base) = Invoke at method base
-item_of (work.Child at class method base) = Child at class.0 method base
+item_of (work.Child at callee base) = Child at callee.class.0 callee.method base
 item_of (work.Block body) = Block (steps_in body.now)
 item_of (work.Finish at what base) = Finish at (end_of what) base
-item_of (work.Turns at test body left) = Turns at (tree_of test.now) (steps_in body.now) left
-item_of (work.Check at test body left base) = Check at (tree_of test.now) (steps_in body.now) left base
-item_of (work.Counts at counter body left false) = Counts at counter (steps_in body.now) left
-item_of (work.Counts at counter body left true) = Again at counter (steps_in body.now) left
+item_of (work.Turns w) = turns_of w
+item_of (work.Check w base) = check_of w base
+item_of (work.Counts f false) = counts_of f
+item_of (work.Counts f true) = again_of f
 item_of (work.Return caller) = return_of caller
 
 -- the statements of an `else`, if there is one

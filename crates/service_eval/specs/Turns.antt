@@ -1,22 +1,32 @@
 -- What a call that does an item asks, and what it does.
-use Rattle.std.specs.Prelude.{◌≡◌, Bool, true, false, List, [], Result, Ok, Err}
+use Rattle.std.specs.Prelude.{◌≡◌, Bool, true, false, List, [], Option, Result, Ok, Err}
 use Rattle.wave_base.specs.declared.span.Span.{Span}
 use Rattle.wave_base.specs.declared.value.Value.{Value}
 use Rattle.value_ops.specs.Kinds.{Answer}
 use Rattle.context_tree.specs.Contexts.{Contexts, tree_of as shown}
 use Rattle.service_eval.specs.declared.code.Code.{Code}
 use Rattle.service_eval.specs.declared.machine.Machine.{Machine}
+use Rattle.service_eval.specs.declared.look.View.{View}
+use Rattle.service_eval.specs.declared.operand.Operand.{Operand}
 use Rattle.service_eval.specs.declared.stop.Stop.{Stop}
 use Rattle.service_eval.specs.declared.stop.Stop.TheVariants as stop
+use Rattle.service_eval.specs.Answers.{Looks}
 use Rattle.service_eval.specs.Items.{Item}
-use Rattle.service_eval.specs.Machines.{Mach, mach_of, on_top, before_all, in_state, rest_at, resume, comes_to}
-use Rattle.resolved_service.specs.Meaning.{Leave, Done, Left, effect, called}
+use Rattle.service_eval.specs.Machines.{Mach, state_of, mach_of, on_top, before_all, in_state, rest_at, resume, comes_to}
+use Rattle.resolved_service.specs.Meaning.{Leave, Done, Left, value, effect, called}
 use Rattle.resolved_service.specs.Steps.{Step}
+use Rattle.resolved_service.specs.View.{Tree}
 use Rattle.service_eval.specs.Ready.{Ready, Follows, Turned}
 use Rattle.service_eval.specs.Worlds.{Holds, Traps, Fails}
 
 abbrev pub mach : Code → Contexts → Machine → Mach
 mach code contexts m = mach_of (shown code.shape.now contexts) m
+
+-- the value of an expression where it is looked at
+abbrev pub Sees : View → Tree → Result (Option Operand) Stop → Type 0
+Sees view t result =
+    let st = state_of (shown view.code.shape.now view.contexts.now) view.m.now in
+    Looks (value (called view.code.methods.now view.m.now.depth) view.m.now.path t st) st result
 
 -- the item is the next thing to be done
 abbrev pub IsNext : Code → Contexts → Machine → Item → Type 0

@@ -13,11 +13,11 @@ ghost use Rattle.service_eval.specs.Turns.{IsNext, Goes};
 
 use crate::code::Code;
 use crate::fields::{field, item};
-use crate::look::{above, look, look_row};
+use crate::look::{View, above, look, look_row};
 use crate::machine::Machine;
 use crate::rows::apply_any;
 use crate::stop::Stop;
-use crate::work::Work;
+use crate::work::{Callee, Work};
 use context_tree::Tree;
 use resolved_service::{Expr, Node};
 use wave_base::{OutOfMemory, Span, Value};
@@ -56,11 +56,17 @@ pub fn eval<'s>(
             Work::Evals(args.as_slice()),
             Work::Invoke(e.at, *method, base),
         ),
-        Node::Child(class, method, key, args) => m.push_three(
-            Work::Eval(key),
-            Work::Evals(args.as_slice()),
-            Work::Child(e.at, *class, *method, base),
-        ),
+        Node::Child(class, method, key, args) => {
+            let callee = Callee {
+                class: *class,
+                method: *method,
+            };
+            m.push_three(
+                Work::Eval(key),
+                Work::Evals(args.as_slice()),
+                Work::Child(e.at, callee, base),
+            )
+        }
     }
 }
 
@@ -106,7 +112,7 @@ pub fn found(
 ) -> Result<Option<Value>, Stop>
     ensures { Finds (value (called code.entry.methods.now m.now.depth) m.now.path (tree_of e.now) (state_of (shown code.entry.shape.now contexts.now) m.now)) (state_of (shown code.entry.shape.now contexts.now) m.now) result }
 {
-    match look(code, contexts, m, e) {
+    match look(View { code, contexts, m }, e) {
         Ok(Some(operand)) => match operand.owned(code.alloc) {
             Ok(value) => Ok(Some(value)),
             Err(_) => Err(Stop::OutOfMemory),
@@ -127,7 +133,7 @@ fn operated(
 ) -> Result<Option<Value>, Stop>
     ensures { Finds (value (called code.entry.methods.now m.now.depth) m.now.path (Op at row (trees_of (map tree_of args.now))) (state_of (shown code.entry.shape.now contexts.now) m.now)) (state_of (shown code.entry.shape.now contexts.now) m.now) result }
 {
-    match look_row(code, contexts, m, row, args, at) {
+    match look_row(View { code, contexts, m }, row, args, at) {
         Ok(Some(operand)) => match operand.owned(code.alloc) {
             Ok(value) => Ok(Some(value)),
             Err(_) => Err(Stop::OutOfMemory),

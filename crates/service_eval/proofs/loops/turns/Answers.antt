@@ -29,36 +29,36 @@ module _ (code : Code) (contexts : Contexts) (m : Machine) (at : Span) (t : Tree
 
 pub check-requires : goal.check-requires
 check-requires c =
-    let t = tree_of c.args.test.now in
-    let b = steps_in c.args.body.now in
-    then_next c.args.code c.args.contexts.now c.args.m.now c.give.new.self t (Check c.args.at t b c.args.left c.height-base.result ∷ []) (test_next c.args.code c.args.contexts.now c.args.m.now c.args.at t b c.args.left c.height-base.result c.requires) c.in-Ok-Some.value (c.in-Ok.ensures.ok (shown c.args.code.shape.now c.args.contexts.now))
+    let t = tree_of c.args.cycle.test.now in
+    let b = steps_in c.args.cycle.body.now in
+    then_next c.args.code c.args.contexts.now c.args.m.now c.give.new.self t (Check c.args.cycle.at t b c.args.cycle.left c.height-base.result ∷ []) (test_next c.args.code c.args.contexts.now c.args.m.now c.args.cycle.at t b c.args.cycle.left c.height-base.result c.requires) c.in-Ok-Some.value (c.in-Ok.ensures.ok (shown c.args.code.shape.now c.args.contexts.now))
 
 pub returns-in-Ok : goal.returns-in-Ok
 returns-in-Ok c =
-    let t = tree_of c.args.test.now in
-    let b = steps_in c.args.body.now in
+    let t = tree_of c.args.cycle.test.now in
+    let b = steps_in c.args.cycle.body.now in
     let n = c.height-base.result in
     let found = rw c.in-Ok-Some.field-0-is at c.in-Ok-Some.ensures in
-    goes_from c.args.code (on_top (Turns c.args.at t b c.args.left) (mach c.args.code c.args.contexts.now c.args.m.now)) (on_top (Eval t) (before_all (Check c.args.at t b c.args.left n ∷ []) (mach c.args.code c.args.contexts.now c.args.m.now))) c.check.result (mach c.args.code c.args.contexts.now c.check.new.m)
-    (test_first c.args.code c.args.contexts.now c.args.m.now c.args.at t b c.args.left n c.height-base.ensures)
-    (then_goes c.args.code c.args.contexts.now c.args.m.now c.give.new.self t (Check c.args.at t b c.args.left n ∷ []) (test_next c.args.code c.args.contexts.now c.args.m.now c.args.at t b c.args.left n c.requires) c.in-Ok-Some.value (c.in-Ok.ensures.ok (shown c.args.code.shape.now c.args.contexts.now)) found c.args.contexts.now c.check.new.m c.check.result c.check.ensures)
+    goes_from c.args.code (on_top (Turns c.args.cycle.at t b c.args.cycle.left) (mach c.args.code c.args.contexts.now c.args.m.now)) (on_top (Eval t) (before_all (Check c.args.cycle.at t b c.args.cycle.left n ∷ []) (mach c.args.code c.args.contexts.now c.args.m.now))) c.check.result (mach c.args.code c.args.contexts.now c.check.new.m)
+    (test_first c.args.code c.args.contexts.now c.args.m.now c.args.cycle.at t b c.args.cycle.left n c.height-base.ensures)
+    (then_goes c.args.code c.args.contexts.now c.args.m.now c.give.new.self t (Check c.args.cycle.at t b c.args.cycle.left n ∷ []) (test_next c.args.code c.args.contexts.now c.args.m.now c.args.cycle.at t b c.args.cycle.left n c.requires) c.in-Ok-Some.value (c.in-Ok.ensures.ok (shown c.args.code.shape.now c.args.contexts.now)) found c.args.contexts.now c.check.new.m c.check.result c.check.ensures)
 
 pub returns-in-Ok-None : goal.returns-in-Ok-None
 returns-in-Ok-None c =
-    let t = tree_of c.args.test.now in
-    let b = steps_in c.args.body.now in
-    turned c.args.code c.args.contexts.now (Turns c.args.at t b c.args.left) (λ m. on_top (Eval t) (on_top (Check c.args.at t b c.args.left (length m.values)) m)) c.args.m.now c.push_two.new.self c.push_two.result c.requires
-    (l.turns_parts c.args.code.methods.now (mach c.args.code c.args.contexts.now c.args.m.now) c.args.at c.args.left b t)
+    let t = tree_of c.args.cycle.test.now in
+    let b = steps_in c.args.cycle.body.now in
+    turned c.args.code c.args.contexts.now (Turns c.args.cycle.at t b c.args.cycle.left) (λ m. on_top (Eval t) (on_top (Check c.args.cycle.at t b c.args.cycle.left (length m.values)) m)) c.args.m.now c.push_two.new.self c.push_two.result c.requires
+    (l.turns_parts c.args.code.methods.now (mach c.args.code c.args.contexts.now c.args.m.now) c.args.cycle.at c.args.cycle.left b t)
     (ready_with _ _ _ _ _ _ c.requires (c.requires.items.0.0, (c.requires.items.0, c.requires.items.1)) (omega arith))
-    (on_ok_weaker c.push_two.result (λ h tree. h tree ∙ ap (λ n. on_top (Eval t) (on_top (Check c.args.at t b c.args.left n) (mach_of tree c.args.m.now))) c.height-base.ensures) c.push_two.ensures.ok) c.push_two.ensures.err
+    (on_ok_weaker c.push_two.result (λ h tree. h tree ∙ ap (λ n. on_top (Eval t) (on_top (Check c.args.cycle.at t b c.args.cycle.left n) (mach_of tree c.args.m.now))) c.height-base.ensures) c.push_two.ensures.ok) c.push_two.ensures.err
 
 pub returns-in-Err : goal.returns-in-Err
 returns-in-Err c =
-    let t = tree_of c.args.test.now in
-    let b = steps_in c.args.body.now in
+    let t = tree_of c.args.cycle.test.now in
+    let b = steps_in c.args.cycle.body.now in
     let n = c.height-base.result in
     let M = mach c.args.code c.args.contexts.now c.args.m.now in (
-      subst (λ o. Fails o c.in-Err.e M.state.world) (sym (test_first c.args.code c.args.contexts.now c.args.m.now c.args.at t b c.args.left n c.height-base.ensures))
-          (found_fails c.args.code.methods.now (before_all (Check c.args.at t b c.args.left n ∷ []) M) t c.in-Err.e _ c.in-Err.ensures),
+      subst (λ o. Fails o c.in-Err.e M.state.world) (sym (test_first c.args.code c.args.contexts.now c.args.m.now c.args.cycle.at t b c.args.cycle.left n c.height-base.ensures))
+          (found_fails c.args.code.methods.now (before_all (Check c.args.cycle.at t b c.args.cycle.left n ∷ []) M) t c.in-Err.e _ c.in-Err.ensures),
       c.requires.holds,
     )
