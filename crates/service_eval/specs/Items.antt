@@ -35,11 +35,10 @@ pub data Item : Type 0 where
   Block : Steps → Item
   Begin : Step → Item
   Finish : (at : Span) (what : End) (base : ℕ) → Item
-  Turns : (at : Span) (test : Tree) (body : Steps) (left : ℕ) → Item
-  Check : (at : Span) (test : Tree) (body : Steps) (left base : ℕ) → Item
-  Counts : (at : Span) (counter : ℕ) (body : Steps) (left : ℕ) → Item
-  Again : (at : Span) (counter : ℕ) (body : Steps) (left : ℕ) → Item
-  Return : (locals values : List Value) (depth : ℕ) (up : Bool) → Item
+  Turns : (at : Span) (test : Tree) (body : Steps) → Item
+  Check : (at : Span) (test : Tree) (body : Steps) (base : ℕ) → Item
+  Counts Again : (at : Span) (counter : ℕ) (body : Steps) → Item
+  Return : (locals values : List Value) (up : Bool) → Item
 
 abbrev pub end_of : Ending → End
 end_of (ending.SetLocal s) = SetLocal s
@@ -57,19 +56,19 @@ end_of ending.Return = Returns
 end_of ending.Finish = Finishes
 
 abbrev pub return_of : Caller → Item
-return_of c = Return c.locals.items c.values.items c.depth c.up
+return_of c = Return c.locals.items c.values.items c.up
 
 abbrev pub turns_of : While → Item
-turns_of w = Turns w.at (tree_of w.test.now) (steps_in w.body.now) w.left
+turns_of w = Turns w.at (tree_of w.test.now) (steps_in w.body.now)
 
 abbrev pub check_of : While → ℕ → Item
-check_of w base = Check w.at (tree_of w.test.now) (steps_in w.body.now) w.left base
+check_of w base = Check w.at (tree_of w.test.now) (steps_in w.body.now) base
 
 abbrev pub counts_of : For → Item
-counts_of f = Counts f.at f.counter (steps_in f.body.now) f.left
+counts_of f = Counts f.at f.counter (steps_in f.body.now)
 
 abbrev pub again_of : For → Item
-again_of f = Again f.at f.counter (steps_in f.body.now) f.left
+again_of f = Again f.at f.counter (steps_in f.body.now)
 
 abbrev pub item_of : Work → Item
 item_of (work.Eval e) = Eval (tree_of e.now)
@@ -99,5 +98,5 @@ else_in (Some v) = otherwise (steps_in v.items)
 -- what is left behind a method that ends early: its return, and all that follows
 abbrev pub to_return : List Item → List Item
 to_return [] = []
-to_return (Return locals values depth up ∷ items) = Return locals values depth up ∷ items
+to_return (Return locals values up ∷ items) = Return locals values up ∷ items
 to_return (_ ∷ items) = to_return items

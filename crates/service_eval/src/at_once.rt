@@ -9,6 +9,7 @@ ghost use Rattle.service_eval.specs.Ready.{Ready};
 ghost use Rattle.service_eval.specs.Answers.{told, FindsTwo};
 ghost use Rattle.service_eval.specs.Machines.{state_of};
 ghost use Rattle.service_eval.specs.Turns.{mach, AtOnce};
+ghost use Rattle.wave_base.specs.declared.limits.TheConstants.{TICKS};
 
 use crate::code::Code;
 use crate::edits::{cut, put};
@@ -200,7 +201,7 @@ fn found_two(
     m: &Machine<'_>,
     pair: Pair<'_>,
 ) -> Result<Option<[Value; 2]>, Stop>
-    ensures { FindsTwo (value (called code.entry.methods.now m.now.depth) m.now.path (tree_of pair.entry.key.now) (state_of (shown code.entry.shape.now contexts.now) m.now)) (value (called code.entry.methods.now m.now.depth) m.now.path (tree_of pair.entry.value.now)) (state_of (shown code.entry.shape.now contexts.now) m.now) result }
+    ensures { FindsTwo (value (called code.entry.methods.now TICKS) m.now.path (tree_of pair.entry.key.now) (state_of (shown code.entry.shape.now contexts.now) m.now)) (value (called code.entry.methods.now TICKS) m.now.path (tree_of pair.entry.value.now)) (state_of (shown code.entry.shape.now contexts.now) m.now) result }
 {
     match found(code, contexts, m, pair.key) {
         Ok(Some(first)) => match found(code, contexts, m, pair.value) {

@@ -120,14 +120,12 @@ fn begin<'s>(
             at,
             test,
             body: body.as_slice(),
-            left: m.depth,
         })),
         Action::For(counter, from, to, body) => {
             let cycle = For {
                 at,
                 counter: *counter,
                 body: body.as_slice(),
-                left: m.depth,
             };
             begin_for(code, contexts, m, from, to, cycle)
         }
@@ -263,8 +261,7 @@ fn begin_for<'s>(
     to: &'s Expr,
     cycle: For<'s>,
 ) -> Result<(), Stop>
-    requires next { IsNext code contexts.now m.old (i.Begin (For cycle.at cycle.counter (tree_of from.now) (tree_of to.now) (steps_in cycle.body.now))) }
-    requires left { cycle.left ≡ m.old.depth }
+    requires { IsNext code contexts.now m.old (i.Begin (For cycle.at cycle.counter (tree_of from.now) (tree_of to.now) (steps_in cycle.body.now))) }
     ensures { Goes code.entry contexts.now m.old (i.Begin (For cycle.entry.at cycle.entry.counter (tree_of from.now) (tree_of to.now) (steps_in cycle.entry.body.now))) result contexts.now m.new }
 {
     let at = cycle.at;

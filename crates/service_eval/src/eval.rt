@@ -6,6 +6,7 @@ ghost use Rattle.resolved_service.specs.Meaning.{value, called};
 ghost use Rattle.service_eval.specs.Answers.{Finds};
 ghost use Rattle.service_eval.specs.declared.stop.Stop.{Stop};
 ghost use Rattle.service_eval.specs.Machines.{mach_of, state_of, with_value};
+ghost use Rattle.wave_base.specs.declared.limits.TheConstants.{TICKS};
 ghost use Rattle.wave_base.specs.declared.value.Value.{Value};
 ghost use Rattle.resolved_service.specs.View.{Op, tree_of, trees_of};
 ghost use Rattle.service_eval.specs.Items as i;
@@ -110,7 +111,7 @@ pub fn found(
     m: &Machine<'_>,
     e: &Expr,
 ) -> Result<Option<Value>, Stop>
-    ensures { Finds (value (called code.entry.methods.now m.now.depth) m.now.path (tree_of e.now) (state_of (shown code.entry.shape.now contexts.now) m.now)) (state_of (shown code.entry.shape.now contexts.now) m.now) result }
+    ensures { Finds (value (called code.entry.methods.now TICKS) m.now.path (tree_of e.now) (state_of (shown code.entry.shape.now contexts.now) m.now)) (state_of (shown code.entry.shape.now contexts.now) m.now) result }
 {
     match look(View { code, contexts, m }, e) {
         Ok(Some(operand)) => match operand.owned(code.alloc) {
@@ -131,7 +132,7 @@ fn operated(
     row: u16,
     args: &[Expr],
 ) -> Result<Option<Value>, Stop>
-    ensures { Finds (value (called code.entry.methods.now m.now.depth) m.now.path (Op at row (trees_of (map tree_of args.now))) (state_of (shown code.entry.shape.now contexts.now) m.now)) (state_of (shown code.entry.shape.now contexts.now) m.now) result }
+    ensures { Finds (value (called code.entry.methods.now TICKS) m.now.path (Op at row (trees_of (map tree_of args.now))) (state_of (shown code.entry.shape.now contexts.now) m.now)) (state_of (shown code.entry.shape.now contexts.now) m.now) result }
 {
     match look_row(View { code, contexts, m }, row, args, at) {
         Ok(Some(operand)) => match operand.owned(code.alloc) {

@@ -65,14 +65,7 @@ pub fn check<'s>(
             Ok(()) => {}
             Err(e) => return Err(e),
         }
-        if cycle.left == 0 {
-            return Ok(());
-        }
-        let rest = While {
-            left: cycle.left - 1,
-            ..cycle
-        };
-        m.push_two(Work::Block(cycle.body), Work::Turns(rest))
+        m.push_two(Work::Block(cycle.body), Work::Turns(cycle))
     } else {
         Ok(())
     }
@@ -117,18 +110,11 @@ fn count<'s>(
         Ok(()) => {}
         Err(e) => return Err(e),
     }
-    if cycle.left == 0 {
-        return Ok(());
-    }
     let slot = cycle.counter as usize;
     match item(m.locals.as_slice(), slot).owned(code.alloc) {
         Ok(number) => {
             m.set_local(slot + 2, number);
-            let rest = For {
-                left: cycle.left - 1,
-                ..cycle
-            };
-            match m.push(Work::Counts(rest, true)) {
+            match m.push(Work::Counts(cycle, true)) {
                 Ok(()) => block(code, contexts, m, cycle.body),
                 Err(e) => Err(e),
             }

@@ -8,22 +8,20 @@ pub struct Branches<'s> {
     pub other: &'s [Stmt],
 }
 
-/// A `while` of which so many turns are left.
+/// A `while`.
 #[derive(Clone, Copy)]
 pub struct While<'s> {
     pub at: Span,
     pub test: &'s Expr,
     pub body: &'s [Stmt],
-    pub left: u32,
 }
 
-/// A `for` of which so many turns are left, with its counter's slot.
+/// A `for`, with its counter's slot.
 #[derive(Clone, Copy)]
 pub struct For<'s> {
     pub at: Span,
     pub counter: u16,
     pub body: &'s [Stmt],
-    pub left: u32,
 }
 
 /// A method of the children of a class.
@@ -61,12 +59,11 @@ pub struct Tail<'s> {
     pub base: usize,
 }
 
-/// Where a method returns to: the locals and the values of its caller, the caller's depth, and whether it is at the parent.
+/// Where a method returns to: the locals and the values of its caller, and whether it is at the parent.
 #[derive(Drop)]
 pub struct Caller {
     pub locals: Vec<Value>,
     pub values: Vec<Value>,
-    pub depth: u32,
     pub up: bool,
 }
 
