@@ -132,7 +132,7 @@ module _ (code : Code) (contexts : Contexts) (m m' : Machine) (at : Span) (base 
   slot_turn slot is v (Err (stop.Ended e)) h same = absurd h
   slot_turn slot is v (Err stop.OutOfMemory) h same = (tt, subst (λ (x : Mach). Holds code.shape.now x.state.world.tree) (sym same) next.holds)
   slot_turn slot is v (Err (stop.Trapped t)) h same =
-      let fails : Traps does (stop.Trapped t) M.state.world = subst (λ o. Fails o (stop.Trapped t) M.state.world) (sym is) (gives_fails a at M.state (set_local slot) (stop.Trapped t) (h.0, h.1)) in
+      let fails : Traps does (stop.Trapped t) M.state.world = subst (λ o. Traps o (stop.Trapped t) M.state.world) (sym is) (gives_fails a at M.state (set_local slot) (stop.Trapped t) (h.0, h.1)) in
       (not_finished code.methods.now M at base what (stop.Trapped t) _ (subst (λ (x : Mach). Traps does (stop.Trapped t) x.state.world) (sym same) fails), subst (λ (x : Mach). Holds code.shape.now x.state.world.tree) (sym same) next.holds)
 
   -- a field's value was
@@ -157,7 +157,7 @@ module _ (code : Code) (contexts : Contexts) (m m' : Machine) (at : Span) (base 
     field_turn (Err stop.OutOfMemory) h same =
         (tt, subst (λ (x : Mach). Holds code.shape.now x.state.world.tree) (sym same) (subst (λ (w : World). Holds code.shape.now w.tree) (sym (kept h)) next.holds))
     field_turn (Err (stop.Trapped t)) h same =
-        let fails : Traps does (stop.Trapped t) M.state.world = subst (λ o. Fails o (stop.Trapped t) M.state.world) (sym is) (gives_fails a at M.state (put_field f M.path) (stop.Trapped t) (h.0, h.1)) in
+        let fails : Traps does (stop.Trapped t) M.state.world = subst (λ o. Traps o (stop.Trapped t) M.state.world) (sym is) (gives_fails a at M.state (put_field f M.path) (stop.Trapped t) (h.0, h.1)) in
         let there : Traps does (stop.Trapped t) after = subst (Traps does (stop.Trapped t)) (sym (kept h.2)) fails in (
           not_finished code.methods.now M at base what (stop.Trapped t) _ (subst (λ (x : Mach). Traps does (stop.Trapped t) x.state.world) (sym same) there),
           subst (λ (x : Mach). Holds code.shape.now x.state.world.tree) (sym same) (subst (λ (w : World). Holds code.shape.now w.tree) (sym (kept h.2)) next.holds),

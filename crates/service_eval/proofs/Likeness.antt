@@ -15,7 +15,7 @@ use Rattle.resolved_service.specs.declared.service.Phase.{Phase}
 use Rattle.resolved_service.specs.Meaning.{State, Returned, Finished, Outcome, Done, Trapped, Left, Act, and_then, ◌>>=◌, ◌>>◌, give, answer, with_world, tick, enter_at, back, choose, set_local, put_field, demand, leave, row_add, row_put, row_cut, worth, value, values, while_turns, for_test, for_body, maybe_value, effect, effects, else_effect, last_value, with_locals, with_blanks, run_method, called, phases_run}
 use Rattle.resolved_service.specs.Steps.{Step, SetLocal, SetField, PutLocal, PutField, CutLocal, CutField, If, While, For, Require, Send, Spawn, Do, Return, Finish, Steps, no_steps, step, Else, no_else, otherwise, steps_in}
 use Rattle.resolved_service.specs.View.{Tree, Const, Local, Field, Above, Op, And, Or, Call, Child, Trees, no_trees, tree, tree_of}
-use Rattle.resolved_service.specs.World.{World, nothing, is_true, child, took, changed, with_entered, has, entering, sending, spawning, read_field, set_field}
+use Rattle.resolved_service.specs.World.{World, nothing, is_true, child, took, changed, with_entered, has, entering, sending, spawning, read_field, read_above, set_field}
 use Rattle.service_eval.specs.Worlds.{uncounted, plain}
 
 -- at most so many ticks are left
@@ -172,7 +172,7 @@ test_like j counter at st c h = answer_like j _ at st c h
 module _ (call call' : ℕ → Path → List Value → Act (Option Value)) (k : ℕ) (calls : (m : ℕ) (q : Path) (given : List Value) (i : ℕ) → suc i ≤ k → Like i (call m q given) (call' m q given)) where
   module _ (p : Path) where
     mutual
-      unfolding read_field
+      unfolding read_field read_above
 
       value_like : (t : Tree) (j : ℕ) → j ≤ k → Like j (value call p t) (value call' p t)
       value_like (Const at v) j l st c h = (refl, h)
@@ -323,11 +323,11 @@ module _ (methods : List Method) where
     same_while p test body at j l = while_like n n j l l _ _ _ _ at (λ i e. same_value p test i (omega arith)) (λ i e. same_effects p body i (omega arith))
 
     pub same_for : (p : Path) (counter : ℕ) (body : Steps) (at : Span) (j : ℕ) → j ≤ n → Like j (while_turns n (for_test counter at) (for_body counter at (effects (called methods n) n p body)) at) (while_turns n (for_test counter at) (for_body counter at (effects (called methods n) n p body)) at)
-    same_for p counter body at j l = while_like n n j l l _ _ _ _ at (λ i e. test_like i counter at) (λ i e. for_like i counter at _ _ (same_effects p body i (omega arith)))
+    same_for p counter body at j l = while_like n n j l l _ _ _ _ at (λ i e. test_like i counter at) (λ i e. for_like i counter at (effects (called methods n) n p body) (effects (called methods n) n p body) (same_effects p body i (omega arith)))
 
     -- loops and their first turns
     pub while_turn : (p : Path) (test : Tree) (body : Steps) (at : Span) (j : ℕ) → j ≤ n → Like j (while_turns n (value (called methods n) p test) (effects (called methods n) n p body) at) (value (called methods n) p test >>= (λ t. choose (is_true t) (tick at >> (effects (called methods n) n p body >> while_turns n (value (called methods n) p test) (effects (called methods n) n p body) at)) (give tt)))
     while_turn p test body at j l = turns_like n j l _ _ at (λ i e. same_value p test i (omega arith)) (λ i e. same_effects p body i (omega arith))
 
     pub for_turn : (p : Path) (counter : ℕ) (body : Steps) (at : Span) (j : ℕ) → j ≤ n → Like j (while_turns n (for_test counter at) (for_body counter at (effects (called methods n) n p body)) at) (for_test counter at >>= (λ t. choose (is_true t) (tick at >> (for_body counter at (effects (called methods n) n p body) >> while_turns n (for_test counter at) (for_body counter at (effects (called methods n) n p body)) at)) (give tt)))
-    for_turn p counter body at j l = turns_like n j l _ _ at (λ i e. test_like i counter at) (λ i e. for_like i counter at _ _ (same_effects p body i (omega arith)))
+    for_turn p counter body at j l = turns_like n j l _ _ at (λ i e. test_like i counter at) (λ i e. for_like i counter at (effects (called methods n) n p body) (effects (called methods n) n p body) (same_effects p body i (omega arith)))

@@ -8,8 +8,8 @@ use Rattle.resolved_service.specs.Steps.{Step, Steps, no_steps, Else, no_else, o
 use Rattle.resolved_service.specs.View.{Tree, Trees, tree_of, trees_of}
 use Rattle.service_eval.specs.declared.work.Caller.{Caller}
 use Rattle.service_eval.specs.declared.work.Ending.{Ending}
-use Rattle.service_eval.specs.declared.work.For.{For}
-use Rattle.service_eval.specs.declared.work.While.{While}
+use Rattle.service_eval.specs.declared.work.ForLoop.{ForLoop}
+use Rattle.service_eval.specs.declared.work.WhileLoop.{WhileLoop}
 use Rattle.service_eval.specs.declared.work.Ending.TheVariants as ending
 use Rattle.service_eval.specs.declared.work.Work.{Work}
 use Rattle.service_eval.specs.declared.work.Work.TheVariants as work
@@ -58,16 +58,16 @@ end_of ending.Finish = Finishes
 abbrev pub return_of : Caller → Item
 return_of c = Return c.locals.items c.values.items c.up
 
-abbrev pub turns_of : While → Item
+abbrev pub turns_of : WhileLoop → Item
 turns_of w = Turns w.at (tree_of w.test.now) (steps_in w.body.now)
 
-abbrev pub check_of : While → ℕ → Item
+abbrev pub check_of : WhileLoop → ℕ → Item
 check_of w base = Check w.at (tree_of w.test.now) (steps_in w.body.now) base
 
-abbrev pub counts_of : For → Item
+abbrev pub counts_of : ForLoop → Item
 counts_of f = Counts f.at f.counter (steps_in f.body.now)
 
-abbrev pub again_of : For → Item
+abbrev pub again_of : ForLoop → Item
 again_of f = Again f.at f.counter (steps_in f.body.now)
 
 abbrev pub item_of : Work → Item

@@ -15,7 +15,7 @@ use crate::eval::found;
 use crate::finish::finish;
 use crate::machine::Machine;
 use crate::stop::Stop;
-use crate::work::{Branches, Ending, For, Tail, While, Work};
+use crate::work::{Branches, Ending, ForLoop, Tail, WhileLoop, Work};
 use context_tree::Tree;
 use resolved_service::{Action, Expr, Stmt};
 use wave_base::Span;
@@ -116,13 +116,13 @@ fn begin<'s>(
             });
             begin_one(code, contexts, m, at, test, ending)
         }
-        Action::While(test, body) => m.push(Work::Turns(While {
+        Action::While(test, body) => m.push(Work::Turns(WhileLoop {
             at,
             test,
             body: body.as_slice(),
         })),
         Action::For(counter, from, to, body) => {
-            let cycle = For {
+            let cycle = ForLoop {
                 at,
                 counter: *counter,
                 body: body.as_slice(),
@@ -259,7 +259,7 @@ fn begin_for<'s>(
     m: &mut Machine<'s>,
     from: &'s Expr,
     to: &'s Expr,
-    cycle: For<'s>,
+    cycle: ForLoop<'s>,
 ) -> Result<(), Stop>
     requires { IsNext code contexts.now m.old (i.Begin (For cycle.at cycle.counter (tree_of from.now) (tree_of to.now) (steps_in cycle.body.now))) }
     ensures { Goes code.entry contexts.now m.old (i.Begin (For cycle.entry.at cycle.entry.counter (tree_of from.now) (tree_of to.now) (steps_in cycle.entry.body.now))) result contexts.now m.new }

@@ -165,7 +165,7 @@ fn branch<'s>(
     base: usize,
 ) -> Result<(), Stop>
     requires { IsNext code contexts.now m.old (i.Finish at (i.Branch (steps_in branches.body.now) (steps_in branches.other.now)) base) }
-    ensures { Goes code.entry contexts.now m.old (i.Finish at (i.Branch (steps_in branches.body.now) (steps_in branches.other.now)) base) result contexts.now m.new }
+    ensures { Goes code.entry contexts.now m.old (i.Finish at (i.Branch (steps_in branches.entry.body.now) (steps_in branches.entry.other.now)) base) result contexts.now m.new }
 {
     let holds = m.is_true(base);
     m.cut(base);

@@ -17,7 +17,7 @@ use crate::machine::Machine;
 use crate::operand::is_true;
 use crate::rows::apply_two;
 use crate::stop::Stop;
-use crate::work::{For, While, Work};
+use crate::work::{ForLoop, WhileLoop, Work};
 use context_tree::Tree;
 use wave_base::{Span, Value};
 
@@ -31,7 +31,7 @@ pub fn turns<'s>(
     code: Code<'s>,
     contexts: &Tree,
     m: &mut Machine<'s>,
-    cycle: While<'s>,
+    cycle: WhileLoop<'s>,
 ) -> Result<(), Stop>
     requires { IsNext code contexts.now m.old (turns_of cycle) }
     ensures { Goes code.entry contexts.now m.old (turns_of cycle.entry) result contexts.now m.new }
@@ -52,7 +52,7 @@ pub fn check<'s>(
     code: Code<'s>,
     contexts: &Tree,
     m: &mut Machine<'s>,
-    cycle: While<'s>,
+    cycle: WhileLoop<'s>,
     base: usize,
 ) -> Result<(), Stop>
     requires { IsNext code contexts.now m.old (check_of cycle base) }
@@ -76,7 +76,7 @@ pub fn counts<'s>(
     code: Code<'s>,
     contexts: &mut Tree,
     m: &mut Machine<'s>,
-    cycle: For<'s>,
+    cycle: ForLoop<'s>,
 ) -> Result<(), Stop>
     requires { IsNext code contexts.old m.old (counts_of cycle) }
     ensures { Goes code.entry contexts.old m.old (counts_of cycle.entry) result contexts.new m.new }
@@ -98,7 +98,7 @@ fn count<'s>(
     code: Code<'s>,
     contexts: &mut Tree,
     m: &mut Machine<'s>,
-    cycle: For<'s>,
+    cycle: ForLoop<'s>,
     value: Value,
 ) -> Result<(), Stop>
     requires next { IsNext code contexts.old m.old (counts_of cycle) }
@@ -144,7 +144,7 @@ pub fn again<'s>(
     code: Code<'s>,
     contexts: &mut Tree,
     m: &mut Machine<'s>,
-    cycle: For<'s>,
+    cycle: ForLoop<'s>,
 ) -> Result<(), Stop>
     requires { IsNext code contexts.old m.old (again_of cycle) }
     ensures { Goes code.entry contexts.old m.old (again_of cycle.entry) result contexts.new m.new }

@@ -10,7 +10,7 @@ pub struct Branches<'s> {
 
 /// A `while`.
 #[derive(Clone, Copy)]
-pub struct While<'s> {
+pub struct WhileLoop<'s> {
     pub at: Span,
     pub test: &'s Expr,
     pub body: &'s [Stmt],
@@ -18,7 +18,7 @@ pub struct While<'s> {
 
 /// A `for`, with its counter's slot.
 #[derive(Clone, Copy)]
-pub struct For<'s> {
+pub struct ForLoop<'s> {
     pub at: Span,
     pub counter: u16,
     pub body: &'s [Stmt],
@@ -89,11 +89,11 @@ pub enum Work<'s> {
     /// The rest of a statement whose expressions have their values.
     Finish(Span, Ending<'s>, usize),
     /// The turns of a `while`.
-    Turns(While<'s>),
+    Turns(WhileLoop<'s>),
     /// The same, where the test has its value.
-    Check(While<'s>, usize),
+    Check(WhileLoop<'s>, usize),
     /// The turns of a `for`, and whether the counter first goes on by one.
-    Counts(For<'s>, bool),
+    Counts(ForLoop<'s>, bool),
     /// The caller goes on.
     Return(Caller),
 }
