@@ -17,7 +17,7 @@ use Rattle.service_eval.proofs.Likeness.{Same, counted, Like, then_like, enter_l
 use Rattle.service_eval.proofs.Outcomes.{assoc, regroup, fails_then}
 
 -- an act that came to its end, changes of place uncounted, and what comes behind it
-then_on : {A B : Type 0} (a : Act A) (f : A → Act B) (st : State) (x : A) (st' : State) → Like TICKS a a → ((x : A) → Like TICKS (f x) (f x)) → st.world.ticks ≤ TICKS → plain (a st) ≡ plain (Done x st') → plain (and_then (a st) f) ≡ plain (f x st')
+pub then_on : {A B : Type 0} (a : Act A) (f : A → Act B) (st : State) (x : A) (st' : State) → Like TICKS a a → ((x : A) → Like TICKS (f x) (f x)) → st.world.ticks ≤ TICKS → plain (a st) ≡ plain (Done x st') → plain (and_then (a st) f) ≡ plain (f x st')
 then_on a f st x st' h g few e = (then_like TICKS (a st) (Done x st') f f (e, (h st st.world.changes few).1) g).0
 
 pub same_comes : {A : Type 0} (o o' : Outcome A) (r : Result A Stop) (st : State) → plain o ≡ plain o' → Comes o' r st → Comes o r st
