@@ -1,5 +1,6 @@
 -- Statements: their expressions first, and then what is done with their values.
 use Rattle.std.proofs.Common.{◌≡◌, ℕ, ◌+◌, Bool, true, false, List, [], ◌∷◌, ◌++◌, length, Option, Some, refl, sym, ap, ◌∙◌, append_assoc}
+use Rattle.wave_base.specs.declared.limits.TheConstants.{TICKS}
 use Rattle.wave_base.specs.declared.path.Path.{Path}
 use Rattle.wave_base.specs.declared.span.Span.{Span}
 use Rattle.wave_base.specs.declared.value.Value.{Value}
@@ -10,7 +11,7 @@ use Rattle.resolved_service.specs.Steps.{Step, Steps, no_steps, step, Else, no_e
 use Rattle.resolved_service.specs.View.{Tree, Trees}
 use Rattle.resolved_service.specs.World.{is_true, spawning}
 use Rattle.service_eval.specs.Items.{End, SetLocal, SetField, PutLocal, PutField, CutLocal, CutField, Branch, Require, Send, Spawn, Drop, Returns, Finishes, Eval, Evals, Block, Begin, Finish, Counts, else_steps}
-use Rattle.service_eval.specs.Machines.{Mach, Rest, on_top, act, finish, resume, comes_to}
+use Rattle.service_eval.specs.Machines.{Mach, Rest, on_top, act, finish, come_of, comes_to}
 use Rattle.service_eval.proofs.Outcomes.{assoc, feeds, below, upon}
 
 module _ (methods : List Method) (m : Mach) where
@@ -18,10 +19,10 @@ module _ (methods : List Method) (m : Mach) where
   vs = m.values
 
   abbrev k : ℕ → Path → List Value → Act (Option Value)
-  k = called methods m.depth
+  k = called methods TICKS
 
   abbrev go : Outcome (List Value) → Outcome Rest
-  go = resume methods m.items m.path m.depth
+  go = come_of methods m.items m.path
 
   abbrev push : Value → Act (List Value)
   push v = give (m.values ++ v ∷ [])
@@ -30,16 +31,16 @@ module _ (methods : List Method) (m : Mach) where
   under u = give m.values
 
   abbrev ends : Span → End → List Value → Act (Unit {0})
-  ends at what xs = finish (called methods m.depth) m.depth m.path at xs what
+  ends at what xs = finish (called methods TICKS) TICKS m.path at xs what
 
   abbrev finishes : Span → End → List Value → Act (List Value)
-  finishes at what = act methods m.path m.depth (Finish at what (length m.values))
+  finishes at what = act methods m.path (Finish at what (length m.values))
 
   pub block_parts : (first : Step) (others : Steps) → comes_to methods (on_top (Block (step first others)) m) ≡ comes_to methods (on_top (Begin first) (on_top (Block others) m))
   block_parts first others =
       ap go
-      (assoc (effect k m.depth m.path first m.state) (λ _. effects k m.depth m.path others) under
-      ∙ sym (assoc (effect k m.depth m.path first m.state) under (act methods m.path m.depth (Block others))))
+      (assoc (effect k TICKS m.path first m.state) (λ _. effects k TICKS m.path others) under
+      ∙ sym (assoc (effect k TICKS m.path first m.state) under (act methods m.path (Block others))))
 
   last_is : (o : Outcome (Unit {0})) → and_then o (λ _. give tt) ≡ o
   last_is (Done u st) = refl
@@ -48,7 +49,7 @@ module _ (methods : List Method) (m : Mach) where
 
   -- the last of some statements
   pub block_last : (first : Step) → comes_to methods (on_top (Block (step first no_steps)) m) ≡ comes_to methods (on_top (Begin first) m)
-  block_last first = ap go (ap (λ o. and_then o under) (last_is (effect k m.depth m.path first m.state)))
+  block_last first = ap go (ap (λ o. and_then o under) (last_is (effect k TICKS m.path first m.state)))
 
   -- what lies there is cut off again
   ended : (at : Span) (what : End) (xs : List Value) (st : State) → and_then (ends at what xs st) under ≡ finishes at what (m.values ++ xs) st
@@ -61,7 +62,7 @@ module _ (methods : List Method) (m : Mach) where
       (λ v st. ap (λ o. and_then o under) (h v st) ∙ ended at what (v ∷ []) st)
 
   -- a statement of one expression
-  one : (first : Step) (e : Tree) (at : Span) (what : End) (f : Value → Act (Unit {0})) → effect (called methods m.depth) m.depth m.path first m.state ≡ and_then (value (called methods m.depth) m.path e m.state) f → ((v : Value) (st : State) → f v st ≡ ends at what (v ∷ []) st) → comes_to methods (on_top (Begin first) m) ≡ comes_to methods (on_top (Eval e) (on_top (Finish at what (length m.values)) m))
+  one : (first : Step) (e : Tree) (at : Span) (what : End) (f : Value → Act (Unit {0})) → effect (called methods TICKS) TICKS m.path first m.state ≡ and_then (value (called methods TICKS) m.path e m.state) f → ((v : Value) (st : State) → f v st ≡ ends at what (v ∷ []) st) → comes_to methods (on_top (Begin first) m) ≡ comes_to methods (on_top (Eval e) (on_top (Finish at what (length m.values)) m))
   one first e at what f is h = ap go (ap (λ o. and_then o under) is ∙ one_is e at what f m.state h)
 
   pub set_local_parts : (at : Span) (slot : ℕ) (e : Tree) → comes_to methods (on_top (Begin (s.SetLocal at slot e)) m) ≡ comes_to methods (on_top (Eval e) (on_top (Finish at (SetLocal slot) (length m.values)) m))
@@ -91,17 +92,17 @@ module _ (methods : List Method) (m : Mach) where
   pub finish_parts : (at : Span) (e : Tree) → comes_to methods (on_top (Begin (s.Finish at (Some e))) m) ≡ comes_to methods (on_top (Eval e) (on_top (Finish at Finishes (length m.values)) m))
   finish_parts at e = one (s.Finish at (Some e)) e at Finishes (λ v. leave Finished (Some v)) (assoc (value k m.path e m.state) (λ x. give (Some x)) (leave Finished)) (λ v st. refl)
 
-  else_is : (other : Else) (st : State) → else_effect k m.depth m.path other st ≡ effects k m.depth m.path (else_steps other) st
+  else_is : (other : Else) (st : State) → else_effect k TICKS m.path other st ≡ effects k TICKS m.path (else_steps other) st
   else_is no_else st = refl
   else_is (otherwise ss) st = refl
 
-  chosen : (b : Bool) (body : Steps) (other : Else) (st : State) → choose b (effects k m.depth m.path body) (else_effect k m.depth m.path other) st ≡ choose b (effects k m.depth m.path body) (effects k m.depth m.path (else_steps other)) st
+  chosen : (b : Bool) (body : Steps) (other : Else) (st : State) → choose b (effects k TICKS m.path body) (else_effect k TICKS m.path other) st ≡ choose b (effects k TICKS m.path body) (effects k TICKS m.path (else_steps other)) st
   chosen true body other st = refl
   chosen false body other st = else_is other st
 
   pub if_parts : (at : Span) (e : Tree) (body : Steps) (other : Else) → comes_to methods (on_top (Begin (s.If at e body other)) m) ≡ comes_to methods (on_top (Eval e) (on_top (Finish at (Branch body (else_steps other)) (length m.values)) m))
   if_parts at e body other =
-      one (s.If at e body other) e at (Branch body (else_steps other)) (λ t. choose (is_true t) (effects k m.depth m.path body) (else_effect k m.depth m.path other)) refl (λ v st. chosen (is_true v) body other st)
+      one (s.If at e body other) e at (Branch body (else_steps other)) (λ t. choose (is_true t) (effects k TICKS m.path body) (else_effect k TICKS m.path other)) refl (λ v st. chosen (is_true v) body other st)
 
   pub spawn_parts : (at : Span) (event : ℕ) (ts : Trees) → comes_to methods (on_top (Begin (s.Spawn at event ts)) m) ≡ comes_to methods (on_top (Evals ts) (on_top (Finish at (Spawn event) (length m.values)) m))
   spawn_parts at event ts =
@@ -110,17 +111,17 @@ module _ (methods : List Method) (m : Mach) where
       ∙ feeds (values k m.path ts m.state) (λ given st. and_then (with_world (spawning event given st.world) at st) under) (λ more. vs ++ more) (finishes at (Spawn event)) (λ given st. ended at (Spawn event) given st))
 
   -- a statement of two expressions
-  two : (first : Step) (a b : Tree) (at : Span) (what : End) → effect (called methods m.depth) m.depth m.path first m.state ≡ and_then (value (called methods m.depth) m.path a m.state) (λ x. value (called methods m.depth) m.path b >>= (λ y. finish (called methods m.depth) m.depth m.path at (x ∷ y ∷ []) what)) → comes_to methods (on_top (Begin first) m) ≡ comes_to methods (on_top (Eval a) (on_top (Eval b) (on_top (Finish at what (length m.values)) m)))
+  two : (first : Step) (a b : Tree) (at : Span) (what : End) → effect (called methods TICKS) TICKS m.path first m.state ≡ and_then (value (called methods TICKS) m.path a m.state) (λ x. value (called methods TICKS) m.path b >>= (λ y. finish (called methods TICKS) TICKS m.path at (x ∷ y ∷ []) what)) → comes_to methods (on_top (Begin first) m) ≡ comes_to methods (on_top (Eval a) (on_top (Eval b) (on_top (Finish at what (length m.values)) m)))
   two first a b at what is =
       ap go
       (ap (λ o. and_then o under) is
       ∙ assoc (value k m.path a m.state) (λ x. value k m.path b >>= (λ y. ends at what (x ∷ y ∷ []))) under
-      ∙ feeds (value k m.path a m.state) (λ x st. and_then ((value k m.path b >>= (λ y. ends at what (x ∷ y ∷ []))) st) under) (λ x. vs ++ x ∷ []) (λ ws st. and_then (act methods m.path m.depth (Eval b) ws st) (finishes at what))
+      ∙ feeds (value k m.path a m.state) (λ x st. and_then ((value k m.path b >>= (λ y. ends at what (x ∷ y ∷ []))) st) under) (λ x. vs ++ x ∷ []) (λ ws st. and_then (act methods m.path (Eval b) ws st) (finishes at what))
       (λ x st.
       assoc (value k m.path b st) (λ y. ends at what (x ∷ y ∷ [])) under
       ∙ feeds (value k m.path b st) (λ y st. and_then (ends at what (x ∷ y ∷ []) st) under) (λ y. (vs ++ x ∷ []) ++ y ∷ []) (finishes at what)
       (λ y st. ended at what (x ∷ y ∷ []) st ∙ ap (λ ws. finishes at what ws st) (sym (append_assoc vs (x ∷ []) (y ∷ [])))))
-      ∙ sym (assoc (and_then (value k m.path a m.state) push) (act methods m.path m.depth (Eval b)) (finishes at what)))
+      ∙ sym (assoc (and_then (value k m.path a m.state) push) (act methods m.path (Eval b)) (finishes at what)))
 
   pub put_local_parts : (at : Span) (slot : ℕ) (a b : Tree) → comes_to methods (on_top (Begin (s.PutLocal at slot a b)) m) ≡ comes_to methods (on_top (Eval a) (on_top (Eval b) (on_top (Finish at (PutLocal slot) (length m.values)) m)))
   put_local_parts at slot a b = two (s.PutLocal at slot a b) a b at (PutLocal slot) refl
@@ -131,27 +132,27 @@ module _ (methods : List Method) (m : Mach) where
   -- a loop over numbers
   module _ (at : Span) (counter : ℕ) (from to : Tree) (body : Steps) where
     abbrev turns : Act (Unit {0})
-    turns = while_turns m.depth (for_test counter at) (for_body counter at (effects (called methods m.depth) m.depth m.path body)) at
+    turns = while_turns TICKS (for_test counter at) (for_body counter at (effects (called methods TICKS) TICKS m.path body)) at
 
     abbrev upper : Act (Unit {0})
-    upper = value (called methods m.depth) m.path to >>= (λ b. set_local (counter + 1) b >> turns)
+    upper = value (called methods TICKS) m.path to >>= (λ b. set_local (counter + 1) b >> turns)
 
-    upper_is : (st : State) → and_then (upper st) under ≡ and_then (and_then (and_then (value k m.path to st) push) (finishes at (SetLocal (counter + 1)))) (act methods m.path m.depth (Counts at counter body m.depth))
+    upper_is : (st : State) → and_then (upper st) under ≡ and_then (and_then (and_then (value k m.path to st) push) (finishes at (SetLocal (counter + 1)))) (act methods m.path (Counts at counter body))
     upper_is st =
         ap (λ o. and_then o under) (sym (assoc (value k m.path to st) (set_local (counter + 1)) (λ _. turns)))
         ∙ assoc (and_then (value k m.path to st) (set_local (counter + 1))) (λ _. turns) under
-        ∙ sym (assoc (and_then (value k m.path to st) (set_local (counter + 1))) under (act methods m.path m.depth (Counts at counter body m.depth)))
-        ∙ ap (λ o. and_then o (act methods m.path m.depth (Counts at counter body m.depth))) (one_is to at (SetLocal (counter + 1)) (set_local (counter + 1)) st (λ v st. refl))
+        ∙ sym (assoc (and_then (value k m.path to st) (set_local (counter + 1))) under (act methods m.path (Counts at counter body)))
+        ∙ ap (λ o. and_then o (act methods m.path (Counts at counter body))) (one_is to at (SetLocal (counter + 1)) (set_local (counter + 1)) st (λ v st. refl))
 
     abbrev then_upper : Outcome (List Value) → Outcome (List Value)
-    then_upper o = and_then (and_then (and_then o (act methods m.path m.depth (Eval to))) (finishes at (SetLocal (counter + 1)))) (act methods m.path m.depth (Counts at counter body m.depth))
+    then_upper o = and_then (and_then (and_then o (act methods m.path (Eval to))) (finishes at (SetLocal (counter + 1)))) (act methods m.path (Counts at counter body))
 
     lower_first : (o : Outcome (Unit {0})) → and_then o (λ _ st. and_then (upper st) under) ≡ then_upper (and_then o under)
     lower_first (Done u st) = upper_is st
     lower_first (Trapped t at w) = refl
     lower_first (Left l st) = refl
 
-    pub for_parts : comes_to methods (on_top (Begin (s.For at counter from to body)) m) ≡ comes_to methods (on_top (Eval from) (on_top (Finish at (SetLocal counter) (length m.values)) (on_top (Eval to) (on_top (Finish at (SetLocal (counter + 1)) (length m.values)) (on_top (Counts at counter body m.depth) m)))))
+    pub for_parts : comes_to methods (on_top (Begin (s.For at counter from to body)) m) ≡ comes_to methods (on_top (Eval from) (on_top (Finish at (SetLocal counter) (length m.values)) (on_top (Eval to) (on_top (Finish at (SetLocal (counter + 1)) (length m.values)) (on_top (Counts at counter body) m)))))
     for_parts =
         ap go
         (ap (λ o. and_then o under) (sym (assoc (value k m.path from m.state) (set_local counter) (λ _. upper)))

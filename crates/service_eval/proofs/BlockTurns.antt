@@ -1,6 +1,7 @@
 -- The parts of a statement, put down in the machine.
 use Rattle.std.proofs.Common.{◌≡◌, ℕ, List, [], ◌∷◌, ◌++◌, length, Result, OnOk, IfErr, sym, ap, subst, ◌∙◌, arith}
 use Rattle.std.proofs.lemmas.Result.{on_ok_weaker}
+use Rattle.wave_base.specs.declared.limits.TheConstants.{TICKS}
 use Rattle.wave_base.specs.declared.value.Value.{Value}
 use Rattle.wave_base.specs.Tree.{Tree}
 use Rattle.wave_base.specs.declared.shape.Shape.{Shape}
@@ -42,9 +43,9 @@ module _ (code : Code) (contexts : Contexts) (m : Machine) (n : ℕ) (a first : 
 -- an expression that was found at once, and then what stands behind it
 module _ (code : Code) (contexts : Contexts) (m m1 : Machine) (t : Tree') (items : List Item) (next : Ready code.shape.now code.methods.now (on_top (Eval t) (before_all items (mach code contexts m)))) (v : Value) (gave : mach code contexts m1 ≡ with_value v (mach code contexts m)) where
   pub then_next : Ready code.shape.now code.methods.now (before_all items (mach code contexts m1))
-  then_next = subst (λ x. Ready code.shape.now code.methods.now (before_all items x)) (sym gave) (ready_with _ _ (on_top (Eval t) (before_all items (mach code contexts m))) (items ++ (mach code contexts m).items) (m.values.items ++ v ∷ []) m.depth next next.items.1 (omega arith))
+  then_next = subst (λ x. Ready code.shape.now code.methods.now (before_all items x)) (sym gave) (ready_with _ _ (on_top (Eval t) (before_all items (mach code contexts m))) (items ++ (mach code contexts m).items) (m.values.items ++ v ∷ []) next next.items.1)
 
-  pub then_goes : value (called code.methods.now m.depth) m.path t (state_of (shown code.shape.now contexts) m) ≡ Done v (state_of (shown code.shape.now contexts) m) → (contexts' : Contexts) (m' : Machine) (r : Result (Unit {0}) Stop) → Turned code.shape.now code.methods.now (before_all items (mach code contexts m1)) r (mach code contexts' m') → Turned code.shape.now code.methods.now (on_top (Eval t) (before_all items (mach code contexts m))) r (mach code contexts' m')
+  pub then_goes : value (called code.methods.now TICKS) m.path t (state_of (shown code.shape.now contexts) m) ≡ Done v (state_of (shown code.shape.now contexts) m) → (contexts' : Contexts) (m' : Machine) (r : Result (Unit {0}) Stop) → Turned code.shape.now code.methods.now (before_all items (mach code contexts m1)) r (mach code contexts' m') → Turned code.shape.now code.methods.now (on_top (Eval t) (before_all items (mach code contexts m))) r (mach code contexts' m')
   then_goes found contexts' m' r h =
       goes_from code (on_top (Eval t) (before_all items (mach code contexts m))) (before_all items (mach code contexts m1)) r (mach code contexts' m')
       (found_value code.methods.now (before_all items (mach code contexts m)) t v found ∙ ap (λ x. comes_to code.methods.now (before_all items x)) (sym gave)) h

@@ -29,7 +29,7 @@ use Rattle.service_eval.specs.declared.work.Caller.{Caller}
 use Rattle.service_eval.specs.Items as i
 use Rattle.service_eval.specs.Items.{Item, Eval, Invoke, Child, Block, Return, return_of}
 use Rattle.service_eval.specs.Machines.{Mach, mach_of, on_top, cut_to, in_world, own, path_after, back_to, with_last, started, comes_to}
-use Rattle.service_eval.specs.Ready.{FitsItems, owed, downs, Ready}
+use Rattle.service_eval.specs.Ready.{FitsItems, Ready}
 use Rattle.service_eval.specs.Turns.{mach, IsNext, Goes}
 use Rattle.service_eval.specs.Worlds.{Holds}
 use Rattle.service_eval.proofs.PathLemmas.{class_of-child, parent_of-child, is_path-child, is_path-parent, parent_there, enter_holds, all_there, entered_there, still_there}
@@ -60,16 +60,17 @@ pub record Entered (shape : Shape) (q : Path) (w v : World) : Type 0 where
   pub here : there v.tree q ≡ true
   pub ticks : v.ticks ≡ w.ticks
   pub generation : v.generation ≡ w.generation
-  pub changes : v.changes ≡ suc w.changes
 
 held_there : (t : Tree (List Value)) (ps : List Path) (q : Path) → has ps q ≡ true → All (λ p. there t p ≡ true) ps → there t q ≡ true
 held_there t ps q h all = all_there (λ p. there t p ≡ true) ps q h all
 
-pub entered : (shape : Shape) (q : Path) (w v : World) → Holds shape w.tree → All (λ q. there w.tree q ≡ true) w.held → is_path shape q ≡ true → there w.tree (parent_of q) ≡ true → entering q w ≡ Ok v → Entered shape q w v
-entered shape q w v holds held path parent e = by_case (enters q w v e)
+pub entered : (shape : Shape) (q : Path) (w v : World) → Holds shape w.tree → All (λ q. there w.tree q ≡ true) w.held → is_path shape q ≡ true → there w.tree (parent_of q) ≡ true → entering q w ≡ Ok (changed v) → Entered shape q w v
+entered shape q w v holds held path parent e =
+    let k = by_case (enters q w (changed v) e) in
+    record { holds = k.holds; held = k.held; here = k.here; ticks = k.ticks; generation = k.generation }
   where
     again : has w.held q ≡ true → Entered shape q w (changed w)
-    again h = record { holds = holds; held = held; here = held_there w.tree w.held q h held; ticks = refl; generation = refl; changes = refl }
+    again h = record { holds = holds; held = held; here = held_there w.tree w.held q h held; ticks = refl; generation = refl }
 
     anew : Entered shape q w (changed (with_entered q w))
     anew = record {
@@ -78,10 +79,9 @@ entered shape q w v holds held path parent e = by_case (enters q w v e)
       here = entered_there shape w.tree holds q;
       ticks = refl;
       generation = refl;
-      changes = refl;
     }
 
-    by_case : ((has w.held q ≡ true) × (v ≡ changed w)) ⊎ (v ≡ changed (with_entered q w)) → Entered shape q w v
+    by_case : ((has w.held q ≡ true) × (changed v ≡ changed w)) ⊎ (changed v ≡ changed (with_entered q w)) → Entered shape q w (changed v)
     by_case (inl h) = subst (Entered shape q w) (sym h.1) (again h.0)
     by_case (inr h) = subst (Entered shape q w) (sym h) anew
 
@@ -93,32 +93,6 @@ fits_started shape methods method p items fits e rest = (subst (λ c. FitsSteps 
     by_last None h = rest
     by_last (Some last) h = (subst (λ c. FitsTree shape methods c (tree_of last.value)) e h, rest)
 
-owed_last : (last : Option Last) (items : List Item) → owed (with_last last items) ≡ owed items
-owed_last None items = refl
-owed_last (Some last) items = let e : 0 + owed items ≡ owed items = omega arith in e
-
-downs_last : (last : Option Last) (items : List Item) (p : Path) → downs (with_last last items) p ≡ downs items p
-downs_last None items p = refl
-downs_last (Some last) items p = refl
-
-pub few_downs : (items : List Item) (p : Path) → downs items p ≤ 8
-few_downs [] p = omega arith
-few_downs (Return locals below depth up ∷ items) p = few_downs items (path_after up p)
-few_downs (Eval t ∷ items) p = few_downs items p
-few_downs (i.Evals ts ∷ items) p = few_downs items p
-few_downs (i.Apply at row base ∷ items) p = few_downs items p
-few_downs (i.AndThen right base ∷ items) p = few_downs items p
-few_downs (i.OrElse right base ∷ items) p = few_downs items p
-few_downs (Invoke at method base ∷ items) p = few_downs items p
-few_downs (Child at class method base ∷ items) p = few_downs items p
-few_downs (Block steps ∷ items) p = few_downs items p
-few_downs (i.Begin s ∷ items) p = few_downs items p
-few_downs (i.Finish at what base ∷ items) p = few_downs items p
-few_downs (i.Turns at test body left ∷ items) p = few_downs items p
-few_downs (i.Check at test body left base ∷ items) p = few_downs items p
-few_downs (i.Counts at counter body left ∷ items) p = few_downs items p
-few_downs (i.Again at counter body left ∷ items) p = few_downs items p
-
 method_fits : (shape : Shape) (methods : List Method) (number : ℕ) (method : Method) → All (FitsMethod shape methods) methods → slice_get methods number ≡ Some method → FitsMethod shape methods method
 method_fits shape methods number method all is = subst (FitsMethod shape methods) (get_or_from_slice_get methods number method method is) (all number method (slice_get_within methods number method is))
 
@@ -129,7 +103,7 @@ module _ (shape : Shape) (methods : List Method) (fits : All (FitsMethod shape m
   pub ready_invoked : (at : Span) (base : ℕ) (w : World) → Ready shape methods (on_top (Invoke at number base) m) → ticking m.state.world ≡ Ok w → Ready shape methods (started method (drop base m.values) false (cut_to base (in_world w m)))
   ready_invoked at base w r ticks =
       let t = ticked m.state.world w ticks in
-      let rest = Return m.state.locals (take base m.values) m.depth false ∷ m.items in
+      let rest = Return m.state.locals (take base m.values) false ∷ m.items in
       record {
         items = fits_started shape methods method m.path rest (method_fits shape methods number method fits is) (same_method methods (class_of m.path) number r.items.0.0 method r.items.0.1 is) (tt, r.items.1);
         holds = subst (λ (v : World). Holds shape v.tree) (sym t.1) r.holds;
@@ -137,14 +111,14 @@ module _ (shape : Shape) (methods : List Method) (fits : All (FitsMethod shape m
         held = subst (λ (v : World). All (λ q. there v.tree q ≡ true) v.held) (sym t.1) r.held;
         here = subst (λ (v : World). there v.tree m.path ≡ true) (sym t.1) r.here;
         early = subst (λ (v : World). v.generation ≤ 4) (sym t.1) r.early;
-        room = omega (arith, r.room, t.0, ap (λ (v : World). v.changes) t.1, owed_last method.last rest, downs_last method.last rest m.path);
+        few = omega (arith, r.few, t.0);
       }
 
-  pub ready_child : (at : Span) (class base : ℕ) (w v : World) → IsShape shape → Ready shape methods (on_top (Child at class number base) m) → ticking m.state.world ≡ Ok w → entering (child m.path class (own 0 base m.values)) w ≡ Ok v → Entered shape (child m.path class (own 0 base m.values)) w v → Ready shape methods (started method (drop (suc base) m.values) true (record (cut_to base (in_world v m)) { path = child m.path class (own 0 base m.values) }))
-  ready_child at class base w v shaped r ticks e known =
+  pub ready_child : (at : Span) (class base : ℕ) (w v : World) → IsShape shape → Ready shape methods (on_top (Child at class number base) m) → ticking m.state.world ≡ Ok w → Entered shape (child m.path class (own 0 base m.values)) w v → Ready shape methods (started method (drop (suc base) m.values) true (record (cut_to base (in_world v m)) { path = child m.path class (own 0 base m.values) }))
+  ready_child at class base w v shaped r ticks known =
       let s : Step = record { class = record { 0 = class }; key = key_of (own 0 base m.values) } in
       let t = ticked m.state.world w ticks in
-      let rest = Return m.state.locals (take base m.values) m.depth true ∷ m.items in
+      let rest = Return m.state.locals (take base m.values) true ∷ m.items in
       record {
         items = fits_started shape methods method (child m.path class (own 0 base m.values)) rest (method_fits shape methods number method fits is)
             (same_method methods class number r.items.0.1.0 method r.items.0.1.1 is ∙ sym (class_of-child m.path s))
@@ -154,7 +128,7 @@ module _ (shape : Shape) (methods : List Method) (fits : All (FitsMethod shape m
         held = known.held;
         here = known.here;
         early = omega (arith, r.early, known.generation, ap (λ (v : World). v.generation) t.1);
-        room = omega (arith, r.room, t.0, ap (λ (v : World). v.changes) t.1, known.changes, known.ticks, owed_last method.last rest, downs_last method.last rest (child m.path class (own 0 base m.values)), ap (downs m.items) (parent_of-child m.path s));
+        few = omega (arith, r.few, t.0, known.ticks);
       }
 
 -- a return
@@ -162,7 +136,7 @@ module _ (shape : Shape) (methods : List Method) (m : Mach) (c : Caller) (v : Va
   pub ready_back : Ready shape methods (on_top (return_of c) m) → Ready shape methods (back_to c v m)
   ready_back r = by c.up r
     where
-      by : (up : Bool) → Ready shape methods (on_top (Return c.locals.items c.values.items c.depth up) m) → Ready shape methods (back_to (record c { up = up }) v m)
+      by : (up : Bool) → Ready shape methods (on_top (Return c.locals.items c.values.items up) m) → Ready shape methods (back_to (record c { up = up }) v m)
       by true r = record {
         items = r.items.1;
         holds = r.holds;
@@ -170,9 +144,9 @@ module _ (shape : Shape) (methods : List Method) (m : Mach) (c : Caller) (v : Va
         held = r.held;
         here = parent_there shape m.state.world.tree r.holds m.path r.here;
         early = r.early;
-        room = omega (arith, r.room);
+        few = r.few;
       }
-      by false r = record { items = r.items.1; holds = r.holds; path = r.path; held = r.held; here = r.here; early = r.early; room = omega (arith, r.room) }
+      by false r = record { items = r.items.1; holds = r.holds; path = r.path; held = r.held; here = r.here; early = r.early; few = r.few }
 
 pub back_turn : (code : Code) (contexts : Contexts) (m m' : Machine) (r : Result (Unit {0}) Stop) (c : Caller) (v : Value) → v ≡ get_or m.values.items 0 nothing → OnOk r ((tree : Tree (List Value)) → mach_of tree m' ≡ back_to c v (mach_of tree m)) → IfErr r (λ e. e ≡ stop.OutOfMemory) → IsNext code contexts m (return_of c) → Goes code contexts m (return_of c) r contexts m'
 back_turn code contexts m m' r c v is ok err next =

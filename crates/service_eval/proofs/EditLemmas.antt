@@ -1,5 +1,6 @@
 -- Maps changed where they stand: what the rows of the table say, and what the machine comes to.
 use Rattle.std.proofs.Common.{◌≡◌, ℤ, ℕ, zero, suc, if◌then◌else◌, List, [], ◌∷◌, drop, get_or, slice_set, Some, None, Result, Ok, Err, refl, sym, ap, subst, ◌∙◌, arith}
+use Rattle.wave_base.specs.declared.limits.TheConstants.{TICKS}
 use Rattle.wave_base.proofs.Trees.{put_same, put_twice}
 use Rattle.wave_base.specs.declared.path.Path.{Path}
 use Rattle.wave_base.specs.declared.span.Span.{Span}
@@ -22,7 +23,7 @@ use Rattle.service_eval.specs.Answers.{int_in}
 use Rattle.service_eval.specs.Items.{End, Finish}
 use Rattle.service_eval.specs.Machines.{Mach, finish, cut_to, in_state}
 use Rattle.service_eval.specs.Turns.{mach, IsNext, Goes, Alters}
-use Rattle.service_eval.specs.Worlds.{Holds, Fails}
+use Rattle.service_eval.specs.Worlds.{Holds, Traps}
 use Rattle.service_eval.proofs.FinishLemmas.{finished, not_finished, gives_fails}
 use Rattle.service_eval.proofs.FinishTurns.{same_world, same_field, ready_in, did}
 
@@ -120,19 +121,19 @@ module _ (code : Code) (contexts : Contexts) (m m' : Machine) (at : Span) (base 
   M = mach code contexts m
 
   abbrev does : Outcome (Unit {0})
-  does = finish (called code.methods.now M.depth) M.depth M.path at (drop base M.values) what M.state
+  does = finish (called code.methods.now TICKS) TICKS M.path at (drop base M.values) what M.state
 
   -- a local's value was changed where it stands
   pub slot_turn : (slot : ℕ) → does ≡ and_then (answer a at M.state) (set_local slot) → (v : Value) (r : Result (Unit {0}) Stop) → Alters a at (get_or M.state.locals slot nothing) r v → mach code contexts m' ≡ in_state (record { locals = slice_set M.state.locals slot v; world = M.state.world }) (cut_to base M) → Goes code contexts m (Finish at what base) r contexts m'
   slot_turn slot is v (Ok u) h same =
       did code contexts contexts (Finish at what base) (in_state (record { locals = slice_set M.state.locals slot v; world = M.state.world }) (cut_to base M)) m m'
       (finished code.methods.now M at base what (record { locals = slice_set M.state.locals slot v; world = M.state.world }) (is ∙ ap (λ a. and_then (answer a at M.state) (set_local slot)) h))
-      (ready_in _ _ M _ _ _ _ _ next next.items.1 (omega arith) (same_world M.state.world)) same
+      (ready_in _ _ M _ _ _ _ next next.items.1 (same_world M.state.world)) same
   slot_turn slot is v (Err (stop.Ended e)) h same = absurd h
   slot_turn slot is v (Err stop.OutOfMemory) h same = (tt, subst (λ (x : Mach). Holds code.shape.now x.state.world.tree) (sym same) next.holds)
   slot_turn slot is v (Err (stop.Trapped t)) h same =
-      let fails : Fails does (stop.Trapped t) M.state.world = subst (λ o. Fails o (stop.Trapped t) M.state.world) (sym is) (gives_fails a at M.state (set_local slot) (stop.Trapped t) (h.0, h.1)) in
-      (not_finished code.methods.now M at base what (stop.Trapped t) _ (subst (λ (x : Mach). Fails does (stop.Trapped t) x.state.world) (sym same) fails), subst (λ (x : Mach). Holds code.shape.now x.state.world.tree) (sym same) next.holds)
+      let fails : Traps does (stop.Trapped t) M.state.world = subst (λ o. Traps o (stop.Trapped t) M.state.world) (sym is) (gives_fails a at M.state (set_local slot) (stop.Trapped t) (h.0, h.1)) in
+      (not_finished code.methods.now M at base what (stop.Trapped t) _ (subst (λ (x : Mach). Traps does (stop.Trapped t) x.state.world) (sym same) fails), subst (λ (x : Mach). Holds code.shape.now x.state.world.tree) (sym same) next.holds)
 
   -- a field's value was
   module _ (contexts' : Contexts) (f : ℕ) (is : does ≡ and_then (answer a at M.state) (put_field f M.path)) (v : Value) where
@@ -151,13 +152,13 @@ module _ (code : Code) (contexts : Contexts) (m m' : Machine) (at : Span) (base 
     field_turn (Ok u) h same =
         did code contexts contexts' (Finish at what base) Left m m'
         (finished code.methods.now M at base what (record { locals = M.state.locals; world = after }) (is ∙ ap (λ a. and_then (answer a at M.state) (put_field f M.path)) h))
-        (ready_in _ _ M _ _ _ _ _ next next.items.1 (omega arith) (same_field f v M.path M.state.world)) same
+        (ready_in _ _ M _ _ _ _ next next.items.1 (same_field f v M.path M.state.world)) same
     field_turn (Err (stop.Ended e)) h same = absurd h
     field_turn (Err stop.OutOfMemory) h same =
         (tt, subst (λ (x : Mach). Holds code.shape.now x.state.world.tree) (sym same) (subst (λ (w : World). Holds code.shape.now w.tree) (sym (kept h)) next.holds))
     field_turn (Err (stop.Trapped t)) h same =
-        let fails : Fails does (stop.Trapped t) M.state.world = subst (λ o. Fails o (stop.Trapped t) M.state.world) (sym is) (gives_fails a at M.state (put_field f M.path) (stop.Trapped t) (h.0, h.1)) in
-        let there : Fails does (stop.Trapped t) after = subst (Fails does (stop.Trapped t)) (sym (kept h.2)) fails in (
-          not_finished code.methods.now M at base what (stop.Trapped t) _ (subst (λ (x : Mach). Fails does (stop.Trapped t) x.state.world) (sym same) there),
+        let fails : Traps does (stop.Trapped t) M.state.world = subst (λ o. Traps o (stop.Trapped t) M.state.world) (sym is) (gives_fails a at M.state (put_field f M.path) (stop.Trapped t) (h.0, h.1)) in
+        let there : Traps does (stop.Trapped t) after = subst (Traps does (stop.Trapped t)) (sym (kept h.2)) fails in (
+          not_finished code.methods.now M at base what (stop.Trapped t) _ (subst (λ (x : Mach). Traps does (stop.Trapped t) x.state.world) (sym same) there),
           subst (λ (x : Mach). Holds code.shape.now x.state.world.tree) (sym same) (subst (λ (w : World). Holds code.shape.now w.tree) (sym (kept h.2)) next.holds),
         )

@@ -1,6 +1,7 @@
 -- Expressions: their parts first, and then what is done with them.
 use Rattle.std.proofs.Common.{◌≡◌, ℕ, suc, true, false, List, [], ◌∷◌, ◌++◌, length, take, drop, Option, Ok, Err, refl, sym, ap, ◌∙◌, append_assoc}
 use Rattle.std.proofs.lemmas.List.{append-nil}
+use Rattle.wave_base.specs.declared.limits.TheConstants.{TICKS}
 use Rattle.wave_base.specs.declared.path.Path.{Path}
 use Rattle.wave_base.specs.declared.span.Span.{Span}
 use Rattle.wave_base.specs.declared.value.Value.{Value}
@@ -15,7 +16,7 @@ use Rattle.service_eval.specs.declared.stop.Stop.TheVariants as stop
 use Rattle.service_eval.specs.Answers.{Gives}
 use Rattle.service_eval.specs.Worlds.{Traps, Fails}
 use Rattle.service_eval.specs.Items.{Eval, Evals, Apply, AndThen, OrElse, Invoke, Child}
-use Rattle.service_eval.specs.Machines.{Mach, Rest, on_top, with_value, cut_to, own, act, resume, comes_to}
+use Rattle.service_eval.specs.Machines.{Mach, Rest, on_top, with_value, cut_to, own, act, come_of, comes_to}
 use Rattle.service_eval.proofs.Outcomes.{assoc, regroup, feeds, traps_then, fails_through, below, upon, first_upon, rest_upon}
 
 module _ (methods : List Method) (m : Mach) where
@@ -23,30 +24,30 @@ module _ (methods : List Method) (m : Mach) where
   vs = m.values
 
   abbrev k : ℕ → Path → List Value → Act (Option Value)
-  k = called methods m.depth
+  k = called methods TICKS
 
   abbrev go : Outcome (List Value) → Outcome Rest
-  go = resume methods m.items m.path m.depth
+  go = come_of methods m.items m.path
 
   abbrev push : Value → Act (List Value)
   push v = give (m.values ++ v ∷ [])
 
   -- a value that is found
-  pub found_value : (t : Tree) (v : Value) → value (called methods m.depth) m.path t m.state ≡ Done v m.state → comes_to methods (on_top (Eval t) m) ≡ comes_to methods (with_value v m)
-  found_value t v h = ap (λ o. resume methods m.items m.path m.depth (and_then o (λ v. give (m.values ++ v ∷ [])))) h
+  pub found_value : (t : Tree) (v : Value) → value (called methods TICKS) m.path t m.state ≡ Done v m.state → comes_to methods (on_top (Eval t) m) ≡ comes_to methods (with_value v m)
+  found_value t v h = ap (λ o. come_of methods m.items m.path (and_then o (λ v. give (m.values ++ v ∷ [])))) h
 
-  pub found_fails : (t : Tree) (e : Stop) (w : World) → Traps (value (called methods m.depth) m.path t m.state) e w → Fails (comes_to methods (on_top (Eval t) m)) e w
-  found_fails t e w h = fails_through methods m.items m.path m.depth _ e w (traps_then (value k m.path t m.state) push e w h)
+  pub found_fails : (t : Tree) (e : Stop) (w : World) → Traps (value (called methods TICKS) m.path t m.state) e w → Fails (comes_to methods (on_top (Eval t) m)) e w
+  found_fails t e w h = fails_through methods m.items m.path _ e w (traps_then (value k m.path t m.state) push e w h)
 
   pub op_parts : (at : Span) (row : ℕ) (ts : Trees) → comes_to methods (on_top (Eval (Op at row ts)) m) ≡ comes_to methods (on_top (Evals ts) (on_top (Apply at row (length m.values)) m))
   op_parts at row ts =
       ap go
       (assoc (values k m.path ts m.state) (λ ops. answer (apply_row row ops) at) push
-      ∙ feeds (values k m.path ts m.state) (λ ops st. and_then (answer (apply_row row ops) at st) push) (λ more. vs ++ more) (act methods m.path m.depth (Apply at row (length vs)))
+      ∙ feeds (values k m.path ts m.state) (λ ops st. and_then (answer (apply_row row ops) at st) push) (λ more. vs ++ more) (act methods m.path (Apply at row (length vs)))
       (λ ops st i. and_then (answer (apply_row row (sym (upon vs ops) i)) at st) (λ v. give (sym (below vs ops) i ++ v ∷ []))))
 
   pub no_values : comes_to methods (on_top (Evals no_trees) m) ≡ comes_to methods m
-  no_values = ap (λ xs. resume methods m.items m.path m.depth (Done xs m.state)) (append-nil vs)
+  no_values = ap (λ xs. come_of methods m.items m.path (Done xs m.state)) (append-nil vs)
 
   cons_values : (v : Value) (o : Outcome (List Value)) → and_then (and_then o (λ others. give (v ∷ others))) (λ more. give (m.values ++ more)) ≡ and_then o (λ more. give ((m.values ++ v ∷ []) ++ more))
   cons_values v (Done xs st) = ap (λ ys. Done ys st) (sym (append_assoc vs (v ∷ []) xs))
@@ -57,52 +58,52 @@ module _ (methods : List Method) (m : Mach) where
   first_value t ts =
       ap go
       (assoc (value k m.path t m.state) (λ first. values k m.path ts >>= (λ others. give (first ∷ others))) (λ more. give (vs ++ more))
-      ∙ feeds (value k m.path t m.state) (λ v st. and_then (and_then (values k m.path ts st) (λ others. give (v ∷ others))) (λ more. give (vs ++ more))) (λ v. vs ++ v ∷ []) (act methods m.path m.depth (Evals ts))
+      ∙ feeds (value k m.path t m.state) (λ v st. and_then (and_then (values k m.path ts st) (λ others. give (v ∷ others))) (λ more. give (vs ++ more))) (λ v. vs ++ v ∷ []) (act methods m.path (Evals ts))
       (λ v st. cons_values v (values k m.path ts st)))
 
   module _ (at : Span) (row base : ℕ) where
     pub applied : (v : Value) → apply_row row (drop base m.values) ≡ Ok v → comes_to methods (on_top (Apply at row base) m) ≡ comes_to methods (with_value v (cut_to base m))
-    applied v h = ap (λ a. resume methods m.items m.path m.depth (and_then (answer a at m.state) (λ v. give (take base m.values ++ v ∷ [])))) h
+    applied v h = ap (λ a. come_of methods m.items m.path (and_then (answer a at m.state) (λ v. give (take base m.values ++ v ∷ [])))) h
 
     pub not_applied : (e : Stop) → Gives (apply_row row (drop base m.values)) at (Err e) → Fails (comes_to methods (on_top (Apply at row base) m)) e m.state.world
     not_applied stop.OutOfMemory h = tt
     not_applied (stop.Ended r) h = absurd h
     not_applied (stop.Trapped t) h =
-        fails_through methods m.items m.path m.depth (and_then (answer (apply_row row (drop base vs)) at m.state) (λ v. give (take base vs ++ v ∷ []))) (stop.Trapped t) m.state.world
+        fails_through methods m.items m.path (and_then (answer (apply_row row (drop base vs)) at m.state) (λ v. give (take base vs ++ v ∷ []))) (stop.Trapped t) m.state.world
         (ap (λ a. and_then (answer a at m.state) (λ v. give (take base vs ++ v ∷ []))) h.0 ∙ ap (λ x. Trapped t.kind x m.state.world) (sym h.1))
 
   pub and_parts : (at : Span) (a b : Tree) → comes_to methods (on_top (Eval (And at a b)) m) ≡ comes_to methods (on_top (Eval a) (on_top (AndThen b (length m.values)) m))
   and_parts at a b =
       ap go
       (assoc (value k m.path a m.state) (λ x. choose (is_true x) (value k m.path b) (give (Truth false))) push
-      ∙ feeds (value k m.path a m.state) (λ x st. and_then (choose (is_true x) (value k m.path b) (give (Truth false)) st) push) (λ x. vs ++ x ∷ []) (act methods m.path m.depth (AndThen b (length vs)))
+      ∙ feeds (value k m.path a m.state) (λ x st. and_then (choose (is_true x) (value k m.path b) (give (Truth false)) st) push) (λ x. vs ++ x ∷ []) (act methods m.path (AndThen b (length vs)))
       (λ x st i. and_then (choose (is_true (sym (first_upon vs [] x) i)) (value k m.path b) (give (Truth false)) st) (λ v. give (sym (below vs (x ∷ [])) i ++ v ∷ []))))
 
   pub or_parts : (at : Span) (a b : Tree) → comes_to methods (on_top (Eval (Or at a b)) m) ≡ comes_to methods (on_top (Eval a) (on_top (OrElse b (length m.values)) m))
   or_parts at a b =
       ap go
       (assoc (value k m.path a m.state) (λ x. choose (is_true x) (give (Truth true)) (value k m.path b)) push
-      ∙ feeds (value k m.path a m.state) (λ x st. and_then (choose (is_true x) (give (Truth true)) (value k m.path b) st) push) (λ x. vs ++ x ∷ []) (act methods m.path m.depth (OrElse b (length vs)))
+      ∙ feeds (value k m.path a m.state) (λ x st. and_then (choose (is_true x) (give (Truth true)) (value k m.path b) st) push) (λ x. vs ++ x ∷ []) (act methods m.path (OrElse b (length vs)))
       (λ x st i. and_then (choose (is_true (sym (first_upon vs [] x) i)) (give (Truth true)) (value k m.path b) st) (λ v. give (sym (below vs (x ∷ [])) i ++ v ∷ []))))
 
   module _ (right : Tree) (base : ℕ) where
     pub and_true : is_true (own 0 base m.values) ≡ true → comes_to methods (on_top (AndThen right base) m) ≡ comes_to methods (on_top (Eval right) (cut_to base m))
-    and_true h = ap (λ b. resume methods m.items m.path m.depth (and_then (choose b (value (called methods m.depth) m.path right) (give (Truth false)) m.state) (λ v. give (take base m.values ++ v ∷ [])))) h
+    and_true h = ap (λ b. come_of methods m.items m.path (and_then (choose b (value (called methods TICKS) m.path right) (give (Truth false)) m.state) (λ v. give (take base m.values ++ v ∷ [])))) h
 
     pub and_false : is_true (own 0 base m.values) ≡ false → comes_to methods (on_top (AndThen right base) m) ≡ comes_to methods (with_value (Truth false) (cut_to base m))
-    and_false h = ap (λ b. resume methods m.items m.path m.depth (and_then (choose b (value (called methods m.depth) m.path right) (give (Truth false)) m.state) (λ v. give (take base m.values ++ v ∷ [])))) h
+    and_false h = ap (λ b. come_of methods m.items m.path (and_then (choose b (value (called methods TICKS) m.path right) (give (Truth false)) m.state) (λ v. give (take base m.values ++ v ∷ [])))) h
 
     pub or_true : is_true (own 0 base m.values) ≡ true → comes_to methods (on_top (OrElse right base) m) ≡ comes_to methods (with_value (Truth true) (cut_to base m))
-    or_true h = ap (λ b. resume methods m.items m.path m.depth (and_then (choose b (give (Truth true)) (value (called methods m.depth) m.path right) m.state) (λ v. give (take base m.values ++ v ∷ [])))) h
+    or_true h = ap (λ b. come_of methods m.items m.path (and_then (choose b (give (Truth true)) (value (called methods TICKS) m.path right) m.state) (λ v. give (take base m.values ++ v ∷ [])))) h
 
     pub or_false : is_true (own 0 base m.values) ≡ false → comes_to methods (on_top (OrElse right base) m) ≡ comes_to methods (on_top (Eval right) (cut_to base m))
-    or_false h = ap (λ b. resume methods m.items m.path m.depth (and_then (choose b (give (Truth true)) (value (called methods m.depth) m.path right) m.state) (λ v. give (take base m.values ++ v ∷ [])))) h
+    or_false h = ap (λ b. come_of methods m.items m.path (and_then (choose b (give (Truth true)) (value (called methods TICKS) m.path right) m.state) (λ v. give (take base m.values ++ v ∷ [])))) h
 
   pub call_parts : (at : Span) (method : ℕ) (args : Trees) → comes_to methods (on_top (Eval (CallOf at method args)) m) ≡ comes_to methods (on_top (Evals args) (on_top (Invoke at method (length m.values)) m))
   call_parts at method args =
       ap go
       (assoc (values k m.path args m.state) (λ given. tick at >> (k method m.path given >>= (λ r. give (worth r)))) push
-      ∙ feeds (values k m.path args m.state) (λ given st. and_then ((tick at >> (k method m.path given >>= (λ r. give (worth r)))) st) push) (λ more. vs ++ more) (act methods m.path m.depth (Invoke at method (length vs)))
+      ∙ feeds (values k m.path args m.state) (λ given st. and_then ((tick at >> (k method m.path given >>= (λ r. give (worth r)))) st) push) (λ more. vs ++ more) (act methods m.path (Invoke at method (length vs)))
       (λ given st.
       assoc (tick at st) (λ u. k method m.path given >>= (λ r. give (worth r))) push
       ∙ regroup (tick at st) (λ u st. and_then (and_then (k method m.path given st) (λ r. give (worth r))) push) (λ u. k method m.path (drop (length vs) (vs ++ given)) >>= (λ r. give (take (length vs) (vs ++ given) ++ worth r ∷ [])))
@@ -112,11 +113,11 @@ module _ (methods : List Method) (m : Mach) where
     -- a call of a child with its key and arguments, the call's value being put upon others
     abbrev child_call : Value → List Value → List Value → Act (List Value)
     child_call x given under =
-        tick at >> (enter_at (child m.path class x) at >> (called methods m.depth method (child m.path class x) given >>= (λ r. back >> give (under ++ worth r ∷ []))))
+        tick at >> (enter_at (child m.path class x) at >> (called methods TICKS method (child m.path class x) given >>= (λ r. back >> give (under ++ worth r ∷ []))))
 
     abbrev child_value : Value → List Value → Act Value
     child_value x given =
-        tick at >> (enter_at (child m.path class x) at >> (called methods m.depth method (child m.path class x) given >>= (λ r. back >> give (worth r))))
+        tick at >> (enter_at (child m.path class x) at >> (called methods TICKS method (child m.path class x) given >>= (λ r. back >> give (worth r))))
 
     put_down : (x : Value) (given : List Value) (st : State) → and_then (child_value x given st) (λ v. give (m.values ++ v ∷ [])) ≡ child_call x given m.values st
     put_down x given st =
@@ -128,7 +129,7 @@ module _ (methods : List Method) (m : Mach) where
         (λ u st. assoc (k method q given st) (λ r. back >> give (worth r)) push
         ∙ regroup (k method q given st) (λ r st. and_then ((back >> give (worth r)) st) push) (λ r. back >> give (vs ++ worth r ∷ [])) (λ r st. refl)))
 
-    taken_up : (x : Value) (given : List Value) (st : State) → child_call x given m.values st ≡ act methods m.path m.depth (Child at class method (length m.values)) ((m.values ++ x ∷ []) ++ given) st
+    taken_up : (x : Value) (given : List Value) (st : State) → child_call x given m.values st ≡ act methods m.path (Child at class method (length m.values)) ((m.values ++ x ∷ []) ++ given) st
     taken_up x given st =
         let e : (m.values ++ x ∷ []) ++ given ≡ m.values ++ x ∷ given = append_assoc m.values (x ∷ []) given in
         let a : own 0 (length m.values) ((m.values ++ x ∷ []) ++ given) ≡ x = ap (own 0 (length m.values)) e ∙ first_upon m.values given x in
@@ -140,9 +141,9 @@ module _ (methods : List Method) (m : Mach) where
   child_parts at class method key args =
       ap go
       (assoc (value k m.path key m.state) (λ x. values k m.path args >>= child_value at class method x) push
-      ∙ feeds (value k m.path key m.state) (λ x st. and_then ((values k m.path args >>= child_value at class method x) st) push) (λ x. vs ++ x ∷ []) (λ ws st. and_then (act methods m.path m.depth (Evals args) ws st) (act methods m.path m.depth (Child at class method (length vs))))
+      ∙ feeds (value k m.path key m.state) (λ x st. and_then ((values k m.path args >>= child_value at class method x) st) push) (λ x. vs ++ x ∷ []) (λ ws st. and_then (act methods m.path (Evals args) ws st) (act methods m.path (Child at class method (length vs))))
       (λ x st.
       assoc (values k m.path args st) (child_value at class method x) push
-      ∙ feeds (values k m.path args st) (λ given st. and_then (child_value at class method x given st) push) (λ more. (vs ++ x ∷ []) ++ more) (act methods m.path m.depth (Child at class method (length vs)))
+      ∙ feeds (values k m.path args st) (λ given st. and_then (child_value at class method x given st) push) (λ more. (vs ++ x ∷ []) ++ more) (act methods m.path (Child at class method (length vs)))
       (λ given st. put_down at class method x given st ∙ taken_up at class method x given st))
-      ∙ sym (assoc (and_then (value k m.path key m.state) push) (act methods m.path m.depth (Evals args)) (act methods m.path m.depth (Child at class method (length vs)))))
+      ∙ sym (assoc (and_then (value k m.path key m.state) push) (act methods m.path (Evals args)) (act methods m.path (Child at class method (length vs)))))

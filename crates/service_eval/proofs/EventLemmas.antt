@@ -1,5 +1,6 @@
 -- Parts of an event, begun and ended with nothing left to do.
-use Rattle.std.proofs.Common.{◌≡◌, ℕ, List, [], ◌∷◌, ◌++◌, Result, Ok, Err, OnOk, sym, ap, subst, ◌∙◌}
+use Rattle.std.proofs.Common.{◌≡◌, List, [], ◌∷◌, ◌++◌, Result, Ok, Err, OnOk, sym, ap, subst, ◌∙◌}
+use Rattle.wave_base.specs.declared.limits.TheConstants.{TICKS}
 use Rattle.wave_base.specs.declared.path.Path.{Path}
 use Rattle.wave_base.specs.declared.value.Value.{Value}
 use Rattle.context_tree.specs.Contexts.{Contexts, tree_of as shown}
@@ -13,31 +14,34 @@ use Rattle.service_eval.specs.declared.stop.Stop.{Stop}
 use Rattle.service_eval.specs.declared.stop.Stop.TheVariants as stop
 use Rattle.service_eval.specs.Events.{Rests, Comes}
 use Rattle.service_eval.specs.Items.{Eval, Block}
-use Rattle.service_eval.specs.Machines.{Mach, Rest, rest_at, state_of, on_top, resume, comes_to}
+use Rattle.service_eval.specs.Machines.{Mach, Rest, rest_at, state_of, on_top, come_of, comes_to}
 use Rattle.service_eval.specs.Turns.{mach, Ran}
-use Rattle.service_eval.specs.Worlds.{Fails, Holds}
+use Rattle.service_eval.specs.Worlds.{uncounted, plain, Fails, Holds}
 
 -- the values that an outcome leaves, at a place
-abbrev at_end : {A : Type 0} → Path → ℕ → (A → List Value) → Outcome A → Outcome Rest
-at_end p n view o = and_then (and_then o (λ a. give (view a))) (λ vs. give (rest_at p n vs))
+abbrev at_end : {A : Type 0} → Path → (A → List Value) → Outcome A → Outcome Rest
+at_end p view o = and_then (and_then o (λ a. give (view a))) (λ vs. give (rest_at p vs))
 
-ended : {A : Type 0} (p : Path) (n : ℕ) (view : A → List Value) (o : Outcome A) (r : Rest) (st : State) → at_end p n view o ≡ Done r st → (a : A) × (o ≡ Done a st) × (rest_at p n (view a) ≡ r)
-ended p n view (Done a s) r st e = let same : s ≡ st = cc in let rest : rest_at p n (view a) ≡ r = cc in (a, ap (Done a) same, rest)
-ended p n view (Trapped k at w) r st e = cc
-ended p n view (Left l s) r st e = cc
+abbrev blank : State → State
+blank st = record { locals = st.locals; world = uncounted st.world }
 
-failed : {A : Type 0} (p : Path) (n : ℕ) (view : A → List Value) (o : Outcome A) (e : Stop) (w : World) → Fails (at_end p n view o) e w → Fails o e w
-failed p n view o stop.OutOfMemory w h = tt
-failed p n view (Done a s) (stop.Trapped t) w h = cc
-failed p n view (Trapped k at v) (stop.Trapped t) w h =
-    let a : k ≡ t.kind = cc in let b : at ≡ t.at = cc in let c : v ≡ w = cc in λ i. Trapped (a i) (b i) (c i)
-failed p n view (Left l s) (stop.Trapped t) w h = cc
-failed p n view (Done a s) (stop.Ended r) w h = let is : Done (rest_at p n (view a)) s ≡ Left h.why h.state = h.is in cc
-failed p n view (Trapped k at v) (stop.Ended r) w h = let is : Trapped k at v ≡ Left h.why h.state = h.is in cc
-failed p n view (Left l s) (stop.Ended r) w h =
-    let is : ◌≡◌ {A = Outcome Rest} (Left l s) (Left h.why h.state) = h.is in
+ended : {A : Type 0} (p : Path) (view : A → List Value) (o : Outcome A) (r : Rest) (st : State) → plain (at_end p view o) ≡ plain (Done r st) → (a : A) × (plain o ≡ plain (Done a st)) × (rest_at p (view a) ≡ r)
+ended p view (Done a s) r st e = let same : blank s ≡ blank st = cc in let rest : rest_at p (view a) ≡ r = cc in (a, ap (Done a) same, rest)
+ended p view (Trapped k at w) r st e = absurd cc
+ended p view (Left l s) r st e = absurd cc
+
+failed : {A : Type 0} (p : Path) (view : A → List Value) (o : Outcome A) (e : Stop) (w : World) → Fails (plain (at_end p view o)) e w → Fails (plain o) e w
+failed p view o stop.OutOfMemory w h = tt
+failed p view (Done a s) (stop.Trapped t) w h = absurd cc
+failed p view (Trapped k at v) (stop.Trapped t) w h =
+    let a : k ≡ t.kind = cc in let b : at ≡ t.at = cc in let c : uncounted v ≡ uncounted w = cc in λ i. Trapped (a i) (b i) (c i)
+failed p view (Left l s) (stop.Trapped t) w h = absurd cc
+failed p view (Done a s) (stop.Ended r) w h = let is : plain (Done (rest_at p (view a)) s) ≡ Left h.why h.state = h.is in absurd cc
+failed p view (Trapped k at v) (stop.Ended r) w h = let is : ◌≡◌ {A = Outcome Rest} (plain (Trapped k at v)) (Left h.why h.state) = h.is in absurd cc
+failed p view (Left l s) (stop.Ended r) w h =
+    let is : ◌≡◌ {A = Outcome Rest} (plain (Left l s)) (Left h.why h.state) = h.is in
     let a : l ≡ h.why = cc in
-    let b : s ≡ h.state = cc in
+    let b : blank s ≡ h.state = cc in
     record { why = h.why; state = h.state; is = λ i. Left (a i) (b i); replies = h.replies; leaves = h.leaves }
 
 module _ (code : Code) (contexts contexts' : Contexts) (m m1 m2 : Machine) (rests : Rests code contexts m) where
@@ -49,35 +53,35 @@ module _ (code : Code) (contexts contexts' : Contexts) (m m1 m2 : Machine) (rest
 
   module _ (ss : Steps) (top : mach code contexts m1 ≡ on_top (Block ss) (mach code contexts m)) where
     abbrev body : Outcome (Unit {0})
-    body = effects (called code.methods.now m.depth) m.depth m.path ss (state_of (shown code.shape.now contexts) m)
+    body = effects (called code.methods.now TICKS) TICKS m.path ss (state_of (shown code.shape.now contexts) m)
 
-    body_is : comes_to code.methods.now (mach code contexts m1) ≡ at_end m.path m.depth (λ _. []) body
-    body_is = ap (comes_to code.methods.now) top ∙ (λ i. resume code.methods.now (rests.items i) m.path m.depth (and_then body (λ _. give (rests.values i))))
+    body_is : comes_to code.methods.now (mach code contexts m1) ≡ plain (at_end m.path (λ _. []) body)
+    body_is = ap (comes_to code.methods.now) top ∙ (λ i. come_of code.methods.now (rests.items i) m.path (and_then body (λ _. give (rests.values i))))
 
     pub part_comes : (r : Result (Unit {0}) Stop) → Ran code (mach code contexts m1) r (mach code contexts' m2) → Comes body r ends
-    part_comes (Ok u) h = (ended m.path m.depth (λ _. []) body _ ends (sym body_is ∙ h.0)).1
-    part_comes (Err e) h = failed m.path m.depth (λ _. []) body e ends.world (subst (λ o. Fails o e ends.world) body_is h.0)
+    part_comes (Ok u) h = (ended m.path (λ _. []) body _ ends (sym body_is ∙ h.0)).1
+    part_comes (Err e) h = failed m.path (λ _. []) body e ends.world (subst (λ o. Fails o e ends.world) body_is h.0)
 
     pub part_rests : (r : Result (Unit {0}) Stop) → Ran code (mach code contexts m1) r (mach code contexts' m2) → OnOk r (Rests code contexts' m2)
-    part_rests (Ok u) h = record { ready = h.2; items = h.1; values = sym (ap (λ (r : Rest). r.values) (ended m.path m.depth (λ _. []) body _ ends (sym body_is ∙ h.0)).2) }
+    part_rests (Ok u) h = record { ready = h.2; items = h.1; values = sym (ap (λ (r : Rest). r.values) (ended m.path (λ _. []) body _ ends (sym body_is ∙ h.0)).2) }
     part_rests (Err e) h = tt
 
-    pub part_place : (r : Result (Unit {0}) Stop) → Ran code (mach code contexts m1) r (mach code contexts' m2) → OnOk r ((m2.path ≡ m.path) × (m2.depth ≡ m.depth))
-    part_place (Ok u) h = let e = (ended m.path m.depth (λ _. []) body _ ends (sym body_is ∙ h.0)).2 in (sym (ap (λ (r : Rest). r.path) e), sym (ap (λ (r : Rest). r.depth) e))
+    pub part_place : (r : Result (Unit {0}) Stop) → Ran code (mach code contexts m1) r (mach code contexts' m2) → OnOk r (m2.path ≡ m.path)
+    part_place (Ok u) h = sym (ap (λ (r : Rest). r.path) (ended m.path (λ _. []) body _ ends (sym body_is ∙ h.0)).2)
     part_place (Err e) h = tt
 
   module _ (t : Tree) (top : mach code contexts m1 ≡ on_top (Eval t) (mach code contexts m)) where
     abbrev worth : Outcome Value
-    worth = value (called code.methods.now m.depth) m.path t (state_of (shown code.shape.now contexts) m)
+    worth = value (called code.methods.now TICKS) m.path t (state_of (shown code.shape.now contexts) m)
 
-    value_is : comes_to code.methods.now (mach code contexts m1) ≡ at_end m.path m.depth (λ v. v ∷ []) worth
-    value_is = ap (comes_to code.methods.now) top ∙ (λ i. resume code.methods.now (rests.items i) m.path m.depth (and_then worth (λ v. give (rests.values i ++ v ∷ []))))
+    value_is : comes_to code.methods.now (mach code contexts m1) ≡ plain (at_end m.path (λ v. v ∷ []) worth)
+    value_is = ap (comes_to code.methods.now) top ∙ (λ i. come_of code.methods.now (rests.items i) m.path (and_then worth (λ v. give (rests.values i ++ v ∷ []))))
 
-    pub value_comes : Ran code (mach code contexts m1) (Ok tt) (mach code contexts' m2) → (v : Value) × (worth ≡ Done v ends) × (rest_at m.path m.depth (v ∷ []) ≡ rest_at m2.path m2.depth m2.values.items)
-    value_comes h = ended m.path m.depth (λ v. v ∷ []) worth _ ends (sym value_is ∙ h.0)
+    pub value_comes : Ran code (mach code contexts m1) (Ok tt) (mach code contexts' m2) → (v : Value) × (plain worth ≡ plain (Done v ends)) × (rest_at m.path (v ∷ []) ≡ rest_at m2.path m2.values.items)
+    value_comes h = ended m.path (λ v. v ∷ []) worth _ ends (sym value_is ∙ h.0)
 
-    pub value_fails : (e : Stop) → Ran code (mach code contexts m1) (Err e) (mach code contexts' m2) → Fails worth e ends.world
-    value_fails e h = failed m.path m.depth (λ v. v ∷ []) worth e ends.world (subst (λ o. Fails o e ends.world) value_is h.0)
+    pub value_fails : (e : Stop) → Ran code (mach code contexts m1) (Err e) (mach code contexts' m2) → Fails (plain worth) e ends.world
+    value_fails e h = failed m.path (λ v. v ∷ []) worth e ends.world (subst (λ o. Fails o e ends.world) value_is h.0)
 
 pub holds_after : (code : Code) (before after : Mach) (r : Result (Unit {0}) Stop) → Ran code before r after → Holds code.shape.now after.state.world.tree
 holds_after code before after (Ok u) h = h.2.holds

@@ -17,27 +17,26 @@ use Rattle.service_eval.specs.declared.machine.Machine.{Machine}
 use Rattle.service_eval.specs.declared.stop.Stop.{Stop}
 use Rattle.service_eval.specs.Items.{Item}
 use Rattle.service_eval.specs.Machines.{Mach, on_top, comes_to}
-use Rattle.service_eval.specs.Ready.{FitsItems, owed, downs, Ready, Turned}
+use Rattle.service_eval.specs.Ready.{FitsItems, Ready, Turned}
 use Rattle.service_eval.specs.Turns.{mach, Goes}
 use Rattle.service_eval.proofs.CallTurns.{ticked}
 use Rattle.service_eval.proofs.LeaveTurns.{follows_from}
 use Rattle.service_eval.proofs.PathLemmas.{same_paths}
 
--- the same paths, held ones, generation and changes, and no more ticks
+-- the same paths, held ones and generation, and no more ticks
 pub record Same (w v : World) : Type 0 where
   pub paths : w.tree.paths ≡ v.tree.paths
   pub held : w.held ≡ v.held
   pub generation : v.generation ≡ w.generation
-  pub changes : v.changes ≡ w.changes
   pub ticks : v.ticks ≤ w.ticks
 
 pub same_world : (w : World) → Same w w
-same_world w = record { paths = refl; held = refl; generation = refl; changes = refl; ticks = omega arith }
+same_world w = record { paths = refl; held = refl; generation = refl; ticks = omega arith }
 
 pub same_ticked : (w v : World) → ticking w ≡ Ok v → Same w v
 same_ticked w v e =
     let t = ticked w v e in
-    record { paths = ap (λ (u : World). u.tree.paths) (sym t.1); held = ap (λ (u : World). u.held) (sym t.1); generation = ap (λ (u : World). u.generation) t.1; changes = ap (λ (u : World). u.changes) t.1; ticks = omega (arith, t.0) }
+    record { paths = ap (λ (u : World). u.tree.paths) (sym t.1); held = ap (λ (u : World). u.held) (sym t.1); generation = ap (λ (u : World). u.generation) t.1; ticks = omega (arith, t.0) }
 
 from_record : (w u v : World) → ◌≡◌ {A = Answer World} (Ok u) (Ok v) → Same w u → Same w v
 from_record w u v e s = let same : u ≡ v = cc in subst (Same w) same s
@@ -46,23 +45,23 @@ pub same_sent : (label : List ℕ) (x : Value) (w v : World) → sending label x
 unfolding sending
 same_sent label x w v e =
     elim (nat_lt (length w.messages) 64) as (λ b. ◌≡◌ {A = Answer World} (if b then Ok (record w { messages = w.messages ++ record { label = label; value = x } ∷ [] }) else Err Sends) (Ok v) → Same w v) [
-      | true ↦ λ e. from_record w _ v e (record { paths = refl; held = refl; generation = refl; changes = refl; ticks = omega arith })
+      | true ↦ λ e. from_record w _ v e (record { paths = refl; held = refl; generation = refl; ticks = omega arith })
       | false ↦ λ e. cc
     ] e
 
 pub same_field : (f : ℕ) (x : Value) (p : Path) (w : World) → Same w (set_field f x p w)
 unfolding set_field
-same_field f x p w = record { paths = refl; held = refl; generation = refl; changes = refl; ticks = omega arith }
+same_field f x p w = record { paths = refl; held = refl; generation = refl; ticks = omega arith }
 
-pub ready_in : (shape : Shape) (methods : List Method) (m : Mach) (item : Item) (items : List Item) (vs : List Value) (n : ℕ) (st : State) → Ready shape methods (on_top item m) → FitsItems shape methods items m.path → owed items + downs (item ∷ m.items) m.path ≤ owed (item ∷ m.items) + downs items m.path → Same m.state.world st.world → Ready shape methods (record { items = items; values = vs; path = m.path; depth = n; state = st })
-ready_in shape methods m item items vs n st r fits less s = record {
+pub ready_in : (shape : Shape) (methods : List Method) (m : Mach) (item : Item) (items : List Item) (vs : List Value) (st : State) → Ready shape methods (on_top item m) → FitsItems shape methods items m.path → Same m.state.world st.world → Ready shape methods (record { items = items; values = vs; path = m.path; state = st })
+ready_in shape methods m item items vs st r fits s = record {
   items = fits;
   holds = same_paths shape m.state.world.tree st.world.tree s.paths r.holds;
   path = r.path;
   held = subst (λ hs. All (λ q. there st.world.tree q ≡ true) hs) s.held (subst (λ ps. All (λ q. list_any (path_eq q) ps ≡ true) m.state.world.held) s.paths r.held);
   here = subst (λ ps. list_any (path_eq m.path) ps ≡ true) s.paths r.here;
   early = omega (arith, r.early, s.generation);
-  room = omega (arith, r.room, less, s.changes, s.ticks);
+  few = omega (arith, r.few, s.ticks);
 }
 
 -- what was done comes to a machine like this
@@ -79,7 +78,7 @@ same_spawned event args w v e =
     elim (w.generation == 4) as (λ a. ◌≡◌ {A = Answer World} (if a then Err Generation else (if nat_lt (length w.created) 4 then Ok (record w { created = w.created ++ record { event = event; args = args; generation = suc w.generation } ∷ [] }) else Err Spawns)) (Ok v) → Same w v) [
       | true ↦ λ e. cc
       | false ↦ λ e. elim (nat_lt (length w.created) 4) as (λ b. ◌≡◌ {A = Answer World} (if b then Ok (record w { created = w.created ++ record { event = event; args = args; generation = suc w.generation } ∷ [] }) else Err Spawns) (Ok v) → Same w v) [
-        | true ↦ λ e. from_record w _ v e (record { paths = refl; held = refl; generation = refl; changes = refl; ticks = omega arith })
+        | true ↦ λ e. from_record w _ v e (record { paths = refl; held = refl; generation = refl; ticks = omega arith })
         | false ↦ λ e. cc
       ] e
     ] e

@@ -15,10 +15,10 @@ use Rattle.service_eval.specs.declared.stop.Stop.TheVariants as stop
 use Rattle.service_eval.specs.declared.work.Caller.{Caller}
 use Rattle.service_eval.specs.Items as i
 use Rattle.service_eval.specs.Items.{Item, Eval, Invoke, Child, Block, Return, return_of, to_return}
-use Rattle.service_eval.specs.Machines.{Mach, Rest, items_of, mach_of, on_top, back_to, resume, comes_to}
-use Rattle.service_eval.specs.Ready.{FitsItems, owed, downs, Ready, Follows}
+use Rattle.service_eval.specs.Machines.{Mach, Rest, items_of, mach_of, on_top, back_to, come_of, comes_to}
+use Rattle.service_eval.specs.Ready.{FitsItems, Ready, Follows}
 use Rattle.service_eval.specs.Turns.{mach, Leaves}
-use Rattle.service_eval.specs.Worlds.{Holds, Ends, Fails}
+use Rattle.service_eval.specs.Worlds.{uncounted, Holds, Ends, Fails}
 use Rattle.service_eval.proofs.CallTurns.{ready_back}
 use Rattle.service_eval.proofs.Outcomes.{return_through}
 use Rattle.service_eval.proofs.ReadyLemmas.{ready_with}
@@ -29,7 +29,7 @@ follows_from code o o' (Err x) after e h = (subst (λ o. Fails o x after.state.w
 
 fits_to_return : (shape : Shape) (methods : List Method) (items : List Item) (p : Path) → FitsItems shape methods items p → FitsItems shape methods (to_return items) p
 fits_to_return shape methods [] p h = h
-fits_to_return shape methods (Return locals below depth up ∷ items) p h = h
+fits_to_return shape methods (Return locals below up ∷ items) p h = h
 fits_to_return shape methods (Eval t ∷ items) p h = fits_to_return shape methods items p h.1
 fits_to_return shape methods (i.Evals ts ∷ items) p h = fits_to_return shape methods items p h.1
 fits_to_return shape methods (i.Apply at row base ∷ items) p h = fits_to_return shape methods items p h.1
@@ -40,53 +40,17 @@ fits_to_return shape methods (Child at class method base ∷ items) p h = fits_t
 fits_to_return shape methods (Block steps ∷ items) p h = fits_to_return shape methods items p h.1
 fits_to_return shape methods (i.Begin s ∷ items) p h = fits_to_return shape methods items p h.1
 fits_to_return shape methods (i.Finish at what base ∷ items) p h = fits_to_return shape methods items p h.1
-fits_to_return shape methods (i.Turns at test body left ∷ items) p h = fits_to_return shape methods items p h.1
-fits_to_return shape methods (i.Check at test body left base ∷ items) p h = fits_to_return shape methods items p h.1
-fits_to_return shape methods (i.Counts at counter body left ∷ items) p h = fits_to_return shape methods items p h.1
-fits_to_return shape methods (i.Again at counter body left ∷ items) p h = fits_to_return shape methods items p h.1
-
-owed_to_return : (items : List Item) → owed (to_return items) ≡ owed items
-owed_to_return [] = refl
-owed_to_return (Return locals below depth up ∷ items) = refl
-owed_to_return (Eval t ∷ items) = owed_to_return items ∙ sym (zero-add (owed items))
-owed_to_return (i.Evals ts ∷ items) = owed_to_return items ∙ sym (zero-add (owed items))
-owed_to_return (i.Apply at row base ∷ items) = owed_to_return items ∙ sym (zero-add (owed items))
-owed_to_return (i.AndThen right base ∷ items) = owed_to_return items ∙ sym (zero-add (owed items))
-owed_to_return (i.OrElse right base ∷ items) = owed_to_return items ∙ sym (zero-add (owed items))
-owed_to_return (Invoke at method base ∷ items) = owed_to_return items ∙ sym (zero-add (owed items))
-owed_to_return (Child at class method base ∷ items) = owed_to_return items ∙ sym (zero-add (owed items))
-owed_to_return (Block steps ∷ items) = owed_to_return items ∙ sym (zero-add (owed items))
-owed_to_return (i.Begin s ∷ items) = owed_to_return items ∙ sym (zero-add (owed items))
-owed_to_return (i.Finish at what base ∷ items) = owed_to_return items ∙ sym (zero-add (owed items))
-owed_to_return (i.Turns at test body left ∷ items) = owed_to_return items ∙ sym (zero-add (owed items))
-owed_to_return (i.Check at test body left base ∷ items) = owed_to_return items ∙ sym (zero-add (owed items))
-owed_to_return (i.Counts at counter body left ∷ items) = owed_to_return items ∙ sym (zero-add (owed items))
-owed_to_return (i.Again at counter body left ∷ items) = owed_to_return items ∙ sym (zero-add (owed items))
-
-downs_to_return : (items : List Item) (p : Path) → downs (to_return items) p ≡ downs items p
-downs_to_return [] p = refl
-downs_to_return (Return locals below depth up ∷ items) p = refl
-downs_to_return (Eval t ∷ items) p = downs_to_return items p
-downs_to_return (i.Evals ts ∷ items) p = downs_to_return items p
-downs_to_return (i.Apply at row base ∷ items) p = downs_to_return items p
-downs_to_return (i.AndThen right base ∷ items) p = downs_to_return items p
-downs_to_return (i.OrElse right base ∷ items) p = downs_to_return items p
-downs_to_return (Invoke at method base ∷ items) p = downs_to_return items p
-downs_to_return (Child at class method base ∷ items) p = downs_to_return items p
-downs_to_return (Block steps ∷ items) p = downs_to_return items p
-downs_to_return (i.Begin s ∷ items) p = downs_to_return items p
-downs_to_return (i.Finish at what base ∷ items) p = downs_to_return items p
-downs_to_return (i.Turns at test body left ∷ items) p = downs_to_return items p
-downs_to_return (i.Check at test body left base ∷ items) p = downs_to_return items p
-downs_to_return (i.Counts at counter body left ∷ items) p = downs_to_return items p
-downs_to_return (i.Again at counter body left ∷ items) p = downs_to_return items p
+fits_to_return shape methods (i.Turns at test body ∷ items) p h = fits_to_return shape methods items p h.1
+fits_to_return shape methods (i.Check at test body base ∷ items) p h = fits_to_return shape methods items p h.1
+fits_to_return shape methods (i.Counts at counter body ∷ items) p h = fits_to_return shape methods items p h.1
+fits_to_return shape methods (i.Again at counter body ∷ items) p h = fits_to_return shape methods items p h.1
 
 module _ (code : Code) (contexts : Contexts) (m m1 : Machine) (ready : Ready code.shape.now code.methods.now (mach code contexts m)) (rest : (tree : Tree (List Value)) → mach_of tree m1 ≡ record (mach_of tree m) { items = items_of m1 }) where
   abbrev M : Mach
   M = mach code contexts m
 
   at_return : Ready code.shape.now code.methods.now (record M { items = to_return M.items })
-  at_return = ready_with code.shape.now code.methods.now M (to_return M.items) M.values M.depth ready (fits_to_return code.shape.now code.methods.now M.items M.path ready.items) (omega (arith, owed_to_return M.items, downs_to_return M.items M.path))
+  at_return = ready_with code.shape.now code.methods.now M (to_return M.items) M.values ready (fits_to_return code.shape.now code.methods.now M.items M.path ready.items)
 
   module _ (c : Caller) (found : to_return (items_of m) ≡ return_of c ∷ items_of m1) where
     pub ready_at_caller : Ready code.shape.now code.methods.now (on_top (return_of c) (mach code contexts m1))
@@ -99,8 +63,8 @@ module _ (code : Code) (contexts : Contexts) (m m1 : Machine) (ready : Ready cod
         let target = back_to c v (mach code contexts m1) in
         let same : mach code contexts m2 ≡ target = ok (shown code.shape.now contexts) in
         let at : target ≡ back_to c (worth r) (record M { items = items_of m1 }) = λ i. back_to c (is i) (rest (shown code.shape.now contexts) i) in (
-          return_through code.methods.now M.items M.path M.depth r M.state
-              ∙ ap (λ items. resume code.methods.now items M.path M.depth (Left (Returned r) M.state)) found
+          return_through code.methods.now M.items M.path r M.state
+              ∙ ap (λ items. come_of code.methods.now items M.path (Left (Returned r) M.state)) found
               ∙ ap (comes_to code.methods.now) (sym at ∙ sym same),
           subst (Ready code.shape.now code.methods.now) (sym same) (ready_back code.shape.now code.methods.now (mach code contexts m1) c v ready_at_caller),
         )
@@ -111,11 +75,11 @@ module _ (code : Code) (contexts : Contexts) (m m1 : Machine) (ready : Ready cod
   -- where no method runs, the event ends
   pub none_given_back : (r : Option Value) → to_return (items_of m) ≡ [] → Leaves code contexts m (Returned r) (Err (stop.Ended r)) contexts m1
   none_given_back r none =
-      let ends : Ends (resume code.methods.now M.items M.path M.depth (Left (Returned r) M.state)) r M.state.world = record {
+      let ends : Ends (come_of code.methods.now M.items M.path (Left (Returned r) M.state)) r M.state.world = record {
         why = Returned r;
-        state = M.state;
-        is = return_through code.methods.now M.items M.path M.depth r M.state ∙ ap (λ items. resume code.methods.now items M.path M.depth (Left (Returned r) M.state)) none;
+        state = record { locals = M.state.locals; world = uncounted M.state.world };
+        is = return_through code.methods.now M.items M.path r M.state ∙ ap (λ items. come_of code.methods.now items M.path (Left (Returned r) M.state)) none;
         replies = refl;
         leaves = refl;
       } in
-      subst (λ (w : World). Ends (resume code.methods.now M.items M.path M.depth (Left (Returned r) M.state)) r w × Holds code.shape.now w.tree) (sym (ap (λ (x : Mach). x.state.world) (rest (shown code.shape.now contexts)))) (ends, ready.holds)
+      subst (λ (w : World). Ends (come_of code.methods.now M.items M.path (Left (Returned r) M.state)) r w × Holds code.shape.now w.tree) (sym (ap (λ (x : Mach). x.state.world) (rest (shown code.shape.now contexts)))) (ends, ready.holds)

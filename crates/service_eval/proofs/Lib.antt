@@ -6,6 +6,8 @@ pub mod LeaveTurns
 pub mod LookLemmas
 pub mod Outcomes
 pub mod EvalLemmas
+pub mod Likeness
+pub mod ItemLikeness
 pub mod ReadyLemmas
 pub mod EvalTurns
 pub mod PathLemmas

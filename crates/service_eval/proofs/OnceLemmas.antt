@@ -1,6 +1,7 @@
 -- Statements that are done at once.
 use Rattle.std.proofs.Common.{◌≡◌, ℕ, true, List, get_or, slice_set, Option, Result, Ok, Err, sym, ap, subst, ◌∙◌, arith}
 use Rattle.std.specs.List.{list_any, All}
+use Rattle.wave_base.specs.declared.limits.TheConstants.{TICKS}
 use Rattle.wave_base.specs.declared.path.Path.{Path}
 use Rattle.wave_base.specs.declared.shape.Shape.{Shape}
 use Rattle.wave_base.specs.declared.span.Span.{Span}
@@ -20,7 +21,7 @@ use Rattle.service_eval.specs.declared.stop.Stop.{Stop}
 use Rattle.service_eval.specs.declared.stop.Stop.TheVariants as stop
 use Rattle.service_eval.specs.Answers.{told}
 use Rattle.service_eval.specs.Items.{Block}
-use Rattle.service_eval.specs.Machines.{Mach, on_top, in_state, resume, comes_to}
+use Rattle.service_eval.specs.Machines.{Mach, on_top, in_state, come_of, comes_to}
 use Rattle.service_eval.specs.Ready.{Ready}
 use Rattle.service_eval.specs.Turns.{mach, Alters, AtOnce}
 use Rattle.service_eval.specs.Worlds.{Holds, Traps, Fails}
@@ -39,21 +40,21 @@ ready_state shape methods m st r s = record {
   held = subst (λ hs. All (λ q. there st.world.tree q ≡ true) hs) s.held (subst (λ ps. All (λ q. list_any (path_eq q) ps ≡ true) m.state.world.held) s.paths r.held);
   here = subst (λ ps. list_any (path_eq m.path) ps ≡ true) s.paths r.here;
   early = omega (arith, r.early, s.generation);
-  room = omega (arith, r.room, s.changes, s.ticks);
+  few = omega (arith, r.few, s.ticks);
 }
 
 -- the first of some statements
 module _ (methods : List Method) (m : Mach) (s : Step) (ss : Steps) where
   abbrev first : Outcome (Unit {0})
-  first = effect (called methods m.depth) m.depth m.path s m.state
+  first = effect (called methods TICKS) TICKS m.path s m.state
 
-  pub block_goes : (st : State) → effect (called methods m.depth) m.depth m.path s m.state ≡ Done tt st → comes_to methods (on_top (Block (step s ss)) m) ≡ comes_to methods (on_top (Block ss) (in_state st m))
-  block_goes st h = ap (λ o. resume methods m.items m.path m.depth (and_then (and_then o (λ _. effects (called methods m.depth) m.depth m.path ss)) (λ _. give m.values))) h
+  pub block_goes : (st : State) → effect (called methods TICKS) TICKS m.path s m.state ≡ Done tt st → comes_to methods (on_top (Block (step s ss)) m) ≡ comes_to methods (on_top (Block ss) (in_state st m))
+  block_goes st h = ap (λ o. come_of methods m.items m.path (and_then (and_then o (λ _. effects (called methods TICKS) TICKS m.path ss)) (λ _. give m.values))) h
 
-  pub block_fails : (e : Stop) (w : World) → Traps (effect (called methods m.depth) m.depth m.path s m.state) e w → Fails (comes_to methods (on_top (Block (step s ss)) m)) e w
+  pub block_fails : (e : Stop) (w : World) → Traps (effect (called methods TICKS) TICKS m.path s m.state) e w → Fails (comes_to methods (on_top (Block (step s ss)) m)) e w
   block_fails e w h =
-      fails_through methods m.items m.path m.depth _ e w
-      (traps_then (and_then first (λ _. effects (called methods m.depth) m.depth m.path ss)) (λ _. give m.values) e w (traps_then first (λ _. effects (called methods m.depth) m.depth m.path ss) e w h))
+      fails_through methods m.items m.path _ e w
+      (traps_then (and_then first (λ _. effects (called methods TICKS) TICKS m.path ss)) (λ _. give m.values) e w (traps_then first (λ _. effects (called methods TICKS) TICKS m.path ss) e w h))
 
 second_fails : (o : Outcome Value) (second : Act Value) (f : Value → Value → Act (Unit {0})) (e : Stop) (w : World) → Traps (and_then o (λ _. second)) e w → Traps (and_then o (λ x. second >>= f x)) e w
 second_fails (Done x st) second f e w h = traps_then (second st) (f x) e w h
@@ -81,7 +82,7 @@ module _ (code : Code) (contexts : Contexts) (m m' : Machine) (s : Step) (ready 
   M = mach code contexts m
 
   abbrev does : Outcome (Unit {0})
-  does = effect (called code.methods.now m.depth) m.depth m.path s (mach code contexts m).state
+  does = effect (called code.methods.now TICKS) TICKS m.path s (mach code contexts m).state
 
   -- it came to another state
   pub once : (contexts' : Contexts) (st : State) → does ≡ Done tt st → Same M.state.world st.world → mach code contexts' m' ≡ in_state st M → AtOnce code contexts m s (Ok true) contexts' m'

@@ -11,8 +11,8 @@ use Rattle.resolved_service.specs.World.{World, nothing}
 use Rattle.service_eval.specs.declared.stop.Stop.{Stop}
 use Rattle.service_eval.specs.declared.stop.Stop.TheVariants as stop
 use Rattle.service_eval.specs.Items.{Item, Eval, Evals, Apply, AndThen, OrElse, Invoke, Child, Block, Begin, Finish, Turns, Check, Counts, Again, Return, to_return}
-use Rattle.service_eval.specs.Machines.{resume, own}
-use Rattle.service_eval.specs.Worlds.{Traps, Ends, Fails}
+use Rattle.service_eval.specs.Machines.{resume, come_of, own}
+use Rattle.service_eval.specs.Worlds.{uncounted, plain, Traps, Ends, Fails}
 
 pub assoc : {A B C : Type 0} (o : Outcome A) (f : A → Act B) (g : B → Act C) → and_then (and_then o f) g ≡ and_then o (λ a st. and_then (f a st) g)
 assoc (Done a st) f g = refl
@@ -35,77 +35,86 @@ traps_then o f stop.OutOfMemory w h = tt
 traps_then o f (stop.Trapped t) w h = ap (λ o. and_then o f) h
 traps_then o f (stop.Ended r) w h = h
 
-pub fails_then : {A B : Type 0} (o : Outcome A) (f : A → Act B) (e : Stop) (w : World) → Fails o e w → Fails (and_then o f) e w
+pub fails_then : {A B : Type 0} (o : Outcome A) (f : A → Act B) (e : Stop) (w : World) → Fails (plain o) e w → Fails (plain (and_then o f)) e w
 fails_then o f stop.OutOfMemory w h = tt
-fails_then o f (stop.Trapped t) w h = ap (λ o. and_then o f) h
-fails_then o f (stop.Ended r) w h = record { why = h.why; state = h.state; is = ap (λ o. and_then o f) h.is; replies = h.replies; leaves = h.leaves }
+fails_then (Done a st) f (stop.Trapped t) w h = absurd cc
+fails_then (Trapped k at v) f (stop.Trapped t) w h =
+    let a : k ≡ t.kind = cc in let b : at ≡ t.at = cc in let c : uncounted v ≡ uncounted w = cc in λ i. Trapped (a i) (b i) (c i)
+fails_then (Left l st) f (stop.Trapped t) w h = absurd cc
+fails_then {A} (Done a st) f (stop.Ended r) w h = let is : ◌≡◌ {A = Outcome A} (plain (Done a st)) (Left h.why h.state) = h.is in absurd cc
+fails_then {A} (Trapped k at v) f (stop.Ended r) w h = let is : ◌≡◌ {A = Outcome A} (plain (Trapped k at v)) (Left h.why h.state) = h.is in absurd cc
+fails_then {A} (Left l st) f (stop.Ended r) w h =
+    let is : ◌≡◌ {A = Outcome A} (plain (Left l st)) (Left h.why h.state) = h.is in
+    let a : l ≡ h.why = cc in
+    let b : record { locals = st.locals; world = uncounted st.world } ≡ h.state = cc in
+    record { why = h.why; state = h.state; is = λ i. Left (a i) (b i); replies = h.replies; leaves = h.leaves }
 
-pub traps_fail : {A : Type 0} (o : Outcome A) (e : Stop) (w : World) → Traps o e w → Fails o e w
+pub traps_fail : {A : Type 0} (o : Outcome A) (e : Stop) (w : World) → Traps o e w → Fails (plain o) e w
 traps_fail o stop.OutOfMemory w h = tt
-traps_fail o (stop.Trapped t) w h = h
+traps_fail o (stop.Trapped t) w h = ap plain h
 traps_fail o (stop.Ended r) w h = absurd h
 
 -- a trap ends all
-pub trap_through : (methods : List Method) (items : List Item) (p : Path) (n : ℕ) (k : TrapKind) (at : Span) (w : World) → resume methods items p n (Trapped k at w) ≡ Trapped k at w
-trap_through methods [] p n k at w = refl
-trap_through methods (Return locals below depth up ∷ items) p n k at w = trap_through methods items _ depth k at w
-trap_through methods (Eval t ∷ items) p n k at w = trap_through methods items p n k at w
-trap_through methods (Evals ts ∷ items) p n k at w = trap_through methods items p n k at w
-trap_through methods (Apply a row base ∷ items) p n k at w = trap_through methods items p n k at w
-trap_through methods (AndThen right base ∷ items) p n k at w = trap_through methods items p n k at w
-trap_through methods (OrElse right base ∷ items) p n k at w = trap_through methods items p n k at w
-trap_through methods (Invoke a method base ∷ items) p n k at w = trap_through methods items p n k at w
-trap_through methods (Child a class method base ∷ items) p n k at w = trap_through methods items p n k at w
-trap_through methods (Block steps ∷ items) p n k at w = trap_through methods items p n k at w
-trap_through methods (Begin s ∷ items) p n k at w = trap_through methods items p n k at w
-trap_through methods (Finish a what base ∷ items) p n k at w = trap_through methods items p n k at w
-trap_through methods (Turns a test body left ∷ items) p n k at w = trap_through methods items p n k at w
-trap_through methods (Check a test body left base ∷ items) p n k at w = trap_through methods items p n k at w
-trap_through methods (Counts a counter body left ∷ items) p n k at w = trap_through methods items p n k at w
-trap_through methods (Again a counter body left ∷ items) p n k at w = trap_through methods items p n k at w
+pub trap_through : (methods : List Method) (items : List Item) (p : Path) (k : TrapKind) (at : Span) (w : World) → resume methods items p (Trapped k at w) ≡ Trapped k at w
+trap_through methods [] p k at w = refl
+trap_through methods (Return locals below up ∷ items) p k at w = trap_through methods items _ k at w
+trap_through methods (Eval t ∷ items) p k at w = trap_through methods items p k at w
+trap_through methods (Evals ts ∷ items) p k at w = trap_through methods items p k at w
+trap_through methods (Apply a row base ∷ items) p k at w = trap_through methods items p k at w
+trap_through methods (AndThen right base ∷ items) p k at w = trap_through methods items p k at w
+trap_through methods (OrElse right base ∷ items) p k at w = trap_through methods items p k at w
+trap_through methods (Invoke a method base ∷ items) p k at w = trap_through methods items p k at w
+trap_through methods (Child a class method base ∷ items) p k at w = trap_through methods items p k at w
+trap_through methods (Block steps ∷ items) p k at w = trap_through methods items p k at w
+trap_through methods (Begin s ∷ items) p k at w = trap_through methods items p k at w
+trap_through methods (Finish a what base ∷ items) p k at w = trap_through methods items p k at w
+trap_through methods (Turns a test body ∷ items) p k at w = trap_through methods items p k at w
+trap_through methods (Check a test body base ∷ items) p k at w = trap_through methods items p k at w
+trap_through methods (Counts a counter body ∷ items) p k at w = trap_through methods items p k at w
+trap_through methods (Again a counter body ∷ items) p k at w = trap_through methods items p k at w
 
-pub fails_through : (methods : List Method) (items : List Item) (p : Path) (n : ℕ) (o : Outcome (List Value)) (e : Stop) (w : World) → Traps o e w → Fails (resume methods items p n o) e w
-fails_through methods items p n o stop.OutOfMemory w h = tt
-fails_through methods items p n o (stop.Trapped t) w h = ap (resume methods items p n) h ∙ trap_through methods items p n t.kind t.at w
-fails_through methods items p n o (stop.Ended r) w h = absurd h
+pub fails_through : (methods : List Method) (items : List Item) (p : Path) (o : Outcome (List Value)) (e : Stop) (w : World) → Traps o e w → Fails (come_of methods items p o) e w
+fails_through methods items p o stop.OutOfMemory w h = tt
+fails_through methods items p o (stop.Trapped t) w h = ap (come_of methods items p) h ∙ ap plain (trap_through methods items p t.kind t.at w)
+fails_through methods items p o (stop.Ended r) w h = absurd h
 
 -- a method that returns early goes on at its return
-pub return_through : (methods : List Method) (items : List Item) (p : Path) (n : ℕ) (r : Option Value) (st : State) → resume methods items p n (Left (Returned r) st) ≡ resume methods (to_return items) p n (Left (Returned r) st)
-return_through methods [] p n r st = refl
-return_through methods (Return locals below depth up ∷ items) p n r st = refl
-return_through methods (Eval t ∷ items) p n r st = return_through methods items p n r st
-return_through methods (Evals ts ∷ items) p n r st = return_through methods items p n r st
-return_through methods (Apply a row base ∷ items) p n r st = return_through methods items p n r st
-return_through methods (AndThen right base ∷ items) p n r st = return_through methods items p n r st
-return_through methods (OrElse right base ∷ items) p n r st = return_through methods items p n r st
-return_through methods (Invoke a method base ∷ items) p n r st = return_through methods items p n r st
-return_through methods (Child a class method base ∷ items) p n r st = return_through methods items p n r st
-return_through methods (Block steps ∷ items) p n r st = return_through methods items p n r st
-return_through methods (Begin s ∷ items) p n r st = return_through methods items p n r st
-return_through methods (Finish a what base ∷ items) p n r st = return_through methods items p n r st
-return_through methods (Turns a test body left ∷ items) p n r st = return_through methods items p n r st
-return_through methods (Check a test body left base ∷ items) p n r st = return_through methods items p n r st
-return_through methods (Counts a counter body left ∷ items) p n r st = return_through methods items p n r st
-return_through methods (Again a counter body left ∷ items) p n r st = return_through methods items p n r st
+pub return_through : (methods : List Method) (items : List Item) (p : Path) (r : Option Value) (st : State) → come_of methods items p (Left (Returned r) st) ≡ come_of methods (to_return items) p (Left (Returned r) st)
+return_through methods [] p r st = refl
+return_through methods (Return locals below up ∷ items) p r st = refl
+return_through methods (Eval t ∷ items) p r st = return_through methods items p r st
+return_through methods (Evals ts ∷ items) p r st = return_through methods items p r st
+return_through methods (Apply a row base ∷ items) p r st = return_through methods items p r st
+return_through methods (AndThen right base ∷ items) p r st = return_through methods items p r st
+return_through methods (OrElse right base ∷ items) p r st = return_through methods items p r st
+return_through methods (Invoke a method base ∷ items) p r st = return_through methods items p r st
+return_through methods (Child a class method base ∷ items) p r st = return_through methods items p r st
+return_through methods (Block steps ∷ items) p r st = return_through methods items p r st
+return_through methods (Begin s ∷ items) p r st = return_through methods items p r st
+return_through methods (Finish a what base ∷ items) p r st = return_through methods items p r st
+return_through methods (Turns a test body ∷ items) p r st = return_through methods items p r st
+return_through methods (Check a test body base ∷ items) p r st = return_through methods items p r st
+return_through methods (Counts a counter body ∷ items) p r st = return_through methods items p r st
+return_through methods (Again a counter body ∷ items) p r st = return_through methods items p r st
 
 -- a finish ends all
-pub finish_through : (methods : List Method) (items : List Item) (p : Path) (n : ℕ) (r : Option Value) (st : State) → Ends (resume methods items p n (Left (Finished r) st)) r st.world
-finish_through methods [] p n r st = record { why = Finished r; state = st; is = refl; replies = refl; leaves = refl }
-finish_through methods (Return locals below depth up ∷ items) p n r st = finish_through methods items _ depth r (record { locals = locals; world = st.world })
-finish_through methods (Eval t ∷ items) p n r st = finish_through methods items p n r st
-finish_through methods (Evals ts ∷ items) p n r st = finish_through methods items p n r st
-finish_through methods (Apply a row base ∷ items) p n r st = finish_through methods items p n r st
-finish_through methods (AndThen right base ∷ items) p n r st = finish_through methods items p n r st
-finish_through methods (OrElse right base ∷ items) p n r st = finish_through methods items p n r st
-finish_through methods (Invoke a method base ∷ items) p n r st = finish_through methods items p n r st
-finish_through methods (Child a class method base ∷ items) p n r st = finish_through methods items p n r st
-finish_through methods (Block steps ∷ items) p n r st = finish_through methods items p n r st
-finish_through methods (Begin s ∷ items) p n r st = finish_through methods items p n r st
-finish_through methods (Finish a what base ∷ items) p n r st = finish_through methods items p n r st
-finish_through methods (Turns a test body left ∷ items) p n r st = finish_through methods items p n r st
-finish_through methods (Check a test body left base ∷ items) p n r st = finish_through methods items p n r st
-finish_through methods (Counts a counter body left ∷ items) p n r st = finish_through methods items p n r st
-finish_through methods (Again a counter body left ∷ items) p n r st = finish_through methods items p n r st
+pub finish_through : (methods : List Method) (items : List Item) (p : Path) (r : Option Value) (st : State) → Ends (come_of methods items p (Left (Finished r) st)) r st.world
+finish_through methods [] p r st = record { why = Finished r; state = record { locals = st.locals; world = uncounted st.world }; is = refl; replies = refl; leaves = refl }
+finish_through methods (Return locals below up ∷ items) p r st = finish_through methods items _ r (record { locals = locals; world = st.world })
+finish_through methods (Eval t ∷ items) p r st = finish_through methods items p r st
+finish_through methods (Evals ts ∷ items) p r st = finish_through methods items p r st
+finish_through methods (Apply a row base ∷ items) p r st = finish_through methods items p r st
+finish_through methods (AndThen right base ∷ items) p r st = finish_through methods items p r st
+finish_through methods (OrElse right base ∷ items) p r st = finish_through methods items p r st
+finish_through methods (Invoke a method base ∷ items) p r st = finish_through methods items p r st
+finish_through methods (Child a class method base ∷ items) p r st = finish_through methods items p r st
+finish_through methods (Block steps ∷ items) p r st = finish_through methods items p r st
+finish_through methods (Begin s ∷ items) p r st = finish_through methods items p r st
+finish_through methods (Finish a what base ∷ items) p r st = finish_through methods items p r st
+finish_through methods (Turns a test body ∷ items) p r st = finish_through methods items p r st
+finish_through methods (Check a test body base ∷ items) p r st = finish_through methods items p r st
+finish_through methods (Counts a counter body ∷ items) p r st = finish_through methods items p r st
+finish_through methods (Again a counter body ∷ items) p r st = finish_through methods items p r st
 
 -- values upon those that lie below
 module _ (vs xs : List Value) where

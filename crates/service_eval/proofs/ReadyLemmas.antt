@@ -1,5 +1,6 @@
 -- A machine stays ready.
-use Rattle.std.proofs.Common.{◌≡◌, ℕ, ◌+◌, ◌≤◌, List, [], ◌∷◌, ◌++◌, Result, Ok, Err, OnOk, IfErr, sym, ap, subst, ◌∙◌, arith}
+use Rattle.std.proofs.Common.{◌≡◌, List, [], ◌∷◌, ◌++◌, Result, Ok, Err, OnOk, IfErr, sym, ap, subst, ◌∙◌}
+use Rattle.wave_base.specs.declared.limits.TheConstants.{TICKS}
 use Rattle.wave_base.specs.declared.shape.Shape.{Shape}
 use Rattle.wave_base.specs.declared.value.Value.{Value}
 use Rattle.wave_base.specs.Tree.{Tree}
@@ -13,21 +14,21 @@ use Rattle.service_eval.specs.declared.stop.Stop.{Stop}
 use Rattle.service_eval.specs.declared.stop.Stop.TheVariants as stop
 use Rattle.service_eval.specs.Items.{Item, Eval}
 use Rattle.service_eval.specs.Machines.{Mach, mach_of, state_of, on_top, with_value, comes_to}
-use Rattle.service_eval.specs.Ready.{FitsItems, owed, downs, Ready, Turned}
+use Rattle.service_eval.specs.Ready.{FitsItems, Ready, Turned}
 use Rattle.service_eval.specs.Turns.{mach, IsNext, Goes}
 use Rattle.service_eval.specs.Worlds.{Holds}
 use Rattle.service_eval.proofs.EvalLemmas.{found_value}
 
--- other items, values and depth at the same context and in the same state
-pub ready_with : (shape : Shape) (methods : List Method) (m : Mach) (items : List Item) (vs : List Value) (n : ℕ) → Ready shape methods m → FitsItems shape methods items m.path → owed items + downs m.items m.path ≤ owed m.items + downs items m.path → Ready shape methods (record { items = items; values = vs; path = m.path; depth = n; state = m.state })
-ready_with shape methods m items vs n r fits less = record {
+-- other items and values at the same context and in the same state
+pub ready_with : (shape : Shape) (methods : List Method) (m : Mach) (items : List Item) (vs : List Value) → Ready shape methods m → FitsItems shape methods items m.path → Ready shape methods (record { items = items; values = vs; path = m.path; state = m.state })
+ready_with shape methods m items vs r fits = record {
   items = fits;
   holds = r.holds;
   path = r.path;
   held = r.held;
   here = r.here;
   early = r.early;
-  room = omega (arith, r.room, less);
+  few = r.few;
 }
 
 -- what was done by calls that fail for want of memory alone, on other contexts
@@ -51,6 +52,6 @@ pub at_tree : (code : Code) (contexts : Contexts) (m m' : Machine) (r : Result (
 at_tree code contexts m m' r t u e f next = subst (λ t. Goes code contexts m (Eval t) r contexts m') (sym e) (f (subst (λ t. IsNext code contexts m (Eval t)) e next))
 
 -- an expression that has its value at once
-pub gives : (code : Code) (contexts : Contexts) (m m' : Machine) (r : Result (Unit {0}) Stop) (t : Expression) (v : Value) → value (called code.methods.now m.depth) m.path t (state_of (shown code.shape.now contexts) m) ≡ Done v (state_of (shown code.shape.now contexts) m) → OnOk r ((tree : Tree (List Value)) → mach_of tree m' ≡ with_value v (mach_of tree m)) → IfErr r (λ e. e ≡ stop.OutOfMemory) → IsNext code contexts m (Eval t) → Goes code contexts m (Eval t) r contexts m'
+pub gives : (code : Code) (contexts : Contexts) (m m' : Machine) (r : Result (Unit {0}) Stop) (t : Expression) (v : Value) → value (called code.methods.now TICKS) m.path t (state_of (shown code.shape.now contexts) m) ≡ Done v (state_of (shown code.shape.now contexts) m) → OnOk r ((tree : Tree (List Value)) → mach_of tree m' ≡ with_value v (mach_of tree m)) → IfErr r (λ e. e ≡ stop.OutOfMemory) → IsNext code contexts m (Eval t) → Goes code contexts m (Eval t) r contexts m'
 gives code contexts m m' r t v h ok err next =
-    turned code contexts (Eval t) (with_value v) m m' r next (found_value code.methods.now (mach code contexts m) t v h) (ready_with code.shape.now code.methods.now (on_top (Eval t) (mach code contexts m)) (mach code contexts m).items (m.values.items ++ v ∷ []) m.depth next next.items.1 (omega arith)) ok err
+    turned code contexts (Eval t) (with_value v) m m' r next (found_value code.methods.now (mach code contexts m) t v h) (ready_with code.shape.now code.methods.now (on_top (Eval t) (mach code contexts m)) (mach code contexts m).items (m.values.items ++ v ∷ []) next next.items.1) ok err

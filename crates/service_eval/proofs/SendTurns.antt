@@ -1,5 +1,6 @@
 -- A statement that changes the outside alone.
 use Rattle.std.proofs.Common.{◌≡◌, ℕ, drop, Result, Ok, Err, sym, ap, subst, ◌∙◌, arith}
+use Rattle.wave_base.specs.declared.limits.TheConstants.{TICKS}
 use Rattle.wave_base.specs.declared.span.Span.{Span}
 use Rattle.value_ops.specs.Kinds.{Answer}
 use Rattle.context_tree.specs.Contexts.{Contexts, tree_of as shown}
@@ -23,12 +24,12 @@ refused a at st (stop.Ended r) w h = h
 refused a at st (stop.Trapped t) w h = ap (λ a. with_world a at st) h.0 ∙ (λ i. Trapped t.kind (sym h.1 i) (sym h.2 i))
 
 module _ (code : Code) (contexts : Contexts) (m m1 : Machine) (tr : Trace) (at : Span) (base : ℕ) (what : End) (a : Answer World) where
-  pub changed_turn : (r : Result (Unit {0}) Stop) → finish (called code.methods.now m.depth) m.depth m.path at (drop base m.values.items) what (mach code contexts m).state ≡ with_world a at (mach code contexts m).state → mach_of (shown code.shape.now contexts) m1 ≡ cut_to base (mach code contexts m) → Changes a at (mach code contexts m).state.world r (world_of (shown code.shape.now contexts) tr) → ((v : World) → a ≡ Ok v → Same (mach code contexts m).state.world v) → IsNext code contexts m (Finish at what base) → Goes code contexts m (Finish at what base) r contexts (record m1 { trace = tr })
+  pub changed_turn : (r : Result (Unit {0}) Stop) → finish (called code.methods.now TICKS) TICKS m.path at (drop base m.values.items) what (mach code contexts m).state ≡ with_world a at (mach code contexts m).state → mach_of (shown code.shape.now contexts) m1 ≡ cut_to base (mach code contexts m) → Changes a at (mach code contexts m).state.world r (world_of (shown code.shape.now contexts) tr) → ((v : World) → a ≡ Ok v → Same (mach code contexts m).state.world v) → IsNext code contexts m (Finish at what base) → Goes code contexts m (Finish at what base) r contexts (record m1 { trace = tr })
   changed_turn (Ok u) is cut h same next =
       let w = world_of (shown code.shape.now contexts) tr in
       did code contexts contexts (Finish at what base) (in_world w (cut_to base (mach code contexts m))) m (record m1 { trace = tr })
       (finished code.methods.now (mach code contexts m) at base what _ (is ∙ ap (λ a. with_world a at (mach code contexts m).state) h))
-      (ready_in _ _ (mach code contexts m) _ _ _ _ _ next next.items.1 (omega arith) (same w h)) (ap (in_world w) cut)
+      (ready_in _ _ (mach code contexts m) _ _ _ _ next next.items.1 (same w h)) (ap (in_world w) cut)
   changed_turn (Err e) is cut h same next =
       let w = world_of (shown code.shape.now contexts) tr in
       (not_finished code.methods.now (mach code contexts m) at base what e w (subst (λ o. Traps o e w) (sym is) (refused a at (mach code contexts m).state e w h)), next.holds)

@@ -10,7 +10,7 @@ use Rattle.value_ops.specs.Kinds.{Answer}
 use Rattle.resolved_service.specs.World.{World, has, changed, with_entered, entering, sending, spawning}
 use Rattle.service_eval.specs.declared.stop.Stop.{Stop}
 use Rattle.service_eval.specs.declared.stop.Stop.TheVariants.{Trapped}
-use Rattle.service_eval.specs.Worlds.{Changes}
+use Rattle.service_eval.specs.Worlds.{Changes, Enters}
 
 pub below_is : (a b : ℕ) → a < b → nat_lt a b ≡ true
 below_is a b h = grind (arith, nat_tests)
@@ -27,6 +27,9 @@ equal_not a b h = grind (arith, nat_tests)
 -- a trap that is handed on
 pub refuses : (answer : Answer World) (k : TrapKind) (at : Span) (w : World) (r : Result (Unit {0}) Stop) → answer ≡ Err k → r ≡ Err (Trapped (record { kind = k; at = at })) → Changes answer at w r w
 refuses answer k at w r e h = subst (λ r. Changes answer at w r w) (sym h) (e, refl, refl)
+
+pub enters_refuses : (q : Path) (k : TrapKind) (at : Span) (w : World) (r : Result (Unit {0}) Stop) → entering q w ≡ Err k → r ≡ Err (Trapped (record { kind = k; at = at })) → Enters q w at r w
+enters_refuses q k at w r e h = subst (λ r. Enters q w at r w) (sym h) (e, refl, refl)
 
 module _ (label : List ℕ) (value : Value) (w : World) where
   pub sends_no_more : 64 ≤ length w.messages → sending label value w ≡ Err Sends

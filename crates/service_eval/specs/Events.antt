@@ -15,7 +15,7 @@ use Rattle.service_eval.specs.declared.machine.Machine.{Machine}
 use Rattle.service_eval.specs.declared.stop.Stop.{Stop}
 use Rattle.service_eval.specs.Ready.{Ready}
 use Rattle.service_eval.specs.Turns.{mach}
-use Rattle.service_eval.specs.Worlds.{Fails}
+use Rattle.service_eval.specs.Worlds.{plain, Fails}
 
 -- the result, the tree and the contexts that were entered
 abbrev pub Means : Meant → EventRan → Tree (List Value) → Type 0
@@ -27,10 +27,10 @@ pub record Rests (code : Code) (contexts : Contexts) (m : Machine) : Type 0 wher
   pub items : (mach code contexts m).items ≡ []
   pub values : m.values.items ≡ []
 
--- an act came to its end in this state, or failed
+-- an act came to its end in this state, or failed; nothing is said of how often the event changed its place
 abbrev pub Comes : {A : Type 0} → Outcome A → Result A Stop → State → Type 0
-Comes out (Ok a) st = out ≡ Done a st
-Comes out (Err e) st = Fails out e st.world
+Comes out (Ok a) st = plain out ≡ plain (Done a st)
+Comes out (Err e) st = Fails (plain out) e st.world
 
 -- into a child, and all is given up that lies outside
 abbrev pub went_down : Path → Span → Act (Unit {0})

@@ -8,6 +8,8 @@ use Rattle.resolved_service.specs.Steps.{Step, Steps, no_steps, Else, no_else, o
 use Rattle.resolved_service.specs.View.{Tree, Trees, tree_of, trees_of}
 use Rattle.service_eval.specs.declared.work.Caller.{Caller}
 use Rattle.service_eval.specs.declared.work.Ending.{Ending}
+use Rattle.service_eval.specs.declared.work.ForLoop.{ForLoop}
+use Rattle.service_eval.specs.declared.work.WhileLoop.{WhileLoop}
 use Rattle.service_eval.specs.declared.work.Ending.TheVariants as ending
 use Rattle.service_eval.specs.declared.work.Work.{Work}
 use Rattle.service_eval.specs.declared.work.Work.TheVariants as work
@@ -33,11 +35,10 @@ pub data Item : Type 0 where
   Block : Steps → Item
   Begin : Step → Item
   Finish : (at : Span) (what : End) (base : ℕ) → Item
-  Turns : (at : Span) (test : Tree) (body : Steps) (left : ℕ) → Item
-  Check : (at : Span) (test : Tree) (body : Steps) (left base : ℕ) → Item
-  Counts : (at : Span) (counter : ℕ) (body : Steps) (left : ℕ) → Item
-  Again : (at : Span) (counter : ℕ) (body : Steps) (left : ℕ) → Item
-  Return : (locals values : List Value) (depth : ℕ) (up : Bool) → Item
+  Turns : (at : Span) (test : Tree) (body : Steps) → Item
+  Check : (at : Span) (test : Tree) (body : Steps) (base : ℕ) → Item
+  Counts Again : (at : Span) (counter : ℕ) (body : Steps) → Item
+  Return : (locals values : List Value) (up : Bool) → Item
 
 abbrev pub end_of : Ending → End
 end_of (ending.SetLocal s) = SetLocal s
@@ -46,7 +47,7 @@ end_of (ending.PutLocal s) = PutLocal s
 end_of (ending.PutField f) = PutField f
 end_of (ending.CutLocal s) = CutLocal s
 end_of (ending.CutField f) = CutField f
-end_of (ending.Branch body other) = Branch (steps_in body.now) (steps_in other.now)
+end_of (ending.Branch b) = Branch (steps_in b.body.now) (steps_in b.other.now)
 end_of ending.Require = Require
 end_of (ending.Send label) = Send label.now
 end_of (ending.Spawn event) = Spawn event
@@ -55,7 +56,19 @@ end_of ending.Return = Returns
 end_of ending.Finish = Finishes
 
 abbrev pub return_of : Caller → Item
-return_of c = Return c.locals.items c.values.items c.depth c.up
+return_of c = Return c.locals.items c.values.items c.up
+
+abbrev pub turns_of : WhileLoop → Item
+turns_of w = Turns w.at (tree_of w.test.now) (steps_in w.body.now)
+
+abbrev pub check_of : WhileLoop → ℕ → Item
+check_of w base = Check w.at (tree_of w.test.now) (steps_in w.body.now) base
+
+abbrev pub counts_of : ForLoop → Item
+counts_of f = Counts f.at f.counter (steps_in f.body.now)
+
+abbrev pub again_of : ForLoop → Item
+again_of f = Again f.at f.counter (steps_in f.body.now)
 
 abbrev pub item_of : Work → Item
 item_of (work.Eval e) = Eval (tree_of e.now)
@@ -64,13 +77,13 @@ item_of (work.Apply at row base) = Apply at row base
 item_of (work.AndThen e base) = AndThen (tree_of e.now) base
 item_of (work.OrElse e base) = OrElse (tree_of e.now) base
 item_of (work.Invoke at method base) = Invoke at method base
-item_of (work.Child at class method base) = Child at class.0 method base
+item_of (work.Child at callee base) = Child at callee.class.0 callee.method base
 item_of (work.Block body) = Block (steps_in body.now)
 item_of (work.Finish at what base) = Finish at (end_of what) base
-item_of (work.Turns at test body left) = Turns at (tree_of test.now) (steps_in body.now) left
-item_of (work.Check at test body left base) = Check at (tree_of test.now) (steps_in body.now) left base
-item_of (work.Counts at counter body left false) = Counts at counter (steps_in body.now) left
-item_of (work.Counts at counter body left true) = Again at counter (steps_in body.now) left
+item_of (work.Turns w) = turns_of w
+item_of (work.Check w base) = check_of w base
+item_of (work.Counts f false) = counts_of f
+item_of (work.Counts f true) = again_of f
 item_of (work.Return caller) = return_of caller
 
 -- the statements of an `else`, if there is one
@@ -85,5 +98,5 @@ else_in (Some v) = otherwise (steps_in v.items)
 -- what is left behind a method that ends early: its return, and all that follows
 abbrev pub to_return : List Item → List Item
 to_return [] = []
-to_return (Return locals values depth up ∷ items) = Return locals values depth up ∷ items
+to_return (Return locals values up ∷ items) = Return locals values up ∷ items
 to_return (_ ∷ items) = to_return items

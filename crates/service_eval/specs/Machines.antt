@@ -1,5 +1,6 @@
 -- A machine as contracts see it, and what is still to come of it.
-use Rattle.std.specs.Prelude.{ℕ, zero, suc, pos, Bool, true, false, List, [], ◌∷◌, ◌++◌, ◌-◌, map, reverse, take, drop, get_or, Option, Some, None}
+use Rattle.std.specs.Prelude.{ℕ, suc, pos, Bool, true, false, List, [], ◌∷◌, ◌++◌, map, reverse, take, drop, get_or, Option, Some, None}
+use Rattle.wave_base.specs.declared.limits.TheConstants.{TICKS}
 use Rattle.wave_base.specs.declared.path.Path.{Path}
 use Rattle.wave_base.specs.declared.span.Span.{Span}
 use Rattle.wave_base.specs.declared.value.Value.{Value}
@@ -12,18 +13,17 @@ use Rattle.resolved_service.specs.declared.service.Method.{Method}
 use Rattle.resolved_service.specs.Meaning.{State, Returned, Finished, Outcome, Done, Trapped, Left, Act, and_then, ◌>>=◌, ◌>>◌, give, answer, with_world, tick, enter_at, back, choose, get_local, set_local, get_field, put_field, demand, leave, row_add, row_put, row_cut, worth, value, values, while_turns, for_test, for_body, effect, effects, with_blanks, called}
 use Rattle.resolved_service.specs.Steps.{steps_in}
 use Rattle.resolved_service.specs.View.{tree_of}
-use Rattle.resolved_service.specs.World.{World, nothing, is_true, child, changed, sending, spawning}
+use Rattle.resolved_service.specs.World.{World, nothing, is_true, child, sending, spawning}
 use Rattle.service_eval.specs.declared.machine.Machine.{Machine}
 use Rattle.service_eval.specs.declared.work.Caller.{Caller}
 use Rattle.service_eval.specs.Items.{End, SetLocal, SetField, PutLocal, PutField, CutLocal, CutField, Branch, Require, Send, Spawn, Drop, Returns, Finishes, Item, Eval, Evals, Apply, AndThen, OrElse, Invoke, Child, Block, Begin, Finish, Turns, Check, Counts, Again, Return, item_of}
-use Rattle.service_eval.specs.Worlds.{world_of}
+use Rattle.service_eval.specs.Worlds.{plain, world_of}
 
 -- what is to be done next stands first
 pub record Mach : Type 0 where
   pub items : List Item
   pub values : List Value
   pub path : Path
-  pub depth : ℕ
   pub state : State
 
 abbrev pub state_of : Contexts (List Value) → Machine → State
@@ -33,7 +33,7 @@ abbrev pub items_of : Machine → List Item
 items_of m = map item_of (reverse m.work.items)
 
 abbrev pub mach_of : Contexts (List Value) → Machine → Mach
-mach_of tree m = record { items = items_of m; values = m.values.items; path = m.path; depth = m.depth; state = state_of tree m }
+mach_of tree m = record { items = items_of m; values = m.values.items; path = m.path; state = state_of tree m }
 
 -- one thing more to be done, before all others
 abbrev pub on_top : Item → Mach → Mach
@@ -88,9 +88,8 @@ module _ (call : ℕ → Path → List Value → Act (Option Value)) (n : ℕ) (
   finish Finishes = leave Finished (Some (get_or vs 0 nothing))
 
 -- a turn of a loop, where its test has its value
-abbrev pub turn_on : ℕ → Act Value → Act (Unit {0}) → Span → Value → Act (Unit {0})
-turn_on zero test body at t = choose (is_true t) (tick at) (give tt)
-turn_on (suc n) test body at t = choose (is_true t) (tick at >> (body >> while_turns n test body at)) (give tt)
+abbrev pub turn_on : Act Value → Act (Unit {0}) → Span → Value → Act (Unit {0})
+turn_on test body at t = choose (is_true t) (tick at >> (body >> while_turns TICKS test body at)) (give tt)
 
 -- the counter of a loop over numbers goes on
 abbrev pub next : ℕ → Span → Act (Unit {0})
@@ -99,84 +98,84 @@ next counter at = do
   more ← answer (apply_row row_add (j ∷ Int (pos 1) ∷ [])) at
   set_local counter more
 
--- what an item does, from the values that are there to those that are there then
-module _ (methods : List Method) (p : Path) (n : ℕ) where
+-- What an item does, from the values that are there to those that are there then. Calls and turns are bounded by the ticks of a
+-- whole event, which no event uses up.
+module _ (methods : List Method) (p : Path) where
   abbrev pub act : Item → List Value → Act (List Value)
-  act (Eval t) vs = value (called methods n) p t >>= (λ v. give (vs ++ v ∷ []))
-  act (Evals ts) vs = values (called methods n) p ts >>= (λ more. give (vs ++ more))
+  act (Eval t) vs = value (called methods TICKS) p t >>= (λ v. give (vs ++ v ∷ []))
+  act (Evals ts) vs = values (called methods TICKS) p ts >>= (λ more. give (vs ++ more))
   act (Apply at row base) vs = answer (apply_row row (drop base vs)) at >>= (λ v. give (take base vs ++ v ∷ []))
-  act (AndThen right base) vs = choose (is_true (own 0 base vs)) (value (called methods n) p right) (give (Truth false)) >>= (λ v. give (take base vs ++ v ∷ []))
-  act (OrElse right base) vs = choose (is_true (own 0 base vs)) (give (Truth true)) (value (called methods n) p right) >>= (λ v. give (take base vs ++ v ∷ []))
+  act (AndThen right base) vs = choose (is_true (own 0 base vs)) (value (called methods TICKS) p right) (give (Truth false)) >>= (λ v. give (take base vs ++ v ∷ []))
+  act (OrElse right base) vs = choose (is_true (own 0 base vs)) (give (Truth true)) (value (called methods TICKS) p right) >>= (λ v. give (take base vs ++ v ∷ []))
   act (Invoke at method base) vs = do
     tick at
-    result ← called methods n method p (drop base vs)
+    result ← called methods TICKS method p (drop base vs)
     give (take base vs ++ worth result ∷ [])
   act (Child at class method base) vs = do
     tick at
     enter_at (child p class (own 0 base vs)) at
-    result ← called methods n method (child p class (own 0 base vs)) (drop (suc base) vs)
+    result ← called methods TICKS method (child p class (own 0 base vs)) (drop (suc base) vs)
     back
     give (take base vs ++ worth result ∷ [])
-  act (Block steps) vs = effects (called methods n) n p steps >> give vs
-  act (Begin s) vs = effect (called methods n) n p s >> give vs
-  act (Finish at what base) vs = finish (called methods n) n p at (drop base vs) what >> give (take base vs)
-  act (Turns at test body left) vs = while_turns left (value (called methods n) p test) (effects (called methods n) n p body) at >> give vs
-  act (Check at test body left base) vs = turn_on left (value (called methods n) p test) (effects (called methods n) n p body) at (own 0 base vs) >> give (take base vs)
-  act (Counts at counter body left) vs = while_turns left (for_test counter at) (for_body counter at (effects (called methods n) n p body)) at >> give vs
-  act (Again at counter body left) vs = next counter at >> (while_turns left (for_test counter at) (for_body counter at (effects (called methods n) n p body)) at >> give vs)
-  act (Return locals below depth up) vs = give vs
+  act (Block steps) vs = effects (called methods TICKS) TICKS p steps >> give vs
+  act (Begin s) vs = effect (called methods TICKS) TICKS p s >> give vs
+  act (Finish at what base) vs = finish (called methods TICKS) TICKS p at (drop base vs) what >> give (take base vs)
+  act (Turns at test body) vs = while_turns TICKS (value (called methods TICKS) p test) (effects (called methods TICKS) TICKS p body) at >> give vs
+  act (Check at test body base) vs = turn_on (value (called methods TICKS) p test) (effects (called methods TICKS) TICKS p body) at (own 0 base vs) >> give (take base vs)
+  act (Counts at counter body) vs = while_turns TICKS (for_test counter at) (for_body counter at (effects (called methods TICKS) TICKS p body)) at >> give vs
+  act (Again at counter body) vs = next counter at >> (while_turns TICKS (for_test counter at) (for_body counter at (effects (called methods TICKS) TICKS p body)) at >> give vs)
+  act (Return locals below up) vs = give vs
 
 abbrev pub path_after : Bool → Path → Path
 path_after true p = parent_of p
 path_after false p = p
 
-abbrev pub world_after : Bool → World → World
-world_after true w = changed w
-world_after false w = w
-
 -- the caller has its locals and values again, and the value of the call, which may have returned early
-abbrev pub returned : List Value → List Value → Bool → Outcome (List Value) → Outcome (List Value)
-returned locals below up (Done vs st) = Done (below ++ get_or vs 0 nothing ∷ []) (record { locals = locals; world = world_after up st.world })
-returned locals below up (Trapped k at w) = Trapped k at w
-returned locals below up (Left (Returned r) st) = Done (below ++ worth r ∷ []) (record { locals = locals; world = world_after up st.world })
-returned locals below up (Left (Finished r) st) = Left (Finished r) (record { locals = locals; world = st.world })
+abbrev pub returned : List Value → List Value → Outcome (List Value) → Outcome (List Value)
+returned locals below (Done vs st) = Done (below ++ get_or vs 0 nothing ∷ []) (record { locals = locals; world = st.world })
+returned locals below (Trapped k at w) = Trapped k at w
+returned locals below (Left (Returned r) st) = Done (below ++ worth r ∷ []) (record { locals = locals; world = st.world })
+returned locals below (Left (Finished r) st) = Left (Finished r) (record { locals = locals; world = st.world })
 
 -- where nothing is left to do: the values that are there, and where
 pub record Rest : Type 0 where
   pub values : List Value
   pub path : Path
-  pub depth : ℕ
 
-abbrev pub rest_at : Path → ℕ → List Value → Rest
-rest_at p n vs = record { values = vs; path = p; depth = n }
+abbrev pub rest_at : Path → List Value → Rest
+rest_at p vs = record { values = vs; path = p }
 
 module _ (methods : List Method) where
   -- all that is to be done, after what was done so far
-  abbrev pub resume : List Item → Path → ℕ → Outcome (List Value) → Outcome Rest
-  resume [] p n out = and_then out (λ vs. give (rest_at p n vs))
-  resume (Return locals below depth up ∷ items) p n out = resume items (path_after up p) depth (returned locals below up out)
-  resume (Eval t ∷ items) p n out = resume items p n (and_then out (act methods p n (Eval t)))
-  resume (Evals ts ∷ items) p n out = resume items p n (and_then out (act methods p n (Evals ts)))
-  resume (Apply at row base ∷ items) p n out = resume items p n (and_then out (act methods p n (Apply at row base)))
-  resume (AndThen right base ∷ items) p n out = resume items p n (and_then out (act methods p n (AndThen right base)))
-  resume (OrElse right base ∷ items) p n out = resume items p n (and_then out (act methods p n (OrElse right base)))
-  resume (Invoke at method base ∷ items) p n out = resume items p n (and_then out (act methods p n (Invoke at method base)))
-  resume (Child at class method base ∷ items) p n out = resume items p n (and_then out (act methods p n (Child at class method base)))
-  resume (Block steps ∷ items) p n out = resume items p n (and_then out (act methods p n (Block steps)))
-  resume (Begin s ∷ items) p n out = resume items p n (and_then out (act methods p n (Begin s)))
-  resume (Finish at what base ∷ items) p n out = resume items p n (and_then out (act methods p n (Finish at what base)))
-  resume (Turns at test body left ∷ items) p n out = resume items p n (and_then out (act methods p n (Turns at test body left)))
-  resume (Check at test body left base ∷ items) p n out = resume items p n (and_then out (act methods p n (Check at test body left base)))
-  resume (Counts at counter body left ∷ items) p n out = resume items p n (and_then out (act methods p n (Counts at counter body left)))
-  resume (Again at counter body left ∷ items) p n out = resume items p n (and_then out (act methods p n (Again at counter body left)))
+  abbrev pub resume : List Item → Path → Outcome (List Value) → Outcome Rest
+  resume [] p out = and_then out (λ vs. give (rest_at p vs))
+  resume (Return locals below up ∷ items) p out = resume items (path_after up p) (returned locals below out)
+  resume (Eval t ∷ items) p out = resume items p (and_then out (act methods p (Eval t)))
+  resume (Evals ts ∷ items) p out = resume items p (and_then out (act methods p (Evals ts)))
+  resume (Apply at row base ∷ items) p out = resume items p (and_then out (act methods p (Apply at row base)))
+  resume (AndThen right base ∷ items) p out = resume items p (and_then out (act methods p (AndThen right base)))
+  resume (OrElse right base ∷ items) p out = resume items p (and_then out (act methods p (OrElse right base)))
+  resume (Invoke at method base ∷ items) p out = resume items p (and_then out (act methods p (Invoke at method base)))
+  resume (Child at class method base ∷ items) p out = resume items p (and_then out (act methods p (Child at class method base)))
+  resume (Block steps ∷ items) p out = resume items p (and_then out (act methods p (Block steps)))
+  resume (Begin s ∷ items) p out = resume items p (and_then out (act methods p (Begin s)))
+  resume (Finish at what base ∷ items) p out = resume items p (and_then out (act methods p (Finish at what base)))
+  resume (Turns at test body ∷ items) p out = resume items p (and_then out (act methods p (Turns at test body)))
+  resume (Check at test body base ∷ items) p out = resume items p (and_then out (act methods p (Check at test body base)))
+  resume (Counts at counter body ∷ items) p out = resume items p (and_then out (act methods p (Counts at counter body)))
+  resume (Again at counter body ∷ items) p out = resume items p (and_then out (act methods p (Again at counter body)))
+
+  -- what that comes to, but for how often the event changes its place
+  abbrev pub come_of : List Item → Path → Outcome (List Value) → Outcome Rest
+  come_of items p out = plain (resume items p out)
 
   -- what a machine comes to
   abbrev pub comes_to : Mach → Outcome Rest
-  comes_to m = resume m.items m.path m.depth (Done m.values m.state)
+  comes_to m = come_of m.items m.path (Done m.values m.state)
 
 -- back at the parent
 abbrev pub risen : Mach → Mach
-risen m = record m { path = parent_of m.path; state = record { locals = m.state.locals; world = changed m.state.world } }
+risen m = record m { path = parent_of m.path }
 
 abbrev pub with_last : Option Last → List Item → List Item
 with_last None items = items
@@ -185,10 +184,9 @@ with_last (Some last) items = Eval (tree_of last.value) ∷ items
 -- a method is to run with these arguments, and then to return
 abbrev pub started : Method → List Value → Bool → Mach → Mach
 started method given up m = record {
-  items = Block (steps_in method.body) ∷ with_last method.last (Return m.state.locals m.values m.depth up ∷ m.items);
+  items = Block (steps_in method.body) ∷ with_last method.last (Return m.state.locals m.values up ∷ m.items);
   values = [];
   path = m.path;
-  depth = m.depth - 1;
   state = record { locals = with_blanks given method.locals; world = m.state.world };
 }
 
@@ -198,8 +196,7 @@ back_to c v m = record {
   items = m.items;
   values = c.values.items ++ v ∷ [];
   path = path_after c.up m.path;
-  depth = c.depth;
-  state = record { locals = c.locals.items; world = world_after c.up m.state.world };
+  state = record { locals = c.locals.items; world = m.state.world };
 }
 
 abbrev pub in_world : World → Mach → Mach

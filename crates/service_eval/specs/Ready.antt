@@ -1,6 +1,6 @@
 -- What a machine is known to have while it runs.
-use Rattle.std.specs.Prelude.{◌≡◌, ◌≤◌, ℕ, ◌+◌, ◌*◌, ◌^◌, min, length, true, List, [], ◌∷◌, Result, Ok, Err, All}
-use Rattle.wave_base.specs.declared.limits.TheConstants.{GENERATION}
+use Rattle.std.specs.Prelude.{◌≡◌, ◌≤◌, ℕ, true, List, [], ◌∷◌, Result, Ok, Err, All}
+use Rattle.wave_base.specs.declared.limits.TheConstants.{GENERATION, TICKS}
 use Rattle.wave_base.specs.declared.path.Path.{Path}
 use Rattle.wave_base.specs.declared.shape.Shape.{Shape}
 use Rattle.wave_base.specs.Shapes.{class_of, is_path}
@@ -29,35 +29,20 @@ module _ (shape : Shape) (methods : List Method) where
   FitsItem class (Block steps) = FitsSteps shape methods class steps
   FitsItem class (Begin s) = FitsStep shape methods class s
   FitsItem class (Finish at what base) = FitsEnd class what
-  FitsItem class (Turns at test body left) = FitsTree shape methods class test × FitsSteps shape methods class body
-  FitsItem class (Check at test body left base) = FitsTree shape methods class test × FitsSteps shape methods class body
-  FitsItem class (Counts at counter body left) = FitsSteps shape methods class body
-  FitsItem class (Again at counter body left) = FitsSteps shape methods class body
+  FitsItem class (Turns at test body) = FitsTree shape methods class test × FitsSteps shape methods class body
+  FitsItem class (Check at test body base) = FitsTree shape methods class test × FitsSteps shape methods class body
+  FitsItem class (Counts at counter body) = FitsSteps shape methods class body
+  FitsItem class (Again at counter body) = FitsSteps shape methods class body
   FitsItem class _ = Unit {0}
 
   -- where an item leads to
   abbrev pub path_behind : Item → Path → Path
-  path_behind (Return locals values depth up) p = path_after up p
+  path_behind (Return locals values up) p = path_after up p
   path_behind _ p = p
 
   abbrev pub FitsItems : List Item → Path → Type 0
   FitsItems [] p = Unit {0}
   FitsItems (item ∷ items) p = FitsItem (class_of p) item × FitsItems items (path_behind item p)
-
--- how many changes of place are still to come when callers go on
-abbrev pub owed_by : Item → ℕ
-owed_by (Return locals values depth true) = 1
-owed_by _ = 0
-
-abbrev pub owed : List Item → ℕ
-owed [] = 0
-owed (item ∷ items) = owed_by item + owed items
-
--- how often the event has gone down, at most
-abbrev pub downs : List Item → Path → ℕ
-downs [] p = min 8 (length p)
-downs (Return locals values depth up ∷ items) p = downs items (path_after up p)
-downs (_ ∷ items) p = downs items p
 
 pub record Ready (shape : Shape) (methods : List Method) (m : Mach) : Type 0 where
   pub items : FitsItems shape methods m.items m.path
@@ -66,7 +51,7 @@ pub record Ready (shape : Shape) (methods : List Method) (m : Mach) : Type 0 whe
   pub held : All (λ q. there m.state.world.tree q ≡ true) m.state.world.held
   pub here : there m.state.world.tree m.path ≡ true
   pub early : m.state.world.generation ≤ GENERATION
-  pub room : m.state.world.changes + owed m.items + 2 * m.state.world.ticks ≤ 2 ^ 61 + downs m.items m.path
+  pub few : m.state.world.ticks ≤ TICKS
 
 -- what comes of it is what the machine comes to
 abbrev pub Follows : Shape → List Method → Outcome Rest → Result (Unit {0}) Stop → Mach → Type 0

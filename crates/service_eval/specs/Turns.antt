@@ -1,22 +1,33 @@
 -- What a call that does an item asks, and what it does.
-use Rattle.std.specs.Prelude.{◌≡◌, Bool, true, false, List, [], Result, Ok, Err}
+use Rattle.std.specs.Prelude.{◌≡◌, Bool, true, false, List, [], Option, Result, Ok, Err}
+use Rattle.wave_base.specs.declared.limits.TheConstants.{TICKS}
 use Rattle.wave_base.specs.declared.span.Span.{Span}
 use Rattle.wave_base.specs.declared.value.Value.{Value}
 use Rattle.value_ops.specs.Kinds.{Answer}
 use Rattle.context_tree.specs.Contexts.{Contexts, tree_of as shown}
 use Rattle.service_eval.specs.declared.code.Code.{Code}
 use Rattle.service_eval.specs.declared.machine.Machine.{Machine}
+use Rattle.service_eval.specs.declared.look.View.{View}
+use Rattle.service_eval.specs.declared.operand.Operand.{Operand}
 use Rattle.service_eval.specs.declared.stop.Stop.{Stop}
 use Rattle.service_eval.specs.declared.stop.Stop.TheVariants as stop
+use Rattle.service_eval.specs.Answers.{Looks}
 use Rattle.service_eval.specs.Items.{Item}
-use Rattle.service_eval.specs.Machines.{Mach, mach_of, on_top, before_all, in_state, rest_at, resume, comes_to}
-use Rattle.resolved_service.specs.Meaning.{Leave, Done, Left, effect, called}
+use Rattle.service_eval.specs.Machines.{Mach, state_of, mach_of, on_top, before_all, in_state, rest_at, come_of, comes_to}
+use Rattle.resolved_service.specs.Meaning.{Leave, Done, Left, value, effect, called}
 use Rattle.resolved_service.specs.Steps.{Step}
+use Rattle.resolved_service.specs.View.{Tree}
 use Rattle.service_eval.specs.Ready.{Ready, Follows, Turned}
-use Rattle.service_eval.specs.Worlds.{Holds, Traps, Fails}
+use Rattle.service_eval.specs.Worlds.{plain, Holds, Traps, Fails}
 
 abbrev pub mach : Code → Contexts → Machine → Mach
 mach code contexts m = mach_of (shown code.shape.now contexts) m
+
+-- the value of an expression where it is looked at
+abbrev pub Sees : View → Tree → Result (Option Operand) Stop → Type 0
+Sees view t result =
+    let st = state_of (shown view.code.shape.now view.contexts.now) view.m.now in
+    Looks (value (called view.code.methods.now TICKS) view.m.now.path t st) st result
 
 -- the item is the next thing to be done
 abbrev pub IsNext : Code → Contexts → Machine → Item → Type 0
@@ -37,7 +48,7 @@ GoOn code contexts m items result contexts' m' = Turned code.shape.now code.meth
 -- the rest of what is running is left out
 abbrev pub Leaves : Code → Contexts → Machine → Leave → Result (Unit {0}) Stop → Contexts → Machine → Type 0
 Leaves code contexts m why result contexts' m' =
-    Follows code.shape.now code.methods.now (resume code.methods.now (mach code contexts m).items m.path m.depth (Left why (mach code contexts m).state)) result (mach code contexts' m')
+    Follows code.shape.now code.methods.now (come_of code.methods.now (mach code contexts m).items m.path (Left why (mach code contexts m).state)) result (mach code contexts' m')
 
 -- a change of a value in place: the new value; or its trap at a place, which leaves it, as want of memory does
 abbrev pub Alters : Answer Value → Span → Value → Result (Unit {0}) Stop → Value → Type 0
@@ -49,15 +60,15 @@ Alters answer at before (Err (stop.Ended _)) after = ⊥
 -- a statement was done at once: what it means, which is all that changed; or nothing was done
 abbrev pub AtOnce : Code → Contexts → Machine → Step → Result Bool Stop → Contexts → Machine → Type 0
 AtOnce code contexts m s (Ok true) contexts' m' =
-    (effect (called code.methods.now m.depth) m.depth m.path s (mach code contexts m).state ≡ Done tt (mach code contexts' m').state)
+    (effect (called code.methods.now TICKS) TICKS m.path s (mach code contexts m).state ≡ Done tt (mach code contexts' m').state)
     × (mach code contexts' m' ≡ in_state (mach code contexts' m').state (mach code contexts m))
     × Ready code.shape.now code.methods.now (mach code contexts' m')
 AtOnce code contexts m s (Ok false) contexts' m' = mach code contexts' m' ≡ mach code contexts m
 AtOnce code contexts m s (Err e) contexts' m' =
-    Traps (effect (called code.methods.now m.depth) m.depth m.path s (mach code contexts m).state) e (mach code contexts' m').state.world
+    Traps (effect (called code.methods.now TICKS) TICKS m.path s (mach code contexts m).state) e (mach code contexts' m').state.world
     × Holds code.shape.now (mach code contexts' m').state.world.tree
 
 -- all was done: nothing is left to do
 abbrev pub Ran : Code → Mach → Result (Unit {0}) Stop → Mach → Type 0
-Ran code before (Ok _) after = (comes_to code.methods.now before ≡ Done (rest_at after.path after.depth after.values) after.state) × (after.items ≡ []) × Ready code.shape.now code.methods.now after
+Ran code before (Ok _) after = (comes_to code.methods.now before ≡ plain (Done (rest_at after.path after.values) after.state)) × (after.items ≡ []) × Ready code.shape.now code.methods.now after
 Ran code before (Err e) after = Fails (comes_to code.methods.now before) e after.state.world × Holds code.shape.now after.state.world.tree

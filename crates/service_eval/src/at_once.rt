@@ -9,6 +9,7 @@ ghost use Rattle.service_eval.specs.Ready.{Ready};
 ghost use Rattle.service_eval.specs.Answers.{told, FindsTwo};
 ghost use Rattle.service_eval.specs.Machines.{state_of};
 ghost use Rattle.service_eval.specs.Turns.{mach, AtOnce};
+ghost use Rattle.wave_base.specs.declared.limits.TheConstants.{TICKS};
 
 use crate::code::Code;
 use crate::edits::{cut, put};
@@ -19,6 +20,13 @@ use crate::stop::Stop;
 use context_tree::Tree;
 use resolved_service::{Action, Expr, Stmt};
 use wave_base::{Span, Value};
+
+// The expressions of a key and of what it is to have.
+#[derive(Clone, Copy)]
+struct Pair<'e> {
+    key: &'e Expr,
+    value: &'e Expr,
+}
 
 /// Does a statement, and says whether it did. Nothing has changed where it didn't.
 pub fn at_once(
@@ -34,8 +42,12 @@ pub fn at_once(
     match &stmt.action {
         Action::SetLocal(slot, e) => set_slot(code, contexts, m, at, *slot, e),
         Action::SetField(f, e) => set_own(code, contexts, m, at, *f, e),
-        Action::PutLocal(slot, key, e) => put_slot(code, contexts, m, at, *slot, key, e),
-        Action::PutField(f, key, e) => put_own(code, contexts, m, at, *f, key, e),
+        Action::PutLocal(slot, key, value) => {
+            put_slot(code, contexts, m, at, *slot, Pair { key, value })
+        }
+        Action::PutField(f, key, value) => {
+            put_own(code, contexts, m, at, *f, Pair { key, value })
+        }
         Action::CutLocal(slot, key) => cut_slot(code, contexts, m, at, *slot, key),
         Action::CutField(f, key) => cut_own(code, contexts, m, at, *f, key),
         _ => Ok(false),
@@ -93,13 +105,12 @@ fn put_slot(
     m: &mut Machine<'_>,
     at: Span,
     slot: u16,
-    key: &Expr,
-    e: &Expr,
+    pair: Pair<'_>,
 ) -> Result<bool, Stop>
     requires { Ready code.shape.now code.methods.now (mach code contexts.now m.old) }
-    ensures { AtOnce code.entry contexts.now m.old (PutLocal at slot (tree_of key.now) (tree_of e.now)) result contexts.now m.new }
+    ensures { AtOnce code.entry contexts.now m.old (PutLocal at slot (tree_of pair.entry.key.now) (tree_of pair.entry.value.now)) result contexts.now m.new }
 {
-    match found_two(code, contexts, m, key, e) {
+    match found_two(code, contexts, m, pair) {
         Ok(Some(own)) => {
             let mut map = m.lift(slot as usize);
             let done = put(&mut map, &own, at);
@@ -118,13 +129,12 @@ fn put_own(
     m: &Machine<'_>,
     at: Span,
     f: u16,
-    key: &Expr,
-    e: &Expr,
+    pair: Pair<'_>,
 ) -> Result<bool, Stop>
     requires { Ready code.shape.now code.methods.now (mach code contexts.old m.now) }
-    ensures { AtOnce code.entry contexts.old m.now (PutField at f (tree_of key.now) (tree_of e.now)) result contexts.new m.now }
+    ensures { AtOnce code.entry contexts.old m.now (PutField at f (tree_of pair.entry.key.now) (tree_of pair.entry.value.now)) result contexts.new m.now }
 {
-    match found_two(code, contexts, m, key, e) {
+    match found_two(code, contexts, m, pair) {
         Ok(Some(own)) => {
             let mut map = lift_field(contexts, &m.path, f as usize);
             let done = put(&mut map, &own, at);
@@ -184,18 +194,17 @@ fn cut_own(
     }
 }
 
-// The values of two expressions, where no call is met.
+// The values of a pair's expressions, where no call is met.
 fn found_two(
     code: Code<'_>,
     contexts: &Tree,
     m: &Machine<'_>,
-    a: &Expr,
-    b: &Expr,
+    pair: Pair<'_>,
 ) -> Result<Option<[Value; 2]>, Stop>
-    ensures { FindsTwo (value (called code.entry.methods.now m.now.depth) m.now.path (tree_of a.now) (state_of (shown code.entry.shape.now contexts.now) m.now)) (value (called code.entry.methods.now m.now.depth) m.now.path (tree_of b.now)) (state_of (shown code.entry.shape.now contexts.now) m.now) result }
+    ensures { FindsTwo (value (called code.entry.methods.now TICKS) m.now.path (tree_of pair.entry.key.now) (state_of (shown code.entry.shape.now contexts.now) m.now)) (value (called code.entry.methods.now TICKS) m.now.path (tree_of pair.entry.value.now)) (state_of (shown code.entry.shape.now contexts.now) m.now) result }
 {
-    match found(code, contexts, m, a) {
-        Ok(Some(first)) => match found(code, contexts, m, b) {
+    match found(code, contexts, m, pair.key) {
+        Ok(Some(first)) => match found(code, contexts, m, pair.value) {
             Ok(Some(second)) => Ok(Some([first, second])),
             Ok(None) => Ok(None),
             Err(e) => Err(e),

@@ -15,7 +15,7 @@ use crate::eval::found;
 use crate::finish::finish;
 use crate::machine::Machine;
 use crate::stop::Stop;
-use crate::work::{Ending, Tail, Work};
+use crate::work::{Branches, Ending, ForLoop, Tail, WhileLoop, Work};
 use context_tree::Tree;
 use resolved_service::{Action, Expr, Stmt};
 use wave_base::Span;
@@ -110,12 +110,24 @@ fn begin<'s>(
         }
         Action::CutField(f, key) => begin_one(code, contexts, m, at, key, Ending::CutField(*f)),
         Action::If(test, body, other) => {
-            let ending = Ending::Branch(body.as_slice(), else_of(other));
+            let ending = Ending::Branch(Branches {
+                body: body.as_slice(),
+                other: else_of(other),
+            });
             begin_one(code, contexts, m, at, test, ending)
         }
-        Action::While(test, body) => m.push(Work::Turns(at, test, body.as_slice(), m.depth)),
+        Action::While(test, body) => m.push(Work::Turns(WhileLoop {
+            at,
+            test,
+            body: body.as_slice(),
+        })),
         Action::For(counter, from, to, body) => {
-            begin_for(code, contexts, m, at, *counter, from, to, body.as_slice())
+            let cycle = ForLoop {
+                at,
+                counter: *counter,
+                body: body.as_slice(),
+            };
+            begin_for(code, contexts, m, from, to, cycle)
         }
         Action::Require(e) => begin_one(code, contexts, m, at, e, Ending::Require),
         Action::Send(label, e) => begin_one(code, contexts, m, at, e, Ending::Send(label)),
@@ -245,20 +257,18 @@ fn begin_for<'s>(
     code: Code<'s>,
     contexts: &Tree,
     m: &mut Machine<'s>,
-    at: Span,
-    counter: u16,
     from: &'s Expr,
     to: &'s Expr,
-    body: &'s [Stmt],
+    cycle: ForLoop<'s>,
 ) -> Result<(), Stop>
-    requires { IsNext code contexts.now m.old (i.Begin (For at counter (tree_of from.now) (tree_of to.now) (steps_in body.now))) }
-    ensures { Goes code.entry contexts.now m.old (i.Begin (For at counter (tree_of from.now) (tree_of to.now) (steps_in body.now))) result contexts.now m.new }
+    requires { IsNext code contexts.now m.old (i.Begin (For cycle.at cycle.counter (tree_of from.now) (tree_of to.now) (steps_in cycle.body.now))) }
+    ensures { Goes code.entry contexts.now m.old (i.Begin (For cycle.entry.at cycle.entry.counter (tree_of from.now) (tree_of to.now) (steps_in cycle.entry.body.now))) result contexts.now m.new }
 {
+    let at = cycle.at;
     let base = m.height();
-    let slot = counter as usize;
+    let slot = cycle.counter as usize;
     let last = Work::Finish(at, Ending::SetLocal(slot + 1), base);
-    let turns = Work::Counts(at, counter, body, m.depth, false);
-    match m.push_three(Work::Eval(to), last, turns) {
+    match m.push_three(Work::Eval(to), last, Work::Counts(cycle, false)) {
         Ok(()) => m.push_two(
             Work::Eval(from),
             Work::Finish(at, Ending::SetLocal(slot), base),

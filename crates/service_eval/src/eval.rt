@@ -6,6 +6,7 @@ ghost use Rattle.resolved_service.specs.Meaning.{value, called};
 ghost use Rattle.service_eval.specs.Answers.{Finds};
 ghost use Rattle.service_eval.specs.declared.stop.Stop.{Stop};
 ghost use Rattle.service_eval.specs.Machines.{mach_of, state_of, with_value};
+ghost use Rattle.wave_base.specs.declared.limits.TheConstants.{TICKS};
 ghost use Rattle.wave_base.specs.declared.value.Value.{Value};
 ghost use Rattle.resolved_service.specs.View.{Op, tree_of, trees_of};
 ghost use Rattle.service_eval.specs.Items as i;
@@ -13,11 +14,11 @@ ghost use Rattle.service_eval.specs.Turns.{IsNext, Goes};
 
 use crate::code::Code;
 use crate::fields::{field, item};
-use crate::look::{above, look, look_row};
+use crate::look::{View, above, look, look_row};
 use crate::machine::Machine;
 use crate::rows::apply_any;
 use crate::stop::Stop;
-use crate::work::Work;
+use crate::work::{Callee, Work};
 use context_tree::Tree;
 use resolved_service::{Expr, Node};
 use wave_base::{OutOfMemory, Span, Value};
@@ -56,11 +57,17 @@ pub fn eval<'s>(
             Work::Evals(args.as_slice()),
             Work::Invoke(e.at, *method, base),
         ),
-        Node::Child(class, method, key, args) => m.push_three(
-            Work::Eval(key),
-            Work::Evals(args.as_slice()),
-            Work::Child(e.at, *class, *method, base),
-        ),
+        Node::Child(class, method, key, args) => {
+            let callee = Callee {
+                class: *class,
+                method: *method,
+            };
+            m.push_three(
+                Work::Eval(key),
+                Work::Evals(args.as_slice()),
+                Work::Child(e.at, callee, base),
+            )
+        }
     }
 }
 
@@ -104,9 +111,9 @@ pub fn found(
     m: &Machine<'_>,
     e: &Expr,
 ) -> Result<Option<Value>, Stop>
-    ensures { Finds (value (called code.entry.methods.now m.now.depth) m.now.path (tree_of e.now) (state_of (shown code.entry.shape.now contexts.now) m.now)) (state_of (shown code.entry.shape.now contexts.now) m.now) result }
+    ensures { Finds (value (called code.entry.methods.now TICKS) m.now.path (tree_of e.now) (state_of (shown code.entry.shape.now contexts.now) m.now)) (state_of (shown code.entry.shape.now contexts.now) m.now) result }
 {
-    match look(code, contexts, m, e) {
+    match look(View { code, contexts, m }, e) {
         Ok(Some(operand)) => match operand.owned(code.alloc) {
             Ok(value) => Ok(Some(value)),
             Err(_) => Err(Stop::OutOfMemory),
@@ -125,9 +132,9 @@ fn operated(
     row: u16,
     args: &[Expr],
 ) -> Result<Option<Value>, Stop>
-    ensures { Finds (value (called code.entry.methods.now m.now.depth) m.now.path (Op at row (trees_of (map tree_of args.now))) (state_of (shown code.entry.shape.now contexts.now) m.now)) (state_of (shown code.entry.shape.now contexts.now) m.now) result }
+    ensures { Finds (value (called code.entry.methods.now TICKS) m.now.path (Op at row (trees_of (map tree_of args.now))) (state_of (shown code.entry.shape.now contexts.now) m.now)) (state_of (shown code.entry.shape.now contexts.now) m.now) result }
 {
-    match look_row(code, contexts, m, row, args, at) {
+    match look_row(View { code, contexts, m }, row, args, at) {
         Ok(Some(operand)) => match operand.owned(code.alloc) {
             Ok(value) => Ok(Some(value)),
             Err(_) => Err(Stop::OutOfMemory),

@@ -113,7 +113,6 @@ fn ended(m: Machine<'_>, reply: Option<Value>) -> EventRan
         values: _,
         locals: _,
         path: _,
-        depth: _,
         trace,
     } = m;
     let Trace {
@@ -123,7 +122,6 @@ fn ended(m: Machine<'_>, reply: Option<Value>) -> EventRan
         held: _,
         messages,
         created,
-        changes: _,
     } = trace;
     EventRan {
         result: EventResult {
@@ -145,7 +143,6 @@ fn stopped(alloc: Global, m: Machine<'_>, trap: Trap) -> EventRan
         values: _,
         locals: _,
         path: _,
-        depth: _,
         trace,
     } = m;
     EventRan {
@@ -165,7 +162,7 @@ fn replied(reply: Option<Value>) -> Outcome
 
 // The machine of an event at the root.
 fn start<'s>(alloc: Global, event: &'s Event, call: &Call) -> Result<Machine<'s>, OutOfMemory>
-    ensures { IfOk result (λ m. (tree : _) → mach_of tree m ≡ record { items = []; values = []; path = []; depth = TICKS; state = record { locals = with_blanks call.now.args event.now.locals; world = first_world call.now.generation tree } }) }
+    ensures { IfOk result (λ m. (tree : _) → mach_of tree m ≡ record { items = []; values = []; path = []; state = record { locals = with_blanks call.now.args event.now.locals; world = first_world call.now.generation tree } }) }
 {
     let given = call.args.copy(alloc)?.into_vec();
     let locals = with_blanks(alloc, given, event.locals.as_slice())?;
@@ -178,14 +175,12 @@ fn start<'s>(alloc: Global, event: &'s Event, call: &Call) -> Result<Machine<'s>
         held,
         messages: Vec::new(alloc),
         created: Vec::new(alloc),
-        changes: 0,
     };
     Ok(Machine {
         work: Vec::new(alloc),
         values: Vec::new(alloc),
         locals,
         path: Path::root(),
-        depth: TICKS,
         trace,
     })
 }
@@ -202,7 +197,7 @@ fn perform<'s>(
     requires fits { FitsEvent code.shape.now code.methods.now event.now }
     requires rests { Rests code contexts.old m.old }
     requires root { m.old.path ≡ [] }
-    ensures comes { Comes (performed (called code.entry.methods.now m.old.depth) m.old.depth event.now (state_of (shown code.entry.shape.now contexts.old) m.old)) result (state_of (shown code.entry.shape.now contexts.new) m.new) }
+    ensures comes { Comes (performed (called code.entry.methods.now TICKS) TICKS event.now (state_of (shown code.entry.shape.now contexts.old) m.old)) result (state_of (shown code.entry.shape.now contexts.new) m.new) }
     ensures rests { OnOk result (Rests code.entry contexts.new m.new) }
     ensures holds { Holds code.entry.shape.now (shown code.entry.shape.now contexts.new) }
 {
@@ -224,7 +219,7 @@ fn phases_from<'s>(
     requires methods { All (FitsMethod code.shape.now code.methods.now) code.methods.now }
     requires fits { FitsPhases code.shape.now code.methods.now (class_of m.old.path) phases.now last.now }
     requires rests { Rests code contexts.old m.old }
-    ensures comes { Comes (phases_run (called code.entry.methods.now m.old.depth) m.old.depth phases.now last.now m.old.path (state_of (shown code.entry.shape.now contexts.old) m.old)) result (state_of (shown code.entry.shape.now contexts.new) m.new) }
+    ensures comes { Comes (phases_run (called code.entry.methods.now TICKS) TICKS phases.now last.now m.old.path (state_of (shown code.entry.shape.now contexts.old) m.old)) result (state_of (shown code.entry.shape.now contexts.new) m.new) }
     ensures rests { OnOk result (Rests code.entry contexts.new m.new) }
     ensures holds { Holds code.entry.shape.now (shown code.entry.shape.now contexts.new) }
 {
@@ -269,9 +264,9 @@ fn part<'s>(
     requires methods { All (FitsMethod code.shape.now code.methods.now) code.methods.now }
     requires fits { FitsSteps code.shape.now code.methods.now (class_of m.old.path) (steps_in stmts.now) }
     requires rests { Rests code contexts.old m.old }
-    ensures comes { Comes (effects (called code.entry.methods.now m.old.depth) m.old.depth m.old.path (steps_in stmts.now) (state_of (shown code.entry.shape.now contexts.old) m.old)) result (state_of (shown code.entry.shape.now contexts.new) m.new) }
+    ensures comes { Comes (effects (called code.entry.methods.now TICKS) TICKS m.old.path (steps_in stmts.now) (state_of (shown code.entry.shape.now contexts.old) m.old)) result (state_of (shown code.entry.shape.now contexts.new) m.new) }
     ensures rests { OnOk result (Rests code.entry contexts.new m.new) }
-    ensures place { OnOk result ((m.new.path ≡ m.old.path) × (m.new.depth ≡ m.old.depth)) }
+    ensures place { OnOk result (m.new.path ≡ m.old.path) }
     ensures holds { Holds code.entry.shape.now (shown code.entry.shape.now contexts.new) }
 {
     match m.push(Work::Block(stmts)) {
@@ -291,9 +286,9 @@ fn value_of<'s>(
     requires methods { All (FitsMethod code.shape.now code.methods.now) code.methods.now }
     requires fits { FitsTree code.shape.now code.methods.now (class_of m.old.path) (tree_of e.now) }
     requires rests { Rests code contexts.old m.old }
-    ensures comes { Comes (value (called code.entry.methods.now m.old.depth) m.old.path (tree_of e.now) (state_of (shown code.entry.shape.now contexts.old) m.old)) result (state_of (shown code.entry.shape.now contexts.new) m.new) }
+    ensures comes { Comes (value (called code.entry.methods.now TICKS) m.old.path (tree_of e.now) (state_of (shown code.entry.shape.now contexts.old) m.old)) result (state_of (shown code.entry.shape.now contexts.new) m.new) }
     ensures rests { OnOk result (Rests code.entry contexts.new m.new) }
-    ensures place { OnOk result ((m.new.path ≡ m.old.path) × (m.new.depth ≡ m.old.depth)) }
+    ensures place { OnOk result (m.new.path ≡ m.old.path) }
     ensures holds { Holds code.entry.shape.now (shown code.entry.shape.now contexts.new) }
 {
     match m.push(Work::Eval(e)) {
@@ -319,7 +314,7 @@ fn go_down(
     requires rests { Rests code contexts.old m.old }
     ensures comes { Comes (went_down (child m.old.path phase.now.class.0 key.now) phase.now.at (state_of (shown code.entry.shape.now contexts.old) m.old)) result (state_of (shown code.entry.shape.now contexts.new) m.new) }
     ensures rests { OnOk result (Rests code.entry contexts.new m.new) }
-    ensures place { OnOk result ((m.new.path ≡ child m.old.path phase.now.class.0 key.now) × (m.new.depth ≡ m.old.depth)) }
+    ensures place { OnOk result (m.new.path ≡ child m.old.path phase.now.class.0 key.now) }
     ensures holds { Holds code.entry.shape.now (shown code.entry.shape.now contexts.new) }
 {
     let path = m.path.child(Step {
@@ -356,7 +351,7 @@ fn reply<'s>(
     requires methods { All (FitsMethod code.shape.now code.methods.now) code.methods.now }
     requires fits { FitsLast code.shape.now code.methods.now (class_of m.old.path) last.now }
     requires rests { Rests code contexts.old m.old }
-    ensures comes { Comes (last_value (called code.entry.methods.now m.old.depth) m.old.depth m.old.path last.now (state_of (shown code.entry.shape.now contexts.old) m.old)) result (state_of (shown code.entry.shape.now contexts.new) m.new) }
+    ensures comes { Comes (last_value (called code.entry.methods.now TICKS) TICKS m.old.path last.now (state_of (shown code.entry.shape.now contexts.old) m.old)) result (state_of (shown code.entry.shape.now contexts.new) m.new) }
     ensures rests { OnOk result (Rests code.entry contexts.new m.new) }
     ensures holds { Holds code.entry.shape.now (shown code.entry.shape.now contexts.new) }
 {

@@ -12,9 +12,8 @@ use crate::fields::{lift_field, set_field};
 use crate::machine::Machine;
 use crate::stop::Stop;
 use crate::trace::trapped;
-use crate::work::{Ending, Work};
+use crate::work::{Branches, Ending, Work};
 use context_tree::Tree;
-use resolved_service::Stmt;
 use wave_base::{Span, TrapKind, Txt};
 
 /// The rest of a statement.
@@ -36,7 +35,7 @@ pub fn finish<'s>(
         Ending::PutField(f) => put_own(code, contexts, m, at, f, base),
         Ending::CutLocal(slot) => cut_slot(code, contexts, m, at, slot, base),
         Ending::CutField(f) => cut_own(code, contexts, m, at, f, base),
-        Ending::Branch(body, other) => branch(code, contexts, m, at, body, other, base),
+        Ending::Branch(branches) => branch(code, contexts, m, at, branches, base),
         Ending::Require => demand(code, contexts, m, at, base),
         Ending::Send(label) => send(code, contexts, m, at, label, base),
         Ending::Spawn(event) => spawn(code, contexts, m, at, event, base),
@@ -162,19 +161,18 @@ fn branch<'s>(
     contexts: &Tree,
     m: &mut Machine<'s>,
     at: Span,
-    body: &'s [Stmt],
-    other: &'s [Stmt],
+    branches: Branches<'s>,
     base: usize,
 ) -> Result<(), Stop>
-    requires { IsNext code contexts.now m.old (i.Finish at (i.Branch (steps_in body.now) (steps_in other.now)) base) }
-    ensures { Goes code.entry contexts.now m.old (i.Finish at (i.Branch (steps_in body.now) (steps_in other.now)) base) result contexts.now m.new }
+    requires { IsNext code contexts.now m.old (i.Finish at (i.Branch (steps_in branches.body.now) (steps_in branches.other.now)) base) }
+    ensures { Goes code.entry contexts.now m.old (i.Finish at (i.Branch (steps_in branches.entry.body.now) (steps_in branches.entry.other.now)) base) result contexts.now m.new }
 {
     let holds = m.is_true(base);
     m.cut(base);
     if holds {
-        m.push(Work::Block(body))
+        m.push(Work::Block(branches.body))
     } else {
-        m.push(Work::Block(other))
+        m.push(Work::Block(branches.other))
     }
 }
 

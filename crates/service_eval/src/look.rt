@@ -1,11 +1,8 @@
 //! Expressions whose values are found without any change: they have no calls.
 
 ghost use Rattle.std.specs.Prelude.{◌≡◌, map, take};
-ghost use Rattle.context_tree.specs.Contexts.{tree_of as shown};
-ghost use Rattle.resolved_service.specs.Meaning.{value, called};
 ghost use Rattle.resolved_service.specs.View.{Op, And, Or, tree, no_trees, tree_of, trees_of};
-ghost use Rattle.service_eval.specs.Answers.{Looks};
-ghost use Rattle.service_eval.specs.Machines.{state_of};
+ghost use Rattle.service_eval.specs.Turns.{Sees};
 
 use crate::code::Code;
 use crate::fields::{field, item};
@@ -18,27 +15,35 @@ use resolved_service::{Expr, Node};
 use std::slice;
 use wave_base::{Path, Span, Value};
 
+/// Where an expression's value is looked up: the code, the contexts, and the machine with its locals and its place.
+#[derive(Clone, Copy)]
+pub struct View<'v, 's> {
+    pub code: Code<'v>,
+    pub contexts: &'v Tree,
+    pub m: &'v Machine<'s>,
+}
+
 /// The value of an expression. None where a call is met; nothing has changed then.
 #[cycle(look)]
-pub fn look<'v, 's>(
-    code: Code<'v>,
-    contexts: &'v Tree,
-    m: &'v Machine<'s>,
-    e: &'v Expr,
-) -> Result<Option<Operand<'v>>, Stop>
-    ensures { Looks (value (called code.entry.methods.now m.now.depth) m.now.path (tree_of e.now) (state_of (shown code.entry.shape.now contexts.now) m.now)) (state_of (shown code.entry.shape.now contexts.now) m.now) result }
+pub fn look<'v, 's>(view: View<'v, 's>, e: &'v Expr) -> Result<Option<Operand<'v>>, Stop>
+    ensures { Sees view.entry (tree_of e.now) result }
 {
     match &e.node {
         Node::Const(value) => Ok(Some(Operand::Held(value))),
-        Node::Local(slot) => Ok(Some(item(m.locals.as_slice(), *slot as usize))),
-        Node::Field(f) => Ok(Some(field(code.shape, contexts, &m.path, *f as usize))),
+        Node::Local(slot) => Ok(Some(item(view.m.locals.as_slice(), *slot as usize))),
+        Node::Field(f) => Ok(Some(field(
+            view.code.shape,
+            view.contexts,
+            &view.m.path,
+            *f as usize,
+        ))),
         Node::Above(level, f) => {
-            let path = above(&m.path, *level as usize);
-            Ok(Some(field(code.shape, contexts, &path, *f as usize)))
+            let path = above(&view.m.path, *level as usize);
+            Ok(Some(field(view.code.shape, view.contexts, &path, *f as usize)))
         }
-        Node::Op(row, args) => look_row(code, contexts, m, *row, args.as_slice(), e.at),
-        Node::And(left, right) => look_and(code, contexts, m, left, right, e.at),
-        Node::Or(left, right) => look_or(code, contexts, m, left, right, e.at),
+        Node::Op(row, args) => look_row(view, *row, args.as_slice(), e.at),
+        Node::And(left, right) => look_and(view, left, right, e.at),
+        Node::Or(left, right) => look_or(view, left, right, e.at),
         Node::Call(_, _) => Ok(None),
         Node::Child(_, _, _, _) => Ok(None),
     }
@@ -47,55 +52,51 @@ pub fn look<'v, 's>(
 // The same, at once for a constant and a local.
 #[cycle(look)]
 #[inline(always)]
-fn operand<'v, 's>(
-    code: Code<'v>,
-    contexts: &'v Tree,
-    m: &'v Machine<'s>,
-    e: &'v Expr,
-) -> Result<Option<Operand<'v>>, Stop>
-    ensures { Looks (value (called code.entry.methods.now m.now.depth) m.now.path (tree_of e.now) (state_of (shown code.entry.shape.now contexts.now) m.now)) (state_of (shown code.entry.shape.now contexts.now) m.now) result }
+fn operand<'v, 's>(view: View<'v, 's>, e: &'v Expr) -> Result<Option<Operand<'v>>, Stop>
+    ensures { Sees view.entry (tree_of e.now) result }
 {
     match &e.node {
         Node::Const(value) => Ok(Some(Operand::Held(value))),
-        Node::Local(slot) => Ok(Some(item(m.locals.as_slice(), *slot as usize))),
-        _ => look(code, contexts, m, e),
+        Node::Local(slot) => Ok(Some(item(view.m.locals.as_slice(), *slot as usize))),
+        _ => look(view, e),
     }
 }
 
 /// The value of an operator, as `look` has it.
 #[cycle(look)]
 pub fn look_row<'v, 's>(
-    code: Code<'v>,
-    contexts: &'v Tree,
-    m: &'v Machine<'s>,
+    view: View<'v, 's>,
     row: u16,
     args: &'v [Expr],
     at: Span,
 ) -> Result<Option<Operand<'v>>, Stop>
-    ensures { Looks (value (called code.entry.methods.now m.now.depth) m.now.path (Op at row (trees_of (map tree_of args.now))) (state_of (shown code.entry.shape.now contexts.now) m.now)) (state_of (shown code.entry.shape.now contexts.now) m.now) result }
+    ensures { Sees view.entry (Op at row (trees_of (map tree_of args.now))) result }
 {
     match args {
-        [a] => look_one(code, contexts, m, row, a, at),
-        [a, b] => look_two(code, contexts, m, row, a, b, at),
-        [a, b, c] => look_three(code, contexts, m, row, a, b, c, at),
+        [a] => look_one(view, row, a, at),
+        [a, b] => look_two(view, row, a, b, at),
+        [a, b, c] => look_three(view, row, a, b, c, at),
         _ => Ok(None),
     }
 }
 
 #[cycle(look)]
 fn look_one<'v, 's>(
-    code: Code<'v>,
-    contexts: &'v Tree,
-    m: &'v Machine<'s>,
+    view: View<'v, 's>,
     row: u16,
     a: &'v Expr,
     at: Span,
 ) -> Result<Option<Operand<'v>>, Stop>
-    ensures { Looks (value (called code.entry.methods.now m.now.depth) m.now.path (Op at row (tree (tree_of a.now) no_trees)) (state_of (shown code.entry.shape.now contexts.now) m.now)) (state_of (shown code.entry.shape.now contexts.now) m.now) result }
+    ensures { Sees view.entry (Op at row (tree (tree_of a.now) no_trees)) result }
 {
-    match look(code, contexts, m, a) {
+    match look(view, a) {
         Ok(Some(a)) => {
-            let value = apply_any(code.alloc, row as usize, slice::from_ref(a.value()), at)?;
+            let value = apply_any(
+                view.code.alloc,
+                row as usize,
+                slice::from_ref(a.value()),
+                at,
+            )?;
             Ok(Some(Operand::Made(value)))
         }
         Ok(None) => Ok(None),
@@ -105,20 +106,18 @@ fn look_one<'v, 's>(
 
 #[cycle(look)]
 fn look_two<'v, 's>(
-    code: Code<'v>,
-    contexts: &'v Tree,
-    m: &'v Machine<'s>,
+    view: View<'v, 's>,
     row: u16,
     a: &'v Expr,
     b: &'v Expr,
     at: Span,
 ) -> Result<Option<Operand<'v>>, Stop>
-    ensures { Looks (value (called code.entry.methods.now m.now.depth) m.now.path (Op at row (tree (tree_of a.now) (tree (tree_of b.now) no_trees))) (state_of (shown code.entry.shape.now contexts.now) m.now)) (state_of (shown code.entry.shape.now contexts.now) m.now) result }
+    ensures { Sees view.entry (Op at row (tree (tree_of a.now) (tree (tree_of b.now) no_trees))) result }
 {
-    match operand(code, contexts, m, a) {
-        Ok(Some(a)) => match operand(code, contexts, m, b) {
+    match operand(view, a) {
+        Ok(Some(a)) => match operand(view, b) {
             Ok(Some(b)) => {
-                let value = apply_two(code.alloc, row as usize, a.value(), b.value(), at)?;
+                let value = apply_two(view.code.alloc, row as usize, a.value(), b.value(), at)?;
                 Ok(Some(Operand::Made(value)))
             }
             Ok(None) => Ok(None),
@@ -131,23 +130,21 @@ fn look_two<'v, 's>(
 
 #[cycle(look)]
 fn look_three<'v, 's>(
-    code: Code<'v>,
-    contexts: &'v Tree,
-    m: &'v Machine<'s>,
+    view: View<'v, 's>,
     row: u16,
     a: &'v Expr,
     b: &'v Expr,
     c: &'v Expr,
     at: Span,
 ) -> Result<Option<Operand<'v>>, Stop>
-    ensures { Looks (value (called code.entry.methods.now m.now.depth) m.now.path (Op at row (tree (tree_of a.now) (tree (tree_of b.now) (tree (tree_of c.now) no_trees)))) (state_of (shown code.entry.shape.now contexts.now) m.now)) (state_of (shown code.entry.shape.now contexts.now) m.now) result }
+    ensures { Sees view.entry (Op at row (tree (tree_of a.now) (tree (tree_of b.now) (tree (tree_of c.now) no_trees)))) result }
 {
-    match look(code, contexts, m, a) {
-        Ok(Some(a)) => match look(code, contexts, m, b) {
-            Ok(Some(b)) => match look(code, contexts, m, c) {
+    match look(view, a) {
+        Ok(Some(a)) => match look(view, b) {
+            Ok(Some(b)) => match look(view, c) {
                 Ok(Some(c)) => {
                     let (a, b, c) = (a.value(), b.value(), c.value());
-                    let value = apply_three(code.alloc, row as usize, a, b, c, at)?;
+                    let value = apply_three(view.code.alloc, row as usize, a, b, c, at)?;
                     Ok(Some(Operand::Made(value)))
                 }
                 Ok(None) => Ok(None),
@@ -163,19 +160,17 @@ fn look_three<'v, 's>(
 
 #[cycle(look)]
 fn look_and<'v, 's>(
-    code: Code<'v>,
-    contexts: &'v Tree,
-    m: &'v Machine<'s>,
+    view: View<'v, 's>,
     left: &'v Expr,
     right: &'v Expr,
     at: Span,
 ) -> Result<Option<Operand<'v>>, Stop>
-    ensures { Looks (value (called code.entry.methods.now m.now.depth) m.now.path (And at (tree_of left.now) (tree_of right.now)) (state_of (shown code.entry.shape.now contexts.now) m.now)) (state_of (shown code.entry.shape.now contexts.now) m.now) result }
+    ensures { Sees view.entry (And at (tree_of left.now) (tree_of right.now)) result }
 {
-    match look(code, contexts, m, left) {
+    match look(view, left) {
         Ok(Some(a)) => {
             if is_true(a.value()) {
-                look(code, contexts, m, right)
+                look(view, right)
             } else {
                 Ok(Some(Operand::Made(Value::Bool(false))))
             }
@@ -187,21 +182,19 @@ fn look_and<'v, 's>(
 
 #[cycle(look)]
 fn look_or<'v, 's>(
-    code: Code<'v>,
-    contexts: &'v Tree,
-    m: &'v Machine<'s>,
+    view: View<'v, 's>,
     left: &'v Expr,
     right: &'v Expr,
     at: Span,
 ) -> Result<Option<Operand<'v>>, Stop>
-    ensures { Looks (value (called code.entry.methods.now m.now.depth) m.now.path (Or at (tree_of left.now) (tree_of right.now)) (state_of (shown code.entry.shape.now contexts.now) m.now)) (state_of (shown code.entry.shape.now contexts.now) m.now) result }
+    ensures { Sees view.entry (Or at (tree_of left.now) (tree_of right.now)) result }
 {
-    match look(code, contexts, m, left) {
+    match look(view, left) {
         Ok(Some(a)) => {
             if is_true(a.value()) {
                 Ok(Some(Operand::Made(Value::Bool(true))))
             } else {
-                look(code, contexts, m, right)
+                look(view, right)
             }
         }
         Ok(None) => Ok(None),

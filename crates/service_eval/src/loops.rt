@@ -2,11 +2,9 @@
 
 ghost use Rattle.std.specs.Prelude.{◌≡◌, ◌<◌, ◌+◌, ◌^◌, ◌∷◌, [], pos, true, Ok, get_or};
 ghost use Rattle.resolved_service.specs.Meaning.{row_add, row_lt};
-ghost use Rattle.resolved_service.specs.Steps.{steps_in};
-ghost use Rattle.resolved_service.specs.View.{tree_of};
 ghost use Rattle.resolved_service.specs.World.{nothing, is_true};
 ghost use Rattle.service_eval.specs.Answers.{Gives};
-ghost use Rattle.service_eval.specs.Items as i;
+ghost use Rattle.service_eval.specs.Items.{turns_of, check_of, counts_of, again_of};
 ghost use Rattle.service_eval.specs.Turns.{IsNext, Goes};
 ghost use Rattle.value_ops.specs.Operators.{apply_row};
 ghost use Rattle.wave_base.specs.declared.value.Value.TheVariants.{Int};
@@ -19,9 +17,8 @@ use crate::machine::Machine;
 use crate::operand::is_true;
 use crate::rows::apply_two;
 use crate::stop::Stop;
-use crate::work::Work;
+use crate::work::{ForLoop, WhileLoop, Work};
 use context_tree::Tree;
-use resolved_service::{Expr, Stmt};
 use wave_base::{Span, Value};
 
 /// The operator rows of a loop over numbers.
@@ -34,21 +31,18 @@ pub fn turns<'s>(
     code: Code<'s>,
     contexts: &Tree,
     m: &mut Machine<'s>,
-    at: Span,
-    test: &'s Expr,
-    body: &'s [Stmt],
-    left: u32,
+    cycle: WhileLoop<'s>,
 ) -> Result<(), Stop>
-    requires { IsNext code contexts.now m.old (i.Turns at (tree_of test.now) (steps_in body.now) left) }
-    ensures { Goes code.entry contexts.now m.old (i.Turns at (tree_of test.now) (steps_in body.now) left) result contexts.now m.new }
+    requires { IsNext code contexts.now m.old (turns_of cycle) }
+    ensures { Goes code.entry contexts.now m.old (turns_of cycle.entry) result contexts.now m.new }
 {
     let base = m.height();
-    match found(code, contexts, m, test) {
+    match found(code, contexts, m, cycle.test) {
         Ok(Some(value)) => match m.give(value) {
-            Ok(()) => check(code, contexts, m, at, test, body, left, base),
+            Ok(()) => check(code, contexts, m, cycle, base),
             Err(e) => Err(e),
         },
-        Ok(None) => m.push_two(Work::Eval(test), Work::Check(at, test, body, left, base)),
+        Ok(None) => m.push_two(Work::Eval(cycle.test), Work::Check(cycle, base)),
         Err(e) => Err(e),
     }
 }
@@ -58,26 +52,20 @@ pub fn check<'s>(
     code: Code<'s>,
     contexts: &Tree,
     m: &mut Machine<'s>,
-    at: Span,
-    test: &'s Expr,
-    body: &'s [Stmt],
-    left: u32,
+    cycle: WhileLoop<'s>,
     base: usize,
 ) -> Result<(), Stop>
-    requires { IsNext code contexts.now m.old (i.Check at (tree_of test.now) (steps_in body.now) left base) }
-    ensures { Goes code.entry contexts.now m.old (i.Check at (tree_of test.now) (steps_in body.now) left base) result contexts.now m.new }
+    requires { IsNext code contexts.now m.old (check_of cycle base) }
+    ensures { Goes code.entry contexts.now m.old (check_of cycle.entry base) result contexts.now m.new }
 {
     let holds = m.is_true(base);
     m.cut(base);
     if holds {
-        match m.trace.tick(at) {
+        match m.trace.tick(cycle.at) {
             Ok(()) => {}
             Err(e) => return Err(e),
         }
-        if left == 0 {
-            return Ok(());
-        }
-        m.push_two(Work::Block(body), Work::Turns(at, test, body, left - 1))
+        m.push_two(Work::Block(cycle.body), Work::Turns(cycle))
     } else {
         Ok(())
     }
@@ -88,18 +76,15 @@ pub fn counts<'s>(
     code: Code<'s>,
     contexts: &mut Tree,
     m: &mut Machine<'s>,
-    at: Span,
-    counter: u16,
-    body: &'s [Stmt],
-    left: u32,
+    cycle: ForLoop<'s>,
 ) -> Result<(), Stop>
-    requires { IsNext code contexts.old m.old (i.Counts at counter (steps_in body.now) left) }
-    ensures { Goes code.entry contexts.old m.old (i.Counts at counter (steps_in body.now) left) result contexts.new m.new }
+    requires { IsNext code contexts.old m.old (counts_of cycle) }
+    ensures { Goes code.entry contexts.old m.old (counts_of cycle.entry) result contexts.new m.new }
 {
-    match is_below(code, m, at, counter as usize) {
+    match is_below(code, m, cycle.at, cycle.counter as usize) {
         Ok(value) => {
             if is_true(&value) {
-                count(code, contexts, m, at, counter, body, left, value)
+                count(code, contexts, m, cycle, value)
             } else {
                 Ok(())
             }
@@ -113,30 +98,24 @@ fn count<'s>(
     code: Code<'s>,
     contexts: &mut Tree,
     m: &mut Machine<'s>,
-    at: Span,
-    counter: u16,
-    body: &'s [Stmt],
-    left: u32,
+    cycle: ForLoop<'s>,
     value: Value,
 ) -> Result<(), Stop>
-    requires next { IsNext code contexts.old m.old (i.Counts at counter (steps_in body.now) left) }
-    requires test { apply_row row_lt (get_or m.old.locals.items counter nothing ∷ get_or m.old.locals.items (counter + 1) nothing ∷ []) ≡ Ok value }
+    requires next { IsNext code contexts.old m.old (counts_of cycle) }
+    requires test { apply_row row_lt (get_or m.old.locals.items cycle.counter nothing ∷ get_or m.old.locals.items (cycle.counter + 1) nothing ∷ []) ≡ Ok value }
     requires holds { is_true value ≡ true }
-    ensures { Goes code.entry contexts.old m.old (i.Counts at counter (steps_in body.now) left) result contexts.new m.new }
+    ensures { Goes code.entry contexts.old m.old (counts_of cycle.entry) result contexts.new m.new }
 {
-    match m.trace.tick(at) {
+    match m.trace.tick(cycle.at) {
         Ok(()) => {}
         Err(e) => return Err(e),
     }
-    if left == 0 {
-        return Ok(());
-    }
-    let slot = counter as usize;
+    let slot = cycle.counter as usize;
     match item(m.locals.as_slice(), slot).owned(code.alloc) {
         Ok(number) => {
             m.set_local(slot + 2, number);
-            match m.push(Work::Counts(at, counter, body, left - 1, true)) {
-                Ok(()) => block(code, contexts, m, body),
+            match m.push(Work::Counts(cycle, true)) {
+                Ok(()) => block(code, contexts, m, cycle.body),
                 Err(e) => Err(e),
             }
         }
@@ -165,18 +144,15 @@ pub fn again<'s>(
     code: Code<'s>,
     contexts: &mut Tree,
     m: &mut Machine<'s>,
-    at: Span,
-    counter: u16,
-    body: &'s [Stmt],
-    left: u32,
+    cycle: ForLoop<'s>,
 ) -> Result<(), Stop>
-    requires { IsNext code contexts.old m.old (i.Again at counter (steps_in body.now) left) }
-    ensures { Goes code.entry contexts.old m.old (i.Again at counter (steps_in body.now) left) result contexts.new m.new }
+    requires { IsNext code contexts.old m.old (again_of cycle) }
+    ensures { Goes code.entry contexts.old m.old (again_of cycle.entry) result contexts.new m.new }
 {
-    match one_more(code, m, at, counter as usize) {
+    match one_more(code, m, cycle.at, cycle.counter as usize) {
         Ok(number) => {
-            m.set_local(counter as usize, number);
-            counts(code, contexts, m, at, counter, body, left)
+            m.set_local(cycle.counter as usize, number);
+            counts(code, contexts, m, cycle)
         }
         Err(e) => Err(e),
     }

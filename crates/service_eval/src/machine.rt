@@ -12,14 +12,13 @@ use std::mem;
 use wave_base::{Path, Value};
 
 /// An event on its way: what is still to be done, the last first, and the values that it waits for; the locals, the
-/// context and the depth of the function that runs; and what the event has done.
+/// context of the function that runs; and what the event has done.
 #[derive(Drop)]
 pub struct Machine<'s> {
     pub work: Vec<Work<'s>>,
     pub values: Vec<Value>,
     pub locals: Vec<Value>,
     pub path: Path,
-    pub depth: u32,
     pub trace: Trace,
 }
 
@@ -196,10 +195,8 @@ impl<'s> Machine<'s> {
 
     /// Back to the parent.
     pub fn rise(&mut self)
-        requires { self.old.trace.changes < 2 ^ 63 }
         ensures { (tree : _) → mach_of tree self.new ≡ risen (mach_of tree self.old) }
     {
-        self.trace.changes += 1;
         if let Some(parent) = self.path.parent() {
             self.path = parent;
         }

@@ -61,20 +61,16 @@ fn turn<'s>(
         Work::AndThen(right, base) => and_then(code, contexts, m, right, base),
         Work::OrElse(right, base) => or_else(code, contexts, m, right, base),
         Work::Invoke(at, method, base) => invoke(code, contexts, m, at, method, base),
-        Work::Child(at, class, method, base) => {
-            invoke_child(code, contexts, m, at, class, method, base)
-        }
+        Work::Child(at, callee, base) => invoke_child(code, contexts, m, at, callee, base),
         Work::Block(stmts) => block(code, contexts, m, stmts),
         Work::Finish(at, ending, base) => finish(code, contexts, m, at, ending, base),
-        Work::Turns(at, test, body, left) => turns(code, contexts, m, at, test, body, left),
-        Work::Check(at, test, body, left, base) => {
-            check(code, contexts, m, at, test, body, left, base)
-        }
-        Work::Counts(at, counter, body, left, more) => {
+        Work::Turns(cycle) => turns(code, contexts, m, cycle),
+        Work::Check(cycle, base) => check(code, contexts, m, cycle, base),
+        Work::Counts(cycle, more) => {
             if more {
-                again(code, contexts, m, at, counter, body, left)
+                again(code, contexts, m, cycle)
             } else {
-                counts(code, contexts, m, at, counter, body, left)
+                counts(code, contexts, m, cycle)
             }
         }
         Work::Return(caller) => come_back(code, contexts, m, caller),

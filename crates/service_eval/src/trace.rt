@@ -20,8 +20,6 @@ pub struct Trace {
     pub held: Vec<Path>,
     pub messages: Vec<Message>,
     pub created: Vec<Call>,
-    /// How often it changed its place.
-    pub changes: u64,
 }
 
 impl Trace {

@@ -1,6 +1,36 @@
 use resolved_service::{Expr, Stmt};
 use wave_base::{Class, Span, Txt, Value};
 
+/// What is done where a test is true, and where it is false.
+#[derive(Clone, Copy)]
+pub struct Branches<'s> {
+    pub body: &'s [Stmt],
+    pub other: &'s [Stmt],
+}
+
+/// A `while`.
+#[derive(Clone, Copy)]
+pub struct WhileLoop<'s> {
+    pub at: Span,
+    pub test: &'s Expr,
+    pub body: &'s [Stmt],
+}
+
+/// A `for`, with its counter's slot.
+#[derive(Clone, Copy)]
+pub struct ForLoop<'s> {
+    pub at: Span,
+    pub counter: u16,
+    pub body: &'s [Stmt],
+}
+
+/// A method of the children of a class.
+#[derive(Clone, Copy)]
+pub struct Callee {
+    pub class: Class,
+    pub method: u16,
+}
+
 /// What a statement does with the values of its expressions.
 #[derive(Drop)]
 pub enum Ending<'s> {
@@ -10,8 +40,7 @@ pub enum Ending<'s> {
     PutField(u16),
     CutLocal(u16),
     CutField(u16),
-    /// What is done where the test is true, and where it is false.
-    Branch(&'s [Stmt], &'s [Stmt]),
+    Branch(Branches<'s>),
     Require,
     Send(&'s Txt),
     Spawn(u16),
@@ -30,12 +59,11 @@ pub struct Tail<'s> {
     pub base: usize,
 }
 
-/// Where a method returns to: the locals and the values of its caller, the caller's depth, and whether it is at the parent.
+/// Where a method returns to: the locals and the values of its caller, and whether it is at the parent.
 #[derive(Drop)]
 pub struct Caller {
     pub locals: Vec<Value>,
     pub values: Vec<Value>,
-    pub depth: u32,
     pub up: bool,
 }
 
@@ -55,17 +83,17 @@ pub enum Work<'s> {
     /// A call of a method at the same context, with its arguments.
     Invoke(Span, u16, usize),
     /// A call of a method at a child, with the key and the arguments.
-    Child(Span, Class, u16, usize),
+    Child(Span, Callee, usize),
     /// Statements, one after the other.
     Block(&'s [Stmt]),
     /// The rest of a statement whose expressions have their values.
     Finish(Span, Ending<'s>, usize),
-    /// So many turns of a `while` at most.
-    Turns(Span, &'s Expr, &'s [Stmt], u32),
+    /// The turns of a `while`.
+    Turns(WhileLoop<'s>),
     /// The same, where the test has its value.
-    Check(Span, &'s Expr, &'s [Stmt], u32, usize),
-    /// So many turns of a `for` at most, with the counter's slot, and whether the counter first goes on by one.
-    Counts(Span, u16, &'s [Stmt], u32, bool),
+    Check(WhileLoop<'s>, usize),
+    /// The turns of a `for`, and whether the counter first goes on by one.
+    Counts(ForLoop<'s>, bool),
     /// The caller goes on.
     Return(Caller),
 }

@@ -1,5 +1,6 @@
 use Rattle.std.proofs.Common.{◌≡◌, [], ◌∷◌, refl, sym, ap, subst, ◌∙◌}
 use Rattle.context_tree.specs.Contexts.{tree_of as shown, with_field}
+use Rattle.wave_base.specs.declared.limits.TheConstants.{TICKS}
 use Rattle.wave_base.specs.declared.value.Value.{Value}
 use Rattle.wave_base.specs.Tree.{Tree, there}
 use Rattle.std.proofs.Common.{List}
@@ -22,7 +23,7 @@ unfolding read_field
 returns-in-Ok-Some c =
     let code = c.args.code in
     let M : Mach = mach code c.args.contexts.now c.args.m.now in
-    let k = called code.methods.now M.depth in
+    let k = called code.methods.now TICKS in
     let at = c.args.at in
     let f = c.args.f in
     let a = tree_of c.args.key.now in
@@ -37,17 +38,17 @@ returns-in-Ok-Some c =
     let alters : Alters (cut_answer before vs) at before c.cut-done.result v = subst (λ b. Alters (cut_answer b vs) at b c.cut-done.result v) (c.lift_field-map.ensures.value code.shape.now) c.cut-done.ensures in
     let tree : shown code.shape.now c.set_field.new.tree ≡ with_field T M.path f v = c.set_field.ensures code.shape.now ∙ ap (λ t. with_field t M.path f v) (c.lift_field-map.ensures.rest code.shape.now) ∙ field_twice T M.path f nothing v in
     subst (λ r. AtOnce code c.args.contexts.now c.args.m.now step r c.set_field.new.tree c.args.m.now) (sym c.told.ensures)
-    (field_once code c.args.contexts.now c.args.m.now c.args.m.now step c.requires at (cut_answer before vs) c.set_field.new.tree f (one_found k M.depth M.path step st a (λ x. finish k M.depth M.path at (x ∷ []) (i.CutField f)) refl x found) v c.cut-done.result alters
+    (field_once code c.args.contexts.now c.args.m.now c.args.m.now step c.requires at (cut_answer before vs) c.set_field.new.tree f (one_found k TICKS M.path step st a (λ x. finish k TICKS M.path at (x ∷ []) (i.CutField f)) refl x found) v c.cut-done.result alters
     (ap (λ t. in_state (record { locals = M.state.locals; world = record M.state.world { tree = t } }) M) tree))
 
 pub returns-in-Err : goal.returns-in-Err
 returns-in-Err c =
     let code = c.args.code in
     let M : Mach = mach code c.args.contexts.now c.args.m.now in
-    let k = called code.methods.now M.depth in
+    let k = called code.methods.now TICKS in
     let at = c.args.at in
     let f = c.args.f in
     let a = tree_of c.args.key.now in
     let st = M.state in
     let step = s.CutField at f a in
-    (one_fails k M.depth M.path step st a (λ x. finish k M.depth M.path at (x ∷ []) (i.CutField f)) refl c.in-Err.e st.world c.in-Err.ensures, c.requires.holds)
+    (one_fails k TICKS M.path step st a (λ x. finish k TICKS M.path at (x ∷ []) (i.CutField f)) refl c.in-Err.e st.world c.in-Err.ensures, c.requires.holds)

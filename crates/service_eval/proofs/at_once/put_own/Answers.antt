@@ -1,5 +1,6 @@
 use Rattle.std.proofs.Common.{◌≡◌, [], ◌∷◌, get_or, refl, sym, ap, subst, ◌∙◌}
 use Rattle.context_tree.specs.Contexts.{tree_of as shown, with_field}
+use Rattle.wave_base.specs.declared.limits.TheConstants.{TICKS}
 use Rattle.wave_base.specs.declared.value.Value.{Value}
 use Rattle.wave_base.specs.Tree.{Tree, there}
 use Rattle.std.proofs.Common.{List}
@@ -22,11 +23,11 @@ unfolding read_field
 returns-in-Ok-Some c =
     let code = c.args.code in
     let M : Mach = mach code c.args.contexts.now c.args.m.now in
-    let k = called code.methods.now M.depth in
+    let k = called code.methods.now TICKS in
     let at = c.args.at in
     let f = c.args.f in
-    let a = tree_of c.args.key.now in
-    let b = tree_of c.args.e.now in
+    let a = tree_of c.args.pair.key.now in
+    let b = tree_of c.args.pair.value.now in
     let st = M.state in
     let step = s.PutField at f a b in
     let found = rw c.in-Ok-Some.field-0-is at c.in-Ok-Some.ensures in
@@ -39,18 +40,18 @@ returns-in-Ok-Some c =
     let alters : Alters (put_answer before vs) at before c.put-done.result v = subst (λ b. Alters (put_answer b vs) at b c.put-done.result v) (c.lift_field-map.ensures.value code.shape.now) c.put-done.ensures in
     let tree : shown code.shape.now c.set_field.new.tree ≡ with_field T M.path f v = c.set_field.ensures code.shape.now ∙ ap (λ t. with_field t M.path f v) (c.lift_field-map.ensures.rest code.shape.now) ∙ field_twice T M.path f nothing v in
     subst (λ r. AtOnce code c.args.contexts.now c.args.m.now step r c.set_field.new.tree c.args.m.now) (sym c.told.ensures)
-    (field_once code c.args.contexts.now c.args.m.now c.args.m.now step c.requires at (put_answer before vs) c.set_field.new.tree f (two_found k M.depth M.path step st a b (λ x y. finish k M.depth M.path at (x ∷ y ∷ []) (i.PutField f)) refl x y found.0 found.1) v c.put-done.result alters
+    (field_once code c.args.contexts.now c.args.m.now c.args.m.now step c.requires at (put_answer before vs) c.set_field.new.tree f (two_found k TICKS M.path step st a b (λ x y. finish k TICKS M.path at (x ∷ y ∷ []) (i.PutField f)) refl x y found.0 found.1) v c.put-done.result alters
     (ap (λ t. in_state (record { locals = M.state.locals; world = record M.state.world { tree = t } }) M) tree))
 
 pub returns-in-Err : goal.returns-in-Err
 returns-in-Err c =
     let code = c.args.code in
     let M : Mach = mach code c.args.contexts.now c.args.m.now in
-    let k = called code.methods.now M.depth in
+    let k = called code.methods.now TICKS in
     let at = c.args.at in
     let f = c.args.f in
-    let a = tree_of c.args.key.now in
-    let b = tree_of c.args.e.now in
+    let a = tree_of c.args.pair.key.now in
+    let b = tree_of c.args.pair.value.now in
     let st = M.state in
     let step = s.PutField at f a b in
-    (two_fails k M.depth M.path step st a b (λ x y. finish k M.depth M.path at (x ∷ y ∷ []) (i.PutField f)) refl c.in-Err.e st.world c.in-Err.ensures, c.requires.holds)
+    (two_fails k TICKS M.path step st a b (λ x y. finish k TICKS M.path at (x ∷ y ∷ []) (i.PutField f)) refl c.in-Err.e st.world c.in-Err.ensures, c.requires.holds)

@@ -25,7 +25,7 @@ begin_one-requires c =
     let at = c.args.stmt.now.at in
     to_parts c.args.code c.args.contexts.now c.args.m.now (length c.args.m.now.values.items) (step_of c.args.stmt.now) (s.SetLocal at c.in-SetLocal.slot (tree_of c.in-SetLocal.e)) (ap (λ a. action_step a at) c.in-SetLocal.is)
     (λ h x. on_top (Eval (tree_of c.in-SetLocal.e)) (on_top (Finish at (i.SetLocal c.in-SetLocal.slot) h) x)) refl
-    (λ next. ready_with _ _ _ _ _ _ next (next.items.0, (tt, next.items.1)) (omega arith)) c.requires
+    (λ next. ready_with _ _ _ _ _ next (next.items.0, (tt, next.items.1))) c.requires
 
 pub returns-in-SetLocal : goal.returns-in-SetLocal
 returns-in-SetLocal c =
@@ -39,7 +39,7 @@ begin_one-requires-in-SetField c =
     let at = c.args.stmt.now.at in
     to_parts c.args.code c.args.contexts.now c.args.m.now (length c.args.m.now.values.items) (step_of c.args.stmt.now) (s.SetField at c.in-SetField.f (tree_of c.in-SetField.e)) (ap (λ a. action_step a at) c.in-SetField.is)
     (λ h x. on_top (Eval (tree_of c.in-SetField.e)) (on_top (Finish at (i.SetField c.in-SetField.f) h) x)) refl
-    (λ next. ready_with _ _ _ _ _ _ next (next.items.0.1, (tt, next.items.1)) (omega arith)) c.requires
+    (λ next. ready_with _ _ _ _ _ next (next.items.0.1, (tt, next.items.1))) c.requires
 
 pub returns-in-SetField : goal.returns-in-SetField
 returns-in-SetField c =
@@ -53,7 +53,7 @@ with_two-requires c =
     let at = c.args.stmt.now.at in
     to_parts c.args.code c.args.contexts.now c.args.m.now c.height-base.result (step_of c.args.stmt.now) (s.PutLocal at c.in-PutLocal.slot (tree_of c.in-PutLocal.key) (tree_of c.in-PutLocal.e)) (ap (λ a. action_step a at) c.in-PutLocal.is)
     (λ h x. on_top (Eval (tree_of c.in-PutLocal.key)) (on_top (Eval (tree_of c.in-PutLocal.e)) (on_top (Finish at (i.PutLocal c.in-PutLocal.slot) h) x))) c.height-base.ensures
-    (λ next. ready_with _ _ _ _ _ _ next (next.items.0.0, (next.items.0.1, (tt, next.items.1))) (omega arith)) c.requires
+    (λ next. ready_with _ _ _ _ _ next (next.items.0.0, (next.items.0.1, (tt, next.items.1)))) c.requires
 
 pub returns-in-PutLocal : goal.returns-in-PutLocal
 returns-in-PutLocal c =
@@ -67,7 +67,7 @@ with_two-requires-in-PutField c =
     let at = c.args.stmt.now.at in
     to_parts c.args.code c.args.contexts.now c.args.m.now c.height-base.result (step_of c.args.stmt.now) (s.PutField at c.in-PutField.f (tree_of c.in-PutField.key) (tree_of c.in-PutField.e)) (ap (λ a. action_step a at) c.in-PutField.is)
     (λ h x. on_top (Eval (tree_of c.in-PutField.key)) (on_top (Eval (tree_of c.in-PutField.e)) (on_top (Finish at (i.PutField c.in-PutField.f) h) x))) c.height-base.ensures
-    (λ next. ready_with _ _ _ _ _ _ next (next.items.0.1, (next.items.0.2, (tt, next.items.1))) (omega arith)) c.requires
+    (λ next. ready_with _ _ _ _ _ next (next.items.0.1, (next.items.0.2, (tt, next.items.1)))) c.requires
 
 pub returns-in-PutField : goal.returns-in-PutField
 returns-in-PutField c =
@@ -81,7 +81,7 @@ begin_one-requires-in-CutLocal c =
     let at = c.args.stmt.now.at in
     to_parts c.args.code c.args.contexts.now c.args.m.now (length c.args.m.now.values.items) (step_of c.args.stmt.now) (s.CutLocal at c.in-CutLocal.slot (tree_of c.in-CutLocal.key)) (ap (λ a. action_step a at) c.in-CutLocal.is)
     (λ h x. on_top (Eval (tree_of c.in-CutLocal.key)) (on_top (Finish at (i.CutLocal c.in-CutLocal.slot) h) x)) refl
-    (λ next. ready_with _ _ _ _ _ _ next (next.items.0, (tt, next.items.1)) (omega arith)) c.requires
+    (λ next. ready_with _ _ _ _ _ next (next.items.0, (tt, next.items.1))) c.requires
 
 pub returns-in-CutLocal : goal.returns-in-CutLocal
 returns-in-CutLocal c =
@@ -95,7 +95,7 @@ begin_one-requires-in-CutField c =
     let at = c.args.stmt.now.at in
     to_parts c.args.code c.args.contexts.now c.args.m.now (length c.args.m.now.values.items) (step_of c.args.stmt.now) (s.CutField at c.in-CutField.f (tree_of c.in-CutField.key)) (ap (λ a. action_step a at) c.in-CutField.is)
     (λ h x. on_top (Eval (tree_of c.in-CutField.key)) (on_top (Finish at (i.CutField c.in-CutField.f) h) x)) refl
-    (λ next. ready_with _ _ _ _ _ _ next (next.items.0.1, (tt, next.items.1)) (omega arith)) c.requires
+    (λ next. ready_with _ _ _ _ _ next (next.items.0.1, (tt, next.items.1))) c.requires
 
 pub returns-in-CutField : goal.returns-in-CutField
 returns-in-CutField c =
@@ -109,7 +109,7 @@ begin_one-requires-in-If c =
     let at = c.args.stmt.now.at in
     to_parts c.args.code c.args.contexts.now c.args.m.now (length c.args.m.now.values.items) (step_of c.args.stmt.now) (s.If at (tree_of c.in-If.test) (steps_in c.as_slice.result.now) (else_in c.in-If.other)) (ap (λ a. action_step a at) c.in-If.is ∙ if_step c.in-If.test c.in-If.body c.in-If.other at ∙ ap (λ b. s.If at (tree_of c.in-If.test) (steps_in b) (else_in c.in-If.other)) (sym c.as_slice.ensures.value))
     (λ h x. on_top (Eval (tree_of c.in-If.test)) (on_top (Finish at (i.Branch (steps_in c.as_slice.result.now) (steps_in c.else_of.result.now)) h) x)) refl
-    (λ next. ready_with _ _ _ _ _ _ next (next.items.0.0, ((next.items.0.1, subst (FitsSteps c.args.code.shape.now c.args.code.methods.now (class_of c.args.m.now.path)) (sym c.else_of.ensures) (fits_else c.args.code.shape.now c.args.code.methods.now (class_of c.args.m.now.path) (else_in c.in-If.other) next.items.0.2)), next.items.1)) (omega arith)) c.requires
+    (λ next. ready_with _ _ _ _ _ next (next.items.0.0, ((next.items.0.1, subst (FitsSteps c.args.code.shape.now c.args.code.methods.now (class_of c.args.m.now.path)) (sym c.else_of.ensures) (fits_else c.args.code.shape.now c.args.code.methods.now (class_of c.args.m.now.path) (else_in c.in-If.other) next.items.0.2)), next.items.1))) c.requires
 
 pub returns-in-If : goal.returns-in-If
 returns-in-If c =
@@ -123,7 +123,7 @@ begin_one-requires-in-Require c =
     let at = c.args.stmt.now.at in
     to_parts c.args.code c.args.contexts.now c.args.m.now (length c.args.m.now.values.items) (step_of c.args.stmt.now) (s.Require at (tree_of c.in-Require.e)) (ap (λ a. action_step a at) c.in-Require.is)
     (λ h x. on_top (Eval (tree_of c.in-Require.e)) (on_top (Finish at i.Require h) x)) refl
-    (λ next. ready_with _ _ _ _ _ _ next (next.items.0, (tt, next.items.1)) (omega arith)) c.requires
+    (λ next. ready_with _ _ _ _ _ next (next.items.0, (tt, next.items.1))) c.requires
 
 pub returns-in-Require : goal.returns-in-Require
 returns-in-Require c =
@@ -137,7 +137,7 @@ begin_one-requires-in-Send c =
     let at = c.args.stmt.now.at in
     to_parts c.args.code c.args.contexts.now c.args.m.now (length c.args.m.now.values.items) (step_of c.args.stmt.now) (s.Send at c.in-Send.label (tree_of c.in-Send.e)) (ap (λ a. action_step a at) c.in-Send.is)
     (λ h x. on_top (Eval (tree_of c.in-Send.e)) (on_top (Finish at (i.Send c.in-Send.label) h) x)) refl
-    (λ next. ready_with _ _ _ _ _ _ next (next.items.0, (tt, next.items.1)) (omega arith)) c.requires
+    (λ next. ready_with _ _ _ _ _ next (next.items.0, (tt, next.items.1))) c.requires
 
 pub returns-in-Send : goal.returns-in-Send
 returns-in-Send c =
@@ -150,22 +150,22 @@ pub returns-in-While : goal.returns-in-While
 returns-in-While c =
     let at = c.args.stmt.now.at in
     at_step c.args.code c.args.contexts.now c.args.m.now c.push.new.self c.push.result (step_of c.args.stmt.now) (s.While at (tree_of c.in-While.test) (steps_in c.as_slice-in-While.result.now)) (ap (λ a. action_step a at) c.in-While.is ∙ while_step c.in-While.test c.in-While.body at ∙ ap (λ b. s.While at (tree_of c.in-While.test) (steps_in b)) (sym c.as_slice-in-While.ensures.value))
-    (λ next. step_turn c.args.code c.args.contexts.now c.args.m.now c.push.new.self c.push.result c.height-base.result (s.While at (tree_of c.in-While.test) (steps_in c.as_slice-in-While.result.now)) (λ h x. on_top (Turns at (tree_of c.in-While.test) (steps_in c.as_slice-in-While.result.now) x.depth) x) c.height-base.ensures
-    (refl) (ready_with _ _ _ _ _ _ next (next.items.0, next.items.1) (omega arith)) (c.push.ensures.ok) c.push.ensures.err next) c.requires
+    (λ next. step_turn c.args.code c.args.contexts.now c.args.m.now c.push.new.self c.push.result c.height-base.result (s.While at (tree_of c.in-While.test) (steps_in c.as_slice-in-While.result.now)) (λ h x. on_top (Turns at (tree_of c.in-While.test) (steps_in c.as_slice-in-While.result.now)) x) c.height-base.ensures
+    (refl) (ready_with _ _ _ _ _ next (next.items.0, next.items.1)) (c.push.ensures.ok) c.push.ensures.err next) c.requires
 
 pub returns-in-Spawn : goal.returns-in-Spawn
 returns-in-Spawn c =
     let at = c.args.stmt.now.at in
     at_step c.args.code c.args.contexts.now c.args.m.now c.push_two.new.self c.push_two.result (step_of c.args.stmt.now) (s.Spawn at c.in-Spawn.event (trees_of (map tree_of c.as_slice-in-Spawn.result.now))) (ap (λ a. action_step a at) c.in-Spawn.is ∙ spawn_step c.in-Spawn.event c.in-Spawn.args at ∙ ap (λ l. s.Spawn at c.in-Spawn.event (trees_of (map tree_of l))) (sym c.as_slice-in-Spawn.ensures.value))
     (λ next. step_turn c.args.code c.args.contexts.now c.args.m.now c.push_two.new.self c.push_two.result c.height-base.result (s.Spawn at c.in-Spawn.event (trees_of (map tree_of c.as_slice-in-Spawn.result.now))) (λ h x. on_top (Evals (trees_of (map tree_of c.as_slice-in-Spawn.result.now))) (on_top (Finish at (i.Spawn c.in-Spawn.event) h) x)) c.height-base.ensures
-    (l.spawn_parts c.args.code.methods.now (mach c.args.code c.args.contexts.now c.args.m.now) at c.in-Spawn.event (trees_of (map tree_of c.as_slice-in-Spawn.result.now))) (ready_with _ _ _ _ _ _ next (next.items.0, (tt, next.items.1)) (omega arith)) (c.push_two.ensures.ok) c.push_two.ensures.err next) c.requires
+    (l.spawn_parts c.args.code.methods.now (mach c.args.code c.args.contexts.now c.args.m.now) at c.in-Spawn.event (trees_of (map tree_of c.as_slice-in-Spawn.result.now))) (ready_with _ _ _ _ _ next (next.items.0, (tt, next.items.1))) (c.push_two.ensures.ok) c.push_two.ensures.err next) c.requires
 
 pub returns-in-Do : goal.returns-in-Do
 returns-in-Do c =
     let at = c.args.stmt.now.at in
     at_step c.args.code c.args.contexts.now c.args.m.now c.push_two-in-Do.new.self c.push_two-in-Do.result (step_of c.args.stmt.now) (s.Do at (tree_of c.in-Do.e)) (ap (λ a. action_step a at) c.in-Do.is)
     (λ next. step_turn c.args.code c.args.contexts.now c.args.m.now c.push_two-in-Do.new.self c.push_two-in-Do.result c.height-base.result (s.Do at (tree_of c.in-Do.e)) (λ h x. on_top (Eval (tree_of c.in-Do.e)) (on_top (Finish at i.Drop h) x)) c.height-base.ensures
-    (l.do_parts c.args.code.methods.now (mach c.args.code c.args.contexts.now c.args.m.now) at (tree_of c.in-Do.e)) (ready_with _ _ _ _ _ _ next (next.items.0, (tt, next.items.1)) (omega arith)) (c.push_two-in-Do.ensures.ok) c.push_two-in-Do.ensures.err next) c.requires
+    (l.do_parts c.args.code.methods.now (mach c.args.code c.args.contexts.now c.args.m.now) at (tree_of c.in-Do.e)) (ready_with _ _ _ _ _ next (next.items.0, (tt, next.items.1))) (c.push_two-in-Do.ensures.ok) c.push_two-in-Do.ensures.err next) c.requires
 
 pub begin_for-requires : goal.begin_for-requires
 begin_for-requires c = subst (λ b. IsNext c.args.code c.args.contexts.now c.args.m.now (Begin b)) (ap (λ a. action_step a c.args.stmt.now.at) c.in-For.is ∙ for_step c.in-For.counter c.in-For.from c.in-For.to c.in-For.body c.args.stmt.now.at ∙ ap (λ b. s.For c.args.stmt.now.at c.in-For.counter (tree_of c.in-For.from) (tree_of c.in-For.to) (steps_in b)) (sym c.as_slice-in-For.ensures.value)) c.requires

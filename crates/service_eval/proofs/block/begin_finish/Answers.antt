@@ -12,4 +12,4 @@ use Rattle.service_eval.proofs.block.begin_finish.Goals as goal
 pub returns-in-None : goal.returns-in-None
 returns-in-None c =
     let m = mach c.args.code c.args.contexts.now c.args.m.now in
-    (subst (λ v. Ends (comes_to c.args.code.methods.now (on_top (i.Begin (Finish c.args.at (option_map tree_of v))) m)) None m.state.world) (sym c.in-None.is) (finish_through c.args.code.methods.now m.items m.path m.depth None m.state), c.requires.holds)
+    (subst (λ v. Ends (comes_to c.args.code.methods.now (on_top (i.Begin (Finish c.args.at (option_map tree_of v))) m)) None m.state.world) (sym c.in-None.is) (finish_through c.args.code.methods.now m.items m.path None m.state), c.requires.holds)

@@ -11,7 +11,7 @@ use Rattle.service_eval.proofs.ReadyLemmas.{ready_with}
 use Rattle.service_eval.proofs.block.begin_first.Goals as goal
 
 pub begin-requires : goal.begin-requires
-begin-requires c = ready_with _ _ _ _ _ _ c.requires (c.requires.items.0.0, c.requires.items.1) (omega arith)
+begin-requires c = ready_with _ _ _ _ _ c.requires (c.requires.items.0.0, c.requires.items.1)
 
 pub returns-in-None : goal.returns-in-None
 returns-in-None c =
@@ -23,7 +23,7 @@ returns-in-None c =
 pub begin-requires-in-Ok : goal.begin-requires-in-Ok
 begin-requires-in-Ok c =
     subst (λ (x : Mach). Ready c.args.code.shape.now c.args.code.methods.now (on_top (Begin (step_of c.args.first.now)) x)) (sym (c.in-Ok.ensures.ok (shown c.args.code.shape.now c.args.contexts.now)))
-    (ready_with _ _ _ _ _ _ c.requires (c.requires.items.0.0, (c.requires.items.0.1, c.requires.items.1)) (omega arith))
+    (ready_with _ _ _ _ _ c.requires (c.requires.items.0.0, (c.requires.items.0.1, c.requires.items.1)))
 
 pub returns-in-Ok : goal.returns-in-Ok
 returns-in-Ok c =

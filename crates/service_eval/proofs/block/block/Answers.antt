@@ -14,11 +14,11 @@ pub returns-in-None : goal.returns-in-None
 returns-in-None c =
     let M : Mach = mach c.args.code c.statements.contexts c.statements.m in (
       c.statements.invariant.same ∙ ap (λ ss. comes_to c.args.code.methods.now (on_top (Block (steps_in ss)) M)) (c.in-None.ensures.none refl),
-      ready_with _ _ _ _ _ _ c.statements.invariant.ready c.statements.invariant.ready.items.1 (omega arith),
+      ready_with _ _ _ _ _ c.statements.invariant.ready c.statements.invariant.ready.items.1,
     )
 
 pub at_once-requires : goal.at_once-requires
-at_once-requires c = ready_with _ _ _ _ _ _ c.statements.invariant.ready c.statements.invariant.ready.items.1 (omega arith)
+at_once-requires c = ready_with _ _ _ _ _ c.statements.invariant.ready c.statements.invariant.ready.items.1
 
 pub statements-preserved : goal.statements-preserved
 statements-preserved c =
@@ -32,7 +32,7 @@ statements-preserved c =
       same = c.statements.invariant.same ∙ ap (λ ss. comes_to code.methods.now (on_top (Block (steps_in ss)) M)) c.in-Some.ensures.some
           ∙ block_goes code.methods.now M (step_of c.in-Some.first.now) ss M'.state done.0 ∙ ap (λ (x : Mach). comes_to code.methods.now (on_top (Block ss) x)) (sym done.1);
       ready = subst (λ (x : Mach). Ready code.shape.now code.methods.now (on_top (Block ss) x)) (sym done.1)
-          (ready_with code.shape.now code.methods.now (in_state M'.state M) _ M.values M.depth (subst (Ready code.shape.now code.methods.now) done.1 done.2) (next.items.0.1, next.items.1) (omega arith));
+          (ready_with code.shape.now code.methods.now (in_state M'.state M) _ M.values (subst (Ready code.shape.now code.methods.now) done.1 done.2) (next.items.0.1, next.items.1));
     }
 
 pub begin_first-requires : goal.begin_first-requires

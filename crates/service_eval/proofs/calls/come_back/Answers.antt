@@ -1,14 +1,8 @@
-use Rattle.std.proofs.Common.{ap, ◌∙◌, arith}
+use Rattle.std.proofs.Common.{ap, ◌∙◌}
 use Rattle.std.proofs.lemmas.Result.{on_ok_weaker}
-use Rattle.context_tree.specs.Contexts.{tree_of as shown}
-use Rattle.service_eval.specs.Machines.{Mach, path_after, back_to}
-use Rattle.service_eval.specs.Turns.{mach}
-use Rattle.service_eval.proofs.CallTurns.{back_turn, few_downs}
+use Rattle.service_eval.specs.Machines.{back_to}
+use Rattle.service_eval.proofs.CallTurns.{back_turn}
 use Rattle.service_eval.proofs.calls.come_back.Goals as goal
-
-pub go_on-requires : goal.go_on-requires
-go_on-requires c =
-    omega (arith, c.requires.room, few_downs (mach c.args.code c.args.contexts.now c.args.m.now).items (path_after c.args.caller.up c.args.m.now.path), ap (λ (m : Mach). m.state.world.changes) (c.take-value.ensures.rest (shown c.args.code.shape.now c.args.contexts.now)))
 
 pub returns : goal.returns
 returns c =

@@ -1,34 +1,18 @@
-use Rattle.std.proofs.Common.{◌≡◌, ℕ, suc, ◌-◌, false, drop, Err, ap, sym, subst, ◌∙◌, arith}
+use Rattle.std.proofs.Common.{false, drop, ◌∙◌}
 use Rattle.std.proofs.lemmas.Result.{on_ok_weaker}
 use Rattle.context_tree.specs.Contexts.{tree_of as shown}
-use Rattle.resolved_service.specs.Meaning.{nowhere}
-use Rattle.wave_base.specs.declared.trap.TrapKind.TheVariants.{Ticks}
-use Rattle.service_eval.specs.declared.stop.Stop.TheVariants.{Trapped}
 use Rattle.service_eval.specs.Items.{Invoke}
-use Rattle.service_eval.specs.Machines.{Mach, on_top, cut_to, in_world, started}
-use Rattle.service_eval.specs.Turns.{mach, Goes}
+use Rattle.service_eval.specs.Machines.{on_top, cut_to, in_world, started}
+use Rattle.service_eval.specs.Turns.{mach}
 use Rattle.service_eval.specs.Worlds.{world_of}
 use Rattle.service_eval.proofs.CallLemmas as l
 use Rattle.service_eval.proofs.CallTurns.{ready_invoked}
 use Rattle.service_eval.proofs.ReadyLemmas.{turned_to}
 use Rattle.service_eval.proofs.calls.invoke.Goals as goal
 
-some_depth : (n : ℕ) → (n ≡ 0 → ⊥) → n ≡ suc (n - 1)
-some_depth n h = omega arith
-
 pub returns-in-Err : goal.returns-in-Err
 returns-in-Err c =
     (l.no_tick c.args.code.methods.now (mach c.args.code c.args.contexts.now c.args.m.now) c.args.at c.args.method c.args.base c.in-Err.e _ (c.in-Err.ensures (shown c.args.code.shape.now c.args.contexts.now)), c.requires.next.holds)
-
-pub returns-then-m-eq0 : goal.returns-then-m-eq0
-returns-then-m-eq0 c =
-    let T = shown c.args.code.shape.now c.args.contexts.now in
-    let e : c.trapped.result ≡ Err (Trapped (record { kind = Ticks; at = nowhere })) = c.trapped.ensures ∙ ap (λ at. Err (Trapped (record { kind = Ticks; at = at }))) c.nowhere.ensures in
-    subst (λ r. Goes c.args.code c.args.contexts.now c.args.m.now (Invoke c.args.at c.args.method c.args.base) r c.args.contexts.now (record c.args.m.now { trace = c.tick.new.self })) (sym e)
-    (l.too_deep c.args.code.methods.now (mach c.args.code c.args.contexts.now c.args.m.now) c.args.at c.args.method c.args.base (world_of T c.tick.new.self) (c.in-Ok.ensures T) c.if-m-eq0.true, c.requires.next.holds)
-
-pub start-requires : goal.start-requires
-start-requires c = omega (arith, c.if-m-eq0.false, ap (λ (m : Mach). m.depth) (c.in-Ok-take_all.ensures.rest (shown c.args.code.shape.now c.args.contexts.now)))
 
 pub returns-in-Ok-take_all : goal.returns-in-Ok-take_all
 returns-in-Ok-take_all c =
@@ -36,7 +20,7 @@ returns-in-Ok-take_all c =
     let m = mach c.args.code c.args.contexts.now c.args.m.now in
     let w = world_of T c.tick.new.self in
     turned_to c.args.code c.args.contexts.now (on_top (Invoke c.args.at c.args.method c.args.base) m) (started c.method_at.result.now (drop c.args.base m.values) false (cut_to c.args.base (in_world w m))) c.start.new.m c.start.result
-    (l.invoked c.args.code.methods.now m c.args.at c.method_at.result.now c.args.method c.args.base w (c.in-Ok.ensures T) (some_depth m.depth c.if-m-eq0.false) c.method_at.ensures)
+    (l.invoked c.args.code.methods.now m c.args.at c.requires.next.few c.method_at.result.now c.args.method c.args.base w (c.in-Ok.ensures T) c.method_at.ensures)
     (ready_invoked c.args.code.shape.now c.args.code.methods.now c.requires.methods m c.args.method c.method_at.result.now c.method_at.ensures c.args.at c.args.base w c.requires.next (c.in-Ok.ensures T))
     c.requires.next.holds
     (on_ok_weaker c.start.result (λ h. h T ∙ (λ i. started c.method_at.result.now (c.in-Ok-take_all.ensures.values i) false (c.in-Ok-take_all.ensures.rest T i))) c.start.ensures.ok) c.start.ensures.err

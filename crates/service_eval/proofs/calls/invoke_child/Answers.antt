@@ -12,30 +12,24 @@ use Rattle.wave_base.specs.Paths.{parent_of}
 use Rattle.wave_base.specs.Shapes.{IsShape, is_path}
 use Rattle.wave_base.specs.Tree.{there}
 use Rattle.resolved_service.specs.declared.service.Method.{Method}
-use Rattle.resolved_service.specs.World.{World, key_of, child, ticking, entering}
+use Rattle.resolved_service.specs.World.{World, key_of, child, changed, ticking, entering}
 use Rattle.service_eval.specs.Ready.{Ready}
-use Rattle.resolved_service.specs.Meaning.{nowhere}
-use Rattle.wave_base.specs.declared.trap.TrapKind.TheVariants.{Ticks}
-use Rattle.service_eval.specs.declared.stop.Stop.TheVariants.{Trapped}
 use Rattle.service_eval.specs.Items.{Child}
 use Rattle.service_eval.specs.Machines.{Mach, mach_of, on_top, cut_to, in_world, started, own, comes_to}
 use Rattle.service_eval.specs.Turns.{mach, Goes}
 use Rattle.service_eval.specs.Worlds.{world_of, Holds, Changes, Fails}
 use Rattle.service_eval.proofs.CallLemmas as l
-use Rattle.service_eval.proofs.CallTurns.{Entered, ready_child, entered, ticked, few_downs}
+use Rattle.service_eval.proofs.CallTurns.{Entered, ready_child, entered, ticked}
 use Rattle.service_eval.proofs.PathLemmas.{short_path, is_path-child, parent_of-child}
 use Rattle.service_eval.proofs.ReadyLemmas.{turned_to}
 use Rattle.service_eval.proofs.calls.invoke_child.Goals as goal
 
-some_depth : (n : ℕ) → (n ≡ 0 → ⊥) → n ≡ suc (n - 1)
-some_depth n h = omega arith
-
 pub returns-in-Err : goal.returns-in-Err
 returns-in-Err c =
-    (l.no_child_tick c.args.code.methods.now (mach c.args.code c.args.contexts.now c.args.m.now) c.args.at c.args.class.0 c.args.method c.args.base c.in-Err.e _ (c.in-Err.ensures (shown c.args.code.shape.now c.args.contexts.now)), c.requires.next.holds)
+    (l.no_child_tick c.args.code.methods.now (mach c.args.code c.args.contexts.now c.args.m.now) c.args.at c.args.callee.class.0 c.args.callee.method c.args.base c.in-Err.e _ (c.in-Err.ensures (shown c.args.code.shape.now c.args.contexts.now)), c.requires.next.holds)
 
 pub child-path-requires : goal.child-path-requires
-child-path-requires c = short_path c.args.code.shape.now c.requires.shape c.args.m.now.path c.args.class.0 c.requires.next.path c.requires.next.items.0.0
+child-path-requires c = short_path c.args.code.shape.now c.requires.shape c.args.m.now.path c.args.callee.class.0 c.requires.next.path c.requires.next.items.0.0
 
 -- the path that is entered, by the key's value
 is_child : (p : Path) (class : Class) (key : ℤ) (v : Value) (q : Path) → FitsSigned w64 key → q ≡ p ++ record { class = class; key = to_z w64 (of_z w64 key) } ∷ [] → key ≡ key_of v → q ≡ child p class.0 v
@@ -61,10 +55,7 @@ module _ (shape : Shape) (methods : List Method) (is : IsShape shape) (m : Mach)
   parent_is : there m.state.world.tree (parent_of q) ≡ true
   parent_is = subst (λ p. there m.state.world.tree p ≡ true) (sym (parent_of-child m.path (record { class = record { 0 = class }; key = key_of (own 0 base m.values) }))) r.here
 
-  few_changes : w.changes < 2 ^ 63
-  few_changes = omega (arith, r.room, few_downs m.items m.path, ap (λ (v : World). v.changes) same)
-
-  known : (v : World) → entering q w ≡ Ok v → Entered shape q w v
+  known : (v : World) → entering q w ≡ Ok (changed v) → Entered shape q w v
   known v e =
       entered shape q w v (subst (λ (v : World). Holds shape v.tree) (sym same) r.holds) (subst (λ (v : World). All (λ q. there v.tree q ≡ true) v.held) (sym same) r.held) path_is
       (subst (λ (v : World). there v.tree (parent_of q) ≡ true) (sym same) parent_is) e
@@ -72,65 +63,40 @@ module _ (shape : Shape) (methods : List Method) (is : IsShape shape) (m : Mach)
 pub enter-requires-clause-path : goal.enter-requires-clause-path
 enter-requires-clause-path c =
     let m = mach c.args.code c.args.contexts.now c.args.m.now in
-    let p = is_child c.args.m.now.path c.args.class c.key.result (own 0 c.args.base c.args.m.now.values.items) c.child-path.result (search rules) c.child-path.ensures c.key.ensures in
-    subst (λ q. is_path c.args.code.shape.now q ≡ true) (sym p) (path_is c.args.code.shape.now c.args.code.methods.now c.requires.shape m c.args.at c.args.class.0 c.args.method c.args.base c.requires.next _ (c.in-Ok.ensures (shown c.args.code.shape.now c.args.contexts.now)))
+    let p = is_child c.args.m.now.path c.args.callee.class c.key.result (own 0 c.args.base c.args.m.now.values.items) c.child-path.result (search rules) c.child-path.ensures c.key.ensures in
+    subst (λ q. is_path c.args.code.shape.now q ≡ true) (sym p) (path_is c.args.code.shape.now c.args.code.methods.now c.requires.shape m c.args.at c.args.callee.class.0 c.args.callee.method c.args.base c.requires.next _ (c.in-Ok.ensures (shown c.args.code.shape.now c.args.contexts.now)))
 
 pub enter-requires-clause-parent : goal.enter-requires-clause-parent
 enter-requires-clause-parent c =
     let m = mach c.args.code c.args.contexts.now c.args.m.now in
-    let p = is_child c.args.m.now.path c.args.class c.key.result (own 0 c.args.base c.args.m.now.values.items) c.child-path.result (search rules) c.child-path.ensures c.key.ensures in
-    subst (λ q. there (shown c.args.code.shape.now c.args.contexts.now) (parent_of q) ≡ true) (sym p) (parent_is c.args.code.shape.now c.args.code.methods.now c.requires.shape m c.args.at c.args.class.0 c.args.method c.args.base c.requires.next _ (c.in-Ok.ensures (shown c.args.code.shape.now c.args.contexts.now)))
-
-pub enter-requires-clause-room : goal.enter-requires-clause-room
-enter-requires-clause-room c =
-    let m = mach c.args.code c.args.contexts.now c.args.m.now in
-    few_changes c.args.code.shape.now c.args.code.methods.now c.requires.shape m c.args.at c.args.class.0 c.args.method c.args.base c.requires.next _ (c.in-Ok.ensures (shown c.args.code.shape.now c.args.contexts.now))
+    let p = is_child c.args.m.now.path c.args.callee.class c.key.result (own 0 c.args.base c.args.m.now.values.items) c.child-path.result (search rules) c.child-path.ensures c.key.ensures in
+    subst (λ q. there (shown c.args.code.shape.now c.args.contexts.now) (parent_of q) ≡ true) (sym p) (parent_is c.args.code.shape.now c.args.code.methods.now c.requires.shape m c.args.at c.args.callee.class.0 c.args.callee.method c.args.base c.requires.next _ (c.in-Ok.ensures (shown c.args.code.shape.now c.args.contexts.now)))
 
 pub returns-in-Err-enter : goal.returns-in-Err-enter
 returns-in-Err-enter c =
     let T = shown c.args.code.shape.now c.args.contexts.now in
     let m = mach c.args.code c.args.contexts.now c.args.m.now in
-    let p = is_child c.args.m.now.path c.args.class c.key.result (own 0 c.args.base c.args.m.now.values.items) c.child-path.result (search rules) c.child-path.ensures c.key.ensures in (
-      l.not_entered c.args.code.methods.now m c.args.at c.args.class.0 c.args.method c.args.base c.in-Err-enter.e (world_of T c.tick.new.self) _ (c.in-Ok.ensures T)
+    let p = is_child c.args.m.now.path c.args.callee.class c.key.result (own 0 c.args.base c.args.m.now.values.items) c.child-path.result (search rules) c.child-path.ensures c.key.ensures in (
+      l.not_entered c.args.code.methods.now m c.args.at c.args.callee.class.0 c.args.callee.method c.args.base c.in-Err-enter.e (world_of T c.tick.new.self) _ (c.in-Ok.ensures T)
           (subst (λ q. Changes (entering q (world_of T c.tick.new.self)) c.args.at (world_of T c.tick.new.self) (Err c.in-Err-enter.e) (world_of (shown c.args.code.shape.now c.enter.new.contexts) c.enter.new.trace)) p c.in-Err-enter.ensures.enters),
       subst (λ t. Holds c.args.code.shape.now (shown c.args.code.shape.now t)) (sym c.in-Err-enter.ensures.memory) c.requires.next.holds,
     )
-
-pub returns-then-m-eq0 : goal.returns-then-m-eq0
-returns-then-m-eq0 c =
-    let T = shown c.args.code.shape.now c.args.contexts.now in
-    let U = shown c.args.code.shape.now c.enter.new.contexts in
-    let m = mach c.args.code c.args.contexts.now c.args.m.now in
-    let p = is_child c.args.m.now.path c.args.class c.key.result (own 0 c.args.base c.args.m.now.values.items) c.child-path.result (search rules) c.child-path.ensures c.key.ensures in
-    let v = world_of U c.enter.new.trace in
-    let w = world_of T c.tick.new.self in
-    let is : entering (child m.path c.args.class.0 (own 0 c.args.base m.values)) w ≡ Ok v = subst (λ q. entering q w ≡ Ok v) p c.in-Ok-enter.ensures.enters in
-    let e : c.trapped.result ≡ Err (Trapped (record { kind = Ticks; at = nowhere })) = c.trapped.ensures ∙ ap (λ at. Err (Trapped (record { kind = Ticks; at = at }))) c.nowhere.ensures in
-    subst (λ r. Goes c.args.code c.args.contexts.now c.args.m.now (Child c.args.at c.args.class.0 c.args.method c.args.base) r c.enter.new.contexts (record c.args.m.now { trace = c.enter.new.trace })) (sym e) (
-      l.child_too_deep c.args.code.methods.now m c.args.at c.args.class.0 c.args.method c.args.base w v (c.in-Ok.ensures T) is c.if-m-eq0.true,
-      (known c.args.code.shape.now c.args.code.methods.now c.requires.shape m c.args.at c.args.class.0 c.args.method c.args.base c.requires.next w (c.in-Ok.ensures T) v is).holds,
-    )
-
-pub start-requires : goal.start-requires
-start-requires c =
-    let U = shown c.args.code.shape.now c.enter.new.contexts in
-    omega (arith, c.if-m-eq0.false, ap (λ (m : Mach). m.depth) (c.in-Ok-take_others.ensures.rest U), ap (λ (m : Mach). m.depth) (c.cut.ensures U))
 
 pub returns-in-Ok-take_others : goal.returns-in-Ok-take_others
 returns-in-Ok-take_others c =
     let T = shown c.args.code.shape.now c.args.contexts.now in
     let U = shown c.args.code.shape.now c.enter.new.contexts in
     let m = mach c.args.code c.args.contexts.now c.args.m.now in
-    let p = is_child c.args.m.now.path c.args.class c.key.result (own 0 c.args.base c.args.m.now.values.items) c.child-path.result (search rules) c.child-path.ensures c.key.ensures in
+    let p = is_child c.args.m.now.path c.args.callee.class c.key.result (own 0 c.args.base c.args.m.now.values.items) c.child-path.result (search rules) c.child-path.ensures c.key.ensures in
     let v = world_of U c.enter.new.trace in
     let w = world_of T c.tick.new.self in
-    let q = child m.path c.args.class.0 (own 0 c.args.base m.values) in
-    let is : entering q w ≡ Ok v = subst (λ q. entering q w ≡ Ok v) p c.in-Ok-enter.ensures.enters in
-    let fact = known c.args.code.shape.now c.args.code.methods.now c.requires.shape m c.args.at c.args.class.0 c.args.method c.args.base c.requires.next w (c.in-Ok.ensures T) v is in
+    let q = child m.path c.args.callee.class.0 (own 0 c.args.base m.values) in
+    let is : entering q w ≡ Ok (changed v) = subst (λ q. entering q w ≡ Ok (changed v)) p c.in-Ok-enter.ensures.enters in
+    let fact = known c.args.code.shape.now c.args.code.methods.now c.requires.shape m c.args.at c.args.callee.class.0 c.args.callee.method c.args.base c.requires.next w (c.in-Ok.ensures T) v is in
     let rest : mach_of U c.cut.new.self ≡ cut_to c.args.base (in_world v m) = c.cut.ensures U ∙ ap (cut_to c.args.base) (c.in-Ok-take_others.ensures.rest U) ∙ ap (λ vs. record (in_world v m) { values = vs }) (take_twice c.args.base m.values) in
-    turned_to c.args.code c.enter.new.contexts (on_top (Child c.args.at c.args.class.0 c.args.method c.args.base) m) (started c.method_at.result.now (drop (suc c.args.base) m.values) true (record (cut_to c.args.base (in_world v m)) { path = q })) c.start.new.m c.start.result
-    (l.child_invoked c.args.code.methods.now m c.args.at c.method_at.result.now c.args.class.0 c.args.method c.args.base w v (c.in-Ok.ensures T) is (some_depth m.depth c.if-m-eq0.false) c.method_at.ensures)
-    (ready_child c.args.code.shape.now c.args.code.methods.now c.requires.methods m c.args.method c.method_at.result.now c.method_at.ensures c.args.at c.args.class.0 c.args.base w v c.requires.shape c.requires.next (c.in-Ok.ensures T) is fact)
+    turned_to c.args.code c.enter.new.contexts (on_top (Child c.args.at c.args.callee.class.0 c.args.callee.method c.args.base) m) (started c.method_at.result.now (drop (suc c.args.base) m.values) true (record (cut_to c.args.base (in_world v m)) { path = q })) c.start.new.m c.start.result
+    (l.child_invoked c.args.code.methods.now m c.args.at c.requires.next.few c.method_at.result.now c.args.callee.class.0 c.args.callee.method c.args.base w v (c.in-Ok.ensures T) is fact.ticks c.method_at.ensures)
+    (ready_child c.args.code.shape.now c.args.code.methods.now c.requires.methods m c.args.callee.method c.method_at.result.now c.method_at.ensures c.args.at c.args.callee.class.0 c.args.base w v c.requires.shape c.requires.next (c.in-Ok.ensures T) fact)
     fact.holds
     (on_ok_weaker c.start.result (λ h. h U ∙ (λ i. started c.method_at.result.now (c.in-Ok-take_others.ensures.values i) true (record (rest i) { path = p i }))) c.start.ensures.ok) c.start.ensures.err
 
@@ -139,10 +105,10 @@ returns-in-Err-take_others c =
     let T = shown c.args.code.shape.now c.args.contexts.now in
     let U = shown c.args.code.shape.now c.enter.new.contexts in
     let m = mach c.args.code c.args.contexts.now c.args.m.now in
-    let p = is_child c.args.m.now.path c.args.class c.key.result (own 0 c.args.base c.args.m.now.values.items) c.child-path.result (search rules) c.child-path.ensures c.key.ensures in
+    let p = is_child c.args.m.now.path c.args.callee.class c.key.result (own 0 c.args.base c.args.m.now.values.items) c.child-path.result (search rules) c.child-path.ensures c.key.ensures in
     let v = world_of U c.enter.new.trace in
     let w = world_of T c.tick.new.self in
-    let is : entering (child m.path c.args.class.0 (own 0 c.args.base m.values)) w ≡ Ok v = subst (λ q. entering q w ≡ Ok v) p c.in-Ok-enter.ensures.enters in (
-      subst (λ e. Fails (comes_to c.args.code.methods.now (on_top (Child c.args.at c.args.class.0 c.args.method c.args.base) m)) e (world_of U c.take_others.new.self.trace)) (sym c.in-Err-take_others.ensures.err) tt,
-      (known c.args.code.shape.now c.args.code.methods.now c.requires.shape m c.args.at c.args.class.0 c.args.method c.args.base c.requires.next w (c.in-Ok.ensures T) v is).holds,
+    let is : entering (child m.path c.args.callee.class.0 (own 0 c.args.base m.values)) w ≡ Ok (changed v) = subst (λ q. entering q w ≡ Ok (changed v)) p c.in-Ok-enter.ensures.enters in (
+      subst (λ e. Fails (comes_to c.args.code.methods.now (on_top (Child c.args.at c.args.callee.class.0 c.args.callee.method c.args.base) m)) e (world_of U c.take_others.new.self.trace)) (sym c.in-Err-take_others.ensures.err) tt,
+      (known c.args.code.shape.now c.args.code.methods.now c.requires.shape m c.args.at c.args.callee.class.0 c.args.callee.method c.args.base c.requires.next w (c.in-Ok.ensures T) v is).holds,
     )

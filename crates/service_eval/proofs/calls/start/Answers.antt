@@ -9,22 +9,15 @@ use Rattle.service_eval.specs.Items.{Block, Eval, Return}
 use Rattle.service_eval.specs.Machines.{Mach, mach_of, on_top, with_last}
 use Rattle.service_eval.proofs.calls.start.Goals as goal
 
-no_tree : Tree (List Value)
-no_tree = record { paths = []; fields = λ _. [] }
-
-pub overflow_sub-m : goal.overflow_sub-m
-overflow_sub-m c = omega (arith, c.requires, ap (λ (m : Mach). m.depth) (c.in_ok-push.ensures.ok no_tree))
-
 pub returns-in-Some-clause-ok : goal.returns-in-Some-clause-ok
 returns-in-Some-clause-ok c =
     on_ok_weaker c.push_two.result (λ h tree.
     let m = mach_of tree c.args.m.now in
-    h tree ∙ ap (λ (m : Mach). on_top (Block (steps_in c.as_slice-2.result.now)) (on_top (Eval (tree_of c.in-Some.last.value)) (record m { depth = m.depth - 1 }))) (c.in_ok-push.ensures.ok tree)
+    h tree ∙ ap (λ (m : Mach). on_top (Block (steps_in c.as_slice-2.result.now)) (on_top (Eval (tree_of c.in-Some.last.value)) m)) (c.in_ok-push.ensures.ok tree)
     ∙ (λ i. record {
-      items = Block (steps_in (c.as_slice-2.ensures i)) ∷ with_last (sym c.in-Some.is i) (Return (ap (λ v. v.items) c.replace-locals.ensures.value i) (ap (λ v. v.items) c.replace-values.ensures.value i) m.depth c.args.up ∷ m.items);
+      items = Block (steps_in (c.as_slice-2.ensures i)) ∷ with_last (sym c.in-Some.is i) (Return (ap (λ v. v.items) c.replace-locals.ensures.value i) (ap (λ v. v.items) c.replace-values.ensures.value i) c.args.up ∷ m.items);
       values = (ap (λ v. v.items) c.replace-values.ensures.after ∙ c.new.ensures.items) i;
       path = m.path;
-      depth = m.depth - 1;
       state = record { locals = (ap (λ v. v.items) c.replace-locals.ensures.after ∙ c.in-Ok.ensures ∙ ap (with_blanks c.args.given.items) c.as_slice.ensures) i; world = m.state.world };
     })) c.push_two.ensures.ok
 
@@ -32,11 +25,10 @@ pub returns-in-None-clause-ok : goal.returns-in-None-clause-ok
 returns-in-None-clause-ok c =
     on_ok_weaker c.push-in-None.result (λ h tree.
     let m = mach_of tree c.args.m.now in
-    h tree ∙ ap (λ (m : Mach). on_top (Block (steps_in c.as_slice-2.result.now)) (record m { depth = m.depth - 1 })) (c.in_ok-push.ensures.ok tree)
+    h tree ∙ ap (λ (m : Mach). on_top (Block (steps_in c.as_slice-2.result.now)) m) (c.in_ok-push.ensures.ok tree)
     ∙ (λ i. record {
-      items = Block (steps_in (c.as_slice-2.ensures i)) ∷ with_last (sym c.in-None.is i) (Return (ap (λ v. v.items) c.replace-locals.ensures.value i) (ap (λ v. v.items) c.replace-values.ensures.value i) m.depth c.args.up ∷ m.items);
+      items = Block (steps_in (c.as_slice-2.ensures i)) ∷ with_last (sym c.in-None.is i) (Return (ap (λ v. v.items) c.replace-locals.ensures.value i) (ap (λ v. v.items) c.replace-values.ensures.value i) c.args.up ∷ m.items);
       values = (ap (λ v. v.items) c.replace-values.ensures.after ∙ c.new.ensures.items) i;
       path = m.path;
-      depth = m.depth - 1;
       state = record { locals = (ap (λ v. v.items) c.replace-locals.ensures.after ∙ c.in-Ok.ensures ∙ ap (with_blanks c.args.given.items) c.as_slice.ensures) i; world = m.state.world };
     })) c.push-in-None.ensures.ok

@@ -13,7 +13,7 @@ pub returns-in-Ok : goal.returns-in-Ok
 returns-in-Ok c =
     turned c.args.code c.args.contexts.now (i.Apply c.args.at c.args.row c.args.base) (λ m. with_value c.in-Ok.value (cut_to c.args.base m)) c.args.m.now c.give.new.self c.give.result c.requires
     (e.applied c.args.code.methods.now (mach c.args.code c.args.contexts.now c.args.m.now) c.args.at c.args.row c.args.base c.in-Ok.value (ap (apply_row c.args.row) (sym c.own.ensures) ∙ c.in-Ok.ensures))
-    (ready_with _ _ _ _ _ _ c.requires c.requires.items.1 (omega arith))
+    (ready_with _ _ _ _ _ c.requires c.requires.items.1)
     (on_ok_weaker c.give.result (λ h tree. h tree ∙ ap (with_value c.in-Ok.value) (c.cut.ensures tree)) c.give.ensures.ok) c.give.ensures.err
 
 pub returns-in-Err : goal.returns-in-Err

@@ -12,7 +12,7 @@ pub returns-in-None : goal.returns-in-None
 returns-in-None c = (
   ap (λ es. comes_to c.args.code.methods.now (on_top (i.Evals (trees_of (map tree_of es))) (mach c.args.code c.args.contexts.now c.args.m.now))) (c.in-None.ensures.none refl)
       ∙ e.no_values c.args.code.methods.now (mach c.args.code c.args.contexts.now c.args.m.now),
-  ready_with _ _ _ _ _ _ c.requires c.requires.items.1 (omega arith),
+  ready_with _ _ _ _ _ c.requires c.requires.items.1,
 )
 
 pub returns-in-Some : goal.returns-in-Some

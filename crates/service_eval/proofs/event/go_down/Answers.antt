@@ -4,15 +4,15 @@ use Rattle.wave_base.specs.Paths.{parent_of}
 use Rattle.wave_base.specs.Shapes.{is_path}
 use Rattle.wave_base.specs.Tree.{there}
 use Rattle.resolved_service.specs.Meaning.{Done, and_then, with_world, release}
-use Rattle.resolved_service.specs.World.{child, entering, releasing}
+use Rattle.resolved_service.specs.World.{child, changed, entering, releasing}
 use Rattle.service_eval.specs.Machines.{Mach, state_of}
 use Rattle.service_eval.specs.Ready.{Ready}
 use Rattle.service_eval.specs.Turns.{mach}
-use Rattle.service_eval.specs.Worlds.{world_of, Changes, Holds}
+use Rattle.service_eval.specs.Worlds.{world_of, plain, Changes, Holds}
 use Rattle.service_eval.specs.Events.{went_down}
 use Rattle.service_eval.proofs.CallLemmas.{world_fails}
 use Rattle.service_eval.proofs.Outcomes.{traps_fail}
-use Rattle.service_eval.proofs.DownLemmas.{is_child, down_path, down_parent, down_room, down_known, down_ready}
+use Rattle.service_eval.proofs.DownLemmas.{is_child, down_path, down_parent, down_known, down_ready}
 use Rattle.service_eval.proofs.PathLemmas.{short_path}
 use Rattle.service_eval.proofs.event.go_down.Goals as goal
 
@@ -22,15 +22,12 @@ child-path-requires c = short_path c.args.code.shape.now c.requires.shape c.args
 pub enter-requires-clause-path : goal.enter-requires-clause-path
 enter-requires-clause-path c =
     let p = is_child c.args.m.now.path c.args.phase.now.class c.key_of.result c.args.key.now c.child-path.result (search rules) c.child-path.ensures c.key_of.ensures in
-    subst (λ q. is_path c.args.code.shape.now q ≡ true) (sym p) (down_path c.args.code.shape.now c.args.code.methods.now c.requires.shape (mach c.args.code c.args.contexts.now c.args.m.now) c.requires.rests.ready c.requires.rests.items c.args.phase.now.class.0 c.args.key.now c.requires.fits)
+    subst (λ q. is_path c.args.code.shape.now q ≡ true) (sym p) (down_path c.args.code.shape.now c.args.code.methods.now (mach c.args.code c.args.contexts.now c.args.m.now) c.requires.rests.ready c.requires.rests.items c.args.phase.now.class.0 c.args.key.now c.requires.fits)
 
 pub enter-requires-clause-parent : goal.enter-requires-clause-parent
 enter-requires-clause-parent c =
     let p = is_child c.args.m.now.path c.args.phase.now.class c.key_of.result c.args.key.now c.child-path.result (search rules) c.child-path.ensures c.key_of.ensures in
-    subst (λ q. there (shown c.args.code.shape.now c.args.contexts.now) (parent_of q) ≡ true) (sym p) (down_parent c.args.code.shape.now c.args.code.methods.now c.requires.shape (mach c.args.code c.args.contexts.now c.args.m.now) c.requires.rests.ready c.requires.rests.items c.args.phase.now.class.0 c.args.key.now c.requires.fits)
-
-pub enter-requires-clause-room : goal.enter-requires-clause-room
-enter-requires-clause-room c = down_room c.args.code.shape.now c.args.code.methods.now c.requires.shape (mach c.args.code c.args.contexts.now c.args.m.now) c.requires.rests.ready c.requires.rests.items c.args.phase.now.class.0 c.args.key.now c.requires.fits
+    subst (λ q. there (shown c.args.code.shape.now c.args.contexts.now) (parent_of q) ≡ true) (sym p) (down_parent c.args.code.shape.now c.args.code.methods.now (mach c.args.code c.args.contexts.now c.args.m.now) c.requires.rests.ready c.requires.rests.items c.args.phase.now.class.0 c.args.key.now c.requires.fits)
 
 pub returns-in-Err-clause-comes : goal.returns-in-Err-clause-comes
 returns-in-Err-clause-comes c =
@@ -52,8 +49,8 @@ returns-clause-comes c =
     let p = is_child c.args.m.now.path c.args.phase.now.class c.key_of.result c.args.key.now c.child-path.result (search rules) c.child-path.ensures c.key_of.ensures in
     let q = child c.args.m.now.path c.args.phase.now.class.0 c.args.key.now in
     let v = world_of U c.enter.new.trace in
-    let e : entering q (world_of T c.args.m.now.trace) ≡ Ok v = subst (λ q. entering q (world_of T c.args.m.now.trace) ≡ Ok v) p c.in-Ok.ensures.enters in
-    ap (λ a. and_then (with_world a c.args.phase.now.at (state_of T c.args.m.now)) (λ _. release q)) e
+    let e : entering q (world_of T c.args.m.now.trace) ≡ Ok (changed v) = subst (λ q. entering q (world_of T c.args.m.now.trace) ≡ Ok (changed v)) p c.in-Ok.ensures.enters in
+    ap (λ a. plain (and_then (with_world a c.args.phase.now.at (state_of T c.args.m.now)) (λ _. release q))) e
     ∙ ap (λ w. Done tt (record { locals = c.args.m.now.locals.items; world = w })) (sym (c.release.ensures U ∙ ap (λ q. releasing q v) p))
 
 pub returns-clause-rests : goal.returns-clause-rests
@@ -64,17 +61,17 @@ returns-clause-rests c =
     let q = child c.args.m.now.path c.args.phase.now.class.0 c.args.key.now in
     let v = world_of U c.enter.new.trace in
     let m = mach c.args.code c.args.contexts.now c.args.m.now in
-    let e : entering q (world_of T c.args.m.now.trace) ≡ Ok v = subst (λ q. entering q (world_of T c.args.m.now.trace) ≡ Ok v) p c.in-Ok.ensures.enters in
+    let e : entering q (world_of T c.args.m.now.trace) ≡ Ok (changed v) = subst (λ q. entering q (world_of T c.args.m.now.trace) ≡ Ok (changed v)) p c.in-Ok.ensures.enters in
     let w = c.release.ensures U ∙ ap (λ q. releasing q v) p in
     record {
-      ready = subst (λ (m : Mach). Ready c.args.code.shape.now c.args.code.methods.now m) (λ i. record { items = m.items; values = m.values; path = sym p i; depth = m.depth; state = record { locals = m.state.locals; world = sym w i } })
-          (down_ready c.args.code.shape.now c.args.code.methods.now c.requires.shape m c.requires.rests.ready c.requires.rests.items c.args.phase.now.class.0 c.args.key.now c.requires.fits v m.values m.depth e);
+      ready = subst (λ (m : Mach). Ready c.args.code.shape.now c.args.code.methods.now m) (λ i. record { items = m.items; values = m.values; path = sym p i; state = record { locals = m.state.locals; world = sym w i } })
+          (down_ready c.args.code.shape.now c.args.code.methods.now m c.requires.rests.ready c.requires.rests.items c.args.phase.now.class.0 c.args.key.now c.requires.fits v m.values e);
       items = c.requires.rests.items;
       values = c.requires.rests.values;
     }
 
 pub returns-clause-place : goal.returns-clause-place
-returns-clause-place c = (is_child c.args.m.now.path c.args.phase.now.class c.key_of.result c.args.key.now c.child-path.result (search rules) c.child-path.ensures c.key_of.ensures, refl)
+returns-clause-place c = is_child c.args.m.now.path c.args.phase.now.class c.key_of.result c.args.key.now c.child-path.result (search rules) c.child-path.ensures c.key_of.ensures
 
 pub returns-clause-holds : goal.returns-clause-holds
 returns-clause-holds c =
@@ -83,5 +80,5 @@ returns-clause-holds c =
     let p = is_child c.args.m.now.path c.args.phase.now.class c.key_of.result c.args.key.now c.child-path.result (search rules) c.child-path.ensures c.key_of.ensures in
     let q = child c.args.m.now.path c.args.phase.now.class.0 c.args.key.now in
     let v = world_of U c.enter.new.trace in
-    let e : entering q (world_of T c.args.m.now.trace) ≡ Ok v = subst (λ q. entering q (world_of T c.args.m.now.trace) ≡ Ok v) p c.in-Ok.ensures.enters in
-    (down_known c.args.code.shape.now c.args.code.methods.now c.requires.shape (mach c.args.code c.args.contexts.now c.args.m.now) c.requires.rests.ready c.requires.rests.items c.args.phase.now.class.0 c.args.key.now c.requires.fits v e).holds
+    let e : entering q (world_of T c.args.m.now.trace) ≡ Ok (changed v) = subst (λ q. entering q (world_of T c.args.m.now.trace) ≡ Ok (changed v)) p c.in-Ok.ensures.enters in
+    (down_known c.args.code.shape.now c.args.code.methods.now (mach c.args.code c.args.contexts.now c.args.m.now) c.requires.rests.ready c.requires.rests.items c.args.phase.now.class.0 c.args.key.now c.requires.fits v e).holds

@@ -11,7 +11,7 @@ use Rattle.service_eval.proofs.event.part.Goals as goal
 pub run-requires-clause-ready : goal.run-requires-clause-ready
 run-requires-clause-ready c =
     subst (λ (m : Mach). Ready c.args.code.shape.now c.args.code.methods.now m) (sym (c.in-Ok.ensures.ok (shown c.args.code.shape.now c.args.contexts.now)))
-    (ready_with _ _ _ _ _ _ c.requires.rests.ready (c.requires.fits, c.requires.rests.ready.items) (omega arith))
+    (ready_with _ _ _ _ _ c.requires.rests.ready (c.requires.fits, c.requires.rests.ready.items))
 
 pub returns-in-Ok-clause-comes : goal.returns-in-Ok-clause-comes
 returns-in-Ok-clause-comes c =

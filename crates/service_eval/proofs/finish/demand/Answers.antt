@@ -17,7 +17,7 @@ returns-then-holds c =
     let m = (mach c.args.code c.args.contexts.now c.args.m.now) in
     did c.args.code c.args.contexts.now c.args.contexts.now (Finish c.args.at i.Require c.args.base) (in_state m.state (cut_to c.args.base m)) c.args.m.now c.cut.new.self
     (l.finished c.args.code.methods.now m c.args.at c.args.base i.Require m.state (ap (λ b. demand b c.args.at m.state) (sym c.is_true-holds.ensures ∙ c.if-holds.true)))
-    (ready_in _ _ m _ _ _ _ _ c.requires c.requires.items.1 (omega arith) (same_world m.state.world)) (c.cut.ensures T)
+    (ready_in _ _ m _ _ _ _ c.requires c.requires.items.1 (same_world m.state.world)) (c.cut.ensures T)
 
 pub returns-else-holds : goal.returns-else-holds
 returns-else-holds c =

@@ -14,4 +14,4 @@ returns c =
     let m = (mach c.args.code c.args.contexts.now c.args.m.now) in
     did c.args.code c.args.contexts.now c.args.contexts.now (Finish c.args.at i.Drop c.args.base) (in_state m.state (cut_to c.args.base m)) c.args.m.now c.cut.new.self
     (l.finished c.args.code.methods.now m c.args.at c.args.base i.Drop m.state refl)
-    (ready_in _ _ m _ _ _ _ _ c.requires c.requires.items.1 (omega arith) (same_world m.state.world)) (c.cut.ensures T)
+    (ready_in _ _ m _ _ _ _ c.requires c.requires.items.1 (same_world m.state.world)) (c.cut.ensures T)

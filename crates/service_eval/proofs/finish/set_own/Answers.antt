@@ -25,5 +25,5 @@ returns c =
     let tree : U ≡ with_field T m.path f v = c.set_field.ensures c.args.code.shape.now ∙ (λ i. with_field T (path i) f (c.take-value.ensures.value i)) in
     did c.args.code c.args.contexts.now c.set_field.new.tree (Finish c.args.at (i.SetField f) c.args.base) (in_state (record { locals = m.state.locals; world = set_field f v m.path m.state.world }) (cut_to c.args.base m)) c.args.m.now c.take-value.new.self
     (l.finished c.args.code.methods.now m c.args.at c.args.base (i.SetField f) _ refl)
-    (ready_in _ _ m _ _ _ _ _ c.requires c.requires.items.1 (omega arith) (same_field f v m.path m.state.world))
+    (ready_in _ _ m _ _ _ _ c.requires c.requires.items.1 (same_field f v m.path m.state.world))
     (c.take-value.ensures.rest U ∙ ap (λ t. in_state (record { locals = m.state.locals; world = record m.state.world { tree = t } }) (cut_to c.args.base m)) tree)

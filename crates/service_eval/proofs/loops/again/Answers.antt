@@ -13,18 +13,18 @@ pub counts-requires : goal.counts-requires
 counts-requires c =
     let T = shown c.args.code.shape.now c.args.contexts.now in
     let m = (mach c.args.code c.args.contexts.now c.args.m.now) in
-    subst (λ (x : Mach). Ready c.args.code.shape.now c.args.code.methods.now (on_top (Counts c.args.at c.args.counter (steps_in c.args.body.now) c.args.left) x)) (sym (c.set_local.ensures T))
-    (ready_in _ _ m _ _ _ _ _ c.requires c.requires.items (omega arith) (same_world m.state.world))
+    subst (λ (x : Mach). Ready c.args.code.shape.now c.args.code.methods.now (on_top (Counts c.args.cycle.at c.args.cycle.counter (steps_in c.args.cycle.body.now)) x)) (sym (c.set_local.ensures T))
+    (ready_in _ _ m _ _ _ _ c.requires c.requires.items (same_world m.state.world))
 
 pub returns-in-Ok : goal.returns-in-Ok
 returns-in-Ok c =
     let T = shown c.args.code.shape.now c.args.contexts.now in
     let m = (mach c.args.code c.args.contexts.now c.args.m.now) in
-    let body = steps_in c.args.body.now in
-    goes_from c.args.code (on_top (Again c.args.at c.args.counter body c.args.left) m) (on_top (Counts c.args.at c.args.counter body c.args.left) (mach c.args.code c.args.contexts.now c.set_local.new.self)) c.counts.result (mach c.args.code c.counts.new.contexts c.counts.new.m)
-    (l.again_is c.args.code.methods.now m c.args.at c.args.counter c.args.left body c.in-Ok.number c.in-Ok.ensures
-    ∙ ap (λ (x : Mach). comes_to c.args.code.methods.now (on_top (Counts c.args.at c.args.counter body c.args.left) x)) (sym (c.set_local.ensures T)))
+    let body = steps_in c.args.cycle.body.now in
+    goes_from c.args.code (on_top (Again c.args.cycle.at c.args.cycle.counter body) m) (on_top (Counts c.args.cycle.at c.args.cycle.counter body) (mach c.args.code c.args.contexts.now c.set_local.new.self)) c.counts.result (mach c.args.code c.counts.new.contexts c.counts.new.m)
+    (l.again_is c.args.code.methods.now m c.args.cycle.at c.args.cycle.counter body c.in-Ok.number c.in-Ok.ensures
+    ∙ ap (λ (x : Mach). comes_to c.args.code.methods.now (on_top (Counts c.args.cycle.at c.args.cycle.counter body) x)) (sym (c.set_local.ensures T)))
     c.counts.ensures
 
 pub returns-in-Err : goal.returns-in-Err
-returns-in-Err c = (l.again_fails c.args.code.methods.now (mach c.args.code c.args.contexts.now c.args.m.now) c.args.at c.args.counter c.args.left (steps_in c.args.body.now) c.in-Err.e c.in-Err.ensures, c.requires.holds)
+returns-in-Err c = (l.again_fails c.args.code.methods.now (mach c.args.code c.args.contexts.now c.args.m.now) c.args.cycle.at c.args.cycle.counter (steps_in c.args.cycle.body.now) c.in-Err.e c.in-Err.ensures, c.requires.holds)

@@ -1,4 +1,4 @@
-use Rattle.std.proofs.Common.{◌≡◌, ℕ, suc, ◌-◌, Ok, Err, sym, ap, subst, ◌∙◌, arith}
+use Rattle.std.proofs.Common.{◌≡◌, Ok, Err, sym, ap, subst, ◌∙◌}
 use Rattle.std.proofs.lemmas.Result.{on_ok_weaker}
 use Rattle.service_eval.specs.Worlds.{Changes}
 use Rattle.resolved_service.specs.World.{ticking}
@@ -14,43 +14,30 @@ use Rattle.service_eval.proofs.FinishTurns.{same_ticked, ready_in, did}
 use Rattle.service_eval.proofs.ReadyLemmas.{ready_with, turned_to}
 use Rattle.service_eval.proofs.loops.check.Goals as goal
 
-some_left : (n : ℕ) → (n ≡ 0 → ⊥) → n ≡ suc (n - 1)
-some_left n h = omega arith
-
 pub returns-else-holds : goal.returns-else-holds
 returns-else-holds c =
     let T = shown c.args.code.shape.now c.args.contexts.now in
-    did c.args.code c.args.contexts.now c.args.contexts.now (Check c.args.at (tree_of c.args.test.now) (steps_in c.args.body.now) c.args.left c.args.base) (cut_to c.args.base (mach c.args.code c.args.contexts.now c.args.m.now)) c.args.m.now c.cut.new.self
-    (l.check_false c.args.code.methods.now (mach c.args.code c.args.contexts.now c.args.m.now) c.args.at c.args.left (steps_in c.args.body.now) (tree_of c.args.test.now) c.args.base (sym c.is_true-holds.ensures ∙ c.if-holds.false))
-    (ready_with _ _ _ _ _ _ c.requires c.requires.items.1 (omega arith)) (c.cut.ensures T)
+    did c.args.code c.args.contexts.now c.args.contexts.now (Check c.args.cycle.at (tree_of c.args.cycle.test.now) (steps_in c.args.cycle.body.now) c.args.base) (cut_to c.args.base (mach c.args.code c.args.contexts.now c.args.m.now)) c.args.m.now c.cut.new.self
+    (l.check_false c.args.code.methods.now (mach c.args.code c.args.contexts.now c.args.m.now) c.args.cycle.at (steps_in c.args.cycle.body.now) (tree_of c.args.cycle.test.now) c.args.base (sym c.is_true-holds.ensures ∙ c.if-holds.false))
+    (ready_with _ _ _ _ _ c.requires c.requires.items.1) (c.cut.ensures T)
 
 pub returns-in-Err : goal.returns-in-Err
 returns-in-Err c =
     let T = shown c.args.code.shape.now c.args.contexts.now in (
-      l.check_fails c.args.code.methods.now (mach c.args.code c.args.contexts.now c.args.m.now) c.args.at c.args.left (steps_in c.args.body.now) (tree_of c.args.test.now) c.args.base c.in-Err.e (world_of T c.tick.new.self) (sym c.is_true-holds.ensures ∙ c.if-holds.true)
-          (subst (λ w. Changes (ticking w) c.args.at w (Err c.in-Err.e) (world_of T c.tick.new.self)) (ap (λ (m : Mach). m.state.world) (c.cut.ensures T)) (c.in-Err.ensures T)),
+      l.check_fails c.args.code.methods.now (mach c.args.code c.args.contexts.now c.args.m.now) c.args.cycle.at (steps_in c.args.cycle.body.now) (tree_of c.args.cycle.test.now) c.args.base c.in-Err.e (world_of T c.tick.new.self) (sym c.is_true-holds.ensures ∙ c.if-holds.true)
+          (subst (λ w. Changes (ticking w) c.args.cycle.at w (Err c.in-Err.e) (world_of T c.tick.new.self)) (ap (λ (m : Mach). m.state.world) (c.cut.ensures T)) (c.in-Err.ensures T)),
       c.requires.holds,
     )
 
-pub returns-then-left-eq0 : goal.returns-then-left-eq0
-returns-then-left-eq0 c =
+pub returns-in-Ok : goal.returns-in-Ok
+returns-in-Ok c =
     let T = shown c.args.code.shape.now c.args.contexts.now in
     let w = world_of T c.tick.new.self in
     let m = mach c.args.code c.args.contexts.now c.args.m.now in
+    let test = tree_of c.args.cycle.test.now in
+    let body = steps_in c.args.cycle.body.now in
     let t : ticking m.state.world ≡ Ok w = subst (λ w'. ticking w' ≡ Ok w) (ap (λ (m : Mach). m.state.world) (c.cut.ensures T)) (c.in-Ok.ensures T) in
-    did c.args.code c.args.contexts.now c.args.contexts.now (Check c.args.at (tree_of c.args.test.now) (steps_in c.args.body.now) c.args.left c.args.base) (in_world w (cut_to c.args.base m)) c.args.m.now (record c.cut.new.self { trace = c.tick.new.self })
-    (l.check_last c.args.code.methods.now m c.args.at c.args.left (steps_in c.args.body.now) (tree_of c.args.test.now) c.args.base w (sym c.is_true-holds.ensures ∙ c.if-holds.true) c.if-left-eq0.true t)
-    (ready_in _ _ m _ _ _ _ _ c.requires c.requires.items.1 (omega arith) (same_ticked m.state.world w t)) (ap (in_world w) (c.cut.ensures T))
-
-pub returns-else-left-eq0 : goal.returns-else-left-eq0
-returns-else-left-eq0 c =
-    let T = shown c.args.code.shape.now c.args.contexts.now in
-    let w = world_of T c.tick.new.self in
-    let m = mach c.args.code c.args.contexts.now c.args.m.now in
-    let test = tree_of c.args.test.now in
-    let body = steps_in c.args.body.now in
-    let t : ticking m.state.world ≡ Ok w = subst (λ w'. ticking w' ≡ Ok w) (ap (λ (m : Mach). m.state.world) (c.cut.ensures T)) (c.in-Ok.ensures T) in
-    turned_to c.args.code c.args.contexts.now (on_top (Check c.args.at test body c.args.left c.args.base) m) (on_top (Block body) (on_top (Turns c.args.at test body (c.args.left - 1)) (in_world w (cut_to c.args.base m)))) c.push_two.new.self c.push_two.result
-    (l.check_more c.args.code.methods.now m c.args.at c.args.left body test c.args.base w (sym c.is_true-holds.ensures ∙ c.if-holds.true) (some_left c.args.left c.if-left-eq0.false) t)
-    (ready_in _ _ m _ _ _ _ _ c.requires (c.requires.items.0.1, (c.requires.items.0, c.requires.items.1)) (omega arith) (same_ticked m.state.world w t)) c.requires.holds
-    (on_ok_weaker c.push_two.result (λ h. h T ∙ ap (λ (m : Mach). on_top (Block body) (on_top (Turns c.args.at test body (c.args.left - 1)) (in_world w m))) (c.cut.ensures T)) c.push_two.ensures.ok) c.push_two.ensures.err
+    turned_to c.args.code c.args.contexts.now (on_top (Check c.args.cycle.at test body c.args.base) m) (on_top (Block body) (on_top (Turns c.args.cycle.at test body) (in_world w (cut_to c.args.base m)))) c.push_two.new.self c.push_two.result
+    (l.check_more c.args.code.methods.now m c.args.cycle.at body test c.args.base w (sym c.is_true-holds.ensures ∙ c.if-holds.true) t)
+    (ready_in _ _ m _ _ _ _ c.requires (c.requires.items.0.1, (c.requires.items.0, c.requires.items.1)) (same_ticked m.state.world w t)) c.requires.holds
+    (on_ok_weaker c.push_two.result (λ h. h T ∙ ap (λ (m : Mach). on_top (Block body) (on_top (Turns c.args.cycle.at test body) (in_world w m))) (c.cut.ensures T)) c.push_two.ensures.ok) c.push_two.ensures.err

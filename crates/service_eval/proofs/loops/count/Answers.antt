@@ -1,4 +1,4 @@
-use Rattle.std.proofs.Common.{◌≡◌, ℕ, suc, ◌+◌, ◌-◌, get_or, slice_set, sym, ap, subst, ◌∙◌, arith}
+use Rattle.std.proofs.Common.{◌≡◌, ◌+◌, get_or, slice_set, sym, ap, subst, ◌∙◌}
 use Rattle.context_tree.specs.Contexts.{tree_of as shown}
 use Rattle.wave_base.specs.declared.value.Value.{Value}
 use Rattle.resolved_service.specs.Steps.{steps_in}
@@ -13,44 +13,32 @@ use Rattle.service_eval.proofs.FinishLemmas as l
 use Rattle.service_eval.proofs.FinishTurns.{same_ticked, ready_in, goes_from}
 use Rattle.service_eval.proofs.loops.count.Goals as goal
 
-some_left : (n : ℕ) → (n ≡ 0 → ⊥) → n ≡ suc (n - 1)
-some_left n h = omega arith
-
 pub returns-in-Err : goal.returns-in-Err
 returns-in-Err c =
-    (l.counts_fails c.args.code.methods.now (mach c.args.code c.args.contexts.now c.args.m.now) c.args.at c.args.counter c.args.left (steps_in c.args.body.now) c.args.value c.requires.test c.in-Err.e _ c.requires.holds (c.in-Err.ensures (shown c.args.code.shape.now c.args.contexts.now)), c.requires.next.holds)
-
-pub returns-then-left-eq0 : goal.returns-then-left-eq0
-returns-then-left-eq0 c =
-    let T = shown c.args.code.shape.now c.args.contexts.now in
-    let w = world_of T c.tick.new.self in
-    let m = (mach c.args.code c.args.contexts.now c.args.m.now) in (
-      l.counts_last c.args.code.methods.now m c.args.at c.args.counter c.args.left (steps_in c.args.body.now) c.args.value c.requires.test w c.requires.holds c.if-left-eq0.true (c.in-Ok.ensures T),
-      ready_in _ _ m _ _ _ _ _ c.requires.next c.requires.next.items.1 (omega arith) (same_ticked m.state.world w (c.in-Ok.ensures T)),
-    )
+    (l.counts_fails c.args.code.methods.now (mach c.args.code c.args.contexts.now c.args.m.now) c.args.cycle.at c.args.cycle.counter (steps_in c.args.cycle.body.now) c.requires.next.few c.args.value c.requires.test c.in-Err.e _ c.requires.holds (c.in-Err.ensures (shown c.args.code.shape.now c.args.contexts.now)), c.requires.next.holds)
 
 pub block-requires : goal.block-requires
 block-requires c =
     let T = shown c.args.code.shape.now c.args.contexts.now in
     let w = world_of T c.tick.new.self in
     let m = (mach c.args.code c.args.contexts.now c.args.m.now) in
-    let body = steps_in c.args.body.now in
-    let st : State = record { locals = slice_set m.state.locals (c.args.counter + 2) (get_or m.state.locals c.args.counter nothing); world = w } in
-    let number : c.in-Ok-owned.number ≡ get_or m.state.locals c.args.counter nothing = c.in-Ok-owned.ensures ∙ c.item.ensures ∙ ap (λ vs. get_or vs c.args.counter nothing) c.as_slice.ensures.value in
-    let is = c.in-Ok-push.ensures.ok T ∙ ap (on_top (Again c.args.at c.args.counter body (c.args.left - 1))) (c.set_local.ensures T ∙ ap (λ (v : Value). in_state (record { locals = slice_set m.state.locals (c.args.counter + 2) v; world = w }) m) number) in
+    let body = steps_in c.args.cycle.body.now in
+    let st : State = record { locals = slice_set m.state.locals (c.args.cycle.counter + 2) (get_or m.state.locals c.args.cycle.counter nothing); world = w } in
+    let number : c.in-Ok-owned.number ≡ get_or m.state.locals c.args.cycle.counter nothing = c.in-Ok-owned.ensures ∙ c.item.ensures ∙ ap (λ vs. get_or vs c.args.cycle.counter nothing) c.as_slice.ensures.value in
+    let is = c.in-Ok-push.ensures.ok T ∙ ap (on_top (Again c.args.cycle.at c.args.cycle.counter body)) (c.set_local.ensures T ∙ ap (λ (v : Value). in_state (record { locals = slice_set m.state.locals (c.args.cycle.counter + 2) v; world = w }) m) number) in
     subst (λ (x : Mach). Ready c.args.code.shape.now c.args.code.methods.now (on_top (Block body) x)) (sym is)
-    (ready_in _ _ m _ _ _ _ _ c.requires.next (c.requires.next.items.0, (c.requires.next.items.0, c.requires.next.items.1)) (omega arith) (same_ticked m.state.world w (c.in-Ok.ensures T)))
+    (ready_in _ _ m _ _ _ _ c.requires.next (c.requires.next.items.0, (c.requires.next.items.0, c.requires.next.items.1)) (same_ticked m.state.world w (c.in-Ok.ensures T)))
 
 pub returns-in-Ok-push : goal.returns-in-Ok-push
 returns-in-Ok-push c =
     let T = shown c.args.code.shape.now c.args.contexts.now in
     let w = world_of T c.tick.new.self in
     let m = (mach c.args.code c.args.contexts.now c.args.m.now) in
-    let body = steps_in c.args.body.now in
-    let st : State = record { locals = slice_set m.state.locals (c.args.counter + 2) (get_or m.state.locals c.args.counter nothing); world = w } in
-    let number : c.in-Ok-owned.number ≡ get_or m.state.locals c.args.counter nothing = c.in-Ok-owned.ensures ∙ c.item.ensures ∙ ap (λ vs. get_or vs c.args.counter nothing) c.as_slice.ensures.value in
-    let is = c.in-Ok-push.ensures.ok T ∙ ap (on_top (Again c.args.at c.args.counter body (c.args.left - 1))) (c.set_local.ensures T ∙ ap (λ (v : Value). in_state (record { locals = slice_set m.state.locals (c.args.counter + 2) v; world = w }) m) number) in
-    goes_from c.args.code (on_top (Counts c.args.at c.args.counter body c.args.left) m) (on_top (Block body) (mach c.args.code c.args.contexts.now c.push.new.self)) c.block.result (mach c.args.code c.block.new.contexts c.block.new.m)
-    (l.counts_more c.args.code.methods.now m c.args.at c.args.counter c.args.left body c.args.value c.requires.test w c.requires.holds (some_left c.args.left c.if-left-eq0.false) (c.in-Ok.ensures T)
+    let body = steps_in c.args.cycle.body.now in
+    let st : State = record { locals = slice_set m.state.locals (c.args.cycle.counter + 2) (get_or m.state.locals c.args.cycle.counter nothing); world = w } in
+    let number : c.in-Ok-owned.number ≡ get_or m.state.locals c.args.cycle.counter nothing = c.in-Ok-owned.ensures ∙ c.item.ensures ∙ ap (λ vs. get_or vs c.args.cycle.counter nothing) c.as_slice.ensures.value in
+    let is = c.in-Ok-push.ensures.ok T ∙ ap (on_top (Again c.args.cycle.at c.args.cycle.counter body)) (c.set_local.ensures T ∙ ap (λ (v : Value). in_state (record { locals = slice_set m.state.locals (c.args.cycle.counter + 2) v; world = w }) m) number) in
+    goes_from c.args.code (on_top (Counts c.args.cycle.at c.args.cycle.counter body) m) (on_top (Block body) (mach c.args.code c.args.contexts.now c.push.new.self)) c.block.result (mach c.args.code c.block.new.contexts c.block.new.m)
+    (l.counts_more c.args.code.methods.now m c.args.cycle.at c.args.cycle.counter body c.requires.next.few c.args.value c.requires.test w c.requires.holds (c.in-Ok.ensures T)
     ∙ ap (λ (x : Mach). comes_to c.args.code.methods.now (on_top (Block body) x)) (sym is))
     c.block.ensures

@@ -10,9 +10,9 @@ count-requires-clause-holds c = sym c.is_true.ensures ∙ c.if-is_true.true
 
 pub returns-else-is_true : goal.returns-else-is_true
 returns-else-is_true c = (
-  l.counts_false c.args.code.methods.now (mach c.args.code c.args.contexts.now c.args.m.now) c.args.at c.args.counter c.args.left (steps_in c.args.body.now) c.in-Ok.value c.in-Ok.ensures (sym c.is_true.ensures ∙ c.if-is_true.false),
-  ready_with _ _ _ _ _ _ c.requires c.requires.items.1 (omega arith),
+  l.counts_false c.args.code.methods.now (mach c.args.code c.args.contexts.now c.args.m.now) c.args.cycle.at c.args.cycle.counter (steps_in c.args.cycle.body.now) c.requires.few c.in-Ok.value c.in-Ok.ensures (sym c.is_true.ensures ∙ c.if-is_true.false),
+  ready_with _ _ _ _ _ c.requires c.requires.items.1,
 )
 
 pub returns-in-Err : goal.returns-in-Err
-returns-in-Err c = (l.counts_wrong c.args.code.methods.now (mach c.args.code c.args.contexts.now c.args.m.now) c.args.at c.args.counter c.args.left (steps_in c.args.body.now) c.in-Err.e c.in-Err.ensures, c.requires.holds)
+returns-in-Err c = (l.counts_wrong c.args.code.methods.now (mach c.args.code c.args.contexts.now c.args.m.now) c.args.cycle.at c.args.cycle.counter (steps_in c.args.cycle.body.now) c.requires.few c.in-Err.e c.in-Err.ensures, c.requires.holds)

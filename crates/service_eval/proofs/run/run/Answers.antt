@@ -2,14 +2,14 @@ use Rattle.std.proofs.Common.{◌≡◌, List, [], refl, sym, ap, subst, ◌∙�
 use Rattle.context_tree.specs.Contexts.{tree_of as shown}
 use Rattle.resolved_service.specs.declared.service.Method.{Method}
 use Rattle.resolved_service.specs.Meaning.{Done}
-use Rattle.service_eval.specs.Machines.{Mach, rest_at, resume, comes_to}
+use Rattle.service_eval.specs.Machines.{Mach, rest_at, come_of, comes_to}
 use Rattle.service_eval.specs.Ready.{Ready}
 use Rattle.service_eval.specs.Turns.{mach}
-use Rattle.service_eval.specs.Worlds.{world_of, Fails}
+use Rattle.service_eval.specs.Worlds.{world_of, plain, Fails}
 use Rattle.service_eval.proofs.run.run.Goals as goal
 
-at_rest : (methods : List Method) (m : Mach) → m.items ≡ [] → comes_to methods m ≡ Done (rest_at m.path m.depth m.values) m.state
-at_rest methods m e = ap (λ items. resume methods items m.path m.depth (Done m.values m.state)) e
+at_rest : (methods : List Method) (m : Mach) → m.items ≡ [] → comes_to methods m ≡ plain (Done (rest_at m.path m.values) m.state)
+at_rest methods m e = ap (λ items. come_of methods items m.path (Done m.values m.state)) e
 
 pub turn-requires-clause-next : goal.turn-requires-clause-next
 turn-requires-clause-next c = subst (λ (m : Mach). Ready c.args.code.shape.now c.args.code.methods.now m) (c.in-Some.ensures.some (shown c.args.code.shape.now c.items.contexts)) c.items.invariant.ready

@@ -20,13 +20,13 @@ passes (work.Apply at row base) items h = refl
 passes (work.AndThen e base) items h = refl
 passes (work.OrElse e base) items h = refl
 passes (work.Invoke at method base) items h = refl
-passes (work.Child at class method base) items h = refl
+passes (work.Child at callee base) items h = refl
 passes (work.Block body) items h = refl
 passes (work.Finish at what base) items h = refl
-passes (work.Turns at test body left) items h = refl
-passes (work.Check at test body left base) items h = refl
-passes (work.Counts at counter body left true) items h = refl
-passes (work.Counts at counter body left false) items h = refl
+passes (work.Turns w) items h = refl
+passes (work.Check w base) items h = refl
+passes (work.Counts f true) items h = refl
+passes (work.Counts f false) items h = refl
 passes (work.Return caller) items h = absurd (h caller refl)
 
 -- a machine before it gave its first item, and after
