@@ -1,5 +1,5 @@
 -- Calls and returns in the machine.
-use Rattle.std.proofs.Common.{◌≡◌, ℕ, zero, suc, ◌+◌, ◌≤◌, ◌⊎◌, inl, inr, Bool, true, false, nat_lt, if◌then◌else◌, List, [], ◌∷◌, length, take, drop, get_or, Option, Some, None, Result, Ok, Err, OnOk, IfErr, refl, sym, ap, subst, ◌∙◌, arith}
+use Rattle.std.proofs.Common.{◌≡◌, ℕ, zero, suc, ◌≤◌, ◌⊎◌, inl, inr, Bool, true, false, nat_lt, if◌then◌else◌, List, ◌∷◌, length, take, drop, get_or, Option, Some, None, Result, Ok, Err, OnOk, IfErr, refl, sym, ap, subst, ◌∙◌, arith}
 use Rattle.std.specs.Prelude.{slice_get}
 use Rattle.std.specs.List.{All}
 use Rattle.std.proofs.lemmas.List.Elements.{All-push, All-weaker}
@@ -26,9 +26,8 @@ use Rattle.service_eval.specs.declared.machine.Machine.{Machine}
 use Rattle.service_eval.specs.declared.stop.Stop.{Stop}
 use Rattle.service_eval.specs.declared.stop.Stop.TheVariants as stop
 use Rattle.service_eval.specs.declared.work.Caller.{Caller}
-use Rattle.service_eval.specs.Items as i
-use Rattle.service_eval.specs.Items.{Item, Eval, Invoke, Child, Block, Return, return_of}
-use Rattle.service_eval.specs.Machines.{Mach, mach_of, on_top, cut_to, in_world, own, path_after, back_to, with_last, started, comes_to}
+use Rattle.service_eval.specs.Items.{Item, Invoke, Child, Block, Return, return_of}
+use Rattle.service_eval.specs.Machines.{Mach, mach_of, on_top, cut_to, in_world, own, back_to, with_last, started, comes_to}
 use Rattle.service_eval.specs.Ready.{FitsItems, Ready}
 use Rattle.service_eval.specs.Turns.{mach, IsNext, Goes}
 use Rattle.service_eval.specs.Worlds.{Holds}

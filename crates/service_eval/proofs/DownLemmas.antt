@@ -1,11 +1,9 @@
 -- An event goes down into a child.
-use Rattle.std.proofs.Common.{◌≡◌, ℕ, ℤ, ◌+◌, ◌*◌, ◌^◌, ◌<◌, ◌≤◌, min, true, List, [], ◌∷◌, ◌++◌, length, Ok, sym, ap, subst, ◌∙◌, arith, w64, FitsSigned, to_z, of_z}
+use Rattle.std.proofs.Common.{◌≡◌, ℕ, ℤ, true, List, [], ◌∷◌, ◌++◌, Ok, sym, ap, subst, ◌∙◌, arith, w64, FitsSigned, to_z, of_z}
 use Rattle.std.proofs.lemmas.Int.{to_z-of_z}
-use Rattle.std.proofs.lemmas.List.{length-append}
 use Rattle.std.proofs.lemmas.List.Elements.{All-filter}
 use Rattle.wave_base.specs.declared.path.Class.{Class}
 use Rattle.wave_base.specs.declared.path.Path.{Path}
-use Rattle.wave_base.specs.declared.path.Step.{Step}
 use Rattle.wave_base.specs.declared.shape.Shape.{Shape}
 use Rattle.wave_base.specs.declared.value.Value.{Value}
 use Rattle.wave_base.specs.Paths.{is_above, parent_of}

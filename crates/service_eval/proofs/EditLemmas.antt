@@ -1,5 +1,5 @@
 -- Maps changed where they stand: what the rows of the table say, and what the machine comes to.
-use Rattle.std.proofs.Common.{◌≡◌, ℤ, ℕ, zero, suc, if◌then◌else◌, List, [], ◌∷◌, drop, get_or, slice_set, Some, None, Result, Ok, Err, refl, sym, ap, subst, ◌∙◌, arith}
+use Rattle.std.proofs.Common.{◌≡◌, ℤ, ℕ, zero, suc, if◌then◌else◌, List, [], ◌∷◌, drop, get_or, slice_set, Some, None, Result, Ok, Err, refl, sym, ap, subst, ◌∙◌}
 use Rattle.wave_base.specs.declared.limits.TheConstants.{TICKS}
 use Rattle.wave_base.proofs.Trees.{put_same, put_twice}
 use Rattle.wave_base.specs.declared.path.Path.{Path}

@@ -1,5 +1,5 @@
 -- The parts of an expression, put down in the machine.
-use Rattle.std.proofs.Common.{◌≡◌, ℕ, List, length, Result, OnOk, IfErr, ap, ◌∙◌, arith}
+use Rattle.std.proofs.Common.{◌≡◌, ℕ, List, length, Result, OnOk, IfErr, ap, ◌∙◌}
 use Rattle.std.proofs.lemmas.Result.{on_ok_weaker}
 use Rattle.wave_base.specs.declared.span.Span.{Span}
 use Rattle.wave_base.specs.declared.value.Value.{Value}

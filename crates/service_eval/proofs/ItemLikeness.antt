@@ -1,5 +1,5 @@
 -- What is still to be done comes to the same from outcomes that are alike.
-use Rattle.std.proofs.Common.{◌≡◌, ℕ, suc, ◌≤◌, pos, true, false, List, [], ◌∷◌, ◌++◌, take, drop, get_or, Option, Some, refl, ap, sym, ◌∙◌, arith}
+use Rattle.std.proofs.Common.{◌≡◌, ℕ, suc, pos, true, false, List, [], ◌∷◌, ◌++◌, take, drop, get_or, refl, ap, sym, ◌∙◌, arith}
 use Rattle.wave_base.specs.declared.limits.TheConstants.{TICKS}
 use Rattle.wave_base.specs.declared.path.Path.{Path}
 use Rattle.wave_base.specs.declared.span.Span.{Span}
@@ -7,12 +7,12 @@ use Rattle.wave_base.specs.declared.value.Value.{Value}
 use Rattle.wave_base.specs.declared.value.Value.TheVariants.{Int, Bool as Truth}
 use Rattle.value_ops.specs.Operators.{apply_row}
 use Rattle.resolved_service.specs.declared.service.Method.{Method}
-use Rattle.resolved_service.specs.Meaning.{State, Returned, Finished, Outcome, Done, Trapped, Left, Act, and_then, ◌>>=◌, give, answer, tick, enter_at, choose, set_local, put_field, demand, leave, row_add, row_put, row_cut, value, values, while_turns, for_test, for_body, effect, effects, called, worth}
+use Rattle.resolved_service.specs.Meaning.{Returned, Finished, Outcome, Done, Trapped, Left, Act, ◌>>=◌, give, answer, tick, enter_at, choose, set_local, put_field, row_add, row_put, row_cut, value, values, while_turns, for_test, for_body, effect, effects, called, worth}
 use Rattle.resolved_service.specs.Steps.{Steps}
 use Rattle.resolved_service.specs.View.{Tree}
-use Rattle.resolved_service.specs.World.{World, nothing, is_true, child, key_of, sending, spawning, read_field, set_field}
+use Rattle.resolved_service.specs.World.{nothing, is_true, child, read_field, set_field}
 use Rattle.service_eval.specs.Items.{End, SetLocal, SetField, PutLocal, PutField, CutLocal, CutField, Branch, Require, Send, Spawn, Drop, Returns, Finishes, Item, Eval, Evals, Apply, AndThen, OrElse, Invoke, Child, Block, Begin, Finish, Turns, Check, Counts, Again, Return}
-use Rattle.service_eval.specs.Machines.{Rest, rest_at, own, act, finish, turn_on, next, path_after, returned, resume, come_of}
+use Rattle.service_eval.specs.Machines.{rest_at, own, act, finish, turn_on, next, path_after, returned, come_of}
 use Rattle.service_eval.specs.Worlds.{plain}
 use Rattle.service_eval.proofs.Likeness.{Few, Same, counted, Like, then_like, give_like, choose_like, answered, answer_like, tick_like, enter_like, send_like, spawn_like, demand_like, calls, same_value, same_values, same_effect, same_effects, same_while, same_for}
 

@@ -1,5 +1,5 @@
 -- What acts do doesn't depend on how often the event changed its place, nor on fuel beyond the ticks that are left.
-use Rattle.std.proofs.Common.{◌≡◌, ℕ, zero, suc, ◌≤◌, ◌+◌, pos, Bool, true, false, nat_lt, ◌==◌, if◌then◌else◌, List, [], ◌∷◌, ◌++◌, length, take, drop, get_or, Option, Some, None, Ok, Err, refl, sym, ap, subst, ◌∙◌, arith}
+use Rattle.std.proofs.Common.{◌≡◌, ℕ, zero, suc, ◌≤◌, pos, Bool, true, false, nat_lt, ◌==◌, if◌then◌else◌, List, [], ◌∷◌, ◌++◌, length, get_or, Option, Some, None, Ok, Err, refl, sym, ap, subst, ◌∙◌, arith}
 use Rattle.std.specs.Prelude.{slice_get}
 use Rattle.wave_base.specs.declared.limits.TheConstants.{CONTEXTS, MESSAGES, SPAWNS, GENERATION}
 use Rattle.wave_base.specs.declared.path.Path.{Path}
@@ -12,10 +12,10 @@ use Rattle.value_ops.specs.Operators.{apply_row}
 use Rattle.resolved_service.specs.declared.service.Last.{Last}
 use Rattle.resolved_service.specs.declared.service.Method.{Method}
 use Rattle.resolved_service.specs.declared.service.Phase.{Phase}
-use Rattle.resolved_service.specs.Meaning.{State, Returned, Finished, Outcome, Done, Trapped, Left, Act, and_then, ◌>>=◌, ◌>>◌, give, answer, with_world, tick, enter_at, back, choose, set_local, put_field, demand, leave, row_add, row_put, row_cut, worth, value, values, while_turns, for_test, for_body, maybe_value, effect, effects, else_effect, last_value, with_locals, with_blanks, run_method, called, phases_run}
+use Rattle.resolved_service.specs.Meaning.{State, Returned, Finished, Outcome, Done, Trapped, Left, Act, and_then, ◌>>=◌, ◌>>◌, give, answer, with_world, tick, enter_at, choose, set_local, put_field, demand, leave, row_add, row_put, row_cut, worth, value, values, while_turns, for_test, for_body, maybe_value, effect, effects, else_effect, last_value, with_locals, with_blanks, run_method, called, phases_run}
 use Rattle.resolved_service.specs.Steps.{Step, SetLocal, SetField, PutLocal, PutField, CutLocal, CutField, If, While, For, Require, Send, Spawn, Do, Return, Finish, Steps, no_steps, step, Else, no_else, otherwise, steps_in}
 use Rattle.resolved_service.specs.View.{Tree, Const, Local, Field, Above, Op, And, Or, Call, Child, Trees, no_trees, tree, tree_of}
-use Rattle.resolved_service.specs.World.{World, nothing, is_true, child, took, changed, with_entered, has, entering, sending, spawning, read_field, read_above, set_field}
+use Rattle.resolved_service.specs.World.{nothing, is_true, child, took, changed, with_entered, has, entering, sending, spawning, read_field, read_above, set_field}
 use Rattle.service_eval.specs.Worlds.{uncounted, plain}
 
 -- at most so many ticks are left

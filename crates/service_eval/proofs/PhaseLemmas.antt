@@ -6,14 +6,14 @@ use Rattle.wave_base.specs.declared.value.Value.{Value}
 use Rattle.resolved_service.specs.declared.service.Last.{Last}
 use Rattle.resolved_service.specs.declared.service.Method.{Method}
 use Rattle.resolved_service.specs.declared.service.Phase.{Phase}
-use Rattle.resolved_service.specs.Meaning.{State, Outcome, Done, Act, and_then, ◌>>=◌, ◌>>◌, enter_at, release, value, effects, phases_run, called}
+use Rattle.resolved_service.specs.Meaning.{State, Outcome, Done, Act, and_then, ◌>>◌, enter_at, release, value, effects, phases_run, called}
 use Rattle.resolved_service.specs.Steps.{steps_in}
 use Rattle.resolved_service.specs.View.{tree_of}
 use Rattle.resolved_service.specs.World.{World, child}
 use Rattle.service_eval.specs.declared.stop.Stop.{Stop}
 use Rattle.service_eval.specs.Events.{Comes, went_down}
 use Rattle.service_eval.specs.Worlds.{plain, Fails}
-use Rattle.service_eval.proofs.Likeness.{Same, counted, Like, then_like, enter_like, same_value, same_effects, same_phases}
+use Rattle.service_eval.proofs.Likeness.{counted, Like, then_like, enter_like, same_value, same_effects, same_phases}
 use Rattle.service_eval.proofs.Outcomes.{assoc, regroup, fails_then}
 
 -- an act that came to its end, changes of place uncounted, and what comes behind it

@@ -1,5 +1,5 @@
 -- A statement that changes the outside alone.
-use Rattle.std.proofs.Common.{◌≡◌, ℕ, drop, Result, Ok, Err, sym, ap, subst, ◌∙◌, arith}
+use Rattle.std.proofs.Common.{◌≡◌, ℕ, drop, Result, Ok, Err, sym, ap, subst, ◌∙◌}
 use Rattle.wave_base.specs.declared.limits.TheConstants.{TICKS}
 use Rattle.wave_base.specs.declared.span.Span.{Span}
 use Rattle.value_ops.specs.Kinds.{Answer}

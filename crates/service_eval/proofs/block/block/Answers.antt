@@ -1,4 +1,4 @@
-use Rattle.std.proofs.Common.{◌≡◌, refl, sym, ap, subst, ◌∙◌, arith}
+use Rattle.std.proofs.Common.{◌≡◌, refl, sym, ap, subst, ◌∙◌}
 use Rattle.resolved_service.specs.Steps.{step, step_of, steps_in}
 use Rattle.service_eval.specs.Items.{Block}
 use Rattle.service_eval.specs.Machines.{Mach, on_top, in_state, comes_to}

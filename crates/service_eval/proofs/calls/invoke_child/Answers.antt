@@ -1,4 +1,4 @@
-use Rattle.std.proofs.Common.{◌≡◌, ℕ, ℤ, zero, suc, refl, rules, w64, FitsSigned, to_z, of_z, ◌^◌, ◌-◌, ◌<◌, ◌++◌, [], ◌∷◌, true, List, drop, take, Ok, Err, ap, sym, subst, ◌∙◌, arith}
+use Rattle.std.proofs.Common.{◌≡◌, ℕ, ℤ, zero, suc, refl, rules, w64, FitsSigned, to_z, of_z, ◌++◌, [], ◌∷◌, true, List, drop, take, Ok, Err, ap, sym, subst, ◌∙◌}
 use Rattle.std.proofs.lemmas.Result.{on_ok_weaker}
 use Rattle.std.proofs.lemmas.Int.{to_z-of_z}
 use Rattle.std.specs.List.{All}
@@ -16,7 +16,7 @@ use Rattle.resolved_service.specs.World.{World, key_of, child, changed, ticking,
 use Rattle.service_eval.specs.Ready.{Ready}
 use Rattle.service_eval.specs.Items.{Child}
 use Rattle.service_eval.specs.Machines.{Mach, mach_of, on_top, cut_to, in_world, started, own, comes_to}
-use Rattle.service_eval.specs.Turns.{mach, Goes}
+use Rattle.service_eval.specs.Turns.{mach}
 use Rattle.service_eval.specs.Worlds.{world_of, Holds, Changes, Fails}
 use Rattle.service_eval.proofs.CallLemmas as l
 use Rattle.service_eval.proofs.CallTurns.{Entered, ready_child, entered, ticked}

@@ -1,4 +1,4 @@
-use Rattle.std.proofs.Common.{Err, sym, ap, subst, ◌∙◌, arith}
+use Rattle.std.proofs.Common.{Err, sym, ap, subst, ◌∙◌}
 use Rattle.std.proofs.lemmas.Result.{on_ok_weaker}
 use Rattle.service_eval.specs.Items as i
 use Rattle.service_eval.specs.Machines.{with_value, cut_to}

@@ -1,4 +1,4 @@
-use Rattle.std.proofs.Common.{map, sym, ap, subst, ◌∙◌, refl, arith}
+use Rattle.std.proofs.Common.{map, sym, ap, subst, ◌∙◌, refl}
 use Rattle.resolved_service.specs.View.{tree_of, trees_of}
 use Rattle.service_eval.specs.Items as i
 use Rattle.service_eval.specs.Machines.{on_top, comes_to}

@@ -1,14 +1,10 @@
-use Rattle.std.proofs.Common.{◌≡◌, ◌≤◌, List, length, Option, refl, ap, sym, subst, ◌∙◌, arith}
+use Rattle.std.proofs.Common.{◌≡◌, length, refl, ap, sym, subst, ◌∙◌, arith}
 use Rattle.context_tree.specs.Contexts.{tree_of as shown}
 use Rattle.wave_base.specs.declared.limits.TheConstants.{TICKS}
-use Rattle.wave_base.specs.declared.path.Path.{Path}
 use Rattle.wave_base.specs.declared.path.Step.{Step}
 use Rattle.wave_base.specs.Shapes.{class_of}
-use Rattle.resolved_service.specs.declared.service.Last.{Last}
-use Rattle.resolved_service.specs.declared.service.Method.{Method}
-use Rattle.resolved_service.specs.declared.service.Phase.{Phase}
 use Rattle.resolved_service.specs.Fits.{FitsSteps, FitsPhases}
-use Rattle.resolved_service.specs.Meaning.{State, Outcome, Done, called, effects, phases_run}
+use Rattle.resolved_service.specs.Meaning.{Done, called, effects, phases_run}
 use Rattle.resolved_service.specs.Steps.{steps_in}
 use Rattle.resolved_service.specs.World.{child, key_of}
 use Rattle.service_eval.specs.Events.{Comes, went_down}

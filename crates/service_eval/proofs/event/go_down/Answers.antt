@@ -1,4 +1,4 @@
-use Rattle.std.proofs.Common.{◌≡◌, true, Ok, Err, rules, refl, ap, sym, subst, ◌∙◌}
+use Rattle.std.proofs.Common.{◌≡◌, true, Ok, Err, rules, ap, sym, subst, ◌∙◌}
 use Rattle.context_tree.specs.Contexts.{tree_of as shown}
 use Rattle.wave_base.specs.Paths.{parent_of}
 use Rattle.wave_base.specs.Shapes.{is_path}

@@ -1,4 +1,4 @@
-use Rattle.std.proofs.Common.{take, ap, sym, subst, ◌∙◌, arith}
+use Rattle.std.proofs.Common.{take, ap, sym, subst, ◌∙◌}
 use Rattle.context_tree.specs.Contexts.{tree_of as shown}
 use Rattle.resolved_service.specs.Meaning.{Done}
 use Rattle.resolved_service.specs.View.{tree_of}

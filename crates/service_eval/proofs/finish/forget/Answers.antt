@@ -1,4 +1,4 @@
-use Rattle.std.proofs.Common.{refl, arith}
+use Rattle.std.proofs.Common.{refl}
 use Rattle.context_tree.specs.Contexts.{tree_of as shown}
 use Rattle.service_eval.specs.Items as i
 use Rattle.service_eval.specs.Items.{Finish, Block}

@@ -1,4 +1,4 @@
-use Rattle.std.proofs.Common.{Some, sym, subst, arith}
+use Rattle.std.proofs.Common.{Some, sym, subst}
 use Rattle.context_tree.specs.Contexts.{tree_of as shown}
 use Rattle.resolved_service.specs.Meaning.{Returned, Left}
 use Rattle.service_eval.specs.Items as i

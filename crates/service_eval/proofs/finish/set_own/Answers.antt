@@ -1,4 +1,4 @@
-use Rattle.std.proofs.Common.{◌≡◌, true, refl, sym, ap, subst, ◌∙◌, arith}
+use Rattle.std.proofs.Common.{◌≡◌, true, refl, sym, ap, subst, ◌∙◌}
 use Rattle.context_tree.specs.Contexts.{tree_of as shown, with_field, is_there}
 use Rattle.resolved_service.specs.World.{set_field}
 use Rattle.service_eval.specs.Items as i

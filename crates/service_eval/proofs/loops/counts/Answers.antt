@@ -1,4 +1,4 @@
-use Rattle.std.proofs.Common.{sym, ◌∙◌, arith}
+use Rattle.std.proofs.Common.{sym, ◌∙◌}
 use Rattle.resolved_service.specs.Steps.{steps_in}
 use Rattle.service_eval.specs.Turns.{mach}
 use Rattle.service_eval.proofs.FinishLemmas as l
