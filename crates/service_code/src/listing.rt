@@ -1,12 +1,12 @@
 ghost use Rattle.std.specs.Prelude.{◌≡◌, ◌++◌, ◌∷◌, [], ◌<◌, ℕ, length, All, IfOk, OnOk, codes};
-ghost use Rattle.std.specs.Fmt.{decimal};
+ghost use Rattle.std.specs.Fmt.{decimal, signed_decimal};
 ghost use Rattle.service_code.specs.Instructions.{operands_of, HasOperator};
 ghost use Rattle.service_code.specs.Listing.{spaced, place_text, line_text, lines_text, function_name, head_words, function_text, program_text, CanList};
 
 use crate::instr::Instr;
 use crate::program::{Function, Program};
+use itoa::Buffer;
 use std::alloc::Global;
-use std::string::ToString;
 use wave_base::{Class, OutOfMemory, Seq, Shape, Span, operator_name};
 
 /// The listing of a program: a line per function, and then a line per instruction with its number, name, operands and place.
@@ -16,14 +16,13 @@ pub fn code_listing(alloc: Global, program: &Program) -> Result<Seq<u8>, OutOfMe
 {
     let mut text = Vec::new(alloc);
     for (number, function) in program.functions.as_slice().iter().enumerate() {
-        put_function(alloc, &mut text, &program.shape, number, function)?;
+        put_function(&mut text, &program.shape, number, function)?;
     }
     Ok(Seq::from_vec(text))
 }
 
 // A function's line, and those of its instructions.
 fn put_function(
-    alloc: Global,
     text: &mut Vec<u8>,
     shape: &Shape,
     number: usize,
@@ -32,13 +31,12 @@ fn put_function(
     requires { CanList shape.now function.now }
     ensures { OnOk result (text.new.items ≡ text.old.items ++ function_text shape.now number function.now) }
 {
-    put_head(alloc, text, shape, number, function)?;
-    put_lines(alloc, text, function)
+    put_head(text, shape, number, function)?;
+    put_lines(text, function)
 }
 
 // The line that begins a function.
 fn put_head(
-    alloc: Global,
     text: &mut Vec<u8>,
     shape: &Shape,
     number: usize,
@@ -48,11 +46,11 @@ fn put_head(
     ensures { OnOk result (text.new.items ≡ text.old.items ++ codes "function" ++ spaced (head_words shape.now number function.now) ++ 10 ∷ []) }
 {
     text.extend_from_slice(b"function")?;
-    put_number(alloc, text, number as u64)?;
+    put_number(text, number as u64)?;
     put_name(text, shape, function)?;
-    put_count(alloc, text, b"args", function.args.len() as u64)?;
-    put_count(alloc, text, b"locals", function.locals.len() as u64)?;
-    put_count(alloc, text, b"stack", u64::from(function.stack))?;
+    put_count(text, b"args", function.args.len() as u64)?;
+    put_count(text, b"locals", function.locals.len() as u64)?;
+    put_count(text, b"stack", u64::from(function.stack))?;
     text.push(b'\n')?;
     Ok(())
 }
@@ -72,21 +70,20 @@ fn put_name(text: &mut Vec<u8>, shape: &Shape, function: &Function) -> Result<()
 }
 
 // A line per instruction.
-fn put_lines(alloc: Global, text: &mut Vec<u8>, function: &Function) -> Result<(), OutOfMemory>
+fn put_lines(text: &mut Vec<u8>, function: &Function) -> Result<(), OutOfMemory>
     requires places { length function.now.places ≡ length function.now.code }
     requires operators { All HasOperator function.now.code }
     ensures { OnOk result (text.new.items ≡ text.old.items ++ lines_text 0 function.now.code function.now.places) }
 {
     let places = function.places.as_slice();
     for (number, instr) in function.code.as_slice().iter().enumerate() {
-        put_line(alloc, text, number, instr, &places[number])?;
+        put_line(text, number, instr, &places[number])?;
     }
     Ok(())
 }
 
 // An instruction's line.
 fn put_line(
-    alloc: Global,
     text: &mut Vec<u8>,
     number: usize,
     instr: &Instr,
@@ -95,27 +92,27 @@ fn put_line(
     requires { HasOperator instr.now }
     ensures { OnOk result (text.new.items ≡ text.old.items ++ line_text number instr.now place.now) }
 {
-    put_digits(alloc, text, number as u64)?;
+    put_digits(text, number as u64)?;
     put_word(text, instr.name())?;
-    put_operands(alloc, text, instr)?;
+    put_operands(text, instr)?;
     put_word(text, b"@")?;
-    put_digits(alloc, text, u64::from(place.line))?;
+    put_digits(text, u64::from(place.line))?;
     text.push(b':')?;
-    put_digits(alloc, text, u64::from(place.col))?;
+    put_digits(text, u64::from(place.col))?;
     text.push(b'\n')?;
     Ok(())
 }
 
 // The operands of an instruction.
-fn put_operands(alloc: Global, text: &mut Vec<u8>, instr: &Instr) -> Result<(), OutOfMemory>
+fn put_operands(text: &mut Vec<u8>, instr: &Instr) -> Result<(), OutOfMemory>
     requires { HasOperator instr.now }
     ensures { OnOk result (text.new.items ≡ text.old.items ++ spaced (operands_of instr.now)) }
 {
     match *instr {
-        Instr::PushInt(n) => put_word(text, n.to_string(alloc)?.as_bytes()),
+        Instr::PushInt(n) => put_whole(text, n),
         Instr::PushBool(true) => put_word(text, b"true"),
         Instr::PushBool(false) => put_word(text, b"false"),
-        Instr::PushText(i) | Instr::Send(i) => put_number(alloc, text, u64::from(i)),
+        Instr::PushText(i) | Instr::Send(i) => put_number(text, u64::from(i)),
         Instr::Load(n)
         | Instr::Store(n)
         | Instr::Field(n)
@@ -127,10 +124,10 @@ fn put_operands(alloc: Global, text: &mut Vec<u8>, instr: &Instr) -> Result<(), 
         | Instr::Jump(n)
         | Instr::JumpFalse(n)
         | Instr::Call(n)
-        | Instr::Spawn(n) => put_number(alloc, text, u64::from(n)),
-        Instr::Go(class) => put_number(alloc, text, u64::from(class.0)),
-        Instr::Above(level, field) => put_two(alloc, text, level, field),
-        Instr::CallDown(class, function) => put_two(alloc, text, class.0, function),
+        | Instr::Spawn(n) => put_number(text, u64::from(n)),
+        Instr::Go(class) => put_number(text, u64::from(class.0)),
+        Instr::Above(level, field) => put_two(text, level, field),
+        Instr::CallDown(class, function) => put_two(text, class.0, function),
         Instr::Op(row) => put_word(text, operator_name(row as usize)),
         Instr::PushEmpty
         | Instr::Tick
@@ -143,33 +140,41 @@ fn put_operands(alloc: Global, text: &mut Vec<u8>, instr: &Instr) -> Result<(), 
 }
 
 // What is counted, and its number.
-fn put_count(alloc: Global, text: &mut Vec<u8>, word: &[u8], n: u64) -> Result<(), OutOfMemory>
+fn put_count(text: &mut Vec<u8>, word: &[u8], n: u64) -> Result<(), OutOfMemory>
     ensures { OnOk result (text.new.items ≡ text.old.items ++ spaced (word.now ∷ decimal n ∷ [])) }
 {
     put_word(text, word)?;
-    put_number(alloc, text, n)
+    put_number(text, n)
 }
 
-fn put_two(alloc: Global, text: &mut Vec<u8>, first: u16, second: u16) -> Result<(), OutOfMemory>
+fn put_two(text: &mut Vec<u8>, first: u16, second: u16) -> Result<(), OutOfMemory>
     ensures { OnOk result (text.new.items ≡ text.old.items ++ spaced (decimal first ∷ decimal second ∷ [])) }
 {
-    put_number(alloc, text, u64::from(first))?;
-    put_number(alloc, text, u64::from(second))
+    put_number(text, u64::from(first))?;
+    put_number(text, u64::from(second))
 }
 
-fn put_number(alloc: Global, text: &mut Vec<u8>, n: u64) -> Result<(), OutOfMemory>
+fn put_number(text: &mut Vec<u8>, n: u64) -> Result<(), OutOfMemory>
     ensures { OnOk result (text.new.items ≡ text.old.items ++ spaced (decimal n ∷ [])) }
 {
     text.push(b' ')?;
-    put_digits(alloc, text, n)
+    put_digits(text, n)
 }
 
-fn put_digits(alloc: Global, text: &mut Vec<u8>, n: u64) -> Result<(), OutOfMemory>
+fn put_digits(text: &mut Vec<u8>, n: u64) -> Result<(), OutOfMemory>
     ensures { OnOk result (text.new.items ≡ text.old.items ++ decimal n) }
 {
-    let digits = n.to_string(alloc)?;
-    text.extend_from_slice(digits.as_bytes())?;
+    let mut buffer = Buffer::new();
+    text.extend_from_slice(buffer.format(n).as_bytes())?;
     Ok(())
+}
+
+// A space and a whole number.
+fn put_whole(text: &mut Vec<u8>, n: i64) -> Result<(), OutOfMemory>
+    ensures { OnOk result (text.new.items ≡ text.old.items ++ spaced (signed_decimal n ∷ [])) }
+{
+    let mut buffer = Buffer::new();
+    put_word(text, buffer.format(n).as_bytes())
 }
 
 // A space and a word.

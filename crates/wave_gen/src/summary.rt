@@ -2,8 +2,8 @@ ghost use Rattle.std.specs.Prelude.{◌≡◌, ◌++◌, codes, IfOk, OnOk};
 ghost use Rattle.std.specs.Fmt.{decimal};
 ghost use Rattle.wave_gen.specs.Summary.{ended_so, tally, worth, total, entry, summary_text};
 
+use itoa::Buffer;
 use std::alloc::Global;
-use std::string::ToString;
 use wave_base::{EventResult, OutOfMemory, Outcome, Seq, Value};
 use wave_text::put_bytes;
 
@@ -73,10 +73,11 @@ fn put_entry(out: &mut Vec<u8>, name: &[u8], number: &str) -> Result<(), OutOfMe
 }
 
 // Appends a line with a name and a count.
-fn put_count(alloc: Global, out: &mut Vec<u8>, name: &[u8], n: usize) -> Result<(), OutOfMemory>
+fn put_count(out: &mut Vec<u8>, name: &[u8], n: usize) -> Result<(), OutOfMemory>
     ensures { OnOk result (out.new.items ≡ out.old.items ++ entry name.now (decimal n)) }
 {
-    put_entry(out, name, n.to_string(alloc)?.as_str())
+    let mut buffer = Buffer::new();
+    put_entry(out, name, buffer.format(n))
 }
 
 /// The summary of a run, from the results of its events: how many there were, how they ended, and the exact sum of the whole
@@ -85,20 +86,12 @@ pub fn summarize(alloc: Global, results: &[EventResult]) -> Result<Seq<u8>, OutO
     ensures { IfOk result (λ text. text ≡ summary_text results.now) }
 {
     let mut text = Vec::new(alloc);
-    put_count(alloc, &mut text, b"events", results.len())?;
-    put_count(
-        alloc,
-        &mut text,
-        b"replies",
-        tally(results, Ending::Replied),
-    )?;
-    put_count(alloc, &mut text, b"traps", tally(results, Ending::Trapped))?;
-    put_count(alloc, &mut text, b"moved", tally(results, Ending::Moved))?;
-    put_count(alloc, &mut text, b"absent", tally(results, Ending::Absent))?;
-    put_entry(
-        &mut text,
-        b"total",
-        total(results).to_string(alloc)?.as_str(),
-    )?;
+    put_count(&mut text, b"events", results.len())?;
+    put_count(&mut text, b"replies", tally(results, Ending::Replied))?;
+    put_count(&mut text, b"traps", tally(results, Ending::Trapped))?;
+    put_count(&mut text, b"moved", tally(results, Ending::Moved))?;
+    put_count(&mut text, b"absent", tally(results, Ending::Absent))?;
+    let mut buffer = Buffer::new();
+    put_entry(&mut text, b"total", buffer.format(total(results)))?;
     Ok(Seq::from_vec(text))
 }
