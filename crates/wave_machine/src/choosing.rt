@@ -1,4 +1,4 @@
-//! One of what an idle worker can do, found without a list of its own.
+//! What an idle worker can do, and one of it, read off the index.
 
 ghost use Rattle.std.specs.Prelude.{◌≡◌, ℕ, Some, None, map, slice_get};
 ghost use Rattle.wave_base.specs.declared.start.Start.{Start};

@@ -111,7 +111,7 @@ impl<'p> Machine<'p> {
         self.listed.enabled_for(worker)
     }
 
-    /// One of what a worker can do that has no segment out, found without a list and without memory; none where there is nothing.
+    /// One of what a worker can do that has no segment out, read off the index, without memory; none where there is nothing.
     pub fn some_for(&self, worker: Worker) -> Option<Label>
         requires { slice_get self.now.kept.hands worker.0 ≡ Some None }
         ensures { (start : Start) (s : TheState) → Stands self.now.kept start s → IsOneOf (enabled_for (plan_actors self.now.kept.plan.program) self.now.kept.plan.workers self.now.kept.plan.script.hosts s worker.0) result }
