@@ -10,9 +10,10 @@ ghost use Rattle.mace_parser.specs.inner.Gives.{Gives};
 
 use crate::fault::{Fault, Read};
 use crate::operator::{operator, unary_op};
-use crate::sees::{begins_expr, sees_literal, sees_operator, sees_sign, sees_unary};
+use crate::sees::{sees_any, sees_operator, sees_sign};
 use crate::token::{field, name, sign};
 use mace_ast::{BinaryOp, Expr, Name};
+use mace_grammar::{EXPR_STARTS, INITIALS, UNARY_OPS};
 use mace_lexer::{Keyword, Sign, Token, Word};
 use std::alloc::Global;
 use wave_base::Span;
@@ -54,21 +55,21 @@ fn most_operands(level: u8, tokens: &[Token]) -> usize
 }
 
 #[cycle(expr)]
-#[tactic(auto, unfolding(mace_grammar::specs::inner::Readers::signed_or_primary_at))]
+#[tactic(auto, unfolding(mace_grammar::specs::inner::Readers::Exprs::signed_or_primary_at))]
 fn unary<'a>(alloc: Global, depth: usize, version: u8, tokens: &'a [Token]) -> Read<'a, Expr>
     ensures { Gives (λ x. (expr_tree x.0, x.1.now)) result (reader.unary_at (numbered version) depth tokens.now) }
 {
     if depth == 0 {
         return Err(Fault::Stuck(tokens));
     }
-    if sees_unary(version, tokens) {
+    if sees_any(&UNARY_OPS, version, tokens) {
         return signed(alloc, depth - 1, version, tokens);
     }
     primary(alloc, depth - 1, version, tokens)
 }
 
 #[cycle(expr)]
-#[tactic(auto, unfolding(mace_grammar::specs::inner::Readers::signed_at))]
+#[tactic(auto, unfolding(mace_grammar::specs::inner::Readers::Exprs::signed_at))]
 fn signed<'a>(alloc: Global, depth: usize, version: u8, tokens: &'a [Token]) -> Read<'a, Expr>
     ensures { Gives (λ x. (expr_tree x.0, x.1.now)) result (reader.signed_at (numbered version) (reader.unary_at (numbered version) depth) tokens.now) }
 {
@@ -78,11 +79,11 @@ fn signed<'a>(alloc: Global, depth: usize, version: u8, tokens: &'a [Token]) -> 
 }
 
 #[cycle(expr)]
-#[tactic(auto, unfolding(mace_grammar::specs::inner::Readers::primary_at))]
+#[tactic(auto, unfolding(mace_grammar::specs::inner::Readers::Exprs::primary_at))]
 fn primary<'a>(alloc: Global, depth: usize, version: u8, tokens: &'a [Token]) -> Read<'a, Expr>
     ensures { Gives (λ x. (expr_tree x.0, x.1.now)) result (reader.primary_at (numbered version) (reader.unary_at (numbered version) depth) tokens.now) }
 {
-    if sees_literal(version, tokens) {
+    if sees_any(&INITIALS, version, tokens) {
         return literal(alloc, tokens);
     }
     if sees_sign(Sign::LeftParen, version, tokens) {
@@ -92,7 +93,7 @@ fn primary<'a>(alloc: Global, depth: usize, version: u8, tokens: &'a [Token]) ->
 }
 
 #[cycle(expr)]
-#[tactic(auto, unfolding(mace_grammar::specs::inner::Readers::parenthesized_at))]
+#[tactic(auto, unfolding(mace_grammar::specs::inner::Readers::Exprs::parenthesized_at))]
 fn parenthesized<'a>(
     alloc: Global,
     depth: usize,
@@ -109,7 +110,7 @@ fn parenthesized<'a>(
 
 /// `[k]`
 #[cycle(expr)]
-#[tactic(auto, unfolding(mace_grammar::specs::inner::Readers::bracketed_at))]
+#[tactic(auto, unfolding(mace_grammar::specs::inner::Readers::Exprs::bracketed_at))]
 pub fn bracketed<'a>(
     alloc: Global,
     depth: usize,
@@ -125,7 +126,7 @@ pub fn bracketed<'a>(
 }
 
 #[cycle(expr)]
-#[tactic(auto, unfolding(mace_grammar::specs::inner::Readers::named_at))]
+#[tactic(auto, unfolding(mace_grammar::specs::inner::Readers::Exprs::named_at))]
 fn named<'a>(alloc: Global, depth: usize, version: u8, tokens: &'a [Token]) -> Read<'a, Expr>
     ensures { Gives (λ x. (expr_tree x.0, x.1.now)) result (reader.named_at (numbered version) (reader.unary_at (numbered version) depth) tokens.now) }
 {
@@ -144,7 +145,7 @@ fn named<'a>(alloc: Global, depth: usize, version: u8, tokens: &'a [Token]) -> R
 
 // `f(..)`, behind the name.
 #[cycle(expr)]
-#[tactic(auto, unfolding(mace_grammar::specs::inner::Readers::call_at))]
+#[tactic(auto, unfolding(mace_grammar::specs::inner::Readers::Exprs::call_at))]
 fn call<'a>(
     alloc: Global,
     depth: usize,
@@ -160,7 +161,7 @@ fn call<'a>(
 
 // `C.f` or `C.f[k]`, behind the class.
 #[cycle(expr)]
-#[tactic(auto, unfolding(mace_grammar::specs::inner::Readers::above_at))]
+#[tactic(auto, unfolding(mace_grammar::specs::inner::Readers::Exprs::above_at))]
 fn above<'a>(
     alloc: Global,
     depth: usize,
@@ -180,7 +181,7 @@ fn above<'a>(
 
 // `m[k]` or `C[k].f(..)`, behind the name.
 #[cycle(expr)]
-#[tactic(auto, unfolding(mace_grammar::specs::inner::Readers::index_at, mace_grammar::specs::inner::Readers::child_call_at))]
+#[tactic(auto, unfolding(mace_grammar::specs::inner::Readers::Exprs::index_at, mace_grammar::specs::inner::Readers::Exprs::child_call_at))]
 fn index<'a>(
     alloc: Global,
     depth: usize,
@@ -201,7 +202,7 @@ fn index<'a>(
 
 /// `(..)`
 #[cycle(expr)]
-#[tactic(auto, unfolding(mace_grammar::specs::inner::Readers::arguments_at, mace_grammar::specs::inner::Readers::separated_at))]
+#[tactic(auto, unfolding(mace_grammar::specs::inner::Readers::Exprs::arguments_at, mace_grammar::specs::inner::Readers::Tokens::separated_at))]
 pub fn arguments<'a>(
     alloc: Global,
     depth: usize,
@@ -211,7 +212,7 @@ pub fn arguments<'a>(
     ensures { Gives (λ x. (map expr_tree x.0.items, x.1.now)) result (reader.arguments_at (numbered version) (reader.unary_at (numbered version) depth) tokens.now) }
 {
     let (_, rest) = sign(Sign::LeftParen, tokens)?;
-    if !begins_expr(version, rest) {
+    if !sees_any(&EXPR_STARTS, version, rest) {
         let (_, rest) = sign(Sign::RightParen, rest)?;
         return Ok((Vec::new(alloc), rest));
     }
@@ -221,7 +222,7 @@ pub fn arguments<'a>(
 }
 
 #[cycle(expr)]
-#[tactic(auto, unfolding(mace_grammar::specs::inner::Readers::list_at))]
+#[tactic(auto, unfolding(mace_grammar::specs::inner::Readers::Tokens::list_at))]
 fn list<'a>(alloc: Global, depth: usize, version: u8, tokens: &'a [Token]) -> Read<'a, Vec<Expr>>
     ensures { Gives (λ x. (map expr_tree x.0.items, x.1.now)) result (reader.list_at (numbered version) (reader.expr_at (numbered version) (reader.unary_at (numbered version) depth)) tokens.now) }
 {
@@ -237,7 +238,7 @@ fn list<'a>(alloc: Global, depth: usize, version: u8, tokens: &'a [Token]) -> Re
 }
 
 #[cycle(expr)]
-#[tactic(auto, unfolding(mace_grammar::specs::inner::Readers::next_at))]
+#[tactic(auto, unfolding(mace_grammar::specs::inner::Readers::Tokens::next_at))]
 fn next_expr<'a>(alloc: Global, depth: usize, version: u8, tokens: &'a [Token]) -> Read<'a, Expr>
     ensures { Gives (λ x. (expr_tree x.0, x.1.now)) result (reader.next_at (numbered version) (reader.expr_at (numbered version) (reader.unary_at (numbered version) depth)) tokens.now) }
 {
@@ -246,7 +247,7 @@ fn next_expr<'a>(alloc: Global, depth: usize, version: u8, tokens: &'a [Token]) 
 }
 
 #[cycle(expr)]
-#[tactic(auto, unfolding(mace_grammar::specs::inner::Readers::operand_at))]
+#[tactic(auto, unfolding(mace_grammar::specs::inner::Readers::Exprs::operand_at))]
 fn operand<'a>(
     alloc: Global,
     depth: usize,
@@ -265,7 +266,7 @@ fn operand<'a>(
 
 // A chain of operators of a level, and all that is tighter.
 #[cycle(expr)]
-#[tactic(auto, unfolding(mace_grammar::specs::inner::Readers::operands_at))]
+#[tactic(auto, unfolding(mace_grammar::specs::inner::Readers::Exprs::operands_at))]
 fn chain<'a>(
     alloc: Global,
     depth: usize,
@@ -293,7 +294,7 @@ fn chain<'a>(
 
 /// An expression. `depth` is more than the tokens that are left.
 #[cycle(expr)]
-#[tactic(auto, unfolding(mace_grammar::specs::inner::Readers::expr_at))]
+#[tactic(auto, unfolding(mace_grammar::specs::inner::Readers::Exprs::expr_at))]
 pub fn expr<'a>(alloc: Global, depth: usize, version: u8, tokens: &'a [Token]) -> Read<'a, Expr>
     ensures { Gives (λ x. (expr_tree x.0, x.1.now)) result (reader.expr_at (numbered version) (reader.unary_at (numbered version) depth) tokens.now) }
 {

@@ -11,9 +11,10 @@ ghost use Rattle.mace_parser.specs.inner.Gives.{Gives};
 
 use crate::expr::{arguments, bracketed, expr};
 use crate::fault::Read;
-use crate::sees::{begins_expr, sees_finish, sees_key, sees_leave, sees_sign};
+use crate::sees::{sees_any, sees_class, sees_key, sees_sign};
 use crate::token::{field, finish, key, leave, name, sign, text};
 use mace_ast::{Action, Expr, Name, Stmt, Target};
+use mace_grammar::{Class, EXPR_STARTS};
 use mace_lexer::{Keyword, Sign, Token};
 use std::alloc::Global;
 use wave_base::{Seq, Span};
@@ -21,7 +22,7 @@ use wave_base::{Seq, Span};
 // ---- expressions behind which a statement goes on
 
 /// An expression of any level.
-#[tactic(auto, unfolding(mace_grammar::specs::inner::Readers::any_expr_at))]
+#[tactic(auto, unfolding(mace_grammar::specs::inner::Readers::Exprs::any_expr_at))]
 pub fn any_expr<'a>(alloc: Global, depth: usize, version: u8, tokens: &'a [Token]) -> Read<'a, Expr>
     ensures { Gives (λ x. (expr_tree x.0, x.1.now)) result (reader.any_expr_at (numbered version) depth tokens.now) }
 {
@@ -29,14 +30,14 @@ pub fn any_expr<'a>(alloc: Global, depth: usize, version: u8, tokens: &'a [Token
 }
 
 /// A key in brackets.
-#[tactic(auto, unfolding(mace_grammar::specs::inner::Readers::any_key_at))]
+#[tactic(auto, unfolding(mace_grammar::specs::inner::Readers::Exprs::any_key_at))]
 pub fn any_key<'a>(alloc: Global, depth: usize, version: u8, tokens: &'a [Token]) -> Read<'a, Expr>
     ensures { Gives (λ x. (expr_tree x.0, x.1.now)) result (reader.any_key_at (numbered version) depth tokens.now) }
 {
     bracketed(alloc, depth, version, tokens)
 }
 
-#[tactic(auto, unfolding(mace_grammar::specs::inner::Readers::any_arguments_at))]
+#[tactic(auto, unfolding(mace_grammar::specs::inner::Readers::Exprs::any_arguments_at))]
 fn any_arguments<'a>(
     alloc: Global,
     depth: usize,
@@ -52,7 +53,7 @@ fn any_arguments<'a>(
 // ---- statements that begin with a keyword
 
 /// `let x = e;`
-#[tactic(auto, unfolding(mace_grammar::specs::inner::Readers::let_at))]
+#[tactic(auto, unfolding(mace_grammar::specs::inner::Readers::Stmts::let_at))]
 pub fn let_stmt<'a>(alloc: Global, depth: usize, version: u8, tokens: &'a [Token]) -> Read<'a, Stmt>
     ensures { Gives (λ x. (stmt_tree x.0, x.1.now)) result (reader.let_at (numbered version) depth tokens.now) }
 {
@@ -65,7 +66,7 @@ pub fn let_stmt<'a>(alloc: Global, depth: usize, version: u8, tokens: &'a [Token
     Ok((Stmt { at, action }, rest))
 }
 
-#[tactic(auto, unfolding(mace_grammar::specs::inner::Readers::require_at))]
+#[tactic(auto, unfolding(mace_grammar::specs::inner::Readers::Stmts::require_at))]
 fn require<'a>(alloc: Global, depth: usize, version: u8, tokens: &'a [Token]) -> Read<'a, Stmt>
     ensures { Gives (λ x. (stmt_tree x.0, x.1.now)) result (reader.require_at (numbered version) depth tokens.now) }
 {
@@ -76,7 +77,7 @@ fn require<'a>(alloc: Global, depth: usize, version: u8, tokens: &'a [Token]) ->
     Ok((Stmt { at, action }, rest))
 }
 
-#[tactic(auto, unfolding(mace_grammar::specs::inner::Readers::send_at))]
+#[tactic(auto, unfolding(mace_grammar::specs::inner::Readers::Stmts::send_at))]
 fn send<'a>(alloc: Global, depth: usize, version: u8, tokens: &'a [Token]) -> Read<'a, Stmt>
     ensures { Gives (λ x. (stmt_tree x.0, x.1.now)) result (reader.send_at (numbered version) depth tokens.now) }
 {
@@ -89,7 +90,7 @@ fn send<'a>(alloc: Global, depth: usize, version: u8, tokens: &'a [Token]) -> Re
     Ok((Stmt { at, action }, rest))
 }
 
-#[tactic(auto, unfolding(mace_grammar::specs::inner::Readers::spawn_at))]
+#[tactic(auto, unfolding(mace_grammar::specs::inner::Readers::Stmts::spawn_at))]
 fn spawn<'a>(alloc: Global, depth: usize, version: u8, tokens: &'a [Token]) -> Read<'a, Stmt>
     ensures { Gives (λ x. (stmt_tree x.0, x.1.now)) result (reader.spawn_at (numbered version) depth tokens.now) }
 {
@@ -127,7 +128,7 @@ fn maybe_field<'a>(alloc: Global, version: u8, tokens: &'a [Token]) -> Read<'a, 
     Ok((Some(field), rest))
 }
 
-#[tactic(auto, unfolding(mace_grammar::specs::inner::Readers::drop_at))]
+#[tactic(auto, unfolding(mace_grammar::specs::inner::Readers::Stmts::drop_at))]
 fn cut<'a>(alloc: Global, depth: usize, version: u8, tokens: &'a [Token]) -> Read<'a, Stmt>
     ensures { Gives (λ x. (stmt_tree x.0, x.1.now)) result (reader.drop_at (numbered version) depth tokens.now) }
 {
@@ -142,7 +143,7 @@ fn cut<'a>(alloc: Global, depth: usize, version: u8, tokens: &'a [Token]) -> Rea
 
 // ---- statements that begin with a name, behind what was read of them
 
-#[tactic(auto, unfolding(mace_grammar::specs::inner::Readers::set_at))]
+#[tactic(auto, unfolding(mace_grammar::specs::inner::Readers::Stmts::set_at))]
 fn set<'a>(
     alloc: Global,
     depth: usize,
@@ -161,7 +162,7 @@ fn set<'a>(
     Ok((Stmt { at, action }, rest))
 }
 
-#[tactic(auto, unfolding(mace_grammar::specs::inner::Readers::call_stmt_at))]
+#[tactic(auto, unfolding(mace_grammar::specs::inner::Readers::Stmts::call_stmt_at))]
 fn call<'a>(
     alloc: Global,
     depth: usize,
@@ -178,7 +179,7 @@ fn call<'a>(
     Ok((Stmt { at, action }, rest))
 }
 
-#[tactic(auto, unfolding(mace_grammar::specs::inner::Readers::child_stmt_at))]
+#[tactic(auto, unfolding(mace_grammar::specs::inner::Readers::Stmts::child_stmt_at))]
 fn child_call<'a>(
     alloc: Global,
     depth: usize,
@@ -212,7 +213,7 @@ fn maybe_key<'a>(
     Ok((Some(place), rest))
 }
 
-#[tactic(auto, unfolding(mace_grammar::specs::inner::Readers::above_stmt_at))]
+#[tactic(auto, unfolding(mace_grammar::specs::inner::Readers::Stmts::above_stmt_at))]
 fn above<'a>(
     alloc: Global,
     depth: usize,
@@ -236,7 +237,7 @@ fn above<'a>(
     )
 }
 
-#[tactic(auto, unfolding(mace_grammar::specs::inner::Readers::index_stmt_at))]
+#[tactic(auto, unfolding(mace_grammar::specs::inner::Readers::Stmts::index_stmt_at))]
 fn index<'a>(
     alloc: Global,
     depth: usize,
@@ -262,7 +263,7 @@ fn index<'a>(
     )
 }
 
-#[tactic(auto, unfolding(mace_grammar::specs::inner::Readers::named_stmt_at))]
+#[tactic(auto, unfolding(mace_grammar::specs::inner::Readers::Stmts::named_stmt_at))]
 fn named<'a>(alloc: Global, depth: usize, version: u8, tokens: &'a [Token]) -> Read<'a, Stmt>
     ensures { Gives (λ x. (stmt_tree x.0, x.1.now)) result (reader.named_stmt_at (numbered version) depth tokens.now) }
 {
@@ -288,7 +289,7 @@ fn named<'a>(alloc: Global, depth: usize, version: u8, tokens: &'a [Token]) -> R
     )
 }
 
-#[tactic(auto, unfolding(mace_grammar::specs::inner::Readers::simple_stmt_at))]
+#[tactic(auto, unfolding(mace_grammar::specs::inner::Readers::Stmts::simple_stmt_at))]
 fn simple<'a>(alloc: Global, depth: usize, version: u8, tokens: &'a [Token]) -> Read<'a, Stmt>
     ensures { Gives (λ x. (stmt_tree x.0, x.1.now)) result (reader.simple_stmt_at (numbered version) depth tokens.now) }
 {
@@ -317,14 +318,14 @@ fn maybe_expr<'a>(
 ) -> Read<'a, Option<Expr>>
     ensures { Gives (λ x. (option_map expr_tree x.0, x.1.now)) result (reader.maybe_expr_at (numbered version) depth tokens.now) }
 {
-    if !begins_expr(version, tokens) {
+    if !sees_any(&EXPR_STARTS, version, tokens) {
         return Ok((None, tokens));
     }
     let (value, rest) = any_expr(alloc, depth, version, tokens)?;
     Ok((Some(value), rest))
 }
 
-#[tactic(auto, unfolding(mace_grammar::specs::inner::Readers::return_at))]
+#[tactic(auto, unfolding(mace_grammar::specs::inner::Readers::Stmts::return_at))]
 fn return_stmt<'a>(alloc: Global, depth: usize, version: u8, tokens: &'a [Token]) -> Read<'a, Stmt>
     ensures { Gives (λ x. (stmt_tree x.0, x.1.now)) result (reader.return_at (numbered version) depth tokens.now) }
 {
@@ -335,7 +336,7 @@ fn return_stmt<'a>(alloc: Global, depth: usize, version: u8, tokens: &'a [Token]
     Ok((Stmt { at, action }, rest))
 }
 
-#[tactic(auto, unfolding(mace_grammar::specs::inner::Readers::finish_stmt_at))]
+#[tactic(auto, unfolding(mace_grammar::specs::inner::Readers::Stmts::finish_stmt_at))]
 fn finish_stmt<'a>(alloc: Global, depth: usize, version: u8, tokens: &'a [Token]) -> Read<'a, Stmt>
     ensures { Gives (λ x. (stmt_tree x.0, x.1.now)) result (reader.finish_stmt_at (numbered version) depth tokens.now) }
 {
@@ -347,14 +348,14 @@ fn finish_stmt<'a>(alloc: Global, depth: usize, version: u8, tokens: &'a [Token]
 }
 
 /// A statement without a block that is no `let`.
-#[tactic(auto, unfolding(mace_grammar::specs::inner::Readers::ending_at))]
+#[tactic(auto, unfolding(mace_grammar::specs::inner::Readers::Stmts::ending_at))]
 pub fn ending<'a>(alloc: Global, depth: usize, version: u8, tokens: &'a [Token]) -> Read<'a, Stmt>
     ensures { Gives (λ x. (stmt_tree x.0, x.1.now)) result (reader.ending_at (numbered version) depth tokens.now) }
 {
-    if sees_leave(version, tokens) {
+    if sees_class(Class::Leave, version, tokens) {
         return return_stmt(alloc, depth, version, tokens);
     }
-    if sees_finish(version, tokens) {
+    if sees_class(Class::Finish, version, tokens) {
         return finish_stmt(alloc, depth, version, tokens);
     }
     simple(alloc, depth, version, tokens)

@@ -8,15 +8,16 @@ ghost use Rattle.mace_grammar.specs.inner.Readers as reader;
 ghost use Rattle.mace_parser.specs.inner.Gives.{Gives};
 
 use crate::fault::{Fault, Read};
-use crate::sees::{begins_stmt, sees_key};
+use crate::sees::{sees_any, sees_key};
 use crate::simple::{any_expr, ending, let_stmt};
 use crate::token::{key, name, sign};
 use mace_ast::Stmt;
+use mace_grammar::STMT_STARTS;
 use mace_lexer::{Keyword, Sign, Token};
 use std::alloc::Global;
 
 #[cycle(stmt)]
-#[tactic(auto, unfolding(mace_grammar::specs::inner::Readers::any_stmt_at))]
+#[tactic(auto, unfolding(mace_grammar::specs::inner::Readers::Stmts::any_stmt_at))]
 fn stmt<'a>(alloc: Global, depth: usize, version: u8, tokens: &'a [Token]) -> Read<'a, Stmt>
     ensures { Gives (λ x. (stmt_tree x.0, x.1.now)) result (reader.stmt_at (numbered version) depth tokens.now) }
 {
@@ -40,7 +41,7 @@ fn stmt<'a>(alloc: Global, depth: usize, version: u8, tokens: &'a [Token]) -> Re
 }
 
 #[cycle(stmt)]
-#[tactic(auto, unfolding(mace_grammar::specs::inner::Readers::if_at))]
+#[tactic(auto, unfolding(mace_grammar::specs::inner::Readers::Stmts::if_at))]
 fn if_stmt<'a>(alloc: Global, depth: usize, version: u8, tokens: &'a [Token]) -> Read<'a, Stmt>
     ensures { Gives (λ x. (stmt_tree x.0, x.1.now)) result (reader.if_at (numbered version) depth (reader.stmt_at (numbered version) depth) tokens.now) }
 {
@@ -52,7 +53,7 @@ fn if_stmt<'a>(alloc: Global, depth: usize, version: u8, tokens: &'a [Token]) ->
 }
 
 #[cycle(stmt)]
-#[tactic(auto, unfolding(mace_grammar::specs::inner::Readers::else_at))]
+#[tactic(auto, unfolding(mace_grammar::specs::inner::Readers::Stmts::else_at))]
 fn maybe_else<'a>(
     alloc: Global,
     depth: usize,
@@ -70,7 +71,7 @@ fn maybe_else<'a>(
 }
 
 #[cycle(stmt)]
-#[tactic(auto, unfolding(mace_grammar::specs::inner::Readers::while_at))]
+#[tactic(auto, unfolding(mace_grammar::specs::inner::Readers::Stmts::while_at))]
 fn while_stmt<'a>(alloc: Global, depth: usize, version: u8, tokens: &'a [Token]) -> Read<'a, Stmt>
     ensures { Gives (λ x. (stmt_tree x.0, x.1.now)) result (reader.while_at (numbered version) depth (reader.stmt_at (numbered version) depth) tokens.now) }
 {
@@ -81,7 +82,7 @@ fn while_stmt<'a>(alloc: Global, depth: usize, version: u8, tokens: &'a [Token])
 }
 
 #[cycle(stmt)]
-#[tactic(auto, unfolding(mace_grammar::specs::inner::Readers::for_at))]
+#[tactic(auto, unfolding(mace_grammar::specs::inner::Readers::Stmts::for_at))]
 fn for_stmt<'a>(alloc: Global, depth: usize, version: u8, tokens: &'a [Token]) -> Read<'a, Stmt>
     ensures { Gives (λ x. (stmt_tree x.0, x.1.now)) result (reader.for_at (numbered version) depth (reader.stmt_at (numbered version) depth) tokens.now) }
 {
@@ -97,7 +98,7 @@ fn for_stmt<'a>(alloc: Global, depth: usize, version: u8, tokens: &'a [Token]) -
 
 /// Statements in braces.
 #[cycle(stmt)]
-#[tactic(auto, unfolding(mace_grammar::specs::inner::Readers::block_at))]
+#[tactic(auto, unfolding(mace_grammar::specs::inner::Readers::Stmts::block_at))]
 pub fn block<'a>(
     alloc: Global,
     depth: usize,
@@ -114,7 +115,7 @@ pub fn block<'a>(
 
 /// Statements, one behind the other.
 #[cycle(stmt)]
-#[tactic(auto, unfolding(mace_grammar::specs::inner::Readers::stmts_in))]
+#[tactic(auto, unfolding(mace_grammar::specs::inner::Readers::Stmts::stmts_in))]
 pub fn stmts<'a>(
     alloc: Global,
     depth: usize,
@@ -125,7 +126,7 @@ pub fn stmts<'a>(
 {
     let mut rest = tokens;
     let mut found = Vec::new(alloc);
-    'turns: while begins_stmt(version, rest) {
+    'turns: while sees_any(&STMT_STARTS, version, rest) {
         let (next, after) = stmt(alloc, depth, version, rest)?;
         found.push(next)?;
         rest = after;
