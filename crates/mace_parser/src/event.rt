@@ -19,7 +19,7 @@ use mace_lexer::{Keyword, Sign, Token};
 use std::alloc::Global;
 use wave_base::Seq;
 
-#[tactic(auto, unfolding(mace_grammar::specs::inner::Readers::Stmts::any_block_at))]
+#[tactic(auto, unfolding(mace_grammar::specs::inner::Readers::any_block_at))]
 fn body<'a>(alloc: Global, depth: usize, version: u8, tokens: &'a [Token]) -> Read<'a, Seq<Stmt>>
     ensures { Gives (λ x. (map stmt_tree x.0, x.1.now)) result (reader.any_block_at (numbered version) depth tokens.now) }
 {

@@ -55,7 +55,7 @@ fn most_operands(level: u8, tokens: &[Token]) -> usize
 }
 
 #[cycle(expr)]
-#[tactic(auto, unfolding(mace_grammar::specs::inner::Readers::Exprs::signed_or_primary_at))]
+#[tactic(auto, unfolding(mace_grammar::specs::inner::Readers::signed_or_primary_at))]
 fn unary<'a>(alloc: Global, depth: usize, version: u8, tokens: &'a [Token]) -> Read<'a, Expr>
     ensures { Gives (λ x. (expr_tree x.0, x.1.now)) result (reader.unary_at (numbered version) depth tokens.now) }
 {
@@ -69,7 +69,7 @@ fn unary<'a>(alloc: Global, depth: usize, version: u8, tokens: &'a [Token]) -> R
 }
 
 #[cycle(expr)]
-#[tactic(auto, unfolding(mace_grammar::specs::inner::Readers::Exprs::signed_at))]
+#[tactic(auto, unfolding(mace_grammar::specs::inner::Readers::signed_at))]
 fn signed<'a>(alloc: Global, depth: usize, version: u8, tokens: &'a [Token]) -> Read<'a, Expr>
     ensures { Gives (λ x. (expr_tree x.0, x.1.now)) result (reader.signed_at (numbered version) (reader.unary_at (numbered version) depth) tokens.now) }
 {
@@ -79,7 +79,7 @@ fn signed<'a>(alloc: Global, depth: usize, version: u8, tokens: &'a [Token]) -> 
 }
 
 #[cycle(expr)]
-#[tactic(auto, unfolding(mace_grammar::specs::inner::Readers::Exprs::primary_at))]
+#[tactic(auto, unfolding(mace_grammar::specs::inner::Readers::primary_at))]
 fn primary<'a>(alloc: Global, depth: usize, version: u8, tokens: &'a [Token]) -> Read<'a, Expr>
     ensures { Gives (λ x. (expr_tree x.0, x.1.now)) result (reader.primary_at (numbered version) (reader.unary_at (numbered version) depth) tokens.now) }
 {
@@ -93,7 +93,7 @@ fn primary<'a>(alloc: Global, depth: usize, version: u8, tokens: &'a [Token]) ->
 }
 
 #[cycle(expr)]
-#[tactic(auto, unfolding(mace_grammar::specs::inner::Readers::Exprs::parenthesized_at))]
+#[tactic(auto, unfolding(mace_grammar::specs::inner::Readers::parenthesized_at))]
 fn parenthesized<'a>(
     alloc: Global,
     depth: usize,
@@ -110,7 +110,7 @@ fn parenthesized<'a>(
 
 /// `[k]`
 #[cycle(expr)]
-#[tactic(auto, unfolding(mace_grammar::specs::inner::Readers::Exprs::bracketed_at))]
+#[tactic(auto, unfolding(mace_grammar::specs::inner::Readers::bracketed_at))]
 pub fn bracketed<'a>(
     alloc: Global,
     depth: usize,
@@ -126,7 +126,7 @@ pub fn bracketed<'a>(
 }
 
 #[cycle(expr)]
-#[tactic(auto, unfolding(mace_grammar::specs::inner::Readers::Exprs::named_at))]
+#[tactic(auto, unfolding(mace_grammar::specs::inner::Readers::named_at))]
 fn named<'a>(alloc: Global, depth: usize, version: u8, tokens: &'a [Token]) -> Read<'a, Expr>
     ensures { Gives (λ x. (expr_tree x.0, x.1.now)) result (reader.named_at (numbered version) (reader.unary_at (numbered version) depth) tokens.now) }
 {
@@ -145,7 +145,7 @@ fn named<'a>(alloc: Global, depth: usize, version: u8, tokens: &'a [Token]) -> R
 
 // `f(..)`, behind the name.
 #[cycle(expr)]
-#[tactic(auto, unfolding(mace_grammar::specs::inner::Readers::Exprs::call_at))]
+#[tactic(auto, unfolding(mace_grammar::specs::inner::Readers::call_at))]
 fn call<'a>(
     alloc: Global,
     depth: usize,
@@ -161,7 +161,7 @@ fn call<'a>(
 
 // `C.f` or `C.f[k]`, behind the class.
 #[cycle(expr)]
-#[tactic(auto, unfolding(mace_grammar::specs::inner::Readers::Exprs::above_at))]
+#[tactic(auto, unfolding(mace_grammar::specs::inner::Readers::above_at))]
 fn above<'a>(
     alloc: Global,
     depth: usize,
@@ -181,7 +181,7 @@ fn above<'a>(
 
 // `m[k]` or `C[k].f(..)`, behind the name.
 #[cycle(expr)]
-#[tactic(auto, unfolding(mace_grammar::specs::inner::Readers::Exprs::index_at, mace_grammar::specs::inner::Readers::Exprs::child_call_at))]
+#[tactic(auto, unfolding(mace_grammar::specs::inner::Readers::index_at, mace_grammar::specs::inner::Readers::child_call_at))]
 fn index<'a>(
     alloc: Global,
     depth: usize,
@@ -202,7 +202,7 @@ fn index<'a>(
 
 /// `(..)`
 #[cycle(expr)]
-#[tactic(auto, unfolding(mace_grammar::specs::inner::Readers::Exprs::arguments_at, mace_grammar::specs::inner::Readers::Tokens::separated_at))]
+#[tactic(auto, unfolding(mace_grammar::specs::inner::Readers::arguments_at, mace_grammar::specs::inner::Readers::separated_at))]
 pub fn arguments<'a>(
     alloc: Global,
     depth: usize,
@@ -222,7 +222,7 @@ pub fn arguments<'a>(
 }
 
 #[cycle(expr)]
-#[tactic(auto, unfolding(mace_grammar::specs::inner::Readers::Tokens::list_at))]
+#[tactic(auto, unfolding(mace_grammar::specs::inner::Readers::list_at))]
 fn list<'a>(alloc: Global, depth: usize, version: u8, tokens: &'a [Token]) -> Read<'a, Vec<Expr>>
     ensures { Gives (λ x. (map expr_tree x.0.items, x.1.now)) result (reader.list_at (numbered version) (reader.expr_at (numbered version) (reader.unary_at (numbered version) depth)) tokens.now) }
 {
@@ -238,7 +238,7 @@ fn list<'a>(alloc: Global, depth: usize, version: u8, tokens: &'a [Token]) -> Re
 }
 
 #[cycle(expr)]
-#[tactic(auto, unfolding(mace_grammar::specs::inner::Readers::Tokens::next_at))]
+#[tactic(auto, unfolding(mace_grammar::specs::inner::Readers::next_at))]
 fn next_expr<'a>(alloc: Global, depth: usize, version: u8, tokens: &'a [Token]) -> Read<'a, Expr>
     ensures { Gives (λ x. (expr_tree x.0, x.1.now)) result (reader.next_at (numbered version) (reader.expr_at (numbered version) (reader.unary_at (numbered version) depth)) tokens.now) }
 {
@@ -247,7 +247,7 @@ fn next_expr<'a>(alloc: Global, depth: usize, version: u8, tokens: &'a [Token]) 
 }
 
 #[cycle(expr)]
-#[tactic(auto, unfolding(mace_grammar::specs::inner::Readers::Exprs::operand_at))]
+#[tactic(auto, unfolding(mace_grammar::specs::inner::Readers::operand_at))]
 fn operand<'a>(
     alloc: Global,
     depth: usize,
@@ -266,7 +266,7 @@ fn operand<'a>(
 
 // A chain of operators of a level, and all that is tighter.
 #[cycle(expr)]
-#[tactic(auto, unfolding(mace_grammar::specs::inner::Readers::Exprs::operands_at))]
+#[tactic(auto, unfolding(mace_grammar::specs::inner::Readers::operands_at))]
 fn chain<'a>(
     alloc: Global,
     depth: usize,
@@ -294,7 +294,7 @@ fn chain<'a>(
 
 /// An expression. `depth` is more than the tokens that are left.
 #[cycle(expr)]
-#[tactic(auto, unfolding(mace_grammar::specs::inner::Readers::Exprs::expr_at))]
+#[tactic(auto, unfolding(mace_grammar::specs::inner::Readers::expr_at))]
 pub fn expr<'a>(alloc: Global, depth: usize, version: u8, tokens: &'a [Token]) -> Read<'a, Expr>
     ensures { Gives (λ x. (expr_tree x.0, x.1.now)) result (reader.expr_at (numbered version) (reader.unary_at (numbered version) depth) tokens.now) }
 {

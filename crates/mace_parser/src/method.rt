@@ -29,7 +29,7 @@ fn param<'a>(alloc: Global, version: u8, tokens: &'a [Token]) -> Read<'a, Param>
     Ok((Param { name, kind }, rest))
 }
 
-#[tactic(auto, unfolding(mace_grammar::specs::inner::Readers::Tokens::next_at))]
+#[tactic(auto, unfolding(mace_grammar::specs::inner::Readers::next_at))]
 fn next_param<'a>(alloc: Global, version: u8, tokens: &'a [Token]) -> Read<'a, Param>
     ensures { Gives (λ x. (x.0, x.1.now)) result (reader.next_at (numbered version) (reader.param_at (numbered version)) tokens.now) }
 {
@@ -37,7 +37,7 @@ fn next_param<'a>(alloc: Global, version: u8, tokens: &'a [Token]) -> Read<'a, P
     param(alloc, version, rest)
 }
 
-#[tactic(auto, unfolding(mace_grammar::specs::inner::Readers::Tokens::list_at))]
+#[tactic(auto, unfolding(mace_grammar::specs::inner::Readers::list_at))]
 fn list<'a>(alloc: Global, version: u8, tokens: &'a [Token]) -> Read<'a, Vec<Param>>
     ensures { Gives (λ x. (x.0.items, x.1.now)) result (reader.list_at (numbered version) (reader.param_at (numbered version)) tokens.now) }
 {
@@ -53,7 +53,7 @@ fn list<'a>(alloc: Global, version: u8, tokens: &'a [Token]) -> Read<'a, Vec<Par
 }
 
 /// Parameters in their parentheses.
-#[tactic(auto, unfolding(mace_grammar::specs::inner::Readers::params_at, mace_grammar::specs::inner::Readers::Tokens::separated_at))]
+#[tactic(auto, unfolding(mace_grammar::specs::inner::Readers::params_at, mace_grammar::specs::inner::Readers::separated_at))]
 pub fn params<'a>(alloc: Global, version: u8, tokens: &'a [Token]) -> Read<'a, Seq<Param>>
     ensures { Gives (λ x. (x.0, x.1.now)) result (reader.params_at (numbered version) tokens.now) }
 {
@@ -100,7 +100,7 @@ pub fn maybe_last<'a>(
     Ok((Some(Last { at, value }), rest))
 }
 
-#[tactic(auto, unfolding(mace_grammar::specs::inner::Readers::Stmts::stmts_at))]
+#[tactic(auto, unfolding(mace_grammar::specs::inner::Readers::stmts_at))]
 fn body<'a>(alloc: Global, depth: usize, version: u8, tokens: &'a [Token]) -> Read<'a, Seq<Stmt>>
     ensures { Gives (λ x. (map stmt_tree x.0, x.1.now)) result (reader.stmts_at (numbered version) depth tokens.now) }
 {

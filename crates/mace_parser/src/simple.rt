@@ -22,7 +22,7 @@ use wave_base::{Seq, Span};
 // ---- expressions behind which a statement goes on
 
 /// An expression of any level.
-#[tactic(auto, unfolding(mace_grammar::specs::inner::Readers::Exprs::any_expr_at))]
+#[tactic(auto, unfolding(mace_grammar::specs::inner::Readers::any_expr_at))]
 pub fn any_expr<'a>(alloc: Global, depth: usize, version: u8, tokens: &'a [Token]) -> Read<'a, Expr>
     ensures { Gives (λ x. (expr_tree x.0, x.1.now)) result (reader.any_expr_at (numbered version) depth tokens.now) }
 {
@@ -30,14 +30,14 @@ pub fn any_expr<'a>(alloc: Global, depth: usize, version: u8, tokens: &'a [Token
 }
 
 /// A key in brackets.
-#[tactic(auto, unfolding(mace_grammar::specs::inner::Readers::Exprs::any_key_at))]
+#[tactic(auto, unfolding(mace_grammar::specs::inner::Readers::any_key_at))]
 pub fn any_key<'a>(alloc: Global, depth: usize, version: u8, tokens: &'a [Token]) -> Read<'a, Expr>
     ensures { Gives (λ x. (expr_tree x.0, x.1.now)) result (reader.any_key_at (numbered version) depth tokens.now) }
 {
     bracketed(alloc, depth, version, tokens)
 }
 
-#[tactic(auto, unfolding(mace_grammar::specs::inner::Readers::Exprs::any_arguments_at))]
+#[tactic(auto, unfolding(mace_grammar::specs::inner::Readers::any_arguments_at))]
 fn any_arguments<'a>(
     alloc: Global,
     depth: usize,
@@ -53,7 +53,7 @@ fn any_arguments<'a>(
 // ---- statements that begin with a keyword
 
 /// `let x = e;`
-#[tactic(auto, unfolding(mace_grammar::specs::inner::Readers::Stmts::let_at))]
+#[tactic(auto, unfolding(mace_grammar::specs::inner::Readers::let_at))]
 pub fn let_stmt<'a>(alloc: Global, depth: usize, version: u8, tokens: &'a [Token]) -> Read<'a, Stmt>
     ensures { Gives (λ x. (stmt_tree x.0, x.1.now)) result (reader.let_at (numbered version) depth tokens.now) }
 {
@@ -66,7 +66,7 @@ pub fn let_stmt<'a>(alloc: Global, depth: usize, version: u8, tokens: &'a [Token
     Ok((Stmt { at, action }, rest))
 }
 
-#[tactic(auto, unfolding(mace_grammar::specs::inner::Readers::Stmts::require_at))]
+#[tactic(auto, unfolding(mace_grammar::specs::inner::Readers::require_at))]
 fn require<'a>(alloc: Global, depth: usize, version: u8, tokens: &'a [Token]) -> Read<'a, Stmt>
     ensures { Gives (λ x. (stmt_tree x.0, x.1.now)) result (reader.require_at (numbered version) depth tokens.now) }
 {
@@ -77,7 +77,7 @@ fn require<'a>(alloc: Global, depth: usize, version: u8, tokens: &'a [Token]) ->
     Ok((Stmt { at, action }, rest))
 }
 
-#[tactic(auto, unfolding(mace_grammar::specs::inner::Readers::Stmts::send_at))]
+#[tactic(auto, unfolding(mace_grammar::specs::inner::Readers::send_at))]
 fn send<'a>(alloc: Global, depth: usize, version: u8, tokens: &'a [Token]) -> Read<'a, Stmt>
     ensures { Gives (λ x. (stmt_tree x.0, x.1.now)) result (reader.send_at (numbered version) depth tokens.now) }
 {
@@ -90,7 +90,7 @@ fn send<'a>(alloc: Global, depth: usize, version: u8, tokens: &'a [Token]) -> Re
     Ok((Stmt { at, action }, rest))
 }
 
-#[tactic(auto, unfolding(mace_grammar::specs::inner::Readers::Stmts::spawn_at))]
+#[tactic(auto, unfolding(mace_grammar::specs::inner::Readers::spawn_at))]
 fn spawn<'a>(alloc: Global, depth: usize, version: u8, tokens: &'a [Token]) -> Read<'a, Stmt>
     ensures { Gives (λ x. (stmt_tree x.0, x.1.now)) result (reader.spawn_at (numbered version) depth tokens.now) }
 {
@@ -128,7 +128,7 @@ fn maybe_field<'a>(alloc: Global, version: u8, tokens: &'a [Token]) -> Read<'a, 
     Ok((Some(field), rest))
 }
 
-#[tactic(auto, unfolding(mace_grammar::specs::inner::Readers::Stmts::drop_at))]
+#[tactic(auto, unfolding(mace_grammar::specs::inner::Readers::drop_at))]
 fn cut<'a>(alloc: Global, depth: usize, version: u8, tokens: &'a [Token]) -> Read<'a, Stmt>
     ensures { Gives (λ x. (stmt_tree x.0, x.1.now)) result (reader.drop_at (numbered version) depth tokens.now) }
 {
@@ -143,7 +143,7 @@ fn cut<'a>(alloc: Global, depth: usize, version: u8, tokens: &'a [Token]) -> Rea
 
 // ---- statements that begin with a name, behind what was read of them
 
-#[tactic(auto, unfolding(mace_grammar::specs::inner::Readers::Stmts::set_at))]
+#[tactic(auto, unfolding(mace_grammar::specs::inner::Readers::set_at))]
 fn set<'a>(
     alloc: Global,
     depth: usize,
@@ -162,7 +162,7 @@ fn set<'a>(
     Ok((Stmt { at, action }, rest))
 }
 
-#[tactic(auto, unfolding(mace_grammar::specs::inner::Readers::Stmts::call_stmt_at))]
+#[tactic(auto, unfolding(mace_grammar::specs::inner::Readers::call_stmt_at))]
 fn call<'a>(
     alloc: Global,
     depth: usize,
@@ -179,7 +179,7 @@ fn call<'a>(
     Ok((Stmt { at, action }, rest))
 }
 
-#[tactic(auto, unfolding(mace_grammar::specs::inner::Readers::Stmts::child_stmt_at))]
+#[tactic(auto, unfolding(mace_grammar::specs::inner::Readers::child_stmt_at))]
 fn child_call<'a>(
     alloc: Global,
     depth: usize,
@@ -213,7 +213,7 @@ fn maybe_key<'a>(
     Ok((Some(place), rest))
 }
 
-#[tactic(auto, unfolding(mace_grammar::specs::inner::Readers::Stmts::above_stmt_at))]
+#[tactic(auto, unfolding(mace_grammar::specs::inner::Readers::above_stmt_at))]
 fn above<'a>(
     alloc: Global,
     depth: usize,
@@ -237,7 +237,7 @@ fn above<'a>(
     )
 }
 
-#[tactic(auto, unfolding(mace_grammar::specs::inner::Readers::Stmts::index_stmt_at))]
+#[tactic(auto, unfolding(mace_grammar::specs::inner::Readers::index_stmt_at))]
 fn index<'a>(
     alloc: Global,
     depth: usize,
@@ -263,7 +263,7 @@ fn index<'a>(
     )
 }
 
-#[tactic(auto, unfolding(mace_grammar::specs::inner::Readers::Stmts::named_stmt_at))]
+#[tactic(auto, unfolding(mace_grammar::specs::inner::Readers::named_stmt_at))]
 fn named<'a>(alloc: Global, depth: usize, version: u8, tokens: &'a [Token]) -> Read<'a, Stmt>
     ensures { Gives (λ x. (stmt_tree x.0, x.1.now)) result (reader.named_stmt_at (numbered version) depth tokens.now) }
 {
@@ -289,7 +289,7 @@ fn named<'a>(alloc: Global, depth: usize, version: u8, tokens: &'a [Token]) -> R
     )
 }
 
-#[tactic(auto, unfolding(mace_grammar::specs::inner::Readers::Stmts::simple_stmt_at))]
+#[tactic(auto, unfolding(mace_grammar::specs::inner::Readers::simple_stmt_at))]
 fn simple<'a>(alloc: Global, depth: usize, version: u8, tokens: &'a [Token]) -> Read<'a, Stmt>
     ensures { Gives (λ x. (stmt_tree x.0, x.1.now)) result (reader.simple_stmt_at (numbered version) depth tokens.now) }
 {
@@ -325,7 +325,7 @@ fn maybe_expr<'a>(
     Ok((Some(value), rest))
 }
 
-#[tactic(auto, unfolding(mace_grammar::specs::inner::Readers::Stmts::return_at))]
+#[tactic(auto, unfolding(mace_grammar::specs::inner::Readers::return_at))]
 fn return_stmt<'a>(alloc: Global, depth: usize, version: u8, tokens: &'a [Token]) -> Read<'a, Stmt>
     ensures { Gives (λ x. (stmt_tree x.0, x.1.now)) result (reader.return_at (numbered version) depth tokens.now) }
 {
@@ -336,7 +336,7 @@ fn return_stmt<'a>(alloc: Global, depth: usize, version: u8, tokens: &'a [Token]
     Ok((Stmt { at, action }, rest))
 }
 
-#[tactic(auto, unfolding(mace_grammar::specs::inner::Readers::Stmts::finish_stmt_at))]
+#[tactic(auto, unfolding(mace_grammar::specs::inner::Readers::finish_stmt_at))]
 fn finish_stmt<'a>(alloc: Global, depth: usize, version: u8, tokens: &'a [Token]) -> Read<'a, Stmt>
     ensures { Gives (λ x. (stmt_tree x.0, x.1.now)) result (reader.finish_stmt_at (numbered version) depth tokens.now) }
 {
@@ -348,7 +348,7 @@ fn finish_stmt<'a>(alloc: Global, depth: usize, version: u8, tokens: &'a [Token]
 }
 
 /// A statement without a block that is no `let`.
-#[tactic(auto, unfolding(mace_grammar::specs::inner::Readers::Stmts::ending_at))]
+#[tactic(auto, unfolding(mace_grammar::specs::inner::Readers::ending_at))]
 pub fn ending<'a>(alloc: Global, depth: usize, version: u8, tokens: &'a [Token]) -> Read<'a, Stmt>
     ensures { Gives (λ x. (stmt_tree x.0, x.1.now)) result (reader.ending_at (numbered version) depth tokens.now) }
 {

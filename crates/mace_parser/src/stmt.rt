@@ -17,7 +17,7 @@ use mace_lexer::{Keyword, Sign, Token};
 use std::alloc::Global;
 
 #[cycle(stmt)]
-#[tactic(auto, unfolding(mace_grammar::specs::inner::Readers::Stmts::any_stmt_at))]
+#[tactic(auto, unfolding(mace_grammar::specs::inner::Readers::any_stmt_at))]
 fn stmt<'a>(alloc: Global, depth: usize, version: u8, tokens: &'a [Token]) -> Read<'a, Stmt>
     ensures { Gives (λ x. (stmt_tree x.0, x.1.now)) result (reader.stmt_at (numbered version) depth tokens.now) }
 {
@@ -41,7 +41,7 @@ fn stmt<'a>(alloc: Global, depth: usize, version: u8, tokens: &'a [Token]) -> Re
 }
 
 #[cycle(stmt)]
-#[tactic(auto, unfolding(mace_grammar::specs::inner::Readers::Stmts::if_at))]
+#[tactic(auto, unfolding(mace_grammar::specs::inner::Readers::if_at))]
 fn if_stmt<'a>(alloc: Global, depth: usize, version: u8, tokens: &'a [Token]) -> Read<'a, Stmt>
     ensures { Gives (λ x. (stmt_tree x.0, x.1.now)) result (reader.if_at (numbered version) depth (reader.stmt_at (numbered version) depth) tokens.now) }
 {
@@ -53,7 +53,7 @@ fn if_stmt<'a>(alloc: Global, depth: usize, version: u8, tokens: &'a [Token]) ->
 }
 
 #[cycle(stmt)]
-#[tactic(auto, unfolding(mace_grammar::specs::inner::Readers::Stmts::else_at))]
+#[tactic(auto, unfolding(mace_grammar::specs::inner::Readers::else_at))]
 fn maybe_else<'a>(
     alloc: Global,
     depth: usize,
@@ -71,7 +71,7 @@ fn maybe_else<'a>(
 }
 
 #[cycle(stmt)]
-#[tactic(auto, unfolding(mace_grammar::specs::inner::Readers::Stmts::while_at))]
+#[tactic(auto, unfolding(mace_grammar::specs::inner::Readers::while_at))]
 fn while_stmt<'a>(alloc: Global, depth: usize, version: u8, tokens: &'a [Token]) -> Read<'a, Stmt>
     ensures { Gives (λ x. (stmt_tree x.0, x.1.now)) result (reader.while_at (numbered version) depth (reader.stmt_at (numbered version) depth) tokens.now) }
 {
@@ -82,7 +82,7 @@ fn while_stmt<'a>(alloc: Global, depth: usize, version: u8, tokens: &'a [Token])
 }
 
 #[cycle(stmt)]
-#[tactic(auto, unfolding(mace_grammar::specs::inner::Readers::Stmts::for_at))]
+#[tactic(auto, unfolding(mace_grammar::specs::inner::Readers::for_at))]
 fn for_stmt<'a>(alloc: Global, depth: usize, version: u8, tokens: &'a [Token]) -> Read<'a, Stmt>
     ensures { Gives (λ x. (stmt_tree x.0, x.1.now)) result (reader.for_at (numbered version) depth (reader.stmt_at (numbered version) depth) tokens.now) }
 {
@@ -98,7 +98,7 @@ fn for_stmt<'a>(alloc: Global, depth: usize, version: u8, tokens: &'a [Token]) -
 
 /// Statements in braces.
 #[cycle(stmt)]
-#[tactic(auto, unfolding(mace_grammar::specs::inner::Readers::Stmts::block_at))]
+#[tactic(auto, unfolding(mace_grammar::specs::inner::Readers::block_at))]
 pub fn block<'a>(
     alloc: Global,
     depth: usize,
@@ -115,7 +115,7 @@ pub fn block<'a>(
 
 /// Statements, one behind the other.
 #[cycle(stmt)]
-#[tactic(auto, unfolding(mace_grammar::specs::inner::Readers::Stmts::stmts_in))]
+#[tactic(auto, unfolding(mace_grammar::specs::inner::Readers::stmts_in))]
 pub fn stmts<'a>(
     alloc: Global,
     depth: usize,

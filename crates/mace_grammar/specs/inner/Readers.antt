@@ -2,9 +2,9 @@
 pub mod Tokens
 pub mod Exprs
 pub mod Stmts
-unfoldable pub use Tokens.*
-unfoldable pub use Exprs.*
-unfoldable pub use Stmts.*
+unfoldable pub use Rattle.mace_grammar.specs.inner.Readers.Tokens.{key_at, sign_at, number_at, text_at, type_at, if_sign, if_key, name_at, leave_at, finish_at, next_at, list_at, separated_at, field_at}
+unfoldable pub use Rattle.mace_grammar.specs.inner.Readers.Exprs.{literal_at, unary_op_at, operators_of, op_of, operator_at, turns_of, operand_at, operands_at, level_at, expr_at, arguments_at, bracketed_at, parenthesized_at, call_at, above_at, child_call_at, index_at, named_at, primary_at, signed_at, signed_or_primary_at, unary_at, any_expr_at, any_arguments_at, any_key_at}
+unfoldable pub use Rattle.mace_grammar.specs.inner.Readers.Stmts.{stmts_in, block_at, else_at, maybe_field_at, let_at, require_at, send_at, spawn_at, drop_at, maybe_key_at, set_at, call_stmt_at, child_stmt_at, above_stmt_at, index_stmt_at, named_stmt_at, simple_stmt_at, maybe_expr_at, return_at, finish_stmt_at, ending_at, if_at, while_at, for_at, any_stmt_at, stmt_at, stmts_at, any_block_at}
 use Rattle.std.specs.Prelude.{ℕ, List, [], ◌∷◌, unwrap_or, Option, None}
 use Rattle.wave_base.specs.declared.span.Span.{Span}
 use Rattle.wave_base.specs.declared.value.Kind.{Kind}
