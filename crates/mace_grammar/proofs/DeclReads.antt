@@ -1,32 +1,78 @@
 -- The readers of declarations read their productions.
-use Rattle.std.proofs.Common.{ℕ, suc, [], ◌∷◌, true, false, refl, unwrap_or}
+use Rattle.std.proofs.Common.{◌≡◌, ℕ, suc, List, [], ◌∷◌, None, Bool, true, false, refl, sym, ◌∙◌, ap, arith, unwrap_or}
+use Rattle.std.proofs.lemmas.Bool.Decides.{nat_tests}
+use Rattle.std.specs.Prelude.{◌==◌, ◌&&◌, if◌then◌else◌}
 use Rattle.wave_base.specs.declared.span.Span.{Span}
 use Rattle.mace_lexer.specs.declared.token.Token.{Token}
+use Rattle.mace_lexer.specs.declared.token.Word.{Word}
+use Rattle.mace_lexer.specs.declared.token.Word.TheVariants as word
 use Rattle.mace_lexer.specs.declared.keyword.Keyword.{Keyword}
 use Rattle.mace_lexer.specs.declared.keyword.Keyword.TheVariants as k
 use Rattle.mace_lexer.specs.declared.sign.Sign.TheVariants as s
+use Rattle.mace_lexer.specs.Codes.{key_code}
 use Rattle.mace_ast.specs.declared.name.Name.{Name}
 use Rattle.mace_ast.specs.Decls.{ContextTree, Context, contexts_of}
 use Rattle.mace_grammar.specs.Part.{Part, ◌>>◌, many, maybe}
-use Rattle.mace_grammar.specs.inner.Run.{Reader}
-use Rattle.mace_grammar.specs.inner.Classes.{name_class, number_class}
+use Rattle.mace_grammar.specs.inner.Run.{Reader, word as token, has, sees, choice, some, give}
+use Rattle.mace_grammar.specs.declared.class.Class.{Class}
+use Rattle.mace_grammar.specs.declared.class.Class.TheVariants as class
 use Rattle.mace_grammar.specs.inner.Classes as classes
 use Rattle.mace_grammar.specs.Words as w
 use Rattle.mace_grammar.specs.Grammar as g
 use Rattle.mace_grammar.specs.inner.Readers as r
 use Rattle.mace_grammar.specs.Words.{Version, first, numbered}
 use Rattle.mace_grammar.proofs.Versions.{IsSound, first_sound, numbered_sound}
-use Rattle.mace_grammar.proofs.Reading.{Reads, reads_pure, next_part, inside, repeated, optional, reads_deep, reads_classed}
+use Rattle.mace_grammar.proofs.Outcomes.{chosen_false}
+use Rattle.mace_grammar.proofs.Reading.{Reads, another, reads_classed}
+use Rattle.mace_grammar.proofs.InTurn.{reads_pure, next_part, inside}
+use Rattle.mace_grammar.proofs.Choices.{optional}
+use Rattle.mace_grammar.proofs.Repeats.{repeated}
+use Rattle.mace_grammar.proofs.Nests.{reads_deep}
 use Rattle.mace_grammar.proofs.Productions.{key, sign, name, end, two, type, vars, brace_same}
 use Rattle.mace_grammar.proofs.ExprReads.{any_expr, any_key}
 use Rattle.mace_grammar.proofs.StmtReads.{stmts, any_block}
 
 module _ (version : Version) (sound : IsSound version) where
-  abbrev kind : Token → ℕ
+  abbrev kind : Token → Class
   kind = classes.kind version
 
+  -- the reader of the keyword `return` where it ends a method
+  abbrev ending : Reader Span
+  ending = token (λ t. w.end_word version t.span t.word)
+
+  -- where `return` begins a statement, no word has the class of that keyword
+  module _ (early : version.early ≡ true) where
+    no_name : (b : Bool) → has (r.if_key k.Return) (if b then class.Name else class.Finish) ≡ false
+    no_name true = refl
+    no_name false = refl
+
+    no_key : (j : Keyword) (b : Bool) → (key_code j == key_code k.Return) ≡ b → has (r.if_key k.Return) (if b && true then class.Leave else class.Key j) ≡ false
+    no_key j true e = refl
+    no_key j false e = grind (arith, nat_tests)
+
+    no_return : (v : Word) → has (r.if_key k.Return) (classes.class_of version v) ≡ false
+    no_return (word.Name t) = no_name (version.is_name t)
+    no_return (word.Number n) = refl
+    no_return (word.Text t) = refl
+    no_return (word.Key j) =
+        ap (λ b. has (r.if_key k.Return) (if (key_code j == key_code k.Return) && b then class.Leave else class.Key j)) early
+        ∙ no_key j (key_code j == key_code k.Return) refl
+    no_return (word.Sign j) = refl
+
+    none_next : (ts : List Token) → sees kind (r.if_key k.Return) ts ≡ false
+    none_next [] = refl
+    none_next (t ∷ ts) = no_return t.word
+
+  -- so it makes no difference that the reader does not look at the version
+  same_ending : (m : ℕ) (ts : List Token) → choice kind (r.if_key k.Return) (some (r.last_at version ending m)) (give None) ts ≡ choice kind (r.if_key k.Return) (some (r.last_at version (r.key_at k.Return) m)) (give None) ts
+  same_ending m ts = by version.early refl
+    where
+      by : (b : Bool) → version.early ≡ b → choice kind (r.if_key k.Return) (some (r.last_at version ending m)) (give None) ts ≡ choice kind (r.if_key k.Return) (some (r.last_at version (r.key_at k.Return) m)) (give None) ts
+      by true e = let none = none_next e ts in chosen_false (sees kind (r.if_key k.Return) ts) _ _ none ∙ sym (chosen_false (sees kind (r.if_key k.Return) ts) _ _ none)
+      by false e = ap (λ b. choice kind (r.if_key k.Return) (some (r.last_at version (token (λ t. if b then None else w.key_word k.Return t.span t.word)) m)) (give None) ts) e
+
   module _ (m : ℕ) where
-    param : Reads kind m (g.param version) (g.param version) (r.param_at version) (name_class ∷ []) false []
+    param : Reads kind m (g.param version) (g.param version) (r.param_at version) (class.Name ∷ []) false []
     unfolding r.param_at
     param =
         next_part kind (name version sound m)
@@ -54,11 +100,11 @@ module _ (version : Version) (sound : IsSound version) where
         (λ at. next_part kind (any_expr version sound m)
         (λ value. next_part kind (sign version sound m s.Semicolon) (λ _. reads_pure kind m (record { at = at; value = value })) refl) refl) refl
 
-    method_end : Reads kind m (maybe (g.last version (w.end version))) (maybe (g.last version (w.end version))) (r.maybe_last_at version k.Return (r.end_at version) m) (r.if_key k.Return) true (r.if_key k.Return)
+    method_end : Reads kind m (maybe (g.last version (w.end version))) (maybe (g.last version (w.end version))) (r.maybe_last_at version k.Return m) (r.if_key k.Return) true (r.if_key k.Return)
     unfolding r.maybe_last_at
-    method_end = optional kind (last k.Return (w.end version) (r.end_at version) (end version sound m))
+    method_end = another kind (optional kind (last k.Return (w.end version) ending (end version sound m))) (same_ending m)
 
-    event_end : Reads kind m (maybe (g.last version (w.key k.Reply))) (maybe (g.last version (w.key k.Reply))) (r.maybe_last_at version k.Reply (r.key_at k.Reply) m) (r.if_key k.Reply) true (r.if_key k.Reply)
+    event_end : Reads kind m (maybe (g.last version (w.key k.Reply))) (maybe (g.last version (w.key k.Reply))) (r.maybe_last_at version k.Reply m) (r.if_key k.Reply) true (r.if_key k.Reply)
     unfolding r.maybe_last_at
     event_end = optional kind (last k.Reply (w.key k.Reply) (r.key_at k.Reply) (key version sound m k.Reply refl))
 
@@ -143,10 +189,10 @@ module _ (version : Version) (sound : IsSound version) where
 
 -- ---- the service, which reads what stands behind the number by it
 
-abbrev plainly : Token → ℕ
+abbrev plainly : Token → Class
 plainly = classes.kind first
 
-number_part : (m : ℕ) → Reads plainly m w.version_number w.version_number r.version_at (number_class ∷ []) true (number_class ∷ [])
+number_part : (m : ℕ) → Reads plainly m w.version_number w.version_number r.version_at (class.Number ∷ []) true (class.Number ∷ [])
 unfolding w.version_number r.version_at
 number_part m = next_part plainly (optional plainly (two first first_sound m)) (λ number. reads_pure plainly m (unwrap_or number 1)) refl
 
@@ -154,7 +200,7 @@ module _ (m number : ℕ) (at : Span) (n : Name) where
   abbrev own : Version
   own = numbered number
 
-  abbrev told : Token → ℕ
+  abbrev told : Token → Class
   told = classes.kind own
 
   abbrev own_sound : IsSound own

@@ -9,27 +9,33 @@ use Rattle.mace_ast.specs.Exprs as e
 use Rattle.mace_ast.specs.Exprs.{ExprTree, exprs_of}
 use Rattle.mace_grammar.specs.Part.{Part, pure, ◌>>=◌, ◌or◌}
 use Rattle.mace_grammar.specs.inner.Run.{Reader, Outcome, and_then, give, sees}
-use Rattle.mace_grammar.specs.inner.Classes.{name_class, sign_class}
+use Rattle.mace_grammar.specs.declared.class.TheConstants.{EXPR_STARTS, INITIALS, UNARY_OPS}
+use Rattle.mace_grammar.specs.declared.class.Class.{Class}
+use Rattle.mace_grammar.specs.declared.class.Class.TheVariants as class
 use Rattle.mace_grammar.specs.inner.Classes as classes
 use Rattle.mace_grammar.specs.Words as w
 use Rattle.mace_grammar.specs.Grammar as g
 use Rattle.mace_grammar.specs.inner.Readers as r
 use Rattle.mace_grammar.specs.Words.{Version}
 use Rattle.mace_grammar.proofs.Versions.{IsSound}
-use Rattle.mace_grammar.proofs.Reading.{Reads, reads_pure, next_part, inside, either, repeated, optional, wider, another, reads_same, reads_deep}
+use Rattle.mace_grammar.proofs.Reading.{Reads, wider, another, reads_same}
+use Rattle.mace_grammar.proofs.InTurn.{reads_pure, next_part, inside}
+use Rattle.mace_grammar.proofs.Choices.{either, optional}
+use Rattle.mace_grammar.proofs.Repeats.{repeated}
+use Rattle.mace_grammar.proofs.Nests.{reads_deep}
 use Rattle.mace_grammar.proofs.Same.{Same, same_refl, same_trans, same_or, same_behind}
 use Rattle.mace_grammar.proofs.Factors.{two_fronts, six_fronts, same_six}
 use Rattle.mace_grammar.proofs.Productions.{sign, name, field, unary_op, literal_node, operator, product_has, sum_has, comparison_has, and_has, or_has}
 
 module _ (version : Version) (sound : IsSound version) where
-  abbrev kind : Token → ℕ
+  abbrev kind : Token → Class
   kind = classes.kind version
 
   -- ---- chains
 
   -- what goes on with an operand
-  abbrev pub tails : List ℕ
-  tails = sign_class s.LeftParen ∷ sign_class s.Dot ∷ sign_class s.LeftBracket ∷ []
+  abbrev pub tails : List Class
+  tails = class.Sign s.LeftParen ∷ class.Sign s.Dot ∷ class.Sign s.LeftBracket ∷ []
 
   and_then_same : {A B : Type 0} (o : Outcome A) (f g : A → Reader B) → ((a : A) (ts : List Token) → f a ts ≡ g a ts) → and_then o f ≡ and_then o g
   and_then_same (Ok p) f g h = h p.0 p.1
@@ -41,8 +47,8 @@ module _ (version : Version) (sound : IsSound version) where
   one_turn true (Err x) left ts = refl
   one_turn false o left ts = refl
 
-  module _ (m : ℕ) (u u' : Part ExprTree) (run : Reader ExprTree) (U : Reads kind m u u' run r.starts false tails) where
-    product : Reads kind m (g.product version u) (g.product version u') (r.level_at version run 1) r.starts false (tails ++ r.operators_of 0)
+  module _ (m : ℕ) (u u' : Part ExprTree) (run : Reader ExprTree) (U : Reads kind m u u' run EXPR_STARTS false tails) where
+    product : Reads kind m (g.product version u) (g.product version u') (r.level_at version run 1) EXPR_STARTS false (tails ++ r.operators_of 0)
     unfolding r.operands_at r.operand_at
     product =
         wider kind
@@ -54,7 +60,7 @@ module _ (version : Version) (sound : IsSound version) where
         refl)
         refl refl
 
-    sum : Reads kind m (g.sum version u) (g.sum version u') (r.level_at version run 2) r.starts false (tails ++ r.operators_of 0 ++ r.operators_of 1)
+    sum : Reads kind m (g.sum version u) (g.sum version u') (r.level_at version run 2) EXPR_STARTS false (tails ++ r.operators_of 0 ++ r.operators_of 1)
     unfolding r.operands_at r.operand_at
     sum =
         wider kind
@@ -66,7 +72,7 @@ module _ (version : Version) (sound : IsSound version) where
         refl)
         refl refl
 
-    comparison : Reads kind m (g.comparison version u) (g.comparison version u') (r.level_at version run 3) r.starts false (tails ++ r.operators_of 0 ++ r.operators_of 1 ++ r.operators_of 2)
+    comparison : Reads kind m (g.comparison version u) (g.comparison version u') (r.level_at version run 3) EXPR_STARTS false (tails ++ r.operators_of 0 ++ r.operators_of 1 ++ r.operators_of 2)
     unfolding r.operands_at r.operand_at
     comparison =
         another kind
@@ -80,7 +86,7 @@ module _ (version : Version) (sound : IsSound version) where
         refl refl)
         (λ ts. and_then_same (r.level_at version run 2 ts) _ _ (λ left rest. one_turn (sees kind (r.operators_of 2) rest) (r.operand_at (r.operator_at 2) (r.level_at version run 2) rest) left rest))
 
-    conjunction : Reads kind m (g.conjunction version u) (g.conjunction version u') (r.level_at version run 4) r.starts false (tails ++ r.operators_of 0 ++ r.operators_of 1 ++ r.operators_of 2 ++ r.operators_of 3)
+    conjunction : Reads kind m (g.conjunction version u) (g.conjunction version u') (r.level_at version run 4) EXPR_STARTS false (tails ++ r.operators_of 0 ++ r.operators_of 1 ++ r.operators_of 2 ++ r.operators_of 3)
     unfolding r.operands_at r.operand_at
     conjunction =
         wider kind
@@ -93,11 +99,11 @@ module _ (version : Version) (sound : IsSound version) where
         refl refl
 
   -- what goes on with an expression
-  abbrev pub operators : List ℕ
+  abbrev pub operators : List Class
   operators = tails ++ r.operators_of 0 ++ r.operators_of 1 ++ r.operators_of 2 ++ r.operators_of 3 ++ r.operators_of 4
 
-  module _ (m : ℕ) (u u' : Part ExprTree) (run : Reader ExprTree) (U : Reads kind m u u' run r.starts false tails) where
-    pub expr : Reads kind m (g.expr version u) (g.expr version u') (r.expr_at version run) r.starts false operators
+  module _ (m : ℕ) (u u' : Part ExprTree) (run : Reader ExprTree) (U : Reads kind m u u' run EXPR_STARTS false tails) where
+    pub expr : Reads kind m (g.expr version u) (g.expr version u') (r.expr_at version run) EXPR_STARTS false operators
     unfolding r.expr_at r.operands_at r.operand_at
     expr =
         let C = conjunction m u u' run U in
@@ -188,7 +194,7 @@ module _ (version : Version) (sound : IsSound version) where
         (same_six (call_behind n) (g.field version >>= above_index_behind n) (g.field version >>= above_behind n) (g.bracketed version v >>= child_behind n) (g.bracketed version v >>= index_behind n) (read_behind n))))
         (six_fronts (w.name version) read_behind (λ n. (g.field version) >>= above_behind n) call_behind (λ n. (g.bracketed version) v >>= index_behind n) (λ n. (g.field version) >>= above_index_behind n) (λ n. (g.bracketed version) v >>= child_behind n))
 
-  module _ (m : ℕ) (u u' : Part ExprTree) (run : Reader ExprTree) (U : Reads kind m u u' run r.starts false tails) where
+  module _ (m : ℕ) (u u' : Part ExprTree) (run : Reader ExprTree) (U : Reads kind m u u' run EXPR_STARTS false tails) where
     call : (f : Name) → Reads kind m (call_behind u f) (call_behind u' f) (r.call_at version run f) (r.if_sign s.LeftParen) false []
     unfolding r.call_at
     call f = next_part kind (arguments m u u' run U) (λ found. reads_pure kind m (e.Call f.at f.text (exprs_of found))) refl
@@ -216,7 +222,7 @@ module _ (version : Version) (sound : IsSound version) where
         (next_part kind (bracketed m u u' run U) (λ key. either kind (child_call x key) (reads_pure kind m (e.Index x.at x.text key)) refl) refl)
         refl refl
 
-    named_reads : Reads kind (suc m) (named u) (named u') (r.named_at version run) (name_class ∷ []) false tails
+    named_reads : Reads kind (suc m) (named u) (named u') (r.named_at version run) (class.Name ∷ []) false tails
     unfolding r.named_at
     named_reads =
         wider kind
@@ -225,28 +231,28 @@ module _ (version : Version) (sound : IsSound version) where
         refl)
         refl refl
 
-    primary : Reads kind (suc m) (g.primary version u) (g.primary version u') (r.primary_at version run) (r.initials ++ r.if_sign s.LeftParen ++ name_class ∷ []) false tails
+    primary : Reads kind (suc m) (g.primary version u) (g.primary version u') (r.primary_at version run) (INITIALS ++ r.if_sign s.LeftParen ++ class.Name ∷ []) false tails
     unfolding r.primary_at
     primary =
         wider kind
         (either kind (literal_node version sound (suc m))
-        (either kind (parenthesized m u u' run U) (reads_same kind (suc m) (named u) (named u') (written u) (written u') (r.named_at version run) (name_class ∷ []) tails false (same_named u) (same_named u') named_reads) refl)
+        (either kind (parenthesized m u u' run U) (reads_same kind (suc m) (named u) (named u') (written u) (written u') (r.named_at version run) (class.Name ∷ []) tails false (same_named u) (same_named u') named_reads) refl)
         refl)
         refl refl
 
-    signed : Reads kind (suc m) (g.signed version u) (g.signed version u') (r.signed_at version run) r.unary_ops false tails
+    signed : Reads kind (suc m) (g.signed version u) (g.signed version u') (r.signed_at version run) UNARY_OPS false tails
     unfolding r.signed_at
     signed = wider kind (inside kind (unary_op version sound (suc m)) (λ o. next_part kind U (λ operand. reads_pure kind m (e.Unary o.0 o.1 operand)) refl) refl) refl refl
 
-    pub signed_or_primary : Reads kind (suc m) (g.signed_or_primary version u) (g.signed_or_primary version u') (r.signed_or_primary_at version run) r.starts false tails
+    pub signed_or_primary : Reads kind (suc m) (g.signed_or_primary version u) (g.signed_or_primary version u') (r.signed_or_primary_at version run) EXPR_STARTS false tails
     unfolding r.signed_or_primary_at
     signed_or_primary = wider kind (either kind signed primary refl) refl refl
 
-  pub unary : (m : ℕ) → Reads kind m (g.unary version) (g.unary version) (r.unary_at version m) r.starts false tails
-  unary m = reads_deep kind (g.signed_or_primary version) (λ _. (r.signed_or_primary_at version)) r.starts tails signed_or_primary m
+  pub unary : (m : ℕ) → Reads kind m (g.unary version) (g.unary version) (r.unary_at version m) EXPR_STARTS false tails
+  unary m = reads_deep kind (g.signed_or_primary version) (λ _. (r.signed_or_primary_at version)) EXPR_STARTS tails signed_or_primary m
 
   module _ (m : ℕ) where
-    pub any_expr : Reads kind m (g.any_expr version) (g.any_expr version) (r.any_expr_at version m) r.starts false operators
+    pub any_expr : Reads kind m (g.any_expr version) (g.any_expr version) (r.any_expr_at version m) EXPR_STARTS false operators
     unfolding g.any_expr r.any_expr_at
     any_expr = expr m (g.unary version) (g.unary version) (r.unary_at version m) (unary m)
 

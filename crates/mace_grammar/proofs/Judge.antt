@@ -8,6 +8,7 @@ use Rattle.mace_lexer.specs.declared.token.Word.{Word}
 use Rattle.mace_lexer.specs.declared.keyword.Keyword.TheVariants as key
 use Rattle.mace_ast.specs.Decls.{ServiceTree, bare_service, SameUpToSpans}
 use Rattle.mace_grammar.specs.inner.Run.{Outcome, Reader}
+use Rattle.mace_grammar.specs.declared.class.Class.{Class}
 use Rattle.mace_grammar.specs.inner.Classes as classes
 use Rattle.mace_grammar.specs.Words.{first}
 use Rattle.mace_grammar.specs.Grammar as g
@@ -15,13 +16,14 @@ use Rattle.mace_grammar.specs.inner.Readers as r
 use Rattle.mace_grammar.specs.inner.Run.{rest_of}
 use Rattle.mace_grammar.specs.Nest.{nest_after, IsShallow}
 use Rattle.mace_grammar.specs.Spelled.{words, plain, Spelled, Begun}
-use Rattle.mace_grammar.proofs.Reading.{Reads, whole_found, whole_only, left, ok_or_rest, shorter}
+use Rattle.mace_grammar.proofs.Outcomes.{left}
+use Rattle.mace_grammar.proofs.Reading.{Reads, whole_found, whole_only, shorter}
 use Rattle.mace_grammar.proofs.DeclReads.{service}
 use Rattle.mace_grammar.proofs.Plain.{erased, map_outcome, same_length}
-use Rattle.mace_grammar.proofs.PlainReads as plain_reads
+use Rattle.mace_grammar.proofs.PlainDecls as plain_decls
 use Rattle.mace_grammar.proofs.Verdict.{IsPlace, place, all_begin}
 
-abbrev kind : Token → ℕ
+abbrev kind : Token → Class
 kind = classes.kind first
 
 abbrev pub judge : List Token → Reader ServiceTree
@@ -40,7 +42,7 @@ erased_words (t ∷ ts) = ap (λ l. plain t.word ∷ l) (erased_words ts)
 
 -- the judge on the erased tokens
 erased_judge : (ts : List Token) → judge (erased ts) (erased ts) ≡ map_outcome bare_service (judge ts ts)
-erased_judge ts = ap (λ n. r.service_at (n + 1) (erased ts)) (same_length ts) ∙ (plain_reads.service (length ts + 1)).same ts
+erased_judge ts = ap (λ n. r.service_at (n + 1) (erased ts)) (same_length ts) ∙ (plain_decls.service (length ts + 1)).same ts
 
 spelled_by : (ts : List Token) (s : ServiceTree) → g.service.Spells (bare_service s) (erased ts) → Spelled s (words ts)
 spelled_by ts s h = subst (λ l. g.service.Spells (bare_service s) l) (erased_words ts) h
@@ -90,10 +92,6 @@ shallow_all ws m s = λ i l.
 
 -- ---- what the judge tells
 
-same_rest : (o : Outcome ServiceTree) → ok_or_rest kind o ≡ rest_of o
-same_rest (Ok p) = refl
-same_rest (Err e) = refl
-
 same_left : (o : Outcome ServiceTree) → left o ≡ length (rest_of o)
 same_left (Ok p) = refl
 same_left (Err e) = refl
@@ -124,8 +122,8 @@ pub judge_place : (ts rest : List Token) → rest ≡ rest_of (judge ts ts) → 
 judge_place ts rest h n =
     let es = erased ts in
     let o = map_outcome bare_service (judge ts ts) in
-    let p : IsPlace g.service es (length es - length (ok_or_rest kind o)) = place kind g.service (judge es) (r.if_key key.Service) [] false es (reads es) o (erased_judge ts) (λ a e. let b = ok_back (judge ts ts) a e in n b.0 b.1) in
-    let size : length (ok_or_rest kind o) ≡ length rest = ap length (same_rest o ∙ erased_rest (judge ts ts)) ∙ same_length (rest_of (judge ts ts)) ∙ ap length (sym h) in
+    let p : IsPlace g.service es (length es - length (rest_of o)) = place kind g.service (judge es) (r.if_key key.Service) [] false es (reads es) o (erased_judge ts) (λ a e. let b = ok_back (judge ts ts) a e in n b.0 b.1) in
+    let size : length (rest_of o) ≡ length rest = ap length (erased_rest (judge ts ts)) ∙ same_length (rest_of (judge ts ts)) ∙ ap length (sym h) in
     subst (λ l. IsPlace g.service l (length ts - length rest)) (erased_words ts) (subst (λ i. IsPlace g.service es (i - length rest)) (same_length ts) (subst (λ i. IsPlace g.service es (length es - i)) size p))
 
 -- all tokens begin a service where the judge leaves nothing
@@ -133,4 +131,4 @@ pub judge_begun : (ts : List Token) → rest_of (judge ts ts) ≡ [] → Begun (
 judge_begun ts h =
     let es = erased ts in
     let o = map_outcome bare_service (judge ts ts) in
-    subst (λ l. g.service.Begins l) (erased_words ts) (all_begin kind g.service (judge es) (r.if_key key.Service) [] false es (reads es) o (erased_judge ts) (same_rest o ∙ erased_rest (judge ts ts) ∙ ap erased h))
+    subst (λ l. g.service.Begins l) (erased_words ts) (all_begin kind g.service (judge es) (r.if_key key.Service) [] false es (reads es) o (erased_judge ts) (erased_rest (judge ts ts) ∙ ap erased h))

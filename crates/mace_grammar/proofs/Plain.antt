@@ -3,6 +3,7 @@ use Rattle.std.proofs.Common.{◌≡◌, ℕ, zero, suc, List, [], ◌∷◌, ma
 use Rattle.std.specs.Prelude.{if◌then◌else◌}
 use Rattle.std.specs.Option.{option_map}
 use Rattle.mace_lexer.specs.declared.token.Token.{Token}
+use Rattle.mace_grammar.specs.declared.class.Class.{Class}
 use Rattle.mace_grammar.specs.inner.Run.{Reader, Outcome, and_then, give, after, taken, word, sees, choice, each, each_of, some, with_front, deeper}
 use Rattle.mace_grammar.specs.inner.Classes as classes
 use Rattle.mace_grammar.specs.Words.{Version}
@@ -49,10 +50,10 @@ pub natural_some : {A B : Type 0} {h : A → B} {run : Reader A} {run' : Reader 
 natural_some {h = h} P = natural_then (λ b. give (Some b)) P (λ a. natural_give (option_map h) (Some a) (Some (h a)) refl)
 
 module _ (version : Version) where
-  abbrev kind : Token → ℕ
+  abbrev kind : Token → Class
   kind = classes.kind version
 
-  same_sight : (set : List ℕ) (ts : List Token) → sees kind set (erased ts) ≡ sees kind set ts
+  same_sight : (set : List Class) (ts : List Token) → sees kind set (erased ts) ≡ sees kind set ts
   same_sight set [] = refl
   same_sight set (t ∷ ts) = refl
 
@@ -60,7 +61,7 @@ module _ (version : Version) where
   chosen h true o o' = refl
   chosen h false o o' = refl
 
-  pub natural_choice : {A B : Type 0} {h : A → B} {p q : Reader A} {p' q' : Reader B} (set : List ℕ) → Natural h p p' → Natural h q q' → Natural h (choice kind set p q) (choice kind set p' q')
+  pub natural_choice : {A B : Type 0} {h : A → B} {p q : Reader A} {p' q' : Reader B} (set : List Class) → Natural h p p' → Natural h q q' → Natural h (choice kind set p q) (choice kind set p' q')
   natural_choice {h = h} {p = p} {q = q} {p' = p'} {q' = q'} set P Q = record {
     same = λ ts.
         ap (λ b. if b then p' (erased ts) else q' (erased ts)) (same_sight set ts)
@@ -69,7 +70,7 @@ module _ (version : Version) where
         ∙ chosen h (sees kind set ts) (p ts) (q ts);
   }
 
-  pub natural_each : {A B : Type 0} {h : A → B} {run : Reader A} {run' : Reader B} (set : List ℕ) → Natural h run run' → (k : ℕ) → Natural (map h) (each kind set run k) (each kind set run' k)
+  pub natural_each : {A B : Type 0} {h : A → B} {run : Reader A} {run' : Reader B} (set : List Class) → Natural h run run' → (k : ℕ) → Natural (map h) (each kind set run k) (each kind set run' k)
   natural_each set P zero = record { same = λ ts. refl }
   natural_each {A = A} {B = B} {h = h} {run = run} {run' = run'} set P (suc k) =
       let E = natural_each set P k in
@@ -87,10 +88,10 @@ module _ (version : Version) where
       turn : Natural (map h) (each kind set run k) (each kind set run' k) → Natural (map h) (after run (λ a r. and_then (each kind set run k r) (with_front a))) (after run' (λ a r. and_then (each kind set run' k r) (with_front a)))
       turn E = natural_then (λ a r. and_then (each kind set run' k r) (with_front a)) P (λ a. record { same = λ r. ap (λ o. and_then o (with_front (h a))) (E.same r) ∙ front a (each kind set run k r) })
 
-  pub natural_each_of : {A B : Type 0} {h : A → B} {run : Reader A} {run' : Reader B} (set : List ℕ) → Natural h run run' → Natural (map h) (each_of kind set run) (each_of kind set run')
+  pub natural_each_of : {A B : Type 0} {h : A → B} {run : Reader A} {run' : Reader B} (set : List Class) → Natural h run run' → Natural (map h) (each_of kind set run) (each_of kind set run')
   natural_each_of {run' = run'} set P = record { same = λ ts. ap (λ n. each kind set run' n (erased ts)) (same_length ts) ∙ (natural_each set P (length ts)).same ts }
 
-  pub natural_maybe : {A B : Type 0} {h : A → B} {run : Reader A} {run' : Reader B} (set : List ℕ) → Natural h run run' → Natural (option_map h) (choice kind set (some run) (give None)) (choice kind set (some run') (give None))
+  pub natural_maybe : {A B : Type 0} {h : A → B} {run : Reader A} {run' : Reader B} (set : List Class) → Natural h run run' → Natural (option_map h) (choice kind set (some run) (give None)) (choice kind set (some run') (give None))
   natural_maybe {h = h} set P = natural_choice set (natural_some P) (natural_give (option_map h) None None refl)
 
 pub natural_deeper : {A : Type 0} (h : A → A) (body : ℕ → Reader A → Reader A) → ((n : ℕ) (run : Reader A) → Natural h run run → Natural h (body n run) (body n run)) → (n : ℕ) → Natural h (deeper body n) (deeper body n)

@@ -9,21 +9,27 @@ use Rattle.mace_ast.specs.Stmts as st
 use Rattle.mace_ast.specs.Stmts.{StmtTree, stmts_of, else_of}
 use Rattle.mace_grammar.specs.Part.{Part, pure, ◌>>=◌, ◌>>◌, ◌or◌, many, maybe}
 use Rattle.mace_grammar.specs.inner.Run.{Reader}
-use Rattle.mace_grammar.specs.inner.Classes.{name_class, leave_class, finish_class}
+use Rattle.mace_grammar.specs.declared.class.TheConstants.{STMT_STARTS}
+use Rattle.mace_grammar.specs.declared.class.Class.{Class}
+use Rattle.mace_grammar.specs.declared.class.Class.TheVariants as class
 use Rattle.mace_grammar.specs.inner.Classes as classes
 use Rattle.mace_grammar.specs.Words as w
 use Rattle.mace_grammar.specs.Grammar as g
 use Rattle.mace_grammar.specs.inner.Readers as r
 use Rattle.mace_grammar.specs.Words.{Version}
 use Rattle.mace_grammar.proofs.Versions.{IsSound}
-use Rattle.mace_grammar.proofs.Reading.{Reads, reads_pure, next_part, inside, either, repeated, optional, wider, reads_same, reads_deep}
+use Rattle.mace_grammar.proofs.Reading.{Reads, wider, reads_same}
+use Rattle.mace_grammar.proofs.InTurn.{reads_pure, next_part, inside}
+use Rattle.mace_grammar.proofs.Choices.{either, optional}
+use Rattle.mace_grammar.proofs.Repeats.{repeated}
+use Rattle.mace_grammar.proofs.Nests.{reads_deep}
 use Rattle.mace_grammar.proofs.Same.{Same, same_refl, same_trans, same_or, same_behind, same_maybe}
 use Rattle.mace_grammar.proofs.Factors.{two_fronts, three_fronts, same_five}
 use Rattle.mace_grammar.proofs.Productions.{key, sign, name, text, field, leave, finish}
 use Rattle.mace_grammar.proofs.ExprReads.{any_expr, any_arguments, any_key}
 
 module _ (version : Version) (sound : IsSound version) where
-  abbrev kind : Token → ℕ
+  abbrev kind : Token → Class
   kind = classes.kind version
 
   -- ---- statements without a block
@@ -170,22 +176,22 @@ module _ (version : Version) (sound : IsSound version) where
     unfolding r.index_stmt_at
     index x = next_part kind (any_key version sound m) (λ place. either kind (child_call x place) (set x None (Some place)) refl) refl
 
-    named_reads : Reads kind (suc m) named named (r.named_stmt_at version m) (name_class ∷ []) false []
+    named_reads : Reads kind (suc m) named named (r.named_stmt_at version m) (class.Name ∷ []) false []
     unfolding r.named_stmt_at
     named_reads = inside kind (name version sound (suc m)) (λ x. either kind (above x) (either kind (index x) (either kind (call x) (set x None None) refl) refl) refl) refl
 
-    named_stmt : Reads kind (suc m) written written (r.named_stmt_at version m) (name_class ∷ []) false []
-    named_stmt = reads_same kind (suc m) named named written written (r.named_stmt_at version m) (name_class ∷ []) [] false same_named same_named named_reads
+    named_stmt : Reads kind (suc m) written written (r.named_stmt_at version m) (class.Name ∷ []) false []
+    named_stmt = reads_same kind (suc m) named named written written (r.named_stmt_at version m) (class.Name ∷ []) [] false same_named same_named named_reads
 
   module _ (m : ℕ) where
-    return_stmt : Reads kind (suc m) (g.return_stmt version) (g.return_stmt version) (r.return_at version m) (leave_class ∷ []) false []
+    return_stmt : Reads kind (suc m) (g.return_stmt version) (g.return_stmt version) (r.return_at version m) (class.Leave ∷ []) false []
     unfolding r.return_at
     return_stmt =
         inside kind (leave version sound (suc m))
         (λ at. next_part kind (optional kind (any_expr version sound m))
         (λ value. next_part kind (sign version sound m s.Semicolon) (λ _. reads_pure kind m (st.Return at value)) refl) refl) refl
 
-    finish_stmt : Reads kind (suc m) (g.finish_stmt version) (g.finish_stmt version) (r.finish_stmt_at version m) (finish_class ∷ []) false []
+    finish_stmt : Reads kind (suc m) (g.finish_stmt version) (g.finish_stmt version) (r.finish_stmt_at version m) (class.Finish ∷ []) false []
     unfolding r.finish_stmt_at
     finish_stmt =
         inside kind (finish version sound (suc m))
@@ -194,8 +200,8 @@ module _ (version : Version) (sound : IsSound version) where
 
   -- ---- statements with blocks
 
-  module _ (m : ℕ) (p p' : Part StmtTree) (run : Reader StmtTree) (P : Reads kind m p p' run r.stmt_starts false (r.if_key k.Else)) where
-    pub stmts_in : Reads kind m (many p) (many p') (r.stmts_in version run) r.stmt_starts true (r.stmt_starts ++ r.if_key k.Else)
+  module _ (m : ℕ) (p p' : Part StmtTree) (run : Reader StmtTree) (P : Reads kind m p p' run STMT_STARTS false (r.if_key k.Else)) where
+    pub stmts_in : Reads kind m (many p) (many p') (r.stmts_in version run) STMT_STARTS true (STMT_STARTS ++ r.if_key k.Else)
     unfolding r.stmts_in
     stmts_in = repeated kind P refl
 
@@ -236,7 +242,7 @@ module _ (version : Version) (sound : IsSound version) where
         (λ _. next_part kind (any_expr version sound m)
         (λ high. next_part kind block (λ body. reads_pure kind m (st.For at x low high (stmts_of body))) refl) refl) refl) refl) refl) refl) refl
 
-    any_stmt : Reads kind (suc m) (g.any_stmt version p) (g.any_stmt version p') (r.any_stmt_at version m run) r.stmt_starts false (r.if_key k.Else)
+    any_stmt : Reads kind (suc m) (g.any_stmt version p) (g.any_stmt version p') (r.any_stmt_at version m run) STMT_STARTS false (r.if_key k.Else)
     unfolding r.any_stmt_at r.ending_at r.simple_stmt_at
     any_stmt =
         wider kind
@@ -253,11 +259,11 @@ module _ (version : Version) (sound : IsSound version) where
         refl) refl) refl) refl) refl) refl) refl) refl) refl) refl)
         refl refl
 
-  pub stmt : (m : ℕ) → Reads kind m (g.stmt version) (g.stmt version) (r.stmt_at version m) r.stmt_starts false (r.if_key k.Else)
-  stmt m = reads_deep kind (g.any_stmt version) (r.any_stmt_at version) r.stmt_starts (r.if_key k.Else) any_stmt m
+  pub stmt : (m : ℕ) → Reads kind m (g.stmt version) (g.stmt version) (r.stmt_at version m) STMT_STARTS false (r.if_key k.Else)
+  stmt m = reads_deep kind (g.any_stmt version) (r.any_stmt_at version) STMT_STARTS (r.if_key k.Else) any_stmt m
 
   module _ (m : ℕ) where
-    pub stmts : Reads kind m (g.stmts version) (g.stmts version) (r.stmts_at version m) r.stmt_starts true (r.stmt_starts ++ r.if_key k.Else)
+    pub stmts : Reads kind m (g.stmts version) (g.stmts version) (r.stmts_at version m) STMT_STARTS true (STMT_STARTS ++ r.if_key k.Else)
     unfolding g.stmts r.stmts_at
     stmts = stmts_in m (g.stmt version) (g.stmt version) (r.stmt_at version m) (stmt m)
 

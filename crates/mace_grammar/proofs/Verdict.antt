@@ -3,8 +3,10 @@ use Rattle.std.proofs.Common.{◌≡◌, ℕ, suc, ◌+◌, ◌-◌, ◌<◌, �
 use Rattle.std.proofs.lemmas.List.{take_at, append-nil}
 use Rattle.mace_lexer.specs.declared.token.Token.{Token}
 use Rattle.mace_grammar.specs.Part.{Part}
-use Rattle.mace_grammar.specs.inner.Run.{Outcome, Reader}
-use Rattle.mace_grammar.proofs.Reading.{Reads, left, ok_or_rest, whole_only, front_begins, front_ends}
+use Rattle.mace_grammar.specs.declared.class.Class.{Class}
+use Rattle.mace_grammar.specs.inner.Run.{Outcome, Reader, rest_of}
+use Rattle.mace_grammar.proofs.Outcomes.{left}
+use Rattle.mace_grammar.proofs.Reading.{Reads, whole_only, front_begins, front_ends}
 
 -- The first k tokens begin the part. With the token behind them they don't; and where there is none, they are no spelling of it.
 pub record IsPlace {A : Type 0} (p : Part A) (ts : List Token) (k : ℕ) : Type 0 where
@@ -13,7 +15,7 @@ pub record IsPlace {A : Type 0} (p : Part A) (ts : List Token) (k : ℕ) : Type 
   pub ends : k < length ts → p.Begins (take (k + 1) ts) → ⊥
   pub unfinished : k ≡ length ts → (a : A) → p.Spells a ts → ⊥
 
-module _ (class : Token → ℕ) {A : Type 0} (p : Part A) (run : Reader A) (f goes : List ℕ) (e : Bool) (ts : List Token) (R : Reads class (suc (length ts)) p p run f e goes) where
+module _ (class : Token → Class) {A : Type 0} (p : Part A) (run : Reader A) (f goes : List Class) (e : Bool) (ts : List Token) (R : Reads class (suc (length ts)) p p run f e goes) where
   front_len : (front rest : List Token) → ts ≡ front ++ rest → length front ≡ length ts - length rest
   front_len front rest h = omega (arith, ap length h, length-append front rest)
 
@@ -34,17 +36,17 @@ module _ (class : Token → ℕ) {A : Type 0} (p : Part A) (run : Reader A) (f g
   }
 
   -- where the reader stops is the place, unless it took all
-  pub place : (o : Outcome A) → run ts ≡ o → ((a : A) → o ≡ Ok (a, []) → ⊥) → IsPlace p ts (length ts - length (ok_or_rest class o))
+  pub place : (o : Outcome A) → run ts ≡ o → ((a : A) → o ≡ Ok (a, []) → ⊥) → IsPlace p ts (length ts - length (rest_of o))
   place o h incomplete =
-      let b = front_begins class p run f goes e ts R o h (ok_or_rest class o) refl in
-      place_at (ok_or_rest class o) b.0 b.1 b.2 (ap left h ∙ same_left o) (λ _ a k. incomplete a (sym h ∙ k))
+      let b = front_begins class p run f goes e ts R o h (rest_of o) refl in
+      place_at (rest_of o) b.0 b.1 b.2 (ap left h ∙ same_left o) (λ _ a k. incomplete a (sym h ∙ k))
     where
-      same_left : (o : Outcome A) → left o ≡ length (ok_or_rest class o)
+      same_left : (o : Outcome A) → left o ≡ length (rest_of o)
       same_left (Ok x) = refl
       same_left (Err r) = refl
 
   -- a reader that leaves nothing has all tokens begin the part
-  pub all_begin : (o : Outcome A) → run ts ≡ o → ok_or_rest class o ≡ [] → p.Begins ts
+  pub all_begin : (o : Outcome A) → run ts ≡ o → rest_of o ≡ [] → p.Begins ts
   all_begin o h n =
       let b = front_begins class p run f goes e ts R o h [] (sym n) in
       subst (λ w. p.Begins w) (sym (b.1 ∙ append-nil b.0)) b.2

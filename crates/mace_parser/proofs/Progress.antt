@@ -11,11 +11,13 @@ use Rattle.mace_ast.specs.Decls.{ContextTree}
 use Rattle.mace_grammar.specs.Part.{Part}
 use Rattle.mace_grammar.specs.Words as w
 use Rattle.mace_grammar.specs.Words.{Version, numbered}
+use Rattle.mace_grammar.specs.declared.class.Class.{Class}
+use Rattle.mace_grammar.specs.declared.class.Class.TheVariants as class
 use Rattle.mace_grammar.specs.inner.Classes as classes
-use Rattle.mace_grammar.specs.inner.Classes.{name_class}
 use Rattle.mace_grammar.specs.inner.Run.{Outcome, Reader, and_then, give, after, taken, word, sees, choice, each, each_of, with_front, some}
 use Rattle.mace_grammar.specs.inner.Readers as reader
-use Rattle.mace_grammar.proofs.Reading.{left, Reads, Heads, shorter}
+use Rattle.mace_grammar.proofs.Outcomes.{left}
+use Rattle.mace_grammar.proofs.Reading.{Reads, Heads, shorter}
 use Rattle.mace_grammar.proofs.Versions.{IsSound, numbered_sound}
 use Rattle.mace_grammar.proofs.Productions as plain
 use Rattle.mace_grammar.proofs.ExprReads as exprs
@@ -78,10 +80,10 @@ takes_then {A = A} {B = B} {p = p} {q = q} P Q = record { fewer = λ ts rest b e
     err ts rest (Err r) h e = let fewer = P.stuck ts r h in let same : length r ≡ length rest = ap left e in omega arith
 
 -- what reads a part of the grammar
-part_left : {A : Type 0} {class : Token → ℕ} {m : ℕ} {p p' : Part A} {run : Reader A} {f g : List ℕ} {e : Bool} → Reads class m p p' run f e g → Leaves run
+part_left : {A : Type 0} {class : Token → Class} {m : ℕ} {p p' : Part A} {run : Reader A} {f g : List Class} {e : Bool} → Reads class m p p' run f e g → Leaves run
 part_left {class = class} R = record { most = shorter class _ _ _ _ _ _ _ R }
 
-takes_part : {A : Type 0} {class : Token → ℕ} {m : ℕ} {p : Part A} {run : Reader A} {f g : List ℕ} → Reads class m p p run f false g → Takes run
+takes_part : {A : Type 0} {class : Token → Class} {m : ℕ} {p : Part A} {run : Reader A} {f g : List Class} → Reads class m p p run f false g → Takes run
 takes_part {A = A} {class = class} {run = run} {f = f} R = record { fewer = fewer; stuck = λ ts rest e. let h : left (run ts) ≤ length ts = shorter class _ _ _ _ _ _ _ R ts in omega (arith, h, ap left e) }
   where
     nonempty : (front : List Token) → Heads class f false front → 0 < length front
@@ -93,26 +95,26 @@ takes_part {A = A} {class = class} {run = run} {f = f} R = record { fewer = fewe
         let s = R.sound ts rest a e in
         omega (arith, nonempty s.0 (R.heads a s.0 s.2), ap length s.1, length-append s.0 rest)
 
-module _ (class : Token → ℕ) where
-  choice_left : {A : Type 0} (set : List ℕ) {p q : Reader A} → Leaves p → Leaves q → Leaves (choice class set p q)
+module _ (class : Token → Class) where
+  choice_left : {A : Type 0} (set : List Class) {p q : Reader A} → Leaves p → Leaves q → Leaves (choice class set p q)
   choice_left set {p = p} {q = q} P Q = record { most = λ ts. of (sees class set ts) ts }
     where
       of : (b : Bool) (ts : List Token) → left (if b then p ts else q ts) ≤ length ts
       of true ts = P.most ts
       of false ts = Q.most ts
 
-  maybe_left : {A : Type 0} (set : List ℕ) {run : Reader A} → Leaves run → Leaves (choice class set (some run) (give None))
+  maybe_left : {A : Type 0} (set : List Class) {run : Reader A} → Leaves run → Leaves (choice class set (some run) (give None))
   maybe_left set R = choice_left set (then_left R (λ a. given)) given
 
   turn_left : {A : Type 0} {run : Reader A} {others : Reader (List A)} → Leaves run → Leaves others → (b : Bool) (ts : List Token) → left (if b then and_then (run ts) (λ a r. and_then (others r) (with_front a)) else Ok ([], ts)) ≤ length ts
   turn_left {others = others} R O true ts = (then_left {q = λ a r. and_then (others r) (with_front a)} R (λ a. then_left {q = with_front a} O (λ l. record { most = λ ts. omega arith }))).most ts
   turn_left R O false ts = omega arith
 
-  each_left : {A : Type 0} (set : List ℕ) {run : Reader A} → Leaves run → (n : ℕ) → Leaves (each class set run n)
+  each_left : {A : Type 0} (set : List Class) {run : Reader A} → Leaves run → (n : ℕ) → Leaves (each class set run n)
   each_left set R zero = record { most = λ ts. omega arith }
   each_left set R (suc n) = record { most = λ ts. turn_left R (each_left set R n) (sees class set ts) ts }
 
-  each_of_left : {A : Type 0} (set : List ℕ) {run : Reader A} → Leaves run → Leaves (each_of class set run)
+  each_of_left : {A : Type 0} (set : List Class) {run : Reader A} → Leaves run → Leaves (each_of class set run)
   each_of_left set R = record { most = λ ts. (each_left set R (length ts)).most ts }
 
   same_turn : {A : Type 0} {run : Reader A} {p q : Reader (List A)} → Takes run → (ts : List Token) → ((rest : List Token) → length rest < length ts → p rest ≡ q rest) → (o : Outcome A) → run ts ≡ o → and_then o (λ a r. and_then (p r) (with_front a)) ≡ and_then o (λ a r. and_then (q r) (with_front a))
@@ -120,7 +122,7 @@ module _ (class : Token → ℕ) where
   same_turn T ts h (Err r) e = refl
 
   -- more turns than tokens make no difference
-  pub enough : {A : Type 0} (set : List ℕ) {run : Reader A} → Takes run → (m n : ℕ) (ts : List Token) → length ts ≤ m → length ts ≤ n → each class set run m ts ≡ each class set run n ts
+  pub enough : {A : Type 0} (set : List Class) {run : Reader A} → Takes run → (m n : ℕ) (ts : List Token) → length ts ≤ m → length ts ≤ n → each class set run m ts ≡ each class set run n ts
   enough set T zero zero ts h k = refl
   enough set T zero (suc n) [] h k = refl
   enough set T zero (suc n) (t ∷ ts) h k = absurd (omega arith)
@@ -145,7 +147,7 @@ module _ (number : ℕ) where
   abbrev version : Version
   version = numbered number
 
-  abbrev kind : Token → ℕ
+  abbrev kind : Token → Class
   kind = classes.kind version
 
   abbrev sound : IsSound version
@@ -153,9 +155,6 @@ module _ (number : ℕ) where
 
   name : Leaves (reader.name_at version)
   name = some_left (takes_word (λ t. w.name_word version t.span t.word))
-
-  end : Leaves (reader.end_at version)
-  end = some_left (takes_word (λ t. w.end_word version t.span t.word))
 
   pub takes_var : Takes (reader.var_at version)
   takes_var = takes_part (plain.var version sound 0)
@@ -183,7 +182,7 @@ module _ (number : ℕ) where
 
   params : Leaves (reader.params_at version)
   unfolding reader.params_at reader.separated_at
-  params = then_left (sign s.LeftParen) (λ _. then_left (maybe_left kind (name_class ∷ []) param_list) (λ found. then_left (sign s.RightParen) (λ _. given)))
+  params = then_left (sign s.LeftParen) (λ _. then_left (maybe_left kind (class.Name ∷ []) param_list) (λ found. then_left (sign s.RightParen) (λ _. given)))
 
   result : Leaves (reader.result_at version)
   unfolding reader.result_at
@@ -193,9 +192,9 @@ module _ (number : ℕ) where
   unfolding reader.last_at
   last keyword n K = then_left K (λ at. then_left (part_left (exprs.any_expr version sound n)) (λ value. then_left (sign s.Semicolon) (λ _. given)))
 
-  maybe_last : (want : Keyword) (keyword : Reader Span) (n : ℕ) → Leaves keyword → Leaves (reader.maybe_last_at version want keyword n)
+  maybe_last : (want : Keyword) (n : ℕ) → Leaves (reader.maybe_last_at version want n)
   unfolding reader.maybe_last_at
-  maybe_last want keyword n K = maybe_left kind (reader.if_key want) (last keyword n K)
+  maybe_last want n = maybe_left kind (reader.if_key want) (last (reader.key_at want) n (some_left (key want)))
 
   pub takes_method : (n : ℕ) → Takes (reader.method_at version n)
   unfolding reader.method_at
@@ -206,7 +205,7 @@ module _ (number : ℕ) where
       (λ ps. then_left result
       (λ t. then_left (sign s.LeftBrace)
       (λ _. then_left (part_left (stmts.stmts version sound n))
-      (λ body. then_left (maybe_last k.Return (reader.end_at version) n end)
+      (λ body. then_left (maybe_last k.Return n)
       (λ last. then_left (sign s.RightBrace) (λ _. given))))))))
 
   pub takes_phase : (n : ℕ) → Takes (reader.down_at version n)
@@ -235,7 +234,7 @@ module _ (number : ℕ) where
       (λ t. then_left (sign s.LeftBrace)
       (λ _. then_left (here n)
       (λ root. then_left (phases n)
-      (λ below. then_left (maybe_last k.Reply (reader.key_at k.Reply) n (some_left (key k.Reply)))
+      (λ below. then_left (maybe_last k.Reply n)
       (λ last. then_left (sign s.RightBrace) (λ _. given)))))))))
 
   methods : (n : ℕ) → Leaves (reader.methods_at version n)

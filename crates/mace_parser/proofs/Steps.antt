@@ -17,6 +17,7 @@ use Rattle.mace_parser.specs.declared.fault.Fault.{Fault}
 use Rattle.mace_parser.specs.declared.fault.Fault.TheVariants.{Memory, Stuck}
 use Rattle.mace_parser.specs.inner.Gives.{Fails}
 use Rattle.mace_grammar.specs.inner.Run.{Reader, Outcome, and_then, give, choice, sees, deeper, ◌>>=◌}
+use Rattle.mace_grammar.specs.declared.class.Class.{Class}
 use Rattle.mace_grammar.specs.inner.Classes as classes
 use Rattle.mace_grammar.specs.Words.{Version}
 use Rattle.mace_grammar.specs.inner.Readers.{if_sign, field_at, bracketed_at, above_at, key_at, sign_at, name_at, any_expr_at, block_at, else_at, if_at, while_at, for_at, vars_at, contexts_in, methods_at, one_context_at}
@@ -40,7 +41,7 @@ deeper_pred body zero ts h = absurd (h refl)
 deeper_pred body (suc n) ts h = let same : n ≡ suc n - 1 = omega arith in ap (λ i. body i (deeper body i) ts) same
 
 module _ (version : Version) where
-  abbrev kind : Token → ℕ
+  abbrev kind : Token → Class
   kind = classes.kind version
 
   module _ (unary : Reader ExprTree) (c f : Name) where

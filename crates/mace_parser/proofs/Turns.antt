@@ -9,6 +9,7 @@ use Rattle.mace_parser.specs.declared.fault.Fault.TheVariants.{Memory, Stuck}
 use Rattle.mace_parser.specs.inner.Gives.{Fails}
 use Rattle.mace_grammar.specs.Grammar.{joined}
 use Rattle.mace_grammar.specs.inner.Run.{Outcome, Reader, and_then, give, after, sees, each, each_of, with_front}
+use Rattle.mace_grammar.specs.declared.class.Class.{Class}
 use Rattle.mace_grammar.specs.inner.Classes as classes
 use Rattle.mace_grammar.specs.Words.{Version}
 use Rattle.mace_parser.proofs.Progress.{Takes, enough}
@@ -30,14 +31,14 @@ positive zero h = absurd (h refl)
 positive (suc m) h = omega arith
 
 module _ (version : Version) where
-  abbrev kind : Token → ℕ
+  abbrev kind : Token → Class
   kind = classes.kind version
 
   -- the items that are left, at most so many, and what is made of them
-  abbrev pub from : {A B : Type 0} → List ℕ → Reader A → (List A → B) → ℕ → Reader B
+  abbrev pub from : {A B : Type 0} → List Class → Reader A → (List A → B) → ℕ → Reader B
   from set run f n = after (each kind set run n) (λ others. give (f others))
 
-  module _ {A B : Type 0} (set : List ℕ) (run : Reader A) (f : List A → B) where
+  module _ {A B : Type 0} (set : List Class) (run : Reader A) (f : List A → B) where
     behind : (x : A) (o : Outcome (List A)) → and_then (and_then o (with_front x)) (λ others. give (f others)) ≡ and_then o (λ others. give (f (x ∷ others)))
     behind x (Ok p) = refl
     behind x (Err e) = refl
@@ -72,10 +73,10 @@ module _ (version : Version) where
   -- ---- lists
 
   -- the items that are left, behind those that were found
-  abbrev pub list_from : {A : Type 0} → List ℕ → Reader A → List A → Reader (List A)
+  abbrev pub list_from : {A : Type 0} → List Class → Reader A → List A → Reader (List A)
   list_from set run found ts = from set run (λ others. found ++ others) (length ts) ts
 
-  module _ {A : Type 0} (set : List ℕ) (run : Reader A) where
+  module _ {A : Type 0} (set : List Class) (run : Reader A) where
     found_more : (found : List A) (x : A) (o : Outcome (List A)) → and_then o (λ others. give (found ++ (x ∷ others))) ≡ and_then o (λ others. give ((found ++ x ∷ []) ++ others))
     found_more found x (Ok p) = ap (λ l. Ok (l, p.1)) (sym (append_assoc found (x ∷ []) p.0))
     found_more found x (Err e) = refl

@@ -10,9 +10,10 @@ use crate::event::events;
 use crate::fault::{Fault, Read};
 use crate::field::vars;
 use crate::method::methods;
-use crate::sees::{sees_key, sees_number};
+use crate::sees::{sees_class, sees_key};
 use crate::token::{key, name, sign, two};
 use mace_ast::{ContextDecl, Name, Service};
+use mace_grammar::Class;
 use mace_lexer::{Keyword, Sign, Token};
 use std::alloc::Global;
 use wave_base::{Seq, Span};
@@ -70,7 +71,7 @@ fn contexts<'a>(
 fn version_number(tokens: &[Token]) -> Read<'_, u8>
     ensures { Gives (λ x. (x.0, x.1.now)) result (reader.version_at tokens.now) }
 {
-    if !sees_number(tokens) {
+    if !sees_class(Class::Number, 1, tokens) {
         return Ok((1, tokens));
     }
     two(tokens)

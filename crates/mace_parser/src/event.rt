@@ -9,7 +9,7 @@ ghost use Rattle.mace_grammar.specs.inner.Readers as reader;
 ghost use Rattle.mace_parser.specs.inner.Gives.{Gives};
 
 use crate::fault::Read;
-use crate::method::{maybe_replied, params, result_kind};
+use crate::method::{maybe_last, params, result_kind};
 use crate::sees::sees_key;
 use crate::simple::any_key;
 use crate::stmt::block;
@@ -88,7 +88,7 @@ fn event<'a>(alloc: Global, depth: usize, version: u8, tokens: &'a [Token]) -> R
     let (_, rest) = sign(Sign::LeftBrace, rest)?;
     let (here, rest) = here(alloc, depth, version, rest)?;
     let (phases, rest) = phases(alloc, depth, version, rest)?;
-    let (last, rest) = maybe_replied(alloc, depth, version, rest)?;
+    let (last, rest) = maybe_last(alloc, depth, Keyword::Reply, version, rest)?;
     let (_, rest) = sign(Sign::RightBrace, rest)?;
     let event = EventDecl {
         at,

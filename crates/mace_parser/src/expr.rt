@@ -10,9 +10,10 @@ ghost use Rattle.mace_parser.specs.inner.Gives.{Gives};
 
 use crate::fault::{Fault, Read};
 use crate::operator::{operator, unary_op};
-use crate::sees::{begins_expr, sees_literal, sees_operator, sees_sign, sees_unary};
+use crate::sees::{sees_any, sees_operator, sees_sign};
 use crate::token::{field, name, sign};
 use mace_ast::{BinaryOp, Expr, Name};
+use mace_grammar::{EXPR_STARTS, INITIALS, UNARY_OPS};
 use mace_lexer::{Keyword, Sign, Token, Word};
 use std::alloc::Global;
 use wave_base::Span;
@@ -61,7 +62,7 @@ fn unary<'a>(alloc: Global, depth: usize, version: u8, tokens: &'a [Token]) -> R
     if depth == 0 {
         return Err(Fault::Stuck(tokens));
     }
-    if sees_unary(version, tokens) {
+    if sees_any(&UNARY_OPS, version, tokens) {
         return signed(alloc, depth - 1, version, tokens);
     }
     primary(alloc, depth - 1, version, tokens)
@@ -82,7 +83,7 @@ fn signed<'a>(alloc: Global, depth: usize, version: u8, tokens: &'a [Token]) -> 
 fn primary<'a>(alloc: Global, depth: usize, version: u8, tokens: &'a [Token]) -> Read<'a, Expr>
     ensures { Gives (λ x. (expr_tree x.0, x.1.now)) result (reader.primary_at (numbered version) (reader.unary_at (numbered version) depth) tokens.now) }
 {
-    if sees_literal(version, tokens) {
+    if sees_any(&INITIALS, version, tokens) {
         return literal(alloc, tokens);
     }
     if sees_sign(Sign::LeftParen, version, tokens) {
@@ -211,7 +212,7 @@ pub fn arguments<'a>(
     ensures { Gives (λ x. (map expr_tree x.0.items, x.1.now)) result (reader.arguments_at (numbered version) (reader.unary_at (numbered version) depth) tokens.now) }
 {
     let (_, rest) = sign(Sign::LeftParen, tokens)?;
-    if !begins_expr(version, rest) {
+    if !sees_any(&EXPR_STARTS, version, rest) {
         let (_, rest) = sign(Sign::RightParen, rest)?;
         return Ok((Vec::new(alloc), rest));
     }

@@ -8,9 +8,10 @@ ghost use Rattle.mace_grammar.specs.inner.Readers as reader;
 ghost use Rattle.mace_parser.specs.inner.Gives.{Gives};
 
 use crate::fault::{Fault, Read};
-use crate::sees::{sees_key, sees_literal};
+use crate::sees::{sees_any, sees_key};
 use crate::token::{key, kind, name, number, sign};
 use mace_ast::{Initial, Literal, VarDecl};
+use mace_grammar::INITIALS;
 use mace_lexer::{Keyword, Sign, Token, Word};
 use std::alloc::Global;
 use wave_base::{Seq, Span};
@@ -73,7 +74,7 @@ fn minus_number(tokens: &[Token]) -> Read<'_, Initial>
 fn initial<'a>(alloc: Global, version: u8, tokens: &'a [Token]) -> Read<'a, Initial>
     ensures { Gives (λ x. (x.0, x.1.now)) result (reader.initial_at (numbered version) tokens.now) }
 {
-    if sees_literal(version, tokens) {
+    if sees_any(&INITIALS, version, tokens) {
         return literal(alloc, tokens);
     }
     minus_number(tokens)

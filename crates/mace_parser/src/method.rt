@@ -2,7 +2,6 @@
 
 ghost use Rattle.std.specs.Prelude.{◌≡◌, map};
 ghost use Rattle.std.specs.Option.{option_map};
-ghost use Rattle.mace_lexer.specs.declared.keyword.Keyword.TheVariants as key;
 ghost use Rattle.mace_ast.specs.Decls.{last_tree, method_tree};
 ghost use Rattle.mace_ast.specs.Stmts.{stmt_tree};
 ghost use Rattle.mace_grammar.specs.Words.{numbered};
@@ -10,11 +9,12 @@ ghost use Rattle.mace_grammar.specs.inner.Readers as reader;
 ghost use Rattle.mace_parser.specs.inner.Gives.{Gives};
 
 use crate::fault::Read;
-use crate::sees::{sees_key, sees_name, sees_sign};
+use crate::sees::{sees_class, sees_key, sees_sign};
 use crate::simple::any_expr;
 use crate::stmt::stmts;
-use crate::token::{end, key, kind, name, sign};
+use crate::token::{key, kind, name, sign};
 use mace_ast::{Last, MethodDecl, Param, Stmt};
+use mace_grammar::Class;
 use mace_lexer::{Keyword, Sign, Token};
 use std::alloc::Global;
 use wave_base::{Kind, Seq};
@@ -58,7 +58,7 @@ pub fn params<'a>(alloc: Global, version: u8, tokens: &'a [Token]) -> Read<'a, S
     ensures { Gives (λ x. (x.0, x.1.now)) result (reader.params_at (numbered version) tokens.now) }
 {
     let (_, rest) = sign(Sign::LeftParen, tokens)?;
-    if !sees_name(version, rest) {
+    if !sees_class(Class::Name, version, rest) {
         let (_, rest) = sign(Sign::RightParen, rest)?;
         return Ok((Seq::new(alloc), rest));
     }
@@ -80,59 +80,24 @@ pub fn result_kind(version: u8, tokens: &[Token]) -> Read<'_, Option<Kind>>
     Ok((Some(kind), rest))
 }
 
-// The value behind the keyword of an end.
-#[tactic(auto, unfolding(mace_grammar::specs::inner::Readers::last_at))]
-fn returned<'a>(alloc: Global, depth: usize, version: u8, tokens: &'a [Token]) -> Read<'a, Last>
-    ensures { Gives (λ x. (last_tree x.0, x.1.now)) result (reader.last_at (numbered version) (reader.end_at (numbered version)) depth tokens.now) }
-{
-    let (at, rest) = end(version, tokens)?;
-    let (value, rest) = any_expr(alloc, depth, version, rest)?;
-    let (_, rest) = sign(Sign::Semicolon, rest)?;
-    Ok((Last { at, value }, rest))
-}
-
-// The `return` at the end of a method, where it is there.
-#[tactic(auto, unfolding(mace_grammar::specs::inner::Readers::maybe_last_at))]
-fn maybe_returned<'a>(
+/// The keyword that ends a method or an event, with a value behind it, where it is there.
+#[tactic(auto, unfolding(mace_grammar::specs::inner::Readers::last_at, mace_grammar::specs::inner::Readers::maybe_last_at))]
+pub fn maybe_last<'a>(
     alloc: Global,
     depth: usize,
+    want: Keyword,
     version: u8,
     tokens: &'a [Token],
 ) -> Read<'a, Option<Last>>
-    ensures { Gives (λ x. (option_map last_tree x.0, x.1.now)) result (reader.maybe_last_at (numbered version) key.Return (reader.end_at (numbered version)) depth tokens.now) }
+    ensures { Gives (λ x. (option_map last_tree x.0, x.1.now)) result (reader.maybe_last_at (numbered version) want depth tokens.now) }
 {
-    if !sees_key(Keyword::Return, version, tokens) {
+    if !sees_key(want, version, tokens) {
         return Ok((None, tokens));
     }
-    let (last, rest) = returned(alloc, depth, version, tokens)?;
-    Ok((Some(last), rest))
-}
-
-#[tactic(auto, unfolding(mace_grammar::specs::inner::Readers::last_at))]
-fn replied<'a>(alloc: Global, depth: usize, version: u8, tokens: &'a [Token]) -> Read<'a, Last>
-    ensures { Gives (λ x. (last_tree x.0, x.1.now)) result (reader.last_at (numbered version) (reader.key_at key.Reply) depth tokens.now) }
-{
-    let (at, rest) = key(Keyword::Reply, tokens)?;
+    let (at, rest) = key(want, tokens)?;
     let (value, rest) = any_expr(alloc, depth, version, rest)?;
     let (_, rest) = sign(Sign::Semicolon, rest)?;
-    Ok((Last { at, value }, rest))
-}
-
-/// The `reply` at the end of an event, where it is there.
-#[tactic(auto, unfolding(mace_grammar::specs::inner::Readers::maybe_last_at))]
-pub fn maybe_replied<'a>(
-    alloc: Global,
-    depth: usize,
-    version: u8,
-    tokens: &'a [Token],
-) -> Read<'a, Option<Last>>
-    ensures { Gives (λ x. (option_map last_tree x.0, x.1.now)) result (reader.maybe_last_at (numbered version) key.Reply (reader.key_at key.Reply) depth tokens.now) }
-{
-    if !sees_key(Keyword::Reply, version, tokens) {
-        return Ok((None, tokens));
-    }
-    let (last, rest) = replied(alloc, depth, version, tokens)?;
-    Ok((Some(last), rest))
+    Ok((Some(Last { at, value }), rest))
 }
 
 #[tactic(auto, unfolding(mace_grammar::specs::inner::Readers::stmts_at))]
@@ -153,7 +118,7 @@ fn method<'a>(alloc: Global, depth: usize, version: u8, tokens: &'a [Token]) -> 
     let (kind, rest) = result_kind(version, rest)?;
     let (_, rest) = sign(Sign::LeftBrace, rest)?;
     let (body, rest) = body(alloc, depth, version, rest)?;
-    let (last, rest) = maybe_returned(alloc, depth, version, rest)?;
+    let (last, rest) = maybe_last(alloc, depth, Keyword::Return, version, rest)?;
     let (_, rest) = sign(Sign::RightBrace, rest)?;
     let method = MethodDecl {
         at,

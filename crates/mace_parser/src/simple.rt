@@ -11,9 +11,10 @@ ghost use Rattle.mace_parser.specs.inner.Gives.{Gives};
 
 use crate::expr::{arguments, bracketed, expr};
 use crate::fault::Read;
-use crate::sees::{begins_expr, sees_finish, sees_key, sees_leave, sees_sign};
+use crate::sees::{sees_any, sees_class, sees_key, sees_sign};
 use crate::token::{field, finish, key, leave, name, sign, text};
 use mace_ast::{Action, Expr, Name, Stmt, Target};
+use mace_grammar::{Class, EXPR_STARTS};
 use mace_lexer::{Keyword, Sign, Token};
 use std::alloc::Global;
 use wave_base::{Seq, Span};
@@ -317,7 +318,7 @@ fn maybe_expr<'a>(
 ) -> Read<'a, Option<Expr>>
     ensures { Gives (λ x. (option_map expr_tree x.0, x.1.now)) result (reader.maybe_expr_at (numbered version) depth tokens.now) }
 {
-    if !begins_expr(version, tokens) {
+    if !sees_any(&EXPR_STARTS, version, tokens) {
         return Ok((None, tokens));
     }
     let (value, rest) = any_expr(alloc, depth, version, tokens)?;
@@ -351,10 +352,10 @@ fn finish_stmt<'a>(alloc: Global, depth: usize, version: u8, tokens: &'a [Token]
 pub fn ending<'a>(alloc: Global, depth: usize, version: u8, tokens: &'a [Token]) -> Read<'a, Stmt>
     ensures { Gives (λ x. (stmt_tree x.0, x.1.now)) result (reader.ending_at (numbered version) depth tokens.now) }
 {
-    if sees_leave(version, tokens) {
+    if sees_class(Class::Leave, version, tokens) {
         return return_stmt(alloc, depth, version, tokens);
     }
-    if sees_finish(version, tokens) {
+    if sees_class(Class::Finish, version, tokens) {
         return finish_stmt(alloc, depth, version, tokens);
     }
     simple(alloc, depth, version, tokens)

@@ -8,10 +8,11 @@ ghost use Rattle.mace_grammar.specs.inner.Readers as reader;
 ghost use Rattle.mace_parser.specs.inner.Gives.{Gives};
 
 use crate::fault::{Fault, Read};
-use crate::sees::{begins_stmt, sees_key};
+use crate::sees::{sees_any, sees_key};
 use crate::simple::{any_expr, ending, let_stmt};
 use crate::token::{key, name, sign};
 use mace_ast::Stmt;
+use mace_grammar::STMT_STARTS;
 use mace_lexer::{Keyword, Sign, Token};
 use std::alloc::Global;
 
@@ -125,7 +126,7 @@ pub fn stmts<'a>(
 {
     let mut rest = tokens;
     let mut found = Vec::new(alloc);
-    'turns: while begins_stmt(version, rest) {
+    'turns: while sees_any(&STMT_STARTS, version, rest) {
         let (next, after) = stmt(alloc, depth, version, rest)?;
         found.push(next)?;
         rest = after;

@@ -75,16 +75,6 @@ pub fn name<'a>(alloc: Global, version: u8, tokens: &'a [Token]) -> Read<'a, Nam
     }
 }
 
-/// The keyword `return` at the end of a method.
-pub fn end(version: u8, tokens: &[Token]) -> Read<'_, Span>
-    ensures { Gives (λ x. (x.0, x.1.now)) result (reader.end_at (words.numbered version) tokens.now) }
-{
-    if is_early(version) {
-        return Err(Fault::Stuck(tokens));
-    }
-    key(Keyword::Return, tokens)
-}
-
 /// The keyword `return` as a statement.
 pub fn leave(version: u8, tokens: &[Token]) -> Read<'_, Span>
     ensures { Gives (λ x. (x.0, x.1.now)) result (reader.leave_at (words.numbered version) tokens.now) }

@@ -1,43 +1,32 @@
--- A number for each word that the grammar tells apart.
-use Rattle.std.specs.Prelude.{ℕ, ◌+◌, ◌==◌, ◌&&◌, if◌then◌else◌}
+-- When two classes are the same, and the class of a word.
+use Rattle.std.specs.Prelude.{Bool, true, false, ◌==◌, ◌&&◌, if◌then◌else◌}
 use Rattle.mace_lexer.specs.declared.token.Token.{Token}
 use Rattle.mace_lexer.specs.declared.token.Word.{Word}
 use Rattle.mace_lexer.specs.declared.token.Word.TheVariants as word
-use Rattle.mace_lexer.specs.declared.keyword.Keyword.{Keyword}
-use Rattle.mace_lexer.specs.declared.sign.Sign.{Sign}
 use Rattle.mace_lexer.specs.declared.keyword.Keyword.TheVariants as k
 use Rattle.mace_lexer.specs.Codes.{key_code, sign_code}
+use Rattle.mace_grammar.specs.declared.class.Class.{Class}
+use Rattle.mace_grammar.specs.declared.class.Class.TheVariants.{Name, Number, Text, Leave, Finish, Key, Sign}
 use Rattle.mace_grammar.specs.Words.{Version}
 
-abbrev pub name_class : ℕ
-name_class = 0
+abbrev pub class_eq : Class → Class → Bool
+class_eq Name Name = true
+class_eq Number Number = true
+class_eq Text Text = true
+class_eq Leave Leave = true
+class_eq Finish Finish = true
+class_eq (Key j) (Key j') = key_code j == key_code j'
+class_eq (Sign j) (Sign j') = sign_code j == sign_code j'
+class_eq _ _ = false
 
-abbrev pub number_class : ℕ
-number_class = 1
-
-abbrev pub text_class : ℕ
-text_class = 2
-
-abbrev pub key_class : Keyword → ℕ
-key_class j = 10 + key_code j
-
-abbrev pub sign_class : Sign → ℕ
-sign_class j = 50 + sign_code j
-
--- in version 2, `return` and `finish`
-abbrev pub leave_class : ℕ
-leave_class = 3
-
-abbrev pub finish_class : ℕ
-finish_class = 4
-
+-- in version 2, `return` and `finish` have classes of their own
 module _ (version : Version) where
-  abbrev pub class_of : Word → ℕ
-  class_of (word.Name t) = if version.is_name t then name_class else finish_class
-  class_of (word.Number n) = number_class
-  class_of (word.Text t) = text_class
-  class_of (word.Key j) = if key_code j == key_code k.Return && version.early then leave_class else key_class j
-  class_of (word.Sign j) = sign_class j
+  abbrev pub class_of : Word → Class
+  class_of (word.Name t) = if version.is_name t then Name else Finish
+  class_of (word.Number n) = Number
+  class_of (word.Text t) = Text
+  class_of (word.Key j) = if key_code j == key_code k.Return && version.early then Leave else Key j
+  class_of (word.Sign j) = Sign j
 
-  abbrev pub kind : Token → ℕ
+  abbrev pub kind : Token → Class
   kind t = class_of t.word

@@ -1,7 +1,9 @@
 -- Readers with one token of sight: functions from the tokens that are left to a value and the tokens behind it, or to the tokens at which they are stuck.
-use Rattle.std.specs.Prelude.{ℕ, zero, suc, List, [], ◌∷◌, length, Option, Some, None, Result, Ok, Err, Bool, false, ◌==◌, if◌then◌else◌}
+use Rattle.std.specs.Prelude.{ℕ, zero, suc, List, [], ◌∷◌, length, Option, Some, None, Result, Ok, Err, Bool, false, if◌then◌else◌}
 use Rattle.std.specs.List.{list_any}
 use Rattle.mace_lexer.specs.declared.token.Token.{Token}
+use Rattle.mace_grammar.specs.declared.class.Class.{Class}
+use Rattle.mace_grammar.specs.inner.Classes.{class_eq}
 
 abbrev pub Outcome : Type 0 → Type 0
 Outcome A = Result (A × List Token) (List Token)
@@ -48,23 +50,23 @@ some run = after run (λ a. give (Some a))
 
 -- ---- by the class of the next token
 
-abbrev pub has : List ℕ → ℕ → Bool
-has set c = list_any (λ d. d == c) set
+abbrev pub has : List Class → Class → Bool
+has set c = list_any (λ d. class_eq d c) set
 
-module _ (class : Token → ℕ) where
-  abbrev pub sees : List ℕ → List Token → Bool
+module _ (class : Token → Class) where
+  abbrev pub sees : List Class → List Token → Bool
   sees set [] = false
   sees set (t ∷ ts) = has set (class t)
 
-  abbrev pub choice : {A : Type 0} → List ℕ → Reader A → Reader A → Reader A
+  abbrev pub choice : {A : Type 0} → List Class → Reader A → Reader A → Reader A
   choice f run run' ts = if sees f ts then run ts else run' ts
 
   -- at most so many items
-  abbrev pub each : {A : Type 0} → List ℕ → Reader A → ℕ → Reader (List A)
+  abbrev pub each : {A : Type 0} → List Class → Reader A → ℕ → Reader (List A)
   each f run zero ts = Ok ([], ts)
   each f run (suc k) ts = if sees f ts then and_then (run ts) (λ a r. and_then (each f run k r) (with_front a)) else Ok ([], ts)
 
-  abbrev pub each_of : {A : Type 0} → List ℕ → Reader A → Reader (List A)
+  abbrev pub each_of : {A : Type 0} → List Class → Reader A → Reader (List A)
   each_of f run ts = each f run (length ts) ts
 
 -- what leads back to itself, at most this deep

@@ -3,6 +3,7 @@ use Rattle.std.proofs.lemmas.Result.{err_from_is_err_and}
 use Rattle.std.proofs.lemmas.List.{map_push}
 use Rattle.mace_ast.specs.Stmts.{stmt_tree}
 use Rattle.mace_grammar.specs.Words.{numbered}
+use Rattle.mace_grammar.specs.declared.class.TheConstants.{STMT_STARTS}
 use Rattle.mace_grammar.specs.inner.Classes.{kind}
 use Rattle.mace_grammar.specs.inner.Run.{sees}
 use Rattle.mace_grammar.specs.inner.Readers as reader
@@ -14,19 +15,19 @@ use Rattle.mace_parser.proofs.stmt.+stmt.Goals as goal
 pub stmts-returns-in_err-next : goal.stmts-returns-in_err-next
 stmts-returns-in_err-next t c =
     let p = err_from_is_err_and c.from_residual.result c.from_residual.ensures.1 in
-    let s : sees (kind (numbered c.args.version)) reader.stmt_starts c.turns.rest.now ≡ true = sym c.begins_stmt.ensures ∙ c.turns-test.true in
-    rw (p.1, p.2) (list_ends (numbered c.args.version) reader.stmt_starts (reader.stmt_at (numbered c.args.version) c.args.depth) c.in_err-next.field-0.0 (map stmt_tree c.turns.found.items) c.turns.rest.now (reader.stmts_in (numbered c.args.version) (reader.stmt_at (numbered c.args.version) c.args.depth) c.args.tokens.now) s c.in_err-next.ensures c.turns.invariant)
+    let s : sees (kind (numbered c.args.version)) STMT_STARTS c.turns.rest.now ≡ true = sym c.sees_any.ensures ∙ c.turns-test.true in
+    rw (p.1, p.2) (list_ends (numbered c.args.version) STMT_STARTS (reader.stmt_at (numbered c.args.version) c.args.depth) c.in_err-next.field-0.0 (map stmt_tree c.turns.found.items) c.turns.rest.now (reader.stmts_in (numbered c.args.version) (reader.stmt_at (numbered c.args.version) c.args.depth) c.args.tokens.now) s c.in_err-next.ensures c.turns.invariant)
 
 pub stmts-turns-preserved : goal.stmts-turns-preserved
 stmts-turns-preserved t c =
-    let s : sees (kind (numbered c.args.version)) reader.stmt_starts c.turns.rest.now ≡ true = sym c.begins_stmt.ensures ∙ c.turns-test.true in
-    list_goes_on (numbered c.args.version) reader.stmt_starts (reader.stmt_at (numbered c.args.version) c.args.depth) (takes_stmt c.args.version c.args.depth) (map stmt_tree c.turns.found.items) (map stmt_tree c.push.new.self.items) c.turns.rest.now c.in_ok-next.after.now (stmt_tree c.in_ok-next.next) (reader.stmts_in (numbered c.args.version) (reader.stmt_at (numbered c.args.version) c.args.depth) c.args.tokens.now) s c.in_ok-next.ensures (rw c.in_ok-push.ensures.items (map_push stmt_tree c.turns.found.items c.in_ok-next.next)) c.turns.invariant
+    let s : sees (kind (numbered c.args.version)) STMT_STARTS c.turns.rest.now ≡ true = sym c.sees_any.ensures ∙ c.turns-test.true in
+    list_goes_on (numbered c.args.version) STMT_STARTS (reader.stmt_at (numbered c.args.version) c.args.depth) (takes_stmt c.args.version c.args.depth) (map stmt_tree c.turns.found.items) (map stmt_tree c.push.new.self.items) c.turns.rest.now c.in_ok-next.after.now (stmt_tree c.in_ok-next.next) (reader.stmts_in (numbered c.args.version) (reader.stmt_at (numbered c.args.version) c.args.depth) c.args.tokens.now) s c.in_ok-next.ensures (rw c.in_ok-push.ensures.items (map_push stmt_tree c.turns.found.items c.in_ok-next.next)) c.turns.invariant
 
 pub stmts-turns-smaller : goal.stmts-turns-smaller
 stmts-turns-smaller t c = (takes_stmt c.args.version c.args.depth).fewer c.turns.rest.now c.in_ok-next.after.now (stmt_tree c.in_ok-next.next) c.in_ok-next.ensures
 
 pub stmts-returns : goal.stmts-returns
-stmts-returns t c = list_done (numbered c.args.version) reader.stmt_starts (reader.stmt_at (numbered c.args.version) c.args.depth) (map stmt_tree c.turns.found.items) c.turns.rest.now (reader.stmts_in (numbered c.args.version) (reader.stmt_at (numbered c.args.version) c.args.depth) c.args.tokens.now) (sym c.begins_stmt.ensures ∙ c.turns-test.false) c.turns.invariant
+stmts-returns t c = list_done (numbered c.args.version) STMT_STARTS (reader.stmt_at (numbered c.args.version) c.args.depth) (map stmt_tree c.turns.found.items) c.turns.rest.now (reader.stmts_in (numbered c.args.version) (reader.stmt_at (numbered c.args.version) c.args.depth) c.args.tokens.now) (sym c.sees_any.ensures ∙ c.turns-test.false) c.turns.invariant
 
 pub if_stmt-returns-in_err-body : goal.if_stmt-returns-in_err-body
 if_stmt-returns-in_err-body t c =
