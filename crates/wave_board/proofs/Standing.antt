@@ -59,9 +59,6 @@ opens b p start plan empty unset h o same begins = (
     from_start : IsReached b.machine.kept.plan start (labels_of b) (start_state (begin_in (plan_of p) start) p.script.batches)
     from_start = subst (λ x. IsReached x start (labels_of b) (start_state (begin_in (plan_of p) start) p.script.batches)) (sym plan) (subst (λ js. IsReached (plan_of p) start (map label_of js) (start_state (begin_in (plan_of p) start) p.script.batches)) (sym empty) (at_start (plan_of p) start))
 
-pub no_entries : (b : Board) → b.journal.items ≡ [] → b.word ≡ None → history_of b ≡ []
-no_entries b empty unset = ap (λ w. with_halt w (map Step b.journal.items)) unset ∙ ap (map Step) empty
-
 placed_on : (w : Option StopWord) (m n : ℕ) → m ≤ n → IsPlaced w m → IsPlaced w n
 placed_on None m n less h = tt
 placed_on (Some x) m n less h = omega (arith, less, h)
@@ -73,20 +70,6 @@ history_on (Some x) ts t h =
     ap (λ z. z ++ Halt x.worker x.why ∷ drop x.place (ts ++ t ∷ [])) (take-append-le x.place ts (t ∷ []) h)
     ∙ ap (λ z. take x.place ts ++ Halt x.worker x.why ∷ z) (drop-append-le x.place ts (t ∷ []) h)
     ∙ sym (append_assoc (take x.place ts) (Halt x.worker x.why ∷ drop x.place ts) (t ∷ []))
-
--- the Halt at the end
-halt_at_end : (ts : List Trail) (t : Trail) → take (length ts) ts ++ t ∷ drop (length ts) ts ≡ ts ++ t ∷ []
-halt_at_end [] t = refl
-halt_at_end (x ∷ ts) t = ap (λ z. x ∷ z) (halt_at_end ts t)
-
-pub halted : (b b' : Board) (x : StopWord) → b.word ≡ None → b'.word ≡ Some x → x.place ≡ length b.journal.items → b'.journal.items ≡ b.journal.items
-    → history_of b' ≡ history_of b ++ Halt x.worker x.why ∷ []
-halted b b' x unset set place same =
-    ap (λ w. with_halt w (map Step b'.journal.items)) set
-    ∙ ap (λ js. with_halt (Some x) (map Step js)) same
-    ∙ ap (λ n. take n (map Step b.journal.items) ++ Halt x.worker x.why ∷ drop n (map Step b.journal.items)) (place ∙ sym (length-map b.journal.items Step))
-    ∙ halt_at_end (map Step b.journal.items) (Halt x.worker x.why)
-    ∙ ap (λ w. with_halt w (map Step b.journal.items) ++ Halt x.worker x.why ∷ []) (sym unset)
 
 module _ (b b' : Board) (journal : b'.journal.items ≡ b.journal.items) (plan : b'.machine.kept.plan ≡ b.machine.kept.plan) (placed : IsPlaced b.word (length b.journal.items) → IsPlaced b'.word (length b.journal.items)) where
   -- nothing was taken
@@ -103,9 +86,6 @@ module _ (b b' : Board) (journal : b'.journal.items ≡ b.journal.items) (plan :
           placed = subst (λ js. IsPlaced b'.word (length js)) (sym journal) (placed h.placed);
         },
       )
-
-pub same_history : (b b' : Board) → b'.journal.items ≡ b.journal.items → b'.word ≡ b.word → history_of b' ≡ history_of b
-same_history b b' journal word = ap (λ w. with_halt w (map Step b'.journal.items)) word ∙ ap (λ js. with_halt b.word (map Step js)) journal
 
 module _ (b b' : Board) (l : Label) (journal : b'.journal.items ≡ b.journal.items ++ l ∷ []) (word : b'.word ≡ b.word) (plan : b'.machine.kept.plan ≡ b.machine.kept.plan) where
   labels : labels_of b' ≡ labels_of b ++ label_of l ∷ []

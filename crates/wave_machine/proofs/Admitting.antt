@@ -44,9 +44,6 @@ pub record TakesLine (h h' : Heading) (line : Line) : Type 0 where
   pub admitted : h'.admitted ≡ h.admitted + 1
   pub done : h'.done ≡ h.done
 
-same_line : (a b : Line) (o : Option Line) → o ≡ Some a → o ≡ Some b → a ≡ b
-same_line a b o e f = cc
-
 nothing_is : {X : Type 0} (o : Option X) (x : X) → o ≡ None → o ≡ Some x → ⊥
 nothing_is o x a b = cc
 

@@ -23,15 +23,15 @@ use Rattle.wave_machine.specs.declared.actor.Actor.{Actor}
 use Rattle.wave_machine.specs.declared.kept.Out.{Out}
 use Rattle.wave_machine.specs.declared.ready.Ready.{Ready}
 use Rattle.wave_machine.specs.Ending.{is_done}
-use Rattle.wave_machine.specs.Machines.{Kept, Stands, TheState}
+use Rattle.wave_machine.specs.Machines.{Kept, Shows, TheState}
 use Rattle.wave_machine.specs.Readies.{choice_of, ready_in, unlabelled}
 use Rattle.wave_machine.specs.inner.Asking.{admit_labels, asked_in, by_ticket, cell_labels, commit_labels, grant_labels, in_order, is_next, label_at, mail_act, mail_labels, mails_labels, of_kind, place_in, start_labels, status_labels, stop_if, stop_labels, stops_labels, runs_out}
 use Rattle.wave_machine.specs.inner.Index.{IsIndex, asked_at, asked_of, by_none, by_part, head_in}
-use Rattle.wave_machine.specs.inner.Listable.{CanList}
+use Rattle.wave_machine.specs.inner.Listable.{CanList, one_more}
 use Rattle.wave_machine.proofs.ListingLists.{by_ticket_is, filter_of_map, flat_same, map_flat}
 use Rattle.wave_machine.proofs.ListingOwn.{own_lists}
 use Rattle.wave_machine.proofs.Owned.{asked_here, done_asks}
-use Rattle.wave_machine.proofs.Taking.{Laws}
+use Rattle.wave_machine.proofs.Widened.{one_idle, shows_wider, wider}
 
 -- another worker takes it
 abbrev pub with_worker : ℕ → Label → Label
@@ -105,27 +105,6 @@ pub map_twice : {X Y Z : Type 0} (g : Y → Z) (f : X → Y) (xs : List X) → m
 map_twice g f [] = refl
 map_twice g f (x ∷ xs) = ap (λ r. g (f x) ∷ r) (map_twice g f xs)
 
-pub no_workers : (m : Kept) (t : ℕ) (st : Status) → stops_labels m.stores m.hands [] t st ≡ []
-no_workers m t status.Travelling = refl
-no_workers m t (status.Waiting p) = refl
-no_workers m t (status.Ready p) = refl
-no_workers m t status.Ended = refl
-no_workers m t (status.Running p) = by_place (place_in m.stores p)
-  where
-    by_place : (o : Option ℕ) → stop_labels m.stores m.hands [] t p o ≡ []
-    by_place None = refl
-    by_place (Some h) = refl
-
--- the list is what is asked for, without who takes it
-pub choices_are : (m : Kept) (index : List Ready) → IsIndex m index → map choice_of index ≡ ready_in m
-choices_are m index e =
-    let all = head_in m ++ by_part m (asked_at m) in
-    sym (map_twice unlabelled by_none index)
-    ∙ ap (map unlabelled) e
-    ∙ sym (map_twice unlabelled (with_worker 0) (in_order all))
-    ∙ ap (map unlabelled) (sym (order_as 0 all))
-    ∙ ap (λ ls. map unlabelled (in_order ls)) (sym (all_as m 0 [] (no_workers m)))
-
 module _ (w : ℕ) (m : Kept) (idle : slice_get m.hands w ≡ Some None) where
   alone_stops : (t : ℕ) (st : Status) → stops_labels m.stores m.hands (tickets_from w (w + 1 - w)) t st ≡ []
   alone_stops t status.Travelling = refl
@@ -143,19 +122,21 @@ module _ (w : ℕ) (m : Kept) (idle : slice_get m.hands w ≡ Some None) where
           ap (λ n. flat_map (λ v. stop_if (runs_out (slice_get m.hands v) t p) v h t p) (tickets_from w n)) one
           ∙ ap (λ o. stop_if (runs_out o t p) w h t p ++ []) idle
 
-  pub taken_is : (laws : Laws) (start : Start) (s : TheState) (stands : Stands m start s) → CanList m.plan start s → (index : List Ready) → IsIndex m index
+  pub taken_is : (start : Start) (s : TheState) → Shows m s → CanList m.plan start s → (index : List Ready) → IsIndex m index
       → map (λ (r : Ready). with_worker w (by_none r)) index ≡ enabled_for (plan_actors m.plan.program) m.plan.workers m.plan.script.hosts s w
-  taken_is laws start s stands list index e =
+  taken_is start s shows list index e =
       sym (map_twice (with_worker w) by_none index)
       ∙ ap (map (with_worker w)) e
       ∙ sym (order_as w (head_in m ++ by_part m (asked_at m)))
       ∙ ap in_order (sym (all_as m w (tickets_from w (w + 1 - w)) alone_stops))
-      ∙ own_lists laws m start s stands list w true (sym (ap (option_map is_none) idle))
+      ∙ own_lists m start s shows list w true (sym (ap (option_map is_none) idle))
 
-pub in_map : {X Y : Type 0} (f : X → Y) (xs : List X) (i : ℕ) (x : X) → slice_get xs i ≡ Some x → IsIn (map f xs) (f x)
-in_map f [] i x e = cc
-in_map f (y ∷ xs) zero x e = inl (ap f (some_same y x e))
-in_map f (y ∷ xs) (suc i) x e = inr (in_map f xs i x e)
+-- the list is what an idle worker can do, without who takes it
+pub choices_are : (m : Kept) (start : Start) (s : TheState) → Shows m s → CanList m.plan start s → CanList (one_more m.plan) start s → (index : List Ready) → IsIndex m index → map choice_of index ≡ ready_in m.plan s
+choices_are m start s shows list more index e =
+    let w = m.plan.workers in
+    sym (map_twice unlabelled (λ (r : Ready). with_worker w (by_none r)) index)
+    ∙ ap (map unlabelled) (taken_is w (wider m) (one_idle m start s shows) start s (shows_wider m start s shows list) more index e)
 
 pub in_mapped : {X Y : Type 0} (f : X → Y) (xs : List X) (x : X) → IsIn xs x → IsIn (map f xs) (f x)
 in_mapped f [] x i = absurd i

@@ -166,9 +166,6 @@ module _ (laws : Laws) (segments : Segments) (m : Kept) (lease : Lease) (why : P
       by_place (inl l) = let many = stands.shows.hands.as_many in omega (arith, many)
       by_place (inr l) = absurd (none_not (sym ((now laws m start s stands).bounds.hands lease.worker.0 l) ∙ back.there))
 
-  pub few_hosts : length m.stores ≤ 8
-  few_hosts = let few = stands.fits.script.few_hosts in let many = stands.shows.stores.as_many in omega (arith, few, many)
-
   -- some host has it
   pub found : is_some (position (has p) m.stores) ≡ true
   found = by_store (slice_get m.stores can.host) refl

@@ -25,13 +25,6 @@ admits_first h = by_next (next_ticket h)
     by_next None = tt
     by_next (Some t) = (refl, tt)
 
-pub commits_last : (m : Kept) → AllByRecursion IsLast (commit_labels 0 (m.first + length m.settled.results) m.commits)
-commits_last m = by_ready (ready_result m.commits)
-  where
-    by_ready : (o : Option EventResult) → AllByRecursion IsLast (label_at 0 0 (option_map (λ r. Commit (m.first + length m.settled.results)) o))
-    by_ready None = tt
-    by_ready (Some r) = (refl, tt)
-
 pub admit_goes : (h : Heading) (b : List Label) → AllByRecursion IsInner b → Goes (admit_labels 0 h) [] b
 admit_goes h b inner = by_next (next_ticket h)
   where

@@ -32,15 +32,6 @@ stood_after m m' l on takes = record { start = on.start; state = on.next; stands
 pub stood_kept : (m m' : Kept) → IsStood m → Keeps m m' → IsStood m'
 stood_kept m m' on keeps = record { start = on.start; state = on.state; stands = keeps on.start on.state on.stands }
 
--- a label that is enabled still is where the machine stands for all that it stood for
-pub enabled_kept : (m m' : Kept) (l : theory.Label) → IsEnabled m l → Keeps m m' → m'.plan ≡ m.plan → IsEnabled m' l
-enabled_kept m m' l on keeps plan = record {
-  start = on.start;
-  state = on.state;
-  next = on.next;
-  stands = keeps on.start on.state on.stands;
-  enabled = subst (λ (x : Plan). step (plan_actors x.program) x.workers on.state l ≡ Some on.next) (sym plan) on.enabled;
-}
 
 -- and so does a Stop
 pub stood_stopped : (m m' : Kept) (lease : Lease) (why : Pause) (host : ℕ) → IsStopping m lease why → CanStop m lease why host → Stops m lease why host m' → IsStood m'

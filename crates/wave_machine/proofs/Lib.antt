@@ -56,6 +56,7 @@ pub mod Asked
 pub mod Weighed
 pub mod Framing
 pub mod Unasked
+pub mod Widened
 pub mod Bridged
 pub mod ListingParts
 pub mod Grows

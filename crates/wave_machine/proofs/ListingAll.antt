@@ -28,16 +28,15 @@ use Rattle.code_actor.specs.CodeActors.{Fields}
 use Rattle.plan_actors.specs.PlanActors as actors
 use Rattle.plan_actors.specs.PlanActors.{plan_actors}
 use Rattle.wave_machine.specs.declared.actor.Actor.{Actor}
-use Rattle.wave_machine.specs.Machines.{IsCell, Kept, Stands, TheState}
+use Rattle.wave_machine.specs.Machines.{IsCell, Kept, Shows, TheState}
 use Rattle.wave_machine.specs.inner.Asking.{admit_labels, asked_in, by_taker, by_ticket, cell_labels, commit_labels, in_order, label_at, mails_labels, of_kind, place_in, runs_out, status_labels, stop_labels, stops_labels}
 use Rattle.wave_machine.specs.inner.Listable.{CanList}
 use Rattle.wave_machine.proofs.ListingLists.{by_ticket_is, filter_by_ticket, filter_flat, filter_passed, flat_none, map_flat}
 use Rattle.wave_machine.proofs.ListingSteps.{admit_can, commit_can, taken_one}
 use Rattle.wave_machine.proofs.ListingKinds.{frees_asked, grants_asked, idle_same, lands_asked, passes_asked, place_same, placed_there, queues_asked, runs_same, starts_asked, visits_asked}
-use Rattle.wave_machine.proofs.Taking.{Laws}
 use Rattle.wave_machine.proofs.ListingCells.{flat_flat, idle_lowest, is_kind, map_as, no_head, only_mails, only_status, only_stops, slice_after, ten, unless, within_is}
 
-module _ (laws : Laws) (m : Kept) (start : Start) (s : TheState) (stands_for : Stands m start s) (list : CanList m.plan start s) where
+module _ (m : Kept) (start : Start) (s : TheState) (shows : Shows m s) (list : CanList m.plan start s) where
   abbrev sys : Actors actors.Actor Fields EventResult Line
   sys = plan_actors m.plan.program
 
@@ -62,7 +61,7 @@ module _ (laws : Laws) (m : Kept) (start : Start) (s : TheState) (stands_for : S
   taken_flat (Some w) f ys = takes_flat w f ys
 
   tickets_are : tickets s ≡ tickets_from m.first (length m.cells)
-  tickets_are = let many : s.admitted ≡ length m.cells = stands_for.shows.head.admitted ∙ sym stands_for.shows.cells.as_many in λ i. tickets_from (stands_for.shows.head.before i) (many i)
+  tickets_are = let many : s.admitted ≡ length m.cells = shows.head.admitted ∙ sym shows.cells.as_many in λ i. tickets_from (shows.head.before i) (many i)
 
   -- a worker can stop what it runs
   pub can_stop : (w t h : ℕ) (p : Path) → place_in m.stores p ≡ Some h → runs_it (s.hands w) t p ≡ true → can (record { worker = w; host = h; act = Stop t p }) ≡ true
@@ -74,7 +73,7 @@ module _ (laws : Laws) (m : Kept) (start : Start) (s : TheState) (stands_for : S
           let it = list.stoppable w g e in
           let ticket : g.ticket ≡ t = number_is g.ticket t (and_first (g.ticket == t) (path_eq g.path p) r) in
           let path : g.path ≡ p = path_is g.path p (and_second (g.ticket == t) (path_eq g.path p) r) in
-          let same : it.host ≡ h = list.owner.one p it.host h (inl (subst (λ q. is_some ((s.columns q).store it.host) ≡ true) path it.here)) (inl (placed_there laws m start s stands_for list p h at)) in
+          let same : it.host ≡ h = list.owner.one p it.host h (inl (subst (λ q. is_some ((s.columns q).store it.host) ≡ true) path it.here)) (inl (placed_there m start s shows list p h at)) in
           ap (λ (l : Label). can l) (λ i. record { worker = w; host = sym same i; act = Stop (sym ticket i) (sym path i) }) ∙ it.enabled
 
   module _ (idle : Option ℕ) (ws : List ℕ) (idles : (w : ℕ) → idle ≡ Some w → (w < m.plan.workers) × (s.hands w ≡ None)) where
@@ -85,7 +84,7 @@ module _ (laws : Laws) (m : Kept) (start : Start) (s : TheState) (stands_for : S
         → ((t : ℕ) (c : Cell Actor) → IsCell m.plan.program c (s.cells t) → of_kind n (cell_labels m.stores m.hands idle ws t c) ≡ X (item t)) → of_kind n asked_cells ≡ X (flat_map item (tickets s))
     over_cells n X flat item each =
         filter_by_ticket (cell_labels m.stores m.hands idle ws) (is_kind n) m.first m.cells
-        ∙ by_ticket_is (λ t c. of_kind n (cell_labels m.stores m.hands idle ws t c)) (λ t. X (item t)) m.cells m.first (λ i c e. each (m.first + i) c (stands_for.shows.cells.each i c e))
+        ∙ by_ticket_is (λ t c. of_kind n (cell_labels m.stores m.hands idle ws t c)) (λ t. X (item t)) m.cells m.first (λ i c e. each (m.first + i) c (shows.cells.each i c e))
         ∙ ap (flat_map (λ t. X (item t))) (sym tickets_are)
         ∙ sym (flat item (tickets s))
 
@@ -105,31 +104,31 @@ module _ (laws : Laws) (m : Kept) (start : Start) (s : TheState) (stands_for : S
 
     queues_are : of_kind 1 asked_cells ≡ T idle (by_mails s (mail_act (λ t k p. Queue t k p)))
     queues_are = over_cells 1 (λ cs. T idle cs) (taken_flat idle) (Mailed (mail_act (λ t k p. Queue t k p)))
-        (λ t c is. only_mails m.stores m.hands idle ws t c 1 refl refl refl ∙ by_idle (λ w. of_kind 1 (mails_labels m.stores w t c.outbox)) (Mailed (mail_act (λ t k p. Queue t k p)) t) (λ w l e. sym (queues_asked laws m start s stands_for list w l e t c is)))
+        (λ t c is. only_mails m.stores m.hands idle ws t c 1 refl refl refl ∙ by_idle (λ w. of_kind 1 (mails_labels m.stores w t c.outbox)) (Mailed (mail_act (λ t k p. Queue t k p)) t) (λ w l e. sym (queues_asked m start s shows list w l e t c is)))
 
     visits_are : of_kind 3 asked_cells ≡ T idle (by_mails s (mail_act (λ t k p. Labels.Visit t k p)))
     visits_are = over_cells 3 (λ cs. T idle cs) (taken_flat idle) (Mailed (mail_act (λ t k p. Labels.Visit t k p)))
-        (λ t c is. only_mails m.stores m.hands idle ws t c 3 refl refl refl ∙ by_idle (λ w. of_kind 3 (mails_labels m.stores w t c.outbox)) (Mailed (mail_act (λ t k p. Labels.Visit t k p)) t) (λ w l e. sym (visits_asked laws m start s stands_for list w l e t c is)))
+        (λ t c is. only_mails m.stores m.hands idle ws t c 3 refl refl refl ∙ by_idle (λ w. of_kind 3 (mails_labels m.stores w t c.outbox)) (Mailed (mail_act (λ t k p. Labels.Visit t k p)) t) (λ w l e. sym (visits_asked m start s shows list w l e t c is)))
 
     frees_are : of_kind 6 asked_cells ≡ T idle (by_mails s (mail_act (λ t k p. Free t k p)))
     frees_are = over_cells 6 (λ cs. T idle cs) (taken_flat idle) (Mailed (mail_act (λ t k p. Free t k p)))
-        (λ t c is. only_mails m.stores m.hands idle ws t c 6 refl refl refl ∙ by_idle (λ w. of_kind 6 (mails_labels m.stores w t c.outbox)) (Mailed (mail_act (λ t k p. Free t k p)) t) (λ w l e. sym (frees_asked laws m start s stands_for list w l e t c is)))
+        (λ t c is. only_mails m.stores m.hands idle ws t c 6 refl refl refl ∙ by_idle (λ w. of_kind 6 (mails_labels m.stores w t c.outbox)) (Mailed (mail_act (λ t k p. Free t k p)) t) (λ w l e. sym (frees_asked m start s shows list w l e t c is)))
 
     passes_are : of_kind 7 asked_cells ≡ T idle (by_mails s (passes_of s))
     passes_are = over_cells 7 (λ cs. T idle cs) (taken_flat idle) (Mailed (passes_of s))
-        (λ t c is. only_mails m.stores m.hands idle ws t c 7 refl refl refl ∙ by_idle (λ w. of_kind 7 (mails_labels m.stores w t c.outbox)) (Mailed (passes_of s) t) (λ w l e. sym (passes_asked laws m start s stands_for list w l e t c is)))
+        (λ t c is. only_mails m.stores m.hands idle ws t c 7 refl refl refl ∙ by_idle (λ w. of_kind 7 (mails_labels m.stores w t c.outbox)) (Mailed (passes_of s) t) (λ w l e. sym (passes_asked m start s shows list w l e t c is)))
 
     lands_are : of_kind 8 asked_cells ≡ T idle (by_mails s (mail_act (λ t k p. Land t k p)))
     lands_are = over_cells 8 (λ cs. T idle cs) (taken_flat idle) (Mailed (mail_act (λ t k p. Land t k p)))
-        (λ t c is. only_mails m.stores m.hands idle ws t c 8 refl refl refl ∙ by_idle (λ w. of_kind 8 (mails_labels m.stores w t c.outbox)) (Mailed (mail_act (λ t k p. Land t k p)) t) (λ w l e. sym (lands_asked laws m start s stands_for list w l e t c is)))
+        (λ t c is. only_mails m.stores m.hands idle ws t c 8 refl refl refl ∙ by_idle (λ w. of_kind 8 (mails_labels m.stores w t c.outbox)) (Mailed (mail_act (λ t k p. Land t k p)) t) (λ w l e. sym (lands_asked m start s shows list w l e t c is)))
 
     grants_are : of_kind 2 asked_cells ≡ T idle (by_status s (grants_of s m.plan.script.hosts))
     grants_are = over_cells 2 (λ cs. T idle cs) (taken_flat idle) (Stated (grants_of s m.plan.script.hosts))
-        (λ t c is. only_status m.stores m.hands idle ws t c 2 refl refl refl refl refl refl ∙ by_idle (λ w. of_kind 2 (status_labels m.stores w t c.status)) (Stated (grants_of s m.plan.script.hosts) t) (λ w l e. sym (grants_asked laws m start s stands_for list w l e t c is)))
+        (λ t c is. only_status m.stores m.hands idle ws t c 2 refl refl refl refl refl refl ∙ by_idle (λ w. of_kind 2 (status_labels m.stores w t c.status)) (Stated (grants_of s m.plan.script.hosts) t) (λ w l e. sym (grants_asked m start s shows list w l e t c is)))
 
     starts_are : of_kind 4 asked_cells ≡ T idle (by_status s (starts_of s m.plan.script.hosts))
     starts_are = over_cells 4 (λ cs. T idle cs) (taken_flat idle) (Stated (starts_of s m.plan.script.hosts))
-        (λ t c is. only_status m.stores m.hands idle ws t c 4 refl refl refl refl refl refl ∙ by_idle (λ w. of_kind 4 (status_labels m.stores w t c.status)) (Stated (starts_of s m.plan.script.hosts) t) (λ w l e. sym (starts_asked laws m start s stands_for list w l e t c is)))
+        (λ t c is. only_status m.stores m.hands idle ws t c 4 refl refl refl refl refl refl ∙ by_idle (λ w. of_kind 4 (status_labels m.stores w t c.status)) (Stated (starts_of s m.plan.script.hosts) t) (λ w l e. sym (starts_asked m start s shows list w l e t c is)))
 
     no_cells : (n : ℕ) → (5 == n) ≡ false → (1 == n) ≡ false → (3 == n) ≡ false → (6 == n) ≡ false → (7 == n) ≡ false → (8 == n) ≡ false → (2 == n) ≡ false → (4 == n) ≡ false → of_kind n asked_cells ≡ []
     no_cells n x q v f p l g b = over_cells n (λ cs. []) (λ h ys. sym (flat_none (λ y. []) (λ y. refl) ys)) (λ t. []) (λ t c is. no_head m.stores m.hands idle ws t c n x q v f p l g b)
@@ -171,7 +170,7 @@ module _ (laws : Laws) (m : Kept) (start : Start) (s : TheState) (stands_for : S
       where
         one : (w : ℕ) → w < m.plan.workers → s.hands w ≡ None → of_kind 0 (admit_labels w m.head) ++ of_kind 0 (commit_labels w (m.first + length m.settled.results) m.commits) ≡ takes sys m.plan.workers s w (record { host = 0; act = Admit (next_ticket s) } ∷ [])
         one w l e =
-            let h = stands_for.shows.head in
+            let h = shows.head in
             let after_lines : s.admitted ≡ length h.lines = h.admitted ∙ sym h.as_many in
             let known_is : slice_get s.head.known s.admitted ≡ slice_get m.head.waiting 0 =
             (λ i. slice_get (ap (λ (x : Head Line). x.known) h.head i) (after_lines i)) ∙ slice_after h.lines m.head.waiting in
@@ -193,8 +192,8 @@ module _ (laws : Laws) (m : Kept) (start : Start) (s : TheState) (stands_for : S
       where
         one : (w : ℕ) → w < m.plan.workers → s.hands w ≡ None → of_kind 9 (admit_labels w m.head) ++ of_kind 9 (commit_labels w (m.first + length m.settled.results) m.commits) ≡ takes sys m.plan.workers s w (record { host = 0; act = Commit (suc (s.before + s.head.done)) } ∷ [])
         one w l e =
-            let h = stands_for.shows.head in
-            let r = stands_for.shows.results in
+            let h = shows.head in
+            let r = shows.results in
             let t = suc (s.before + s.head.done) in
             let before = h.before in
             let done : s.head.done ≡ m.head.done = ap (λ (x : Head Line). x.done) h.head in
@@ -262,7 +261,7 @@ module _ (laws : Laws) (m : Kept) (start : Start) (s : TheState) (stands_for : S
         by_status_of t (status.Waiting p) = sym (flat (λ y. []) [])
         by_status_of t (status.Ready p) = sym (flat (λ y. []) [])
         by_status_of t status.Ended = sym (flat (λ y. []) [])
-        by_status_of t (status.Running p) = by_place t p (place_in m.stores p) refl ∙ ap (λ o. X (at_host o (Stop t p))) (sym (place_same laws m start s stands_for list p))
+        by_status_of t (status.Running p) = by_place t p (place_in m.stores p) refl ∙ ap (λ o. X (at_host o (Stop t p))) (sym (place_same m start s shows list p))
 
         one : (t : ℕ) (c : Cell Actor) → IsCell m.plan.program c (s.cells t) → of_kind 5 (cell_labels m.stores m.hands idle ws t c) ≡ X (Stated (stops_of s m.plan.script.hosts) t)
         one t c is =
@@ -278,7 +277,7 @@ module _ (laws : Laws) (m : Kept) (start : Start) (s : TheState) (stands_for : S
       let same : m.plan.workers - 0 ≡ m.plan.workers = omega arith in
       let idle = idle_in s.hands (below m.plan.workers) in
       let ws = below m.plan.workers in
-      (λ i. in_order (asked_in m (sym (idle_same laws m start s stands_for list) i) (tickets_from 0 (same i))))
+      (λ i. in_order (asked_in m (sym (idle_same m start s shows list) i) (tickets_from 0 (same i))))
       ∙ in_order_is idle ws (idle_lowest s.hands m.plan.workers)
       ∙ ap (λ r. (T idle (early s m.plan.script.hosts) ++ r) ++ T idle (late s)) (stops_are idle ws (idle_lowest s.hands m.plan.workers) (λ cs. flat_map (stop_by sys m.plan.workers s) cs) (flat_flat (stop_by sys m.plan.workers s)) each)
     where
@@ -286,4 +285,4 @@ module _ (laws : Laws) (m : Kept) (start : Start) (s : TheState) (stands_for : S
       each t h p at = sym (
           append-nil (stop_by sys m.plan.workers s (record { host = h; act = Stop t p }))
           ∙ filter_passed can (λ w. record { worker = w; host = h; act = Stop t p }) (λ w. runs_it (s.hands w) t p) (λ w e. can_stop w t h p at e) (below m.plan.workers)
-          ∙ map_as (λ w. record { worker = w; host = h; act = Stop t p }) (λ w. runs_it (s.hands w) t p) (λ w. runs_out (slice_get m.hands w) t p) (λ w. runs_same laws m start s stands_for list w t p) (below m.plan.workers))
+          ∙ map_as (λ w. record { worker = w; host = h; act = Stop t p }) (λ w. runs_it (s.hands w) t p) (λ w. runs_out (slice_get m.hands w) t p) (λ w. runs_same m start s shows list w t p) (below m.plan.workers))

@@ -38,14 +38,13 @@ use Rattle.plan_actors.specs.PlanActors as actors
 use Rattle.plan_actors.specs.PlanActors.{plan_actors, plan_kind}
 use Rattle.wave_machine.specs.declared.actor.Actor.{Actor}
 use Rattle.wave_machine.specs.declared.kept.Out.{Out}
-use Rattle.wave_machine.specs.Machines.{IsCell, event_as, IsOut, Kept, Known, Stands, TheState}
+use Rattle.wave_machine.specs.Machines.{IsCell, event_as, IsOut, Kept, Shows, TheState}
 use Rattle.wave_machine.specs.inner.Asking.{enter_act, is_claim, is_next, is_next_in, label_at, mail_act as act_of_mail, mail_labels, mails_labels, of_kind, place_in, grant_labels, start_labels, status_labels, route_at, runs_out}
 use Rattle.wave_machine.specs.inner.Listable.{CanList}
 use Rattle.wave_machine.proofs.CellParts.{ThePart}
 use Rattle.wave_machine.proofs.Opening.{left_by, queue_found}
 use Rattle.wave_machine.proofs.Parts.{set_here_path}
 use Rattle.wave_machine.proofs.StoreParts.{at_host as at_written_host}
-use Rattle.wave_machine.proofs.Taking.{Laws, after, now}
 use Rattle.wave_machine.proofs.ListingLists.{map_flat, filter_flat, first_place, flat_same}
 use Rattle.wave_machine.proofs.ListingSteps.{act_for, followed_in, frees, grant_can, is_next_at, lands, passes, queues, taken_one, visits}
 
@@ -105,37 +104,34 @@ host_has c (x ∷ hs) h e = by_test (is_some (c.store x)) refl e (host_has c hs 
 below_is : (a b : ℕ) → a < b → nat_lt a b ≡ true
 below_is a b l = grind (arith, nat_tests)
 
-module _ (laws : Laws) (m : Kept) (start : Start) (s : TheState) (stands_for : Stands m start s) (list : CanList m.plan start s) where
+module _ (m : Kept) (start : Start) (s : TheState) (shows : Shows m s) (list : CanList m.plan start s) where
   abbrev sys : Actors actors.Actor Fields EventResult Line
   sys = plan_actors m.plan.program
 
-  known : Known m.plan start s
-  known = now laws m start s stands_for
-
   -- a host past the stores has neither an entry nor a mark
   nothing_past : (p : Path) (h : ℕ) → length m.stores ≤ h → ((s.columns p).store h ≡ None) × ((s.columns p).gone h ≡ None)
-  nothing_past p h l = let many = stands_for.shows.stores.as_many in let far : m.plan.script.hosts ≤ h = omega (arith, l, many) in known.bounds.elsewhere p h far
+  nothing_past p h l = let many = shows.stores.as_many in let far : m.plan.script.hosts ≤ h = omega (arith, l, many) in list.known.bounds.elsewhere p h far
 
   pub place_same : (p : Path) → place s m.plan.script.hosts p ≡ place_in m.stores p
   place_same p =
-      ap (λ n. host_in (s.columns p) (tickets_from 0 n)) (sym stands_for.shows.stores.as_many)
-      ∙ first_place (has p) (λ h. is_some ((s.columns p).store h)) (host_in (s.columns p)) refl (λ n ns. refl) m.stores (λ i st e. has_as st p (s.columns p) i (stands_for.shows.stores.each i st e p))
+      ap (λ n. host_in (s.columns p) (tickets_from 0 n)) (sym shows.stores.as_many)
+      ∙ first_place (has p) (λ h. is_some ((s.columns p).store h)) (host_in (s.columns p)) refl (λ n ns. refl) m.stores (λ i st e. has_as st p (s.columns p) i (shows.stores.each i st e p))
 
   pub idle_same : idle_in s.hands (below m.plan.workers) ≡ position is_none m.hands
   idle_same =
-      ap (λ n. idle_in s.hands (tickets_from 0 n)) (sym stands_for.shows.hands.as_many)
-      ∙ first_place is_none (λ w. is_none (s.hands w)) (idle_in s.hands) refl (λ n ns. refl) m.hands (λ i o e. idle_as o (s.hands i) (stands_for.shows.hands.each i o e))
+      ap (λ n. idle_in s.hands (tickets_from 0 n)) (sym shows.hands.as_many)
+      ∙ first_place is_none (λ w. is_none (s.hands w)) (idle_in s.hands) refl (λ n ns. refl) m.hands (λ i o e. idle_as o (s.hands i) (shows.hands.each i o e))
 
   pub runs_same : (w t : ℕ) (p : Path) → runs_it (s.hands w) t p ≡ runs_out (slice_get m.hands w) t p
   runs_same w t p = by_hand (slice_get m.hands w) refl
     where
       by_hand : (o : Option (Option Out)) → slice_get m.hands w ≡ o → runs_it (s.hands w) t p ≡ runs_out o t p
-      by_hand (Some o) e = runs_as o (s.hands w) t p (stands_for.shows.hands.each w o e)
+      by_hand (Some o) e = runs_as o (s.hands w) t p (shows.hands.each w o e)
       by_hand None e =
-          let many = stands_for.shows.hands.as_many in
+          let many = shows.hands.as_many in
           let l = slice_none m.hands w e in
           let far : m.plan.workers ≤ w = omega (arith, l, many) in
-          ap (λ h. runs_it h t p) (known.bounds.hands w far)
+          ap (λ h. runs_it h t p) (list.known.bounds.hands w far)
 
   pub placed_there : (p : Path) (h : ℕ) → place_in m.stores p ≡ Some h → is_some ((s.columns p).store h) ≡ true
   placed_there p h e = host_has (s.columns p) (below m.plan.script.hosts) h (place_same p ∙ e)
@@ -157,8 +153,8 @@ module _ (laws : Laws) (m : Kept) (start : Start) (s : TheState) (stands_for : S
         ∙ ap (λ (z : Column Fields). z.store mail.host) (sym (set_here_path s.columns mail.path left.bench.part.column))
         ∙ ap (λ (z : ThePart). z.column.store mail.host) (sym q.gives)
         ∙ at_written_host (s.columns mail.path) mail.host (in_line q.entry q.ask.number (record { ticket = t; peek = q.ask.peek })) in
-        let after_it = laws m.plan start (stands_for.labels ++ l ∷ []) v.0 stands_for.fits stands_for.begins (after laws m start s stands_for l v.0 v.1) in
-        let many = stands_for.shows.stores.as_many in
+        let after_it = list.next l v.0 v.1 in
+        let many = shows.stores.as_many in
         let far : m.plan.script.hosts ≤ mail.host = omega (arith, past, many) in
         none_not (sym (after_it.bounds.elsewhere mail.path mail.host far).0 ∙ here)
 
@@ -170,7 +166,7 @@ module _ (laws : Laws) (m : Kept) (start : Start) (s : TheState) (stands_for : S
         by_first false e past is_waiting = sym is_waiting
 
         by_store : (o : Option Stores) → slice_get m.stores mail.host ≡ o → route_at o mail.path a.followed ≡ route (s.columns mail.path) mail.host a.followed
-        by_store (Some st) e = route_is st mail.path (s.columns mail.path) mail.host a.followed (stands_for.shows.stores.each mail.host st e mail.path)
+        by_store (Some st) e = route_is st mail.path (s.columns mail.path) mail.host a.followed (shows.stores.each mail.host st e mail.path)
         by_store None e =
             let past = slice_none m.stores mail.host e in
             let none = nothing_past mail.path mail.host past in
@@ -231,7 +227,7 @@ module _ (laws : Laws) (m : Kept) (start : Start) (s : TheState) (stands_for : S
       visits_asked = mails_of_kind (mail_act (λ t k p. Labels.Visit t k p)) 3 (λ k mail e. visits sys m.plan.workers s w in_workers idle t event is.event k mail e mail.letter refl)
 
       pub frees_asked : takes sys m.plan.workers s w (by_event (s.cells t).event (λ e. flat_map (λ k. by_mail ((s.cells t).mails k) (mail_act (λ t k p. Free t k p) t k)) (tickets_from 1 e.sent))) ≡ of_kind 6 (mails_labels m.stores w t c.outbox)
-      frees_asked = mails_of_kind (mail_act (λ t k p. Free t k p)) 6 (λ k mail e. frees sys m.plan.workers s w in_workers idle t event is.event k mail e (λ z. let r = known.agree.releases t k mail e z in (r.0, r.1)) mail.letter refl)
+      frees_asked = mails_of_kind (mail_act (λ t k p. Free t k p)) 6 (λ k mail e. frees sys m.plan.workers s w in_workers idle t event is.event k mail e (λ z. let r = list.known.agree.releases t k mail e z in (r.0, r.1)) mail.letter refl)
 
       pub passes_asked : takes sys m.plan.workers s w (by_event (s.cells t).event (λ e. flat_map (λ k. by_mail ((s.cells t).mails k) (passes_of s t k)) (tickets_from 1 e.sent))) ≡ of_kind 7 (mails_labels m.stores w t c.outbox)
       passes_asked = mails_of_kind (passes_of s) 7 (λ k mail e. passes sys m.plan.workers s w in_workers idle t event is.event k mail e mail.letter refl)
@@ -250,7 +246,7 @@ module _ (laws : Laws) (m : Kept) (start : Start) (s : TheState) (stands_for : S
           next_here p h = by_store (slice_get m.stores h) refl
             where
               by_store : (o : Option Stores) → slice_get m.stores h ≡ o → is_next_at t ((s.columns p).store h) ≡ is_next t p o
-              by_store (Some st) e = sym (next_at t (table.get st.store p) ((s.columns p).store h) (stands_for.shows.stores.each h st e p).entry)
+              by_store (Some st) e = sym (next_at t (table.get st.store p) ((s.columns p).store h) (shows.stores.each h st e p).entry)
               by_store None e = ap (is_next_at t) (nothing_past p h (slice_none m.stores h e)).0
 
           by_place : (p : Path) (o : Option ℕ) → takes sys m.plan.workers s w (at_host o (Grant t p)) ≡ of_kind 2 (grant_labels m.stores w t p o)

@@ -53,14 +53,6 @@ filter_passed p g q h (y ∷ ys) = by_test (q y) refl (filter_passed p g q h ys)
     by_test false e rest = rest
     by_test true e rest = ap (λ b. cond b (g y ∷ filter p (map g (filter q ys))) (filter p (map g (filter q ys)))) (h y e) ∙ ap (λ r. g y ∷ r) rest
 
-pub filter_none : {X : Type 0} (p : X → Bool) → ((x : X) → p x ≡ false) → (xs : List X) → filter p xs ≡ []
-filter_none p h [] = refl
-filter_none p h (x ∷ xs) = ap (λ b. cond b (x ∷ filter p xs) (filter p xs)) (h x) ∙ filter_none p h xs
-
-pub filter_same : {X : Type 0} (p q : X → Bool) → ((x : X) → p x ≡ q x) → (xs : List X) → filter p xs ≡ filter q xs
-filter_same p q h [] = refl
-filter_same p q h (x ∷ xs) = λ i. cond (h x i) (x ∷ filter_same p q h xs i) (filter_same p q h xs i)
-
 -- what is left of a list once a loop has added for one more
 module _ {X Y : Type 0} (f : Y → List X) (ys : List Y) where
   pub one_more : (i : ℕ) (y : Y) → i < length ys → y ≡ get_or ys i y → (all base more : List X) → base ++ flat_map f (drop i ys) ≡ all → more ≡ base ++ f y → more ++ flat_map f (drop (i + 1) ys) ≡ all
@@ -68,21 +60,7 @@ module _ {X Y : Type 0} (f : Y → List X) (ys : List Y) where
       let first : flat_map f (drop i ys) ≡ f y ++ flat_map f (drop (i + 1) ys) = ap (flat_map f) (drop_more ys i y l) ∙ ap (λ z. f z ++ flat_map f (drop (i + 1) ys)) (sym at) in
       ap (λ r. r ++ flat_map f (drop (i + 1) ys)) add ∙ append_assoc base (f y) (flat_map f (drop (i + 1) ys)) ∙ ap (λ r. base ++ r) (sym first) ∙ e
 
-  pub no_more : (i : ℕ) → length ys ≤ i → (all base : List X) → base ++ flat_map f (drop i ys) ≡ all → base ≡ all
-  no_more i l all base e = sym (append-nil base) ∙ ap (λ r. base ++ flat_map f r) (sym (drop_all i ys l)) ∙ e
-
 module _ {X C : Type 0} (f : ℕ → C → List X) where
-  pub one_ticket_more : (cs : List C) (t i : ℕ) (c : C) → i < length cs → c ≡ get_or cs i c → (all base more : List X) → base ++ by_ticket f (t + i) (drop i cs) ≡ all → more ≡ base ++ f (t + i) c → more ++ by_ticket f (t + (i + 1)) (drop (i + 1) cs) ≡ all
-  one_ticket_more cs t i c l at all base more e add =
-      let next : suc (t + i) ≡ t + (i + 1) = omega arith in
-      let rest = by_ticket f (t + (i + 1)) (drop (i + 1) cs) in
-      let first : by_ticket f (t + i) (drop i cs) ≡ f (t + i) c ++ rest =
-      ap (by_ticket f (t + i)) (drop_more cs i c l) ∙ ap (λ z. f (t + i) z ++ by_ticket f (suc (t + i)) (drop (i + 1) cs)) (sym at) ∙ ap (λ n. f (t + i) c ++ by_ticket f n (drop (i + 1) cs)) next in
-      ap (λ r. r ++ rest) add ∙ append_assoc base (f (t + i) c) rest ∙ ap (λ r. base ++ r) (sym first) ∙ e
-
-  pub no_ticket_more : (cs : List C) (t i : ℕ) → length cs ≤ i → (all base : List X) → base ++ by_ticket f (t + i) (drop i cs) ≡ all → base ≡ all
-  no_ticket_more cs t i l all base e = sym (append-nil base) ∙ ap (λ r. base ++ by_ticket f (t + i) r) (sym (drop_all i cs l)) ∙ e
-
   pub filter_by_ticket : (p : X → Bool) (t : ℕ) (cs : List C) → filter p (by_ticket f t cs) ≡ by_ticket (λ u c. filter p (f u c)) t cs
   filter_by_ticket p t [] = refl
   filter_by_ticket p t (c ∷ cs) = filter-append p (f t c) (by_ticket f (suc t) cs) ∙ ap (λ r. filter p (f t c) ++ r) (filter_by_ticket p (suc t) cs)
@@ -105,9 +83,6 @@ from_more a b l =
     let n : b - a ≡ suc (b - (a + 1)) = omega (arith, l) in
     let m : suc a ≡ a + 1 = omega arith in
     ap (tickets_from a) n ∙ ap (λ k. a ∷ tickets_from k (b - (a + 1))) m
-
-pub from_none : (a b : ℕ) → b ≤ a → tickets_from a (b - a) ≡ []
-from_none a b l = let n : b - a ≡ 0 = omega (arith, l) in ap (tickets_from a) n
 
 pub same_from : {X : Type 0} (f g : ℕ → List X) (n a : ℕ) → ((k : ℕ) → a ≤ k → f k ≡ g k) → flat_map f (tickets_from a n) ≡ flat_map g (tickets_from a n)
 same_from f g zero a h = refl

@@ -18,17 +18,16 @@ use Rattle.code_actor.specs.CodeActors.{Fields}
 use Rattle.plan_actors.specs.PlanActors as actors
 use Rattle.plan_actors.specs.PlanActors.{plan_actors}
 use Rattle.wave_machine.specs.declared.kept.Out.{Out}
-use Rattle.wave_machine.specs.Machines.{IsOut, Kept, Stands, TheState}
+use Rattle.wave_machine.specs.Machines.{IsOut, Kept, Shows, TheState}
 use Rattle.wave_machine.specs.inner.Asking.{asked_in, in_order, place_in, runs_out, stop_if, stop_labels}
 use Rattle.wave_machine.specs.inner.Listable.{CanList}
 use Rattle.wave_machine.proofs.ListingLists.{flat_none}
 use Rattle.wave_machine.proofs.ListingSteps.{step_is, taken_one}
 use Rattle.wave_machine.proofs.ListingKinds.{slice_none, runs_same}
-use Rattle.wave_machine.proofs.Taking.{Laws}
 use Rattle.wave_machine.proofs.ListingCells.{none_of, past_is, slice_within, within_is}
 use Rattle.wave_machine.proofs.ListingAll as all
 
-module _ (laws : Laws) (m : Kept) (start : Start) (s : TheState) (stands_for : Stands m start s) (list : CanList m.plan start s) where
+module _ (m : Kept) (start : Start) (s : TheState) (shows : Shows m s) (list : CanList m.plan start s) where
   abbrev sys : Actors actors.Actor Fields EventResult Line
   sys = plan_actors m.plan.program
 
@@ -39,10 +38,10 @@ module _ (laws : Laws) (m : Kept) (start : Start) (s : TheState) (stands_for : S
   T o cs = taken_by sys m.plan.workers s o cs
 
   takes_append : (w : ℕ) (xs ys : List Choice) → takes sys m.plan.workers s w (xs ++ ys) ≡ takes sys m.plan.workers s w xs ++ takes sys m.plan.workers s w ys
-  takes_append = all.takes_append laws m start s stands_for list
+  takes_append = all.takes_append m start s shows list
 
   takes_flat : {Y : Type 0} (w : ℕ) (f : Y → List Choice) (ys : List Y) → takes sys m.plan.workers s w (flat_map f ys) ≡ flat_map (λ y. takes sys m.plan.workers s w (f y)) ys
-  takes_flat = all.takes_flat laws m start s stands_for list
+  takes_flat = all.takes_flat m start s shows list
 
   -- one worker's list
   module _ (w : ℕ) (within : w < m.plan.workers) where
@@ -56,10 +55,10 @@ module _ (laws : Laws) (m : Kept) (start : Start) (s : TheState) (stands_for : S
         none (Some g) e = ap (λ b. if b then with_hand None (stop sys p h g (part_of s t p)) else None) e
 
     stop_is : (t h : ℕ) (p : Path) → place_in m.stores p ≡ Some h → can (record { worker = w; host = h; act = Stop t p }) ≡ runs_out (slice_get m.hands w) t p
-    stop_is t h p at = by_test (runs_it (s.hands w) t p) refl ∙ runs_same laws m start s stands_for list w t p
+    stop_is t h p at = by_test (runs_it (s.hands w) t p) refl ∙ runs_same m start s shows list w t p
       where
         by_test : (b : Bool) → runs_it (s.hands w) t p ≡ b → can (record { worker = w; host = h; act = Stop t p }) ≡ runs_it (s.hands w) t p
-        by_test true e = all.can_stop laws m start s stands_for list w t h p at e ∙ sym e
+        by_test true e = all.can_stop m start s shows list w t h p at e ∙ sym e
         by_test false e = stop_not t h p e ∙ sym e
 
     own_stops : (t h : ℕ) (p : Path) → place_in m.stores p ≡ Some h → stop_labels m.stores m.hands (w ∷ []) t p (Some h) ≡ takes sys m.plan.workers s w (record { host = h; act = Stop t p } ∷ [])
@@ -71,8 +70,8 @@ module _ (laws : Laws) (m : Kept) (start : Start) (s : TheState) (stands_for : S
     own_is idle idles early_too late_too =
         let one : w + 1 - w ≡ 1 = omega arith in
         ap (λ n. in_order (asked_in m idle (tickets_from w n))) one
-        ∙ all.in_order_is laws m start s stands_for list idle (w ∷ []) idles
-        ∙ (λ i. (early_too i ++ all.stops_are laws m start s stands_for list idle (w ∷ []) idles (λ cs. takes sys m.plan.workers s w cs) (takes_flat w) own_stops i) ++ late_too i)
+        ∙ all.in_order_is m start s shows list idle (w ∷ []) idles
+        ∙ (λ i. (early_too i ++ all.stops_are m start s shows list idle (w ∷ []) idles (λ cs. takes sys m.plan.workers s w cs) (takes_flat w) own_stops i) ++ late_too i)
         ∙ ap (λ r. r ++ takes sys m.plan.workers s w (late s)) (sym (takes_append w (early s m.plan.script.hosts) (stops s m.plan.script.hosts)))
         ∙ sym (takes_append w (early s m.plan.script.hosts ++ stops s m.plan.script.hosts) (late s))
 
@@ -194,10 +193,10 @@ module _ (laws : Laws) (m : Kept) (start : Start) (s : TheState) (stands_for : S
       by_hand : (o : Option (Option Out)) → slice_get m.hands w ≡ o → Some idle ≡ option_map is_none o → in_order (asked_in m (if idle then Some w else None) (tickets_from w (w + 1 - w))) ≡ enabled_for sys m.plan.workers m.plan.script.hosts s w
       by_hand None at k = absurd (none_not (sym k))
       by_hand (Some out) at k =
-          let many = stands_for.shows.hands.as_many in
+          let many = shows.hands.as_many in
           let place = slice_within m.hands w out at in
           let within : w < m.plan.workers = omega (arith, many, place) in
-          ap (λ b. in_order (asked_in m (if b then Some w else None) (tickets_from w (w + 1 - w)))) (some_same idle (is_none out) k) ∙ by_out out (s.hands w) (stands_for.shows.hands.each w out at) refl within
+          ap (λ b. in_order (asked_in m (if b then Some w else None) (tickets_from w (w + 1 - w)))) (some_same idle (is_none out) k) ∙ by_out out (s.hands w) (shows.hands.each w out at) refl within
 
   -- and one that there is not
   pub past_lists : (w : ℕ) → None ≡ option_map is_none (slice_get m.hands w) → [] ≡ enabled_for sys m.plan.workers m.plan.script.hosts s w
@@ -205,7 +204,7 @@ module _ (laws : Laws) (m : Kept) (start : Start) (s : TheState) (stands_for : S
     where
       by_hand : (o : Option (Option Out)) → slice_get m.hands w ≡ o → None ≡ option_map is_none o → [] ≡ enabled_for sys m.plan.workers m.plan.script.hosts s w
       by_hand None at k =
-          let many = stands_for.shows.hands.as_many in
+          let many = shows.hands.as_many in
           let place = slice_none m.hands w at in
           let far : m.plan.workers ≤ w = omega (arith, many, place) in
           nobody_lists w far

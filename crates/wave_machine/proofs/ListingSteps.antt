@@ -222,9 +222,6 @@ module _ {A F R J : Type 0} (sys : Actors A F R J) where
           abbrev pub mail_label : Letter F → List Label
           mail_label l = label_at w h (act_for t k p l (route x.column h (followed_in l)))
 
-          abbrev Takes : (ℕ → ℕ → Path → Act) → List Label
-          Takes f = takes sys workers s w (mail_act f t k m)
-
           pub queues : (l : Letter F) → m.letter ≡ l → takes sys workers s w (mail_act (λ t k p. Queue t k p) t k m) ≡ of_kind 1 (mail_label l)
           queues (Enter a) e =
               taken_one w h (Queue t k p) (is_in (route x.column h a.followed)) (queue_can (Enter a) e ∙ then_made (λ en. queued t k p h x event a en) (entry_for sys p h x.column (route x.column h a.followed)) ∙ entered_is p h a.followed x.column)

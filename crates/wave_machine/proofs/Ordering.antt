@@ -17,14 +17,6 @@ module _ {X : Type 0} (P : X → Type 0) where
   all_append [] ys a b = b
   all_append (x ∷ xs) ys a b = (a.0, all_append xs ys a.1 b)
 
-  pub all_left : (xs ys : List X) → AllByRecursion P (xs ++ ys) → AllByRecursion P xs
-  all_left [] ys a = tt
-  all_left (x ∷ xs) ys a = (a.0, all_left xs ys a.1)
-
-  pub all_right : (xs ys : List X) → AllByRecursion P (xs ++ ys) → AllByRecursion P ys
-  all_right [] ys a = a
-  all_right (x ∷ xs) ys a = all_right xs ys a.1
-
   pub all_filter : (Q : X → Type 0) (test : X → Bool) → ((x : X) → test x ≡ true → Q x → P x) → (xs : List X) → AllByRecursion Q xs → AllByRecursion P (filter test xs)
   all_filter Q test h [] a = tt
   all_filter Q test h (x ∷ xs) a = by_test (test x) refl (all_filter Q test h xs a.1)

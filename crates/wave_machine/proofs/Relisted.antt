@@ -263,10 +263,6 @@ none_of_kind : (P : Label → Type 0) (k : ℕ) → ((l : Label) → P l → kin
 none_of_kind P k h [] a = refl
 none_of_kind P k h (l ∷ ls) a = ap (λ b. cond b (l ∷ of_kind k ls) (of_kind k ls)) (differ (kind_of l.act) k (h l a.0)) ∙ none_of_kind P k h ls a.1
 
-all_of_kind : (k : ℕ) (ls : List Label) → AllByRecursion (λ (l : Label). kind_of l.act ≡ k) ls → of_kind k ls ≡ ls
-all_of_kind k [] a = refl
-all_of_kind k (l ∷ ls) a = ap (λ b. cond b (l ∷ of_kind k ls) (of_kind k ls)) (ap (λ n. n == k) a.0 ∙ number_self k) ∙ ap (λ r. l ∷ r) (all_of_kind k ls a.1)
-
 module _ (a c b : List Label) (firsts : AllByRecursion IsFirst a) (lasts : AllByRecursion IsLast c) (inner : AllByRecursion IsInner b) where
   -- the Commit is what is past all else
   abbrev pub low_last : List Label

@@ -24,7 +24,7 @@ use Rattle.wave_machine.specs.declared.actor.Actor.{Actor}
 use Rattle.wave_machine.specs.declared.ready.Ready.{Ready}
 use Rattle.wave_machine.specs.Machines.{Kept}
 use Rattle.wave_machine.specs.inner.Asking.{IsNumbered, in_order, label_at, mail_labels}
-use Rattle.wave_machine.specs.inner.Index.{AreOwn, Below, Cuts, From, Goes, IsBelow, IsFrom, IsHead, IsOwn, Lists, ListsNew, Relists, RelistsNear, RelistsNext, RelistsOwn, asked_as, by_none, by_slot, cell_at, numbers_in, slot_at, share_of, slot_by, with_above, with_next, with_own, with_slot}
+use Rattle.wave_machine.specs.inner.Index.{AreOwn, Below, Cuts, From, Goes, IsBelow, IsFrom, IsHead, IsOwn, Lists, ListsNew, Relists, RelistsBoth, RelistsNear, RelistsNext, RelistsOwn, asked_as, by_none, by_slot, cell_at, numbers_in, slot_at, share_of, slot_by, with_above, with_next, with_own, with_slot}
 use Rattle.wave_machine.proofs.ListingLists.{by_number, find_apart, find_first, flat_none, less_is}
 use Rattle.wave_machine.proofs.Ordering.{all_append, all_map, flat_append, middle_of, numbers_append, same_numbered}
 use Rattle.wave_machine.proofs.Owned.{at_slot, before, before_below, behind, behind_from, numbers_below, numbers_from, one_slot, other_number, other_ticket, own_as, own_mail, own_next, own_slot, own_with, split_at, split_new}
@@ -315,24 +315,35 @@ own_above m part t n own = record {
 pub own_two : (m : Kept) (t k : ℕ) (a b c : List Ready) → Relists m t 0 a b → Relists m t k b c → RelistsOwn m t k a c
 own_two m t k a b c first second = record { parts = λ h head part own e. second.parts h head (with_slot part t 0 (slot_at m t 0)) (own_with m part t 0 own) (first.parts h head part own e) }
 
-pub own_one : (m : Kept) (t k : ℕ) (a b : List Ready) → k ≡ 0 → Relists m t 0 a b → RelistsOwn m t k a b
-own_one m t k a b zero_is first = subst (λ n. RelistsOwn m t n a b) (sym zero_is) (record { parts = λ h head part own e. first.parts h head part own e ∙ ap (λ r. in_order (h ++ r)) (same_slots m (with_slot part t 0 (slot_at m t 0)) (with_own m t 0 part) (λ u j low high within. sym (twice part u j))) })
+-- a status that is listed anew twice
+twice : (m : Kept) (t : ℕ) (part : ℕ → ℕ → List Label) (u j : ℕ) → with_own m t 0 part u j ≡ with_slot part t 0 (slot_at m t 0) u j
+twice m t part u j = by_test ((u == t) && (j == 0))
   where
-    twice : (part : ℕ → ℕ → List Label) (u j : ℕ) → with_own m t 0 part u j ≡ with_slot part t 0 (slot_at m t 0) u j
-    twice part u j = by_test ((u == t) && (j == 0))
-      where
-        by_test : (b : Bool) → (if b then slot_at m t 0 else (if b then slot_at m t 0 else part u j)) ≡ (if b then slot_at m t 0 else part u j)
-        by_test true = refl
-        by_test false = refl
+    by_test : (b : Bool) → (if b then slot_at m t 0 else (if b then slot_at m t 0 else part u j)) ≡ (if b then slot_at m t 0 else part u j)
+    by_test true = refl
+    by_test false = refl
 
-pub near : (m : Kept) (t k n : ℕ) (before after : Option ℕ) (a b c d e : List Ready) → RelistsOwn m t k a b → ListsNew m t n b c → RelistsNext m before c d → RelistsNext m after d e → RelistsNear m t k n before after a e
-near m t k n before after a b c d e first second third fourth = record {
+pub own_one : (m : Kept) (t k : ℕ) (a b : List Ready) → k ≡ 0 → Relists m t 0 a b → RelistsOwn m t k a b
+own_one m t k a b zero_is first = subst (λ n. RelistsOwn m t n a b) (sym zero_is) (record { parts = λ h head part own e. first.parts h head part own e ∙ ap (λ r. in_order (h ++ r)) (same_slots m (with_slot part t 0 (slot_at m t 0)) (with_own m t 0 part) (λ u j low high within. sym (twice m t part u j))) })
+
+pub both_two : (m : Kept) (before after : Option ℕ) (a b c : List Ready) → RelistsNext m before a b → RelistsNext m after b c → RelistsBoth m before after a c
+both_two m before after a b c first second = record { parts = λ h head part own e. second.parts h head (with_next m before part) (own_next m before part own) (first.parts h head part own e) }
+
+pub both_one : (m : Kept) (before after : Option ℕ) (a b : List Ready) → after ≡ before → RelistsNext m before a b → RelistsBoth m before after a b
+both_one m before after a b same first = subst (λ o. RelistsBoth m before o a b) (sym same) (record { parts = λ h head part own e. first.parts h head part own e ∙ ap (λ r. in_order (h ++ r)) (same_slots m (with_next m before part) (with_next m before (with_next m before part)) (λ u j low high within. sym (next_twice before part u j))) })
+  where
+    next_twice : (next : Option ℕ) (part : ℕ → ℕ → List Label) (u j : ℕ) → with_next m next (with_next m next part) u j ≡ with_next m next part u j
+    next_twice None part u j = refl
+    next_twice (Some t) part u j = twice m t part u j
+
+pub near : (m : Kept) (t k n : ℕ) (before after : Option ℕ) (a b c d : List Ready) → RelistsOwn m t k a b → ListsNew m t n b c → RelistsBoth m before after c d → RelistsNear m t k n before after a d
+near m t k n before after a b c d first second third = record {
   parts = λ h head part own gone l is.
       let one = with_own m t k part in
       let own_one = own_with m (with_slot part t 0 (slot_at m t 0)) t k (own_with m part t 0 own) in
       let two = with_above m t n one in
       let own_two = own_above m one t n own_one in
-      fourth.parts h head (with_next m before two) (own_next m before two own_two) (third.parts h head two own_two (second.parts h head one own_one (λ j past. still part gone l j past) (first.parts h head part own is)));
+      third.parts h head two own_two (second.parts h head one own_one (λ j past. still part gone l j past) (first.parts h head part own is));
 }
   where
     still : (part : ℕ → ℕ → List Label) → ((j : ℕ) → n < j → part t j ≡ []) → k ≤ n → (j : ℕ) → n < j → with_own m t k part t j ≡ []

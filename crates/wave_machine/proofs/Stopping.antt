@@ -125,9 +125,6 @@ module _ {A F R J : Type 0} (sys : Actors A F R J) (host : ℕ) (x : Part A F R)
         hand = ap (λ (b : Bench A F R). b.hand) n.2;
       }
 
-running_on : (p : Path) → Running p ≡ Ended → ⊥
-running_on p e = cc
-
 module _ (m : Kept) (s s' : TheState) (lease : Lease) (why : Pause) (host : ℕ) (h : Shows m s) (back : IsBack m.plan.program s lease why) (taking : step (plan_actors m.plan.program) m.plan.workers s (stop_of lease host) ≡ Some s') where
   abbrev t : ℕ
   t = lease.ticket.0

@@ -64,20 +64,6 @@ same_asks m m' same = record {
   settled = ap (λ (x : Ledger). length x.results) same.settled;
 }
 
-pub nothing_asked : (m m' : Kept) → m' ≡ m → AsksTheSame m m'
-nothing_asked m m' e = subst (AsksTheSame m) (sym e) (record {
-  others = record {
-    first = refl;
-    cells = λ i c c' apart was is. subst (AsksAs c) (some_same c c' (sym was ∙ is)) (record { status = refl; sent = refl; mails = refl });
-    as_many_stores = refl;
-    stores = λ h q st st' apart was is. subst (λ x. AnswersAs st x q) (some_same st st' (sym was ∙ is)) (record { entry = refl; mark = refl });
-  };
-  as_many = refl;
-  next = refl;
-  ready = refl;
-  settled = refl;
-})
-
 -- ---- one after another
 
 module _ (m n o : Kept) (a : AsksTheSame m n) where
@@ -184,18 +170,3 @@ entry_answers s s' p e e' there same writes q = by_path (path_eq q p) refl
     by_path : (b : Bool) → path_eq q p ≡ b → AnswersAs s s' q
     by_path true is = subst (AnswersAs s s') (sym ((path_eq_decides q p).0 is)) here
     by_path false is = written_apart s s' p e' writes q (λ one. true≢false (sym ((path_eq_decides q p).1 one) ∙ is))
-
--- a head with other rooms, and what is committed as it was
-pub head_asks : (m : Kept) (head : Heading) → next_ticket head ≡ next_ticket m.head → AsksTheSame m (record { plan = m.plan; first = m.first; head = head; commits = m.commits; settled = m.settled; cells = m.cells; stores = m.stores; hands = m.hands })
-head_asks m head next = record {
-  others = record {
-    first = refl;
-    cells = λ i c c' apart was is. subst (AsksAs c) (some_same c c' (sym was ∙ is)) (record { status = refl; sent = refl; mails = refl });
-    as_many_stores = refl;
-    stores = λ h q s s' apart was is. subst (λ x. AnswersAs s x q) (some_same s s' (sym was ∙ is)) (record { entry = refl; mark = refl });
-  };
-  as_many = refl;
-  next = next;
-  ready = refl;
-  settled = refl;
-}

@@ -1,10 +1,12 @@
 -- What can be done by an idle worker, as a list that does not say who.
-use Rattle.std.specs.Prelude.{List, [], Some, map}
+use Rattle.std.specs.Prelude.{suc, List, map}
 use Rattle.wave_labels.specs.Labels.{act_of}
+use Rattle.wave_states.specs.Canonical.{enabled_for}
 use Rattle.wave_states.specs.Labels.{Choice, Label}
+use Rattle.plan_actors.specs.PlanActors.{plan_actors}
+use Rattle.plan_actors.specs.Plans.{Plan}
 use Rattle.wave_machine.specs.declared.ready.Ready.{Ready}
-use Rattle.wave_machine.specs.Machines.{Kept}
-use Rattle.wave_machine.specs.inner.Asking.{asked_in, in_order}
+use Rattle.wave_machine.specs.Machines.{TheState}
 
 abbrev pub choice_of : Ready → Choice
 choice_of r = record { host = r.host.0; act = act_of r.act }
@@ -12,6 +14,7 @@ choice_of r = record { host = r.host.0; act = act_of r.act }
 abbrev pub unlabelled : Label → Choice
 unlabelled l = record { host = l.host; act = l.act }
 
--- what an idle worker may take, in the canonical order, without who takes it
-abbrev pub ready_in : Kept → List Choice
-ready_in m = map unlabelled (in_order (asked_in m (Some 0) []))
+-- What an idle worker can do at a state: the list of one worker more than the plan has, without who takes it. That one is idle, since
+-- workers past the plan's number have nothing in hand.
+abbrev pub ready_in : Plan → TheState → List Choice
+ready_in plan s = map unlabelled (enabled_for (plan_actors plan.program) (suc plan.workers) plan.script.hosts s plan.workers)

@@ -10,10 +10,9 @@ ghost use Rattle.wave_machine.specs.Readies.{choice_of, ready_in};
 ghost use Rattle.wave_machine.specs.inner.Index.{IsListed, IsPickOf};
 
 use crate::index::place;
-use crate::laws::states_are_known;
 use crate::listable::states_list;
 use crate::listed::Listed;
-use crate::order::kind_of;
+use crate::order::{is_late, kind_of};
 use crate::ready::Ready;
 use wave_base::{Ticket, Worker};
 use wave_labels::Label;
@@ -24,10 +23,9 @@ impl<'p> Listed<'p> {
     // What an idle worker can do, in the canonical order, without who does it.
     pub(crate) fn ready(&self) -> &[Ready]
         requires { IsListed self.now }
-        ensures ready { map choice_of result.now ≡ ready_in (kept_of self.now.engine) }
+        ensures ready { (start : Start) (s : TheState) → Stands (kept_of self.now.engine) start s → map choice_of result.now ≡ ready_in (kept_of self.now.engine).plan s }
         ensures taken { (w : ℕ) (start : Start) (s : TheState) → slice_get self.now.engine.hands.items w ≡ Some None → Stands (kept_of self.now.engine) start s → map (λ r. taken_as w (choice_of r)) result.now ≡ enabled_for (plan_actors (kept_of self.now.engine).plan.program) (kept_of self.now.engine).plan.workers (kept_of self.now.engine).plan.script.hosts s w }
     {
-        states_are_known();
         states_list();
         self.index.as_slice()
     }
@@ -39,7 +37,6 @@ impl<'p> Listed<'p> {
         requires idle { slice_get self.now.engine.hands.items worker.0 ≡ Some None }
         ensures { (start : Start) (s : TheState) → Stands (kept_of self.now.engine) start s → IsOneOf (enabled_for (plan_actors (kept_of self.now.engine).plan.program) (kept_of self.now.engine).plan.workers (kept_of self.now.engine).plan.script.hosts s worker.0) result }
     {
-        states_are_known();
         states_list();
         match one_of_last(&self.index) {
             Some(ready) => Some(ready.by(worker)),
@@ -48,18 +45,16 @@ impl<'p> Listed<'p> {
     }
 }
 
-// One of the last kind: of a Free, Pass, Land or Commit the last one, behind which nothing moves when it is taken out, and else the
-// first one.
+// One of the last kind: the last one of a late kind, behind which nothing moves when it is taken out, and else the first one.
 fn one_of_last(index: &[Ready]) -> Option<Ready>
     ensures { IsPickOf index.now result }
 {
     match index.last() {
         Some(last) => {
-            let kind = kind_of(&last.act);
-            if kind > 5 {
+            if is_late(&last.act) {
                 return Some(*last);
             }
-            match index.get(place(index, kind, Ticket(0), 0)) {
+            match index.get(place(index, kind_of(&last.act), Ticket(0), 0)) {
                 Some(first) => Some(*first),
                 None => Some(*last),
             }

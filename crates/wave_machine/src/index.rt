@@ -10,7 +10,7 @@ ghost use Rattle.wave_theory.specs.Listed.{kind_of};
 ghost use Rattle.wave_machine.specs.inner.Asking.{in_order, labels_in};
 ghost use Rattle.wave_machine.specs.inner.Index.{Cuts, CutsKind, Goes, IsInner, Parted, by_none, is_before, is_of, kinds_at, number_of, under};
 
-use crate::order::kind_of;
+use crate::order::{COMMIT, FREE, GRANT, LAND, PASS, QUEUE, START, VISIT, kind_of};
 use crate::ready::Ready;
 use wave_base::Ticket;
 use wave_labels::{Act, Label};
@@ -118,14 +118,14 @@ pub(crate) fn cut_slot(index: &mut Vec<Ready>, ticket: Ticket, number: u32)
     }
 }
 
-// A status asks for a Grant or a Start; a mail asks for a Queue, Visit, Free, Pass or Land.
+// The kinds that a status asks for, and those that a mail asks for.
 fn kinds_at(number: u32) -> &'static [u8]
     ensures { result.now ≡ kinds_at number }
 {
     if number == 0 {
-        &[2, 4]
+        &[GRANT, START]
     } else {
-        &[1, 3, 6, 7, 8]
+        &[QUEUE, VISIT, FREE, PASS, LAND]
     }
 }
 
@@ -161,7 +161,7 @@ pub(crate) fn cut_commit(index: &mut Vec<Ready>)
     ensures len { vec_len index.new ≤ vec_len index.old }
     ensures capacity { vec_capacity index.new ≡ vec_capacity index.old }
 {
-    let last = place(index, 9, Ticket(0), 0);
+    let last = place(index, COMMIT, Ticket(0), 0);
     index.truncate(last);
 }
 
@@ -171,7 +171,7 @@ pub(crate) fn cut_admit(index: &mut Vec<Ready>)
     ensures len { vec_len index.new ≤ vec_len index.old }
     ensures capacity { vec_capacity index.new ≡ vec_capacity index.old }
 {
-    let first = place(index, 1, Ticket(0), 0);
+    let first = place(index, QUEUE, Ticket(0), 0);
     cut_first(index, first);
 }
 

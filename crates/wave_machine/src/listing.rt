@@ -21,6 +21,7 @@ use crate::known::heads_are_known;
 use crate::laws::states_are_known;
 use crate::listable::states_list;
 use crate::listed::Listed;
+use crate::order::STOP;
 use crate::ready::Ready;
 use crate::takers::{Takers, lowest_idle, own_takers};
 use event_cells::Status;
@@ -69,7 +70,7 @@ impl<'p> Listed<'p> {
     {
         let mut labels = Vec::new(*self.index.allocator());
         let index = self.index.as_slice();
-        let (early, late) = index.split_at(place(index, 5, Ticket(0), 0));
+        let (early, late) = index.split_at(place(index, STOP, Ticket(0), 0));
         add_all(&mut labels, takers.idle, early)?;
         self.engine.ask_all_stops(takers, self.done, &mut labels)?;
         add_all(&mut labels, takers.idle, late)?;

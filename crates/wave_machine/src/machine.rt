@@ -91,7 +91,7 @@ impl<'p> Machine<'p> {
     /// What an idle worker can do, or could if there were one, in the canonical order, without who does it. It is kept from label to
     /// label, and takes no memory.
     pub fn index(&self) -> &[Ready]
-        ensures ready { map choice_of result.now ≡ ready_in self.now.kept }
+        ensures ready { (start : Start) (s : TheState) → Stands self.now.kept start s → map choice_of result.now ≡ ready_in self.now.kept.plan s }
         ensures taken { (w : ℕ) (start : Start) (s : TheState) → slice_get self.now.kept.hands w ≡ Some None → Stands self.now.kept start s → map (λ r. taken_as w (choice_of r)) result.now ≡ enabled_for (plan_actors self.now.kept.plan.program) self.now.kept.plan.workers self.now.kept.plan.script.hosts s w }
     {
         self.listed.ready()

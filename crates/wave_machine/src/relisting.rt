@@ -13,12 +13,13 @@ ghost use Rattle.wave_states.specs.Labels.{path_of, ticket_of};
 ghost use Rattle.wave_machine.specs.Machines.{Kept};
 ghost use Rattle.wave_machine.specs.inner.Asking.{admit_labels, in_order, label_at, labels_in, mail_labels, IsListable, IsNumbered};
 ghost use Rattle.wave_machine.specs.inner.Done.{AreDone};
-ghost use Rattle.wave_machine.specs.inner.Index.{IsHead, IsInner, Lists, ListsNew, Relists, RelistsNear, RelistsNext, RelistsOwn, Taken, asked_as, asked_at, asked_of, by_none, by_part, cell_at, has_at, head_in, held_at, is_admit, next_at, next_of, number_of, sent_at, share_at, share_of, weight_of};
+ghost use Rattle.wave_machine.specs.inner.Index.{IsHead, IsInner, Lists, ListsNew, Relists, RelistsBoth, RelistsNear, RelistsNext, RelistsOwn, Taken, asked_as, asked_at, asked_of, by_none, by_part, cell_at, has_at, head_in, held_at, is_admit, next_at, next_of, number_of, sent_at, share_at, share_of, weight_of};
 
 use crate::actor::Actor;
 use crate::engine::Engine;
 use crate::index::{cut_admit, cut_commit, cut_slot, is_at, number_of, put_some, ticket_of};
 use crate::listed::Seen;
+use crate::order::ADMIT;
 use crate::ready::Ready;
 use context_queue::{Entry, entries_stand};
 use event_cells::{Cell, Envelope};
@@ -57,8 +58,8 @@ impl<'p> Engine<'p> {
         let ticket = ticket_of(&label.act);
         self.relist_own(ticket, number_of(&label.act), index);
         self.list_new(ticket, seen.sent, index);
-        self.relist_next(seen.next, index);
-        self.relist_next(self.next_at(label.host, &path_of(&label.act)), index);
+        let next = self.next_at(label.host, &path_of(&label.act));
+        self.relist_both(seen.next, next, index);
     }
 
     // Lists anew what the status of a ticket asks for, and one of its mails; number 0 where there is none.
@@ -117,6 +118,20 @@ impl<'p> Engine<'p> {
         match next {
             Some(ticket) => self.relist_slot(ticket, 0, index),
             None => (),
+        }
+    }
+
+    // Lists anew what the statuses of who was next in a line and of who is now ask for; once, where they are the same.
+    fn relist_both(&self, before: Option<Ticket>, after: Option<Ticket>, index: &mut Vec<Ready>)
+        requires listable { IsListable (kept_of self.now) }
+        requires room { vec_len index.old + 2 ≤ vec_capacity index.old }
+        ensures relists { RelistsBoth (kept_of self.now) (option_map (λ t. t.0) before) (option_map (λ t. t.0) after) index.old.items index.new.items }
+        ensures len { vec_len index.new ≤ vec_len index.old + 2 }
+        ensures capacity { vec_capacity index.new ≡ vec_capacity index.old }
+    {
+        self.relist_next(before, index);
+        if after != before {
+            self.relist_next(after, index);
         }
     }
 
@@ -235,7 +250,7 @@ impl<'p> Engine<'p> {
         ensures { result ≡ is_admit (next_ticket self.now.head) (slice_get index.now 0) }
     {
         match self.head.next() {
-            Some(ticket) => is_at(index, 0, 0, ticket, 0),
+            Some(ticket) => is_at(index, 0, ADMIT, ticket, 0),
             None => false,
         }
     }

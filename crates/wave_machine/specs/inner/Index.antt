@@ -208,6 +208,10 @@ with_next m (Some t) part = with_slot part t 0 (slot_at m t 0)
 pub record RelistsNext (m : Kept) (next : Option ℕ) (old new : List Ready) : Type 0 where
   pub parts : (h : List Label) → IsHead h → (part : ℕ → ℕ → List Label) → AreOwn part → map by_none old ≡ in_order (h ++ by_slot m part) → map by_none new ≡ in_order (h ++ by_slot m (with_next m next part))
 
+-- of who was next in a line, and of who is now
+pub record RelistsBoth (m : Kept) (before after : Option ℕ) (old new : List Ready) : Type 0 where
+  pub parts : (h : List Label) → IsHead h → (part : ℕ → ℕ → List Label) → AreOwn part → map by_none old ≡ in_order (h ++ by_slot m part) → map by_none new ≡ in_order (h ++ by_slot m (with_next m after (with_next m before part)))
+
 -- of a ticket the mails whose numbers are above one
 abbrev pub with_above : Kept → ℕ → ℕ → (ℕ → ℕ → List Label) → ℕ → ℕ → List Label
 with_above m t n part u j = if (u == t) && nat_lt n j then slot_at m t j else part u j

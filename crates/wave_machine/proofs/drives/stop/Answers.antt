@@ -59,4 +59,4 @@ returns-in-Ok-clause-leads c =
     let there : slice_get ends w ≡ Some (Some end) = at ∙ ap Some (sym c.replace-end.ensures.value ∙ c.unwrap-lease.ensures) in
     subst (λ (o : Option End). Leads m ends l m' (slice_set ends w o)) (sym c.replace-end.ensures.after)
     (stopped_leads m m' ends end w c.args.host.0 c.in-Ok.field-0.host.0 c.args.ticket.0 c.args.path (ap (λ (p : Bor Plan). plan_of p.now) c.stop.ensures.plan) (within_ends m ends l on) there
-    (λ start s st. c.states_list.ensures m.plan start st.labels s st.fits st.begins st.reached) (λ start s st. c.states_drive.ensures m.plan start st.labels s st.fits st.begins st.reached) c.in-Ok.ensures.enabled c.in-Ok.ensures.stops)
+    (λ start s st. c.states_list.ensures.can m.plan start st.labels s st.fits st.begins st.reached) (λ start s st. c.states_drive.ensures m.plan start st.labels s st.fits st.begins st.reached) c.in-Ok.ensures.enabled c.in-Ok.ensures.stops)

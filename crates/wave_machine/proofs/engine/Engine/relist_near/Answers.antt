@@ -4,7 +4,7 @@ use Rattle.wave_base.specs.declared.numbers.Ticket.{Ticket}
 use Rattle.wave_labels.specs.Labels.{act_of}
 use Rattle.wave_states.specs.Labels.{path_of}
 use Rattle.wave_machine.specs.Keeping.{kept_of}
-use Rattle.wave_machine.specs.inner.Index.{RelistsNear, RelistsNext, next_at, number_of}
+use Rattle.wave_machine.specs.inner.Index.{RelistsBoth, RelistsNear, next_at, number_of}
 use Rattle.wave_machine.proofs.Renewed.{near}
 use Rattle.wave_machine.proofs.engine.Engine.relist_near.Goals as goal
 
@@ -20,10 +20,9 @@ returns-clause-relists c =
     let old = c.args.index.now.items in
     let one = c.relist_own.new.index.items in
     let two = c.list_new.new.index.items in
-    let three = c.relist_next.new.index.items in
-    let new = c.relist_next-2.new.index.items in
+    let new = c.relist_both.new.index.items in
     subst (λ u. RelistsNear m u (number_of act) n before (next_at (path_of act) store) old new) c.ticket_of-ticket.ensures
     (subst (λ j. RelistsNear m t j n before (next_at (path_of act) store) old new) c.number_of.ensures
     (subst (λ q. RelistsNear m t k n before (next_at q store) old new) c.path_of.ensures
-    (near m t k n before (next_at c.path_of.result store) old one two three new c.relist_own.ensures.relists c.list_new.ensures.lists c.relist_next.ensures.relists
-    (subst (λ o. RelistsNext m o three new) c.next_at.ensures c.relist_next-2.ensures.relists))))
+    (near m t k n before (next_at c.path_of.result store) old one two new c.relist_own.ensures.relists c.list_new.ensures.lists
+    (subst (λ o. RelistsBoth m before o two new) c.next_at-next.ensures c.relist_both.ensures.relists))))

@@ -21,4 +21,4 @@ returns c =
     let idle = c.lowest_idle.ensures ∙ hands in
     if_ok c.listing.result (λ ls e start s stands.
     e ∙ ap (λ (o : Option ℕ). in_order (asked_in m o (tickets_from 0 (m.plan.workers - 0)))) idle
-    ∙ enabled_is c.states_are_known.ensures m start s stands (c.states_list.ensures m.plan start stands.labels s stands.fits stands.begins stands.reached)) c.listing.ensures
+    ∙ enabled_is m start s stands.shows (c.states_list.ensures.can m.plan start stands.labels s stands.fits stands.begins stands.reached)) c.listing.ensures

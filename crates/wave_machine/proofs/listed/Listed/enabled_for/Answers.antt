@@ -21,10 +21,10 @@ returns-in-Some c =
     if_ok c.listing.result (λ ls e start s stands.
     e
     ∙ (λ i. in_order (asked_in m (takers.idle i) (tickets_from (takers.from i) (takers.to i - takers.from i))))
-    ∙ own_lists c.states_are_known.ensures m start s stands (c.states_list.ensures m.plan start stands.labels s stands.fits stands.begins stands.reached) c.args.worker.0 c.in-Some.idle c.in-Some.ensures.idle) c.listing.ensures
+    ∙ own_lists m start s stands.shows (c.states_list.ensures.can m.plan start stands.labels s stands.fits stands.begins stands.reached) c.args.worker.0 c.in-Some.idle c.in-Some.ensures.idle) c.listing.ensures
 
 pub returns-in-None : goal.returns-in-None
 returns-in-None c = λ start s stands.
     let m = kept_of c.args.self.now.engine in
     ap (λ ls. map label_of ls) c.new.ensures
-    ∙ past_lists c.states_are_known.ensures m start s stands (c.states_list.ensures m.plan start stands.labels s stands.fits stands.begins stands.reached) c.args.worker.0 c.in-None.ensures.idle
+    ∙ past_lists m start s stands.shows (c.states_list.ensures.can m.plan start stands.labels s stands.fits stands.begins stands.reached) c.args.worker.0 c.in-None.ensures.idle

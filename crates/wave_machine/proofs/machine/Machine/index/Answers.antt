@@ -6,8 +6,11 @@ use Rattle.plan_actors.specs.PlanActors.{plan_actors}
 use Rattle.wave_machine.specs.declared.ready.Ready.{Ready}
 use Rattle.wave_machine.specs.Machines.{Stands, TheState}
 use Rattle.wave_machine.specs.Prepared.{Shown}
-use Rattle.wave_machine.specs.Readies.{choice_of}
+use Rattle.wave_machine.specs.Readies.{choice_of, ready_in}
 use Rattle.wave_machine.proofs.machine.Machine.index.Goals as goal
+
+pub returns-clause-ready : goal.returns-clause-ready
+returns-clause-ready c = subst (λ (z : Shown). (start : Start) (s : TheState) → Stands z.kept start s → map choice_of c.ready.result.now ≡ ready_in z.kept.plan s) c.self.view_is c.ready.ensures.ready
 
 pub returns-clause-taken : goal.returns-clause-taken
 returns-clause-taken c =
