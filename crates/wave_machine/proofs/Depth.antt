@@ -31,7 +31,8 @@ use Rattle.service_verify.specs.Standing.{HasFields}
 use Rattle.wave_states.specs.Results.{end_of, shots_of}
 use Rattle.wave_states.specs.States as theory
 use Rattle.wave_states.specs.States.{Column, Entry, Hand, Hold, Mail, hold_at, holds_as_peek, set, steps_of}
-use Rattle.wave_states.specs.Steps.{Desk, child_or_new, desk_back, into_child, part_of, segment_of, step}
+use Rattle.wave_states.specs.Desks.{Desk}
+use Rattle.wave_states.specs.Steps.{child_or_new, desk_back, into_child, part_of, segment_of, step}
 use Rattle.wave_states.specs.Walkers.{Walker, copied_now, first_of, last_step, leave, steps_left, walk_on}
 use Rattle.wave_theory.proofs.Basics.{bool_cases, clash, none_not, options, path_is, some_same, then_some}
 use Rattle.wave_theory.proofs.Maps.{any_child, child_put, none_any}

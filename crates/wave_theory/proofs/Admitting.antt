@@ -18,6 +18,7 @@ use Rattle.wave_theory.proofs.Tallies
 use Rattle.wave_theory.proofs.Deeds
 use Rattle.wave_states.specs.Labels
 use Rattle.wave_theory.proofs.Shows
+use Rattle.wave_theory.proofs.Stages.{done_lined, entering_coming, entering_lined}
 
 module _ {A F R J : Type 0} (sys : Actors A F R J) (w : Way) (law : IsWay w) (course : Course sys) (low : ℕ) (is_real : ℕ → Type 0) (courses : IsCourse sys w course low is_real) where
   -- what is known of the next ticket
@@ -55,9 +56,6 @@ module _ {A F R J : Type 0} (sys : Actors A F R J) (w : Way) (law : IsWay w) (co
       where
         too_far : suc g.lines.admitted ≤ g.lines.admitted → ⊥
         too_far m = omega arith
-
-    done_lined : Done ≡ Lined → ⊥
-    done_lined e = grind arith
 
     not_child : (a : Path) (i : Step) → path_eq [] (a ++ i ∷ []) ≡ false
     not_child [] i = refl
@@ -222,9 +220,6 @@ module _ {A F R J : Type 0} (sys : Actors A F R J) (w : Way) (law : IsWay w) (co
       ];
     }
       where
-        entering_coming : Entering ≡ Coming → ⊥
-        entering_coming e = grind arith
-
         older : (b : ℕ) → b ≤ suc g.lines.admitted → nat_eq t b ≡ false → b ≤ g.lines.admitted
         older b l z = at_or_below b g.lines.admitted l z
           where
@@ -258,12 +253,6 @@ module _ {A F R J : Type 0} (sys : Actors A F R J) (w : Way) (law : IsWay w) (co
       where
         new_one : (b : ℕ) → b ≤ g.lines.admitted → nat_eq t b ≡ false
         new_one b l = differ t b (λ z. omega (arith, l))
-
-        entering_coming : Entering ≡ Coming → ⊥
-        entering_coming e = grind arith
-
-        entering_lined : Entering ≡ Lined → ⊥
-        entering_lined e = grind arith
 
         older : (b : ℕ) → b ≤ suc g.lines.admitted → nat_eq t b ≡ false → b ≤ g.lines.admitted
         older b l z = at_or_below b g.lines.admitted l z

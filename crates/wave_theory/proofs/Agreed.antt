@@ -29,6 +29,7 @@ use Rattle.wave_theory.proofs.Reached
 use Rattle.wave_theory.specs.Numbers.{HasEntry}
 use Rattle.wave_theory.specs.Listed.{IsIn}
 use Rattle.wave_theory.specs.Agree.{Agree, IsHolder, IsAway}
+use Rattle.wave_theory.proofs.Stages.{coming_done, entering_done, lined_done, lined_entering, there_done}
 
 -- the only claim
 one_claim : (hs : List Claim) (c : Claim) → OnceIn hs → IsIn hs c → ((d : Claim) → IsIn hs d → d.ticket ≡ c.ticket) → hs ≡ c ∷ []
@@ -70,41 +71,17 @@ done_ended st Done o p z e = by st z
     by (Waiting q) z = absurd z
     by (Ready q) z = absurd z
     by (Running q) z = absurd z
-done_ended st Entering o p z e = absurd (not_done e)
-  where
-    not_done : Entering ≡ Done → ⊥
-    not_done e = grind arith
-done_ended st Lined o p z e = absurd (not_done e)
-  where
-    not_done : Lined ≡ Done → ⊥
-    not_done e = grind arith
-done_ended st Coming o p z e = absurd (not_done e)
-  where
-    not_done : Coming ≡ Done → ⊥
-    not_done e = grind arith
-done_ended st There o p z e = absurd (not_done e)
-  where
-    not_done : There ≡ Done → ⊥
-    not_done e = grind arith
+done_ended st Entering o p z e = absurd (entering_done e)
+done_ended st Lined o p z e = absurd (lined_done e)
+done_ended st Coming o p z e = absurd (coming_done e)
+done_ended st There o p z e = absurd (there_done e)
 
 pub stage_cases : (v : Stage) → (v ≡ Done) ⊎ (v ≡ Done → ⊥)
 stage_cases Done = inl refl
-stage_cases Entering = inr not_done
-  where
-    not_done : Entering ≡ Done → ⊥
-    not_done e = grind arith
-stage_cases Lined = inr not_done
-  where
-    not_done : Lined ≡ Done → ⊥
-    not_done e = grind arith
-stage_cases Coming = inr not_done
-  where
-    not_done : Coming ≡ Done → ⊥
-    not_done e = grind arith
-stage_cases There = inr not_done
-  where
-    not_done : There ≡ Done → ⊥
-    not_done e = grind arith
+stage_cases Entering = inr entering_done
+stage_cases Lined = inr lined_done
+stage_cases Coming = inr coming_done
+stage_cases There = inr there_done
 
 module _ {A F R J : Type 0} (kind : Kind A F R J) (owes : Owes kind) (b : Begin F) (batches : List (List J)) (begins : IsBegin kind b) (jobs : All (All kind.is_job) batches) where
   abbrev w : Way
@@ -125,21 +102,6 @@ module _ {A F R J : Type 0} (kind : Kind A F R J) (owes : Owes kind) (b : Begin 
 
     abbrev g : Shows.Ghost F
     g = k.ghost
-
-    entering_done : Entering ≡ Done → ⊥
-    entering_done e = grind arith
-
-    lined_done : Lined ≡ Done → ⊥
-    lined_done e = grind arith
-
-    lined_entering : Lined ≡ Entering → ⊥
-    lined_entering e = grind arith
-
-    coming_done : Coming ≡ Done → ⊥
-    coming_done e = grind arith
-
-    there_done : There ≡ Done → ⊥
-    there_done e = grind arith
 
     first : (a t : ℕ) → a < t → 1 ≤ t
     first a t l = omega (arith, l)

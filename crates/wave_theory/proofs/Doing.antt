@@ -25,6 +25,7 @@ use Rattle.wave_theory.proofs.Agreed
 use Rattle.wave_theory.proofs.Reached.{Good_state}
 use Rattle.wave_theory.proofs.Reached
 use Rattle.wave_theory.specs.Doable.{CanDo, Doable}
+use Rattle.wave_theory.proofs.Stages.{there_done}
 
 less_is : (a c : ℕ) → a < c → nat_lt a c ≡ true
 less_is a c l = grind (arith, nat_tests)
@@ -119,9 +120,6 @@ module _ {A F R J : Type 0} (kind : Kind A F R J) (owes : Owes kind) (b : Begin 
 
         at : ((g).lines.stage t ≡ There) × ((g).out t ≡ false) × (p ≡ here w (g).lines t)
         at = ready_there event.status _ _ _ p (subst (λ (u : Event A). Shows.StatusShows u.status ((g).lines.stage t) ((g).out t) (here w (g).lines t)) same c.status) r
-
-        there_done : There ≡ Done → ⊥
-        there_done e = grind arith
 
         going : (g).lines.pos t ≤ w.last t
         going = x.good.going t n.1 (λ d. there_done (sym at.0 ∙ d))

@@ -32,6 +32,7 @@ use Rattle.wave_theory.proofs.Reached.{Good_state, Next}
 use Rattle.wave_theory.proofs.Reached
 use Rattle.wave_theory.proofs.Along
 use Rattle.wave_theory.specs.Counted.{most_moves}
+use Rattle.wave_theory.proofs.Stages.{there_done}
 
 module _ {A F R J : Type 0} (kind : Kind A F R J) (owes : Owes kind) (b : Begin F) (batches : List (List J)) (begins : IsBegin kind b) (jobs : All (All kind.is_job) batches) where
   abbrev w : Way
@@ -61,9 +62,6 @@ module _ {A F R J : Type 0} (kind : Kind A F R J) (owes : Owes kind) (b : Begin 
   -- a context that has an entry was there, or a ticket came, or it was never sent on
   abbrev pub FewOf : Outline → Type 0
   FewOf o = (p : Path) → o.births p ≡ true → Came o.served o.trail p
-
-  there_done : There ≡ Done → ⊥
-  there_done e = grind arith
 
   module _ (s : State A F R J) (k : Good s) (g' : Shows.Ghost F) (h : FewOf (outline k.ghost)) where
     abbrev g : Shows.Ghost F

@@ -6,7 +6,8 @@ use Rattle.wave_base.specs.declared.path.Path.{Path}
 use Rattle.wave_base.specs.Paths.{path_eq}
 use Rattle.wave_states.specs.Actors.{Actors}
 use Rattle.wave_states.specs.States.{State, Column, Claim, Entry, Letter, Enter, Visit, Back, Release, Transfer, Mail, set, is_coming}
-use Rattle.wave_states.specs.Steps.{Bench, Part, Desk, Route, Forward, with_bench, start, started, stop, stopped, looked, paused, into_child, keep_below, ended, over_here, over_there, over_by, put_back, desk_back, segment_of, send, release, give_up, kept_of, left_of, nothing_kept, not_at, cell_of, moved_on, host_or, child_or_new, free, land, pass, admit, new_cell, admitted, committed, commit, let_in, with_entry, with_body, with_holders, with_held, others, landed, departed, left_by, seen_by, part_of, without_mail, with_event, with_status, route, new_entry}
+use Rattle.wave_states.specs.Steps.{Bench, Part, Route, Forward, with_bench, start, started, stop, stopped, looked, paused, into_child, keep_below, ended, over_here, over_there, over_by, put_back, desk_back, segment_of, cell_of, moved_on, host_or, child_or_new, free, land, pass, admit, new_cell, admitted, committed, commit, let_in, with_entry, with_body, with_holders, others, landed, departed, left_by, seen_by, part_of, without_mail, with_event, route, new_entry}
+use Rattle.wave_states.specs.Desks.{Desk, send, release, give_up, kept_of, left_of, nothing_kept, not_at, with_held, with_status}
 use Rattle.wave_theory.proofs.Basics.{bool_cases, clash, some_same, none_not, number_cases, not_same, path_self, path_cases, set_at, set_there, set_at_path, and_first, differ}
 use Rattle.wave_theory.proofs.Order.{Way, IsWay, rank, Entering, Coming, There, Done, here, Good, freed}
 use Rattle.wave_theory.proofs.Ranks.{rank_less}
@@ -25,6 +26,7 @@ use Rattle.wave_theory.proofs.Deeds
 use Rattle.wave_states.specs.Labels
 use Rattle.wave_theory.proofs.Basics.{set_noop_path}
 use Rattle.wave_theory.proofs.Shows
+use Rattle.wave_theory.proofs.Stages.{coming_done, entering_coming, entering_done, there_done}
 
 module _ {A F R J : Type 0} (sys : Actors A F R J) (w : Way) (law : IsWay w) (course : Course sys) (low : ℕ) (is_real : ℕ → Type 0) (courses : IsCourse sys w course low is_real) where
   -- the context is freed of the ticket, and its trail is as given
@@ -151,12 +153,6 @@ module _ {A F R J : Type 0} (sys : Actors A F R J) (w : Way) (law : IsWay w) (co
 
         coming_now : Shows.ComingShows sys w course low is_real g t i m.host m.path → Shows.ComingShows sys w course low is_real gf t i m.host m.path
         coming_now u = record { stage = u.stage; place = u.place; main = u.main; host_is = u.host_is ∙ ap owner (sym (trail_there (elsewhere (subst (λ j. w.held t (g.lines.pos t) j ≡ true) (sym u.place) (at_spot sys w law course low is_real g x.good t la (λ e. coming_done (sym u.stage ∙ e))))))) }
-          where
-            coming_done : Coming ≡ Done → ⊥
-            coming_done e = grind arith
-
-        entering_done : Entering ≡ Done → ⊥
-        entering_done e = grind arith
 
         by : (l : Letter F) → Shows.MailShows sys w course low is_real g t i m.host m.path l → Shows.MailShows sys w course low is_real gf t i m.host m.path l
         by (Enter a) u = (let d = trail_there (elsewhere (subst (λ j. w.held t (g.lines.pos t) j ≡ true) (sym u.place) (at_spot sys w law course low is_real g x.good t la (λ e. entering_done (sym u.stage ∙ e))))) in
@@ -204,9 +200,6 @@ module _ {A F R J : Type 0} (sys : Actors A F R J) (w : Way) (law : IsWay w) (co
       where
         not_here : (i : Shows.AwayShows sys w course low is_real g p) → t ≡ i.ticket → ⊥
         not_here i b = clash _ (subst (λ a. w.held t (g.lines.pos t) a ≡ true) (ap (here w g.lines) b ∙ i.place) (at_spot sys w law course low is_real g x.good t la (λ e. clash _ (ap g.out b ∙ i.out) (status_out c.event.status (g.lines.stage t) (g.out t) _ c.status (λ z. there_done (sym z ∙ e)))))) q.leaving.not_held
-          where
-            there_done : There ≡ Done → ⊥
-            there_done e = grind arith
 
     pub leaves_shows : Shows.ColumnShows sys w course low is_real (g.born p) gf p col → Shows.Shows sys w course low is_real (with_bench s t p v (record { part = record { cell = without_mail (s.cells t) k; column = col }; hand = None })) gf
     leaves_shows k = update sys w law course low is_real s g gf t p v (record { part = record { cell = without_mail (s.cells t) _; column = col }; hand = None }) x frame good kept refl lt la cell entry k (λ hd z. absurd (none_not z)) x.root
@@ -455,6 +448,3 @@ module _ {A F R J : Type 0} (sys : Actors A F R J) (w : Way) (law : IsWay w) (co
           lined = λ z. (a.one t lt la).lined z;
         }))
         (λ z. let o = a.out t z in record { hand = o.hand; there = set_there nat_eq s.hands v None (g.worker t) (elim (number_cases v (g.worker t)) [ inr n ↦ n | inl n ↦ absurd (none_not (sym idle ∙ ap s.hands n ∙ o.there)) ]) ∙ o.there; ticket_is = o.ticket_is }) (λ r d hd n. n) (λ b e. let o = a.away p b e in record { ticket = o.ticket; holds = o.holds; not_held = o.not_held }) (a.few p) (λ e. e) (Alive.kids_same sys w course low is_real g g p refl (λ st e. e) refl (a.kids p)) a.housed (subst (λ (z : Part A F R). z.cell.mails 0 ≡ None) q.gives (set_there nat_eq (s.cells t).mails k _ 0 (differ k 0 (λ z. none_not (sym (ap (s.cells t).mails z ∙ a.no_zero t) ∙ q.letter_at.mail_is))) ∙ a.no_zero t)) law
-      where
-        entering_coming : Entering ≡ Coming → ⊥
-        entering_coming e = grind arith

@@ -7,7 +7,8 @@ use Rattle.wave_base.specs.Paths.{path_eq, path_cmp}
 use Rattle.std.specs.BTreeMap.{insert_entry}
 use Rattle.wave_states.specs.Actors.{Actors}
 use Rattle.wave_states.specs.States.{State, Column, Claim, Entry, Hold, Ready, set, hold_at, is_coming, Mail}
-use Rattle.wave_states.specs.Steps.{Part, with_bench, granted, let_in, part_of, without_mail, with_event, with_status}
+use Rattle.wave_states.specs.Steps.{Part, with_bench, granted, let_in, part_of, without_mail, with_event}
+use Rattle.wave_states.specs.Desks.{with_status}
 use Rattle.wave_theory.proofs.Basics.{clash, some_same, none_not, number_self, number_cases, not_same, path_is, path_self, path_cases, set_at, set_there, set_at_path}
 use Rattle.wave_theory.proofs.Order.{Way, IsWay, visits, rank, Stage, Entering, Lined, Coming, There, Done, is_pending, here, staged, let_at}
 use Rattle.wave_theory.proofs.Ranks.{rank_in, rank_less, rank_up_to}
@@ -27,39 +28,7 @@ use Rattle.wave_theory.proofs.Tallies
 use Rattle.wave_theory.proofs.Deeds
 use Rattle.wave_states.specs.Labels
 use Rattle.wave_theory.proofs.Shows
-
-coming_there : Coming ≡ There → ⊥
-coming_there e = grind arith
-
-coming_lined : Coming ≡ Lined → ⊥
-coming_lined e = grind arith
-
-coming_entering : Coming ≡ Entering → ⊥
-coming_entering e = grind arith
-
-lined_entering : Lined ≡ Entering → ⊥
-lined_entering e = grind arith
-
-lined_coming : Lined ≡ Coming → ⊥
-lined_coming e = grind arith
-
-lined_there : Lined ≡ There → ⊥
-lined_there e = grind arith
-
-lined_done : Lined ≡ Done → ⊥
-lined_done e = grind arith
-
-there_lined : There ≡ Lined → ⊥
-there_lined e = grind arith
-
-there_entering : There ≡ Entering → ⊥
-there_entering e = grind arith
-
-there_coming : There ≡ Coming → ⊥
-there_coming e = grind arith
-
-there_done : There ≡ Done → ⊥
-there_done e = grind arith
+use Rattle.wave_theory.proofs.Stages.{coming_entering, coming_lined, coming_there, lined_coming, lined_done, lined_entering, lined_there, there_coming, there_done, there_entering, there_lined}
 
 module _ {A F R J : Type 0} (sys : Actors A F R J) (w : Way) (law : IsWay w) (course : Course sys) (low : ℕ) (is_real : ℕ → Type 0) (courses : IsCourse sys w course low is_real) where
   -- Visit

@@ -23,6 +23,7 @@ use Rattle.wave_theory.proofs.Reached.{Good_state, Next}
 use Rattle.wave_theory.proofs.Reached
 use Rattle.wave_theory.proofs.Along
 use Rattle.wave_theory.specs.Holding.{is_stop_of, stops}
+use Rattle.wave_theory.proofs.Stages.{there_done}
 
 pub stops_more : (t : ℕ) (ls : List Label) (l : Label) → stops t (ls ++ l ∷ []) ≡ (if is_stop_of t l.act then suc (stops t ls) else stops t ls)
 stops_more t [] l = refl
@@ -105,9 +106,6 @@ module _ {A F R J : Type 0} (kind : Kind A F R J) (owes : Owes kind) (b : Begin 
 
       to_list : {pos : ℕ → ℕ} {m : ℕ} → HaltsOf (counts l.act) pos m → HaltsOf (λ t. stops t (ls ++ l ∷ [])) pos m
       to_list y = record { each = λ t a c. y.each t a c ∙ sym (stops_more t ls l); none = λ t a. stops_more t ls l ∙ y.none t a }
-
-      there_done : There ≡ Done → ⊥
-      there_done e = grind arith
 
       -- a Stop of the ticket
       stopping : (t : ℕ) (p : Path) → k.ghost.lines.stage t ≡ There → (v : Stage) → HaltsOf (counts (Stop t p)) (set nat_eq (g).lines.pos t (suc ((g).lines.pos t))) (g).lines.admitted

@@ -29,6 +29,7 @@ use Rattle.wave_theory.proofs.Deeds.{Outline, outline, Deed, done_by, with_stage
 use Rattle.wave_theory.proofs.Deeds
 use Rattle.wave_theory.proofs.Sites
 use Rattle.wave_theory.proofs.Tallies.{sum_to, sum_zero}
+use Rattle.wave_theory.proofs.Stages.{lined_done, there_done}
 
 abbrev pub is_done : Stage → Bool
 is_done Done = true
@@ -165,9 +166,6 @@ module _ {A F R J : Type 0} (kind : Kind A F R J) (owes : Owes kind) (b : Begin 
     granted_sent : (t : ℕ) (q : Path) → 1 ≤ t → visits w t q ≡ true → rank w q t ≤ g.lines.served q → (rank w q t ≤ g.lines.given q) × (t ≤ g.lines.admitted) × (w.entered t (g.lines.pos t) q ≡ true)
     granted_sent t q l v r = (let k = (x.good.grants t q l v).1 r in ((x.good.sends t q l v).0 (record { known = k.known; entered = k.entered }), k.known, k.entered))
 
-    there_not : There ≡ Done → ⊥
-    there_not e = grind arith
-
     not_done : (v : Stage) → v ≡ There → is_done v ≡ false
     not_done v e = ap is_done e
 
@@ -188,13 +186,13 @@ module _ {A F R J : Type 0} (kind : Kind A F R J) (owes : Owes kind) (b : Begin 
     -- the ticket that ends
     module _ (t : ℕ) (p : Path) (stopped : Deeds.Stopped kind.system w course b.before Is_real g t p) where
       known_t : (b.before < t) × (t ≤ g.lines.admitted)
-      known_t = known_by t (λ e. there_not (sym stopped.stage ∙ e))
+      known_t = known_by t (λ e. there_done (sym stopped.stage ∙ e))
 
       real_t : Courses.Real kind owes b batches begins jobs t
       real_t = real_of t known_t.0 known_t.1
 
       visits_t : visits w t p ≡ true
-      visits_t = subst (λ r. visits w t r ≡ true) stopped.place (visits_of kind.system w law course b.before Is_real g x.good t (here w g.lines t) known_t.1 (entered_spot kind.system w law course b.before Is_real g x.good t known_t.1 (λ e. there_not (sym stopped.stage ∙ e))))
+      visits_t = subst (λ r. visits w t r ≡ true) stopped.place (visits_of kind.system w law course b.before Is_real g x.good t (here w g.lines t) known_t.1 (entered_spot kind.system w law course b.before Is_real g x.good t known_t.1 (λ e. there_done (sym stopped.stage ∙ e))))
 
       -- where it is
       stands_t : rank w p t ≡ g.lines.served p → Stands (spot_of (g.trail p)) real_t.index p
@@ -580,9 +578,6 @@ module _ {A F R J : Type 0} (kind : Kind A F R J) (owes : Owes kind) (b : Begin 
         upto : (a c : ℕ) → a ≤ c → a ≤ suc c
         upto a c l = omega (arith, l)
 
-        lined_done : Lined ≡ Done → ⊥
-        lined_done e = grind arith
-
         known : (b.before < t) × (t ≤ g.lines.admitted)
         known = known_by t (λ e. lined_done (sym f.stage ∙ e))
 
@@ -643,7 +638,7 @@ module _ {A F R J : Type 0} (kind : Kind A F R J) (owes : Owes kind) (b : Begin 
     by_deed g' t p Deeds.Rests f kids = h
     by_deed g' t p Deeds.Lands f kids = homes_by o (done_by w o t p Deeds.Lands) h (λ q e. e) (λ q. refl) (spot_set g.trail p _ refl) (same_stage o (done_by w o t p Deeds.Lands) (λ u. refl)) (λ u q th k. k)
     by_deed g' t p Deeds.Goes_on f kids = homes_by o (done_by w o t p Deeds.Goes_on) h (λ q e. e) (λ q. refl) (λ q. refl) (same_stage o (done_by w o t p Deeds.Goes_on) (done_set g.lines.stage t Coming (sym (ap is_done f.stopped.stage))))
-        (λ u q th k. entered_next t Coming q (known_by t (λ e. there_not (sym f.stopped.stage ∙ e))).1 (less _ _ f.more) u (λ l m r d. clash _ m f.stale) k)
+        (λ u q th k. entered_next t Coming q (known_by t (λ e. there_done (sym f.stopped.stage ∙ e))).1 (less _ _ f.more) u (λ l m r d. clash _ m f.stale) k)
       where
         less : (a c : ℕ) → suc a ≤ c → a ≤ c
         less a c l = omega (arith, l)

@@ -35,6 +35,7 @@ use Rattle.wave_theory.proofs.Leaves.{IsCourse}
 use Rattle.wave_states.specs.Steps.{stop}
 use Rattle.wave_states.specs.States.{Event, Transfer}
 use Rattle.wave_theory.proofs.Basics.{number_is, path_is, and_first, and_second}
+use Rattle.wave_theory.proofs.Stages.{coming_done}
 
 module _ {A F R J : Type 0} (kind : Kind A F R J) (owes : Owes kind) (b : Begin F) (batches : List (List J)) (begins : IsBegin kind b) (jobs : All (All kind.is_job) batches) where
   abbrev w : Way
@@ -76,9 +77,6 @@ module _ {A F R J : Type 0} (kind : Kind A F R J) (owes : Owes kind) (b : Begin 
         let st = (c.where_held p held.0 held.1).1 in
         in_store p h st (by_holder kn.0 kn.1 y) y.host_is
       where
-        coming_done : Coming ≡ Done → ⊥
-        coming_done e = grind arith
-
         by_holder : b.before < t → t ≤ (k.ghost).lines.admitted → Shows.ComingShows kind.system w course b.before Is_real k.ghost t n h p → (k.ghost).born p ≡ true
         by_holder lt la y = elim (bool_cases ((k.ghost).born p)) [
           | inl u ↦ u

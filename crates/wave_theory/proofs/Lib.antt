@@ -55,6 +55,7 @@ pub mod Sites
 pub mod Sizes
 pub mod Small
 pub mod Spent
+pub mod Stages
 pub mod Starting
 pub mod Stopping
 pub mod Stops

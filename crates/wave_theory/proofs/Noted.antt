@@ -45,6 +45,7 @@ use Rattle.wave_theory.specs.Came.{AreFirst, Came, granted, granted_by, is_enter
 use Rattle.wave_theory.specs.Trails.{Traced}
 use Rattle.wave_theory.specs.Owners.{OwnerTakes, OneOwner}
 use Rattle.wave_theory.specs.Bounds.{Bounds, NothingAt}
+use Rattle.wave_theory.proofs.Stages.{entering_done, lined_done, there_done}
 
 -- the last of a list, or one before it
 slice_last : (ts : List ℕ) (t i u : ℕ) → slice_get (ts ++ t ∷ []) i ≡ Some u → (slice_get ts i ≡ Some u) ⊎ ((i ≡ length ts) × (t ≡ u))
@@ -182,15 +183,6 @@ module _ {A F R J : Type 0} (kind : Kind A F R J) (owes : Owes kind) (b : Begin 
       -- a ticket at its context
       comes_here : (t : ℕ) (v : Stage) → (g).lines.stage t ≡ v → (v ≡ Done → ⊥) → (b.before < t) × (Is_real t) × (visits w t (here w (g).lines t) ≡ true)
       comes_here t v q m = (let kn = known_by t (λ z. m (sym q ∙ z)) in (kn.0, (k.shows.cells t kn.0 kn.1).real, visits_of kind.system w law course b.before Is_real k.ghost k.shows.good t (here w (g).lines t) kn.1 (entered_spot kind.system w law course b.before Is_real k.ghost k.shows.good t kn.1 (λ z. m (sym q ∙ z)))))
-
-      lined_done : Lined ≡ Done → ⊥
-      lined_done e = grind arith
-
-      there_done : There ≡ Done → ⊥
-      there_done e = grind arith
-
-      entering_done : Entering ≡ Done → ⊥
-      entering_done e = grind arith
 
       -- who was let in
       came_by : (a : Act) (d : Deed) → Suits a d → Deeds.Fits kind.system w course b.before Is_real s k.ghost (n.good).ghost (ticket_of a) (path_of a) d → (p : Path) → Firsts (granted p ls ++ granted_by p a) ((done_by w o (ticket_of a) (path_of a) d).served p) p
@@ -729,9 +721,6 @@ module _ {A F R J : Type 0} (kind : Kind A F R J) (owes : Owes kind) (b : Begin 
                 absurd (gr.past (ap Rattle.wave_theory.proofs.Order.is_pending y.stage) y.place))
           ]
             where
-              lined_done : Lined ≡ Done → ⊥
-              lined_done e = grind arith
-
               first : (a t : ℕ) → a < t → 1 ≤ t
               first a t l = omega (arith, l)
 

@@ -30,6 +30,7 @@ use Rattle.wave_theory.proofs.Reached
 use Rattle.wave_theory.proofs.Along
 use Rattle.wave_theory.specs.Counted.{is_pass_of, passed_to}
 use Rattle.wave_theory.specs.Numbers.{HasEntry}
+use Rattle.wave_theory.proofs.Stages.{coming_entering, done_entering, entering_done, lined_entering, there_entering}
 
 pub passed_on : (t : ℕ) (p : Path) (ls : List Label) (l : Label) → passed_to t p (ls ++ l ∷ []) ≡ passed_to t p ls + (if is_pass_of t p l.act then 1 else 0)
 passed_on t p [] l = by (is_pass_of t p l.act)
@@ -225,30 +226,12 @@ module _ {A F R J : Type 0} (kind : Kind A F R J) (owes : Owes kind) (b : Begin 
               where
                 at_child : m.path ≡ w.place (ticket_of l.act) (suc ((g).lines.pos (ticket_of l.act)))
                 at_child = (shown (ticket_of l.act) i m a z y).place ∙ ap (w.place (ticket_of l.act)) (ap (λ (u : Outline). u.pos (ticket_of l.act)) (is ∙ ap (done_by w o (ticket_of l.act) (path_of l.act)) q) ∙ set_at (g).lines.pos (ticket_of l.act) _)
-            by Deeds.Lines_up q su f = absurd (off (sym (set_at (g).lines.stage (ticket_of l.act) Lined) ∙ stage_is Deeds.Lines_up q))
-              where
-                off : Lined ≡ Entering → ⊥
-                off e = grind arith
-            by Deeds.Lets_in q su f = absurd (off (sym (set_at (g).lines.stage (ticket_of l.act) There) ∙ stage_is Deeds.Lets_in q))
-              where
-                off : There ≡ Entering → ⊥
-                off e = grind arith
-            by Deeds.Arrives q su f = absurd (off (sym (set_at (g).lines.stage (ticket_of l.act) There) ∙ stage_is Deeds.Arrives q))
-              where
-                off : There ≡ Entering → ⊥
-                off e = grind arith
-            by Deeds.Goes_on q su f = absurd (off (sym (set_at (g).lines.stage (ticket_of l.act) Coming) ∙ stage_is Deeds.Goes_on q))
-              where
-                off : Coming ≡ Entering → ⊥
-                off e = grind arith
-            by Deeds.Ends q su f = absurd (off (sym (set_at (g).lines.stage (ticket_of l.act) Done) ∙ stage_is Deeds.Ends q))
-              where
-                off : Done ≡ Entering → ⊥
-                off e = grind arith
-            by (Deeds.Moves to) q su f = absurd (off (sym (set_at (g).lines.stage (ticket_of l.act) Done) ∙ stage_is (Deeds.Moves to) q))
-              where
-                off : Done ≡ Entering → ⊥
-                off e = grind arith
+            by Deeds.Lines_up q su f = absurd (lined_entering (sym (set_at (g).lines.stage (ticket_of l.act) Lined) ∙ stage_is Deeds.Lines_up q))
+            by Deeds.Lets_in q su f = absurd (there_entering (sym (set_at (g).lines.stage (ticket_of l.act) There) ∙ stage_is Deeds.Lets_in q))
+            by Deeds.Arrives q su f = absurd (there_entering (sym (set_at (g).lines.stage (ticket_of l.act) There) ∙ stage_is Deeds.Arrives q))
+            by Deeds.Goes_on q su f = absurd (coming_entering (sym (set_at (g).lines.stage (ticket_of l.act) Coming) ∙ stage_is Deeds.Goes_on q))
+            by Deeds.Ends q su f = absurd (done_entering (sym (set_at (g).lines.stage (ticket_of l.act) Done) ∙ stage_is Deeds.Ends q))
+            by (Deeds.Moves to) q su f = absurd (done_entering (sym (set_at (g).lines.stage (ticket_of l.act) Done) ∙ stage_is (Deeds.Moves to) q))
 
         next_plain : Often (ls ++ l ∷ []) s' n.good
         next_plain = record {
@@ -276,9 +259,6 @@ module _ {A F R J : Type 0} (kind : Kind A F R J) (owes : Owes kind) (b : Begin 
           now_letter : now.letter ≡ Enter now_ask
           now_path : now.path ≡ p₀
           higher : ask.followed < now_ask.followed
-
-        entering_done : Entering ≡ Done → ⊥
-        entering_done e = grind arith
 
         before_it : Before_it
         before_it = (let y = map_some _ _ s' (subst (λ a. step_by kind.system s l.worker l.host a ≡ Some s') a_is by_it) in by (s.hands l.worker) y.0 y.1 y.2)

@@ -33,6 +33,7 @@ use Rattle.wave_theory.proofs.Reached
 use Rattle.wave_theory.proofs.Along
 use Rattle.wave_theory.specs.Counted.{passed, passed_to, taken, most_moves, Bounded}
 use Rattle.wave_theory.specs.Numbers.{HasEntry}
+use Rattle.wave_theory.proofs.Stages.{entering_done}
 
 pub passed_more : (ls : List Label) (l : Label) → passed (ls ++ l ∷ []) ≡ passed ls + (if is_pass l.act then 1 else 0)
 passed_more [] l = by (is_pass l.act)
@@ -205,9 +206,6 @@ module _ {A F R J : Type 0} (kind : Kind A F R J) (owes : Owes kind) (b : Begin 
       module _ (s : State A F R J) (k : Good s) (ls : List Label) (h : Passed ls s k) where
         abbrev g : Shows.Ghost F
         g = k.ghost
-
-        entering_done : Entering ≡ Done → ⊥
-        entering_done e = grind arith
 
         -- who is on its way to a context has not been passed on more often than contexts are sent on
         pub entering_full : (t : ℕ) → b.before < t → t ≤ (g).lines.admitted → (g).lines.stage t ≡ Entering → h.tally t ≤ top * fresh_to t (suc ((g).lines.pos t))

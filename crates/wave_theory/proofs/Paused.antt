@@ -5,7 +5,8 @@ use Rattle.wave_base.specs.declared.path.Step.{Step}
 use Rattle.wave_base.specs.declared.path.Path.{Path}
 use Rattle.wave_states.specs.Actors.{Actors, Left, Pause, Go, Down, Over}
 use Rattle.wave_states.specs.States.{State, Hand, Hold, hold_at, holds_as_peek, set}
-use Rattle.wave_states.specs.Steps.{Part, Desk, with_bench, stopped, looked, paused, into_child, over_here, over_there, over_by, put_back, desk_back, with_body, part_of}
+use Rattle.wave_states.specs.Steps.{Part, with_bench, stopped, looked, paused, into_child, over_here, over_there, over_by, put_back, desk_back, with_body, part_of}
+use Rattle.wave_states.specs.Desks.{Desk}
 use Rattle.wave_theory.proofs.Basics.{bool_cases, some_same, number_self, number_cases, not_same}
 use Rattle.wave_theory.proofs.Order.{Way, IsWay}
 use Rattle.wave_theory.proofs.Leaves.{Course, IsCourse, Segment}

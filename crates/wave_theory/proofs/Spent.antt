@@ -41,6 +41,7 @@ use Rattle.wave_theory.proofs.Reached.{Good_state}
 use Rattle.wave_theory.proofs.Reached
 use Rattle.wave_theory.proofs.Along
 use Rattle.wave_theory.specs.Numbers.{HasEntry}
+use Rattle.wave_theory.proofs.Stages.{there_done}
 
 -- each ticket once
 abbrev pub OnceIn : List Claim → Type 0
@@ -384,9 +385,6 @@ module _ {A F R J : Type 0} (kind : Kind A F R J) (owes : Owes kind) (b : Begin 
       by_it : step_by kind.system s l.worker l.host l.act ≡ Some s'
       unfolding step
       by_it = (if_some (nat_lt l.worker workers) (step_by kind.system s l.worker l.host l.act) s' e).1
-
-      there_done : There ≡ Done → ⊥
-      there_done e = grind arith
 
       real_of : (t : ℕ) → k.ghost.lines.stage t ≡ There → Is_real t
       real_of t st = (let kn = Homes.known_by_shows kind owes b batches begins jobs s k.ghost k.shows t (λ z. there_done (sym st ∙ z)) in (k.shows.cells t kn.0 kn.1).real)

@@ -10,7 +10,8 @@ use Rattle.wave_base.specs.Kids.{child_at, with_child}
 use Rattle.std.specs.BTreeSet.{insert_key}
 use Rattle.wave_states.specs.Actors.{Actors, Left}
 use Rattle.wave_states.specs.States.{State, Claim, Entry, Event, Hand, Hold, Record, Enter, Visit, Back, Transfer, Mail, Travelling, Ended, set, hold_at, holds_as_peek, is_peek_in, steps_of}
-use Rattle.wave_states.specs.Steps.{Part, Desk, with_bench, ended, over_here, over_there, put_back, segment_of, send, give_up, kept_of, left_of, nothing_kept, not_at, cell_of, moved_on, host_or, child_or_new, with_body, departed, part_of, with_status, with_held}
+use Rattle.wave_states.specs.Steps.{Part, with_bench, ended, over_here, over_there, put_back, segment_of, cell_of, moved_on, host_or, child_or_new, with_body, departed, part_of}
+use Rattle.wave_states.specs.Desks.{Desk, send, give_up, kept_of, left_of, nothing_kept, not_at, with_status, with_held}
 use Rattle.wave_theory.proofs.Basics.{bool_cases, clash, some_same, none_not, some_not, options, number_cases, not_same, path_self, path_cases, set_at, set_there, set_at_path, and_first, and_second, differ}
 use Rattle.wave_theory.proofs.Order.{Way, IsWay, rank, Stage, Entering, Lined, Coming, There, Done, is_pending, here, Good, visits}
 use Rattle.wave_theory.proofs.Ranks.{not_again, comes}
@@ -31,36 +32,7 @@ use Rattle.wave_theory.proofs.Tallies
 use Rattle.wave_theory.proofs.Deeds
 use Rattle.wave_states.specs.Labels
 use Rattle.wave_theory.proofs.Shows
-
-entering_coming : Entering ≡ Coming → ⊥
-entering_coming e = grind arith
-
-entering_lined : Entering ≡ Lined → ⊥
-entering_lined e = grind arith
-
-coming_lined : Coming ≡ Lined → ⊥
-coming_lined e = grind arith
-
-done_entering : Done ≡ Entering → ⊥
-done_entering e = grind arith
-
-done_coming : Done ≡ Coming → ⊥
-done_coming e = grind arith
-
-done_lined : Done ≡ Lined → ⊥
-done_lined e = grind arith
-
-there_done : There ≡ Done → ⊥
-there_done e = grind arith
-
-there_lined : There ≡ Lined → ⊥
-there_lined e = grind arith
-
-there_entering : There ≡ Entering → ⊥
-there_entering e = grind arith
-
-there_coming : There ≡ Coming → ⊥
-there_coming e = grind arith
+use Rattle.wave_theory.proofs.Stages.{coming_lined, done_coming, done_entering, done_lined, entering_coming, entering_lined, there_coming, there_done, there_entering, there_lined}
 
 module _ {A F R J : Type 0} (sys : Actors A F R J) (w : Way) (law : IsWay w) (course : Course sys) (low : ℕ) (is_real : ℕ → Type 0) (courses : IsCourse sys w course low is_real) where
   -- what changes at a segment's end

@@ -7,18 +7,13 @@ use Rattle.wave_theory.proofs.Basics.{bool_cases, clash, number_cases, not_same,
 use Rattle.wave_theory.proofs.Order.{Way, IsWay, visits, rank, Stage, Entering, Coming, There, Done, is_pending, Lines, Sent, Granted, Good, one_more, gone_on, gone_in}
 use Rattle.wave_theory.proofs.Ranks.{rank_same, rank_next, rank_less, le_cases, comes, entered_later, settled}
 use Rattle.wave_theory.proofs.Turns.{there_not}
+use Rattle.wave_theory.proofs.Stages.{coming_done, entering_done}
 
 below_by : (x y z : ℕ) → y ≡ suc z → x ≤ suc z → (x ≡ y → ⊥) → x ≤ z
 below_by x y z e l ne = grind arith
 
 off : {X : Type 0} (f : ℕ → X) (t : ℕ) (x : X) (a : ℕ) → nat_eq t a ≡ false → set nat_eq f t x a ≡ f a
 off f t x a e = set_there nat_eq f t x a e
-
-coming_not : Coming ≡ Done → ⊥
-coming_not e = grind arith
-
-entering_not : Entering ≡ Done → ⊥
-entering_not e = grind arith
 
 module _ {w : Way} (law : IsWay w) where
   abbrev pub new_at : Lines → ℕ → Path
@@ -309,7 +304,7 @@ module _ {w : Way} (law : IsWay w) where
   done_good s t g l a th e = stop_by s t Done s.given g l a th (inl (record { quiet = refl; not_fresh = λ m f. absurd (omega arith); given_same = λ p. refl; more = λ n. absurd (n refl); ends = λ n. e }))
 
   pub coming_good : (s : Lines) (t : ℕ) → Good w s → 1 ≤ t → t ≤ s.admitted → s.stage t ≡ There → suc (s.pos t) ≤ w.last t → w.fresh t (suc (s.pos t)) ≡ false → Good w (gone_on s t Coming)
-  coming_good s t g l a th m f = stop_by s t Coming s.given g l a th (inl (record { quiet = refl; not_fresh = λ n h. clash _ h f; given_same = λ p. refl; more = λ n. m; ends = λ n. absurd (coming_not n) }))
+  coming_good s t g l a th m f = stop_by s t Coming s.given g l a th (inl (record { quiet = refl; not_fresh = λ n h. clash _ h f; given_same = λ p. refl; more = λ n. m; ends = λ n. absurd (coming_done n) }))
 
   pub entering_good : (s : Lines) (t : ℕ) → Good w s → 1 ≤ t → t ≤ s.admitted → s.stage t ≡ There → suc (s.pos t) ≤ w.last t → w.fresh t (suc (s.pos t)) ≡ true → Good w (gone_in w s t)
   entering_good s t g l a th m f = stop_by s t Entering (set path_eq s.given (new_at s t) (suc (s.given (new_at s t)))) g l a th (inr (record { more = m; fresh = f; pending = refl; given_is = λ p. refl }))
@@ -339,7 +334,7 @@ module _ {w : Way} (law : IsWay w) where
     ];
     ended = λ b lb e. elim (number_cases t b) [
       | inr d ↦ off s.pos t 0 b d ∙ g.ended b (old b lb d) (sym (off s.stage t Entering b d) ∙ e)
-      | inl d ↦ absurd (entering_not (sym (set_at s.stage t Entering) ∙ subst (λ c. set nat_eq s.stage t Entering c ≡ Done) (sym d) e))
+      | inl d ↦ absurd (entering_done (sym (set_at s.stage t Entering) ∙ subst (λ c. set nat_eq s.stage t Entering c ≡ Done) (sym d) e))
     ];
     is_fresh = λ b lb e. elim (number_cases t b) [
       | inr d ↦ subst (λ i. w.fresh b i ≡ true) (sym (off s.pos t 0 b d)) (g.is_fresh b (old b lb d) (subst (λ y. is_pending y ≡ true) (off s.stage t Entering b d) e))

@@ -39,6 +39,7 @@ use Rattle.wave_theory.specs.Numbers.{IsNumber, Numbers, HasEntry}
 use Rattle.wave_theory.specs.Records.{Records}
 use Rattle.wave_theory.specs.Bounds.{NothingAt}
 use Rattle.wave_theory.specs.Always.{served_before}
+use Rattle.wave_theory.proofs.Stages.{entering_done, lined_done}
 
 same_mail : {F : Type 0} (m : Mail F) (h : ℕ) (p : Path) (l : Rattle.wave_states.specs.States.Letter F) → m.host ≡ h → m.path ≡ p → m.letter ≡ l → m ≡ record { host = h; path = p; letter = l }
 same_mail m h p l e f k = λ i. record { host = e i; path = f i; letter = k i }
@@ -128,12 +129,6 @@ module _ {A F R J : Type 0} (kind : Kind A F R J) (owes : Owes kind) (b : Begin 
       where
         there : (at (suc r.index)).head.done ≡ suc r.index
         there = ap (λ (v : Progress F R J). v.head.done) (goes_on r.index r.job r.job_is) ∙ Folds.with_done_done (at r.index).head _ ∙ ap suc (done_at kind owes b batches begins jobs r.index r.job r.job_is)
-
-    entering_done : Entering ≡ Done → ⊥
-    entering_done e = grind arith
-
-    lined_done : Lined ≡ Done → ⊥
-    lined_done e = grind arith
 
     comes_spot : (t : ℕ) (p : Path) → t ≤ (k.ghost).lines.admitted → ((k.ghost).lines.stage t ≡ Done → ⊥) → here w (k.ghost).lines t ≡ p → visits w t p ≡ true
     comes_spot t p l n e = subst (λ r. visits w t r ≡ true) e (visits_of kind.system w law course b.before Is_real k.ghost x.good t (here w (k.ghost).lines t) l (entered_spot kind.system w law course b.before Is_real k.ghost x.good t l n))
