@@ -6,8 +6,7 @@ use Rattle.wave_states.specs.States.{set}
 use Rattle.wave_theory.proofs.Basics.{bool_cases, clash, number_cases, not_same, path_is, path_self, set_at, set_there}
 use Rattle.wave_theory.proofs.Order.{Way, IsWay, visits, rank, Stage, Entering, Coming, There, Done, is_pending, Lines, Sent, Granted, Good, one_more, gone_on, gone_in}
 use Rattle.wave_theory.proofs.Ranks.{rank_same, rank_next, rank_less, le_cases, comes, entered_later, settled}
-use Rattle.wave_theory.proofs.Turns.{there_not}
-use Rattle.wave_theory.proofs.Stages.{coming_done, entering_done}
+use Rattle.wave_theory.proofs.Stages.{coming_done, entering_done, there_done}
 
 below_by : (x y z : ℕ) → y ≡ suc z → x ≤ suc z → (x ≡ y → ⊥) → x ≤ z
 below_by x y z e l ne = grind arith
@@ -105,7 +104,7 @@ module _ {w : Way} (law : IsWay w) where
     s' = record { admitted = s.admitted; pos = set nat_eq s.pos t (suc (s.pos t)); stage = set nat_eq s.stage t v; served = s.served; given = g'; holds = s.holds }
 
     k_less : s.pos t ≤ w.last t
-    k_less = g.going t a (λ e. there_not (sym th ∙ e))
+    k_less = g.going t a (λ e. there_done (sym th ∙ e))
 
     pos_at : (s').pos t ≡ suc (s.pos t)
     pos_at = set_at s.pos t (suc (s.pos t))
