@@ -18,7 +18,7 @@ use Rattle.script_fold.proofs.FoldLemmas.{All-drop_head}
 use Rattle.script_fold.proofs.StepLemmas.{any_ticket}
 use Rattle.wave_states.specs.Alone.{run_alone, segments_of, fold_alone, job_after, places_alone}
 use Rattle.wave_states.specs.Work.{Work, moves_away, work_after, work_of_job}
-use Rattle.wave_theory.proofs.Sites.{old_same}
+use Rattle.wave_theory.proofs.Places.{old_same}
 use Rattle.code_actor.specs.CodeActors as code
 use Rattle.code_actor.specs.CodeActors.{Fields}
 use Rattle.plan_actors.specs.Calls.{code_ran, IsTree, segments_on}

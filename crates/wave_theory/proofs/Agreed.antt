@@ -24,8 +24,8 @@ use Rattle.wave_theory.proofs.Told
 use Rattle.wave_theory.proofs.AsAlone.{claim_in, in_claims}
 use Rattle.wave_theory.proofs.Spent.{OnceIn}
 use Rattle.wave_theory.proofs.Spent
-use Rattle.wave_theory.proofs.Reached.{Good_state}
-use Rattle.wave_theory.proofs.Reached
+use Rattle.wave_theory.proofs.GoodStates.{Good_state}
+use Rattle.wave_theory.proofs.GoodStates
 use Rattle.wave_theory.specs.Numbers.{HasEntry}
 use Rattle.wave_theory.specs.Listed.{IsIn}
 use Rattle.wave_theory.specs.Agree.{Agree, IsHolder, IsAway}
@@ -107,7 +107,7 @@ module _ {A F R J : Type 0} (kind : Kind A F R J) (owes : Owes kind) (b : Begin 
     first a t l = omega (arith, l)
 
     mail_known : (t i : ℕ) (m : Mail F) → (s.cells t).mails i ≡ Some m → (b.before < t) × (t ≤ (g).lines.admitted)
-    mail_known t i m e = Reached.known kind owes b batches begins jobs s k.ghost x t (λ q. none_not (sym (ap (λ (u : Cell A F R). u.mails i) q) ∙ e))
+    mail_known t i m e = GoodStates.known kind owes b batches begins jobs s k.ghost x t (λ q. none_not (sym (ap (λ (u : Cell A F R). u.mails i) q) ∙ e))
 
     shown : (t i : ℕ) (m : Mail F) → (s.cells t).mails i ≡ Some m → (l : Letter F) → m.letter ≡ l → Shows.MailShows kind.system w course b.before Is_real k.ghost t i m.host m.path l
     shown t i m e l z = (let n = mail_known t i m e in subst (Shows.MailShows kind.system w course b.before Is_real k.ghost t i m.host m.path) z ((x.cells t n.0 n.1).mails i m e))
@@ -231,7 +231,7 @@ module _ {A F R J : Type 0} (kind : Kind A F R J) (owes : Owes kind) (b : Begin 
       )
         where
           n : (b.before < t) × (t ≤ (g).lines.admitted)
-          n = Reached.known kind owes b batches begins jobs s k.ghost x t (λ q. none_not (sym (ap (λ (u : Cell A F R). u.event) q) ∙ e))
+          n = GoodStates.known kind owes b batches begins jobs s k.ghost x t (λ q. none_not (sym (ap (λ (u : Cell A F R). u.event) q) ∙ e))
 
           c : Shows.CellShows kind.system w course b.before Is_real k.ghost t (s.cells t)
           c = x.cells t (n).0 (n).1

@@ -22,8 +22,8 @@ use Rattle.wave_theory.proofs.Shows
 use Rattle.wave_theory.proofs.Told
 use Rattle.wave_theory.proofs.Halts
 use Rattle.wave_theory.proofs.InHand.{running_is}
-use Rattle.wave_theory.proofs.Reached.{Good_state}
-use Rattle.wave_theory.proofs.Reached
+use Rattle.wave_theory.proofs.GoodStates.{Good_state}
+use Rattle.wave_theory.proofs.GoodStates
 use Rattle.wave_theory.specs.Listed.{IsIn}
 use Rattle.wave_theory.specs.Holding.{stops, WaitsFor, IsParting, IsHeld, IsAsAlone, Holders}
 use Rattle.wave_states.specs.Labels.{Label}
@@ -114,7 +114,7 @@ module _ {A F R J : Type 0} (kind : Kind A F R J) (owes : Owes kind) (b : Begin 
     x = k.shows
 
     known_event : (t : ℕ) (event : Event A) → (s.cells t).event ≡ Some event → (b.before < t) × (t ≤ (k.ghost).lines.admitted)
-    known_event t event e = Reached.known kind owes b batches begins jobs s k.ghost x t (λ q. none_not (sym (ap (λ (u : Cell A F R). u.event) q) ∙ e))
+    known_event t event e = GoodStates.known kind owes b batches begins jobs s k.ghost x t (λ q. none_not (sym (ap (λ (u : Cell A F R). u.event) q) ∙ e))
 
     module _ (t : ℕ) (event : Event A) (is_event : (s.cells t).event ≡ Some event) where
       kn : (b.before < t) × (t ≤ (k.ghost).lines.admitted)

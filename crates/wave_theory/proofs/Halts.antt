@@ -19,7 +19,7 @@ use Rattle.wave_theory.proofs.Deeds.{Outline, outline, Deed, done_by, Suits}
 use Rattle.wave_theory.proofs.Deeds
 use Rattle.wave_theory.proofs.Forms.{stop_form, admit_form}
 use Rattle.wave_theory.proofs.Homes
-use Rattle.wave_theory.proofs.Reached.{Good_state, Next}
+use Rattle.wave_theory.proofs.GoodStates.{Good_state, Next}
 use Rattle.wave_theory.proofs.Reached
 use Rattle.wave_theory.proofs.Along
 use Rattle.wave_theory.specs.Holding.{is_stop_of, stops}

@@ -17,8 +17,8 @@ use Rattle.wave_states.specs.Owes.{Owes, IsBegin}
 use Rattle.wave_states.specs.Owners.{IsOwner}
 use Rattle.wave_theory.proofs.Courses.{View, view, view_real, done_at, entered_after, leaf_first, view_later, done_or_over}
 use Rattle.wave_theory.proofs.Courses
-use Rattle.wave_theory.proofs.Reached.{Heads, Good_state, ResultIs, result_of}
-use Rattle.wave_theory.proofs.Reached
+use Rattle.wave_theory.proofs.GoodStates.{Heads, Good_state, ResultIs, result_of}
+use Rattle.wave_theory.proofs.GoodStates
 use Rattle.wave_theory.proofs.Basics.{map_some, if_some, set_at, set_at_path}
 use Rattle.wave_theory.proofs.Order.{Coming, is_pending}
 use Rattle.wave_states.specs.States.{Column, Hand, hold_at}
@@ -66,7 +66,7 @@ module _ {A F R J : Type 0} (kind : Kind A F R J) (owes : Owes kind) (b : Begin 
     -- where a Visit or a Back comes to
     visited : (t n : ℕ) (p : Path) (h : ℕ) (z : Part A F R) → Opened.Visits n p h (part_of s t p) z → is_some ((s.columns p).store h) ≡ true
     visited t n p h z q =
-        let kn = Reached.known kind owes b batches begins jobs s k.ghost x t (λ i. none_not (sym (ap (λ (u : Cell A F R). u.event) i) ∙ q.event_is)) in
+        let kn = GoodStates.known kind owes b batches begins jobs s k.ghost x t (λ i. none_not (sym (ap (λ (u : Cell A F R). u.event) i) ∙ q.event_is)) in
         let c : Shows.CellShows kind.system w course b.before Is_real k.ghost t (s.cells t) = x.cells t kn.0 kn.1 in
         let m = shows_letter kind.system w course b.before Is_real k.ghost t n h p q.letter (s.cells t) c q.letter_at in
         let y : Shows.ComingShows kind.system w course b.before Is_real k.ghost t n h p = (elim (coming_is q.letter q.coming) [

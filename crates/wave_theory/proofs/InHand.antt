@@ -28,7 +28,7 @@ use Rattle.wave_theory.proofs.Plans
 use Rattle.wave_theory.proofs.Courses.{View, view, view_real}
 use Rattle.wave_theory.proofs.Courses
 use Rattle.wave_theory.proofs.Shows
-use Rattle.wave_theory.proofs.Reached.{Good_state}
+use Rattle.wave_theory.proofs.GoodStates.{Good_state}
 use Rattle.wave_theory.specs.Hands.{CanStop, HandsStay, HandsStayOver}
 use Rattle.wave_theory.proofs.Stages.{there_done}
 

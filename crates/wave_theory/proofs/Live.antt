@@ -33,8 +33,8 @@ use Rattle.wave_states.specs.Alone.{places_alone, fold_alone, job_after, run_alo
 use Rattle.wave_theory.proofs.Courses.{View, view, view_real, done_at, entered_after, leaf_first, view_later, done_or_over}
 use Rattle.wave_theory.proofs.Courses
 use Rattle.wave_theory.proofs.Folds
-use Rattle.wave_theory.proofs.Reached.{Heads, Good_state, ResultIs, result_of}
-use Rattle.wave_theory.proofs.Reached
+use Rattle.wave_theory.proofs.GoodStates.{Heads, Good_state, ResultIs, result_of}
+use Rattle.wave_theory.proofs.GoodStates
 use Rattle.wave_theory.specs.Complete.{IsComplete}
 use Rattle.std.proofs.Common.{nat_lt}
 use Rattle.std.proofs.lemmas.Bool.Decides.{nat_tests}
@@ -232,7 +232,7 @@ module _ {A F R J : Type 0} (kind : Kind A F R J) (owes : Owes kind) (b : Begin 
       no_mail t i m e = by m.letter ((x.cells t n.0 n.1).mails i m e)
         where
           n : (b.before < t) × (t ≤ (g).lines.admitted)
-          n = Reached.known kind owes b batches begins jobs s k.ghost x t (λ q. none_not (sym (ap (λ (u : Cell A F R). u.mails i) q) ∙ e))
+          n = GoodStates.known kind owes b batches begins jobs s k.ghost x t (λ q. none_not (sym (ap (λ (u : Cell A F R). u.mails i) q) ∙ e))
 
           by : (l : Letter F) → Shows.MailShows kind.system w course b.before Is_real k.ghost t i m.host m.path l → ⊥
           by (Enter a) y = entering_done (sym y.stage ∙ stage_done t n.1)

@@ -11,7 +11,7 @@ use Rattle.wave_states.specs.Begins.{Begin}
 use Rattle.wave_states.specs.Kinds.{Kind}
 use Rattle.wave_states.specs.Owes.{Owes, IsBegin}
 use Rattle.wave_theory.proofs.Courses.{View, view, view_real, done_at, entered_after, leaf_first, view_later, done_or_over}
-use Rattle.wave_theory.proofs.Reached.{Heads, Good_state, ResultIs, result_of}
+use Rattle.wave_theory.proofs.GoodStates.{Heads, Good_state, ResultIs, result_of}
 use Rattle.wave_theory.proofs.Order.{Coming}
 use Rattle.wave_states.specs.Labels.{Act, Label, Admit, Queue, Grant, Start, Stop, Free, Pass, Land, Commit, ticket_of, path_of}
 use Rattle.wave_states.specs.Labels
@@ -30,7 +30,7 @@ use Rattle.wave_theory.proofs.Live
 use Rattle.wave_theory.proofs.Plans
 use Rattle.wave_theory.proofs.Folds
 use Rattle.wave_theory.proofs.Courses
-use Rattle.wave_theory.proofs.Reached
+use Rattle.wave_theory.proofs.GoodStates
 use Rattle.wave_theory.proofs.Shows
 use Rattle.wave_theory.proofs.Told
 
@@ -204,7 +204,7 @@ module _ {A F R J : Type 0} (kind : Kind A F R J) (owes : Owes kind) (b : Begin 
       either (suc m) zero = inr (suc m, omega arith)
       either (suc m) (suc n) = elim (either m n) [ inl i ↦ inl (i.0, omega (arith, i.1)) | inr i ↦ inr (i.0, omega (arith, i.1)) ]
 
-  module _ (s : State A F R J) (labels : List Rattle.wave_states.specs.Labels.Label) (r : Reached.Goes kind owes b batches begins jobs s (taken labels)) where
+  module _ (s : State A F R J) (labels : List Rattle.wave_states.specs.Labels.Label) (r : GoodStates.Goes kind owes b batches begins jobs s (taken labels)) where
     abbrev k : Good_state kind owes b batches begins jobs s
     k = r.good
 

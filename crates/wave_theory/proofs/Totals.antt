@@ -24,12 +24,12 @@ use Rattle.wave_theory.proofs.Homes.{spot_of}
 use Rattle.wave_theory.proofs.Homes
 use Rattle.wave_theory.proofs.Courses
 use Rattle.wave_theory.proofs.Plans
-use Rattle.wave_theory.proofs.Sites.{shift_by}
+use Rattle.wave_theory.proofs.Places.{shift_by}
 use Rattle.wave_theory.proofs.Sites
 use Rattle.wave_theory.proofs.Live
 use Rattle.wave_theory.proofs.Settled
 use Rattle.wave_theory.proofs.Told
-use Rattle.wave_theory.proofs.Reached.{Good_state}
+use Rattle.wave_theory.proofs.GoodStates.{Good_state}
 use Rattle.wave_theory.specs.Numbers.{HasEntry}
 use Rattle.wave_theory.specs.Counted.{most_moves}
 use Rattle.wave_theory.specs.Finals.{Loads, AllMoves}
