@@ -5,7 +5,7 @@ use Rattle.std.proofs.lemmas.List.{append-nil}
 use Rattle.std.proofs.lemmas.List.Elements.{All-nil, All-cons, All-append}
 use mathlib.Core.Option.{some, none, some-injective}
 use lib.ListN.{get_elem?}
-use Rattle.atomic_table.specs.Table.{State, Me}
+use Rattle.atomic_table.specs.Table.{State}
 use Rattle.atomic_table.proofs.Lists.{at_set, set_again}
 use Rattle.kept_lock.specs.declared.view.View.{View}
 use Rattle.kept_lock.specs.declared.view.Known.{Known}
@@ -51,9 +51,6 @@ module _ {V N E : Type 0} (history : V → List E) (owner : E → ℕ) (stands :
 
   abbrev pub St : Type 0
   St = State (Option V) W
-
-  abbrev M : Type 0
-  M = Me (Option V) W
 
   abbrev pub Rule : N → St → Type 0
   Rule = Keeps history owner stands

@@ -18,7 +18,7 @@ use Rattle.wave_base.specs.Shapes.{is_path}
 use Rattle.wave_base.specs.Tree.{there, children_of}
 use Rattle.service_verify.proofs.Classes.{short_path}
 use Rattle.script_fold.specs.Lines.{most_jobs}
-use Rattle.script_fold.proofs.FoldLemmas.{most_lines}
+use Rattle.script_fold.proofs.LeftLemmas.{most_lines}
 use Rattle.code_actor.specs.CodeActors.{Fields, pause_of}
 use Rattle.wave_states.specs.Actors.{Pause, Go, Down, Back, Over}
 use Rattle.wave_states.specs.Begins.{Begin, child_at_start, column_at_start, entry_at_start, start_state}

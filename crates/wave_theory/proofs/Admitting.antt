@@ -9,7 +9,7 @@ use Rattle.wave_states.specs.Actors.{Actors}
 use Rattle.wave_states.specs.States.{State, Column, Enter, Mail, Travelling, set, Cell}
 use Rattle.wave_states.specs.Steps.{new_cell, admitted, committed}
 use Rattle.wave_theory.proofs.Basics.{clash, some_same, none_not, number_cases, path_self, path_cases, set_at, set_there, differ}
-use Rattle.wave_theory.proofs.Order.{Way, IsWay, Entering, Lined, Done, is_pending, here, one_more, Coming, rank}
+use Rattle.wave_theory.proofs.Order.{Way, IsWay, Entering, Done, is_pending, here, one_more, rank}
 use Rattle.wave_theory.proofs.NewTickets.{admit_good, root_number}
 use Rattle.wave_theory.proofs.Leaves.{Course, IsCourse}
 use Rattle.wave_theory.proofs.Frames.{cell_frame, entry_frame, column_frame, hand_frame}

@@ -9,7 +9,7 @@ use Rattle.wave_states.specs.Actors.{Actors}
 use Rattle.wave_states.specs.States.{State, Cell, Claim, Entry, Hand, Record, Letter, Enter, Visit, Back, Release, Transfer, Mail, Ask, set}
 use Rattle.wave_states.specs.Steps.{Bench, with_bench}
 use Rattle.wave_theory.proofs.Basics.{clash, number_cases, not_same, path_cases, set_at, set_there}
-use Rattle.wave_theory.proofs.Order.{Way, IsWay, visits, rank, Entering, Lined, Coming, Done, here}
+use Rattle.wave_theory.proofs.Order.{Way, IsWay, visits, rank, Entering, Lined, Coming, here}
 use Rattle.wave_theory.proofs.Leaves.{Course}
 use Rattle.wave_theory.proofs.Frames.{entered_spot, visits_of}
 use Rattle.wave_theory.proofs.Shows

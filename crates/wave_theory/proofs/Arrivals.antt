@@ -19,7 +19,7 @@ use Rattle.wave_theory.proofs.Basics.{none_not, some_same, then_some, map_some, 
 use Rattle.wave_theory.proofs.Order.{Way, IsWay, visits, rank, Stage, Entering, Lined, Coming, There, Done, here}
 use Rattle.wave_theory.proofs.NewTickets.{root_number, root_visited}
 use Rattle.wave_theory.proofs.Leaves.{Course}
-use Rattle.wave_theory.proofs.Tracks.{Trail, sent_on, born}
+use Rattle.wave_theory.proofs.Tracks.{Trail, sent_on}
 use Rattle.wave_theory.proofs.Opened.{ask_is, passes}
 use Rattle.wave_theory.proofs.Frames.{entered_spot, visits_of}
 use Rattle.wave_theory.proofs.Courses
@@ -142,9 +142,6 @@ module _ {A F R J : Type 0} (kind : Kind A F R J) (owes : Owes kind) (b : Begin 
   firsts_same ts ts' n n' p e f h = subst (λ x. Firsts x n' p) (sym e) (subst (λ x. Firsts ts x p) (sym f) h)
 
   module _ (some_host : 0 < kind.hosts) (workers : ℕ) where
-    abbrev start : State A F R J
-    start = start_state b batches
-
     pub record Noted (ls : List Label) (s : State A F R J) (k : Good s) : Type 0 where
       pub came : (p : Path) → Firsts (granted p ls) ((k.ghost).lines.served p) p
       pub sent : (p : Path) → Firsts (senders_from kind.system workers p (Some (start_state b batches)) ls) ((k.ghost).lines.given p) p
@@ -262,10 +259,6 @@ module _ {A F R J : Type 0} (kind : Kind A F R J) (owes : Owes kind) (b : Begin 
         where
           is_enter : (p : Path) → is_enter_to p ((s'.cells (ticket_of l.act)).mails (suc (sent_by (s.cells (ticket_of l.act)).event))) ≡ path_eq q p
           is_enter p = ap (is_enter_to p) m ∙ ap (λ (u : Letter F). is_some (ask_in u) && path_eq y.path p) z ∙ ap (λ u. path_eq u p) x
-
-      -- of the ticket of the label, after it
-      own_of : b.before < ticket_of l.act → ticket_of l.act ≤ ((n.good).ghost).lines.admitted → Shows.CellShows kind.system w course b.before Is_real (n.good).ghost (ticket_of l.act) (s'.cells (ticket_of l.act))
-      own_of lt la = (n.good).shows.cells (ticket_of l.act) lt la
 
       sent_by_deed : (d : Deed) → (n.turn).deed ≡ d → Suits l.act d → Deeds.Fits kind.system w course b.before Is_real s k.ghost (n.good).ghost (ticket_of l.act) (path_of l.act) d → (p : Path) → Firsts (senders_from kind.system workers p (Some (start_state b batches)) ls ++ sender_by p (ticket_of l.act) s (Some s')) ((done_by w o (ticket_of l.act) (path_of l.act) d).given p) p
       sent_by_deed Deeds.Lines_up q su f p = sent_same p _ refl (quiet p Lined (stage_now (ticket_of l.act) ∙ ap (λ d. (done_by w o (ticket_of l.act) (path_of l.act) d).stage (ticket_of l.act)) q ∙ set_at (g).lines.stage (ticket_of l.act) Lined) (λ z. grind arith))

@@ -98,9 +98,6 @@ module _ {A F R J : Type 0} (kind : Kind A F R J) (owes : Owes kind) (b : Begin 
       real_of : (t : ℕ) → k.ghost.lines.stage t ≡ There → Is_real t
       real_of t st = (let kn = Homes.known_by_shows kind owes b batches begins jobs s k.ghost k.shows t (λ z. there_done (sym st ∙ z)) in (k.shows.cells t kn.0 kn.1).real)
 
-      same_sum : (a a' p q v m c : ℕ) → a + p ≡ v + m + c → a' ≡ a → q ≡ p → a' + q ≡ v + m + c
-      same_sum a a' p q v m c x y z = omega (arith, x, y, z)
-
       ending_sum : (t : ℕ) → (g).lines.stage t ≡ There → (g).lines.pos t ≡ w.last t → (u u' : Event A) → u'.sent + length u'.held ≡ u.sent + length u.held → Balance u t ((g).lines.stage t) ((g).lines.pos t) →
           Balance u' t (set nat_eq (g).lines.stage t Done t) (set nat_eq (g).lines.pos t (suc ((g).lines.pos t)) t)
       ending_sum t st last u u' y bal = sums _ _ _ _ _ _ _ _ _ _ (ap pend st) (ap live st) (ap pend (set_at (g).lines.stage t Done)) (ap live (set_at (g).lines.stage t Done)) (set_at (g).lines.pos t _)

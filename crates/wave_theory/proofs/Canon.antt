@@ -24,7 +24,7 @@ use Rattle.wave_theory.proofs.Own.{shows_letter}
 use Rattle.std.specs.Prelude.{filter, flat_map, map, is_none, option_map}
 use Rattle.wave_states.specs.States.{Status, Mark, Travelling, Waiting, Ready, Running, Ended, Transfer}
 use Rattle.wave_states.specs.Labels.{Choice, is_stop}
-use Rattle.wave_states.specs.Steps.{admit, commit, admitted}
+use Rattle.wave_states.specs.Steps.{admit, commit}
 use Rattle.wave_states.specs.Canonical.{below, takes, at_host, by_event, runs_it, by_status, stops_of, early, stops, late, idle_in, taken_as, taken_by, stop_by, enabled, enabled_for}
 use Rattle.wave_states.specs.Canonical
 use Rattle.wave_theory.specs.Hands.{CanStop}

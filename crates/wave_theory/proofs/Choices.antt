@@ -3,7 +3,7 @@ use Rattle.wave_theory.proofs.Found.{found}
 use Rattle.std.proofs.Common.{◌≡◌, ℕ, ◌<◌, ◌≤◌, inl, inr, true, Option, Some, None, List, refl, sym, ◌∙◌, ap, subst, arith, is_some, ◌&&◌, ◌==◌, ap₂, [], ◌∷◌, ◌++◌, ◌+◌, suc, ◌⊎◌, Bool, false}
 use Rattle.wave_base.specs.declared.path.Path.{Path}
 use Rattle.wave_states.specs.States.{State, Cell, Entry, Event, Mail, Letter, Claim}
-use Rattle.wave_theory.proofs.Basics.{clash, none_not, some_same, then_some, map_some, only_some, number_is, path_is, and_first, and_second}
+use Rattle.wave_theory.proofs.Basics.{clash, none_not, some_same, then_some, map_some, only_some, number_is, and_first, and_second}
 use Rattle.wave_theory.proofs.Order.{Way, here, Lined}
 use Rattle.wave_theory.proofs.Leaves.{Course}
 use Rattle.wave_theory.proofs.Tracks.{owner}

@@ -75,20 +75,11 @@ in_from (suc n) a t l m = elim (number_cases a t) [ inl e ↦ inl e | inr e ↦ 
     past : (a t : ℕ) → a ≤ t → nat_eq a t ≡ false → suc a ≤ t
     past a t l e = grind (arith, nat_tests)
 
-from_in : (n a t : ℕ) → IsIn (tickets_from a n) t → t < a + n
-from_in zero a t i = absurd i
-from_in (suc n) a t (inl e) = omega (arith, e)
-from_in (suc n) a t (inr i) = (let l = from_in n (suc a) t i in omega (arith, l))
-
 pub less_by : (a c : ℕ) → nat_lt a c ≡ true → a < c
 less_by a c e = grind (arith, nat_tests)
 
 pub by_less : (a c : ℕ) → a < c → nat_lt a c ≡ true
 by_less a c l = grind (arith, nat_tests)
-
-none_some : {X : Type 0} (o : Option X) → is_none o ≡ true → o ≡ None
-none_some None e = refl
-none_some (Some x) e = absurd (clash true refl (sym e))
 
 pub unmap : {X Y : Type 0} (f : X → Y) (o : Option X) → is_some (option_map f o) ≡ true → is_some o ≡ true
 unmap f None e = e

@@ -29,7 +29,7 @@ use Rattle.wave_theory.proofs.Homes
 use Rattle.wave_theory.proofs.HomesKept
 use Rattle.wave_theory.proofs.Sites
 use Rattle.wave_theory.proofs.Live
-use Rattle.wave_theory.proofs.GoodStates.{Good_state, Next}
+use Rattle.wave_theory.proofs.GoodStates.{Good_state}
 use Rattle.wave_theory.proofs.Reached
 use Rattle.wave_theory.proofs.Along
 use Rattle.wave_theory.specs.Counted.{most_moves}

@@ -9,7 +9,7 @@ use Rattle.wave_states.specs.Actors.{Actors}
 use Rattle.wave_states.specs.States.{State, Cell, Column, Claim, Hand, Letter, Enter, Visit, Back, Release, Transfer, set}
 use Rattle.wave_states.specs.Steps.{Bench, with_bench}
 use Rattle.wave_theory.proofs.Basics.{clash, number_cases, path_self, path_cases, set_at, set_there, set_at_path, and_first, and_second}
-use Rattle.wave_theory.proofs.Order.{Way, IsWay, visits, rank, Entering, Coming, There, Done, is_pending, here, Good}
+use Rattle.wave_theory.proofs.Order.{Way, IsWay, visits, rank, Done, is_pending, here, Good}
 use Rattle.wave_theory.proofs.Ranks.{comes, rank_pos}
 use Rattle.wave_theory.proofs.Leaves.{Course}
 use Rattle.wave_theory.proofs.Tracks.{owner, Track}

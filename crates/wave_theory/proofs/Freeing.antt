@@ -5,7 +5,7 @@ use Rattle.wave_base.specs.declared.path.Path.{Path}
 use Rattle.wave_base.specs.Paths.{path_eq}
 use Rattle.wave_states.specs.Actors.{Actors}
 use Rattle.wave_states.specs.States.{State, Column, Claim, Entry, Letter, Enter, Visit, Back, Release, Transfer, Mail, set, is_coming}
-use Rattle.wave_states.specs.Steps.{Part, with_bench, admitted, let_in, with_entry, with_holders, others, landed, part_of, without_mail}
+use Rattle.wave_states.specs.Steps.{Part, with_bench, with_entry, with_holders, others, landed, part_of, without_mail}
 use Rattle.wave_theory.proofs.Basics.{bool_cases, clash, some_same, none_not, number_cases, not_same, path_self, path_cases, set_at, set_there, set_at_path, and_first, differ}
 use Rattle.wave_theory.proofs.Order.{Way, IsWay, rank, here, Good, freed}
 use Rattle.wave_theory.proofs.Ranks.{rank_less}

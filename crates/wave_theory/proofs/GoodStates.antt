@@ -1,10 +1,10 @@
 -- What holds of each state on the way: it shows the lines and the fold, and its head has come as far.
-use Rattle.std.proofs.Common.{◌≡◌, ℕ, suc, ◌+◌, ◌<◌, ◌≤◌, ◌⊎◌, inl, inr, nat_eq, Bool, true, false, Option, Some, None, is_some, List, [], refl, sym, ◌∙◌, ap, subst, arith}
+use Rattle.std.proofs.Common.{◌≡◌, ℕ, suc, ◌+◌, ◌<◌, ◌≤◌, ◌⊎◌, inl, inr, nat_eq, Bool, true, Option, Some, None, is_some, List, [], refl, sym, ◌∙◌, ap, subst, arith}
 use Rattle.std.specs.Prelude.{if◌then◌else◌, slice_get}
 use Rattle.wave_base.specs.declared.path.Path.{Path}
 use Rattle.wave_states.specs.States.{State, Cell, Event, Mail, set}
-use Rattle.wave_states.specs.Steps.{Bench, with_bench, admitted, committed}
-use Rattle.wave_theory.proofs.Basics.{clash, some_same, none_not, number_cases, set_at, set_there}
+use Rattle.wave_states.specs.Steps.{Bench, with_bench, committed}
+use Rattle.wave_theory.proofs.Basics.{some_same, none_not, number_cases, set_at, set_there}
 use Rattle.wave_theory.proofs.Order.{Way, IsWay}
 use Rattle.wave_theory.proofs.Leaves.{Course, IsCourse}
 use Rattle.wave_theory.proofs.Alive
@@ -25,10 +25,6 @@ use Rattle.wave_theory.proofs.Courses
 use Rattle.wave_theory.proofs.Plans.{first_of, last_of, first_ok, counts}
 use Rattle.wave_theory.proofs.Folds
 use Rattle.wave_theory.proofs.Admitting
-
-none_hand : {X : Type 0} (o : Option X) → is_some o ≡ false → o ≡ None
-none_hand None e = refl
-none_hand (Some x) e = absurd (clash true refl e)
 
 module _ {A F R J : Type 0} (kind : Kind A F R J) (owes : Owes kind) (b : Begin F) (batches : List (List J)) (begins : IsBegin kind b) (jobs : All (All kind.is_job) batches) where
   abbrev pub w : Way

@@ -280,9 +280,6 @@ module _ {A F R J : Type 0} (sys : Actors A F R J) (w : Way) (law : IsWay w) (co
     column_g : Shows.ColumnShows sys w course low is_real (g.born p) gg p (granted p h (part_of s t p) q.event q.entry q.claim).column
     column_g = changed sys w course low is_real g gg p (s.columns p) h q.entry (let_in q.entry q.claim) fg refl refl (entry_now_g ∙ ap (λ z. let_in z q.claim) (sym fg.entry_is))
 
-    pub grant_known : (low < t) × (t ≤ g.lines.admitted)
-    grant_known = (now.later, now.known)
-
     pub grant_shows : Shows.Shows sys w course low is_real (with_bench s t p v (record { part = y; hand = None })) gg
     grant_shows = update sys w law course low is_real s g gg t p v (record { part = y; hand = None }) x frame_g
         (grant_good law g.lines t x.good (omega (arith, now.later)) now.known now.stage (ap (λ r. rank w r t) now.place ∙ rank_is ∙ ap (λ r. suc (g.lines.served r)) (sym now.place)) (subst (Joins law g.lines t) (sym now.place) joins)) kept_g refl now.later now.known

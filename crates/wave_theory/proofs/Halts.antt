@@ -11,7 +11,7 @@ use Rattle.wave_states.specs.Begins.{Begin, start_state}
 use Rattle.wave_states.specs.Kinds.{Kind}
 use Rattle.wave_states.specs.Owes.{Owes, IsBegin}
 use Rattle.wave_theory.proofs.Basics.{clash, number_cases, number_self, set_at, set_there, differ}
-use Rattle.wave_theory.proofs.Order.{Way, Stage, There, Done}
+use Rattle.wave_theory.proofs.Order.{Way, Stage, There}
 use Rattle.wave_theory.proofs.Leaves.{Course}
 use Rattle.wave_theory.proofs.Courses
 use Rattle.wave_theory.proofs.Shows
@@ -19,7 +19,7 @@ use Rattle.wave_theory.proofs.Deeds.{Outline, outline, Deed, done_by, Suits}
 use Rattle.wave_theory.proofs.Deeds
 use Rattle.wave_theory.proofs.Forms.{stop_form, admit_form}
 use Rattle.wave_theory.proofs.Homes
-use Rattle.wave_theory.proofs.GoodStates.{Good_state, Next}
+use Rattle.wave_theory.proofs.GoodStates.{Good_state}
 use Rattle.wave_theory.proofs.Reached
 use Rattle.wave_theory.proofs.Along
 use Rattle.wave_theory.specs.Holding.{is_stop_of, stops}

@@ -68,9 +68,6 @@ module _ {A F R J : Type 0} (kind : Kind A F R J) (owes : Owes kind) (b : Begin 
   abbrev places : ℕ → Tree ℕ
   places i = Sites.places kind owes b batches begins jobs i
 
-  abbrev grown : ℕ → Tree ℕ
-  grown i = Sites.grown kind owes b batches begins jobs i
-
   abbrev shifts : Path → ℕ → ℕ
   shifts p i = Sites.shifts kind owes b batches begins jobs p i
 

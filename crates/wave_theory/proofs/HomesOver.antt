@@ -14,7 +14,7 @@ use Rattle.wave_states.specs.Owes.{Owes, IsBegin}
 use Rattle.wave_states.specs.Alone.{job_after}
 use Rattle.wave_states.specs.Steps.{child_or_new}
 use Rattle.wave_theory.proofs.Basics.{clash, none_not, some_same, number_cases, not_same, path_cases, path_self, set_at, set_there, set_at_path, differ}
-use Rattle.wave_theory.proofs.Order.{Way, IsWay, visits, rank, Stage, Entering, There, Done}
+use Rattle.wave_theory.proofs.Order.{Way, IsWay, visits, rank, Stage, Entering, Done}
 use Rattle.wave_theory.proofs.Ranks.{rank_in, rank_same, rank_pos}
 use Rattle.wave_theory.proofs.Leaves.{Course}
 use Rattle.wave_theory.proofs.Paths.{parent_child, child_not_root}
@@ -84,9 +84,6 @@ module _ {A F R J : Type 0} (kind : Kind A F R J) (owes : Owes kind) (b : Begin 
 
       same_result : (Sites.ran kind owes b batches begins jobs (rt).index (rt).job).result ≡ result
       same_result = Sites.result_is kind owes b batches begins jobs (rt).index (rt).job (rt).job_is (g.lines.pos t) result (subst (λ u. g.lines.pos t ≤ w.last u) (rt).ticket_is (subst (λ n. g.lines.pos t ≤ n) last (omega arith))) (ap (λ u. course.result u (suc (g.lines.pos t))) (sym (rt).ticket_is) ∙ result_is)
-
-      stage_is : g.lines.stage (suc b.before + (rt).index) ≡ There
-      stage_is = ap g.lines.stage (sym (rt).ticket_is) ∙ stopped.stage
 
       sent_same : (v : Stage) (u : ℕ) (q : Path) → (u ≤ g.lines.admitted) × (w.entered u (set nat_eq g.lines.pos t (suc (g.lines.pos t)) u) q ≡ true) → SentTo o u q
       sent_same v u q e = Homes.entered_next kind owes b batches begins jobs s g x h t v q (Homes.known_t kind owes b batches begins jobs s g x h t p stopped).1 (subst (λ n. g.lines.pos t ≤ n) last (omega arith)) u (λ m f r k. past _ _ m last) e
@@ -188,9 +185,6 @@ module _ {A F R J : Type 0} (kind : Kind A F R J) (owes : Owes kind) (b : Begin 
 
     -- a segment's end that enters a new child
     module _ (t : ℕ) (p : Path) (g' : Shows.Ghost F) (st : Step) (r : Trail) (f : Deeds.GoesIn kind.system w course b.before Is_real s g g' t p st r) (kids : (q : Path) (u : Step) (c : Child) → child_at (g.body q).children u ≡ Some c → (there b.tree (q ++ u ∷ []) ≡ true) ⊎ (0 < c.given)) where
-      abbrev q₀ : Path
-      q₀ = p ++ st ∷ []
-
       abbrev r₀ : Courses.Real kind owes b batches begins jobs t
       r₀ = Homes.real_t kind owes b batches begins jobs s g x h t p f.stopped
 

@@ -5,7 +5,7 @@ use Rattle.wave_base.specs.declared.path.Path.{Path}
 use Rattle.wave_base.specs.Paths.{path_eq}
 use Rattle.wave_states.specs.States.{State, Cell, Entry}
 use Rattle.wave_theory.proofs.Basics.{clash, none_not, bool_cases}
-use Rattle.wave_theory.proofs.Order.{Way, IsWay, Done, here}
+use Rattle.wave_theory.proofs.Order.{Way, IsWay, here}
 use Rattle.wave_theory.proofs.Leaves.{Course}
 use Rattle.wave_theory.proofs.Tracks.{owner}
 use Rattle.wave_theory.proofs.Frames.{option_some, holds_spot}
@@ -20,7 +20,7 @@ use Rattle.wave_theory.proofs.Courses
 use Rattle.wave_theory.proofs.GoodStates.{Heads, Good_state, ResultIs, result_of}
 use Rattle.wave_theory.proofs.GoodStates
 use Rattle.wave_theory.proofs.Basics.{map_some, if_some, set_at, set_at_path}
-use Rattle.wave_theory.proofs.Order.{Coming, is_pending}
+use Rattle.wave_theory.proofs.Order.{is_pending}
 use Rattle.wave_states.specs.States.{Column, Hand, hold_at}
 use Rattle.wave_states.specs.Labels.{Act, Label, Admit, Queue, Grant, Start, Stop, Free, Pass, Land, Commit, ticket_of, path_of}
 use Rattle.wave_states.specs.Labels

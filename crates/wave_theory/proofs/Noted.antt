@@ -17,7 +17,7 @@ use Rattle.wave_states.specs.Runs.{run}
 use Rattle.wave_theory.proofs.Basics.{clash, none_not, then_some, map_some, only_some, if_some, bool_cases, options, path_cases, set_there, set_at_path, differ}
 use Rattle.wave_theory.proofs.Order.{Way, visits, Stage, Entering, Done, here}
 use Rattle.wave_theory.proofs.Leaves.{Course}
-use Rattle.wave_theory.proofs.Tracks.{owner, born, unborn}
+use Rattle.wave_theory.proofs.Tracks.{owner, unborn}
 use Rattle.wave_theory.proofs.Frames.{entered_spot, visits_of}
 use Rattle.wave_theory.proofs.Courses
 use Rattle.wave_theory.proofs.Shows

@@ -29,10 +29,6 @@ kept_left keep (x ∷ xs) = elim (bool_cases (keep x.0)) [
     plus : (a c : ℕ) → a + suc c ≡ suc (a + c)
     plus a c = omega arith
 
-none_kept : (held : List (Path × Hold)) → kept_of nothing_kept held ≡ []
-none_kept [] = refl
-none_kept (x ∷ xs) = none_kept xs
-
 -- but for one, where each stands once
 all_kept : (p : Path) (held : List (Path × Hold)) → hold_at held p ≡ None → length (kept_of (not_at p) held) ≡ length held
 all_kept p [] e = refl

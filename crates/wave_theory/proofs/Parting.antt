@@ -12,7 +12,7 @@ use Rattle.wave_theory.proofs.Basics.{bool_cases, clash, set_at, set_at_path}
 use Rattle.wave_theory.proofs.Order.{Way, IsWay, Done, is_pending, here}
 use Rattle.wave_theory.proofs.Stops.{done_good}
 use Rattle.wave_theory.proofs.Leaves.{Course, IsCourse, Segment, Ends}
-use Rattle.wave_theory.proofs.Tracks.{owner, unborn}
+use Rattle.wave_theory.proofs.Tracks.{owner}
 use Rattle.wave_theory.proofs.Maps.{hold_filter}
 use Rattle.wave_theory.proofs.Opened.{Stopping}
 use Rattle.wave_theory.proofs.Found.{Found, changed}

@@ -9,7 +9,7 @@ use Rattle.wave_states.specs.Begins.{Begin, start_state}
 use Rattle.wave_states.specs.Kinds.{Kind}
 use Rattle.wave_states.specs.Owes.{Owes, IsBegin}
 use Rattle.wave_states.specs.Alone.{job_after}
-use Rattle.wave_states.specs.Steps.{Bench, step, step_by, act_bench, part_of, admitted}
+use Rattle.wave_states.specs.Steps.{Bench, step, step_by, act_bench, part_of}
 use Rattle.wave_states.specs.Runs.{run}
 use Rattle.wave_states.specs.Work.{work_after, work_of_job}
 use Rattle.wave_theory.proofs.Basics.{none_not, map_some, if_some, number_cases, not_same, set_at, set_there, differ}

@@ -109,10 +109,6 @@ module _ {A F R J : Type 0} (sys : Actors A F R J) where
   moves_append (f ∷ es) [] e r l b batches = absurd (omega (arith, l))
   moves_append (f ∷ es) (s ∷ rs) e r l b batches = ap (λ xs. (f, sys.moved s) ∷ xs) (moves_append es rs e r (omega (arith, l)) b batches)
 
-  abbrev added : Bool → Path → List Path
-  added true p = p ∷ []
-  added false p = []
-
   -- what a segment enters comes last
   entered_step : (y : Alone A F R) → (zs : List Path) × ((next_alone sys y).entered ≡ y.entered ++ zs)
   entered_step y = by y.result

@@ -10,7 +10,7 @@ use Rattle.wave_states.specs.States.{State, Claim, Entry, Enter, Waiting, set, h
 use Rattle.wave_states.specs.Steps.{Part, Route, Deliver, Born, Wait, Forward, with_bench, queued, entry_for, route, in_line, with_entry, part_of, child_or_new}
 use Rattle.wave_states.specs.Desks.{with_status}
 use Rattle.wave_theory.proofs.Basics.{bool_cases, clash, some_same, none_not, number_cases, not_same, path_cases, set_at, set_there, set_at_path}
-use Rattle.wave_theory.proofs.Order.{Way, IsWay, Entering, Lined, Coming, There, Done, is_pending, here, staged, visits, rank}
+use Rattle.wave_theory.proofs.Order.{Way, IsWay, Lined, is_pending, here, staged, visits, rank}
 use Rattle.wave_theory.proofs.Turns.{line_good}
 use Rattle.wave_theory.proofs.Leaves.{Course}
 use Rattle.wave_theory.proofs.Tracks.{Trail, owner, Track, change_track, born_track, not_born_again, store_at, born}

@@ -30,7 +30,6 @@ use Rattle.wave_theory.proofs.Opened.{queues, grants, starts, frees, passes, lan
 use Rattle.wave_theory.proofs.Opened
 use Rattle.wave_theory.proofs.Courses.{Real}
 use Rattle.wave_theory.proofs.Courses
-use Rattle.wave_theory.proofs.Plans.{counts}
 use Rattle.wave_theory.proofs.Folds
 use Rattle.wave_theory.proofs.Queueing
 use Rattle.wave_theory.proofs.Granting

@@ -36,7 +36,7 @@ use Rattle.wave_theory.proofs.HomesKept
 use Rattle.wave_theory.proofs.Sites
 use Rattle.wave_theory.proofs.Live
 use Rattle.wave_theory.proofs.Told
-use Rattle.wave_theory.proofs.GoodStates.{Good_state, Next}
+use Rattle.wave_theory.proofs.GoodStates.{Good_state}
 use Rattle.wave_theory.proofs.Reached
 use Rattle.wave_theory.proofs.Along
 

@@ -12,7 +12,7 @@ use Rattle.wave_states.specs.Actors.{Pause, Go, Down, Over}
 use Rattle.wave_states.specs.Begins.{Begin, has_moved}
 use Rattle.wave_states.specs.Kinds.{Kind}
 use Rattle.wave_states.specs.Owes.{Owes, IsBegin}
-use Rattle.wave_states.specs.Alone.{Alone, goes_on, after_segments, fold_alone, run_alone, job_after, moves_in, places_alone}
+use Rattle.wave_states.specs.Alone.{Alone, after_segments, fold_alone, run_alone, job_after, moves_in, places_alone}
 use Rattle.wave_states.specs.Work.{moves_away, work_after, work_of_job}
 use Rattle.wave_theory.proofs.Basics.{clash, options, bool_cases, path_cases, path_self}
 use Rattle.wave_theory.proofs.Order.{Way, IsWay, visits, rank}

@@ -1,6 +1,6 @@
 -- No stage is another one.
 use Rattle.std.proofs.Common.{◌≡◌, arith}
-use Rattle.wave_theory.proofs.Order.{Stage, Entering, Lined, Coming, There, Done}
+use Rattle.wave_theory.proofs.Order.{Entering, Lined, Coming, There, Done}
 
 pub entering_lined : Entering ≡ Lined → ⊥
 entering_lined e = grind arith

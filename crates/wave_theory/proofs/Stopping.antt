@@ -12,10 +12,10 @@ use Rattle.wave_states.specs.Steps.{Part, with_bench, ended, segment_of, cell_of
 use Rattle.wave_states.specs.Desks.{Desk, send, kept_of, left_of, nothing_kept, with_status, with_held}
 use Rattle.wave_theory.proofs.Basics.{bool_cases, clash, some_same, none_not, some_not, number_cases, not_same, path_self, path_cases, set_at, set_there, set_at_path, differ}
 use Rattle.wave_theory.proofs.Order.{Way, IsWay, rank, Stage, Entering, Lined, Coming, There, is_pending, here, Good}
-use Rattle.wave_theory.proofs.Ranks.{not_again, comes}
+use Rattle.wave_theory.proofs.Ranks.{not_again}
 use Rattle.wave_theory.proofs.Stops.{not_looking}
 use Rattle.wave_theory.proofs.Leaves.{Course, IsCourse, Segment}
-use Rattle.wave_theory.proofs.Tracks.{Trail, owner, unborn}
+use Rattle.wave_theory.proofs.Tracks.{Trail, owner}
 use Rattle.wave_theory.proofs.Opened.{Stopping}
 use Rattle.wave_theory.proofs.Own.{mail_own}
 use Rattle.wave_theory.proofs.Found.{Found, found}
@@ -102,9 +102,6 @@ module _ {A F R J : Type 0} (sys : Actors A F R J) (w : Way) (law : IsWay w) (co
 
     pub seg : Segment sys w course t k
     seg = courses.segment t k c.real going
-
-    abbrev pub leaf_p : F × List Step
-    leaf_p = course.leaf t k p
 
     abbrev pub left : Left A F R
     left = sys.segment (seg).actor (course.leaf t k (w.place t k)).0 (course.leaf t k (w.place t k)).1

@@ -10,7 +10,7 @@ use Rattle.wave_base.specs.Paths.{path_eq}
 use Rattle.wave_states.specs.States.{State, Cell, Claim, Entry, Event, Record, Mail, steps_of, Ask}
 use Rattle.wave_states.specs.Steps.{free, route, Deliver, Wait, Forward}
 use Rattle.wave_theory.proofs.Basics.{clash, some_same, none_not, options, number_cases, bool_cases}
-use Rattle.wave_theory.proofs.Order.{Way, IsWay, visits, rank, Entering, Lined, Done, here}
+use Rattle.wave_theory.proofs.Order.{Way, IsWay, visits, rank, Done, here}
 use Rattle.wave_theory.proofs.NewTickets.{root_number}
 use Rattle.wave_theory.proofs.Leaves.{Course}
 use Rattle.wave_theory.proofs.Tracks.{owner, Routed, routed}
