@@ -30,7 +30,7 @@ use Rattle.wave_states.specs.Labels
 use Rattle.wave_theory.proofs.Shows
 use Rattle.wave_theory.proofs.Stages.{entering_coming, entering_lined}
 use Rattle.wave_theory.proofs.Stopping
-use Rattle.wave_theory.proofs.GoingIn
+use Rattle.wave_theory.proofs.GoingOn
 
 module _ {A F R J : Type 0} (sys : Actors A F R J) (w : Way) (law : IsWay w) (course : Course sys) (low : ℕ) (is_real : ℕ → Type 0) (courses : IsCourse sys w course low is_real) where
   abbrev Change : Type 0
@@ -91,7 +91,7 @@ module _ {A F R J : Type 0} (sys : Actors A F R J) (w : Way) (law : IsWay w) (co
     keeps false P st r = w.held t k r
 
     abbrev InFacts : (P : Path) (st : Step) (peek go : Bool) → Type 0
-    InFacts = GoingIn.InFacts sys w law course low is_real courses s g x hd v h hand_is y q
+    InFacts = GoingOn.InFacts sys w law course low is_real courses s g x hd v h hand_is y q
 
     abbrev finish : Bool → Path → Desk A F → Desk A F
     finish true r d = give_up (is_above r) d
@@ -106,35 +106,35 @@ module _ {A F R J : Type 0} (sys : Actors A F R J) (w : Way) (law : IsWay w) (co
     child_trail (Some a) r = r
 
     abbrev child_trail_some : (o : Option Child) (a : Child) (r : Trail) → o ≡ Some a → child_trail o r ≡ r
-    child_trail_some = GoingIn.child_trail_some sys w law course low is_real courses s g x hd v h hand_is y q
+    child_trail_some = GoingOn.child_trail_some sys w law course low is_real courses s g x hd v h hand_is y q
 
     abbrev child_trail_none : (o : Option Child) (r : Trail) → o ≡ None → child_trail o r ≡ unborn h
-    child_trail_none = GoingIn.child_trail_none sys w law course low is_real courses s g x hd v h hand_is y q
+    child_trail_none = GoingOn.child_trail_none sys w law course low is_real courses s g x hd v h hand_is y q
 
     module _ (st : Step) (peek go : Bool) (i : InFacts p st peek go) where
       abbrev child_path : Path
       child_path = p ++ st ∷ []
 
       abbrev off : w.looks t p ≡ false
-      off = GoingIn.off sys w law course low is_real courses s g x hd v h hand_is y q st peek go i
+      off = GoingOn.off sys w law course low is_real courses s g x hd v h hand_is y q st peek go i
 
       abbrev whole : hd.body ≡ g.body p
-      whole = GoingIn.whole sys w law course low is_real courses s g x hd v h hand_is y q st peek go i
+      whole = GoingOn.whole sys w law course low is_real courses s g x hd v h hand_is y q st peek go i
 
       abbrev apart_p : path_eq child_path p ≡ false
-      apart_p = GoingIn.apart_p sys w law course low is_real courses s g x hd v h hand_is y q st peek go i
+      apart_p = GoingOn.apart_p sys w law course low is_real courses s g x hd v h hand_is y q st peek go i
 
       abbrev child_parting : Alive.Alive sys w course low is_real s g → (m : Mail F) → (r : Path) → g.lines.holds r t ≡ true → w.held t (suc k) r ≡ false → Alive.PartingThere (finish go child_path (send (desk_with q.event.held) m)).mails (parting_now go child_path r) r
-      child_parting = GoingIn.child_parting sys w law course low is_real courses s g x hd v h hand_is y q st peek go i
+      child_parting = GoingOn.child_parting sys w law course low is_real courses s g x hd v h hand_is y q st peek go i
 
       abbrev child_zero : (m : Mail F) → (s.cells t).mails 0 ≡ None → (finish go child_path (send (desk_with q.event.held) m)).mails 0 ≡ None
-      child_zero = GoingIn.child_zero sys w law course low is_real courses s g x hd v h hand_is y q st peek go i
+      child_zero = GoingOn.child_zero sys w law course low is_real courses s g x hd v h hand_is y q st peek go i
 
       abbrev kid_housed : Alive.Alive sys w course low is_real s g → (o : Option Child) (i : ℕ) → i ≤ (child_trail o (g.trail child_path)).last → (child_trail o (g.trail child_path)).at i < course.hosts
-      kid_housed = GoingIn.kid_housed sys w law course low is_real courses s g x hd v h hand_is y q st peek go i
+      kid_housed = GoingOn.kid_housed sys w law course low is_real courses s g x hd v h hand_is y q st peek go i
 
       abbrev child_main : (m : Mail F) → (finish go child_path (send (desk_with q.event.held) m)).mails (suc q.event.sent) ≡ Some m
-      child_main = GoingIn.child_main sys w law course low is_real courses s g x hd v h hand_is y q st peek go i
+      child_main = GoingOn.child_main sys w law course low is_real courses s g x hd v h hand_is y q st peek go i
 
       -- a child that is not held: an Enter under the next number
       module _ (none : hold_at q.event.held child_path ≡ None) where
@@ -162,7 +162,7 @@ module _ {A F R J : Type 0} (sys : Actors A F R J) (w : Way) (law : IsWay w) (co
         }
 
         kid_given : (kid).given ≡ g.lines.given child_path
-        kid_given = GoingIn.child_given sys w law course low is_real courses s g x hd v h hand_is y q (child_at hd.body.children st) h 0 ∙ ap (λ u. Shows.given_of u st) whole ∙ en.given st
+        kid_given = GoingOn.child_given sys w law course low is_real courses s g x hd v h hand_is y q (child_at hd.body.children st) h 0 ∙ ap (λ u. Shows.given_of u st) whole ∙ en.given st
 
         trail_off : (r : Path) → path_eq child_path r ≡ false → (z_new).trail r ≡ g.trail r
         trail_off r d = set_there path_eq g.trail child_path _ r d
@@ -203,7 +203,7 @@ module _ {A F R J : Type 0} (sys : Actors A F R J) (w : Way) (law : IsWay w) (co
 
         desk_new : DeskShows sys w course low is_real (changed_by g t p z_new) t (send (desk_with q.event.held) (record { host = (kid).birth.0; path = child_path; letter = Enter (record { number = suc (kid).given; followed = 0; peek = peek }) })) (λ r. w.held t k r) (Some (left).actor) Travelling
         desk_new = send_desk sys w course low is_real (changed_by g t p z_new) t (desk_with q.event.held) (λ r. w.held t k r) (Some (left).actor) Travelling _
-            (Stopping.base_desk sys w law course low is_real courses s g x hd v h hand_is y q z_new (record { trail = λ r m n. trail_held r m; parting = λ r e. GoingIn.parting_old sys w law course low is_real courses s g x hd v h hand_is y q go child_path r e }) q.event.held (λ r. w.held t k r) held_is (λ r a e. (e, trail_held r (Stopping.holds_held sys w law course low is_real courses s g x hd v h hand_is y q r (sym (held_is r) ∙ ap is_some e)))) (Stopping.once_held sys w law course low is_real courses s g x hd v h hand_is y q)) enter_now
+            (Stopping.base_desk sys w law course low is_real courses s g x hd v h hand_is y q z_new (record { trail = λ r m n. trail_held r m; parting = λ r e. GoingOn.parting_old sys w law course low is_real courses s g x hd v h hand_is y q go child_path r e }) q.event.held (λ r. w.held t k r) held_is (λ r a e. (e, trail_held r (Stopping.holds_held sys w law course low is_real courses s g x hd v h hand_is y q r (sym (held_is r) ∙ ap is_some e)))) (Stopping.once_held sys w law course low is_real courses s g x hd v h hand_is y q)) enter_now
 
         in_hand_new : (a : Path) → keeps go p st a ≡ (w.held t (suc k) a && not (true && path_eq (w.place t (suc k)) a))
         in_hand_new a = sym (ap (λ j. j && not (path_eq (w.place t (suc k)) a)) (i.held_is a) ∙ ap (λ j. (keeps go p st a || (j && path_eq a child_path)) && not (path_eq (w.place t (suc k)) a)) fresh_now
@@ -278,7 +278,7 @@ module _ {A F R J : Type 0} (sys : Actors A F R J) (w : Way) (law : IsWay w) (co
           body_ok = λ e. absurd (clash _ e off);
           like = record { fields = sym i.fields; steps = steps_put hd.body.children st next_kid ∙ ap (λ u. insert_key step_cmp (steps_of u.children) st) whole ∙ ap (λ u. insert_key step_cmp u st) (Stopping.like sys w law course low is_real courses s g x hd v h hand_is y q).steps ∙ sym (i.steps_new fresh_now) };
           cell = subst (λ (u : Part A F R). Shows.CellShows sys w course low is_real (changed_by g t p z_new) t u.cell) (sym ye)
-              (Stopping.goes_on_cell sys w law course low is_real courses s g x hd v h hand_is y q z_new (finish go child_path _) (keeps go p st) (s.cells t).result (GoingIn.finished sys w law course low is_real courses s g x hd v h hand_is y q st peek go i z_new refl _ refl refl desk_new) (inr refl) in_hand_new ((Stopping.c sys w law course low is_real courses s g x hd v h hand_is y q).result ∙ seg.no_result ∙ sym i.no_result));
+              (Stopping.goes_on_cell sys w law course low is_real courses s g x hd v h hand_is y q z_new (finish go child_path _) (keeps go p st) (s.cells t).result (GoingOn.finished sys w law course low is_real courses s g x hd v h hand_is y q st peek go i z_new refl _ refl refl desk_new) (inr refl) in_hand_new ((Stopping.c sys w law course low is_real courses s g x hd v h hand_is y q).result ∙ seg.no_result ∙ sym i.no_result));
           entry = Stopping.entry_back sys w law course low is_real courses s g x hd v h hand_is y q z_new put_back_new;
           column = subst (λ (u : Part A F R). Shows.ColumnShows sys w course low is_real (g.born p) (changed_by g t p z_new) p u.column) (sym ye)
               (changed sys w course low is_real g (changed_by g t p z_new) p (s.columns p) h q.entry (with_body q.entry (Some body_new)) f refl (trail_off p apart_p) (set_at_path g.entry p _));

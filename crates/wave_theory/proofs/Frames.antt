@@ -21,6 +21,10 @@ pub option_some : {X : Type 0} (o : Option X) → is_some o ≡ true → (x : X)
 option_some None e = absurd (clash false e refl)
 option_some (Some x) e = (x, refl)
 
+pub option_none : {X : Type 0} (o : Option X) → is_some o ≡ false → o ≡ None
+option_none None e = refl
+option_none (Some x) e = absurd (clash true refl e)
+
 pub not_is : (a : Bool) → not a ≡ true → a ≡ false
 not_is true e = absurd (clash false e refl)
 not_is false e = refl

@@ -20,7 +20,7 @@ use Rattle.wave_theory.proofs.Paths.{path_swap}
 use Rattle.wave_theory.proofs.Opened.{Grants}
 use Rattle.wave_theory.proofs.Own.{mail_own, status_out}
 use Rattle.wave_theory.proofs.Found.{Found, found, changed, claims_append, all_append, joining}
-use Rattle.wave_theory.proofs.Frames.{update, at_spot, entered_spot, visits_of}
+use Rattle.wave_theory.proofs.Frames.{update, at_spot, entered_spot, visits_of, option_none}
 use Rattle.wave_theory.proofs.Ranks.{rank_same}
 use Rattle.wave_theory.proofs.Alive
 use Rattle.wave_theory.proofs.Tallies
@@ -235,7 +235,7 @@ module _ {A F R J : Type 0} (sys : Actors A F R J) (w : Way) (law : IsWay w) (co
       actor = λ z. ap (λ u. u.actor) same ∙ cg.actor z;
       held = λ r. ap is_some (hold_put q.event.held p r (record { host = h; peek = q.claim.peek })) ∙ by r (path_eq r p) refl;
       where_held = λ r i z. where_now r i (path_eq r p) refl (sym (hold_put q.event.held p r (record { host = h; peek = q.claim.peek })) ∙ z);
-      once = once_insert q.event.held p (record { host = h; peek = q.claim.peek }) (none_of (hold_at q.event.held p) (old p ∙ ap (λ u. w.held t (g.lines.pos t) p && not (path_eq u p)) now.place ∙ ap (λ u. w.held t (g.lines.pos t) p && not u) (path_self p) ∙ and_none (w.held t (g.lines.pos t) p))) (subst (λ u. Shows.Once u.held) (sym same) cg.once);
+      once = once_insert q.event.held p (record { host = h; peek = q.claim.peek }) (option_none (hold_at q.event.held p) (old p ∙ ap (λ u. w.held t (g.lines.pos t) p && not (path_eq u p)) now.place ∙ ap (λ u. w.held t (g.lines.pos t) p && not u) (path_self p) ∙ and_none (w.held t (g.lines.pos t) p))) (subst (λ u. Shows.Once u.held) (sym same) cg.once);
       result = cg.result;
       mails = λ i m z. mail_own sys w course low is_real g gg t i m.host m.path m.letter (record { no_enter = λ a u. lined_entering (sym now.stage ∙ u.stage); no_coming = λ u. lined_coming (sym now.stage ∙ u.stage) })
           (λ u. record {
@@ -257,10 +257,6 @@ module _ {A F R J : Type 0} (sys : Actors A F R J) (w : Way) (law : IsWay w) (co
 
         old : (r : Path) → is_some (hold_at q.event.held r) ≡ (w.held t (g.lines.pos t) r && not (path_eq (here w g.lines t) r))
         old r = ap (λ u. is_some (hold_at u.held r)) same ∙ cg.held r ∙ ap (λ u. w.held t (g.lines.pos t) r && not (is_pending u && path_eq (here w g.lines t) r)) now.stage
-
-        none_of : (o : Option Hold) → is_some o ≡ false → o ≡ None
-        none_of None e = refl
-        none_of (Some i) e = absurd (clash true refl e)
 
         and_none : (a : Bool) → (a && false) ≡ false
         and_none a = grind arith

@@ -27,8 +27,7 @@ pub mod Found
 pub mod Frames
 pub mod Freeing
 pub mod Generations
-pub mod GoingBack
-pub mod GoingIn
+pub mod GoingOn
 pub mod GoodStates
 pub mod Granting
 pub mod Halts

@@ -17,7 +17,7 @@ use Rattle.wave_theory.proofs.Maps.{hold_filter}
 use Rattle.wave_theory.proofs.Paths.{path_swap, child_differs}
 use Rattle.wave_theory.proofs.Opened.{Stopping}
 use Rattle.wave_theory.proofs.Found.{Found}
-use Rattle.wave_theory.proofs.Frames.{not_is}
+use Rattle.wave_theory.proofs.Frames.{not_is, option_none}
 use Rattle.wave_theory.proofs.Held.{once_filter, number_in}
 use Rattle.wave_theory.proofs.Desks.{DeskShows, send_desk, keep_release, give_up_there, sent_there}
 use Rattle.wave_theory.proofs.Alive
@@ -27,7 +27,7 @@ use Rattle.wave_states.specs.Labels
 use Rattle.wave_theory.proofs.Shows
 use Rattle.wave_theory.proofs.Stages.{done_coming, done_entering, done_lined}
 use Rattle.wave_theory.proofs.Stopping
-use Rattle.wave_theory.proofs.GoingIn
+use Rattle.wave_theory.proofs.GoingOn
 use Rattle.wave_theory.proofs.Parting
 
 module _ {A F R J : Type 0} (sys : Actors A F R J) (w : Way) (law : IsWay w) (course : Course sys) (low : ℕ) (is_real : ℕ → Type 0) (courses : IsCourse sys w course low is_real) where
@@ -175,7 +175,7 @@ module _ {A F R J : Type 0} (sys : Actors A F R J) (w : Way) (law : IsWay w) (co
               by false = refl
 
           rest_none : (a : Path) → w.held t k a ≡ false → hold_at rest a ≡ None
-          rest_none a e = GoingIn.none_of sys w law course low is_real courses s g x hd v h hand_is y q _ (rest_now a ∙ ap (λ j. not (path_eq p a) && j) e ∙ and_none (not (path_eq p a)))
+          rest_none a e = option_none _ (rest_now a ∙ ap (λ j. not (path_eq p a) && j) e ∙ and_none (not (path_eq p a)))
             where
               and_none : (j : Bool) → (j && false) ≡ false
               and_none j = grind arith

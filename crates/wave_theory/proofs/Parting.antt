@@ -24,7 +24,8 @@ use Rattle.wave_states.specs.Labels
 use Rattle.wave_theory.proofs.Shows
 use Rattle.wave_theory.proofs.Stages.{done_coming, done_entering, done_lined}
 use Rattle.wave_theory.proofs.Stopping
-use Rattle.wave_theory.proofs.GoingIn
+use Rattle.wave_theory.proofs.GoingOn
+use Rattle.wave_theory.proofs.Frames.{option_none}
 
 module _ {A F R J : Type 0} (sys : Actors A F R J) (w : Way) (law : IsWay w) (course : Course sys) (low : ℕ) (is_real : ℕ → Type 0) (courses : IsCourse sys w course low is_real) where
   abbrev Change : Type 0
@@ -109,9 +110,6 @@ module _ {A F R J : Type 0} (sys : Actors A F R J) (w : Way) (law : IsWay w) (co
     abbrev entry_back : (z : Change) → PutBack z → Shows.EntryShows sys w course low is_real (changed_by g t p z) p
     entry_back = Stopping.entry_back sys w law course low is_real courses s g x hd v h hand_is y q
 
-    abbrev none_of : (o : Option Hold) → is_some o ≡ false → o ≡ None
-    none_of = GoingIn.none_of sys w law course low is_real courses s g x hd v h hand_is y q
-
     -- the end
     pub record EndFacts (P : Path) (r : R) : Type 0 where
       pub last_is : k ≡ w.last t
@@ -166,7 +164,7 @@ module _ {A F R J : Type 0} (sys : Actors A F R J) (w : Way) (law : IsWay w) (co
     end_parting : Alive.Alive sys w course low is_real s g → (r : Path) → g.lines.holds r t ≡ true → Alive.PartingThere (ended (desk_with q.event.held)).mails (all_parting q.event.held q.event.sent r) r
     end_parting a r h = give_up_there nothing_kept (record { event = with_status (desk_with q.event.held).event Ended; mails = (s.cells t).mails }) (g.parting t) r (elim (bool_cases (w.held t k r)) [
       | inl u ↦ inl (refl, held_is r ∙ u)
-      | inr u ↦ (let o = old_there a r h u in inr (none_of _ (held_is r ∙ u), o.0, o.1))
+      | inr u ↦ (let o = old_there a r h u in inr (option_none _ (held_is r ∙ u), o.0, o.1))
     ])
 
     module _ (r : R) (i : EndFacts p r) where
@@ -192,7 +190,7 @@ module _ {A F R J : Type 0} (sys : Actors A F R J) (w : Way) (law : IsWay w) (co
           like = subst (Shows.Like sys w course low is_real (g.body p)) (sym (i.unchanged on)) like;
           cell = subst (λ (u : Part A F R). Shows.CellShows sys w course low is_real (changed_by g t p z_look) t u.cell) (sym ye)
               (ended_cell z_look (ended (desk_with q.event.held)) r
-              (ended_desk z_look (desk_with q.event.held) (λ a. w.held t k a) (base_desk z_look (record { trail = λ a m n. refl; parting = λ a e. all_off q.event.held q.event.sent a (none_of _ (held_is a ∙ e)) }) q.event.held (λ a. w.held t k a) held_is (λ a b e. (e, refl)) once_held) i.last_is (λ a m. (m, refl))) refl i.last_is i.result_is);
+              (ended_desk z_look (desk_with q.event.held) (λ a. w.held t k a) (base_desk z_look (record { trail = λ a m n. refl; parting = λ a e. all_off q.event.held q.event.sent a (option_none _ (held_is a ∙ e)) }) q.event.held (λ a. w.held t k a) held_is (λ a b e. (e, refl)) once_held) i.last_is (λ a m. (m, refl))) refl i.last_is i.result_is);
           entry = record {
             served = ap (λ (u : Entry F). u.served) entry_now ∙ en.served;
             holders = λ a. ap (λ (u : Entry F). Shows.holds_claim u.holders a) entry_now ∙ en.holders a;
@@ -265,7 +263,7 @@ module _ {A F R J : Type 0} (sys : Actors A F R J) (w : Way) (law : IsWay w) (co
           like = like_end;
           cell = subst (λ (u : Part A F R). Shows.CellShows sys w course low is_real (changed_by g t p z_end) t u.cell) (sym ye)
               (ended_cell z_end (ended (desk_with q.event.held)) r
-              (ended_desk z_end (desk_with q.event.held) (λ a. w.held t k a) (base_desk z_end (record { trail = λ a m n. refl; parting = λ a e. all_off q.event.held q.event.sent a (none_of _ (held_is a ∙ e)) }) q.event.held (λ a. w.held t k a) held_is (λ a b e. (e, refl)) once_held) i.last_is (λ a m. (m, refl))) refl i.last_is i.result_is);
+              (ended_desk z_end (desk_with q.event.held) (λ a. w.held t k a) (base_desk z_end (record { trail = λ a m n. refl; parting = λ a e. all_off q.event.held q.event.sent a (option_none _ (held_is a ∙ e)) }) q.event.held (λ a. w.held t k a) held_is (λ a b e. (e, refl)) once_held) i.last_is (λ a m. (m, refl))) refl i.last_is i.result_is);
           entry = entry_back z_end (record {
             looks = no;
             entry = refl;

@@ -18,8 +18,7 @@ use Rattle.wave_states.specs.Labels
 use Rattle.wave_theory.proofs.Shows
 use Rattle.wave_theory.proofs.Leaves.{Follows}
 use Rattle.wave_theory.proofs.EnteringChild
-use Rattle.wave_theory.proofs.GoingBack
-use Rattle.wave_theory.proofs.GoingIn
+use Rattle.wave_theory.proofs.GoingOn
 use Rattle.wave_theory.proofs.MovingAway
 use Rattle.wave_theory.proofs.Parting
 use Rattle.wave_theory.proofs.Stopping
@@ -61,10 +60,10 @@ module _ {A F R J : Type 0} (sys : Actors A F R J) (w : Way) (law : IsWay w) (co
     follows u e = subst (Follows sys w course t (g.lines.pos t) left) e seg.follows
 
     -- into a child
-    into_it : (st : Step) (peek go : Bool) (i : GoingIn.InFacts sys w law course low is_real courses s g x hd v h hand_is y q p st peek go) → (o : Option Hold) → hold_at q.event.held (p ++ st ∷ []) ≡ o →
-        y ≡ put_back (part_of s t p) h (GoingIn.finish sys w law course low is_real courses s g x hd v h hand_is y q go (p ++ st ∷ []) (into_child p h desk q.entry (left).fields hd.body.children st peek o).0, (into_child p h desk q.entry (left).fields hd.body.children st peek o).1) → Changed
+    into_it : (st : Step) (peek go : Bool) (i : GoingOn.InFacts sys w law course low is_real courses s g x hd v h hand_is y q p st peek go) → (o : Option Hold) → hold_at q.event.held (p ++ st ∷ []) ≡ o →
+        y ≡ put_back (part_of s t p) h (GoingOn.finish sys w law course low is_real courses s g x hd v h hand_is y q go (p ++ st ∷ []) (into_child p h desk q.entry (left).fields hd.body.children st peek o).0, (into_child p h desk q.entry (left).fields hd.body.children st peek o).1) → Changed
     into_it st peek go i None e k = (EnteringChild.z_new sys w law course low is_real courses s g x hd v h hand_is y q st peek go i e, EnteringChild.is_new sys w law course low is_real courses s g x hd v h hand_is y q st peek go i e k, EnteringChild.lives_new sys w law course low is_real courses s g x hd v h hand_is y q st peek go i e k, EnteringChild.turn_new sys w law course low is_real courses s g x hd v h hand_is y q st peek go i e)
-    into_it st peek go i (Some a) e k = (GoingIn.z_old sys w law course low is_real courses s g x hd v h hand_is y q st peek go i a e, GoingIn.is_old sys w law course low is_real courses s g x hd v h hand_is y q st peek go i a e k, GoingIn.lives_old sys w law course low is_real courses s g x hd v h hand_is y q st peek go i a e k, GoingIn.turn_old sys w law course low is_real courses s g x hd v h hand_is y q st peek go i a e)
+    into_it st peek go i (Some a) e k = (GoingOn.z_old sys w law course low is_real courses s g x hd v h hand_is y q st peek go i a e, GoingOn.is_old sys w law course low is_real courses s g x hd v h hand_is y q st peek go i a e k, GoingOn.lives_old sys w law course low is_real courses s g x hd v h hand_is y q st peek go i a e k, GoingOn.turn_old sys w law course low is_real courses s g x hd v h hand_is y q st peek go i a e)
 
     over_it : w.looks t p ≡ false → (r : R) → Parting.EndFacts sys w law course low is_real courses s g x hd v h hand_is y q p r → (m : Option (Path × ℕ)) → sys.moved r ≡ m → y ≡ over_by p (part_of s t p) h desk (with_body q.entry (Some (record { fields = (left).fields; children = hd.body.children }))) r m → Changed
     over_it off r i None mv k = (Parting.z_end sys w law course low is_real courses s g x hd v h hand_is y q r i off, Parting.is_end sys w law course low is_real courses s g x hd v h hand_is y q r i off k, Parting.lives_end sys w law course low is_real courses s g x hd v h hand_is y q r i off k, Parting.turn_end sys w law course low is_real courses s g x hd v h hand_is y q r i off (inl mv))
@@ -96,12 +95,12 @@ module _ {A F R J : Type 0} (sys : Actors A F R J) (w : Way) (law : IsWay w) (co
             (Parting.z_look sys w law course low is_real courses s g x hd v h hand_is y q r.0 i looks_on, Parting.is_look sys w law course low is_real courses s g x hd v h hand_is y q r.0 i looks_on (sym (some_same _ y (subst (λ u. looked (part_of s t p) h desk q.entry u ≡ Some y) r.1 e))), Parting.lives_look sys w law course low is_real courses s g x hd v h hand_is y q r.0 i looks_on (sym (some_same _ y (subst (λ u. looked (part_of s t p) h desk q.entry u ≡ Some y) r.1 e))), Parting.turn_look sys w law course low is_real courses s g x hd v h hand_is y q r.0 i looks_on))
 
         plain_case : w.looks t p ≡ false → (u : Pause R) → (left).pause ≡ u → paused sys p h (part_of s t p) desk q.entry (left).fields hd.body.children (sys.peeks (left).actor) (left).pause ≡ y → Changed
-        plain_case off (Go st) e k = into_it st (sys.peeks (left).actor) true (GoingIn.go_facts sys w law course low is_real courses s g x hd v h hand_is y q st (follows (Go st) e)) (hold_at q.event.held (p ++ st ∷ [])) refl
+        plain_case off (Go st) e k = into_it st (sys.peeks (left).actor) true (GoingOn.go_facts sys w law course low is_real courses s g x hd v h hand_is y q st (follows (Go st) e)) (hold_at q.event.held (p ++ st ∷ [])) refl
             (sym k ∙ ap (paused sys p h (part_of s t p) desk q.entry (left).fields hd.body.children (sys.peeks (left).actor)) e)
-        plain_case off (Down st) e k = into_it st false false (GoingIn.down_facts sys w law course low is_real courses s g x hd v h hand_is y q st (follows (Down st) e)) (hold_at q.event.held (p ++ st ∷ [])) refl
+        plain_case off (Down st) e k = into_it st false false (GoingOn.down_facts sys w law course low is_real courses s g x hd v h hand_is y q st (follows (Down st) e)) (hold_at q.event.held (p ++ st ∷ [])) refl
             (sym k ∙ ap (paused sys p h (part_of s t p) desk q.entry (left).fields hd.body.children (sys.peeks (left).actor)) e)
-        plain_case off Pause.Back e k = (let i = GoingBack.back_facts sys w law course low is_real courses s g x hd v h hand_is y q (follows Pause.Back e) in
-            (GoingBack.z_back sys w law course low is_real courses s g x hd v h hand_is y q i, GoingBack.is_back sys w law course low is_real courses s g x hd v h hand_is y q i (sym k ∙ ap (paused sys p h (part_of s t p) desk q.entry (left).fields hd.body.children (sys.peeks (left).actor)) e), GoingBack.lives_back sys w law course low is_real courses s g x hd v h hand_is y q i (sym k ∙ ap (paused sys p h (part_of s t p) desk q.entry (left).fields hd.body.children (sys.peeks (left).actor)) e), GoingBack.turn_back sys w law course low is_real courses s g x hd v h hand_is y q i))
+        plain_case off Pause.Back e k = (let i = GoingOn.back_facts sys w law course low is_real courses s g x hd v h hand_is y q (follows Pause.Back e) in
+            (GoingOn.z_back sys w law course low is_real courses s g x hd v h hand_is y q i, GoingOn.is_back sys w law course low is_real courses s g x hd v h hand_is y q i (sym k ∙ ap (paused sys p h (part_of s t p) desk q.entry (left).fields hd.body.children (sys.peeks (left).actor)) e), GoingOn.lives_back sys w law course low is_real courses s g x hd v h hand_is y q i (sym k ∙ ap (paused sys p h (part_of s t p) desk q.entry (left).fields hd.body.children (sys.peeks (left).actor)) e), GoingOn.turn_back sys w law course low is_real courses s g x hd v h hand_is y q i))
         plain_case off (Over r) e k = over_it off r (Parting.end_facts sys w law course low is_real courses s g x hd v h hand_is y q r (follows (Over r) e)) (sys.moved r) refl
             (sym k ∙ ap (paused sys p h (part_of s t p) desk q.entry (left).fields hd.body.children (sys.peeks (left).actor)) e)
 

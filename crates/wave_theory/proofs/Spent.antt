@@ -31,6 +31,7 @@ use Rattle.wave_theory.proofs.Courses
 use Rattle.wave_theory.proofs.Shows
 use Rattle.wave_theory.proofs.GoodStates.{Good_state}
 use Rattle.wave_theory.specs.Numbers.{HasEntry}
+use Rattle.wave_theory.proofs.Frames.{option_none}
 
 -- each ticket once
 abbrev pub OnceIn : List Claim → Type 0
@@ -247,12 +248,8 @@ module _ {A F R J : Type 0} (kind : Kind A F R J) (owes : Owes kind) (b : Begin 
           and_none : (a : Bool) → (a && false) ≡ false
           and_none a = grind arith
 
-      none_of : {X : Type 0} (o : Option X) → is_some o ≡ false → o ≡ None
-      none_of None e = refl
-      none_of (Some y) e = absurd (clash true refl e)
-
       not_held : hold_at q.event.held p ≡ None
-      not_held = subst (λ (u : Event A). hold_at u.held p ≡ None) (some_same _ _ (sym c.event_is ∙ q.event_is)) (none_of _ off)
+      not_held = subst (λ (u : Event A). hold_at u.held p ≡ None) (some_same _ _ (sym c.event_is ∙ q.event_is)) (option_none _ off)
 
     pub local : (v h : ℕ) (a : Act) (y : Bench A F R) (hd : Option (Hand A F)) → s.hands v ≡ hd → is_local a ≡ true → act_bench kind.system a h (part_of s (ticket_of a) (path_of a)) hd ≡ Some y → Leaves a y
     local v h (Admit t) y hd i l e = absurd (clash false l refl)
