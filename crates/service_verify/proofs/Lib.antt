@@ -13,7 +13,7 @@ pub mod Leveled
 pub mod Lists
 pub mod Locals
 pub mod Meeting
-pub mod MovesOn
+pub mod Onward
 pub mod Operands
 pub mod Pausing
 pub mod Peeking
