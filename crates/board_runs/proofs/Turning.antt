@@ -117,10 +117,6 @@ module _ (plan : declared.Plan) (b b' : Board) (still : StandsStill b b') where
       let next = still here.origin (here.state, here.at) in
       record { origin = here.origin; state = next.0; at = next.1; plan_is = (next.1).plan ∙ sym here.at.plan ∙ here.plan_is }
 
-  -- nothing was appended
-  pub ready_same : IsReady plan b → history_of b' ≡ history_of b → IsReady plan b'
-  ready_same ready e = record { stands = goes_on ready.stands; gave = λ w. subst (λ ts. GaveBack w ts) (sym e) (ready.gave w) }
-
   -- a label was that is neither a Start nor a Stop
   pub ready_step : IsReady plan b → (l : Label) → IsAppended b b' l → is_step l.act ≡ true → IsReady plan b'
   ready_step ready l appended kind = record {

@@ -77,9 +77,6 @@ module _ (shape : Shape) (t : Tree Fields) (p : Path) (x : Fields) (fits : FitsS
 entered_more : (entered : List Path) (q r : Path) → list_any (path_eq r) (entered ++ q ∷ []) ≡ (list_any (path_eq r) entered || (path_eq r q || false))
 entered_more entered q r = list_any-append (path_eq r) entered (q ∷ [])
 
-or_none : (a b : Bool) → (a || (b || false)) ≡ true → (b || a) ≡ true
-or_none a b e = grind arith
-
 module _ (program : Program) (fit : IsFit program) (verified : IsVerified program) where
   has_tree : (tree : Tree Fields) → FitsShape program.shape tree → HasTree program tree
   has_tree tree fits q = by (there tree q) refl

@@ -12,7 +12,7 @@ use Rattle.resolved_service.specs.Meaning.{State, Leave, Returned, Finished, Don
 use Rattle.resolved_service.specs.Steps.{Step, SetLocal, SetField, PutLocal, PutField, CutLocal, CutField, If, While, For, Require, Send, Spawn, Do, Return, Finish, Steps, no_steps, step, no_else, otherwise, surely_ends}
 use Rattle.resolved_service.specs.View.{Tree, Const, Local, Field, Above, Op, And, Or, Call, Child}
 use Rattle.resolved_service.specs.World as world
-use Rattle.resolved_service.specs.World.{World, nothing, is_true, sending, spawning}
+use Rattle.resolved_service.specs.World.{is_true, sending, spawning}
 use Rattle.service_code.specs.declared.instr.Instr.{Instr}
 use Rattle.service_code.specs.declared.instr.Instr.TheVariants as i
 use Rattle.service_code.specs.declared.program.Program.{Program}
@@ -23,7 +23,9 @@ use Rattle.code_scheme.specs.Scheme.{Line, line, gives_in, leaves_value, pop_cod
 use Rattle.code_scheme.specs.Texts.{place_of_text}
 use Rattle.code_scheme.specs.Typed.{Within, InMethod, InEvent, IsMethod, HasKind, IsSilent, IsTypedReturn, IsTypedFinish, IsTypedStep, AreTyped}
 use Rattle.code_scheme.proofs.Follow.{Here, At, Leads, Follows, stay, place_is, bind, done, IsLine}
-use Rattle.code_scheme.proofs.Instructions.{Low, row_runs, load_runs, store_runs, pop_runs, set_field_runs, put_local_runs, cut_local_runs, put_field_runs, cut_field_runs, require_runs, send_runs, spawn_runs, push_runs, reply_runs, end_runs, Onward}
+use Rattle.code_scheme.proofs.Finding.{Low}
+use Rattle.code_scheme.proofs.Instructions.{row_runs, load_runs, store_runs, pop_runs, set_field_runs, put_local_runs, cut_local_runs, put_field_runs, cut_field_runs, require_runs, send_runs, spawn_runs, push_runs, Onward}
+use Rattle.code_scheme.proofs.ChildCalls.{reply_runs, end_runs}
 use Rattle.code_scheme.proofs.Leaving.{NeverDone, never_first, never_effects, assoc, Leaving, Performs, performs, bind_to, bind_on, never_ends, picks_on}
 use Rattle.code_scheme.proofs.Looping.{Effect, Plain, ended, then_jump, while_runs}
 use Rattle.code_scheme.proofs.Places.{next, HasAt, has_front, has_back, while_stands}
@@ -43,9 +45,6 @@ module _ (methods : List Method) where
 
 module _ (program : Program) (fit : IsFit program) (verified : IsVerified program) (methods : List Method) (made : AreMade program fit verified methods) (n : ℕ) (calls : CallsFollow program fit verified methods n) where
   module _ (limit : ℕ) (locals : List Kind) (class : ℕ) where
-    Kinded : Tree → Kind → Type 0
-    Kinded e kind = HasKind program.shape methods limit locals class e kind
-
     -- a value, and an instruction that takes it
     use_runs : (h : Here) (e : Tree) (kind : Kind) → HasKind program.shape methods limit locals class e kind → (t pc : ℕ) (at : Span) (ins : Instr) (s : List Value) (st : State) (c : Tour) → t ≤ n → st.world.ticks ≤ t → HasAt program fit verified h.fn pc (tree_code methods program.texts pc e ++ line ins at ∷ []) → At program fit verified h pc s st c → (f : Value → Act (Unit {0})) →
         ((pc' pc'' : ℕ) → suc pc' ≡ pc'' → IsLine program fit verified h.fn pc' ins at → (x : Value) (st' : State) (d : Tour) → st'.world.ticks ≤ t → At program fit verified h pc' (x ∷ s) st' d → Follows program fit verified d (Onward program fit verified h pc'' s) (Low t) (f x st')) →

@@ -26,7 +26,9 @@ use Rattle.code_scheme.specs.Programs.{method_function}
 use Rattle.code_scheme.specs.Scheme.{Line, line, tree_code, steps_code, return_code, reply_code, method_code, phases_code}
 use Rattle.code_scheme.specs.Typed.{InMethod, InEvent, AreTyped, IsTypedLast, AreTypedPhases, IsTypedMethod}
 use Rattle.code_scheme.proofs.Follow.{Here, IsOver, trap_result, At, IsCode, Leads, Follows, on_to, place_is, bind, ends, done}
-use Rattle.code_scheme.proofs.Instructions.{Low, callee_of, go_runs, return_runs, reply_runs, end_runs, Onward}
+use Rattle.code_scheme.proofs.Finding.{Low, callee_of}
+use Rattle.code_scheme.proofs.ChildCalls.{go_runs, return_runs, reply_runs, end_runs}
+use Rattle.code_scheme.proofs.Instructions.{Onward}
 use Rattle.code_scheme.proofs.Places.{next, HasAt, has_front, has_back, has_all}
 use Rattle.code_scheme.proofs.Values.{Answers, Returned, AreMade, Back, CallsFollow, OnTop, value_runs}
 use Rattle.code_scheme.proofs.Effects.{effects_run}

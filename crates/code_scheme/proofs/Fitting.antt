@@ -29,7 +29,8 @@ use Rattle.code_scheme.specs.Typed.{InMethod, InEvent, IsTypedLast, AreTypedPhas
 use Rattle.code_scheme.proofs.Fixed.{Among, among_front, among_back, max_left, max_right, pt}
 use Rattle.code_scheme.proofs.Judging.{behind_statements, return_ends, phases_none, phases_ends, accepted}
 use Rattle.code_scheme.proofs.Made.{get_back, there_is, program_shape, method_made, event_made, number_made}
-use Rattle.code_scheme.proofs.Parts.{whole_loops, whole_calls, method_part, event_part, code_is}
+use Rattle.code_scheme.proofs.Parts.{whole_loops, whole_calls, code_is}
+use Rattle.code_scheme.proofs.StatementParts.{method_part, event_part}
 use Rattle.code_scheme.proofs.Places.{StandsAt, stands_front, stands_back, stands_all}
 use Rattle.code_scheme.proofs.Shutting.{Shut, runs_at}
 use Rattle.code_scheme.proofs.Sizes.{method_some, event_some}

@@ -23,7 +23,7 @@ use Rattle.service_verify.specs.Rules.{found, must, judged_then, kind_eq, operan
 use Rattle.code_scheme.specs.Scheme.{Line, line}
 use Rattle.code_scheme.specs.Texts.{Text, place_of_text}
 use Rattle.code_scheme.proofs.Flow.{Flow, flow_line}
-use Rattle.code_scheme.proofs.Instructions.{same_text}
+use Rattle.code_scheme.proofs.Finding.{same_text}
 
 -- operands one on another, the last on top
 abbrev pub pushed_kinds : List Kind → List Kind → List Kind
@@ -139,9 +139,6 @@ module _ (program : Program) (number : ℕ) (function : Function) where
       or_true false = refl
 
   module _ (ls : List Line) (c : Class) where
-    F : ℕ → ℕ → List Kind → List Kind → Type 0
-    F a e s t = Flow program number function ls a e (pt c s) (pt c t)
-
     pub line_flow : (pc pc' : ℕ) (l : Line) (takes : List (Option Kind)) (gives : Option Kind) (s below : List Kind) → pc' ≡ pc + 1 → slice_get ls pc ≡ Some l → effect_of program number function c.0 l.instr ≡ Ok (record { takes = takes; gives = gives }) → left_below takes s ≡ Ok below → length (option_to_list gives ++ below) ≤ function.stack → ends l.instr ≡ false → class_after l.instr c ≡ c → ((n : ℕ) → next_of l.instr n ≡ suc n ∷ []) →
         Flow program number function ls pc pc' (pt c s) (pt c (option_to_list gives ++ below))
     line_flow pc pc' l takes gives s below e is effect left high no_end class next = flow_line program number function ls pc pc' (pt c s) (pt c (option_to_list gives ++ below)) l e is next (after_line c c l.instr takes gives s below effect left high no_end class)

@@ -47,9 +47,6 @@ module _ (program : Program) (number : ℕ) (function : Function) (ls : List Lin
       ∙ ap (λ o. Ok (record { takes = operands is.method.params ++ an_int ∷ []; gives = o })) is.result_is
 
   module _ (c : Class) where
-    FlowAt : ℕ → ℕ → List Kind → List Kind → Type 0
-    FlowAt a e s t = Flow program number function ls a e (pt c s) (pt c t)
-
     literal_flow : (x : Value) (kind : Kind) → (kind_of x ≡ kind) × IsLiteral x → Among program.texts (value_uses x) → (pc pc' : ℕ) (at : Span) (s : List Kind) → pc' ≡ pc + 1 → slice_get ls pc ≡ Some (line (literal_instr program.texts x) at) → suc (length s) ≤ function.stack → Flow program number function ls pc pc' (pt c s) (pt c (kind ∷ s))
     unfolding effect_of
     literal_flow (v.Int n) kind typed among pc pc' at s e is h = subst (λ kind. Flow program number function ls pc pc' (pt c s) (pt c (kind ∷ s))) typed.0 (int_flow program number function ls c pc pc' n at s e is h)

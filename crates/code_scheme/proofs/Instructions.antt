@@ -1,12 +1,7 @@
 -- What each instruction does at its place, where the event never loses its way.
-use Rattle.std.proofs.Common.{◌≡◌, ℕ, zero, suc, ◌+◌, ◌≤◌, ◌&&◌, ◌||◌, ℤ, List, [], ◌∷◌, ◌++◌, length, get_or, if◌then◌else◌, Bool, true, false, Option, Some, None, refl, ap, sym, subst, ◌∙◌, arith, length-append, append_assoc, take}
-use Rattle.std.specs.Prelude.{slice_get, slice_set, option_to_list, nat_lt, nat_eq, ◌==◌, Ok, Err}
-use Rattle.std.specs.BTreeSet.{insert_key}
-use Rattle.std.specs.List.{filter, list_any}
-use Rattle.std.proofs.lemmas.Bool.Decides.{nat_tests}
-use Rattle.wave_base.specs.declared.limits.TheConstants.{CONTEXTS, GENERATION, MESSAGES, SPAWNS}
-use Rattle.wave_base.specs.declared.outcome.Outcome.TheVariants as out
-use Rattle.wave_base.specs.declared.path.Path.{Path}
+use Rattle.std.proofs.Common.{◌≡◌, ℕ, zero, suc, ◌≤◌, List, [], ◌∷◌, ◌++◌, length, get_or, if◌then◌else◌, Bool, true, false, Some, refl, ap, sym, subst, ◌∙◌, append_assoc, take}
+use Rattle.std.specs.Prelude.{slice_get, slice_set, nat_lt, ◌==◌, Ok, Err}
+use Rattle.wave_base.specs.declared.limits.TheConstants.{GENERATION, MESSAGES, SPAWNS}
 use Rattle.wave_base.specs.declared.path.Step.{Step}
 use Rattle.wave_base.specs.declared.span.Span.{Span}
 use Rattle.wave_base.specs.declared.trap.TrapKind.{TrapKind}
@@ -14,22 +9,17 @@ use Rattle.wave_base.specs.declared.trap.TrapKind.TheVariants as trap
 use Rattle.wave_base.specs.declared.value.Kind.{Kind}
 use Rattle.wave_base.specs.declared.value.Value.{Value}
 use Rattle.wave_base.specs.declared.value.Value.TheVariants as v
-use Rattle.wave_base.specs.Names.{same_bytes}
-use Rattle.wave_base.specs.Paths.{path_eq, path_cmp, is_above, parent_of}
-use Rattle.wave_base.specs.PathLaws.{path_eq_decides}
-use Rattle.wave_base.specs.Tree.{Tree, enter, there}
-use Rattle.wave_base.proofs.Trees.{put_same, there-enter}
+use Rattle.wave_base.specs.Tree.{Tree, there}
+use Rattle.wave_base.proofs.Trees.{put_same}
 use Rattle.std.proofs.lemmas.List.{append-nil}
-use Rattle.wave_base.specs.declared.pause.Pause.{Pause}
-use Rattle.wave_base.specs.declared.pause.Pause.TheVariants as pause
 use Rattle.wave_base.specs.declared.shape.EventInfo.{EventInfo}
 use Rattle.downgrade_views.specs.Levels.{field_at}
 use Rattle.downgrade_views.proofs.Finding.{whole_field}
 use Rattle.value_ops.specs.Kinds.{Answer}
 use Rattle.value_ops.specs.Operators.{takes_of, apply_row}
-use Rattle.resolved_service.specs.Meaning.{row_put, row_cut, set_local, put_field, State, Done, Act, and_then, answer, with_world, tick, enter_at, choose, demand}
+use Rattle.resolved_service.specs.Meaning.{row_put, row_cut, set_local, put_field, State, Done, Act, and_then, answer, with_world, tick, choose, demand}
 use Rattle.resolved_service.specs.World as world
-use Rattle.resolved_service.specs.World.{World, nothing, is_true, child, took, changed, with_entered, releasing, has, sending, spawning}
+use Rattle.resolved_service.specs.World.{World, nothing, is_true, took, sending, spawning}
 use Rattle.service_code.specs.declared.instr.Instr.{Instr}
 use Rattle.service_code.specs.declared.instr.Instr.TheVariants as i
 use Rattle.service_code.specs.declared.program.Function.{Function}
@@ -37,134 +27,11 @@ use Rattle.service_code.specs.declared.program.Program.{Program}
 use Rattle.service_verify.specs.Boxes.{Box, first_locals}
 use Rattle.service_verify.specs.Fit.{IsFit}
 use Rattle.service_verify.specs.Points.{IsVerified}
-use Rattle.service_verify.specs.Standing.{IsCaller}
-use Rattle.service_verify.specs.Steps.{Move, Runs, Paused, Lost, with_some, taken, has_kinds, with_operands, answered, trapped, is_held, on_int, created, ticking, entering, put_row, cut_row, returned, with_result}
-use Rattle.service_verify.specs.Tours.{Tour, Fields, fields_from, fields_above, into, halted}
+use Rattle.service_verify.specs.Steps.{Move, Runs, Lost, with_some, taken, has_kinds, with_operands, answered, trapped, on_int, created, ticking, put_row, cut_row}
+use Rattle.service_verify.specs.Tours.{Tour, Fields, fields_from, fields_above}
 use Rattle.code_scheme.specs.Texts.{Text, place_of_text}
-use Rattle.code_scheme.proofs.Micro.{resumed}
-use Rattle.code_scheme.proofs.Follow.{Here, frame_of, box_of, tour_of, SameHeld, IsOver, Moving, At, Leads, place_is, Follows, lead_in, done, move_at, IsLine, moving, leads, arrives, runs_on, steps_on, traps}
-
--- ---- where an instruction finds what it wants
-
-pub there_or : {A : Type 0} (l : List A) (n : ℕ) (d : A) (go : A → Move) → Moving (with_some (slice_get l n) go) → with_some (slice_get l n) go ≡ go (get_or l n d)
-there_or [] n d go h = absurd h
-there_or (x ∷ l) zero d go h = refl
-there_or (x ∷ l) (suc n) d go h = there_or l n d go h
-
-pub some_then : {A : Type 0} (o : Option A) (m : Move) → Moving (with_some o (λ x. m)) → with_some o (λ x. m) ≡ m
-some_then None m h = absurd h
-some_then (Some x) m h = refl
-
-same_number : (a b : ℕ) → nat_eq a b ≡ true → a ≡ b
-same_number a b e = grind (arith, nat_tests)
-
-and_left : (a b : Bool) → (a && b) ≡ true → a ≡ true
-and_left true b e = refl
-and_left false b e = cc
-
-and_right : (a b : Bool) → (a && b) ≡ true → b ≡ true
-and_right true b e = e
-and_right false b e = cc
-
-pub same_text : (t u : Text) → same_bytes t u ≡ true → t ≡ u
-same_text [] [] e = refl
-same_text [] (y ∷ u) e = cc
-same_text (x ∷ t) [] e = cc
-same_text (x ∷ t) (y ∷ u) e =
-    let first = same_number x y (and_left _ _ e) in
-    let rest = same_text t u (and_right (nat_eq x y) _ e) in
-    λ i. first i ∷ rest i
-
-pub text_there : (texts : List Text) (t : Text) (go : Text → Move) → Moving (with_some (slice_get texts (place_of_text texts t)) go) → with_some (slice_get texts (place_of_text texts t)) go ≡ go t
-text_there [] t go h = absurd h
-text_there (u ∷ us) t go h = by (λ k. text_there us t go k) (same_bytes t u) refl h
-  where
-    by : (Moving (with_some (slice_get us (place_of_text us t)) go) → with_some (slice_get us (place_of_text us t)) go ≡ go t) → (b : Bool) → same_bytes t u ≡ b → Moving (with_some (slice_get (u ∷ us) (if b then zero else suc (place_of_text us t))) go) → with_some (slice_get (u ∷ us) (if b then zero else suc (place_of_text us t))) go ≡ go t
-    by rest true e h = ap go (sym (same_text t u e))
-    by rest false e h = rest h
-
--- values put there one after the other
-abbrev pub pushed : List Value → List Value → List Value
-pushed [] s = s
-pushed (x ∷ xs) s = pushed xs (x ∷ s)
-
-take_more : (vs acc s : List Value) (n : ℕ) → taken (length vs + n) acc (pushed vs s) ≡ taken n (vs ++ acc) s
-take_more [] acc s n = let e : zero + n ≡ n = omega arith in ap (λ m. taken m acc s) e
-take_more (x ∷ vs) acc s n =
-    let e : suc (length vs) + n ≡ length vs + suc n = omega arith in
-    ap (λ m. taken m acc (pushed vs (x ∷ s))) e ∙ take_more vs acc (x ∷ s) (suc n)
-
-append_none : {A : Type 0} (l : List A) → l ++ [] ≡ l
-append_none [] = refl
-append_none (x ∷ l) = ap (λ m. x ∷ m) (append_none l)
-
-pub take_pushed : (m : ℕ) (vs s : List Value) → m ≡ length vs → taken m [] (pushed vs s) ≡ Some (vs, s)
-take_pushed m vs s e =
-    let e' : m ≡ length vs + 0 = omega (arith, e) in
-    ap (λ m. taken m [] (pushed vs s)) e' ∙ take_more vs [] s 0 ∙ ap (λ l. Some (l, s)) (append_none vs)
-
--- ---- what is held
-
-any_append : (r q : Path) (l : List Path) → list_any (path_eq r) (l ++ q ∷ []) ≡ (path_eq r q || list_any (path_eq r) l)
-any_append r q [] = refl
-any_append r q (x ∷ l) = ap (λ b. path_eq r x || b) (any_append r q l) ∙ swap (path_eq r x) (path_eq r q) (list_any (path_eq r) l)
-  where
-    swap : (a b c : Bool) → (a || (b || c)) ≡ (b || (a || c))
-    swap true true c = refl
-    swap true false c = refl
-    swap false b c = refl
-
-pub held_more : (held l : List Path) (q : Path) → SameHeld held l → SameHeld (insert_key path_cmp held q) (l ++ q ∷ [])
-held_more held l q same r =
-    there-enter (record { paths = held; fields = λ p. zero }) q r
-    ∙ ap (λ b. path_eq r q || b) (same r)
-    ∙ sym (any_append r q l)
-
-any_filter : (r q : Path) (l : List Path) → list_any (path_eq r) (filter (is_above q) l) ≡ (is_above q r && list_any (path_eq r) l)
-any_filter r q [] = none (is_above q r)
-  where
-    none : (b : Bool) → false ≡ (b && false)
-    none true = refl
-    none false = refl
-any_filter r q (x ∷ l) = by (any_filter r q l) (is_above q x) (path_eq r x) refl refl
-  where
-    apart : (a : Bool) (m : Bool) → a ≡ false → (a && m) ≡ (a && (true || m))
-    apart true m e = cc
-    apart false m e = refl
-
-    by : list_any (path_eq r) (filter (is_above q) l) ≡ (is_above q r && list_any (path_eq r) l) → (a b : Bool) → is_above q x ≡ a → path_eq r x ≡ b → list_any (path_eq r) (if a then x ∷ filter (is_above q) l else filter (is_above q) l) ≡ (is_above q r && (b || list_any (path_eq r) l))
-    by rest true true ea eb =
-        let same : is_above q r ≡ true = ap (is_above q) ((path_eq_decides r x).0 eb) ∙ ea in
-        ap (λ b. b || list_any (path_eq r) (filter (is_above q) l)) eb ∙ ap (λ a. a && true) (sym same)
-    by rest true false ea eb = ap (λ b. b || list_any (path_eq r) (filter (is_above q) l)) eb ∙ rest
-    by rest false true ea eb =
-        let same : is_above q r ≡ false = ap (is_above q) ((path_eq_decides r x).0 eb) ∙ ea in
-        rest ∙ apart (is_above q r) (list_any (path_eq r) l) same
-    by rest false false ea eb = rest
-
-pub held_below : (held l : List Path) (q : Path) → SameHeld held l → SameHeld (filter (is_above q) held) (filter (is_above q) l)
-held_below held l q same r = any_filter r q held ∙ ap (λ b. is_above q r && b) (same r) ∙ sym (any_filter r q l)
-
-pub parent_child : (p : Path) (s : Step) → parent_of (p ++ s ∷ []) ≡ p
-parent_child [] s = refl
-parent_child (x ∷ []) s = refl
-parent_child (x ∷ y ∷ p) s = ap (λ q. x ∷ q) (parent_child (y ∷ p) s)
-
-abbrev pub Low : {A : Type 0} → ℕ → A → State → Type 0
-Low t a st = st.world.ticks ≤ t
-
-pub took_falls : (n : ℕ) (w x : World) → took n w ≡ Ok x → suc x.ticks ≡ n
-took_falls zero w x e = cc
-took_falls (suc n) w x e = let f : record w { ticks = n } ≡ x = cc in ap (λ (x : World). suc x.ticks) (sym f)
-
--- a world after the way back to the parent
-abbrev pub back_if : Bool → World → World
-back_if true w = changed w
-back_if false w = w
-
--- where a callee begins
-abbrev pub callee_of : ℕ → Path → Bool → Here → ℕ → List Value → List Value → Here
-callee_of g p down h pc s locals = record { fn = g; at = p; down = down; below = frame_of h pc s locals ∷ h.below }
+use Rattle.code_scheme.proofs.Follow.{Here, frame_of, box_of, Moving, At, Leads, place_is, Follows, lead_in, done, move_at, IsLine, moving, runs_on, steps_on, traps}
+use Rattle.code_scheme.proofs.Finding.{Low, callee_of, pushed, some_then, take_pushed, text_there, there_or}
 
 module _ (program : Program) (fit : IsFit program) (verified : IsVerified program) where
   -- ---- results of an instruction, by what it answers
@@ -444,158 +311,3 @@ module _ (program : Program) (fit : IsFit program) (verified : IsVerified progra
     where
       made : Function → List Value × List Value → Move
       made callee u = Runs (box_of (callee_of g h.at false h (suc pc) u.1 st.locals) 0 [] (record { locals = first_locals callee u.0; world = st.world }) a.held) (st.world.tree.fields h.at)
-
-  -- into a child: held already, or one more of at most 256
-  module _ (h : Here) (pc : ℕ) (s : List Value) (st : State) (c : Tour) (a : At program fit verified h pc s st c) (ins : Instr) (at : Span) (l : IsLine program fit verified h.fn pc ins at) (q : Path) (h' : Here) (here : q ≡ h'.at) (pc' : ℕ) (s' locals : List Value) where
-    long_more : (ps : List Path) → suc (length ps) ≡ length (ps ++ q ∷ [])
-    long_more ps = omega (arith, length-append ps (q ∷ []))
-
-    pub enter_runs : (keep : List Path → List Path) (keeps : (held l : List Path) → SameHeld held l → SameHeld (keep held) (keep l)) (why : Pause) (goes : (b : Box) (fields : Fields) → halted (tour_of h pc s st a.held) b fields why ≡ into (tour_of h pc s st a.held) b fields (is_held a.held b.path)) →
-        move_at program fit verified h pc s st a.held ins at ≡ entering q (box_of h pc s st a.held) (λ b. Paused (record b { frames = frame_of h' pc' s' locals ∷ h'.below; path = q; held = keep b.held }) (st.world.tree.fields h.at) why) (trapped trap.Reach at (box_of h pc s st a.held) (st.world.tree.fields h.at)) →
-        Follows program fit verified c (λ u st' d. At program fit verified h' pc' s' (record { locals = locals; world = record st'.world { held = keep st'.world.held } }) d) (λ u st'. (st'.locals ≡ st.locals) × (st'.world.ticks ≡ st.world.ticks)) (enter_at q at st)
-    unfolding world.entering
-    enter_runs keep keeps why goes m = by (is_held a.held q) (nat_lt (length st.world.entered) CONTEXTS) refl refl (sym (a.same q))
-      where
-        paused : List Path → ℕ → Move
-        paused held n = Paused (record (box_of h pc s st a.held) { frames = frame_of h' pc' s' locals ∷ h'.below; path = q; held = keep held; entered = n }) (st.world.tree.fields h.at) why
-
-        go : Bool → Bool → Move
-        go b d = if b then paused a.held (length st.world.entered) else (if d then paused (insert_key path_cmp a.held q) (suc (length st.world.entered)) else trapped trap.Reach at (box_of h pc s st a.held) (st.world.tree.fields h.at))
-
-        is : (b d : Bool) → is_held a.held q ≡ b → nat_lt (length st.world.entered) CONTEXTS ≡ d → move_at program fit verified h pc s st a.held ins at ≡ go b d
-        is b d eb ed = m ∙ (λ i. go (eb i) (ed i))
-
-        Wanted : Answer World → Type 0
-        Wanted o = Follows program fit verified c (λ u st' d. At program fit verified h' pc' s' (record { locals = locals; world = record st'.world { held = keep st'.world.held } }) d) (λ u st'. (st'.locals ≡ st.locals) × (st'.world.ticks ≡ st.world.ticks)) (with_world o at st)
-
-        by : (b d : Bool) → is_held a.held q ≡ b → nat_lt (length st.world.entered) CONTEXTS ≡ d → has st.world.held q ≡ is_held a.held q → Wanted (if has st.world.held q then Ok (changed st.world) else (if nat_lt (length st.world.entered) CONTEXTS then Ok (changed (with_entered q st.world)) else Err trap.Reach))
-        by true d eb ed same =
-            subst (λ b. Wanted (if b then Ok (changed st.world) else (if nat_lt (length st.world.entered) CONTEXTS then Ok (changed (with_entered q st.world)) else Err trap.Reach))) (sym (same ∙ eb))
-            (record { is = (r.0, r.1, r.2, (refl, refl)) })
-          where
-            st' : State
-            st' = record { locals = locals; world = record (changed st.world) { held = keep st.world.held } }
-
-            r : (d : Tour) × Leads program fit verified c d × At program fit verified h' pc' s' st' d
-            r =
-                arrives program fit verified h pc s st c a ins at l h' pc' s' st' (keep a.held) (keeps a.held st.world.held a.same)
-                (ap (resumed (tour_of h pc s st a.held)) (is true d eb ed)
-                ∙ goes (record (box_of h pc s st a.held) { frames = frame_of h' pc' s' locals ∷ h'.below; path = q; held = keep a.held }) (st.world.tree.fields h.at)
-                ∙ ap (into (tour_of h pc s st a.held) (record (box_of h pc s st a.held) { frames = frame_of h' pc' s' locals ∷ h'.below; path = q; held = keep a.held }) (st.world.tree.fields h.at)) eb
-                ∙ (λ i. record { box = record (box_of h' pc' s' st' (keep a.held)) { path = here i }; tree = put_same st.world.tree h.at i; entered = st.world.entered; segments = suc st.world.changes; result = None }))
-        by false true eb ed same =
-            subst (λ b. Wanted (if b then Ok (changed st.world) else (if nat_lt (length st.world.entered) CONTEXTS then Ok (changed (with_entered q st.world)) else Err trap.Reach))) (sym (same ∙ eb))
-            (subst (λ d. Wanted (if d then Ok (changed (with_entered q st.world)) else Err trap.Reach)) (sym ed) (record { is = (r.0, r.1, r.2, (refl, refl)) }))
-          where
-            st' : State
-            st' = record { locals = locals; world = record (changed (with_entered q st.world)) { held = keep (st.world.held ++ q ∷ []) } }
-
-            held' : List Path
-            held' = insert_key path_cmp a.held q
-
-            b' : Box
-            b' = record (box_of h pc s st a.held) { frames = frame_of h' pc' s' locals ∷ h'.below; path = q; held = keep held'; entered = suc (length st.world.entered) }
-
-            r : (d : Tour) × Leads program fit verified c d × At program fit verified h' pc' s' st' d
-            r =
-                arrives program fit verified h pc s st c a ins at l h' pc' s' st' (keep held') (keeps held' (st.world.held ++ q ∷ []) (held_more a.held st.world.held q a.same))
-                (ap (resumed (tour_of h pc s st a.held)) (is false true eb ed)
-                ∙ goes b' (st.world.tree.fields h.at)
-                ∙ ap (into (tour_of h pc s st a.held) b' (st.world.tree.fields h.at)) eb
-                ∙ (λ i. record { box = record (box_of h' pc' s' st' (keep held')) { path = here i; entered = long_more st.world.entered i }; tree = enter (put_same st.world.tree h.at i) q; entered = st.world.entered ++ q ∷ []; segments = suc st.world.changes; result = None }))
-        by false false eb ed same =
-            subst (λ b. Wanted (if b then Ok (changed st.world) else (if nat_lt (length st.world.entered) CONTEXTS then Ok (changed (with_entered q st.world)) else Err trap.Reach))) (sym (same ∙ eb))
-            (subst (λ d. Wanted (if d then Ok (changed (with_entered q st.world)) else Err trap.Reach)) (sym ed)
-            (record { is = traps program fit verified h pc s st c a ins at l trap.Reach (is false false eb ed) }))
-
-  -- a call in a child
-  pub down_runs : (h : Here) (pc class g : ℕ) (callee : Function) (k : Value) (vs s : List Value) (st : State) (c : Tour) → slice_get program.functions g ≡ Some callee → length callee.args ≡ length vs → At program fit verified h pc (pushed vs (k ∷ s)) st c → (at : Span) → IsLine program fit verified h.fn pc (i.CallDown (record { 0 = class }) g) at →
-      Follows program fit verified c (λ u st' d. At program fit verified (callee_of g (child h.at class k) true h (suc pc) s st.locals) 0 [] (record { locals = first_locals callee vs; world = st'.world }) d) (λ u st'. (st'.locals ≡ st.locals) × (st'.world.ticks ≡ st.world.ticks)) (enter_at (child h.at class k) at st)
-  down_runs h pc class g callee k vs s st c there long a at l = by k refl (subst Moving is (moving program fit verified h pc (pushed vs (k ∷ s)) st c a ins at l)) is
-    where
-      ins : Instr
-      ins = i.CallDown (record { 0 = class }) g
-
-      stop : Move
-      stop = trapped trap.Reach at (box_of h pc (pushed vs (k ∷ s)) st a.held) (st.world.tree.fields h.at)
-
-      into_child : List Value → Function → ℤ → List Value → Move
-      into_child vs callee key rest =
-          entering (h.at ++ record { class = record { 0 = class }; key = key } ∷ []) (box_of h pc (pushed vs (k ∷ s)) st a.held)
-          (λ b. Paused (record b { frames = frame_of (callee_of g h.at true h (suc pc) rest st.locals) 0 [] (first_locals callee vs) ∷ frame_of h (suc pc) rest st.locals ∷ h.below; path = h.at ++ record { class = record { 0 = class }; key = key } ∷ [] }) (st.world.tree.fields h.at) (pause.Down (record { class = record { 0 = class }; key = key })))
-          stop
-
-      made : Function → List Value × List Value → Move
-      made callee u = on_int u.1 (into_child u.0 callee)
-
-      is : move_at program fit verified h pc (pushed vs (k ∷ s)) st a.held ins at ≡ on_int (k ∷ s) (into_child vs callee)
-      is =
-          ap (λ o. with_some o (λ (callee : Function). with_some (taken (length callee.args) [] (pushed vs (k ∷ s))) (made callee))) there
-          ∙ ap (λ o. with_some o (made callee)) (take_pushed (length callee.args) vs (k ∷ s) long)
-
-      Wanted : Value → Type 0
-      Wanted k' = Follows program fit verified c (λ u st' d. At program fit verified (callee_of g (child h.at class k') true h (suc pc) s st.locals) 0 [] (record { locals = first_locals callee vs; world = st'.world }) d) (λ u st'. (st'.locals ≡ st.locals) × (st'.world.ticks ≡ st.world.ticks)) (enter_at (child h.at class k') at st)
-
-      by : (k' : Value) → k ≡ k' → Moving (on_int (k ∷ s) (into_child vs callee)) → move_at program fit verified h pc (pushed vs (k ∷ s)) st a.held ins at ≡ on_int (k ∷ s) (into_child vs callee) → Wanted k
-      by (v.Int n) e h' is =
-          subst Wanted (sym e)
-          (enter_runs h pc (pushed vs (k ∷ s)) st c a ins at l (child h.at class (v.Int n)) (callee_of g (child h.at class (v.Int n)) true h (suc pc) s st.locals) refl 0 [] (first_locals callee vs) (λ held. held) (λ held l same. same) (pause.Down (record { class = record { 0 = class }; key = n })) (λ b fields. refl)
-          (is ∙ ap (λ k. on_int (k ∷ s) (into_child vs callee)) e))
-      by (v.Bool n) e h' is = absurd (subst (λ k. Moving (on_int (k ∷ s) (into_child vs callee))) e h')
-      by (v.Str n) e h' is = absurd (subst (λ k. Moving (on_int (k ∷ s) (into_child vs callee))) e h')
-      by (v.Map n) e h' is = absurd (subst (λ k. Moving (on_int (k ∷ s) (into_child vs callee))) e h')
-
-  -- the way down for good
-  pub go_runs : (h : Here) (pc class : ℕ) (k : Value) (s : List Value) (st : State) (c : Tour) → At program fit verified h pc (k ∷ s) st c → (at : Span) → IsLine program fit verified h.fn pc (i.Go (record { 0 = class })) at →
-      Follows program fit verified c (λ u st' d. At program fit verified (record { fn = h.fn; at = child h.at class k; down = h.down; below = h.below }) (suc pc) s (record { locals = st.locals; world = releasing (child h.at class k) st'.world }) d) (λ u st'. (st'.locals ≡ st.locals) × (st'.world.ticks ≡ st.world.ticks)) (enter_at (child h.at class k) at st)
-  go_runs h pc class (v.Int n) s st c a at l =
-      enter_runs h pc (v.Int n ∷ s) st c a (i.Go (record { 0 = class })) at l (child h.at class (v.Int n)) (record { fn = h.fn; at = child h.at class (v.Int n); down = h.down; below = h.below }) refl (suc pc) s st.locals (filter (is_above (child h.at class (v.Int n)))) (λ held l same. held_below held l (child h.at class (v.Int n)) same) (pause.Go (record { class = record { 0 = class }; key = n })) (λ b fields. refl)
-      refl
-  go_runs h pc class (v.Bool n) s st c a at l = absurd (moving program fit verified h pc (v.Bool n ∷ s) st c a (i.Go (record { 0 = class })) at l)
-  go_runs h pc class (v.Str n) s st c a at l = absurd (moving program fit verified h pc (v.Str n ∷ s) st c a (i.Go (record { 0 = class })) at l)
-  go_runs h pc class (v.Map n) s st c a at l = absurd (moving program fit verified h pc (v.Map n ∷ s) st c a (i.Go (record { 0 = class })) at l)
-
-  -- ---- ends
-
-  -- back to the caller
-  pub return_runs : (m : ℕ) (p : Path) (down : Bool) (g : Here) (pc' : ℕ) (s' locals : List Value) (own : Function) (pc : ℕ) (s : List Value) (result : Option Value) (st : State) (c : Tour) →
-      slice_get program.functions m ≡ Some own → ((go : Option Value → Move) → with_result own.result s go ≡ go result) → IsCaller down p g.at → At program fit verified (callee_of m p down g pc' s' locals) pc s st c → (at : Span) → IsLine program fit verified m pc i.Return at →
-      (d : Tour) × Leads program fit verified c d × At program fit verified g pc' (option_to_list result ++ s') (record { locals = locals; world = back_if down st.world }) d
-  return_runs m p true g pc' s' locals own pc s result st c there gives caller a at l =
-      let h = callee_of m p true g pc' s' locals in
-      arrives program fit verified h pc s st c a i.Return at l g pc' (option_to_list result ++ s') st' a.held a.same
-      (ap (resumed (tour_of h pc s st a.held)) is ∙ (λ i. record { box = record (box_of g pc' (option_to_list result ++ s') st' a.held) { path = path i }; tree = put_same st.world.tree p i; entered = st.world.entered; segments = suc st.world.changes; result = None }))
-    where
-      st' : State
-      st' = record { locals = locals; world = changed st.world }
-
-      path : parent_of p ≡ g.at
-      path = ap parent_of caller.1 ∙ parent_child g.at caller.0
-
-      back : Option Value → Move
-      back r = Paused (record (box_of (callee_of m p true g pc' s' locals) pc s st a.held) { frames = returned (frame_of g pc' s' locals) r ∷ g.below; path = parent_of p }) (st.world.tree.fields p) pause.Back
-
-      is : move_at program fit verified (callee_of m p true g pc' s' locals) pc s st a.held i.Return at ≡ back result
-      is = ap (λ o. with_some o (λ (own : Function). with_result own.result s back)) there ∙ gives back
-  return_runs m p false g pc' s' locals own pc s result st c there gives caller a at l =
-      let h = callee_of m p false g pc' s' locals in
-      arrives program fit verified h pc s st c a i.Return at l g pc' (option_to_list result ++ s') st' a.held a.same
-      (ap (resumed (tour_of h pc s st a.held)) is ∙ (λ i. record { box = record (box_of g pc' (option_to_list result ++ s') st' a.held) { path = caller i }; tree = put_same st.world.tree p i; entered = st.world.entered; segments = st.world.changes; result = None }))
-    where
-      st' : State
-      st' = record { locals = locals; world = st.world }
-
-      back : Option Value → Move
-      back r = Runs (record (box_of (callee_of m p false g pc' s' locals) pc s st a.held) { frames = returned (frame_of g pc' s' locals) r ∷ g.below }) (st.world.tree.fields p)
-
-      is : move_at program fit verified (callee_of m p false g pc' s' locals) pc s st a.held i.Return at ≡ back result
-      is = ap (λ o. with_some o (λ (own : Function). with_result own.result s back)) there ∙ gives back
-
-  -- the end of the event
-  pub reply_runs : (h : Here) (pc : ℕ) (x : Value) (s : List Value) (st : State) (c : Tour) → At program fit verified h pc (x ∷ s) st c → (at : Span) → IsLine program fit verified h.fn pc i.Reply at →
-      (d : Tour) × Leads program fit verified c d × IsOver (record { outcome = out.Reply x; messages = st.world.messages; created = st.world.created }) st.world d
-  reply_runs h pc x s st c a at l = (_, leads program fit verified h pc (x ∷ s) st c a i.Reply at l _ refl, record { result = refl; tree = put_same st.world.tree h.at; entered = refl; segments = refl })
-
-  pub end_runs : (h : Here) (pc : ℕ) (s : List Value) (st : State) (c : Tour) → At program fit verified h pc s st c → (at : Span) → IsLine program fit verified h.fn pc i.End at →
-      (d : Tour) × Leads program fit verified c d × IsOver (record { outcome = out.Done; messages = st.world.messages; created = st.world.created }) st.world d
-  end_runs h pc s st c a at l = (_, leads program fit verified h pc s st c a i.End at l _ refl, record { result = refl; tree = put_same st.world.tree h.at; entered = refl; segments = refl })

@@ -13,7 +13,8 @@ use Rattle.service_verify.specs.Tours.{Tour}
 use Rattle.code_scheme.specs.Scheme.{Line, line, while_code}
 use Rattle.code_scheme.specs.Typed.{Within}
 use Rattle.code_scheme.proofs.Follow.{Here, At, Follows, place_is, ends, done, IsLine}
-use Rattle.code_scheme.proofs.Instructions.{Low, tick_runs, jump_runs, Onward}
+use Rattle.code_scheme.proofs.Finding.{Low}
+use Rattle.code_scheme.proofs.Instructions.{tick_runs, jump_runs, Onward}
 use Rattle.code_scheme.proofs.Leaving.{NeverDone, Leaving, leaving_lower, Performs, performs, lead_to, bind_to, bind_on, ends_to, never_ends, picks_on}
 use Rattle.code_scheme.proofs.Places.{next, HasAt, has_back}
 use Rattle.code_scheme.proofs.Values.{OnTop}

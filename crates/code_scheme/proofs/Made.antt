@@ -35,10 +35,6 @@ there_is (x ∷ xs) zero h = (x, refl)
 there_is (x ∷ xs) (suc n) h = there_is xs n (omega arith)
 
 module _ (shape : Shape) (service : Resolved) where
-  pub program_texts : (scheme_program shape service).texts ≡ service_texts service
-  unfolding scheme_program
-  program_texts = refl
-
   pub program_shape : (scheme_program shape service).shape ≡ shape
   unfolding scheme_program
   program_shape = refl

@@ -24,7 +24,9 @@ use Rattle.code_scheme.specs.Programs.{method_function}
 use Rattle.code_scheme.specs.Scheme.{Line, line, and_code, or_code, tree_code, trees_code}
 use Rattle.code_scheme.specs.Typed.{IsMethod, HasKind, HaveKinds}
 use Rattle.code_scheme.proofs.Follow.{Here, At, Follows, place_is, lead_in, bind, ends, done, IsLine}
-use Rattle.code_scheme.proofs.Instructions.{Low, back_if, pushed, push_runs, choice_runs, tick_runs, row_runs, load_runs, field_runs, above_runs, text_runs, jump_runs, callee_of, call_runs, down_runs}
+use Rattle.code_scheme.proofs.Finding.{Low, back_if, pushed, callee_of}
+use Rattle.code_scheme.proofs.Instructions.{push_runs, choice_runs, tick_runs, row_runs, load_runs, field_runs, above_runs, text_runs, jump_runs, call_runs}
+use Rattle.code_scheme.proofs.ChildCalls.{down_runs}
 use Rattle.code_scheme.proofs.Places.{next, HasAt, has_front, has_back}
 
 -- the values that a call leaves: one where the method has a result

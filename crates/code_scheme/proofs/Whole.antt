@@ -33,7 +33,8 @@ use Rattle.code_scheme.specs.Typed.{InEvent, AreTypedPhases, IsTypedMethod, IsTy
 use Rattle.code_scheme.proofs.Micro.{one_end, Alive}
 use Rattle.code_scheme.proofs.Follow.{Here, tour_of, At, IsCode, place_is}
 use Rattle.code_scheme.proofs.Fuse.{segments_fuse}
-use Rattle.code_scheme.proofs.Instructions.{Low, Onward}
+use Rattle.code_scheme.proofs.Finding.{Low}
+use Rattle.code_scheme.proofs.Instructions.{Onward}
 use Rattle.code_scheme.proofs.Places.{HasAt, has_front, has_back, has_all}
 use Rattle.code_scheme.proofs.Values.{AreMade}
 use Rattle.code_scheme.proofs.Effects.{effects_run}

@@ -49,9 +49,6 @@ nobody_left s t e =
     and-false true = refl
     and-false false = refl
 
-pub nobody_there : is_nobody set.empty ≡ true
-nobody_there = ap (λ n. nat_eq n 0) (set.len-empty nat_cmp)
-
 first_false : (a b : Bool) → (a || b) ≡ false → a ≡ false
 first_false true b e = e
 first_false false b e = refl

@@ -19,7 +19,7 @@ use Rattle.type_rules.specs.Demands.{Demand, ask, first_wrong, Fails}
 use Rattle.type_rules.specs.Known.{class_named, method_named, signature_at}
 use Rattle.type_rules.specs.Here.{Here, called, takes, gives, is_earlier, method_in}
 use Rattle.type_rules.specs.Exprs.{resolve, resolve_all, count, args_demands, call_demands, call_gives, call_tree, class_asks, child_gives, child_tree, child_demands, demands_as, or_zero}
-use Rattle.type_rules.proofs.First.{told_past, told_here, fails_front, fails_behind, fails_same, holds_both}
+use Rattle.type_rules.proofs.First.{told_past, fails_front, fails_behind, fails_same, holds_both}
 use Rattle.context_types.specs.declared.calls.Called.{Called}
 use Rattle.context_types.specs.inner.Children.{asks_of_child, gives_of_child, child_tree_of}
 use Rattle.context_types.specs.inner.Places.{IsCalled}
@@ -38,12 +38,6 @@ module _ (h : Here) (at : Span) (name : List ℕ) (args : ExprTrees) where
   pub call_same : (c : Callee) → called h name ≡ Some c → is_earlier h c ≡ true → first_wrong (call_demands h at name args) ≡ first_wrong (args_asks h at (takes h.known c) args)
   call_same c found earlier = ap (λ o. first_wrong (Asked o)) found ∙ told_past (is_earlier h c) (CalleeLater at) (args_asks h at (takes h.known c) args) earlier
 
-  pub call_unknown : called h name ≡ None → Fails (call_demands h at name args) (UnknownName at)
-  call_unknown none = λ n. ap (λ o. first_wrong (Asked o)) none
-
-  pub call_later : (c : Callee) → called h name ≡ Some c → is_earlier h c ≡ false → Fails (call_demands h at name args) (CalleeLater at)
-  call_later c found later = λ n. ap (λ o. first_wrong (Asked o)) found ∙ told_here (is_earlier h c) (CalleeLater at) (args_asks h at (takes h.known c) args) later
-
   pub builtin_called : (row : ℕ) (given : Kind) (ts : Vec Expr Global) (x : Called) → called h name ≡ Some (callee.Builtin row) → resolve_all h args ≡ trees_of (map tree_of ts.items) → given ≡ gives_of row
       → x.gives ≡ Some given → x.tree ≡ record { at = at; node = node.Op row ts } → IsCalled (call_gives h name) (call_tree at (called h name) (resolve_all h args)) x
   builtin_called row given ts x found trees is_given given_too made = record {
@@ -60,8 +54,6 @@ module _ (h : Here) (at : Span) (name : List ℕ) (args : ExprTrees) where
 
 -- a method of a child, once it is known whether there is one
 module _ (h : Here) (at : Span) (method : Option ℕ) (args : ExprTrees) where
-  pub child_unknown : method ≡ None → Fails (asks_of_child h at method args) (UnknownName at)
-  child_unknown none = λ n. ap (λ o. first_wrong (asks_of_child h at o args)) none
 
   pub child_same : (m : ℕ) → method ≡ Some m → first_wrong (asks_of_child h at method args) ≡ first_wrong (args_asks h at (signature_at h.known m).params args)
   child_same m found = ap (λ o. first_wrong (asks_of_child h at o args)) found
@@ -104,6 +96,3 @@ module _ (h : Here) (at : Span) (class : List ℕ) (key : ExprTree) (name : List
   key_fails e a b =
       fails_behind (class_asks h at class) (demands_as h k.Int key ++ asks_of_child h at (method_in h class name) args) e a
       (fails_front (demands_as h k.Int key) (asks_of_child h at (method_in h class name) args) e b)
-
-  pub class_fails : (e : TypeError) → Fails (class_asks h at class) e → Fails (child_demands h at class key name args) e
-  class_fails e a = fails_front (class_asks h at class) (demands_as h k.Int key ++ asks_of_child h at (method_in h class name) args) e a

@@ -8,9 +8,6 @@ module _ (a b c d e : List Demand) where
   abbrev pub All : List Demand
   All = a ++ (b ++ (c ++ (d ++ e)))
 
-  pub first_fails : (w : TypeError) → Fails a w → Fails All w
-  first_fails w f = fails_front a (b ++ (c ++ (d ++ e))) w f
-
   module _ (ha : first_wrong a ≡ None) where
     pub second_fails : (w : TypeError) → Fails b w → Fails All w
     second_fails w f = fails_behind a (b ++ (c ++ (d ++ e))) w ha (fails_front b (c ++ (d ++ e)) w f)

@@ -1,5 +1,5 @@
 -- From what is accepted of the parts of an input to what is accepted of the whole.
-use Rattle.std.proofs.Common.{◌≡◌, ◌≢◌, ℕ, ◌<◌, inl, inr, List, length, Option, None, Result, Ok, Err, IfOk, refl, sym, subst, arith}
+use Rattle.std.proofs.Common.{◌≡◌, ◌≢◌, ℕ, ◌<◌, inl, inr, List, length, Result, Ok, Err, IfOk, refl, sym, subst, arith}
 use Rattle.command_words.specs.declared.command.Crew.{Crew}
 use Rattle.command_words.specs.declared.command.Places.{Places}
 use Rattle.wave_base.specs.declared.limits.TheConstants.{SCRIPT_BYTES}
@@ -21,11 +21,11 @@ use Rattle.due_answer.specs.declared.answer.Answer.{Answer}
 use Rattle.due_answer.specs.declared.report.Report.{Report}
 use Rattle.due_answer.specs.declared.work.Work.{Work}
 use Rattle.due_answer.specs.Accepted.{IsAcceptedBy, IsReady, IsTraced, ran, trace_of}
-use Rattle.due_answer.specs.Due.{Only, Reports, Telling, Traces, IsDueBoth, IsDueLines, IsDueRead, IsDueScript, IsDueService, IsDueTyped, no_script, reported, too_large_script}
+use Rattle.due_answer.specs.Due.{Only, Reports, Telling, Traces, IsDueLines, IsDueRead, IsDueScript, IsDueService, IsDueTyped, reported, too_large_script}
 use Rattle.due_answer.specs.inner.Coded.{IsCoded}
 use Rattle.due_answer.specs.inner.Served.{IsRead, IsTypedRead, IsTypedTree}
 use Rattle.due_answer.proofs.CodeLemmas.{is_coded, only_coded}
-use Rattle.due_answer.proofs.DueLemmas.{of_read, only_same}
+use Rattle.due_answer.proofs.DueLemmas.{of_read}
 
 -- ---- what is accepted, from one to the other
 
@@ -72,9 +72,6 @@ module _ {E : Type 0} (P : Telling → ServiceTree → Answer → Type 0) (text 
   pub typed_accepted : IsRead text (IsTypedRead typed program) →
       ((tree : ServiceTree) → IsTypedTree tree typed → IsCoded typed.shape typed.resolved program → IfOk r (IsAcceptedBy (λ telling. P telling tree))) → IfOk r (IsAcceptedBy (λ telling. IsDueService (P telling) text))
   typed_accepted read o = typed_as_read read.read read.parse read.is_so o
-
-pub only_no_script : (P : ServiceTree → Script → Answer → Type 0) (text : List ℕ) (found : Option (List ℕ)) → found ≡ None → Only (IsDueBoth P text found) no_script
-only_no_script P text found is = subst (λ o. Only (IsDueBoth P text o) no_script) (sym is) (only_same no_script)
 
 -- ---- the text of a script
 

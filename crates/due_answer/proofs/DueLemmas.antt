@@ -21,7 +21,7 @@ use Rattle.input_parts.specs.Parts.{service_of}
 use Rattle.command_words.specs.Inputs.{reads_input}
 use Rattle.command_words.specs.declared.command.Command.TheVariants.{Run, Seq, Trace, Check, Print, Code, Gen, Load}
 use Rattle.due_answer.specs.declared.report.Report.TheVariants.{Listing}
-use Rattle.due_answer.specs.Due.{Only, Reports, Traces, IsDue, IsDueScripted, IsDueSized, IsListedCode, IsPrinted, approved, IsDueService, IsDueOf, IsDueTyped, IsDueScript, IsDueLines, IsDueFold, IsOnlyDue, IsToldFor, reported, too_large_input}
+use Rattle.due_answer.specs.Due.{Only, Reports, Traces, IsDueScripted, IsDueSized, IsListedCode, IsPrinted, approved, IsDueService, IsDueOf, IsDueTyped, IsDueScript, IsDueLines, IsDueFold, IsOnlyDue, IsToldFor, reported, too_large_input}
 use Rattle.service_code.specs.declared.program.Program.{Program}
 use Rattle.due_answer.specs.inner.Coded.{IsCoded}
 use Rattle.due_answer.specs.declared.service.Judged.{Judged}
@@ -140,14 +140,3 @@ told_only Code bytes due o = o
 told_only Print bytes due o = o
 told_only (Gen n) bytes due o = o
 told_only (Load n crew) bytes due o = o
-
--- and what is told is due
-pub told_due : (c : Command) (bytes : List ℕ) (due : Answer) → IsToldFor c bytes due → IsDue c bytes due
-told_due (Run places crew) bytes due o = o.is_due
-told_due (Seq places) bytes due o = o.is_due
-told_due (Trace places crew) bytes due o = o
-told_due Check bytes due o = o.is_due
-told_due Code bytes due o = o.is_due
-told_due Print bytes due o = o.is_due
-told_due (Gen n) bytes due o = o.is_due
-told_due (Load n crew) bytes due o = o.is_due

@@ -1,22 +1,19 @@
 -- The name of a function, by its number; and what is asked of a service that is compiled.
-use Rattle.std.proofs.Common.{◌≡◌, ℕ, ◌-◌, ◌≤◌, ◌++◌, length, All, codes, None, slice_get, sym, ◌∙◌, subst, ap, arith}
+use Rattle.std.proofs.Common.{◌≡◌, ℕ, ◌-◌, ◌≤◌, ◌++◌, length, codes, None, slice_get, sym, ◌∙◌, subst, ap, arith}
 use Rattle.std.proofs.lemmas.Option.{slice_get_past}
-use Rattle.wave_base.specs.declared.limits.TheConstants.{INSTRUCTIONS}
 use Rattle.wave_base.specs.declared.shape.Shape.{Shape}
 use Rattle.wave_base.specs.Shapes.{IsShape}
 use Rattle.mace_ast.specs.Decls.{ServiceTree}
 use Rattle.resolved_service.specs.declared.service.Resolved.{Resolved}
 use Rattle.context_types.specs.declared.Typed.{Typed}
 use Rattle.service_code.specs.declared.program.Function.{Function}
-use Rattle.service_code.specs.declared.program.Program.{Program}
-use Rattle.service_code.specs.Listing.{CanList, function_name}
-use Rattle.service_verify.specs.Fit.{IsSmall}
-use Rattle.code_scheme.specs.Programs.{IsTooLong, scheme_program}
+use Rattle.service_code.specs.Listing.{function_name}
+use Rattle.code_scheme.specs.Programs.{IsTooLong}
 use Rattle.code_scheme.specs.Typed.{IsTyped}
 use Rattle.code_scheme.proofs.Fitting.{Origin, of_method, of_event, origin}
 use Rattle.typed_code.proofs.Services.{typed_code}
 use Rattle.due_answer.specs.declared.answer.Answer.{Answer}
-use Rattle.due_answer.specs.inner.Coded.{IsCoded, IsLongNamed, name_in, name_at}
+use Rattle.due_answer.specs.inner.Coded.{IsLongNamed, name_in, name_at}
 use Rattle.due_answer.specs.Due.{IsLong, refusal}
 use Rattle.due_answer.specs.inner.Served.{IsTypedTree}
 
@@ -38,14 +35,6 @@ module _ (shape : Shape) (service : Resolved) where
     size = size;
     long = long;
     due_is = told ∙ ap (λ name. refusal 3 (codes "C1 CodeTooLong " ++ name)) (name_by n long.function (origin shape service n long.function long.is_there));
-  }
-
-  -- what the compiler gives
-  pub coded : (program : Program) → program ≡ scheme_program shape service → IsSmall program → All (CanList program.shape) program.functions → IsCoded shape service program
-  coded program is small listed = record {
-    is = is;
-    short = subst (λ (p : Program). All (λ (f : Function). length f.code ≤ INSTRUCTIONS) p.functions) is small.code;
-    can_list = listed;
   }
 
 -- a checked service is what the compiler asks for

@@ -13,7 +13,8 @@ use Rattle.wave_base.specs.Tree.{Tree, there}
 use Rattle.resolved_service.specs.declared.service.Resolved.{Resolved}
 use Rattle.script_fold.specs.Lines.{FitsJob, line_by}
 use Rattle.script_fold.specs.Runs.{after_jobs}
-use Rattle.script_fold.proofs.FoldLemmas.{All-drop_head, IsGood, good_after}
+use Rattle.script_fold.proofs.LeftLemmas.{All-drop_head}
+use Rattle.script_fold.proofs.FoldLemmas.{IsGood, good_after}
 use Rattle.wave_meaning.specs.Meaning.{call_ran}
 use Rattle.code_runner.specs.Coded.{IsCode, IsJob, IsTree}
 use Rattle.code_meaning.specs.inner.Owing.{code_owes}

@@ -19,7 +19,7 @@ use Rattle.migration_core.specs.declared.mail.Letter.TheVariants as letter
 use Rattle.migration_core.specs.Letters.{Says}
 use Rattle.wave_states.specs.States as theory
 use Rattle.wave_states.specs.States.{set}
-use Rattle.wave_states.specs.Steps.{Desk, send, release, give_up, kept_of, left_of}
+use Rattle.wave_states.specs.Desks.{Desk, send, release, give_up, kept_of, left_of}
 use Rattle.event_cells.specs.declared.held.Hold.{Hold}
 use Rattle.event_cells.specs.declared.outbox.Envelope.{Envelope}
 use Rattle.event_cells.specs.Keeps.{mail_in, hold_in}

@@ -14,7 +14,7 @@ use Rattle.event_cells.specs.declared.status.Status.TheVariants.{Travelling, Wai
 use Rattle.event_cells.specs.Keeps.{mail_in}
 use Rattle.wave_states.specs.States as theory
 use Rattle.wave_states.specs.States.{set}
-use Rattle.wave_states.specs.Steps.{Desk}
+use Rattle.wave_states.specs.Desks.{Desk}
 
 -- the hold and the status that the theory has
 abbrev pub hold_of : Hold → theory.Hold

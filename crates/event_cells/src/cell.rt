@@ -6,7 +6,8 @@ ghost use Rattle.wave_base.specs.Paths.{is_above, path_cmp};
 ghost use Rattle.wave_base.specs.declared.value.Value.{Value};
 ghost use Rattle.wave_states.specs.States as theory;
 ghost use Rattle.wave_states.specs.States.{hold_at};
-ghost use Rattle.wave_states.specs.Steps.{Desk, send, give_up, ended, kept_of, not_at};
+ghost use Rattle.wave_states.specs.Desks.{Desk, send, give_up, kept_of, not_at};
+ghost use Rattle.wave_states.specs.Steps.{ended};
 
 use crate::held::{Held, Hold};
 use crate::outbox::{Envelope, Outbox};

@@ -6,7 +6,7 @@ ghost use Rattle.std.specs.Map.{keys_of};
 ghost use Rattle.event_cells.specs.Keeps.{hold_in};
 ghost use Rattle.event_cells.specs.inner.Places.{IsPlace};
 ghost use Rattle.wave_base.specs.Paths.{is_above, path_cmp};
-ghost use Rattle.wave_states.specs.Steps.{not_at};
+ghost use Rattle.wave_states.specs.Desks.{not_at};
 
 use std::alloc::Global;
 use std::marker::Model;

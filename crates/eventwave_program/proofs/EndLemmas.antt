@@ -1,5 +1,5 @@
 -- Where too much was read, one answer is due.
-use Rattle.std.proofs.Common.{◌≡◌, ◌≢◌, ◌⊎◌, inl, inr, ◌∙◌, ℕ, ◌<◌, Bool, true, false, IfSome, List, [], length, Option, None, Some, ap, arith, refl, sym, subst, length-append}
+use Rattle.std.proofs.Common.{◌≡◌, ◌≢◌, ◌⊎◌, inl, inr, ◌∙◌, ℕ, ◌<◌, Bool, true, false, IfSome, List, length, Option, None, Some, ap, arith, refl, sym, subst, length-append}
 use Rattle.std.specs.Prelude.{◌==◌}
 use Rattle.std.proofs.lemmas.Bool.Decides.{nat_tests}
 use Rattle.std.specs.Io.KnownBytes.{Appends, Consumes, Keeps}
@@ -27,9 +27,6 @@ long_input (Some xs) (Some ys) bytes p long = record { bytes = xs; input = refl;
 -- the bytes of a command's input
 pub read_bytes : (c : Command) (left : Option (List ℕ)) (bytes : List ℕ) → reads_input c ≡ true → IsLeft left bytes → IsInput c left bytes
 read_bytes c left bytes reads h = subst (λ b. IsInputWhere b left bytes) (sym reads) h
-
-pub no_bytes : (c : Command) (left : Option (List ℕ)) → reads_input c ≡ false → IsInput c left []
-no_bytes c left reads = subst (λ b. IsInputWhere b left []) (sym reads) refl
 
 pub too_large_due : (c : Command) (left : Option (List ℕ)) (a : Answer) → reads_input c ≡ true → a ≡ too_large_input → IsLong left → SomeInputDue c left a
 too_large_due c left a reads e h = record { bytes = h.bytes; input = read_bytes c left h.bytes reads h.input; told = subst (IsToldFor c h.bytes) (sym e) (told_only c h.bytes too_large_input (only_too_large c h.bytes reads h.long)) }

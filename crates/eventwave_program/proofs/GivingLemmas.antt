@@ -1,6 +1,5 @@
 -- What was given of an answer that is due for a command, as how a whole call ended.
-use Rattle.std.proofs.Common.{◌≡◌, inl, inr, ◌∙◌, ℕ, Bool, true, false, IfSome, List, [], Option, None, Some, ap, refl, sym, subst}
-use Rattle.std.specs.Io.KnownBytes.{IsAtEnd, Keeps}
+use Rattle.std.proofs.Common.{◌≡◌, inl, inr, ◌∙◌, ℕ, Bool, true, false, List, Option, Some, ap, refl, sym, subst}
 use Rattle.wave_io.specs.Causes.{Rose}
 use Rattle.command_words.specs.declared.command.Command.{Command}
 use Rattle.command_words.specs.Inputs.{reads_input}
@@ -9,9 +8,9 @@ use Rattle.due_answer.specs.declared.answer.Answer.{Answer}
 use Rattle.due_answer.specs.Due.{IsToldFor, too_large_input}
 use Rattle.eventwave_program.specs.declared.ending.Ending.{Ending}
 use Rattle.eventwave_program.specs.declared.ending.Ending.TheVariants.{WordsRefused, ReadFault, WriteFault, NoMemory, Answered}
-use Rattle.eventwave_program.specs.Ends.{Change, IsInput, IsLeft, IsLong, IsUntouched, ReadsAll, read_by, reads_where}
+use Rattle.eventwave_program.specs.Ends.{Change, IsInput, IsLong, ReadsAll, read_by, reads_where}
 use Rattle.eventwave_program.specs.inner.Parts.{Did, Ended, Gave, ReadsDue, SomeGave, is_read_fault}
-use Rattle.eventwave_program.proofs.EndLemmas.{read_bytes, too_large_due}
+use Rattle.eventwave_program.proofs.EndLemmas.{too_large_due}
 
 module _ (old new : Option (List ℕ)) where
   -- an answer of which P holds was given
@@ -46,14 +45,6 @@ reads_due true old new NoMemory h = tt
 reads_due true old new (Answered status note) h = h
 reads_due false old new e h = tt
 
-reads_not : (b : Bool) (old new : Option (List ℕ)) (e : Ending) → b ≡ false → ReadsDue b old new e
-reads_not true old new e h = cc
-reads_not false old new e h = tt
-
-all_left : (left : Option (List ℕ)) (bytes : List ℕ) → IfSome left (λ xs. bytes ≡ xs) → IsLeft left bytes
-all_left None bytes h = tt
-all_left (Some xs) bytes h = sym h
-
 not_unread : {X : Type 0} (b : Bool) → b ≡ true → b ≡ false → X
 not_unread b h k = (let bad : true ≡ false = sym h ∙ k in absurd cc)
 
@@ -81,56 +72,9 @@ module _ (words : List (List ℕ)) (c : Command) (accepted : command_of words �
     sure = λ unread. reads_none out.bytes out.bytes_now (IsToldFor c bytes) e g;
   }
 
-  -- the same, where the input was read to its end
-  pub did_whole : reads_input c ≡ true → (bytes : List ℕ) → IfSome input.bytes (λ xs. bytes ≡ xs) → IsAtEnd input.bytes_now
-      → (e : Ending) → SomeGave (IsToldFor c bytes) out.bytes out.bytes_now e → (e ≡ WriteFault → Rose out.faults out.faults_now) → Did words input out e
-  did_whole reads bytes all end e g fault = did_read reads bytes (read_bytes c input.bytes bytes reads (all_left input.bytes bytes all)) (inr end) e g fault
-
   -- and where it is too large
   pub did_long : reads_input c ≡ true → IsLong input.bytes
       → (e : Ending) → Gave too_large_input out.bytes out.bytes_now e → (e ≡ WriteFault → Rose out.faults out.faults_now) → Did words input out e
   did_long reads long e g fault =
       let due = too_large_due c input.bytes too_large_input reads refl long in
       did_read reads due.bytes due.input (inl long) e (gives_it out.bytes out.bytes_now (IsToldFor c due.bytes) too_large_input e due.told g) fault
-
-  -- it could not read
-  pub did_fault : reads_input c ≡ true → Rose input.faults input.faults_now → Keeps out.bytes out.bytes_now → Did words input out ReadFault
-  did_fault reads rose kept = record {
-    ended = ((c, accepted), kept);
-    read = reads_due_fault (read_by words);
-    read_fault = λ is. rose;
-    write_fault = λ is. absurd cc;
-    unread = λ unread. not_unread (read_by words) (same_reads ∙ reads) unread;
-    sure = λ unread. not_unread (read_by words) (same_reads ∙ reads) unread;
-  }
-    where
-      reads_due_fault : (b : Bool) → ReadsDue b input.bytes input.bytes_now ReadFault
-      reads_due_fault true = tt
-      reads_due_fault false = tt
-
-  -- there was no memory for what it reads
-  pub did_nothing : reads_input c ≡ true → Keeps out.bytes out.bytes_now → Did words input out NoMemory
-  did_nothing reads kept = record {
-    ended = inl kept;
-    read = reads_due_none (read_by words);
-    read_fault = λ is. absurd cc;
-    write_fault = λ is. absurd cc;
-    unread = λ unread. not_unread (read_by words) (same_reads ∙ reads) unread;
-    sure = λ unread. refl;
-  }
-    where
-      reads_due_none : (b : Bool) → ReadsDue b input.bytes input.bytes_now NoMemory
-      reads_due_none true = tt
-      reads_due_none false = tt
-
-  -- a command that reads nothing
-  pub did_unread : reads_input c ≡ false → IsInput c input.bytes [] → IsUntouched input
-      → (e : Ending) → SomeGave (IsToldFor c []) out.bytes out.bytes_now e → (e ≡ WriteFault → Rose out.faults out.faults_now) → Did words input out e
-  did_unread reads i untouched e g fault = record {
-    ended = ended_of [] i e g;
-    read = reads_not (read_by words) input.bytes input.bytes_now e (same_reads ∙ reads);
-    read_fault = λ is. (let bad : is_read_fault ReadFault ≡ false = subst (λ x. is_read_fault x ≡ false) is (reads_none out.bytes out.bytes_now (IsToldFor c []) e g) in absurd cc);
-    write_fault = fault;
-    unread = λ unread. untouched;
-    sure = λ unread. reads_none out.bytes out.bytes_now (IsToldFor c []) e g;
-  }

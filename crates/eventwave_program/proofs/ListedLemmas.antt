@@ -1,5 +1,5 @@
 -- What is written of a run, part by part.
-use Rattle.std.proofs.Common.{◌≡◌, ◌∙◌, ℕ, ◌≤◌, true, false, List, [], ◌++◌, length, map, Option, None, Some, ap, arith, inr, refl, sym, subst, append_assoc, append-nil}
+use Rattle.std.proofs.Common.{◌≡◌, ◌∙◌, ℕ, true, false, List, [], ◌++◌, length, map, Option, None, Some, ap, arith, inr, refl, sym, subst, append_assoc, append-nil}
 use Rattle.std.specs.Prelude.{if◌then◌else◌, is_none}
 use Rattle.std.specs.List.{concat}
 use Rattle.std.specs.Io.KnownBytes.{Appends}
@@ -10,7 +10,6 @@ use Rattle.wave_base.specs.declared.finished.Finished.{Finished}
 use Rattle.wave_base.specs.declared.finished.Place.{Place}
 use Rattle.wave_base.specs.declared.script.Script.{Script}
 use Rattle.wave_base.specs.declared.shape.Shape.{Shape}
-use Rattle.wave_io.specs.Causes.{Rose}
 use Rattle.wave_io.specs.Streams.{AppendsFront}
 use Rattle.wave_labels.specs.declared.label.Label.{Label}
 use Rattle.wave_labels.specs.Labels.{label_of}
@@ -47,10 +46,6 @@ use Rattle.eventwave_program.specs.inner.Tasks.{Tells, TellsWith, command_for, c
 use Rattle.eventwave_program.proofs.GivingLemmas.{gives_it}
 
 -- ---- counts and bytes
-
--- a later fault is one of the whole
-pub rose_later : (a b c : ℕ) → a ≤ b → Rose b c → Rose a c
-rose_later a b c later rose = omega arith
 
 front_on : (old new : Option (List ℕ)) (xs ys : List ℕ) → AppendsFront old new xs → AppendsFront old new (xs ++ ys)
 front_on old new xs ys p = front_written old old new xs (xs ++ ys) ys (xs ++ ys) (nothing_written old (xs ++ ys)) p refl

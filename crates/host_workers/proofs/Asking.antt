@@ -1,5 +1,5 @@
 -- What a worker knows when it has asked for work.
-use Rattle.std.proofs.Common.{◌≡◌, ◌∙◌, ◌<◌, suc, [], ◌∷◌, ◌++◌, Some, Ok, Err, Result, sym, ap, subst, append_assoc, length, filter, map}
+use Rattle.std.proofs.Common.{◌≡◌, ◌∙◌, suc, [], ◌∷◌, ◌++◌, Some, Ok, Err, Result, sym, ap, subst, append_assoc, length, filter, map}
 use Rattle.std.specs.Prelude.{All, Contains, option_map}
 use Rattle.std.proofs.lemmas.List.Elements.{All-nil, All-cons, All-append}
 use Rattle.wave_base.specs.declared.memory.OutOfMemory.{OutOfMemory}
@@ -7,7 +7,6 @@ use Rattle.wave_base.specs.declared.numbers.Worker.{Worker}
 use Rattle.kept_lock.specs.declared.attempt.Attempt.{Attempt}
 use Rattle.kept_lock.specs.declared.attempt.Attempt.TheVariants as attempt
 use Rattle.kept_lock.specs.declared.view.Known.{Known}
-use Rattle.kept_lock.specs.History.{entries_of}
 use Rattle.kept_lock.specs.Knowing.{entered, left_at}
 use Rattle.kept_lock.specs.Visits.{AddsAsTold, Meets}
 use Rattle.wave_labels.specs.Labels.{act_of}
@@ -26,8 +25,8 @@ use Rattle.wave_board.specs.declared.trail.Trail.{Trail}
 use Rattle.wave_board.specs.declared.trail.Trail.TheVariants.{Step, Halt}
 use Rattle.wave_board.specs.declared.work.Work.{Work}
 use Rattle.wave_board.specs.declared.work.Work.TheVariants.{Stepped, Segment, Nothing, Finished, Stopped}
-use Rattle.wave_board.specs.Boards.{InEachState, IsAt, IsStanding, StandsFor, StandsStill, history_of, labels_in, labels_of, owner_of}
-use Rattle.wave_board.specs.Taking.{AreEven, IsFinished, MayTake, Took, begins, ends}
+use Rattle.wave_board.specs.Boards.{InEachState, IsAt, StandsFor, StandsStill, history_of, labels_in, labels_of, owner_of}
+use Rattle.wave_board.specs.Taking.{AreEven, IsFinished, Took, begins, ends}
 use Rattle.wave_board.proofs.Staying.{labels_are}
 use Rattle.host_workers.specs.Endings.{IsFinishedRun, IsHaltedBy}
 use Rattle.host_workers.specs.Passes.{GoesOn, IsReady, NoHalts}
@@ -38,15 +37,6 @@ use Rattle.host_workers.proofs.Visiting.{Left, left, left_owns, left_same, made_
 use Rattle.host_workers.proofs.Walking.{even_steps, no_halt_steps, own_steps}
 
 module _ (o : Origin) (k : Known Trail) (w : Worker) (ready : IsReady o k w) (y : Board) (meets : Meets history_of owner_of StandsFor o k y) where
-  -- the board may be asked
-  pub standing : IsStanding y
-  standing = record { origin = o; state = meets.stands_for_name.0; at = meets.stands_for_name.1 }
-
-  pub may_take : MayTake y w
-  may_take = record {
-    is_worker = subst (λ (p : Plan). w.0 < p.workers) (sym meets.stands_for_name.1.plan) ready.is_worker;
-    gave = subst AreEven (sym (ap (λ n. entries_of owner_of n (history_of y)) (sym ready.number) ∙ meets.agrees.1)) ready.even;
-  }
 
   module _ (z : Board) (still : StandsStill y z) where
     pub stands_after : StandsFor z o

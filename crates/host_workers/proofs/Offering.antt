@@ -33,7 +33,7 @@ use Rattle.wave_board.specs.declared.origin.Origin.{Origin}
 use Rattle.wave_board.specs.declared.trail.Trail.{Trail}
 use Rattle.wave_board.specs.declared.work.Work.TheVariants.{Stepped, Segment, Nothing, Finished, Stopped}
 use Rattle.wave_board.specs.Boards.{IsAt, StandsFor, StandsStill, history_of, labels_of, owner_of}
-use Rattle.wave_board.specs.Fresh.{CanTell, TellsFresh}
+use Rattle.wave_board.specs.Fresh.{TellsFresh}
 use Rattle.wave_board.specs.Staying.{ResultsStay}
 use Rattle.wave_board.specs.Taking.{IsFinished}
 use Rattle.host_workers.specs.declared.offer.Offer.{Offer}
@@ -69,9 +69,6 @@ module _ (laws : Laws) (o : Origin) (k : Known Trail) (w : Worker) (ready : IsRe
 
   committed : written ≤ s.head.done
   committed = there y s at meets.agrees.0
-
-  pub can_tell : CanTell y written
-  can_tell = record { origin = o; state = s; at = at; committed = committed }
 
   reached : IsReached y.machine.kept.plan o.start.now (labels_of y) s
   reached = at.reached

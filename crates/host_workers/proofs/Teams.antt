@@ -1,22 +1,13 @@
 -- What the passes know that a team begins with.
-use Rattle.std.proofs.Common.{◌≡◌, ◌∙◌, ◌+◌, ◌<◌, ◌≤◌, ℕ, refl, sym, ap, subst, arith}
+use Rattle.std.proofs.Common.{◌≡◌, ◌∙◌, ◌+◌, ◌<◌, ℕ, refl, sym, ap, subst}
 use Rattle.wave_base.specs.declared.numbers.Worker.{Worker}
 use Rattle.kept_lock.specs.declared.view.Known.{Known}
-use Rattle.kept_lock.specs.Knowing.{first, counted_on, next_pass}
+use Rattle.kept_lock.specs.Knowing.{counted_on, next_pass}
 use Rattle.wave_board.specs.declared.origin.Origin.{Origin}
 use Rattle.wave_board.specs.declared.trail.Trail.{Trail}
 use Rattle.wave_board.specs.Taking.{AreEven}
 use Rattle.host_workers.specs.Passes.{IsReady, NoHalts}
 use Rattle.host_workers.proofs.Entries.{no_halts_yet}
-
--- the first pass of a new lock
-pub first_ready : (o : Origin) (k : Known Trail) → k ≡ first → 1 ≤ o.plan.now.workers → IsReady o k (record { 0 = 0 })
-first_ready o k e some = record {
-  number = ap (λ (x : Known Trail). x.number) e;
-  is_worker = omega (arith, some);
-  even = subst AreEven (sym (ap (λ (x : Known Trail). x.made) e)) refl;
-  no_halts = subst NoHalts (sym (ap (λ (x : Known Trail). x.made) e)) no_halts_yet;
-}
 
 module _ (o : Origin) (k k' : Known Trail) where
   -- the first pass, when it was split

@@ -15,11 +15,9 @@ use Rattle.wave_board.specs.declared.origin.Origin.{Origin}
 use Rattle.wave_board.specs.declared.trail.StopCause.{StopCause}
 use Rattle.wave_board.specs.declared.trail.Trail.{Trail}
 use Rattle.wave_board.specs.declared.work.Work.{Work}
-use Rattle.wave_board.specs.Boards.{IsStanding, StandsFor, StandsStill, history_of, owner_of}
-use Rattle.wave_board.specs.Fresh.{CanTell}
+use Rattle.wave_board.specs.Boards.{StandsFor, StandsStill, history_of, owner_of}
 use Rattle.wave_board.specs.Giving.{CanGive}
 use Rattle.wave_board.specs.Staying.{LeasesStay}
-use Rattle.wave_board.specs.Taking.{MayTake}
 use Rattle.host_workers.specs.declared.offer.Offer.{Offer}
 use Rattle.host_workers.specs.Passes.{GoesOn, IsReady}
 use Rattle.host_workers.specs.inner.Rounds.{Asked, HasPaused, HasRun, IsCalm}
@@ -38,8 +36,6 @@ at_shown P y y' e p = subst P (sym e) p
 -- the work was shown the board that the visit met, and left the one that the visit left
 module _ (o : Origin) (k : Known Trail) (w : Worker) (y y' : Board) (shows : y' ≡ y) (meets : Meets history_of owner_of StandsFor o k y) where
   module _ (ready : IsReady o k w) where
-    pub may_ask : IsStanding y' × MayTake y' w
-    may_ask = at_shown (λ b. IsStanding b × MayTake b w) y y' shows (asking.standing o k w ready y meets, asking.may_take o k w ready y meets)
 
     module _ (z z' : Board) (leaves : z' ≡ z) where
       module _ (told : Attempt (Result Work OutOfMemory)) (met : StandsStill y' z' × HasTaken y' w z' told) where
@@ -58,8 +54,6 @@ module _ (o : Origin) (k : Known Trail) (w : Worker) (y y' : Board) (shows : y' 
 
     -- where lines are asked for too
     module _ (laws : offering.Laws) (n : ℕ) (there : AreCommitted o k n) where
-      pub may_find : IsStanding y' × (MayTake y' w × CanTell y' n)
-      may_find = (may_ask.0, (may_ask.1, at_shown (λ b. CanTell b n) y y' shows (offering.can_tell laws o k w ready n there y meets)))
 
       module _ (z z' : Board) (leaves : z' ≡ z) where
         module _ (told : Attempt (Result Offer OutOfMemory)) (met : StandsStill y' z' × HasFound y' w z' n told) where

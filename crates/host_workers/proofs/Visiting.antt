@@ -47,10 +47,6 @@ left_owns k k' y z more l h a own =
     ∙ ap (λ z. z ++ more) a.1
     ∙ sym l.made
 
-pub left_own : (k k' : Known Trail) (y z : Board) (t : Trail) → Left k k' z (t ∷ []) → history_of z ≡ history_of y ++ t ∷ [] → Agrees owner_of k (history_of y) → owner_of t ≡ k.number
-    → entries_of owner_of k'.number (history_of z) ≡ k'.made
-left_own k k' y z t l h a o = left_owns k k' y z (t ∷ []) l h a (All-cons (λ e. owner_of e ≡ k.number) t [] o (All-nil (λ e. owner_of e ≡ k.number)))
-
 pub adds_one : (n : ℕ) (before after : List Trail) (t : Trail) → after ≡ before ++ t ∷ [] → owner_of t ≡ n → Adds owner_of n before after
 adds_one n before after t h o = (t ∷ [], h, All-cons (λ e. owner_of e ≡ n) t [] o (All-nil (λ e. owner_of e ≡ n)))
 

@@ -81,9 +81,6 @@ pub record Passed (input rest : List ℕ) : Type 0 where
   pub lines : parted (cut_lines input) ≡ behind before (parted (cut_lines rest))
   pub whole : (input ≡ ended before ++ rest) ⊎ (rest ≡ [])
 
-pub passed_start : (input : List ℕ) → Passed input input
-passed_start input = record { before = []; lines = refl; whole = inl refl }
-
 line_taken : (before : List (List ℕ)) (line rest : List ℕ) → ended before ++ (line ++ 10 ∷ rest) ≡ ended (before ++ line ∷ []) ++ rest
 line_taken before line rest = rw (flat_map-append (λ l. l ++ 10 ∷ []) before (line ∷ []), append-nil) (simp append_assoc)
 

@@ -1,5 +1,5 @@
 -- How far the lines behind a head were read.
-use Rattle.std.proofs.Common.{◌≡◌, ◌+◌, ◌<◌, ◌^◌, ℕ, List, [], ◌∷◌, ◌++◌, length, All, refl, sym, ap, subst, ◌∙◌, append_assoc, append-nil, length-append, arith}
+use Rattle.std.proofs.Common.{◌≡◌, ◌+◌, ◌<◌, ◌^◌, ℕ, List, [], ◌∷◌, ◌++◌, length, All, sym, ap, subst, ◌∙◌, append_assoc, append-nil, length-append, arith}
 use Rattle.std.proofs.lemmas.List.Elements.{All-nil, All-cons, All-head, All-tail, All-append}
 use Rattle.wave_base.specs.declared.shape.Shape.{Shape}
 use Rattle.wave_base.specs.Names.{HasNames}
@@ -27,12 +27,6 @@ pub record AreReadTo (shape : Shape) (tail : List ℕ) (before : List Label) (re
   pub only : (others : List Label) (left : List ℕ) → IsParted shape tail others left → AreMore shape before rest others left
 
 module _ (shape : Shape) where
-  pub none_read : (tail : List ℕ) → AreReadTo shape tail [] tail
-  none_read tail = record {
-    spelled = refl;
-    fit = All-nil (IsLabel shape);
-    only = λ others left p. record { more = others; all = refl; spelled = p.spelled; fit = p.fit };
-  }
 
   labels-append : (i : ℕ) (xs : List Label) (l : Label) (rest : List ℕ) → labels_text shape i (xs ++ l ∷ []) ++ rest ≡ labels_text shape i xs ++ (line_text shape (i + length xs) l ++ 10 ∷ rest)
   labels-append i [] l rest =

@@ -1,5 +1,5 @@
 -- The one text of a journal: a head that tells how many lines follow, and a line for each label.
-use Rattle.std.specs.Prelude.{◌≡◌, ℕ, ◌+◌, ◌==◌, if◌then◌else◌, List, [], ◌∷◌, ◌++◌, length, codes, count_by, All}
+use Rattle.std.specs.Prelude.{◌≡◌, ℕ, ◌+◌, List, [], ◌∷◌, ◌++◌, length, codes, All}
 use Rattle.std.specs.Fmt.{decimal}
 use Rattle.wave_base.specs.declared.shape.Shape.{Shape}
 use Rattle.wave_labels.specs.declared.label.Label.{Label}
@@ -24,13 +24,3 @@ pub record IsJournalText (shape : Shape) (text : List ℕ) (labels : List Label)
   pub fit : All (IsLabel shape) labels
 
 -- ---- lines of any text
-
--- one where something stands behind the last line feed
-abbrev pub left_over : List ℕ → ℕ
-left_over [] = 0
-left_over (b ∷ []) = if b == 10 then 0 else 1
-left_over (b ∷ c ∷ bs) = left_over (c ∷ bs)
-
--- what stands behind the last line feed is a line too
-abbrev pub line_count : List ℕ → ℕ
-line_count text = count_by (λ b. b == 10) text + left_over text

@@ -1,5 +1,5 @@
 -- What the first two bytes tell of a piece.
-use Rattle.std.proofs.Common.{◌≡◌, ℕ, ◌⊎◌, inl, inr, Bool, true, false, ◌&&◌, ◌||◌, List, [], ◌∷◌, length, get_or, Option, Some, All, refl, sym, ◌∙◌, ap, subst, arith, ⊎_elim, eqb-true}
+use Rattle.std.proofs.Common.{◌≡◌, ℕ, Bool, true, false, ◌&&◌, ◌||◌, List, [], ◌∷◌, length, get_or, Option, Some, All, refl, sym, ◌∙◌, ap, subst, arith, ⊎_elim, eqb-true}
 use Rattle.std.specs.Prelude.{◌==◌, if◌then◌else◌}
 use Rattle.std.specs.Char.{is_ascii_digit}
 use Rattle.std.specs.List.{list_all}
@@ -20,10 +20,6 @@ use Rattle.mace_lexer.specs.Texts.{quoted}
 use Rattle.mace_lexer.specs.Pieces.{Piece, Gap, Spell, Wrong, IsPiece}
 
 -- ---- tests
-
-pub or_cases : (a b : Bool) → (a || b) ≡ true → (a ≡ true) ⊎ (b ≡ true)
-or_cases true b e = inl refl
-or_cases false b e = inr e
 
 pub and_cases : (a b : Bool) → (a && b) ≡ true → (a ≡ true) × (b ≡ true)
 and_cases true b e = (refl, e)

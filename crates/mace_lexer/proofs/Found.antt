@@ -1,5 +1,5 @@
 -- What the lexer's parts find at the front of a text.
-use Rattle.std.proofs.Common.{◌≡◌, ℕ, suc, ◌+◌, ◌<◌, ◌≤◌, inl, inr, List, [], ◌∷◌, ◌++◌, length, take, drop, get_or, ℤ, pos, Some, None, All, true, refl, sym, ◌∙◌, ap, subst, arith, eqb-true, append_assoc, length-append, length-drop}
+use Rattle.std.proofs.Common.{◌≡◌, ℕ, suc, ◌+◌, ◌<◌, ◌≤◌, inr, List, [], ◌∷◌, ◌++◌, length, take, drop, get_or, ℤ, pos, Some, None, All, true, refl, sym, ◌∙◌, ap, subst, arith, eqb-true, append_assoc, length-append, length-drop}
 use Rattle.std.specs.List.{prefix_len}
 use Rattle.std.specs.Char.{is_ascii_digit}
 use Rattle.std.proofs.lemmas.List.{length-take, drop_at, drop-drop}
@@ -11,15 +11,14 @@ use Rattle.wave_base.specs.Text.{IsPrintable, IsText}
 use Rattle.mace_lexer.specs.declared.cut.Cut.TheVariants as cut
 use Rattle.mace_lexer.specs.declared.cut.Form.TheVariants as form
 use Rattle.mace_lexer.specs.declared.keyword.Keyword.{Keyword}
-use Rattle.mace_lexer.specs.declared.quoted.Inside.{Inside}
-use Rattle.mace_lexer.specs.declared.quoted.Inside.TheVariants.{Byte, Close, Open, Bad}
+use Rattle.mace_lexer.specs.declared.quoted.Inside.TheVariants.{Byte, Close}
 use Rattle.mace_lexer.specs.declared.sign.Sign.{Sign}
 use Rattle.mace_lexer.specs.declared.token.Word.TheVariants as word
-use Rattle.mace_lexer.specs.declared.fault.LexFault.TheVariants.{BadByte, NumberRange, OpenText, NameLong, TextLong}
+use Rattle.mace_lexer.specs.declared.fault.LexFault.TheVariants.{BadByte, NumberRange, NameLong, TextLong}
 use Rattle.mace_lexer.specs.Words.{is_inside_line, value_of, greatest, keyword, sign, form_of}
 use Rattle.mace_lexer.specs.Texts.{escaped_byte, escaped, quoted, inside_of}
 use Rattle.mace_lexer.specs.Pieces.{Piece, Spell, Wrong, IsPiece, IsLongest}
-use Rattle.mace_lexer.specs.Cuts.{IsCut, IsBody, StopsInside}
+use Rattle.mace_lexer.specs.Cuts.{IsCut, IsBody}
 use Rattle.mace_lexer.proofs.Bodies.{byte_taken, escaped_push}
 use Rattle.mace_lexer.proofs.Longest.{tests, comment_cut, comment_some, name_all, name_some, name_front, name_cut, number_some, number_front, number_cut, text_cut, two_cut, one_cut, no_sign, sign_no_quote}
 
@@ -80,15 +79,6 @@ module _ (text : List ℕ) (n : ℕ) where
 
     pub long_text : inside_of (drop n text) ≡ Close → 200 < length t → IsCut text (cut.Fault TextLong 0)
     long_text c l = (omega arith, record { start = refl; size = n + 1; longest = text_cut text t n (Wrong TextLong) b c (t, refl, b.printable, l) })
-
-    pub stops : (next : Inside) → inside_of (drop n text) ≡ next → StopsInside text n next
-    stops next c = record { meant = t; rest = drop n text; split = b.split; printable = b.printable; reach = b.reach; stop = c }
-
-    pub open_text : inside_of (drop n text) ≡ Open → IsCut text (cut.Fault OpenText 0)
-    open_text c = (omega arith, record { start = refl; place = n; inside = stops Open c })
-
-    pub bad_text : inside_of (drop n text) ≡ Bad → IsCut text (cut.Fault BadByte n)
-    bad_text c = (b.within, inl (stops Bad c))
 
 -- so much of a text's inside was read
 abbrev pub Inner : List ℕ → List ℕ → ℕ → Type 0

@@ -246,9 +246,6 @@ no_text text t rest h k x y = λ m q l s.
     front_text zero q s = absurd (no_empty q s)
     front_text (suc m) q s = rw h refl
 
-pub text_size : (t left : List ℕ) → length (quoted t ++ left) ≡ suc (suc (length (escaped t))) + length left
-text_size t left = omega (arith, length-append (quoted t) left, length-append (escaped t) (34 ∷ []))
-
 -- the closing quote ends the piece
 pub text_cut : (text t : List ℕ) (n : ℕ) (p : Piece) → IsBody text t n → inside_of (drop n text) ≡ Close → IsPiece p (quoted t) → IsLongest text (n + 1) p
 text_cut text t n p b c piece =

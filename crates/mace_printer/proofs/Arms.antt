@@ -60,9 +60,6 @@ child_arm at c p f ts l =
     ∙ ap (λ x. word.Name c ∷ word.Sign s.LeftBracket ∷ x) (append_assoc (expr_words p 0) (word.Sign s.RightBracket ∷ []) (word.Sign s.Dot ∷ call_words f ts))
     ∙ ap (λ x. word.Name c ∷ word.Sign s.LeftBracket ∷ (expr_words p 0 ++ (word.Sign s.RightBracket ∷ word.Sign s.Dot ∷ word.Name f ∷ word.Sign s.LeftParen ∷ (x ++ (word.Sign s.RightParen ∷ []))))) (args_listed ts)
 
-pub child_stmt_arm : (at : Span) (c : List ℕ) (p : ExprTree) (f : List ℕ) (ts : List ExprTree) → child_key_words c p ++ (call_words f ts ++ (word.Sign s.Semicolon ∷ [])) ≡ stmt_words (st.ChildCall at c p f ts)
-child_stmt_arm at c p f ts = ap (λ x. word.Name c ∷ x) (append_assoc (index_words p) (word.Sign s.Dot ∷ []) (call_words f ts ++ (word.Sign s.Semicolon ∷ [])))
-
 block_split : (xs : List StmtTree) (rest : List Word) → braced_words xs ++ rest ≡ word.Sign s.LeftBrace ∷ (stmts_words (stmts_of xs) ++ (word.Sign s.RightBrace ∷ rest))
 block_split xs rest = ap (λ x. word.Sign s.LeftBrace ∷ x) (append_assoc (body_words xs) (word.Sign s.RightBrace ∷ []) rest ∙ ap (λ x. x ++ (word.Sign s.RightBrace ∷ rest)) (stmts_listed xs))
 

@@ -1,126 +1,31 @@
 -- The canonical words of declarations spell them.
-use Rattle.std.proofs.Common.{◌≡◌, ℕ, zero, suc, ◌+◌, ◌≤◌, ◌⊎◌, inl, inr, pos, subst, List, [], ◌∷◌, ◌++◌, map, Option, Some, None, Bool, true, false, refl, sym, ap, arith, append-nil}
+use Rattle.std.proofs.Common.{◌≡◌, ℕ, zero, suc, ◌+◌, ◌≤◌, ◌⊎◌, inl, inr, pos, subst, List, [], ◌∷◌, ◌++◌, map, Option, Some, None, refl, sym, ap, arith, append-nil}
 use Rattle.std.specs.Option.{option_map}
 use Rattle.std.proofs.lemmas.List.{map-append}
 use Rattle.wave_base.specs.declared.span.Span.{Span}
-use Rattle.wave_base.specs.declared.value.Kind.{Kind}
 use Rattle.mace_lexer.specs.declared.token.Word.{Word}
 use Rattle.mace_lexer.specs.declared.token.Word.TheVariants as word
 use Rattle.mace_lexer.specs.declared.keyword.Keyword.TheVariants as k
 use Rattle.mace_lexer.specs.declared.sign.Sign.TheVariants as s
 use Rattle.mace_ast.specs.declared.name.Name.{Name}
 use Rattle.mace_ast.specs.declared.field.VarDecl.{VarDecl}
-use Rattle.mace_ast.specs.declared.field.Literal.{Literal}
-use Rattle.mace_ast.specs.declared.field.Literal.TheVariants as lit
-use Rattle.mace_ast.specs.declared.method.Param.{Param}
 use Rattle.mace_ast.specs.Exprs.{bare_expr, nowhere}
 use Rattle.mace_ast.specs.Stmts.{StmtTree, bare_stmt}
 use Rattle.mace_ast.specs.Decls.{LastTree, MethodTree, PhaseTree, EventTree, ContextTree, ContextTrees, Context, no_contexts, context_and, contexts_of, ServiceTree, bare_var, bare_param, bare_last, bare_method, bare_phase, bare_event, bare_context, bare_contexts, bare_service}
 use Rattle.mace_grammar.specs.Part.{Part, ◌>>◌, many, maybe, nested}
 use Rattle.mace_grammar.specs.Words as w
 use Rattle.mace_grammar.specs.Words.{Version, first, numbered}
-use Rattle.mace_grammar.specs.Fits.{Each, IfThere, ExprFits, StmtFits, VarFits, ParamFits, LastFits, MethodFits, PhaseFits, EventFits, ContextFits, ContextsFit, MembersFit, ServiceFits}
+use Rattle.mace_grammar.specs.Fits.{Each, IfThere, ExprFits, StmtFits, LastFits, MethodFits, PhaseFits, EventFits, ContextFits, ContextsFit, MembersFit, ServiceFits}
 use Rattle.mace_grammar.specs.Grammar as g
 use Rattle.mace_grammar.specs.Spelled.{plain, Spelled}
-use Rattle.mace_printer.specs.Canon.{whole_words, index_words, all_of, literal_words, var_words, boolean_key, kind_key, param_words, params_words, result_words, last_words, body_words, braced_words, method_words, phase_words, here_words, event_words, context_words, contexts_words, version_words, service_words}
-use Rattle.mace_printer.proofs.Says.{Says, key_says, sign_says, end_says, named, name_says, number_says, type_says, all_say, parens_say}
+use Rattle.mace_printer.specs.Canon.{whole_words, index_words, all_of, var_words, params_words, result_words, last_words, body_words, braced_words, method_words, phase_words, here_words, event_words, context_words, contexts_words, version_words, service_words}
+use Rattle.mace_printer.proofs.Says.{Says, key_says, sign_says, end_says, named, name_says, all_say}
 use Rattle.mace_printer.proofs.ExprSays.{expr_says, any_key_says}
 use Rattle.mace_printer.proofs.StmtSays.{stmts_say, any_block_says}
-
-abbrev semicolon : List Word
-semicolon = word.Sign s.Semicolon ∷ []
-
-abbrev brace : List Word
-brace = word.Sign s.RightBrace ∷ []
-
--- ---- fields
-
-boolean_initial : (b : Bool) → w.initial_of_key nowhere (boolean_key b) ≡ Some (record { at = nowhere; value = lit.Bool b })
-boolean_initial true = refl
-boolean_initial false = refl
-
-initial_says : (l : Literal) → Says g.initial (record { at = nowhere; value = l }) (literal_words l)
-initial_says (lit.Number n) = inl (plain (word.Number n), refl, refl)
-initial_says (lit.Minus n) = inr (nowhere, plain (word.Sign s.Minus) ∷ [], _, refl, sign_says s.Minus, (n, plain (word.Number n) ∷ [], [], refl, number_says n, (refl, refl)))
-initial_says (lit.Text bytes) = inl (plain (word.Text bytes), refl, refl)
-initial_says (lit.Bool b) = inl (plain (word.Key (boolean_key b)), refl, boolean_initial b)
-initial_says lit.Empty = inl (plain (word.Key k.Empty), refl, refl)
+use Rattle.mace_printer.proofs.FieldSays.{brace, semicolon}
+use Rattle.mace_printer.proofs.FieldSays
 
 module _ (version : Version) where
-  var_says : (v : VarDecl) → VarFits version v → Says (g.var version) (bare_var v) (var_words v)
-  var_says v f = (
-    nowhere,
-    plain (word.Key k.Var) ∷ [],
-    _,
-    refl,
-    key_says k.Var,
-    (
-      named v.name.text,
-      plain (word.Name v.name.text) ∷ [],
-      _,
-      refl,
-      name_says version v.name.text f,
-      (
-        nowhere,
-        plain (word.Sign s.Colon) ∷ [],
-        _,
-        refl,
-        sign_says s.Colon,
-        (
-          v.kind,
-          plain (word.Key (kind_key v.kind)) ∷ [],
-          _,
-          refl,
-          type_says v.kind,
-          (
-            nowhere,
-            plain (word.Sign s.Equals) ∷ [],
-            _,
-            refl,
-            sign_says s.Equals,
-            (
-              record { at = nowhere; value = v.initial.value },
-              map plain (literal_words v.initial.value),
-              _,
-              map-append plain (literal_words v.initial.value) semicolon,
-              initial_says v.initial.value,
-              (nowhere, map plain semicolon, [], refl, sign_says s.Semicolon, (refl, refl)),
-            ),
-          ),
-        ),
-      ),
-    ),
-  )
-
-  vars_say : (vs : List VarDecl) → Each (VarFits version) vs → Says (many (g.var version)) (map bare_var vs) (all_of var_words vs)
-  vars_say vs f = all_say (g.var version) bare_var var_words (VarFits version) var_says vs f
-
-  -- ---- methods and events
-
-  param_says : (p : Param) → ParamFits version p → Says (g.param version) (bare_param p) (param_words p)
-  param_says p f = (
-    named p.name.text,
-    plain (word.Name p.name.text) ∷ [],
-    _,
-    refl,
-    name_says version p.name.text f,
-    (
-      nowhere,
-      plain (word.Sign s.Colon) ∷ [],
-      _,
-      refl,
-      sign_says s.Colon,
-      (p.kind, plain (word.Key (kind_key p.kind)) ∷ [], [], refl, type_says p.kind, (refl, refl)),
-    ),
-  )
-
-  params_say : (ps : List Param) → Each (ParamFits version) ps → Says (g.params version) (map bare_param ps) (params_words ps)
-  params_say ps f = parens_say (g.param version) bare_param param_words (ParamFits version) param_says ps f
-
-  result_says : (o : Option Kind) → Says g.result o (result_words o)
-  result_says None = refl
-  result_says (Some j) = (nowhere, plain (word.Sign s.Colon) ∷ [], _, refl, sign_says s.Colon, type_says j)
-
   -- behind its keyword
   ended_says : (word : Word) (keyword : Part Span) (l : LastTree) → Says keyword nowhere (word ∷ []) → ExprFits version l.value → Says (g.last version keyword) (bare_last l) (word ∷ (whole_words l.value ++ semicolon))
   ended_says word keyword l h f = (
@@ -167,13 +72,13 @@ module _ (version : Version) where
             map plain (params_words m.params),
             map plain (result_words m.result ++ body),
             map-append plain (params_words m.params) (result_words m.result ++ body),
-            params_say m.params f.1,
+            FieldSays.params_say version m.params f.1,
             (
               m.result,
               map plain (result_words m.result),
               map plain body,
               map-append plain (result_words m.result) body,
-              result_says m.result,
+              FieldSays.result_says version m.result,
               (
                 nowhere,
                 plain (word.Sign s.LeftBrace) ∷ [],
@@ -253,13 +158,13 @@ module _ (version : Version) where
             map plain (params_words v.params),
             map plain (result_words v.result ++ body),
             map-append plain (params_words v.params) (result_words v.result ++ body),
-            params_say v.params f.1,
+            FieldSays.params_say version v.params f.1,
             (
               v.result,
               map plain (result_words v.result),
               map plain body,
               map-append plain (result_words v.result) body,
-              result_says v.result,
+              FieldSays.result_says version v.result,
               (
                 nowhere,
                 plain (word.Sign s.LeftBrace) ∷ [],
@@ -348,7 +253,7 @@ module _ (version : Version) where
                     map plain (all_of var_words vars),
                     map plain behind,
                     map-append plain (all_of var_words vars) behind,
-                    vars_say vars f.1,
+                    FieldSays.vars_say version vars f.1,
                     (
                       list_of (bare_contexts inner),
                       map plain (contexts_words inner),
@@ -419,7 +324,7 @@ members_say t f =
         map plain (all_of var_words t.vars),
         map plain contexts,
         map-append plain (all_of var_words t.vars) contexts,
-        vars_say own t.vars f.0,
+        FieldSays.vars_say own t.vars f.0,
         (
           map bare_context t.contexts,
           map plain (all_of context_words t.contexts),

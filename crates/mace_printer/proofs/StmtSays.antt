@@ -1,5 +1,5 @@
 -- The canonical words of statements spell them.
-use Rattle.std.proofs.Common.{◌≡◌, ℕ, zero, suc, ◌+◌, ◌≤◌, inl, inr, List, [], ◌∷◌, ◌++◌, map, Option, Some, None, refl, sym, ap, arith, ◌∙◌, append_assoc, append-nil}
+use Rattle.std.proofs.Common.{◌≡◌, ℕ, zero, suc, ◌+◌, ◌≤◌, inl, inr, List, [], ◌∷◌, ◌++◌, map, Option, Some, None, refl, sym, ap, arith, ◌∙◌, append-nil}
 use Rattle.std.proofs.lemmas.List.{map-append}
 use Rattle.wave_base.specs.declared.span.Span.{Span}
 use Rattle.mace_lexer.specs.declared.token.Word.{Word}
@@ -7,447 +7,23 @@ use Rattle.mace_lexer.specs.declared.token.Word.TheVariants as word
 use Rattle.mace_lexer.specs.declared.keyword.Keyword.TheVariants as k
 use Rattle.mace_lexer.specs.declared.sign.Sign.TheVariants as s
 use Rattle.mace_ast.specs.declared.name.Name.{Name}
-use Rattle.mace_ast.specs.declared.stmt.Target.{Target}
 use Rattle.mace_ast.specs.Exprs.{ExprTree, bare_expr, nowhere}
 use Rattle.mace_ast.specs.Stmts as st
 use Rattle.mace_ast.specs.Stmts.{StmtTree, StmtTrees, ElseTree, no_stmts, stmt_and, no_else, otherwise, stmts_of, else_of, bare_stmt, bare_stmts, bare_else}
 use Rattle.mace_grammar.specs.Part.{Part, ◌>>◌, many, maybe, nested}
 use Rattle.mace_grammar.specs.Words as w
 use Rattle.mace_grammar.specs.Words.{Version}
-use Rattle.mace_grammar.specs.Fits.{IsName, Each, IfThere, ExprFits, EndFits, StmtFits, StmtsFit, ElseFits}
-use Rattle.std.specs.Prelude.{codes}
-use Rattle.std.specs.Option.{option_map}
+use Rattle.mace_grammar.specs.Fits.{IsName, Each, ExprFits, StmtFits, StmtsFit, ElseFits}
 use Rattle.mace_grammar.specs.Grammar as g
 use Rattle.mace_grammar.specs.Spelled.{plain}
-use Rattle.mace_printer.specs.Canon.{whole_words, index_words, listed, call_words, maybe_words, stmt_words, stmts_words, else_words, body_words, braced_words}
-use Rattle.mace_printer.proofs.Says.{Says, key_says, sign_says, named, name_says, text_says, field_says, leave_says, finish_says, all_say}
-use Rattle.mace_printer.proofs.ExprSays.{expr_says, any_key_says, any_arguments_say}
-
--- words in brackets, and then more words
-bracket_split : (a b : Word) (inner rest : List Word) → map plain (a ∷ (inner ++ (b ∷ rest))) ≡ map plain (a ∷ (inner ++ (b ∷ []))) ++ map plain rest
-bracket_split a b inner rest =
-    ap (λ l. plain a ∷ l)
-    (map-append plain inner (b ∷ rest)
-    ∙ sym (append_assoc (map plain inner) (plain b ∷ []) (map plain rest))
-    ∙ ap (λ l. l ++ map plain rest) (sym (map-append plain inner (b ∷ []))))
-
-abbrev semicolon : List Word
-semicolon = word.Sign s.Semicolon ∷ []
-
-semicolon_says : Says (w.sign s.Semicolon) nowhere semicolon
-semicolon_says = sign_says s.Semicolon
-
-abbrev paren_words : List ExprTree → List Word
-paren_words args = word.Sign s.LeftParen ∷ (listed whole_words args ++ (word.Sign s.RightParen ∷ []))
+use Rattle.mace_printer.specs.Canon.{whole_words, stmt_words, stmts_words, else_words, body_words, braced_words}
+use Rattle.mace_printer.proofs.Says.{Says, key_says, sign_says, named, name_says, all_say}
+use Rattle.mace_printer.proofs.ExprSays.{expr_says}
+use Rattle.mace_printer.proofs.PlainSays.{bracket_split}
+use Rattle.mace_printer.proofs.PlainSays
+use Rattle.mace_printer.proofs.SetSays
 
 module _ (version : Version) where
-  -- ---- statements without a block
-
-  let_says : (at : Span) (x : Name) (value : ExprTree) → IsName version x.text → ExprFits version value → Says (g.let_stmt version) (bare_stmt (st.Let at x value)) (stmt_words (st.Let at x value))
-  let_says at x value i f = (
-    nowhere,
-    plain (word.Key k.Let) ∷ [],
-    _,
-    refl,
-    key_says k.Let,
-    (
-      named x.text,
-      plain (word.Name x.text) ∷ [],
-      _,
-      refl,
-      name_says version x.text i,
-      (
-        nowhere,
-        plain (word.Sign s.Equals) ∷ [],
-        _,
-        refl,
-        sign_says s.Equals,
-        (
-          bare_expr value,
-          map plain (whole_words value),
-          _,
-          map-append plain (whole_words value) semicolon,
-          expr_says version value f,
-          (nowhere, map plain semicolon, [], refl, semicolon_says, (refl, refl)),
-        ),
-      ),
-    ),
-  )
-
-  require_says : (at : Span) (test : ExprTree) → ExprFits version test → Says (g.require_stmt version) (bare_stmt (st.Require at test)) (stmt_words (st.Require at test))
-  require_says at test f = (
-    nowhere,
-    plain (word.Key k.Require) ∷ [],
-    _,
-    refl,
-    key_says k.Require,
-    (
-      bare_expr test,
-      map plain (whole_words test),
-      _,
-      map-append plain (whole_words test) semicolon,
-      expr_says version test f,
-      (nowhere, map plain semicolon, [], refl, semicolon_says, (refl, refl)),
-    ),
-  )
-
-  send_says : (at : Span) (label : List ℕ) (value : ExprTree) → ExprFits version value → Says (g.send_stmt version) (bare_stmt (st.Send at label value)) (stmt_words (st.Send at label value))
-  send_says at label value f = (
-    nowhere,
-    plain (word.Key k.Send) ∷ [],
-    _,
-    refl,
-    key_says k.Send,
-    (
-      label,
-      plain (word.Text label) ∷ [],
-      _,
-      refl,
-      text_says label,
-      (
-        nowhere,
-        plain (word.Sign s.Comma) ∷ [],
-        _,
-        refl,
-        sign_says s.Comma,
-        (
-          bare_expr value,
-          map plain (whole_words value),
-          _,
-          map-append plain (whole_words value) semicolon,
-          expr_says version value f,
-          (nowhere, map plain semicolon, [], refl, semicolon_says, (refl, refl)),
-        ),
-      ),
-    ),
-  )
-
-  spawn_says : (at : Span) (event : List ℕ) (args : List ExprTree) → IsName version event → Each (ExprFits version) args → Says (g.spawn_stmt version) (bare_stmt (st.Spawn at event args)) (stmt_words (st.Spawn at event args))
-  spawn_says at event args i f = (
-    nowhere,
-    plain (word.Key k.Spawn) ∷ [],
-    _,
-    refl,
-    key_says k.Spawn,
-    (
-      named event,
-      plain (word.Name event) ∷ [],
-      _,
-      refl,
-      name_says version event i,
-      (
-        map bare_expr args,
-        map plain (paren_words args),
-        _,
-        map-append plain (paren_words args) semicolon,
-        any_arguments_say version args f,
-        (nowhere, map plain semicolon, [], refl, semicolon_says, (refl, refl)),
-      ),
-    ),
-  )
-
-  abbrev target_of : Option (List ℕ) → List ℕ → Target
-  target_of above x = record { above = above; name = x }
-
-  drop_says : (at : Span) (above : Option (List ℕ)) (x : List ℕ) (place : ExprTree) → IfThere (IsName version) above → IsName version x → ExprFits version place → Says (g.drop_stmt version) (bare_stmt (st.Cut at (target_of above x) place)) (stmt_words (st.Cut at (target_of above x) place))
-  drop_says at None x place i j f = (
-    nowhere,
-    plain (word.Key k.Drop) ∷ [],
-    _,
-    refl,
-    key_says k.Drop,
-    (
-      named x,
-      plain (word.Name x) ∷ [],
-      _,
-      refl,
-      name_says version x j,
-      (
-        None,
-        [],
-        _,
-        refl,
-        refl,
-        (
-          bare_expr place,
-          map plain (index_words place),
-          _,
-          map-append plain (index_words place) semicolon,
-          any_key_says version place f,
-          (nowhere, map plain semicolon, [], refl, semicolon_says, (refl, refl)),
-        ),
-      ),
-    ),
-  )
-  drop_says at (Some c) x place i j f = (
-    nowhere,
-    plain (word.Key k.Drop) ∷ [],
-    _,
-    refl,
-    key_says k.Drop,
-    (
-      named c,
-      plain (word.Name c) ∷ [],
-      _,
-      refl,
-      name_says version c i,
-      (
-        Some (named x),
-        map plain (word.Sign s.Dot ∷ word.Name x ∷ []),
-        _,
-        refl,
-        field_says version x j,
-        (
-          bare_expr place,
-          map plain (index_words place),
-          _,
-          map-append plain (index_words place) semicolon,
-          any_key_says version place f,
-          (nowhere, map plain semicolon, [], refl, semicolon_says, (refl, refl)),
-        ),
-      ),
-    ),
-  )
-
-  -- ---- what is set
-
-  abbrev assigned : ExprTree → List Word
-  assigned value = word.Sign s.Equals ∷ (whole_words value ++ semicolon)
-
-  set_says : (at : Span) (above : Option (List ℕ)) (x : List ℕ) (place : Option ExprTree) (value : ExprTree) → IfThere (IsName version) above → IsName version x → IfThere (ExprFits version) place → ExprFits version value → Says (g.set_stmt version) (bare_stmt (st.Set at (target_of above x) place value)) (stmt_words (st.Set at (target_of above x) place value))
-  set_says at None x None value i j p f = (
-    named x,
-    plain (word.Name x) ∷ [],
-    _,
-    refl,
-    name_says version x j,
-    (
-      None,
-      [],
-      _,
-      refl,
-      refl,
-      (
-        None,
-        [],
-        _,
-        refl,
-        refl,
-        (
-          nowhere,
-          plain (word.Sign s.Equals) ∷ [],
-          _,
-          refl,
-          sign_says s.Equals,
-          (
-            bare_expr value,
-            map plain (whole_words value),
-            _,
-            map-append plain (whole_words value) semicolon,
-            expr_says version value f,
-            (nowhere, map plain semicolon, [], refl, semicolon_says, (refl, refl)),
-          ),
-        ),
-      ),
-    ),
-  )
-  set_says at None x (Some place) value i j p f = (
-    named x,
-    plain (word.Name x) ∷ [],
-    _,
-    refl,
-    name_says version x j,
-    (
-      None,
-      [],
-      _,
-      refl,
-      refl,
-      (
-        Some (bare_expr place),
-        map plain (index_words place),
-        _,
-        map-append plain (index_words place) (assigned value),
-        any_key_says version place p,
-        (
-          nowhere,
-          plain (word.Sign s.Equals) ∷ [],
-          _,
-          refl,
-          sign_says s.Equals,
-          (
-            bare_expr value,
-            map plain (whole_words value),
-            _,
-            map-append plain (whole_words value) semicolon,
-            expr_says version value f,
-            (nowhere, map plain semicolon, [], refl, semicolon_says, (refl, refl)),
-          ),
-        ),
-      ),
-    ),
-  )
-  set_says at (Some c) x None value i j p f = (
-    named c,
-    plain (word.Name c) ∷ [],
-    _,
-    refl,
-    name_says version c i,
-    (
-      Some (named x),
-      map plain (word.Sign s.Dot ∷ word.Name x ∷ []),
-      _,
-      refl,
-      field_says version x j,
-      (
-        None,
-        [],
-        _,
-        refl,
-        refl,
-        (
-          nowhere,
-          plain (word.Sign s.Equals) ∷ [],
-          _,
-          refl,
-          sign_says s.Equals,
-          (
-            bare_expr value,
-            map plain (whole_words value),
-            _,
-            map-append plain (whole_words value) semicolon,
-            expr_says version value f,
-            (nowhere, map plain semicolon, [], refl, semicolon_says, (refl, refl)),
-          ),
-        ),
-      ),
-    ),
-  )
-  set_says at (Some c) x (Some place) value i j p f = (
-    named c,
-    plain (word.Name c) ∷ [],
-    _,
-    refl,
-    name_says version c i,
-    (
-      Some (named x),
-      map plain (word.Sign s.Dot ∷ word.Name x ∷ []),
-      _,
-      refl,
-      field_says version x j,
-      (
-        Some (bare_expr place),
-        map plain (index_words place),
-        _,
-        map-append plain (index_words place) (assigned value),
-        any_key_says version place p,
-        (
-          nowhere,
-          plain (word.Sign s.Equals) ∷ [],
-          _,
-          refl,
-          sign_says s.Equals,
-          (
-            bare_expr value,
-            map plain (whole_words value),
-            _,
-            map-append plain (whole_words value) semicolon,
-            expr_says version value f,
-            (nowhere, map plain semicolon, [], refl, semicolon_says, (refl, refl)),
-          ),
-        ),
-      ),
-    ),
-  )
-
-  call_says : (at : Span) (f : List ℕ) (args : List ExprTree) → IsName version f → Each (ExprFits version) args → Says (g.call_stmt version) (bare_stmt (st.Call at f args)) (stmt_words (st.Call at f args))
-  call_says at f args i k = (
-    named f,
-    plain (word.Name f) ∷ [],
-    _,
-    refl,
-    name_says version f i,
-    (
-      map bare_expr args,
-      map plain (paren_words args),
-      _,
-      map-append plain (paren_words args) semicolon,
-      any_arguments_say version args k,
-      (nowhere, map plain semicolon, [], refl, semicolon_says, (refl, refl)),
-    ),
-  )
-
-  child_says : (at : Span) (c : List ℕ) (place : ExprTree) (f : List ℕ) (args : List ExprTree) → IsName version c → ExprFits version place → IsName version f → Each (ExprFits version) args → Says (g.child_call_stmt version) (bare_stmt (st.ChildCall at c place f args)) (stmt_words (st.ChildCall at c place f args))
-  child_says at c place f args i p j k = (
-    named c,
-    plain (word.Name c) ∷ [],
-    _,
-    refl,
-    name_says version c i,
-    (
-      bare_expr place,
-      map plain (index_words place),
-      _,
-      map-append plain (index_words place) (word.Sign s.Dot ∷ (call_words f args ++ semicolon)),
-      any_key_says version place p,
-      (
-        named f,
-        map plain (word.Sign s.Dot ∷ word.Name f ∷ []),
-        _,
-        refl,
-        field_says version f j,
-        (
-          map bare_expr args,
-          map plain (paren_words args),
-          _,
-          map-append plain (paren_words args) semicolon,
-          any_arguments_say version args k,
-          (nowhere, map plain semicolon, [], refl, semicolon_says, (refl, refl)),
-        ),
-      ),
-    ),
-  )
-
-  -- ---- statements that end a method or an event early
-
-  maybe_says : (value : Option ExprTree) → IfThere (ExprFits version) value → Says (maybe (g.any_expr version)) (option_map bare_expr value) (maybe_words value)
-  maybe_says None f = refl
-  maybe_says (Some value) f = expr_says version value f
-
-  return_says : (at : Span) (value : Option ExprTree) → EndFits version value → Says (g.return_stmt version) (bare_stmt (st.Return at value)) (stmt_words (st.Return at value))
-  return_says at value f = (
-    nowhere,
-    plain (word.Key k.Return) ∷ [],
-    _,
-    refl,
-    leave_says version f.0,
-    (
-      option_map bare_expr value,
-      map plain (maybe_words value),
-      _,
-      map-append plain (maybe_words value) semicolon,
-      maybe_says value f.1,
-      (nowhere, map plain semicolon, [], refl, semicolon_says, (refl, refl)),
-    ),
-  )
-
-  finish_stmt_says : (at : Span) (value : Option ExprTree) → EndFits version value → Says (g.finish_stmt version) (bare_stmt (st.Finish at value)) (stmt_words (st.Finish at value))
-  finish_stmt_says at value f = (
-    nowhere,
-    plain (word.Name (codes "finish")) ∷ [],
-    _,
-    refl,
-    finish_says version f.0,
-    (
-      option_map bare_expr value,
-      map plain (maybe_words value),
-      _,
-      map-append plain (maybe_words value) semicolon,
-      maybe_says value f.1,
-      (nowhere, map plain semicolon, [], refl, semicolon_says, (refl, refl)),
-    ),
-  )
-
   -- ---- statements with blocks
 
   abbrev list_of : StmtTrees → List StmtTree
@@ -634,22 +210,22 @@ module _ (version : Version) where
 
   mutual
     said : (x : StmtTree) (n : ℕ) → blocks x ≤ n → StmtFits version x → Says (at_depth (suc n)) (bare_stmt x) (stmt_words x)
-    said (st.Let at x value) n h f = inl (let_says at x value f.0 f.1)
+    said (st.Let at x value) n h f = inl (PlainSays.let_says version at x value f.0 f.1)
     said (st.If at test body other) zero h f = absurd (omega arith)
     said (st.If at test body other) (suc m) h f = inr (inl (if_says (at_depth (suc m)) at test body other (all_said body m (omega arith) f.1) (else_said other m (omega arith) f.2) f.0))
     said (st.While at test body) zero h f = absurd (omega arith)
     said (st.While at test body) (suc m) h f = inr (inr (inl (while_says (at_depth (suc m)) at test body (all_said body m (omega arith) f.1) f.0)))
     said (st.For at x low high body) zero h f = absurd (omega arith)
     said (st.For at x low high body) (suc m) h f = inr (inr (inr (inl (for_says (at_depth (suc m)) at x low high body (all_said body m (omega arith) f.3) f.0 f.1 f.2))))
-    said (st.Return at value) n h f = inr (inr (inr (inr (inl (return_says at value f)))))
-    said (st.Finish at value) n h f = inr (inr (inr (inr (inr (inl (finish_stmt_says at value f))))))
-    said (st.Require at test) n h f = inr (inr (inr (inr (inr (inr (inl (require_says at test f)))))))
-    said (st.Send at label value) n h f = inr (inr (inr (inr (inr (inr (inr (inl (send_says at label value f))))))))
-    said (st.Spawn at event args) n h f = inr (inr (inr (inr (inr (inr (inr (inr (inl (spawn_says at event args f.0 f.1)))))))))
-    said (st.Cut at x place) n h f = inr (inr (inr (inr (inr (inr (inr (inr (inr (inl (drop_says at x.above x.name place f.0.0 f.0.1 f.1))))))))))
-    said (st.Set at x place value) n h f = inr (inr (inr (inr (inr (inr (inr (inr (inr (inr (inl (set_says at x.above x.name place value f.0.0 f.0.1 f.1 f.2)))))))))))
-    said (st.Call at x args) n h f = inr (inr (inr (inr (inr (inr (inr (inr (inr (inr (inr (inl (call_says at x args f.0 f.1))))))))))))
-    said (st.ChildCall at c place x args) n h f = inr (inr (inr (inr (inr (inr (inr (inr (inr (inr (inr (inr (child_says at c place x args f.0 f.1 f.2 f.3))))))))))))
+    said (st.Return at value) n h f = inr (inr (inr (inr (inl (PlainSays.return_says version at value f)))))
+    said (st.Finish at value) n h f = inr (inr (inr (inr (inr (inl (PlainSays.finish_stmt_says version at value f))))))
+    said (st.Require at test) n h f = inr (inr (inr (inr (inr (inr (inl (PlainSays.require_says version at test f)))))))
+    said (st.Send at label value) n h f = inr (inr (inr (inr (inr (inr (inr (inl (PlainSays.send_says version at label value f))))))))
+    said (st.Spawn at event args) n h f = inr (inr (inr (inr (inr (inr (inr (inr (inl (PlainSays.spawn_says version at event args f.0 f.1)))))))))
+    said (st.Cut at x place) n h f = inr (inr (inr (inr (inr (inr (inr (inr (inr (inl (SetSays.drop_says version at x.above x.name place f.0.0 f.0.1 f.1))))))))))
+    said (st.Set at x place value) n h f = inr (inr (inr (inr (inr (inr (inr (inr (inr (inr (inl (SetSays.set_says version at x.above x.name place value f.0.0 f.0.1 f.1 f.2)))))))))))
+    said (st.Call at x args) n h f = inr (inr (inr (inr (inr (inr (inr (inr (inr (inr (inr (inl (PlainSays.call_says version at x args f.0 f.1))))))))))))
+    said (st.ChildCall at c place x args) n h f = inr (inr (inr (inr (inr (inr (inr (inr (inr (inr (inr (inr (PlainSays.child_says version at c place x args f.0 f.1 f.2 f.3))))))))))))
 
     all_said : (xs : StmtTrees) (n : ℕ) → all_blocks xs ≤ n → StmtsFit version xs → all_spell (at_depth (suc n)) xs
     all_said no_stmts n h f = refl

@@ -1,17 +1,16 @@
 -- Words that were written one behind the other.
-use Rattle.std.proofs.Common.{◌≡◌, ℕ, zero, suc, ◌+◌, ◌<◌, ◌≤◌, List, [], ◌∷◌, ◌++◌, length, take, map, get_or, Bool, true, false, nat_lt, Result, Ok, Err, refl, sym, ap, arith, ◌∙◌, append_assoc, append-nil}
+use Rattle.std.proofs.Common.{◌≡◌, ℕ, zero, suc, ◌+◌, ◌<◌, ◌≤◌, List, [], ◌∷◌, ◌++◌, length, take, map, get_or, false, Result, Ok, Err, refl, sym, ap, arith, ◌∙◌, append_assoc, append-nil}
 use Rattle.std.specs.Prelude.{◌==◌, if◌then◌else◌, OnOk}
 use Rattle.std.proofs.Math.Seq.{take-suc}
 use Rattle.std.proofs.lemmas.List.{map-append, take_all}
 use Rattle.std.proofs.lemmas.Bool.{ne_eqb}
-use Rattle.std.proofs.lemmas.Bool.Decides.{nat_tests}
 use Rattle.mace_lexer.specs.declared.token.Word.{Word}
 use Rattle.mace_lexer.specs.declared.token.Word.TheVariants as word
 use Rattle.mace_lexer.specs.declared.sign.Sign.TheVariants as s
 use Rattle.mace_ast.specs.Exprs.{ExprTree, exprs_of}
 use Rattle.mace_ast.specs.Stmts.{StmtTree, stmts_of}
 use Rattle.mace_ast.specs.Decls.{ContextTree, contexts_of}
-use Rattle.mace_printer.specs.Canon.{all_of, further, listed, comma_before, sign, in_parens, whole_words, expr_words, args_words, more_words, stmt_words, stmts_words, context_words, contexts_words}
+use Rattle.mace_printer.specs.Canon.{all_of, further, listed, comma_before, sign, whole_words, expr_words, args_words, more_words, stmt_words, stmts_words, context_words, contexts_words}
 use Rattle.mace_printer.specs.Layout.{line_of, layout}
 
 layout_both : (us vs : List Word) → layout (us ++ vs) ≡ layout us ++ layout vs
@@ -82,22 +81,7 @@ module _ {X Y : Type 0} (ws : X → List Word) (t : Y → X) where
   pub all_of_end : (o : List ℕ) {b : List ℕ} (ys : List Y) (i : ℕ) → length ys ≤ i → b ≡ o ++ layout (all_of ws (map t (take i ys))) → b ≡ o ++ layout (all_of ws (map t ys))
   all_of_end o ys i l h = same_words o (ap (λ z. all_of ws (map t z)) (take_all i ys l)) h
 
-  pub listed_end : (o : List ℕ) {b : List ℕ} (ys : List Y) (i : ℕ) → length ys ≤ i → b ≡ o ++ layout (listed ws (map t (take i ys))) → b ≡ o ++ layout (listed ws (map t ys))
-  listed_end o ys i l h = same_words o (ap (λ z. listed ws (map t z)) (take_all i ys l)) h
-
 -- ---- parentheses
-
-pub with_parens : (b : Bool) (ws : List Word) → b ≡ true → in_parens b ws ≡ in_parens true ws
-with_parens b ws h = ap (λ t. in_parens t ws) h
-
-pub without_parens : (b : Bool) (ws : List Word) → b ≡ false → in_parens b ws ≡ ws
-without_parens b ws h = ap (λ t. in_parens t ws) h
-
-pub less_test : (a b : ℕ) → a < b → nat_lt a b ≡ true
-less_test a b h = grind (arith, nat_tests)
-
-pub not_less_test : (a b : ℕ) → b ≤ a → nat_lt a b ≡ false
-not_less_test a b h = grind (arith, nat_tests)
 
 -- ---- lists of trees, as their mutual forms
 
@@ -145,6 +129,3 @@ module _ {X : Type 0} (ws : X → List Word) where
 
   pub all_end : (o : List ℕ) {b : List ℕ} (ys : List X) (i : ℕ) → length ys ≤ i → b ≡ o ++ layout (all_of ws (take i ys)) → b ≡ o ++ layout (all_of ws ys)
   all_end o ys i l h = same_words o (ap (all_of ws) (take_all i ys l)) h
-
-  pub list_end : (o : List ℕ) {b : List ℕ} (ys : List X) (i : ℕ) → length ys ≤ i → b ≡ o ++ layout (listed ws (take i ys)) → b ≡ o ++ layout (listed ws ys)
-  list_end o ys i l h = same_words o (ap (listed ws) (take_all i ys l)) h

@@ -1,10 +1,9 @@
 -- Letters, mails and routes, and what they stand for in the machine's theory.
-use Rattle.std.specs.Prelude.{◌≡◌, ℕ, List, Option, Some, None}
+use Rattle.std.specs.Prelude.{◌≡◌, List, Option, Some, None}
 use Rattle.wave_base.specs.declared.value.Value.{Value}
 use Rattle.context_queue.specs.Entries.{StandsFor}
 use Rattle.migration_core.specs.declared.mail.Letter.{Letter}
 use Rattle.migration_core.specs.declared.mail.Letter.TheVariants.{Enter, Visit, Back, Release, Transfer}
-use Rattle.migration_core.specs.declared.mail.Mail.{Mail}
 use Rattle.migration_core.specs.declared.mail.Route.{Route}
 use Rattle.migration_core.specs.declared.mail.Route.TheVariants.{Deliver, Born, Forward, Wait}
 use Rattle.wave_states.specs.States as theory
@@ -26,12 +25,6 @@ Says Back l = l ≡ theory.Back
 Says Release l = l ≡ theory.Release
 Says (Transfer e) (theory.Transfer en) = StandsFor e en
 Says (Transfer e) l = ⊥
-
--- a mail to a host stands for one of the theory
-pub record IsMail (m : Mail) (to : ℕ) (mail : theory.Mail (List Value)) : Type 0 where
-  pub host : mail.host ≡ to
-  pub path : mail.path ≡ m.path
-  pub letter : Says m.letter mail.letter
 
 -- the route that the theory has
 abbrev pub route_of : Route → steps.Route

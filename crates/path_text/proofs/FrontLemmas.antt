@@ -75,15 +75,6 @@ name_is behind name inner s rest b f =
     let same : behind ≡ s.name ++ 91 ∷ (s.key ++ 93 ∷ rest) = cc in
     one_split 91 name inner s.name (s.key ++ 93 ∷ rest) b.first (word_has_none s.name form.0) (sym b.spelled ∙ same)
 
-pub no_slash : (text : List ℕ) → ((behind : List ℕ) → text ≡ 47 ∷ behind → ⊥) → HasNoFront text
-no_slash text h s rest f = h _ (f.spelled ∙ parts s rest)
-
-pub no_bracket : (text behind : List ℕ) → text ≡ 47 ∷ behind → HasNone 91 behind → HasNoFront text
-no_bracket text behind e h s rest f =
-    let whole : 47 ∷ behind ≡ 47 ∷ (s.name ++ 91 ∷ (s.key ++ 93 ∷ rest)) = sym e ∙ f.spelled ∙ parts s rest in
-    let same : behind ≡ s.name ++ 91 ∷ (s.key ++ 93 ∷ rest) = cc in
-    nowhere 91 s.name (s.key ++ 93 ∷ rest) (subst (HasNone 91) same h)
-
 pub no_close : (text behind name inner : List ℕ) → text ≡ 47 ∷ behind → IsSplit 91 behind name inner → HasNone 93 inner → HasNoFront text
 no_close text behind name inner e b h s rest f =
     let n = name_is behind name inner s rest b (subst (λ t. IsFront t s rest) e f) in

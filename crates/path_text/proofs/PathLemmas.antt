@@ -1,5 +1,5 @@
 -- The path of written steps, step by step.
-use Rattle.std.proofs.Common.{◌≡◌, ◌+◌, ◌<◌, ◌≤◌, ℕ, zero, suc, Bool, true, false, cond, List, [], ◌∷◌, ◌++◌, length, drop, get_or, slice_get, Option, Some, None, IfSome, refl, sym, ap, subst, ◌∙◌, append_assoc, append-nil, arith}
+use Rattle.std.proofs.Common.{◌≡◌, ◌+◌, ◌<◌, ◌≤◌, ℕ, zero, suc, Bool, true, false, cond, List, [], ◌∷◌, ◌++◌, length, drop, get_or, slice_get, Option, Some, None, IfSome, refl, sym, ap, subst, ◌∙◌, append-nil, arith}
 use Rattle.std.specs.Prelude.{◌&&◌, nat_le, option_map, cond}
 use Rattle.std.specs.List.{list_all, position_from}
 use Rattle.std.specs.Option.{option_and_then}
@@ -17,21 +17,6 @@ use Rattle.path_text.specs.Paths.{is_child, child_class, step_with, step_below, 
 use Rattle.path_text.specs.Steps.{is_step, is_key}
 
 -- ---- one step more
-
--- what goes on from a step, onto the path that led there
-pub step_taken : (shape : Shape) (c : ℕ) (s : Written) (ss : List Written) (t : Step) (path path' : List Step) (whole : Option (List Step)) → step_below shape c s ≡ Some t → path' ≡ path ++ t ∷ []
-    → option_map (λ ps. path ++ ps) (steps_below shape c (s ∷ ss)) ≡ whole → option_map (λ ps. path' ++ ps) (steps_below shape t.class.0 ss) ≡ whole
-step_taken shape c s ss t path path' whole e f h =
-    onto (steps_below shape t.class.0 ss) ∙ ap (λ o. option_map (λ ps. path ++ ps) (option_and_then (λ u. option_map (λ ts. u ∷ ts) (steps_below shape u.class.0 ss)) o)) (sym e) ∙ h
-  where
-    onto : (o : Option (List Step)) → option_map (λ ps. path' ++ ps) o ≡ option_map (λ ps. path ++ ps) (option_map (λ ts. t ∷ ts) o)
-    onto None = refl
-    onto (Some ps) = ap (λ z. Some z) (ap (λ z. z ++ ps) f ∙ append_assoc path (t ∷ []) ps)
-
-pub step_missed : (shape : Shape) (c : ℕ) (s : Written) (ss : List Written) (path : List Step) (whole : Option (List Step)) → step_below shape c s ≡ None
-    → option_map (λ ps. path ++ ps) (steps_below shape c (s ∷ ss)) ≡ whole → whole ≡ None
-step_missed shape c s ss path whole e h =
-    sym h ∙ ap (λ o. option_map (λ ps. path ++ ps) (option_and_then (λ u. option_map (λ ts. u ∷ ts) (steps_below shape u.class.0 ss)) o)) e
 
 pub short_enough : (shape : Shape) (steps : List Written) (o : Option (List Step)) → length steps ≤ 8 → o ≡ steps_below shape 0 steps → o ≡ path_of shape steps
 short_enough shape steps o short e =

@@ -17,9 +17,6 @@ pub record AreReadTo (text : List ℕ) (front : List Written) (rest : List ℕ) 
   pub sound : (ss : List Written) → AreSteps rest ss → AreSteps text (front ++ ss)
   pub whole : (ss : List Written) → AreSteps text ss → (us : List Written) × (ss ≡ front ++ us) × AreSteps rest us
 
-pub none_read : (text : List ℕ) → AreReadTo text [] text
-none_read text = record { sound = λ ss h. h; whole = λ ss h. (ss, refl, h) }
-
 first_of : (s : Written) (ss : List Written) → list_all is_step (s ∷ ss) ≡ true → (is_step s ≡ true) × (list_all is_step ss ≡ true)
 first_of s ss h = elim (is_step s) as (λ t. (t && list_all is_step ss) ≡ true → (t ≡ true) × (list_all is_step ss ≡ true)) [ true ↦ λ k. (refl, k) | false ↦ λ k. cc ] h
 

@@ -14,11 +14,11 @@ use Rattle.wave_base.specs.Tree.{Tree, there}
 use Rattle.resolved_service.specs.Jobs.{only, move_ran}
 use Rattle.script_fold.specs.Lines.{FitsJob, line_by, most_jobs}
 use Rattle.script_fold.specs.Runs.{after_jobs, whole_run, hosts_after}
-use Rattle.script_fold.proofs.FoldLemmas.{All-drop_head}
+use Rattle.script_fold.proofs.LeftLemmas.{All-drop_head}
 use Rattle.script_fold.proofs.StepLemmas.{any_ticket}
 use Rattle.wave_states.specs.Alone.{run_alone, segments_of, fold_alone, job_after, places_alone}
 use Rattle.wave_states.specs.Work.{Work, moves_away, work_after, work_of_job}
-use Rattle.wave_theory.proofs.Sites.{old_same}
+use Rattle.wave_theory.proofs.Places.{old_same}
 use Rattle.code_actor.specs.CodeActors as code
 use Rattle.code_actor.specs.CodeActors.{Fields}
 use Rattle.plan_actors.specs.Calls.{code_ran, IsTree, segments_on}

@@ -16,7 +16,8 @@ use Rattle.wave_base.specs.Tree.{Tree}
 use Rattle.script_fold.specs.Lines.{Meaning, line_by, most_of, most_jobs, FitsJob}
 use Rattle.script_fold.specs.Owed.{Owed}
 use Rattle.script_fold.specs.Runs.{after_jobs, whole_run, finished_by, finished_of}
-use Rattle.script_fold.proofs.FoldLemmas.{IsGood, good_after, left_in, next_is, batches_most, All-drop_head}
+use Rattle.script_fold.proofs.FoldLemmas.{IsGood, good_after}
+use Rattle.script_fold.proofs.LeftLemmas.{left_in, next_is, batches_most, All-drop_head}
 use Rattle.wave_theory.proofs.Basics.{options, none_not}
 use Rattle.wave_theory.proofs.Folds.{with_done_done}
 

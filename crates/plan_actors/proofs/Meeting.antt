@@ -14,7 +14,8 @@ use Rattle.wave_base.specs.Places.{places_after, move_of}
 use Rattle.wave_base.specs.Starts.{start_tree, start_places}
 use Rattle.script_fold.specs.Lines.{FitsJob, line_by, most_jobs}
 use Rattle.script_fold.specs.Runs.{after_jobs, whole_run, hosts_after}
-use Rattle.script_fold.proofs.FoldLemmas.{IsGood, good_after, same_paths, room_after, All-drop_head}
+use Rattle.script_fold.proofs.FoldLemmas.{IsGood, good_after, same_paths, room_after}
+use Rattle.script_fold.proofs.LeftLemmas.{All-drop_head}
 use Rattle.wave_states.specs.Alone.{fold_alone, job_after, moves_in, places_alone, run_alone}
 use Rattle.wave_states.specs.Owes.{IsBegin, IsPlan}
 use Rattle.wave_states.proofs.Starts.{start_fits}

@@ -1,5 +1,5 @@
 -- Depth first, by the steps in their order, is the order of paths.
-use Rattle.std.proofs.Common.{◌≡◌, ℕ, zero, suc, ◌+◌, ◌*◌, ◌≤◌, ◌⊎◌, ◌||◌, inl, inr, true, false, List, [], ◌∷◌, ◌++◌, length, Option, Some, None, append_assoc, append-nil, length-append, refl, sym, ◌∙◌, ap, ap₂, subst, arith}
+use Rattle.std.proofs.Common.{◌≡◌, ℕ, zero, suc, ◌+◌, ◌*◌, ◌≤◌, ◌||◌, inl, inr, true, false, List, [], ◌∷◌, ◌++◌, length, Option, Some, None, append_assoc, append-nil, length-append, refl, sym, ◌∙◌, ap, ap₂, subst, arith}
 use Rattle.std.specs.List.{list_any, filter_map, AllByRecursion}
 use Rattle.std.specs.List.Sorted.{IsStrictlySortedBy}
 use Rattle.std.proofs.lemmas.List.Folds.{list_any-append}
@@ -13,7 +13,7 @@ use Rattle.wave_base.specs.PathLaws.{step_eq_ties, path_cmp_total}
 use Rattle.wave_base.specs.Tree.{Tree, there, children_of, child_step}
 use Rattle.wave_states.specs.Walkers.{depth_of, visit, with_children}
 use Rattle.wave_states.proofs.Children.{kids_in, kids_sorted}
-use Rattle.wave_theory.proofs.Basics.{bool_cases, clash, none_not, some_same, path_is, path_self}
+use Rattle.wave_theory.proofs.Basics.{clash, none_not, some_same, path_is, path_self}
 use Rattle.wave_theory.proofs.Paths.{or_is, or_left, or_right, parent_child, snoc, step_is, step_self}
 
 -- ---- the order of steps and of paths
@@ -107,16 +107,6 @@ sorted_same (x ∷ xs) (y ∷ ys) a b f g = ap₂ (λ v vs. v ∷ vs) heads (sor
 
 -- ---- children
 
-pub child_is : (p q : Path) (s : Step) → child_step p q ≡ Some s → q ≡ p ++ s ∷ []
-child_is [] [] s e = absurd (none_not e)
-child_is [] (t ∷ []) s e = ap (λ v. v ∷ []) (some_same t s e)
-child_is [] (t ∷ u ∷ q) s e = absurd (none_not e)
-child_is (x ∷ p) [] s e = absurd (none_not e)
-child_is (x ∷ p) (t ∷ q) s e = elim (bool_cases (step_eq x t)) [
-  | inr z ↦ absurd (none_not (let y : None ≡ Some s = rw z at e in y))
-  | inl z ↦ (let y : child_step p q ≡ Some s = rw z at e in ap₂ (λ a b. a ∷ b) (sym (step_is x t z)) (child_is p q s y))
-]
-
 child_of : (p : Path) (s : Step) → child_step p (p ++ s ∷ []) ≡ Some s
 child_of [] s = refl
 child_of (x ∷ p) s = rw (step_self x) (child_of p s)
@@ -165,11 +155,6 @@ module _ {F : Type 0} (tree : Tree F) where
   -- all of them begin with the context
   abbrev pub Under : Path → List Path → Type 0
   Under p ps = AllByRecursion (λ q. (r : Path) × (q ≡ p ++ r)) ps
-
-  -- of these children
-  Below : Path → List Step → Path → Type 0
-  Below p [] q = ⊥
-  Below p (s ∷ ss) q = ((r : Path) × (q ≡ p ++ s ∷ r)) ⊎ Below p ss q
 
   below_under : (v : Path → List Path) (p : Path) → ((s : Step) → Under (p ++ s ∷ []) (v (p ++ s ∷ []))) → (ss : List Step) → Under p (below v p ss)
   below_under v p f [] = tt

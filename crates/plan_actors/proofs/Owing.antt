@@ -51,9 +51,6 @@ module _ (program : Program) (fit : IsFit program) (verified : IsVerified progra
   abbrev Kept : Actor → Path → ℕ → Fields → List Step → Type 0
   Kept a p n f cs = Keeps (plan_kind program hosts) ((plan_actors program).segment a f cs).actor p n ((plan_actors program).segment a f cs).pause
 
-  no_more : {R : Type 0} (r : R) → All (IsJob program hosts) []
-  no_more r = All-nil (IsJob program hosts)
-
   event_over : (p : Path) (r : EventResult) → All (code.IsJob program) r.created × MovesOnly hosts p (move_of r) → All (IsJob program hosts) (created_lines r) × MovesOnly hosts p (move_of r)
   event_over p r h = (All-map (IsJob program hosts) (λ (c : Call). Request c) r.created h.0, h.1)
 

@@ -44,14 +44,3 @@ abbrev mutual
 
 abbrev pub tree_of : Expr → Tree
 tree_of e = node_tree e.node e.at
-
-abbrev pub place_of : Tree → Span
-place_of (Const at v) = at
-place_of (Local at s) = at
-place_of (Field at f) = at
-place_of (Above at l f) = at
-place_of (Op at r ts) = at
-place_of (And at a b) = at
-place_of (Or at a b) = at
-place_of (Call at m ts) = at
-place_of (Child at c m k ts) = at

@@ -28,7 +28,8 @@ use Rattle.resolved_service.specs.Jobs.{only, shot_of}
 use Rattle.script_fold.specs.Lines.{Meaning, line_by, most_jobs, FitsJob}
 use Rattle.script_fold.specs.Owed.{Owed, KeepsShape}
 use Rattle.script_fold.specs.Runs.{after_jobs, whole_run, hosts_after, place_of, finished_by, finished_of, start_after, IsFew}
-use Rattle.script_fold.proofs.FoldLemmas.{Next, next_keeps, grown, done_next, IsGood, good_after, hosts_push, line_joined, same_paths, All-drop_head}
+use Rattle.script_fold.proofs.LeftLemmas.{Next, next_keeps, grown, done_next, All-drop_head}
+use Rattle.script_fold.proofs.FoldLemmas.{IsGood, good_after, hosts_push, line_joined, same_paths}
 
 -- ---- hosts below a number
 

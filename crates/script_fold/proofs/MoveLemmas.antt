@@ -15,7 +15,7 @@ use Rattle.wave_base.specs.Fold.{Head, Ran, Progress, begun, next_batch, next_jo
 use Rattle.wave_base.specs.Tree.{Tree}
 use Rattle.script_fold.specs.Lines.{Meaning, line_by}
 use Rattle.script_fold.specs.Moves.{is_other, with_batch, without_moves, other_results, jobs_run, MovesAside}
-use Rattle.script_fold.proofs.FoldLemmas.{next_is}
+use Rattle.script_fold.proofs.LeftLemmas.{next_is}
 use Rattle.script_fold.proofs.StepLemmas.{any_ticket}
 
 -- ---- the jobs that wait, and the batches that have not begun

@@ -1,5 +1,5 @@
 -- A context that a job enters, and the end of the job.
-use Rattle.std.proofs.Common.{◌≡◌, ◌≢◌, ◌≤◌, ◌+◌, ◌==◌, ℕ, suc, Bool, true, false, if◌then◌else◌, refl, sym, ap, ◌∙◌, arith, eq-eqb, ne_eqb, add-zero}
+use Rattle.std.proofs.Common.{◌≡◌, ◌≢◌, ◌+◌, ◌==◌, ℕ, suc, Bool, true, false, if◌then◌else◌, refl, sym, ap, ◌∙◌, arith, eq-eqb, ne_eqb}
 use Rattle.std.proofs.lemmas.Bool.{eqb-false}
 use Rattle.wave_base.specs.declared.numbers.Host.{Host}
 use Rattle.script_fold.specs.declared.visits.Visit.{Visit}
@@ -26,12 +26,3 @@ seen_new n base m host h =
 
 pub seen_elsewhere : (n base : ℕ) (m : Bool) (v : Visit) (host : Host) → IsSeen n base m v → IsSeen n base m (record { host = host; load = v.load; last = v.last })
 seen_elsewhere n base m v host h = record { load = h.load; mark = h.mark; last = h.last; few = h.few }
-
--- the job is done
-pub seen_later : (n base : ℕ) (m : Bool) (v : Visit) → IsSeen n base m v → IsSeen (suc n) (base + (if m then 1 else 0)) false v
-seen_later n base m v h = record {
-  load = h.load ∙ sym (add-zero (base + (if m then 1 else 0)));
-  mark = sym (ne_eqb v.last (suc (suc n)) (λ e. omega (arith, e, h.last)));
-  last = omega (arith, h.last);
-  few = h.few;
-}

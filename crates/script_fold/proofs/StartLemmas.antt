@@ -1,13 +1,12 @@
 -- What a run begins with.
-use Rattle.std.proofs.Common.{◌≡◌, ◌<◌, ◌≤◌, ℕ, Bool, true, false, if◌then◌else◌, List, [], ◌∷◌, ◌++◌, length, All, nat_lt, refl, sym, ap, subst, ◌∙◌, arith, lt-ltb}
+use Rattle.std.proofs.Common.{◌≡◌, ◌<◌, ◌≤◌, ℕ, true, if◌then◌else◌, List, [], ◌∷◌, length, All, nat_lt, refl, sym, ap, subst, arith, lt-ltb}
 use Rattle.std.proofs.lemmas.List.Elements.{All-nil, All-cons, All-head, All-tail}
-use Rattle.std.proofs.lemmas.Option.{slice_get_within}
 use Rattle.wave_base.specs.declared.finished.Place.{Place}
 use Rattle.wave_base.specs.declared.path.Path.{Path}
 use Rattle.wave_base.specs.declared.script.Line.{Line}
 use Rattle.wave_base.specs.declared.shape.Shape.{Shape}
-use Rattle.wave_base.specs.Fold.{Head, next_batch, first_head, begun}
-use Rattle.wave_base.specs.Shapes.{IsShape, initial_fields}
+use Rattle.wave_base.specs.Fold.{next_batch, first_head, begun}
+use Rattle.wave_base.specs.Shapes.{initial_fields}
 use Rattle.wave_base.specs.Starts.{IsStart, first_start, start_tree, shown_fields}
 use Rattle.wave_base.specs.Trees.{FitsShape, first_tree}
 
@@ -20,9 +19,6 @@ first_again (b ∷ bs) h =
 pub first_full : (batches : List (List Line)) → All (λ (b : List Line). 0 < length b) batches → All (λ (b : List Line). 0 < length b) (first_head batches).later
 first_full [] h = All-nil (λ (b : List Line). 0 < length b)
 first_full (b ∷ bs) h = All-tail (λ (b : List Line). 0 < length b) b bs h
-
-pub has_root : (shape : Shape) → IsShape shape → 0 < length shape.classes
-has_root shape h = slice_get_within shape.classes 0 h.root.0 h.root.1
 
 -- the root's fields are the initial ones
 first_tree_is : (shape : Shape) → start_tree shape (first_start shape) ≡ first_tree shape

@@ -24,7 +24,8 @@ use Rattle.script_fold.specs.Owed.{Owed}
 use Rattle.script_fold.specs.Runs.{after_jobs, hosts_after, ticket_of}
 use Rattle.script_fold.specs.inner.Standing.{IsWaiting, IsAdmitted, IsKept, Stands, Ended}
 use Rattle.script_fold.specs.inner.Visiting.{Entries, IsVisited, IsMoveWithin}
-use Rattle.script_fold.proofs.FoldLemmas.{IsGood, good_after, good_ran, line_few, line_moved, hosts_push, there_move, All-drop_head, room_after}
+use Rattle.script_fold.proofs.FoldLemmas.{IsGood, good_after, good_ran, line_few, line_moved, hosts_push, there_move, room_after}
+use Rattle.script_fold.proofs.LeftLemmas.{All-drop_head}
 
 at_seam : (xs : List Line) (y : Line) (zs : List Line) → slice_get ((xs ++ y ∷ []) ++ zs) (length xs) ≡ Some y
 at_seam [] y zs = refl

@@ -1,6 +1,5 @@
 -- What is kept of hosts and loads after a change.
-use Rattle.std.proofs.Common.{◌≡◌, ◌+◌, ℕ, suc, Bool, true, false, cond, if◌then◌else◌, ◌||◌, List, [], ◌∷◌, ◌++◌, length, Option, Some, None, is_some, unwrap_or, refl, sym, ap, subst, subst₂, ◌∙◌, arith, length-append}
-use Rattle.std.proofs.lemmas.List.Sums.{sum_by_push}
+use Rattle.std.proofs.Common.{◌≡◌, ℕ, suc, Bool, true, false, cond, if◌then◌else◌, ◌||◌, List, [], ◌∷◌, ◌++◌, length, Option, Some, None, is_some, unwrap_or, refl, sym, ap, subst, subst₂, ◌∙◌}
 use Rattle.std.proofs.lemmas.Map.Made.{is_some-lookup}
 use Rattle.std.specs.BTreeMap.{is_at, insert_entry}
 use Rattle.std.specs.BTreeSet.{insert_key}
@@ -18,7 +17,7 @@ use Rattle.wave_base.specs.Places.{with_context, with_contexts, load_of}
 use Rattle.wave_base.specs.Tree.{Tree, there, enter, put}
 use Rattle.script_fold.specs.declared.visits.Visit.{Visit}
 use Rattle.script_fold.specs.inner.Visiting.{Entries, IsSeen, IsVisited, found, visit_at, visit_of, visit_by, counted, unseen}
-use Rattle.script_fold.proofs.SeenLemmas.{seen_counted, seen_new, seen_elsewhere, seen_later}
+use Rattle.script_fold.proofs.SeenLemmas.{seen_counted, seen_new, seen_elsewhere}
 
 pub parent_last : (p : List Step) (s : Step) → parent_of (p ++ s ∷ []) ≡ p
 parent_last [] s = refl
@@ -143,18 +142,6 @@ moved_visited hosts earlier es after p u host h f keys set =
 
 pub not_found : (hosts : Tree ℕ) (earlier : List (List Path)) (es : Entries) (p : Path) → IsVisited hosts earlier [] es → there hosts p ≡ true → found es p ≡ None → ⊥
 not_found hosts earlier es p h t f = let no : false ≡ true = ap is_some (sym f) ∙ there_is hosts es p h.paths ∙ t in cc
-
--- a job is done
-pub done_visited : (hosts : Tree ℕ) (earlier : List (List Path)) (now : List Path) (es : Entries) → IsVisited hosts earlier now es → IsVisited hosts (earlier ++ now ∷ []) [] es
-done_visited hosts earlier now es h = record {
-  paths = h.paths;
-  sorted = h.sorted;
-  host = h.host;
-  seen = λ p.
-      let more : length (earlier ++ now ∷ []) ≡ suc (length earlier) = omega (arith, length-append earlier (now ∷ [])) in
-      let loads : load_of (earlier ++ now ∷ []) p ≡ load_of earlier p + (if list_any (path_eq p) now then 1 else 0) = sum_by_push (λ ps. cond (list_any (path_eq p) ps) 1 0) earlier now in
-      subst₂ (λ n base. IsSeen n base false (visit_at es p)) (sym more) (sym loads) (seen_later (length earlier) (load_of earlier p) (list_any (path_eq p) now) (visit_at es p) (h.seen p));
-}
 
 pub contexts_push : (t : Tree ℕ) (ps : List Path) (p : Path) → with_contexts t (ps ++ p ∷ []) ≡ with_context (with_contexts t ps) p
 contexts_push t [] p = refl

@@ -24,7 +24,6 @@ use Rattle.wave_text.specs.Numbers.{whole_of, number_of}
 use Rattle.path_text.proofs.PathLemmas.{chained, mapped, steps_are}
 use Rattle.path_text.specs.declared.written.Written.{Written}
 use Rattle.path_text.specs.Paths.{path_of, steps_below}
-use Rattle.script_reader.specs.declared.earlier.Earlier.{Earlier}
 use Rattle.script_reader.specs.declared.error.Fault.{Fault}
 use Rattle.script_reader.specs.declared.error.Fault.TheVariants.{ArgCount, HostRange, HostsLate, TooMany}
 use Rattle.script_reader.specs.declared.form.Form.{Form}
@@ -37,7 +36,7 @@ use Rattle.script_reader.specs.declared.said.Said.TheVariants.{Nothing, Unknown,
 use Rattle.script_reader.specs.declared.taken.Taken.{Taken}
 use Rattle.script_reader.specs.declared.taken.Taken.TheVariants.{Skipped, Hosts, Event, Settle}
 use Rattle.script_reader.specs.Judged.{value_of, values_of, call_with, call_of, has_name, params_in, call_at, requested, move_to, as_event, judged_event, judged_hosts, judged_form}
-use Rattle.script_reader.specs.inner.Progressed.{with_taken, progress_of}
+use Rattle.script_reader.specs.inner.Progressed.{with_taken}
 use Rattle.script_reader.specs.Scripts.{judged, with_batch, script_with}
 use Rattle.script_reader.specs.inner.Steps.{IsStep}
 
@@ -50,18 +49,6 @@ pub record Fits (shape : Shape) (p : Progress) : Type 0 where
   pub count : sum_by length p.closed + length p.open_lines ≤ p.events
   pub few : p.events ≤ EVENT_LINES
   pub fresh : p.begun ≡ false → (p.closed ≡ []) × (p.open_lines ≡ [])
-
-pub first_fits : (shape : Shape) (earlier : Earlier) → 1 ≤ earlier.hosts → earlier.hosts ≤ HOSTS → earlier.events ≤ EVENT_LINES → Fits shape (progress_of earlier [])
-first_fits shape earlier some few lines = record {
-  some_host = some;
-  few_hosts = few;
-  closed_fit = All-nil (All (FitsLine shape earlier.hosts));
-  open_fit = All-nil (FitsLine shape earlier.hosts);
-  full = All-nil (λ (b : List Line). 0 < length b);
-  count = omega arith;
-  few = omega arith;
-  fresh = λ e. (refl, refl);
-}
 
 -- ---- calls
 

@@ -1,5 +1,5 @@
 -- The forms of lines, and what lines say.
-use Rattle.std.proofs.Common.{◌≡◌, ◌-◌, ◌≤◌, ℕ, true, false, List, [], ◌∷◌, length, take, drop, get_or, refl, sym, ap, subst, ◌∙◌, arith}
+use Rattle.std.proofs.Common.{◌≡◌, ◌-◌, ◌≤◌, ℕ, false, List, [], ◌∷◌, length, take, drop, get_or, refl, sym, ap, subst, ◌∙◌, arith}
 use Rattle.std.specs.Prelude.{codes}
 use Rattle.std.specs.List.{list_all}
 use Rattle.std.proofs.lemmas.Bool.{and_parts}
@@ -25,14 +25,6 @@ no_move rest none Snapshot h = cc (h.word_is)
 no_move rest none Settle h = cc (h.word_is)
 
 -- ---- what a line says
-
-pub says_nothing : (line : List ℕ) → is_skipped line ≡ true → IsOnlySaid line Nothing
-says_nothing line h = (h, λ other k. by_said other k)
-  where
-    by_said : (other : Said) → IsSaid line other → other ≡ Nothing
-    by_said Nothing k = refl
-    by_said Unknown k = absurd (cc (sym h ∙ k.0))
-    by_said (Says f) k = absurd (cc (sym h ∙ k.0))
 
 -- no form at all
 says_unknown : (line : List ℕ) → is_skipped line ≡ false → HasNoForm line → IsOnlySaid line Unknown

@@ -9,7 +9,7 @@ use Rattle.script_reader.specs.declared.form.Literal.TheVariants.{Number, Truth,
 use Rattle.script_reader.specs.declared.piece.Piece.{Piece}
 use Rattle.script_reader.specs.declared.piece.Piece.TheVariants.{Run, Text, Open, Close, Comma}
 use Rattle.script_reader.specs.Forms.{literal_piece, is_literal, more_pieces, literal_pieces, truth_word}
-use Rattle.script_reader.specs.inner.Parts.{IsLiteralPiece, IsNoLiteralPiece, AreLiterals, AreOnlyLiterals, AreNoLiterals, More, End, Wrong, behind_in}
+use Rattle.script_reader.specs.inner.Parts.{IsLiteralPiece, AreLiterals, AreOnlyLiterals, More, End, behind_in}
 
 -- ---- one piece spells one literal
 
@@ -63,13 +63,6 @@ pub record AreLiteralsTo (pieces : List Piece) (front : List Literal) (rest : Li
   pub sound : (a : Literal) (ls : List Literal) → AreLiterals rest (a ∷ ls) → AreLiterals pieces (front ++ a ∷ ls)
   pub whole : (ls : List Literal) → AreLiterals pieces ls → (a : Literal) × (us : List Literal) × (ls ≡ front ++ a ∷ us) × AreLiterals rest (a ∷ us)
 
-pub none_read : (pieces : List Piece) → (pieces ≡ Close ∷ [] → ⊥) → AreLiteralsTo pieces [] pieces
-none_read pieces some = record { sound = λ a ls h. h; whole = by_literals }
-  where
-    by_literals : (ls : List Literal) → AreLiterals pieces ls → (a : Literal) × (us : List Literal) × (ls ≡ a ∷ us) × AreLiterals pieces (a ∷ us)
-    by_literals [] h = absurd (some (sym h.pieces_are))
-    by_literals (a ∷ us) h = (a, us, refl, h)
-
 -- the first literal is what the first piece spells
 first_piece_is : (piece : Piece) (after : List Piece) (a : Literal) (us : List Literal) → AreLiterals (piece ∷ after) (a ∷ us) → IsLiteralPiece piece a × (more_pieces us ≡ after) × (list_all is_literal us ≡ true)
 first_piece_is piece after a us h =
@@ -113,16 +106,3 @@ all_read pieces after front front' piece a h p b e =
     by_literals c (d ∷ vs) ls q k =
         let f = first_piece_is piece after c (d ∷ vs) k in
         absurd (cc (f.1, end_behind after b))
-
-pub wrong_behind : (pieces after : List Piece) (front : List Literal) (piece : Piece) → AreLiteralsTo pieces front (piece ∷ after) → behind_in after ≡ Wrong → AreNoLiterals pieces
-wrong_behind pieces after front piece h b ls k = (let w = h.whole ls k in by_literals w.0 w.1 w.3)
-  where
-    by_literals : (c : Literal) (us : List Literal) → AreLiterals (piece ∷ after) (c ∷ us) → ⊥
-    by_literals c [] k = (let f = first_piece_is piece after c [] k in absurd (cc (ap behind_in f.1, b)))
-    by_literals c (d ∷ vs) k = (let f = first_piece_is piece after c (d ∷ vs) k in absurd (cc (ap behind_in f.1, b)))
-
-pub no_literal : (pieces after : List Piece) (front : List Literal) (piece : Piece) → AreLiteralsTo pieces front (piece ∷ after) → IsNoLiteralPiece piece → AreNoLiterals pieces
-no_literal pieces after front piece h none ls k = (let w = h.whole ls k in none w.0 (first_piece_is piece after w.0 w.1 w.3).0)
-
-pub no_piece : (pieces rest : List Piece) (front : List Literal) → AreLiteralsTo pieces front rest → rest ≡ [] → AreNoLiterals pieces
-no_piece pieces rest front h e ls k = (let w = h.whole ls k in absurd (cc (w.3.pieces_are, e)))

@@ -11,9 +11,6 @@ pub record ArePiecesTo (line : List ℕ) (front : List Piece) (rest : List ℕ) 
   pub sound : (ps : List Piece) → ArePiecesOf rest ps → ArePieces line (front ++ ps)
   pub whole : (ps : List Piece) → ArePieces line ps → (us : List Piece) × (ps ≡ front ++ us) × ArePiecesOf rest us
 
-pub none_read : (line : List ℕ) → ArePiecesTo line [] (without_blanks line)
-none_read line = record { sound = λ ps h. h; whole = λ ps h. (ps, refl, h) }
-
 pub piece_read : (line rest after : List ℕ) (front front' : List Piece) (p : Piece) → ArePiecesTo line front rest → IsOnlyFront rest p after → front' ≡ front ++ p ∷ [] → ArePiecesTo line front' (without_blanks after)
 piece_read line rest after front front' p h f e = record {
   sound = λ ps a. subst (ArePieces line) (sym (append_assoc front (p ∷ []) ps) ∙ ap (λ z. z ++ ps) (sym e)) (h.sound (p ∷ ps) (after, f.front, a));

@@ -3,12 +3,10 @@ use Rattle.std.proofs.Common.{◌≡◌, ◌+◌, ◌++◌, ℕ, true, cond, Lis
 use Rattle.std.proofs.lemmas.List.Sums.{sum_by-cons}
 use Rattle.wave_base.specs.declared.script.Script.{Script}
 use Rattle.wave_base.specs.declared.shape.Shape.{Shape}
-use Rattle.wave_text.specs.Lines.{lines_of}
 use Rattle.script_reader.specs.declared.earlier.Earlier.{Earlier}
 use Rattle.script_reader.specs.declared.error.Fault.{Fault}
 use Rattle.script_reader.specs.declared.error.Fault.TheVariants as fault
 use Rattle.script_reader.specs.declared.error.ScriptError.{ScriptError}
-use Rattle.script_reader.specs.declared.error.ScriptError.TheVariants as error
 use Rattle.script_reader.specs.declared.progress.Progress.{Progress}
 use Rattle.script_reader.specs.declared.said.Said.{Said}
 use Rattle.script_reader.specs.declared.taken.Taken.{Taken}
@@ -16,19 +14,16 @@ use Rattle.script_reader.specs.declared.taken.Taken.TheVariants.{Skipped, Hosts,
 use Rattle.std.specs.Prelude.{count_by}
 use Rattle.script_reader.specs.Judged.{is_event, hosts_of, event_lines}
 use Rattle.script_reader.specs.inner.Progressed.{progress_of, with_taken}
-use Rattle.script_reader.specs.Scripts.{closed_batches, open_batch, judged, IsOnlySaid, judged_after, Goes, IsRead, IsScriptOf, IsAnswer, script_of, refused}
+use Rattle.script_reader.specs.Scripts.{closed_batches, open_batch, judged, IsOnlySaid, judged_after, Goes, IsRead, refused}
 use Rattle.script_reader.specs.declared.refusal.Refusal.{Refusal}
 use Rattle.script_reader.specs.declared.refusal.Refusal.TheVariants as refusal
 use Rattle.script_reader.specs.inner.Gives.{Gives}
-use Rattle.script_reader.specs.inner.Steps.{IsStep, IsRefused, IsStop, stopped}
+use Rattle.script_reader.specs.inner.Steps.{IsStep, IsStop, stopped}
 
 -- these lines were read, the last one first, and these ones are left
 pub record AreReadTo (shape : Shape) (earlier : Earlier) (lines : List (List ℕ)) (before : List Taken) (left : List (List ℕ)) : Type 0 where
   pub sound : (r : Result Script ScriptError) → IsRead shape earlier before left r → IsRead shape earlier [] lines r
   pub whole : (r : Result Script ScriptError) → IsRead shape earlier [] lines r → IsRead shape earlier before left r
-
-pub none_read : (shape : Shape) (earlier : Earlier) (lines : List (List ℕ)) → AreReadTo shape earlier lines [] lines
-none_read shape earlier lines = record { sound = λ r h. h; whole = λ r h. h }
 
 abbrev After : Shape → Earlier → List Taken → List (List ℕ) → Result Script ScriptError → Result Taken Fault → Type 0
 After shape earlier before left r x = Goes x (λ t. IsRead shape earlier (t ∷ before) left r) (λ f. r ≡ Err (refused f (length before + 1)))
@@ -43,31 +38,7 @@ line_read shape earlier lines left before line said t h o e = record {
       subst (After shape earlier before left r) (ap (judged_after shape earlier before) same ∙ e) w.2;
 }
 
-pub line_refused : (shape : Shape) (earlier : Earlier) (text : List ℕ) (left : List (List ℕ)) (before : List Taken) (line : List ℕ) (said : Said) (f : Fault) → AreReadTo shape earlier (lines_of text) before (line ∷ left) → IsOnlySaid line said → judged_after shape earlier before said ≡ Err f
-    → IsScriptOf shape earlier text (Err (refused f (length before + 1)))
-line_refused shape earlier text left before line said f h o e = record {
-  read = h.sound (Err (refused f (length before + 1))) (said, o.0, subst (After shape earlier before left (Err (refused f (length before + 1)))) (sym e) refl);
-  only = λ r k.
-      let w = h.whole r k in
-      let same : w.0 ≡ said = o.1 w.0 w.1 in
-      subst (After shape earlier before left r) (ap (judged_after shape earlier before) same ∙ e) w.2;
-}
-
-pub all_read : (shape : Shape) (earlier : Earlier) (text : List ℕ) (before : List Taken) → AreReadTo shape earlier (lines_of text) before [] → IsScriptOf shape earlier text (Ok (script_of earlier before))
-all_read shape earlier text before h = record { read = h.sound (Ok (script_of earlier before)) refl; only = λ r k. h.whole r k }
-
 -- ---- what is said of an error
-
-pub error_answer : (shape : Shape) (earlier : Earlier) (text line : List ℕ) (before : Progress) (n : ℕ) (e : ScriptError) → IsStop shape line before n e → (IsRefused shape line before n e → IsScriptOf shape earlier text (Err e)) → IsAnswer shape earlier text (Err e)
-error_answer shape earlier text line before n (error.UnknownCommand k) s f = f s
-error_answer shape earlier text line before n (error.UnknownEvent k) s f = f s
-error_answer shape earlier text line before n (error.ArgCount k) s f = f s
-error_answer shape earlier text line before n (error.ArgType k) s f = f s
-error_answer shape earlier text line before n (error.BadPath k) s f = f s
-error_answer shape earlier text line before n (error.HostRange k) s f = f s
-error_answer shape earlier text line before n (error.HostsLate k) s f = f s
-error_answer shape earlier text line before n (error.TooMany k) s f = f s
-error_answer shape earlier text line before n error.OutOfMemory s f = tt
 
 pub refused_stop : (shape : Shape) (line : List ℕ) (before : Progress) (n : ℕ) (s : Said) (f : Fault) → IsOnlySaid line s → judged shape before.hosts before.begun before.events s ≡ Err f → IsStop shape line before n (refused f n)
 refused_stop shape line before n s fault.UnknownCommand o e = record { said = s; fault = fault.UnknownCommand; says = o; judged_is = e; error_is = refl }
@@ -102,12 +73,3 @@ pub step_read : (shape : Shape) (earlier : Earlier) (lines left : List (List ℕ
 step_read shape earlier lines left before line p q h e s =
     let s' = subst (λ z. IsStep shape line z q) e s in
     (s'.taken, s'.after_is ∙ one_more earlier before s'.taken, line_read shape earlier lines left before line s'.said s'.taken h s'.says s'.judged_is)
-
-pub step_refused : (shape : Shape) (earlier : Earlier) (text : List ℕ) (left : List (List ℕ)) (before : List Taken) (line : List ℕ) (p : Progress) (n : ℕ) (e : ScriptError) → AreReadTo shape earlier (lines_of text) before (line ∷ left) → p ≡ progress_of earlier before → n ≡ length before + 1
-    → IsStop shape line p n e → IsAnswer shape earlier text (Err e)
-step_refused shape earlier text left before line p n e h same number s = error_answer shape earlier text line p n e s refusal
-  where
-    refusal : IsRefused shape line p n e → IsScriptOf shape earlier text (Err e)
-    refusal r =
-        let r' = subst (λ z. IsRefused shape line z n e) same r in
-        subst (λ z. IsScriptOf shape earlier text (Err z)) (ap (refused r'.fault) (sym number) ∙ sym r'.error_is) (line_refused shape earlier text left before line r'.said r'.fault h r'.says r'.judged_is)

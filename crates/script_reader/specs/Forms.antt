@@ -79,9 +79,6 @@ pub record HasForm (line : List ℕ) (form : Form) : Type 0 where
   pub cut : ArePieces line (Run (form_word form) ∷ form_rest form)
   pub form_is : is_form form ≡ true
 
-abbrev pub HasOnlyForm : List ℕ → Form → Type 0
-HasOnlyForm line form = HasForm line form × ((other : Form) → HasForm line other → other ≡ form)
-
 abbrev pub HasNoForm : List ℕ → Type 0
 HasNoForm line = (form : Form) → HasForm line form → ⊥
 

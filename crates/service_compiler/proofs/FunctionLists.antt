@@ -2,7 +2,6 @@
 use Rattle.std.proofs.Common.{◌≡◌, ℕ, zero, suc, ◌+◌, ◌<◌, ◌≤◌, min, List, [], ◌∷◌, ◌++◌, length, map, take, drop, get_or, Some, refl, sym, ap, ◌∙◌, subst, arith, append_assoc, length-append}
 use Rattle.std.specs.Prelude.{slice_get}
 use Rattle.std.proofs.lemmas.List.{length-map}
-use Rattle.std.proofs.lemmas.List.Elements.{All-push}
 use Rattle.wave_base.specs.declared.limits.TheConstants.{INSTRUCTIONS}
 use Rattle.wave_base.specs.declared.shape.EventInfo.{EventInfo}
 use Rattle.wave_base.specs.declared.shape.Shape.{Shape}
@@ -16,22 +15,9 @@ use Rattle.code_scheme.specs.Scheme.{method_code, event_code}
 use Rattle.code_scheme.specs.Texts.{Text, service_texts}
 use Rattle.service_compiler.specs.declared.error.CompileError.{CompileError}
 use Rattle.service_compiler.specs.declared.error.CompileError.TheVariants.{CodeTooLong, OutOfMemory}
-use Rattle.service_compiler.specs.Faults.{AreShort, IsShort, IsLong, Adds, IsFirstLong, HasLong, Refuses}
-
-none_more : {A : Type 0} (l : List A) → l ++ [] ≡ l
-none_more [] = refl
-none_more (x ∷ l) = ap (λ m. x ∷ m) (none_more l)
+use Rattle.service_compiler.specs.Faults.{AreShort, IsLong, Adds, IsFirstLong, HasLong, Refuses}
 
 -- ---- one function more
-
-pub adds_none : (old : List Function) → AreShort old → Adds old [] old
-adds_none old h = record { is = sym (none_more old); short = h }
-
-pub adds_one : (old new : List Function) (f due : Function) → AreShort old → IsShort f due → new ≡ old ++ f ∷ [] → Adds old (due ∷ []) new
-adds_one old new f due h s e = record {
-  is = e ∙ ap (λ g. old ++ g ∷ []) s.is;
-  short = subst AreShort (sym e) (All-push (λ (g : Function). length g.code ≤ INSTRUCTIONS) old f h s.short);
-}
 
 pub adds_then : (old a b c d : List Function) → Adds old a c → Adds c b d → Adds old (a ++ b) d
 adds_then old a b c d x y = record { is = y.is ∙ ap (λ l. l ++ b) x.is ∙ append_assoc old a b; short = y.short }
@@ -49,14 +35,6 @@ map_append g (x ∷ xs) ys = ap (λ l. g x ∷ l) (map_append g xs ys)
 
 pub map_at : {A B : Type 0} (g : A → B) (xs : List A) (k : ℕ) (x : A) → k < length xs → x ≡ get_or xs k x → map g xs ≡ map g (take k xs) ++ g x ∷ map g (drop (suc k) xs)
 map_at g xs k x lt at = ap (map g) (split_at xs k x lt at) ∙ map_append g (take k xs) (x ∷ drop (suc k) xs)
-
-map_next_suc : {A B : Type 0} (g : A → B) (xs : List A) (k : ℕ) (x : A) → k < length xs → x ≡ get_or xs k x → map g (take (suc k) xs) ≡ map g (take k xs) ++ g x ∷ []
-map_next_suc g [] k x lt at = absurd (omega (arith, lt))
-map_next_suc g (y ∷ xs) zero x lt at = ap (λ z. g z ∷ []) (sym at)
-map_next_suc g (y ∷ xs) (suc k) x lt at = ap (λ l. g y ∷ l) (map_next_suc g xs k x (omega (arith, lt)) at)
-
-pub map_next : {A B : Type 0} (g : A → B) (xs : List A) (k : ℕ) (x : A) → k < length xs → x ≡ get_or xs k x → map g (take (k + 1) xs) ≡ map g (take k xs) ++ g x ∷ []
-map_next g xs k x lt at = let e : k + 1 ≡ suc k = omega arith in ap (λ n. map g (take n xs)) e ∙ map_next_suc g xs k x lt at
 
 module _ (methods : List Method) (texts : List Text) where
   pub events_at : (is : List EventInfo) (es : List Event) (k : ℕ) (i : EventInfo) (e : Event) → k < length is → k < length es → i ≡ get_or is k i → e ≡ get_or es k e →

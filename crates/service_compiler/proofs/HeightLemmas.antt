@@ -1,5 +1,5 @@
 -- Heights of stacks: counted up to 65,535, of items one after the other, and never above the length of the code.
-use Rattle.std.proofs.Common.{◌≡◌, ℕ, suc, ◌+◌, ◌-◌, ◌^◌, ◌<◌, ◌≤◌, max, min, List, [], ◌∷◌, ◌++◌, length, map, take, get_or, Option, Some, None, Bool, true, false, ap, arith}
+use Rattle.std.proofs.Common.{◌≡◌, ℕ, ◌+◌, ◌-◌, ◌^◌, ◌<◌, ◌≤◌, max, min, List, [], ◌∷◌, ◌++◌, length, map, take, get_or, Option, Some, None, Bool, true, false, ap, arith}
 use Rattle.std.proofs.lemmas.List.{length-take}
 use Rattle.resolved_service.specs.declared.expr.Expr.{Expr}
 use Rattle.resolved_service.specs.declared.service.Event.{Event}
@@ -12,7 +12,7 @@ use Rattle.code_scheme.specs.Heights.{one_if, tree_height, trees_height, maybe_h
 use Rattle.code_scheme.specs.Scheme.{leaves_value, method_code, event_code}
 use Rattle.code_scheme.specs.Texts.{Text}
 use Rattle.service_compiler.specs.inner.Fronts.{ended_behind}
-use Rattle.service_compiler.specs.inner.Lengths.{tree_length, trees_length, maybe_length, unless, step_length, steps_length, else_length, end_length, phases_length}
+use Rattle.service_compiler.specs.inner.Lengths.{tree_length, trees_length, maybe_length, step_length, steps_length, else_length, end_length, phases_length}
 use Rattle.service_compiler.proofs.LengthLemmas.{method_counted, event_counted}
 use Rattle.service_compiler.proofs.Notes.{item_more}
 
@@ -101,9 +101,6 @@ module _ (methods : List Method) where
 
 pub capped_max : (x y a b : ℕ) → x ≡ min a 65535 → y ≡ min b 65535 → max x y ≡ min (max a b) 65535
 capped_max x y a b e f = omega (arith, e, f)
-
-pub capped_more : (x a : ℕ) → x ≡ min a 65535 → min (x + 1) (2 ^ 16 - 1) ≡ min (suc a) 65535
-capped_more x a e = omega (arith, e)
 
 -- short code is not as high as that
 pub capped_same : (x a size : ℕ) → x ≡ min a 65535 → a ≤ size → size ≤ 65535 → x ≡ a

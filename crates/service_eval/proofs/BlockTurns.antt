@@ -4,11 +4,9 @@ use Rattle.std.proofs.lemmas.Result.{on_ok_weaker}
 use Rattle.wave_base.specs.declared.limits.TheConstants.{TICKS}
 use Rattle.wave_base.specs.declared.value.Value.{Value}
 use Rattle.wave_base.specs.Tree.{Tree}
-use Rattle.wave_base.specs.declared.shape.Shape.{Shape}
 use Rattle.context_tree.specs.Contexts.{Contexts, tree_of as shown}
-use Rattle.resolved_service.specs.Meaning.{Outcome, Done, value, called}
+use Rattle.resolved_service.specs.Meaning.{Done, value, called}
 use Rattle.resolved_service.specs.View.{Tree as Tree'}
-use Rattle.resolved_service.specs.World.{World}
 use Rattle.resolved_service.specs.Steps.{Step}
 use Rattle.service_eval.specs.declared.code.Code.{Code}
 use Rattle.service_eval.specs.declared.machine.Machine.{Machine}
@@ -18,7 +16,6 @@ use Rattle.service_eval.specs.Items.{Item, Eval, Begin}
 use Rattle.service_eval.specs.Machines.{Mach, mach_of, state_of, on_top, before_all, with_value, comes_to}
 use Rattle.service_eval.specs.Ready.{Ready, Turned}
 use Rattle.service_eval.specs.Turns.{mach, IsNext, Goes}
-use Rattle.service_eval.specs.Worlds.{Holds, Fails}
 use Rattle.service_eval.proofs.EvalLemmas.{found_value}
 use Rattle.service_eval.proofs.FinishTurns.{goes_from}
 use Rattle.service_eval.proofs.ReadyLemmas.{ready_with, turned}
@@ -49,7 +46,3 @@ module _ (code : Code) (contexts : Contexts) (m m1 : Machine) (t : Tree') (items
   then_goes found contexts' m' r h =
       goes_from code (on_top (Eval t) (before_all items (mach code contexts m))) (before_all items (mach code contexts m1)) r (mach code contexts' m')
       (found_value code.methods.now (before_all items (mach code contexts m)) t v found ∙ ap (λ x. comes_to code.methods.now (before_all items x)) (sym gave)) h
-
--- where memory was wanting
-pub wanted : {A : Type 0} (shape : Shape) (o : Outcome A) (e : Stop) (w : World) → e ≡ stop.OutOfMemory → Holds shape w.tree → Fails o e w × Holds shape w.tree
-wanted shape o e w h holds = (subst (λ e. Fails o e w) (sym h) tt, holds)

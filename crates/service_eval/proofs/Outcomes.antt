@@ -127,9 +127,6 @@ module _ (vs xs : List Value) where
   pub first_upon : (x : Value) → own 0 (length vs) (vs ++ x ∷ xs) ≡ x
   first_upon x = ap (λ ys. get_or ys 0 nothing) (drop-append_seam vs (x ∷ xs))
 
-  pub second_upon : (x y : Value) → own 1 (length vs) (vs ++ x ∷ y ∷ xs) ≡ y
-  second_upon x y = ap (λ ys. get_or ys 1 nothing) (drop-append_seam vs (x ∷ y ∷ xs))
-
 pub rest_upon : (vs xs : List Value) (x : Value) → drop (suc (length vs)) (vs ++ x ∷ xs) ≡ xs
 rest_upon [] xs x = refl
 rest_upon (v ∷ vs) xs x = rest_upon vs xs x

@@ -1,5 +1,5 @@
 -- A phase of an event: its key, the way down, its statements, and then the other phases.
-use Rattle.std.proofs.Common.{◌≡◌, ℕ, ◌≤◌, List, ◌∷◌, Option, Result, Ok, Err, refl, sym, ap, subst, ◌∙◌, arith}
+use Rattle.std.proofs.Common.{◌≡◌, ◌≤◌, List, ◌∷◌, Option, Result, Ok, Err, refl, sym, ap, subst, ◌∙◌, arith}
 use Rattle.wave_base.specs.declared.limits.TheConstants.{TICKS}
 use Rattle.wave_base.specs.declared.path.Path.{Path}
 use Rattle.wave_base.specs.declared.value.Value.{Value}
@@ -25,8 +25,6 @@ same_comes o o' (Ok a) st e h = e ∙ h
 same_comes o o' (Err x) st e h = subst (λ o. Fails o x st.world) (sym e) h
 
 module _ (methods : List Method) (f : Phase) (fs : List Phase) (last : Option Last) (p : Path) (st : State) (few : st.world.ticks ≤ TICKS) where
-  abbrev call : ℕ → Path → List Value → Act (Option Value)
-  call = called methods TICKS
 
   abbrev whole : Outcome (Option Value)
   whole = phases_run (called methods TICKS) TICKS (f ∷ fs) last p st

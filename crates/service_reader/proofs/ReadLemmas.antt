@@ -1,5 +1,5 @@
 -- A text is read in one way.
-use Rattle.std.proofs.Common.{◌≡◌, ◌≢◌, ℕ, suc, ◌+◌, ◌<◌, ◌≤◌, inl, inr, List, [], length, Result, Ok, Err, Bool, false, refl, sym, ◌∙◌, subst, ap, arith}
+use Rattle.std.proofs.Common.{◌≡◌, ◌≢◌, ℕ, suc, ◌+◌, ◌≤◌, inl, inr, List, [], length, Result, Ok, Err, Bool, false, refl, sym, ◌∙◌, subst, ap, arith}
 use mathlib.Core.Bool.{true≢false}
 use Rattle.wave_base.specs.declared.span.Span.{Span}
 use Rattle.wave_base.specs.declared.limits.TheConstants.{SERVICE_BYTES}
@@ -8,7 +8,7 @@ use Rattle.mace_lexer.specs.declared.fault.LexError.TheVariants as lex
 use Rattle.mace_lexer.specs.declared.token.Token.{Token}
 use Rattle.mace_lexer.specs.declared.keyword.Keyword.TheVariants as key
 use Rattle.mace_lexer.specs.Lexed as lexed
-use Rattle.mace_lexer.proofs.CutLemmas.{one_cutting, no_fault, one_fault}
+use Rattle.mace_lexer.proofs.CutLemmas.{one_cutting, no_fault}
 use Rattle.mace_ast.specs.declared.service.Service.{Service}
 use Rattle.mace_ast.specs.Decls.{ServiceTree, service_tree}
 use Rattle.mace_grammar.specs.inner.Classes as classes
@@ -26,7 +26,7 @@ use Rattle.mace_parser.specs.declared.fault.ParseError.TheVariants as parse
 use Rattle.mace_parser.specs.Parsed as parsed
 use Rattle.service_reader.specs.declared.fault.TextFault.{TextFault}
 use Rattle.service_reader.specs.declared.fault.TextFault.TheVariants as fault
-use Rattle.service_reader.specs.Parsing.{IsService, IsLexFault, IsParseFault, Parses, IsOnlyParse, lexer_had_no_memory, parser_had_no_memory}
+use Rattle.service_reader.specs.Parsing.{IsService, IsLexFault, IsParseFault, Parses, IsOnlyParse, parser_had_no_memory}
 
 -- ---- trees
 
@@ -65,16 +65,6 @@ told_fault text lex.OutOfMemory n h = absurd (n refl)
 
 cut_or_fault : (text : List ℕ) (ts : List Token) (e : LexError) → lexed.AreTokens text ts → IsLexFault text e → ⊥
 cut_or_fault text ts e cut f = let told = told_fault text e f.known f.told in no_fault cut told.2
-
-one_lex_fault : (text : List ℕ) (e k : LexError) → IsLexFault text e → IsLexFault text k → e ≡ k
-one_lex_fault text e k a b =
-    let x = told_fault text e a.known a.told in
-    let y = told_fault text k b.known b.told in
-    let same = one_fault x.2 y.2 in
-    x.3 ∙ (λ i. lexed.error_of (same.0 i) (same.1 i)) ∙ sym y.3
-
-pub lexer_told : (e : LexError) (b : Bool) → b ≡ lexer_had_no_memory e → b ≡ false → e ≢ lex.OutOfMemory
-lexer_told e b h n same = true≢false (sym (ap lexer_had_no_memory same) ∙ sym h ∙ n)
 
 pub parser_told : (e : ParseError) (b : Bool) → b ≡ parser_had_no_memory e → b ≡ false → e ≢ parse.OutOfMemory
 parser_told e b h n same = true≢false (sym (ap parser_had_no_memory same) ∙ sym h ∙ n)
@@ -137,26 +127,3 @@ refused_so text tokens e short cut p known told = record { is_so = so; only = ot
     others (Err fault.OutOfMemory) h = absurd h
 
 -- ---- what the lexer answers, and a text that is too long
-
-pub lex_refused_so : (text : List ℕ) (e : LexError) → length text ≤ SERVICE_BYTES → e ≢ lex.OutOfMemory → lexed.TellsFault text e → IsOnlyParse text (Err (fault.Lex e))
-lex_refused_so text e short known told = record { is_so = so; only = others }
-  where
-    so : IsLexFault text e
-    so = record { short = short; known = known; told = told }
-
-    others : (other : Result ServiceTree TextFault) → Parses text other → other ≡ Err (fault.Lex e)
-    others (Ok t) h = absurd (cut_or_fault text h.tokens e h.cut so)
-    others (Err fault.TooLarge) h = absurd (omega arith)
-    others (Err (fault.Lex k)) h = ap (λ x. Err (fault.Lex x)) (one_lex_fault text k e h so)
-    others (Err (fault.Parse k)) h = absurd (cut_or_fault text h.tokens e h.cut so)
-    others (Err fault.OutOfMemory) h = absurd h
-
-pub long_so : (text : List ℕ) → SERVICE_BYTES < length text → IsOnlyParse text (Err fault.TooLarge)
-long_so text long = record { is_so = long; only = others }
-  where
-    others : (other : Result ServiceTree TextFault) → Parses text other → other ≡ Err fault.TooLarge
-    others (Ok t) h = absurd (omega (arith, h.short))
-    others (Err fault.TooLarge) h = refl
-    others (Err (fault.Lex k)) h = absurd (omega (arith, h.short))
-    others (Err (fault.Parse k)) h = absurd (omega (arith, h.short))
-    others (Err fault.OutOfMemory) h = absurd h

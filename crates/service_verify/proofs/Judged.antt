@@ -23,6 +23,3 @@ ok_same x y e = cc
 
 pub some_same : {A : Type 0} (x y : A) → Some x ≡ Some y → x ≡ y
 some_same x y e = cc
-
-pub none_some : {A P : Type 0} (x : A) → None ≡ Some x → P
-none_some x e = cc

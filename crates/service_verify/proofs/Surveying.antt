@@ -24,7 +24,7 @@ use Rattle.service_verify.specs.Boxes.{Frame}
 use Rattle.service_verify.specs.Faults.{Names, IsFirst}
 use Rattle.service_verify.specs.inner.Surveys.{says, mark_of, blank, IsMarked, IsMarkedSoFar, looks_after, looks_by, Keep, IsSurveyed, HasTables}
 use Rattle.service_verify.specs.Looks.{is_quiet, is_go, after_go, stays_behind, is_quiet_function, only_looks, function_peeks, peeks, looks_from}
-use Rattle.service_verify.specs.Points.{Table, table_in, points_of, point_in, judged_function, IsVerified, Breaks}
+use Rattle.service_verify.specs.Points.{Table, table_in, point_in, judged_function, IsVerified, Breaks}
 use Rattle.service_verify.specs.Reads.{Reads, reads_at, code_reads, functions_read, fields_kept, kept}
 use Rattle.service_verify.specs.Rules.{effect_of, levels_above, gives_only, found}
 use Rattle.service_verify.specs.Steps.{code_of}
@@ -115,24 +115,12 @@ module _ (shape : Shape) (class field : ℕ) where
       ∙ at_point (get_or code n d) (drop (suc n) code) points n
       ∙ (λ j. reads_at shape class field (get_or code n d) (point_in (slice_get points n)) || code_reads shape class field (drop (up j) code) (drop (up j) points))
 
-  pub no_more_reads : (code : List Instr) (points : Table) (n : ℕ) → length code ≤ n → code_reads shape class field (drop n code) (drop n points) ≡ false
-  no_more_reads code points n le = ap (λ is. code_reads shape class field is (drop n points)) (drop_all n code le)
-
-  pub no_point_reads : (i : Instr) → reads_at shape class field i None ≡ false
-  no_point_reads i = no_point i
-
 -- the next instruction is marked
 pub so_far_more : (before now new : List (List Bool)) (all one more next : ℕ → ℕ → Bool) → IsMarkedSoFar before all now more → IsMarked now one new → ((c f : ℕ) → more c f ≡ (one c f || next c f)) → IsMarkedSoFar before all new next
 so_far_more before now new all one more next h m split = record {
   classes = m.classes ∙ h.classes;
   each = λ c f. ap (option_map (λ b. b || next c f)) (m.each c f) ∙ more_twice (mark_of now c f) (one c f) (next c f) ∙ ap (λ x. option_map (λ b. b || x) (mark_of now c f)) (sym (split c f)) ∙ h.each c f;
 }
-
-pub nothing_marked : (now : List (List Bool)) (one : ℕ → ℕ → Bool) → ((c f : ℕ) → one c f ≡ false) → IsMarked now one now
-nothing_marked now one none = record { classes = refl; each = λ c f. sym (ap (λ x. option_map (λ b. b || x) (mark_of now c f)) (none c f) ∙ no_more (mark_of now c f)) }
-
-pub so_far_all : (before now : List (List Bool)) (all more : ℕ → ℕ → Bool) → ((c f : ℕ) → more c f ≡ false) → IsMarkedSoFar before all now more → IsMarked before all now
-so_far_all before now all more none h = record { classes = h.classes; each = λ c f. sym (ap (λ x. option_map (λ b. b || x) (mark_of now c f)) (none c f) ∙ no_more (mark_of now c f)) ∙ h.each c f }
 
 none_within : {A : Type 0} (xs : List A) (n : ℕ) → n < length xs → slice_get xs n ≡ None → ⊥
 none_within [] n lt e = omega arith

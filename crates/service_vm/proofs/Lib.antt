@@ -1,5 +1,6 @@
 pub mod Counting
 pub mod Doing
+pub mod DoingFrames
 pub mod Events
 pub mod Finding
 pub mod Keeping

@@ -1,8 +1,8 @@
 -- The program that spins is fit.
-use Rattle.std.proofs.Common.{◌≡◌, ℕ, zero, suc, ◌<◌, ◌≤◌, ◌⊎◌, inl, inr, [], ◌∷◌, length, true, Some, None, refl, ap, sym, arith}
+use Rattle.std.proofs.Common.{◌≡◌, ℕ, zero, suc, ◌<◌, ◌≤◌, ◌⊎◌, inl, inr, [], ◌∷◌, true, Some, None, refl, ap, sym, arith}
 use Rattle.std.specs.Prelude.{All, ℤ, codes, slice_get}
 use Rattle.std.proofs.lemmas.List.Elements.{All-nil}
-use Rattle.wave_base.specs.declared.limits.TheConstants.{CLASS_DEPTH, INSTRUCTIONS}
+use Rattle.wave_base.specs.declared.limits.TheConstants.{CLASS_DEPTH}
 use Rattle.wave_base.specs.declared.shape.EventInfo.{EventInfo}
 use Rattle.wave_base.specs.declared.value.Kind.TheVariants as k
 use Rattle.wave_base.specs.declared.value.Value.TheVariants as v
@@ -10,11 +10,9 @@ use Rattle.wave_base.specs.Scripts.{IsCall}
 use Rattle.wave_base.specs.Shapes.{IsShape, HasInitials, is_within}
 use Rattle.wave_base.specs.Values.{kind_of}
 use Rattle.wave_base.specs.declared.shape.FieldInfo.{FieldInfo}
-use Rattle.service_code.specs.declared.program.Function.{Function}
 use Rattle.service_code.specs.declared.instr.Instr.{Instr}
 use Rattle.service_code.specs.declared.instr.Instr.TheVariants.{Tick}
-use Rattle.service_verify.specs.Fit.{Jumps, IsTicked, FitsFunction, FitsEvent, IsFit, IsSmall, is_call_down}
-use Rattle.service_verify.specs.Standing.{HasFields}
+use Rattle.service_verify.specs.Fit.{Jumps, IsTicked, FitsFunction, FitsEvent, IsFit, is_call_down}
 use Rattle.service_verify.proofs.Judged.{some_same}
 use Rattle.service_vm.specs.Spin.{spin_code, spin_function, spin_shape, spin}
 
@@ -122,12 +120,6 @@ spin_fits = record {
         }
     event (suc n) e number he hn = cc
 
-pub spin_small : IsSmall spin
-spin_small = record { functions = omega arith; code = one_all (λ (f : Function). length f.code ≤ INSTRUCTIONS) spin_function (omega arith) }
-
 -- a call of its event, and the fields of its one context
 pub spin_call : (n : ℤ) → IsCall spin.shape (record { event = 0; args = v.Int n ∷ []; generation = 0 })
 spin_call n = record { event = _; is_event = refl; kinds = refl }
-
-pub spin_fields : HasFields spin.shape [] []
-spin_fields = refl

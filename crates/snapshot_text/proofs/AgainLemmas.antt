@@ -1,15 +1,14 @@
 -- The line of a shot has the form, with the steps of its path.
-use Rattle.std.proofs.Common.{◌≡◌, ◌+◌, ◌<◌, ◌≤◌, ℕ, zero, suc, ℤ, Bool, true, false, List, [], ◌∷◌, ◌++◌, length, map, slice_get, Some, None, All, FitsSigned, w64, refl, sym, ap, subst, ◌∙◌, append_assoc, append-nil, lit<, arith}
+use Rattle.std.proofs.Common.{◌≡◌, ℕ, zero, suc, ℤ, Bool, true, false, List, [], ◌∷◌, ◌++◌, length, map, slice_get, Some, None, All, FitsSigned, w64, refl, sym, ap, subst, ◌∙◌, append_assoc, lit<, arith}
 use Rattle.std.specs.Prelude.{◌&&◌, nat_le, codes}
 use Rattle.std.specs.Fmt.{signed_decimal}
-use Rattle.std.specs.List.{list_all, AllByRecursion}
+use Rattle.std.specs.List.{list_all}
 use Rattle.std.specs.List.Sorted.{IsStrictlySortedBy}
 use Rattle.std.specs.Map.{keys_of}
 use Rattle.std.specs.Ordering.{int_cmp}
 use Rattle.std.proofs.lemmas.Bool.{and_parts}
 use Rattle.std.proofs.lemmas.Bool.Decides.{nat_tests}
 use Rattle.std.proofs.lemmas.List.Elements.{All-nil, All-cons, All-head, All-tail}
-use Rattle.wave_base.specs.declared.path.Path.{Path}
 use Rattle.wave_base.specs.declared.path.Step.{Step}
 use Rattle.wave_base.specs.declared.shape.ClassInfo.{ClassInfo}
 use Rattle.wave_base.specs.declared.shape.FieldInfo.{FieldInfo}
@@ -18,22 +17,22 @@ use Rattle.wave_base.specs.declared.shot.Shot.{Shot}
 use Rattle.wave_base.specs.declared.value.Value.{Value}
 use Rattle.wave_base.specs.declared.value.Value.TheVariants as value
 use Rattle.wave_base.specs.Names.{HasNames, is_word, is_name}
-use Rattle.wave_base.specs.Shapes.{class_of, class_name, name_in, is_class, parent_class, parent_in, declared_fields, is_path, is_path_from}
+use Rattle.wave_base.specs.Shapes.{class_of, class_name, name_in, is_class, parent_class, parent_in, declared_fields, is_path_from}
 use Rattle.wave_text.specs.ValueTexts.{value_text}
-use Rattle.wave_text.specs.Words.{is_whole, without_minus}
+use Rattle.wave_text.specs.Words.{without_minus}
 use Rattle.wave_text.proofs.ReadBack.{whole_again}
 use Rattle.path_text.specs.declared.written.Written.{Written}
-use Rattle.wave_text.specs.Splits.{HasNone, IsSplit}
-use Rattle.path_text.specs.inner.Fronts.{IsFront, AreParts}
+use Rattle.wave_text.specs.Splits.{HasNone}
+use Rattle.path_text.specs.inner.Fronts.{AreParts}
 use Rattle.path_text.specs.Paths.{path_of}
 use Rattle.path_text.specs.PathTexts.{written_step, path_text}
 use Rattle.path_text.specs.ShotTexts.{field_text, fields_text, shot_text}
-use Rattle.path_text.specs.Steps.{is_key, is_step, step_text, steps_text, written_text, HasSteps}
+use Rattle.path_text.specs.Steps.{is_key, is_step, steps_text, HasSteps}
 use Rattle.path_text.proofs.Again.{path_again}
 use Rattle.wave_text.proofs.SplitLemmas.{nowhere}
 use Rattle.path_text.proofs.FrontLemmas.{word_has_none, key_has_none, one_front}
 use Rattle.snapshot_text.specs.Forms as forms
-use Rattle.snapshot_text.specs.Forms.{Literal, Number, Truth, Text, Map, IsLiteral, literal_text, Field, IsField, is_plain, is_plain_step, is_below, are_pairs, HasForm}
+use Rattle.snapshot_text.specs.Forms.{Literal, Number, Truth, Text, Map, IsLiteral, literal_text, Field, IsField, is_plain_step, are_pairs, HasForm}
 use Rattle.snapshot_text.specs.Shots.{IsValue, IsShot}
 use Rattle.snapshot_text.proofs.BelowLemmas.{plain_again, below_again}
 use Rattle.snapshot_text.proofs.FitLemmas.{field_words}
@@ -145,9 +144,6 @@ module _ (shape : Shape) (names : HasNames shape) where
   }
 
 -- ---- one text has one list of steps
-
-front_of : (s : Written) (ss : List Written) → is_step s ≡ true → IsFront (steps_text (s ∷ ss)) s (steps_text ss)
-front_of s ss h = record { spelled = refl; form = h }
 
 parts_of : (s : Written) (ss : List Written) → is_step s ≡ true → AreParts (steps_text (s ∷ ss)) s.name s.key (steps_text ss)
 parts_of s ss h =

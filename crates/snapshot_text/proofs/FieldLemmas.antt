@@ -2,10 +2,9 @@
 use Rattle.std.proofs.Common.{◌≡◌, ◌+◌, ◌<◌, ◌≤◌, ℕ, zero, suc, true, List, [], ◌∷◌, ◌++◌, length, map, drop, take, get_or, Some, None, All, refl, sym, ap, subst, ◌∙◌, append_assoc, append-nil, drop-cons, arith}
 use Rattle.std.specs.List.{list_all}
 use Rattle.std.proofs.lemmas.Bool.{and_parts}
-use Rattle.std.proofs.lemmas.List.{drop_all, map-append, take_more, take_all}
+use Rattle.std.proofs.lemmas.List.{drop_all, map-append, take_more}
 use Rattle.std.proofs.lemmas.List.Elements.{All-nil, All-cons, All-head, All-tail, All-append}
 use Rattle.wave_base.specs.declared.shape.FieldInfo.{FieldInfo}
-use Rattle.wave_base.specs.declared.value.Kind.{Kind}
 use Rattle.wave_base.specs.declared.value.Value.{Value}
 use Rattle.wave_base.specs.Names.{is_word}
 use Rattle.wave_base.specs.Values.{kind_of}
@@ -28,9 +27,6 @@ pub record AreReadTo (fields : List FieldInfo) (text : List ℕ) (i : ℕ) (done
   pub kinds : map kind_of done ≡ map (λ f. f.kind) (take i fields)
   pub values : All IsValue done
   pub only : (vs : List Value) → AreGoodFor fields vs → text ≡ behind_first (fields_text fields vs) → AreMore (drop i fields) done vs rest
-
-pub none_read : (fields : List FieldInfo) (text : List ℕ) → AreReadTo fields text 0 [] text
-none_read fields text = record { kinds = refl; values = All-nil IsValue; only = λ vs g e. record { more = vs; all = refl; good = g; left = e } }
 
 pub ends_fields : (fields : List FieldInfo) (vs : List Value) → Ends (fields_text fields vs)
 ends_fields [] vs = tt
@@ -103,6 +99,3 @@ all_read fields text i done rest end t vs g e = (let m = t.only vs g e in by_mor
     by_more : (us : List Value) → vs ≡ done ++ us → map kind_of us ≡ [] → Some done ≡ Some vs
     by_more [] f h = ap (λ z. Some z) (sym (append-nil done) ∙ sym f)
     by_more (u ∷ us) f h = cc
-
-pub all_good : (fields : List FieldInfo) (text : List ℕ) (i : ℕ) (done : List Value) (rest : List ℕ) → length fields ≤ i → AreReadTo fields text i done rest → AreGoodFor fields done
-all_good fields text i done rest end t = record { kinds = t.kinds ∙ ap (map (λ f. f.kind)) (take_all i fields end); values = t.values }

@@ -1,17 +1,17 @@
 -- Fields and the form of a line, as the reader finds them.
-use Rattle.std.proofs.Common.{◌≡◌, ◌<◌, ℕ, Bool, true, false, List, [], ◌∷◌, ◌++◌, length, All, Option, Some, None, Result, Ok, Err, IfOk, IfSome, IfNone, refl, sym, ap, subst, ◌∙◌, append_assoc, append-nil, arith, lit<}
-use Rattle.std.specs.Prelude.{◌&&◌, ◌==◌, codes}
+use Rattle.std.proofs.Common.{◌≡◌, ◌<◌, ℕ, true, List, [], ◌∷◌, ◌++◌, length, All, Option, Some, None, Result, Ok, Err, IfOk, IfSome, IfNone, refl, sym, ap, subst, ◌∙◌, append_assoc, arith, lit<}
+use Rattle.std.specs.Prelude.{◌&&◌}
 use Rattle.std.specs.List.{list_all}
 use Rattle.std.proofs.lemmas.Bool.{and_parts}
-use Rattle.std.proofs.lemmas.List.Elements.{All-nil, All-cons, All-head, All-tail}
+use Rattle.std.proofs.lemmas.List.Elements.{All-cons, All-head, All-tail}
 use Rattle.wave_base.specs.Names.{is_word}
 use Rattle.path_text.specs.declared.written.Written.{Written}
-use Rattle.wave_text.specs.Splits.{HasNone, IsSplit}
+use Rattle.wave_text.specs.Splits.{IsSplit}
 use Rattle.path_text.specs.Steps.{is_step, written_text, HasSteps, HasOnlySteps, HasNoSteps}
-use Rattle.wave_text.proofs.SplitLemmas.{one_split, nowhere}
+use Rattle.wave_text.proofs.SplitLemmas.{one_split}
 use Rattle.journal_text.proofs.SolidLemmas.{solid_has_none, written_solid}
 use Rattle.snapshot_text.specs.Forms.{Field, IsField, literal_text, field_text, fields_text, is_plain, is_plain_step, HasForm, HasNoForm}
-use Rattle.snapshot_text.specs.inner.Fronts.{BeginsNot, BeginsNotAt, Ends, IsRun, HasLiteral, OnlyBehindLiteral, HasNoLiteral, HasField, OnlyBehindField, HasNoField, IsFieldsText, is_plain_key, HasOnlyForm}
+use Rattle.snapshot_text.specs.inner.Fronts.{Ends, IsRun, HasLiteral, OnlyBehindLiteral, HasNoLiteral, HasField, OnlyBehindField, HasNoField, IsFieldsText, is_plain_key, HasOnlyForm}
 use Rattle.snapshot_text.proofs.ByteLemmas.{word_no_equals, one_run}
 
 -- ---- what is said of what a call gives
@@ -32,17 +32,11 @@ lift_none (Err e) P Q h f = h
 spelled : (f : Field) (left : List ℕ) → field_text f ++ left ≡ 32 ∷ (f.name ++ 61 ∷ (literal_text f.literal ++ left))
 spelled f left = ap (λ z. 32 ∷ z) (append_assoc f.name (61 ∷ literal_text f.literal) left)
 
-pub no_blank : (text : List ℕ) → BeginsNot 32 text → HasNoField text
-no_blank text none left h ends = none (h.field.name ++ 61 ∷ (literal_text h.field.literal ++ left)) (h.spelled ∙ spelled h.field left)
-
 module _ (text rest : List ℕ) (blank : text ≡ 32 ∷ rest) where
   behind_blank : (left : List ℕ) (h : HasField text left) → rest ≡ h.field.name ++ 61 ∷ (literal_text h.field.literal ++ left)
   behind_blank left h =
       let whole : 32 ∷ rest ≡ 32 ∷ (h.field.name ++ 61 ∷ (literal_text h.field.literal ++ left)) = sym blank ∙ h.spelled ∙ spelled h.field left in
       cc
-
-  pub no_equals : HasNone 61 rest → HasNoField text
-  no_equals none left h ends = nowhere 61 h.field.name (literal_text h.field.literal ++ left) (subst (HasNone 61) (behind_blank left h) none)
 
   module _ (name value : List ℕ) (s : IsSplit 61 rest name value) where
     pub field_parts : (left : List ℕ) → HasField text left → (is_word name ≡ true) × HasLiteral value left
@@ -92,9 +86,6 @@ fields_down text rest some only m = (let f = first_field text some m in subst Is
 pub fields_none : (text : List ℕ) → 0 < length text → HasNoField text → IsFieldsText text → ⊥
 fields_none text some none m = (let f = first_field text some m in none f.0 f.1 f.2)
 
-pub no_fields : (text : List ℕ) → text ≡ [] → IsFieldsText text
-no_fields text e = ([], e, All-nil IsField)
-
 -- ---- the line
 
 pub both_all : (steps : List Written) → list_all is_plain_step steps ≡ true → (list_all is_step steps ≡ true) × (list_all is_plain_key steps ≡ true)
@@ -111,9 +102,6 @@ all_both (s ∷ ss) h k =
     let a = and_parts (is_step s) (list_all is_step ss) h in
     let b = and_parts (is_plain s.key) (list_all is_plain_key ss) k in
     (λ i. (a.0 i && b.0 i) && list_all is_plain_step ss) ∙ all_both ss a.1 b.1
-
-pub no_at : (line : List ℕ) → BeginsNotAt line → HasNoForm line
-no_at line none steps h = none (written_text steps ++ fields_text h.fields) h.spelled
 
 module _ (line rest path fields : List ℕ) (at : line ≡ 97 ∷ 116 ∷ 32 ∷ rest) (r : IsRun rest path fields) where
   pub form_parts : (steps : List Written) → HasForm line steps → HasSteps path steps × (list_all is_plain_key steps ≡ true) × IsFieldsText fields

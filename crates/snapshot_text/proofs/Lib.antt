@@ -16,4 +16,3 @@ pub mod ShotLemmas
 pub mod TailLemmas
 pub mod ValueLemmas
 pub mod VerdictLemmas
-pub mod WriteLemmas

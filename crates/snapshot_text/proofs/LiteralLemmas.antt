@@ -1,13 +1,13 @@
 -- The value at the front of a text, as the reader of the form finds it.
-use Rattle.std.proofs.Common.{◌≡◌, ◌⊎◌, inl, inr, ℕ, Bool, true, false, cond, List, [], ◌∷◌, ◌++◌, refl, sym, ap, subst, ◌∙◌, append_assoc, arith}
-use Rattle.std.specs.Prelude.{◌||◌, ◌&&◌, ◌==◌, codes, nat_eq}
+use Rattle.std.proofs.Common.{◌≡◌, ◌⊎◌, inl, inr, ℕ, Bool, true, false, List, [], ◌∷◌, ◌++◌, refl, sym, ap, subst, ◌∙◌, append_assoc, arith}
+use Rattle.std.specs.Prelude.{◌||◌, ◌==◌, codes, nat_eq}
 use Rattle.std.proofs.lemmas.Bool.{and_parts, or_cases, false≢true}
 use Rattle.std.proofs.lemmas.Bool.Decides.{nat_tests}
-use Rattle.mace_lexer.specs.Texts.{escaped, quoted}
+use Rattle.mace_lexer.specs.Texts.{escaped}
 use Rattle.wave_base.specs.Names.{same_bytes}
-use Rattle.wave_text.specs.Quotes.{Quotes, QuotesOnly, QuotesNone}
-use Rattle.wave_text.specs.Splits.{HasNone, IsSplit}
-use Rattle.wave_text.proofs.SplitLemmas.{one_split, nowhere}
+use Rattle.wave_text.specs.Quotes.{Quotes}
+use Rattle.wave_text.specs.Splits.{IsSplit}
+use Rattle.wave_text.proofs.SplitLemmas.{one_split}
 use Rattle.snapshot_text.specs.Forms.{Literal, Number, Truth, Text, Map, IsLiteral, literal_text, is_plain, are_pairs, pairs_text}
 use Rattle.snapshot_text.specs.inner.Fronts.{BeginsNot, Ends, IsRun, is_bare, IsMapText, HasLiteral, OnlyBehindLiteral, HasNoLiteral}
 use Rattle.snapshot_text.proofs.ByteLemmas.{is_number_byte, plain_no_space, plain_first, one_run}
@@ -26,17 +26,6 @@ number_first b [] text left h e = absurd (false≢true h)
 number_first b (c ∷ cs) text left h e =
     let same : c ≡ b = cc in
     subst (λ x. is_number_byte x ≡ true) same (plain_first c cs h)
-
--- behind a quote stands a text
-quoted_by : (text left : List ℕ) (l : Literal) → 34 ∷ text ≡ literal_text l ++ left → IsLiteral l → (t : List ℕ) × Quotes text t left
-quoted_by text left (Number n) e f = absurd (false≢true (number_first 34 n text left f e))
-quoted_by text left (Truth true) e f = absurd (other_first 34 116 text (114 ∷ 117 ∷ 101 ∷ left) refl e)
-quoted_by text left (Truth false) e f = absurd (other_first 34 102 text (97 ∷ 108 ∷ 115 ∷ 101 ∷ left) refl e)
-quoted_by text left (Text t) e f = (t, record { spelled = same_rest 34 text ((escaped t ++ 34 ∷ []) ++ left) e ∙ append_assoc (escaped t) (34 ∷ []) left; printable = f })
-quoted_by text left (Map ps) e f = absurd (other_first 34 123 text ((pairs_text ps ++ 125 ∷ []) ++ left) refl e)
-
-pub quote_only : (text left : List ℕ) → HasLiteral (34 ∷ text) left → (t : List ℕ) × Quotes text t left
-quote_only text left h = quoted_by text left h.literal h.spelled h.form
 
 -- behind a brace stands a map
 braced_by : (text left : List ℕ) (l : Literal) → 123 ∷ text ≡ literal_text l ++ left → IsLiteral l → (ps : List (List ℕ × List ℕ)) × (are_pairs ps ≡ true) × (text ≡ pairs_text ps ++ 125 ∷ left)
@@ -58,12 +47,6 @@ quoted_is text t rest q = record {
   form = q.printable;
 }
 
-pub quoted_only : (text t rest : List ℕ) → QuotesOnly text t rest → OnlyBehindLiteral (34 ∷ text) rest
-quoted_only text t rest only left h ends = (let q = quote_only text left h in (only q.0 left q.1).1)
-
-pub quoted_none : (text : List ℕ) → QuotesNone text → HasNoLiteral (34 ∷ text)
-quoted_none text none left h ends = (let q = quote_only text left h in none q.0 left q.1)
-
 -- ---- a map
 
 pub map_is : (text pairs rest : List ℕ) → IsSplit 125 text pairs rest → IsMapText pairs → HasLiteral (123 ∷ text) rest
@@ -81,9 +64,6 @@ map_parts text pairs rest left s h =
 
 pub map_only : (text pairs rest : List ℕ) → IsSplit 125 text pairs rest → OnlyBehindLiteral (123 ∷ text) rest
 map_only text pairs rest s left h ends = sym (map_parts text pairs rest left s h).1
-
-pub no_brace : (text : List ℕ) → HasNone 125 text → HasNoLiteral (123 ∷ text)
-no_brace text none left h ends = (let b = brace_only text left h in nowhere 125 (pairs_text b.0) left (subst (HasNone 125) b.2 none))
 
 pub no_map : (text pairs rest : List ℕ) → IsSplit 125 text pairs rest → (IsMapText pairs → ⊥) → HasNoLiteral (123 ∷ text)
 no_map text pairs rest s none left h ends = none (map_parts text pairs rest left s h).0

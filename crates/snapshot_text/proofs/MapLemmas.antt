@@ -1,7 +1,6 @@
 -- How far the pairs of a map were read.
-use Rattle.std.proofs.Common.{◌≡◌, ◌+◌, ◌<◌, ◌≤◌, ℕ, ℤ, Bool, true, false, List, [], ◌∷◌, ◌++◌, length, map, Option, Some, None, All, FitsSigned, w64, refl, sym, ap, subst, ◌∙◌, append_assoc, append-nil, length-append, arith}
-use Rattle.std.specs.Prelude.{◌&&◌, not, nat_lt, is_some}
-use Rattle.std.specs.BTreeMap.{is_at, insert_entry}
+use Rattle.std.proofs.Common.{◌≡◌, ◌<◌, ℕ, ℤ, List, [], ◌∷◌, ◌++◌, length, Some, None, All, FitsSigned, w64, refl, sym, ap, subst, ◌∙◌, append_assoc, append-nil, arith}
+use Rattle.std.specs.BTreeMap.{insert_entry}
 use Rattle.std.specs.Fmt.{signed_decimal}
 use Rattle.std.specs.List.{AllByRecursion}
 use Rattle.std.specs.List.Sorted.{IsStrictlySortedBy}
@@ -9,14 +8,12 @@ use Rattle.std.specs.Map.{keys_of}
 use Rattle.std.specs.Ordering.{int_cmp, ordering_reverse, match_ordering}
 use Rattle.std.specs.declared.cmp.Ordering.{Ordering}
 use Rattle.std.specs.declared.cmp.Ordering.TheVariants.{Less, Equal, Greater}
-use Rattle.std.proofs.lemmas.Bool.{and_parts}
-use Rattle.std.proofs.lemmas.Bool.Decides.{nat_tests}
 use Rattle.std.proofs.lemmas.Cmp.{int_cmp_total}
 use Rattle.std.proofs.lemmas.List.{map-append}
-use Rattle.std.proofs.lemmas.List.Elements.{All-nil, All-cons, All-head, All-tail, All-append}
+use Rattle.std.proofs.lemmas.List.Elements.{All-nil, All-cons, All-head, All-tail}
 use Rattle.wave_base.specs.declared.value.Value.TheVariants as value
 use Rattle.wave_base.proofs.Places.{sorted_none}
-use Rattle.wave_base.specs.Tables.{IsTable, value_at, with_pair, is_full}
+use Rattle.wave_base.specs.Tables.{IsTable, with_pair}
 use Rattle.wave_text.specs.ValueTexts.{pair_text, pairs_text}
 use Rattle.wave_text.specs.Splits.{HasNone, ArePartsAt}
 use Rattle.wave_text.proofs.SplitLemmas.{nowhere}
@@ -135,14 +132,3 @@ pair_missed text rest pair after table t some a of ps good e =
     let w = t.only ps good e in
     let x = next_pair rest pair after a w.0 some w.2 w.3 in
     cc (of x.first x.fits x.pair_is)
-
-below_full : (n : ℕ) (b : Bool) → n < 1000 → (not (nat_lt n 1000) && b) ≡ true → ⊥
-below_full n b h e = (let k = and_parts (not (nat_lt n 1000)) b e in grind (arith, nat_tests, k))
-
-pub table_full : (text rest pair after : List ℕ) (table : List (ℤ × ℤ)) (k : ℤ) → IsTableTo text table rest → 0 < length rest → ArePartsAt 44 rest pair after → is_full table k ≡ true → IsTableOf text None
-table_full text rest pair after table k t some a full ps good e =
-    let w = t.only ps good e in
-    let x = next_pair rest pair after a w.0 some w.2 w.3 in
-    let all : ps ≡ table ++ x.first ∷ x.others = w.1 ∙ ap (λ us. table ++ us) x.are in
-    let room : length table < 1000 = omega (arith, good.0.short, ap length all, length-append table (x.first ∷ x.others)) in
-    absurd (below_full (length table) (not (is_some (value_at table k))) room full)

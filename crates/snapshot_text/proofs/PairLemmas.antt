@@ -1,9 +1,8 @@
 -- The pairs of a map, as the reader of the form finds them.
-use Rattle.std.proofs.Common.{◌≡◌, ◌<◌, ℕ, Bool, true, false, cond, List, [], ◌∷◌, ◌++◌, refl, sym, ap, subst, ◌∙◌, append_assoc, append-nil, arith}
-use Rattle.std.specs.Prelude.{◌==◌, ◌&&◌}
-use Rattle.std.specs.List.{list_all}
+use Rattle.std.proofs.Common.{◌≡◌, ℕ, true, false, List, [], ◌∷◌, ◌++◌, refl, sym, ap, subst, ◌∙◌}
+use Rattle.std.specs.Prelude.{◌&&◌}
 use Rattle.std.proofs.lemmas.Bool.{and_parts}
-use Rattle.wave_text.specs.Splits.{is_other, HasNone, IsSplit}
+use Rattle.wave_text.specs.Splits.{HasNone, IsSplit}
 use Rattle.wave_text.proofs.SplitLemmas.{one_split, nowhere, none-append}
 use Rattle.snapshot_text.specs.Forms.{is_plain, is_below, pair_text, pairs_text, are_pairs}
 use Rattle.snapshot_text.specs.inner.Fronts.{BeginsNot, IsPair, IsPairOf, IsNoPair, IsFirstPair, IsNoFirstPair, ArePairsOf, IsMapText, IsMapTextBehind}
@@ -13,9 +12,6 @@ use Rattle.snapshot_text.proofs.ByteLemmas.{plain_no_comma, plain_no_colon, plai
 
 pub pair_parts : (text front rest key value : List ℕ) → IsSplit 58 text front rest → IsPair text key value → (front ≡ key) × (rest ≡ 32 ∷ value)
 pair_parts text front rest key value s p = one_split 58 front rest key (32 ∷ value) s.first (plain_no_colon key p.key_is) (sym s.spelled ∙ p.spelled)
-
-pub no_colon : (text : List ℕ) → HasNone 58 text → IsNoPair text
-no_colon text h key value p = nowhere 58 key (32 ∷ value) (subst (HasNone 58) p.spelled h)
 
 pub no_space : (text front rest : List ℕ) → IsSplit 58 text front rest → BeginsNot 32 rest → IsNoPair text
 no_space text front rest s h key value p = h value (pair_parts text front rest key value s p).1
@@ -44,14 +40,6 @@ pub first_parts : (text pair rest key more : List ℕ) → IsSplit 44 text pair 
 first_parts text pair rest key more s f =
     let o = one_split 44 pair rest (pair_text (key, f.value)) (32 ∷ more) s.first (pair_no_comma (pair_text (key, f.value)) key f.value (alone text key more f)) (sym s.spelled ∙ f.spelled) in
     (record { spelled = o.0; key_is = f.key_is; value_is = f.value_is }, o.1)
-
-pub first_is : (text pair rest key more : List ℕ) → IsSplit 44 text pair rest → IsPairOf pair key → rest ≡ 32 ∷ more → IsFirstPair text key more
-first_is text pair rest key more s p e = record {
-  value = p.0;
-  spelled = s.spelled ∙ (λ i. p.1.spelled i ++ 44 ∷ e i);
-  key_is = p.1.key_is;
-  value_is = p.1.value_is;
-}
 
 pub no_comma : (text : List ℕ) → HasNone 44 text → IsNoFirstPair text
 no_comma text h key more f = nowhere 44 (pair_text (key, f.value)) (32 ∷ more) (subst (HasNone 44) f.spelled h)

@@ -1,5 +1,5 @@
 -- The line of a shot: its parts, and that no line feed stands in it.
-use Rattle.std.proofs.Common.{◌≡◌, ◌⊎◌, inl, inr, ◌<◌, ◌≤◌, ℕ, ℤ, Bool, true, false, cond, List, [], ◌∷◌, ◌++◌, length, map, Option, Some, None, Result, Ok, Err, All, FitsSigned, w64, refl, sym, ap, subst, ◌∙◌, append_assoc, append-nil, lit<, arith}
+use Rattle.std.proofs.Common.{◌≡◌, ◌<◌, ◌≤◌, ℕ, Bool, true, false, cond, List, [], ◌∷◌, ◌++◌, map, Option, Some, None, Ok, Err, All, refl, sym, ap, subst, ◌∙◌, lit<, arith}
 use Rattle.std.specs.Prelude.{◌==◌, ◌&&◌, ◌||◌, codes}
 use Rattle.std.specs.List.{list_all}
 use Rattle.std.proofs.lemmas.Bool.{and_parts}
@@ -13,7 +13,7 @@ use Rattle.wave_base.specs.declared.shot.Shot.{Shot}
 use Rattle.wave_base.specs.declared.value.Value.{Value}
 use Rattle.wave_base.specs.declared.value.Value.TheVariants as value
 use Rattle.wave_base.specs.Names.{HasNames, is_word}
-use Rattle.wave_base.specs.Shapes.{class_of, declared_fields, is_path}
+use Rattle.wave_base.specs.Shapes.{class_of, declared_fields}
 use Rattle.wave_base.specs.Text.{IsPrintable}
 use Rattle.wave_text.specs.ValueTexts.{value_text, pairs_text}
 use Rattle.path_text.specs.declared.parse.PathError.{PathError}
@@ -27,9 +27,8 @@ use Rattle.journal_text.specs.Fits.{HasKeys}
 use Rattle.journal_text.proofs.PathLemmas.{path_found, path_missed}
 use Rattle.journal_text.proofs.SolidLemmas.{solid_has_none, path_solid, word_solid}
 use Rattle.snapshot_text.specs.Shots.{IsValue, IsShot}
-use Rattle.snapshot_text.specs.Verdicts.{IsLineOf, IsLineOfNone}
-use Rattle.snapshot_text.specs.inner.Fronts.{Ends}
-use Rattle.snapshot_text.specs.inner.Guesses.{behind_first, IsPath, IsPathOf, AreGoodFor, AreValuesOf, IsShotOf, IsOnlyLineOf}
+use Rattle.snapshot_text.specs.Verdicts.{IsLineOf}
+use Rattle.snapshot_text.specs.inner.Guesses.{behind_first, IsPath, IsPathOf, AreGoodFor, AreValuesOf, IsShotOf}
 use Rattle.snapshot_text.proofs.FieldLemmas.{ends_fields}
 use Rattle.snapshot_text.proofs.FitLemmas.{field_words}
 use Rattle.snapshot_text.proofs.MapLemmas.{fit_of}
@@ -130,28 +129,4 @@ module _ (shape : Shape) (names : HasNames shape) where
           let same : vs ≡ s.fields = cc in
           λ i. Some (record { path = same_path s h i; fields = same i })
 
-  pub shot_fits : (p : Path) (fields : List FieldInfo) (vs : List Value) → IsPath shape p → fields ≡ declared_fields shape (class_of p) → AreGoodFor fields vs → IsShot shape (record { path = p; fields = vs })
-  shot_fits p fields vs h at good = record {
-    path = h.path;
-    short = h.short;
-    keys = h.keys;
-    kinds = good.kinds ∙ ap (map (λ f. f.kind)) at;
-    values = good.values;
-  }
-
   -- ---- the line is written just so
-
-  pub line_is : (line written : List ℕ) (s : Shot) → written ≡ shot_text shape s → written ≡ line → IsShot shape s → IsShotOf shape line (Some s) → IsOnlyLineOf shape line s
-  line_is line written s w e fits of = record {
-    line_of = record { spelled = sym e ∙ w; fits = fits };
-    only = λ other h. (let found : Some s ≡ Some other = of other h in cc);
-  }
-
-  pub line_is_not : (line written : List ℕ) (s : Shot) → written ≡ shot_text shape s → (written ≡ line → ⊥) → IsShotOf shape line (Some s) → IsLineOfNone shape line
-  line_is_not line written s w differ of other h =
-      let found : Some s ≡ Some other = of other h in
-      let same : s ≡ other = cc in
-      differ (w ∙ ap (shot_text shape) same ∙ sym h.spelled)
-
-  pub no_line : (line : List ℕ) → IsShotOf shape line None → IsLineOfNone shape line
-  no_line line of other h = (let found : None ≡ Some other = of other h in cc)

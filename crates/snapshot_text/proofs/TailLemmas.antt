@@ -1,5 +1,5 @@
 -- How far the lines behind a head were read.
-use Rattle.std.proofs.Common.{◌≡◌, ◌⊎◌, inl, inr, ◌+◌, ◌<◌, ◌≤◌, ℕ, true, false, List, [], ◌∷◌, ◌++◌, length, map, All, refl, sym, ap, subst, ◌∙◌, append_assoc, append-nil, length-append, arith}
+use Rattle.std.proofs.Common.{◌≡◌, ◌⊎◌, inl, inr, ◌+◌, ℕ, true, List, [], ◌∷◌, ◌++◌, length, All, refl, sym, ap, subst, ◌∙◌, append_assoc, append-nil}
 use Rattle.std.proofs.lemmas.List.{map-append}
 use Rattle.std.proofs.lemmas.List.Elements.{All-nil, All-cons, All-head, All-tail, All-append}
 use Rattle.wave_base.specs.declared.shape.Shape.{Shape}
@@ -15,7 +15,7 @@ use Rattle.snapshot_text.specs.declared.error.ShotError.TheVariants as error
 use Rattle.snapshot_text.specs.Refusals.{refused}
 use Rattle.snapshot_text.specs.Shots.{IsShot, comes_next, are_in_order, paths_of}
 use Rattle.snapshot_text.specs.SnapshotTexts.{shots_text}
-use Rattle.snapshot_text.specs.Verdicts.{IsLineOf, IsFault, BeginsWithFault}
+use Rattle.snapshot_text.specs.Verdicts.{IsFault, BeginsWithFault}
 use Rattle.snapshot_text.specs.inner.Tails.{IsNextLine, IsOnlyFault, IsParted, IsEnd, IsOnlyParted, StopsWith, IsRefusal}
 use Rattle.snapshot_text.proofs.FaultLemmas.{no_fault}
 use Rattle.snapshot_text.proofs.OrderLemmas.{order_more, order_at}
@@ -41,11 +41,6 @@ no_cons [] ys f = cc
 no_cons (x ∷ xs) ys f = cc
 
 module _ (shape : Shape) where
-  pub none_read : (tail : List ℕ) → AreReadTo shape tail [] tail
-  none_read tail = record {
-    parted = record { spelled = refl; each = All-nil (IsShot shape); order = refl };
-    only = λ others left p end. record { more = others; all = refl; spelled = p.spelled; each = p.each };
-  }
 
   shots-append : (xs : List Shot) (s : Shot) (rest : List ℕ) → shots_text shape (xs ++ s ∷ []) ++ rest ≡ shots_text shape xs ++ (shot_text shape s ++ 10 ∷ rest)
   shots-append [] s rest = append_assoc (shot_text shape s) (10 ∷ []) rest

@@ -1,22 +1,16 @@
 -- The value at the front of a text, as the reader of shots takes it.
-use Rattle.std.proofs.Common.{◌≡◌, ℕ, ℤ, Bool, true, false, cond, List, [], ◌∷◌, ◌++◌, length, Option, Some, None, All, FitsSigned, w64, refl, sym, ap, subst, ◌∙◌, append_assoc, append-nil, ◌<◌, lit<, arith}
-use Rattle.std.specs.Prelude.{codes}
+use Rattle.std.proofs.Common.{◌≡◌, ℕ, ℤ, List, [], ◌∷◌, ◌++◌, Some, None, FitsSigned, w64, refl, sym, ap, subst, ◌∙◌, append_assoc, append-nil, lit<}
 use Rattle.std.specs.Fmt.{signed_decimal}
-use Rattle.mace_lexer.specs.Texts.{escaped}
-use Rattle.wave_base.specs.declared.value.Kind.{Kind}
 use Rattle.wave_base.specs.declared.value.Kind.TheVariants as k
 use Rattle.wave_base.specs.declared.value.Value.{Value}
 use Rattle.wave_base.specs.declared.value.Value.TheVariants.{Int, Bool as Truth, Str, Map}
-use Rattle.wave_base.specs.Names.{same_bytes}
-use Rattle.wave_base.specs.Text.{IsText}
 use Rattle.wave_base.specs.Values.{kind_of}
-use Rattle.wave_text.specs.Quotes.{Quotes, QuotesOnly, QuotesNone}
 use Rattle.wave_text.specs.ValueTexts.{value_text, pairs_text}
 use Rattle.wave_text.specs.Splits.{HasNone, ArePartsAt}
 use Rattle.snapshot_text.specs.Shots.{IsValue}
 use Rattle.snapshot_text.specs.inner.Fronts.{Ends}
-use Rattle.snapshot_text.specs.inner.Guesses.{behind_first, truth_of, IsNumberOf, IsTableOf, IsFrontOf, IsSeen, IsUnseen}
-use Rattle.snapshot_text.proofs.NumberLemmas.{number_has_none, joined, pairs_joined, joined_no_brace}
+use Rattle.snapshot_text.specs.inner.Guesses.{behind_first, IsNumberOf, IsTableOf, IsSeen, IsUnseen}
+use Rattle.snapshot_text.proofs.NumberLemmas.{number_has_none, pairs_joined, joined_no_brace}
 use Rattle.snapshot_text.proofs.MapLemmas.{fit_of}
 
 -- the bytes before the first space, and those behind it
@@ -55,67 +49,7 @@ module _ (text front rest : List ℕ) (a : ArePartsAt 32 text front rest) where
 
 -- ---- truth values
 
-abbrev word : Bool → List ℕ
-word b = cond b (codes "true") (codes "false")
-
-truth_again : (b : Bool) → truth_of (word b) ≡ Some b
-truth_again true = refl
-truth_again false = refl
-
-word_solid : (b : Bool) → HasNone 32 (word b)
-word_solid true = refl
-word_solid false = refl
-
-module _ (text front rest : List ℕ) (a : ArePartsAt 32 text front rest) where
-  bool_by : (v : Value) (left : List ℕ) → text ≡ value_text v ++ left → kind_of v ≡ k.Bool → Ends left → (b : Bool) × (v ≡ Truth b) × (truth_of front ≡ Some b) × (rest ≡ behind_first left)
-  bool_by (Int z) left e h ends = cc
-  bool_by (Truth b) left e h ends = (let r = run_found text front rest a (word b) left (word_solid b) ends e in (b, refl, ap truth_of r.0 ∙ truth_again b, r.1))
-  bool_by (Str t) left e h ends = cc
-  bool_by (Map m) left e h ends = cc
-
-  pub bool_seen : (b : Bool) → truth_of front ≡ Some b → IsSeen k.Bool text (Truth b) rest
-  bool_seen b of = record {
-    fits = tt;
-    kind_is = refl;
-    only = λ other left h.
-        let r = bool_by other left h.spelled h.kind_is h.ends in
-        let found : Some b ≡ Some r.0 = sym of ∙ r.2 in
-        let same : r.0 ≡ b = cc in
-        (r.1 ∙ ap (λ n. Truth n) same, r.3);
-  }
-
-  pub bool_unseen : truth_of front ≡ None → IsUnseen k.Bool text
-  bool_unseen of v left h =
-      let r = bool_by v left h.spelled h.kind_is h.ends in
-      let found : None ≡ Some r.0 = sym of ∙ r.2 in
-      cc
-
 -- ---- texts
-
-text_by : (text : List ℕ) (v : Value) (left : List ℕ) → text ≡ value_text v ++ left → IsValue v → kind_of v ≡ k.Text → (t : List ℕ) × (v ≡ Str t) × IsText t × Quotes (behind_first text) t left
-text_by text (Int z) left e f h = cc
-text_by text (Truth b) left e f h = cc
-text_by text (Str t) left e f h = (t, refl, f, record { spelled = ap behind_first e ∙ append_assoc (escaped t) (34 ∷ []) left; printable = f.printable })
-text_by text (Map m) left e f h = cc
-
-pub text_seen : (text bytes rest : List ℕ) → QuotesOnly (behind_first text) bytes rest → IsText bytes → IsSeen k.Text text (Str bytes) (behind_first rest)
-text_seen text bytes rest only f = record {
-  fits = f;
-  kind_is = refl;
-  only = λ other left h.
-      let r = text_by text other left h.spelled h.fits h.kind_is in
-      let o = only r.0 left r.3 in
-      (r.1 ∙ ap (λ t. Str t) o.0, ap behind_first (sym o.1));
-}
-
-pub text_unseen : (text : List ℕ) → QuotesNone (behind_first text) → IsUnseen k.Text text
-text_unseen text none v left h = (let r = text_by text v left h.spelled h.fits h.kind_is in none r.0 left r.3)
-
-pub text_long : (text bytes rest : List ℕ) → QuotesOnly (behind_first text) bytes rest → (IsText bytes → ⊥) → IsUnseen k.Text text
-text_long text bytes rest only long v left h =
-    let r = text_by text v left h.spelled h.fits h.kind_is in
-    let o = only r.0 left r.3 in
-    long (subst IsText o.0 r.2)
 
 -- ---- maps
 

@@ -37,10 +37,6 @@ module _ {X : Type 0} (P : ℕ → X → Type 0) where
       let e : n + suc (length xs) ≡ n + 1 + length xs = omega arith in
       each_cons n x (xs ++ ys) (each_first n x xs a) (each_both (n + 1) xs ys (each_rest n x xs a) (subst (λ m. Each m ys) e b))
 
--- what each element is known of by another fact
-pub each_map : {X : Type 0} (P Q : ℕ → X → Type 0) (n : ℕ) (xs : List X) → ((i : ℕ) (x : X) → P i x → Q i x) → Each P n xs → Each Q n xs
-each_map P Q n xs f h j d l = f (n + j) (get_or xs j d) (h j d l)
-
 -- a list at its own numbers
 pub each_self : {X : Type 0} (d : X) (all : List X) → Each (λ i x. get_or all i d ≡ x) 0 all
 each_self d all j e l = let z : j ≡ 0 + j = omega arith in subst (λ m. get_or all m d ≡ get_or all j e) z (same all j d e l)

@@ -2,7 +2,6 @@
 use Rattle.std.proofs.Common.{◌≡◌, Bool, true, false, List, [], ◌∷◌, ◌++◌, Some, None, Result, Ok, Err, refl, ◌∙◌}
 use Rattle.std.specs.Prelude.{if◌then◌else◌}
 use Rattle.type_rules.specs.declared.error.TypeError.{TypeError}
-use Rattle.type_rules.specs.declared.error.TypeError.TheVariants.{OutOfMemory}
 use Rattle.type_rules.specs.Demands.{Demand, ask, first_wrong, Fails, Judges}
 
 -- where all of the first list holds, the second tells
@@ -58,9 +57,6 @@ fails_front a b e k n = first_wrong_front a b e (k n)
 pub fails_behind : (a b : List Demand) (e : TypeError) → first_wrong a ≡ None → Fails b e → Fails (a ++ b) e
 fails_behind a b e h k n = first_wrong_behind a b h ∙ k n
 
-pub wanting : (a : List Demand) (e : TypeError) → e ≡ OutOfMemory → Fails a e
-wanting a e h n = absurd (n h)
-
 -- ---- answers
 
 module _ {A : Type 0} where
@@ -72,5 +68,3 @@ module _ {A : Type 0} where
   -- the answer to the rest is the answer to all, where all in front holds
   pub judges_behind : (a b : List Demand) (P Q : A → Type 0) (r : Result A TypeError) → first_wrong a ≡ None → ((x : A) → Q x → P x) → Judges b Q r → Judges (a ++ b) P r
   judges_behind a b P Q r h f k = judges_same (a ++ b) b P Q r (first_wrong_behind a b h) f k
-
-pub ruleset first_wrongs = (first_wrong_behind, first_wrong_front, told_here, told_past)

@@ -1,16 +1,14 @@
 -- What is gathered, one declaration after the other.
-use Rattle.std.proofs.Common.{◌≡◌, ◌+◌, ◌<◌, ◌≤◌, ◌^◌, ℕ, List, [], ◌∷◌, ◌++◌, length, map, get_or, Some, None, set, take, refl, sym, ap, subst, ◌∙◌, append_assoc, arith, rules, Result, Ok, Err, OnOk}
-use Rattle.std.proofs.lemmas.List.{append-nil, map-append, length-append, length-map, length-set, take_more, take_all}
+use Rattle.std.proofs.Common.{◌≡◌, ◌+◌, ◌<◌, ◌^◌, ℕ, List, [], ◌∷◌, ◌++◌, length, map, get_or, Some, None, set, take, refl, sym, ap, subst, ◌∙◌, append_assoc, arith, rules, Result, Ok, Err, OnOk}
+use Rattle.std.proofs.lemmas.List.{append-nil, map-append, length-append, length-map, length-set, take_more}
 use Rattle.wave_base.specs.declared.shape.ClassInfo.{ClassInfo}
 use Rattle.wave_base.specs.declared.shape.EventInfo.{EventInfo}
 use Rattle.wave_base.specs.declared.span.Span.{Span}
 use Rattle.mace_ast.specs.declared.name.Name.{Name}
 use Rattle.mace_ast.specs.declared.field.VarDecl.{VarDecl}
 use Rattle.mace_ast.specs.declared.context.ContextDecl.{ContextDecl, ContextDecl', out-ContextDecl, the_lemmas}
-use Rattle.mace_ast.specs.declared.method.MethodDecl.{MethodDecl}
-use Rattle.mace_ast.specs.declared.event.EventDecl.{EventDecl}
 use Rattle.mace_ast.proofs.Rows.{row_contexts-items}
-use Rattle.mace_ast.specs.Decls.{method_tree, event_tree, context_tree, MethodTree, ContextTree, ContextTrees, Context, no_contexts, context_and, contexts_of, ServiceTree}
+use Rattle.mace_ast.specs.Decls.{method_tree, context_tree, MethodTree, ContextTree, ContextTrees, Context, no_contexts, context_and, contexts_of, ServiceTree}
 use Rattle.type_rules.specs.declared.known.Known.{Known}
 use Rattle.type_rules.specs.declared.known.Signature.{Signature}
 use Rattle.type_rules.specs.Known.{Entry, class_count, classes_count, classes_of, classes_in, entry, methods_of, methods_in, signature, event_info, shape_of, known_of}
@@ -20,9 +18,6 @@ use Rattle.name_table.specs.Numbers.{noted}
 use Rattle.type_tables.proofs.Indexing.{indexed_as, indexed_class, indexed_event, indexed_method}
 
 -- ---- growing
-
-pub grown_none : (k : Known) → grown k [] [] [] ≡ k
-grown_none k = (λ i. record { version = k.version; shape = record { classes = append-nil k.shape.classes i; events = append-nil k.shape.events i }; above = append-nil k.above i; methods = append-nil k.methods i })
 
 pub grown_twice : (k : Known) (a b : List Entry) (c d : List Signature) (e f : List EventInfo) → grown (grown k a c e) b d f ≡ grown k (a ++ b) (c ++ d) (e ++ f)
 grown_twice k a b c d e f =
@@ -35,10 +30,6 @@ grown_twice k a b c d e f =
   where
     joined : {X Y : Type 0} (g : X → Y) (ys : List Y) (a b : List X) → (ys ++ map g a) ++ map g b ≡ ys ++ map g (a ++ b)
     joined g ys a b = append_assoc ys (map g a) (map g b) ∙ ap (λ l. ys ++ l) (sym (map-append g a b))
-
--- nothing more
-pub gains_none : (g : Gathered) → IsGathered g → Gains g g [] [] []
-gains_none g h = record { gathered = h; known = sym (grown_none (known_in g)) }
 
 -- first some, and then more
 pub gains_twice : (g h j : Gathered) (a b : List Entry) (c d : List Signature) (e f : List EventInfo) → Gains g h a c e → Gains h j b d f → Gains g j (a ++ b) (c ++ d) (e ++ f)
@@ -114,32 +105,6 @@ pub tree_parts : (c : ContextDecl) → context_tree c ≡ Context (out-ContextDe
 tree_parts (ContextDecl' at name vars s inner methods) = search (rules, the_lemmas, row_contexts-items)
 
 -- ---- loops
-
-map_twice : {X Y Z : Type 0} (f : Y → Z) (g : X → Y) (xs : List X) (i : ℕ) (x : X) → i < length xs → x ≡ get_or xs i x → map f (map g (take i xs)) ++ f (g x) ∷ [] ≡ map f (map g (take (i + 1) xs))
-map_twice f g xs i x l at = sym (map-append f (map g (take i xs)) (g x ∷ [])) ∙ ap (map f) (sym (map_more g xs i x l at))
-
-pub gains_method : (g h j : Gathered) (class : ℕ) (ms : List MethodDecl) (i : ℕ) (m : MethodDecl) → i < length ms → m ≡ get_or ms i m
-    → Gains g h [] (map (signature class) (map method_tree (take i ms))) [] → Gains h j [] (signature class (method_tree m) ∷ []) [] → Gains g j [] (map (signature class) (map method_tree (take (i + 1) ms))) []
-gains_method g h j class ms i m l at first second =
-    gains_as g j _ _ _ _ _ _ refl (map_twice (signature class) method_tree ms i m l at) refl (gains_twice g h j _ _ _ _ _ _ first second)
-
-pub gains_event : (g h j : Gathered) (es : List EventDecl) (i : ℕ) (e : EventDecl) → i < length es → e ≡ get_or es i e
-    → Gains g h [] [] (map event_info (map event_tree (take i es))) → Gains h j [] [] (event_info (event_tree e) ∷ []) → Gains g j [] [] (map event_info (map event_tree (take (i + 1) es)))
-gains_event g h j es i e l at first second =
-    gains_as g j _ _ _ _ _ _ refl refl (map_twice event_info event_tree es i e l at) (gains_twice g h j _ _ _ _ _ _ first second)
-
--- all of the methods and all of the events, where the loop is at its end
-pub methods_whole : (g h : Gathered) (class n : ℕ) (ms : List MethodDecl) → length ms ≤ n → Gains g h [] (map (signature class) (map method_tree (take n ms))) [] → Gains g h [] (map (signature class) (map method_tree ms)) []
-methods_whole g h class n ms l t = gains_as g h _ _ _ _ _ _ refl (ap (λ xs. map (signature class) (map method_tree xs)) (take_all n ms l)) refl t
-
-pub events_whole : (g h : Gathered) (n : ℕ) (es : List EventDecl) → length es ≤ n → Gains g h [] [] (map event_info (map event_tree (take n es))) → Gains g h [] [] (map event_info (map event_tree es))
-events_whole g h n es l t = gains_as g h _ _ _ _ _ _ refl refl (ap (λ xs. map event_info (map event_tree xs)) (take_all n es l)) t
-
-pub contexts_whole : (g h : Gathered) (above : List ℕ) (parent m n : ℕ) (cs : List ContextDecl) → length cs ≤ n
-    → Gains g h (classes_in above parent m (contexts_of (map context_tree (take n cs)))) (methods_in m (contexts_of (map context_tree (take n cs)))) []
-    → Gains g h (classes_in above parent m (contexts_of (map context_tree cs))) (methods_in m (contexts_of (map context_tree cs))) []
-contexts_whole g h above parent m n cs l t =
-    gains_as g h _ _ _ _ _ _ (ap (λ xs. classes_in above parent m (contexts_of (map context_tree xs))) (take_all n cs l)) (ap (λ xs. methods_in m (contexts_of (map context_tree xs))) (take_all n cs l)) refl t
 
 -- a class, the contexts inside it, and then its methods
 pub gains_inside : (g h j k : Gathered) (above inner : List ℕ) (parent n : ℕ) (at : Span) (name : Name) (vars : List VarDecl) (cs : List ContextTree) (ms : List MethodTree) (c : ContextTree)

@@ -1,5 +1,5 @@
 -- The values of a map, added up.
-use Rattle.std.proofs.Common.{◌≡◌, ℕ, zero, suc, ◌+◌, ◌*◌, ◌<◌, ◌≤◌, ◌^◌, ℤ, pos, negsuc, neg_ℤ, ◌+ℤ◌, ◌≤ℤ◌, List, [], ◌∷◌, length, take, get_or, refl, sym, ap, subst, ◌∙◌, arith, w64, FitsSigned, to_z, of_z}
+use Rattle.std.proofs.Common.{◌≡◌, ℕ, zero, suc, ◌+◌, ◌*◌, ◌<◌, ◌≤◌, ◌^◌, ℤ, pos, negsuc, neg_ℤ, ◌+ℤ◌, ◌≤ℤ◌, List, [], ◌∷◌, length, take, get_or, refl, ap, ◌∙◌, arith, w64, FitsSigned, to_z, of_z}
 use Rattle.std.specs.Int.{w128}
 use Rattle.std.proofs.lemmas.Int.{ints, to_z-of_z, fits_signed_from_abs}
 use Rattle.value_ops.specs.Meanings.{total}
@@ -44,9 +44,6 @@ module _ (t v : ℤ) (i : ℕ) (high : t ≤ℤ pos (i * 2 ^ 63)) (low : neg_ℤ
 
   sum_fits : FitsSigned w128 (t +ℤ v)
   sum_fits = fits_between (t +ℤ v) ((i + 1) * 2 ^ 63) sum_high sum_low (omega (arith, few))
-
-  pub kept_fits : FitsSigned w128 (t +ℤ to_z w128 (of_z w128 v))
-  kept_fits = subst (λ x. FitsSigned w128 (t +ℤ x)) (sym (int_plain v fits)) sum_fits
 
   pub kept_is : to_z w128 (of_z w128 (t +ℤ to_z w128 (of_z w128 v))) ≡ (t +ℤ v)
   kept_is = (λ j. to_z w128 (of_z w128 (t +ℤ int_plain v fits j))) ∙ to_z-of_z w128 (t +ℤ v) sum_fits

@@ -14,7 +14,8 @@ use Rattle.event_cells.specs.declared.outbox.Envelope.{Envelope}
 use Rattle.event_cells.specs.Cells.{StandsFor, Carries, IsEnvelope, is_over, hold_of, with_actor, with_held, with_mail}
 use Rattle.wave_states.specs.States as theory
 use Rattle.wave_states.specs.States.{Ask, Enter, Hand, set}
-use Rattle.wave_states.specs.Steps.{Desk, Part, without_mail}
+use Rattle.wave_states.specs.Desks.{Desk}
+use Rattle.wave_states.specs.Steps.{Part, without_mail}
 use Rattle.code_actor.specs.CodeActors.{Fields}
 use Rattle.plan_actors.specs.PlanActors as actors
 use Rattle.plan_actors.specs.PlanActors.{plan_actors}

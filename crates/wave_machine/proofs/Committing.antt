@@ -12,7 +12,7 @@ use Rattle.wave_base.specs.declared.script.Line.{Line}
 use Rattle.wave_base.specs.Fold.{Head, created_lines, first_head, head_after, made, tickets_of, with_done}
 use Rattle.wave_machine.specs.Kinds.{kind_of}
 use Rattle.script_fold.specs.Runs.{ticket_of}
-use Rattle.script_fold.proofs.FoldLemmas.{head_push}
+use Rattle.script_fold.proofs.LeftLemmas.{head_push}
 use Rattle.head_tickets.specs.Heads.{Heading, head_of}
 use Rattle.commit_order.specs.Commits.{Committing, ready_result}
 use Rattle.wave_states.specs.Steps.{committed}

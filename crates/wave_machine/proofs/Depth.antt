@@ -18,7 +18,7 @@ use Rattle.wave_base.specs.Shapes.{is_path}
 use Rattle.wave_base.specs.Tree.{there, children_of}
 use Rattle.service_verify.proofs.Classes.{short_path}
 use Rattle.script_fold.specs.Lines.{most_jobs}
-use Rattle.script_fold.proofs.FoldLemmas.{most_lines}
+use Rattle.script_fold.proofs.LeftLemmas.{most_lines}
 use Rattle.code_actor.specs.CodeActors.{Fields, pause_of}
 use Rattle.wave_states.specs.Actors.{Pause, Go, Down, Back, Over}
 use Rattle.wave_states.specs.Begins.{Begin, child_at_start, column_at_start, entry_at_start, start_state}
@@ -31,7 +31,8 @@ use Rattle.service_verify.specs.Standing.{HasFields}
 use Rattle.wave_states.specs.Results.{end_of, shots_of}
 use Rattle.wave_states.specs.States as theory
 use Rattle.wave_states.specs.States.{Column, Entry, Hand, Hold, Mail, hold_at, holds_as_peek, set, steps_of}
-use Rattle.wave_states.specs.Steps.{Desk, child_or_new, desk_back, into_child, part_of, segment_of, step}
+use Rattle.wave_states.specs.Desks.{Desk}
+use Rattle.wave_states.specs.Steps.{child_or_new, desk_back, into_child, part_of, segment_of, step}
 use Rattle.wave_states.specs.Walkers.{Walker, copied_now, first_of, last_step, leave, steps_left, walk_on}
 use Rattle.wave_theory.proofs.Basics.{bool_cases, clash, none_not, options, path_is, some_same, then_some}
 use Rattle.wave_theory.proofs.Maps.{any_child, child_put, none_any}

@@ -10,7 +10,8 @@ use Rattle.wave_states.specs.Actors.{Actors, Pause, Go, Down, Back, Over}
 use Rattle.wave_states.specs.Labels.{Act, Label, Admit, Queue, Grant, Visit, Start, Stop, Free, Pass, Land, Commit, ticket_of, path_of, is_local}
 use Rattle.wave_states.specs.States as theory
 use Rattle.wave_states.specs.States.{Cell, Column, Entry, Hand, Hold, Letter, Enter, Release, Transfer, Mail, Record, State, Ended, hold_at, holds_as_peek, set}
-use Rattle.wave_states.specs.Steps.{Bench, Desk, Part, Route, Deliver, Born, Wait, Forward, act_bench, admitted, child_or_new, committed, desk_back, ended, entry_for, give_up, host_or, into_child, keep_below, kept_of, left_by, left_of, moved_on, new_cell, next_ticket, not_at, nothing_kept, only_if, over_by, over_here, over_there, part_of, put_back, release, route, seen_by, segment_of, send, step, with_bench, with_body, with_entry, with_held, with_status}
+use Rattle.wave_states.specs.Steps.{Bench, Part, Route, Deliver, Born, Wait, Forward, act_bench, admitted, child_or_new, committed, desk_back, ended, entry_for, host_or, into_child, keep_below, left_by, moved_on, new_cell, next_ticket, only_if, over_by, over_here, over_there, part_of, put_back, route, seen_by, segment_of, step, with_bench, with_body, with_entry}
+use Rattle.wave_states.specs.Desks.{Desk, give_up, kept_of, left_of, not_at, nothing_kept, release, send, with_held, with_status}
 use Rattle.wave_theory.proofs.Basics.{and_second, if_some, none_not, only_some, path_is, some_same, then_some}
 use Rattle.wave_theory.proofs.Opened.{frees, grants, lands, passes, queues, starts, stopping, visits}
 use Rattle.wave_machine.specs.inner.Leaving.{paused_by, stopped_by}

@@ -22,7 +22,8 @@ use Rattle.code_actor.specs.CodeActors.{Fields}
 use Rattle.service_code.specs.declared.program.Program.{Program}
 use Rattle.wave_states.specs.States as theory
 use Rattle.wave_states.specs.States.{Column}
-use Rattle.wave_states.specs.Steps.{Desk, new_entry}
+use Rattle.wave_states.specs.Desks.{Desk}
+use Rattle.wave_states.specs.Steps.{new_entry}
 use Rattle.plan_actors.specs.PlanActors.{plan_actors}
 use Rattle.wave_machine.specs.declared.actor.Actor.{Actor}
 use Rattle.wave_machine.specs.Keeping.{RoomToGrant, RoomToLand}

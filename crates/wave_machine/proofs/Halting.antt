@@ -12,7 +12,7 @@ use Rattle.wave_base.specs.declared.path.Path.{Path}
 use Rattle.wave_base.specs.declared.pause.Pause.{Pause}
 use Rattle.wave_base.specs.declared.start.Start.{Start}
 use Rattle.script_fold.specs.Lines.{most_jobs}
-use Rattle.script_fold.proofs.FoldLemmas.{most_lines}
+use Rattle.script_fold.proofs.LeftLemmas.{most_lines}
 use Rattle.context_queue.specs.declared.entry.Entry as E
 use Rattle.host_map.specs.Stores.{Stores, Matches, has}
 use Rattle.code_actor.specs.CodeActors.{Fields}

@@ -12,7 +12,7 @@ use Rattle.wave_base.specs.declared.start.Start.{Start}
 use Rattle.wave_base.specs.Fold.{Head, begun, created_lines, next_batch, tickets_of, with_done}
 use Rattle.script_fold.specs.Lines.{FitsJob}
 use Rattle.wave_machine.specs.Kinds.{kind_of}
-use Rattle.script_fold.proofs.FoldLemmas.{All-drop_head}
+use Rattle.script_fold.proofs.LeftLemmas.{All-drop_head}
 use Rattle.head_tickets.specs.Heads.{Heading, head_of, last_known, line_count, next_line}
 use Rattle.commit_order.specs.Commits.{Committing, ready_result}
 use Rattle.event_cells.specs.declared.cell.Cell.{Cell}

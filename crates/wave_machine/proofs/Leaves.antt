@@ -10,7 +10,8 @@ use Rattle.code_actor.specs.CodeActors.{Fields}
 use Rattle.wave_states.specs.Actors.{Actors, Pause, Left, Go, Down, Back, Over}
 use Rattle.wave_states.specs.States as theory
 use Rattle.wave_states.specs.States.{Cell, Column, Entry, Release, Ended, hold_at}
-use Rattle.wave_states.specs.Steps.{Desk, Part, cell_of, departed, ended, give_up, into_child, kept_of, left_of, over_by, over_here, over_there, paused, put_back, release, send, stopped, with_body, with_entry, with_held, with_status, nothing_kept, not_at, moved_on}
+use Rattle.wave_states.specs.Desks.{Desk, give_up, kept_of, left_of, release, send, with_held, with_status, nothing_kept, not_at}
+use Rattle.wave_states.specs.Steps.{Part, cell_of, departed, ended, into_child, over_by, over_here, over_there, paused, put_back, stopped, with_body, with_entry, moved_on}
 use Rattle.wave_theory.proofs.Basics.{none_not, some_same}
 use Rattle.plan_actors.specs.PlanActors as actors
 use Rattle.wave_machine.specs.declared.actor.Actor.{Actor}

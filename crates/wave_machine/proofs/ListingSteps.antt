@@ -10,7 +10,8 @@ use Rattle.wave_states.specs.Labels.{Act, Choice, Label, Admit, Queue, Grant, St
 use Rattle.wave_states.specs.Labels
 use Rattle.wave_states.specs.States.{State, Ask, Claim, Column, Entry, Event, Letter, Enter, Visit, Back, Release, Transfer, Mail, Mark, ask_in, entry_in, is_coming, is_release}
 use Rattle.wave_states.specs.States
-use Rattle.wave_states.specs.Steps.{Part, Route, granted, queued, with_event, without_mail, with_status, with_entry, with_holders, others, landed, Deliver, Born, Wait, Forward, act_bench, admit, admitted, commit, committed, entry_for, free, grant, land, letter_at, mail_for, may_join, next_ticket, only_if, part_of, pass, passed_on, queue, route, route_by, step, step_by, visit, with_bench}
+use Rattle.wave_states.specs.Steps.{Part, Route, granted, queued, with_event, without_mail, with_entry, with_holders, others, landed, Deliver, Born, Wait, Forward, act_bench, admit, admitted, commit, committed, entry_for, free, grant, land, letter_at, mail_for, may_join, next_ticket, only_if, part_of, pass, passed_on, queue, route, route_by, step, step_by, visit, with_bench}
+use Rattle.wave_states.specs.Desks.{with_status}
 use Rattle.wave_theory.proofs.Basics.{number_self, path_self}
 use Rattle.wave_theory.proofs.Reading.{step_local}
 use Rattle.wave_machine.specs.inner.Asking.{enter_act, is_claim, label_at, of_kind}

@@ -10,7 +10,8 @@ use Rattle.wave_states.specs.Actors.{Actors, Pause, Left, Go, Down, Over}
 use Rattle.wave_states.specs.Labels.{Act, Admit, Commit, Queue, Grant, Visit, Start as Starting, Stop, Free, Pass, Land, ticket_of}
 use Rattle.wave_states.specs.States as theory
 use Rattle.wave_states.specs.States.{Enter, Entry, Event, Hand, Hold, Mail, Release, State, Transfer, Ended, Ready, Running, Waiting, hold_at, holds_as_peek, set}
-use Rattle.wave_states.specs.Steps.{Bench, Desk, Part, act_bench, desk_back, ended, give_up, granted, host_or, into_child, kept_of, left_of, looked, moved_on, not_at, nothing_kept, over_by, over_here, over_there, part_of, paused, queued, release, segment_of, send, started, step, stop, stopped, with_bench, with_body, with_event, with_hand, with_held, with_status, without_mail}
+use Rattle.wave_states.specs.Steps.{Bench, Part, act_bench, desk_back, ended, granted, host_or, into_child, looked, moved_on, over_by, over_here, over_there, part_of, paused, queued, segment_of, started, step, stop, stopped, with_bench, with_body, with_event, with_hand, without_mail}
+use Rattle.wave_states.specs.Desks.{Desk, give_up, kept_of, left_of, not_at, nothing_kept, release, send, with_held, with_status}
 use Rattle.wave_theory.proofs.Basics.{differ, if_some, none_not, set_at, set_there, some_same}
 use Rattle.wave_theory.proofs.Opened.{frees, grants, lands, passes, queues, starts, stopping, visits}
 use Rattle.wave_machine.specs.inner.Apart.{grown}

@@ -12,7 +12,7 @@ use Rattle.wave_states.specs.Begins.{Begin}
 use Rattle.wave_states.specs.Kinds.{Kind}
 use Rattle.wave_states.specs.States as theory
 use Rattle.wave_states.specs.States.{State, Event, Entry, Ended}
-use Rattle.wave_states.specs.Steps.{Desk}
+use Rattle.wave_states.specs.Desks.{Desk}
 use Rattle.wave_theory.specs.Agree.{Agree}
 use Rattle.wave_theory.specs.Bounds.{Bounds}
 use Rattle.code_actor.specs.CodeActors.{Fields}

@@ -19,7 +19,8 @@ use Rattle.wave_states.specs.Labels as labels
 use Rattle.wave_states.specs.Labels.{Label}
 use Rattle.wave_states.specs.States as theory
 use Rattle.wave_states.specs.States.{Column, Hand, holds_as_peek, set}
-use Rattle.wave_states.specs.Steps.{Bench, Desk, Part, act_bench, left_by, part_of, seen_by, start, step, with_body}
+use Rattle.wave_states.specs.Steps.{Bench, Part, act_bench, left_by, part_of, seen_by, start, step, with_body}
+use Rattle.wave_states.specs.Desks.{Desk}
 use Rattle.wave_theory.proofs.Basics.{none_not}
 use Rattle.wave_theory.proofs.Opened.{Starts, starts}
 use Rattle.plan_actors.specs.PlanActors as actors

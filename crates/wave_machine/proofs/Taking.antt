@@ -15,7 +15,8 @@ use Rattle.wave_states.specs.Labels.{Label, Free, Grant, Land, Pass, Visit}
 use Rattle.wave_states.specs.Runs.{run}
 use Rattle.wave_states.specs.States as theory
 use Rattle.wave_states.specs.States.{Ask, Column, State, Event}
-use Rattle.wave_states.specs.Steps.{Desk, landed, others, part_of, step, with_holders}
+use Rattle.wave_states.specs.Desks.{Desk}
+use Rattle.wave_states.specs.Steps.{landed, others, part_of, step, with_holders}
 use Rattle.wave_theory.proofs.Basics.{some_same, then_some}
 use Rattle.wave_theory.proofs.Opened.{LetterIs, frees, grants, lands, passes, visits}
 use Rattle.plan_actors.specs.PlanActors as actors

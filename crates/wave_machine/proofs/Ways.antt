@@ -19,7 +19,8 @@ use Rattle.code_actor.specs.CodeActors.{Fields}
 use Rattle.wave_states.specs.Actors.{Go, Down, Back, Over}
 use Rattle.wave_states.specs.States as theory
 use Rattle.wave_states.specs.States.{Column, Entry, Mail, hold_at, set}
-use Rattle.wave_states.specs.Steps.{Desk, Part, cell_of, departed, ended, give_up, host_or, into_child, over_by, over_here, over_there, put_back, send, with_body, with_entry}
+use Rattle.wave_states.specs.Desks.{Desk, give_up, send}
+use Rattle.wave_states.specs.Steps.{Part, cell_of, departed, ended, host_or, into_child, over_by, over_here, over_there, put_back, with_body, with_entry}
 use Rattle.wave_theory.proofs.Basics.{none_not, some_not, some_same}
 use Rattle.wave_machine.specs.declared.actor.Actor.{Actor}
 use Rattle.wave_machine.specs.inner.Leaving.{HasLeft, Hold, Tells, away_from, into, paused_by, sent_off, stopped_by}

@@ -16,7 +16,8 @@ use Rattle.event_cells.specs.declared.cell.JobKind.{JobKind}
 use Rattle.event_cells.specs.Cells as cells
 use Rattle.wave_states.specs.States as theory
 use Rattle.wave_states.specs.States.{State, Event, Hand}
-use Rattle.wave_states.specs.Steps.{Desk, step}
+use Rattle.wave_states.specs.Desks.{Desk}
+use Rattle.wave_states.specs.Steps.{step}
 use Rattle.wave_states.specs.Begins.{start_state}
 use Rattle.wave_states.specs.Labels.{Label}
 use Rattle.wave_states.specs.Runs.{run}

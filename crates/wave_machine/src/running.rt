@@ -7,7 +7,7 @@ ghost use Rattle.context_queue.specs.Entries.{record_of};
 ghost use Rattle.event_cells.specs.Cells.{StandsFor};
 ghost use Rattle.event_cells.specs.declared.cell.Cell as cells;
 ghost use Rattle.wave_labels.specs.Labels.{label_of};
-ghost use Rattle.wave_states.specs.Steps.{Desk};
+ghost use Rattle.wave_states.specs.Desks.{Desk};
 ghost use Rattle.wave_machine.specs.Actors.{MayRun, peeks_now};
 ghost use Rattle.wave_machine.specs.Machines.{IsEnabled, Keeps, Takes};
 ghost use Rattle.wave_machine.specs.Running.{CanStop, IsCopy, IsStopping, Leases, Stops, stop_of};

@@ -11,7 +11,8 @@ use Rattle.wave_states.specs.Work.{work_after}
 use Rattle.wave_states.specs.Begins.{Begin, start_state}
 use Rattle.wave_states.specs.Canonical.{below, idle_in, taken_by, early, enabled}
 use Rattle.wave_states.specs.Walkers.{Walker, walkers}
-use Rattle.wave_states.specs.Steps.{step, ◌>>=◌, granted, part_of, with_bench, with_entry, with_body, with_held, with_status, child_or_new, put_back, into_child, desk_back, segment_of, cell_of, release}
+use Rattle.wave_states.specs.Steps.{step, ◌>>=◌, granted, part_of, with_bench, with_entry, with_body, child_or_new, put_back, into_child, desk_back, segment_of, cell_of}
+use Rattle.wave_states.specs.Desks.{with_held, with_status, release}
 use Rattle.wave_states.specs.Runs.{run}
 use Rattle.wave_states.specs.Alone.{fold_alone, after_segments, first_alone}
 use Rattle.wave_states.proofs.Trips.{Trip, Told, Sum, Adds, Moves_to, trips, trip, hall, begin}

@@ -3,6 +3,7 @@ pub mod Alone
 pub mod Begins
 pub mod Canonical
 pub mod Counter
+pub mod Desks
 pub mod Kinds
 pub mod Labels
 pub mod Movers

@@ -11,8 +11,9 @@ use Rattle.wave_base.specs.Kids.{child_at, with_child}
 use Rattle.wave_base.specs.Fold.{with_done}
 use Rattle.wave_states.specs.Actors.{Actors, Pause, Left, Go, Down, Over}
 use Rattle.wave_states.specs.Actors.Pause.{Back}
-use Rattle.wave_states.specs.States.{set, Record, Claim, Entry, Mark, Ask, Letter, Enter, Release, Transfer, Mail, Status, Travelling, Ended, Waiting, Ready, Running, Hold, Event, Cell, Column, Hand, State, hold_at, holds_as_peek, steps_of, ask_in, is_coming, is_release, entry_in}
+use Rattle.wave_states.specs.States.{set, Record, Claim, Entry, Mark, Ask, Letter, Enter, Transfer, Mail, Status, Travelling, Ended, Waiting, Ready, Running, Hold, Event, Cell, Column, Hand, State, hold_at, holds_as_peek, steps_of, ask_in, is_coming, is_release, entry_in}
 use Rattle.wave_states.specs.Labels.{Act, Label, Admit, Queue, Grant, Visit, Start, Stop, Free, Pass, Land, Commit, ticket_of, path_of}
+use Rattle.wave_states.specs.Desks.{Desk, with_held, with_status, kept_of, nothing_kept, not_at, send, give_up}
 
 -- o, and then f of what it is
 infixl 10 ◌>>=◌
@@ -92,46 +93,6 @@ seen_by false b = b
 abbrev pub left_by : {F : Type 0} → Bool → Record F → Option (Record F)
 left_by true b = Some b
 left_by false b = None
-
--- an event with its mails under way
-pub record Desk (A F : Type 0) : Type 0 where
-  pub event : Event A
-  pub mails : ℕ → Option (Mail F)
-
-abbrev pub with_held : {A : Type 0} → Event A → List (Path × Hold) → Event A
-with_held e held = record { actor = e.actor; held = held; sent = e.sent; status = e.status }
-
-abbrev pub with_status : {A : Type 0} → Event A → Status → Event A
-with_status e status = record { actor = e.actor; held = e.held; sent = e.sent; status = status }
-
-abbrev pub kept_of : (Path → Bool) → List (Path × Hold) → List (Path × Hold)
-kept_of keep held = filter (λ x. keep x.0) held
-
-abbrev pub left_of : (Path → Bool) → List (Path × Hold) → List (Path × Hold)
-left_of keep held = filter (λ x. not (keep x.0)) held
-
-abbrev pub nothing_kept : Path → Bool
-nothing_kept p = false
-
-abbrev pub not_at : Path → Path → Bool
-not_at p q = not (path_eq p q)
-
-module _ {A F : Type 0} where
-  -- a mail of the event, under the next number
-  abbrev pub send : Desk A F → Mail F → Desk A F
-  send d m = record {
-    event = record { actor = d.event.actor; held = d.event.held; sent = suc d.event.sent; status = d.event.status };
-    mails = set nat_eq d.mails (suc d.event.sent) (Some m);
-  }
-
-  -- a Release for each of these held paths, in their order
-  abbrev pub release : List (Path × Hold) → Desk A F → Desk A F
-  release [] d = d
-  release (x ∷ xs) d = release xs (send d (record { host = x.1.host; path = x.0; letter = Release }))
-
-  -- the event releases all that it holds but for what it keeps
-  abbrev pub give_up : (Path → Bool) → Desk A F → Desk A F
-  give_up keep d = release (left_of keep d.event.held) (record { event = with_held d.event (kept_of keep d.event.held); mails = d.mails })
 
 -- the mail of this number, where it is for this host and path
 abbrev pub mail_for : {F : Type 0} → ℕ → Path → Option (Mail F) → Option (Letter F)

@@ -88,9 +88,6 @@ pub record IsReadTo (bytes front rest : List ℕ) : Type 0 where
   pub sound : (t r : List ℕ) → Quotes rest t r → Quotes bytes (front ++ t) r
   pub whole : (t r : List ℕ) → Quotes bytes t r → (u : List ℕ) × (t ≡ front ++ u) × Quotes rest u r
 
-pub nothing_read : (bytes : List ℕ) → IsReadTo bytes [] bytes
-nothing_read bytes = record { sound = λ t r q. q; whole = λ t r q. (t, refl, q) }
-
 nothing_else : (rest r : List ℕ) → Quotes rest [] r → next_in rest ≡ Close r
 nothing_else rest r q = ap next_in q.spelled
 

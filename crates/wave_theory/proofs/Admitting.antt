@@ -9,8 +9,8 @@ use Rattle.wave_states.specs.Actors.{Actors}
 use Rattle.wave_states.specs.States.{State, Column, Enter, Mail, Travelling, set, Cell}
 use Rattle.wave_states.specs.Steps.{new_cell, admitted, committed}
 use Rattle.wave_theory.proofs.Basics.{clash, some_same, none_not, number_cases, path_self, path_cases, set_at, set_there, differ}
-use Rattle.wave_theory.proofs.Order.{Way, IsWay, Entering, Lined, Done, is_pending, here, one_more, Coming, rank}
-use Rattle.wave_theory.proofs.Stops.{admit_good, root_number}
+use Rattle.wave_theory.proofs.Order.{Way, IsWay, Entering, Done, is_pending, here, one_more, rank}
+use Rattle.wave_theory.proofs.NewTickets.{admit_good, root_number}
 use Rattle.wave_theory.proofs.Leaves.{Course, IsCourse}
 use Rattle.wave_theory.proofs.Frames.{cell_frame, entry_frame, column_frame, hand_frame}
 use Rattle.wave_theory.proofs.Alive
@@ -18,6 +18,7 @@ use Rattle.wave_theory.proofs.Tallies
 use Rattle.wave_theory.proofs.Deeds
 use Rattle.wave_states.specs.Labels
 use Rattle.wave_theory.proofs.Shows
+use Rattle.wave_theory.proofs.Stages.{done_lined, entering_coming, entering_lined}
 
 module _ {A F R J : Type 0} (sys : Actors A F R J) (w : Way) (law : IsWay w) (course : Course sys) (low : ℕ) (is_real : ℕ → Type 0) (courses : IsCourse sys w course low is_real) where
   -- what is known of the next ticket
@@ -55,9 +56,6 @@ module _ {A F R J : Type 0} (sys : Actors A F R J) (w : Way) (law : IsWay w) (co
       where
         too_far : suc g.lines.admitted ≤ g.lines.admitted → ⊥
         too_far m = omega arith
-
-    done_lined : Done ≡ Lined → ⊥
-    done_lined e = grind arith
 
     not_child : (a : Path) (i : Step) → path_eq [] (a ++ i ∷ []) ≡ false
     not_child [] i = refl
@@ -222,9 +220,6 @@ module _ {A F R J : Type 0} (sys : Actors A F R J) (w : Way) (law : IsWay w) (co
       ];
     }
       where
-        entering_coming : Entering ≡ Coming → ⊥
-        entering_coming e = grind arith
-
         older : (b : ℕ) → b ≤ suc g.lines.admitted → nat_eq t b ≡ false → b ≤ g.lines.admitted
         older b l z = at_or_below b g.lines.admitted l z
           where
@@ -258,12 +253,6 @@ module _ {A F R J : Type 0} (sys : Actors A F R J) (w : Way) (law : IsWay w) (co
       where
         new_one : (b : ℕ) → b ≤ g.lines.admitted → nat_eq t b ≡ false
         new_one b l = differ t b (λ z. omega (arith, l))
-
-        entering_coming : Entering ≡ Coming → ⊥
-        entering_coming e = grind arith
-
-        entering_lined : Entering ≡ Lined → ⊥
-        entering_lined e = grind arith
 
         older : (b : ℕ) → b ≤ suc g.lines.admitted → nat_eq t b ≡ false → b ≤ g.lines.admitted
         older b l z = at_or_below b g.lines.admitted l z

@@ -24,11 +24,12 @@ use Rattle.wave_theory.proofs.Told
 use Rattle.wave_theory.proofs.AsAlone.{claim_in, in_claims}
 use Rattle.wave_theory.proofs.Spent.{OnceIn}
 use Rattle.wave_theory.proofs.Spent
-use Rattle.wave_theory.proofs.Reached.{Good_state}
-use Rattle.wave_theory.proofs.Reached
+use Rattle.wave_theory.proofs.GoodStates.{Good_state}
+use Rattle.wave_theory.proofs.GoodStates
 use Rattle.wave_theory.specs.Numbers.{HasEntry}
 use Rattle.wave_theory.specs.Listed.{IsIn}
 use Rattle.wave_theory.specs.Agree.{Agree, IsHolder, IsAway}
+use Rattle.wave_theory.proofs.Stages.{coming_done, entering_done, lined_done, lined_entering, there_done}
 
 -- the only claim
 one_claim : (hs : List Claim) (c : Claim) → OnceIn hs → IsIn hs c → ((d : Claim) → IsIn hs d → d.ticket ≡ c.ticket) → hs ≡ c ∷ []
@@ -70,41 +71,17 @@ done_ended st Done o p z e = by st z
     by (Waiting q) z = absurd z
     by (Ready q) z = absurd z
     by (Running q) z = absurd z
-done_ended st Entering o p z e = absurd (not_done e)
-  where
-    not_done : Entering ≡ Done → ⊥
-    not_done e = grind arith
-done_ended st Lined o p z e = absurd (not_done e)
-  where
-    not_done : Lined ≡ Done → ⊥
-    not_done e = grind arith
-done_ended st Coming o p z e = absurd (not_done e)
-  where
-    not_done : Coming ≡ Done → ⊥
-    not_done e = grind arith
-done_ended st There o p z e = absurd (not_done e)
-  where
-    not_done : There ≡ Done → ⊥
-    not_done e = grind arith
+done_ended st Entering o p z e = absurd (entering_done e)
+done_ended st Lined o p z e = absurd (lined_done e)
+done_ended st Coming o p z e = absurd (coming_done e)
+done_ended st There o p z e = absurd (there_done e)
 
 pub stage_cases : (v : Stage) → (v ≡ Done) ⊎ (v ≡ Done → ⊥)
 stage_cases Done = inl refl
-stage_cases Entering = inr not_done
-  where
-    not_done : Entering ≡ Done → ⊥
-    not_done e = grind arith
-stage_cases Lined = inr not_done
-  where
-    not_done : Lined ≡ Done → ⊥
-    not_done e = grind arith
-stage_cases Coming = inr not_done
-  where
-    not_done : Coming ≡ Done → ⊥
-    not_done e = grind arith
-stage_cases There = inr not_done
-  where
-    not_done : There ≡ Done → ⊥
-    not_done e = grind arith
+stage_cases Entering = inr entering_done
+stage_cases Lined = inr lined_done
+stage_cases Coming = inr coming_done
+stage_cases There = inr there_done
 
 module _ {A F R J : Type 0} (kind : Kind A F R J) (owes : Owes kind) (b : Begin F) (batches : List (List J)) (begins : IsBegin kind b) (jobs : All (All kind.is_job) batches) where
   abbrev w : Way
@@ -126,26 +103,11 @@ module _ {A F R J : Type 0} (kind : Kind A F R J) (owes : Owes kind) (b : Begin 
     abbrev g : Shows.Ghost F
     g = k.ghost
 
-    entering_done : Entering ≡ Done → ⊥
-    entering_done e = grind arith
-
-    lined_done : Lined ≡ Done → ⊥
-    lined_done e = grind arith
-
-    lined_entering : Lined ≡ Entering → ⊥
-    lined_entering e = grind arith
-
-    coming_done : Coming ≡ Done → ⊥
-    coming_done e = grind arith
-
-    there_done : There ≡ Done → ⊥
-    there_done e = grind arith
-
     first : (a t : ℕ) → a < t → 1 ≤ t
     first a t l = omega (arith, l)
 
     mail_known : (t i : ℕ) (m : Mail F) → (s.cells t).mails i ≡ Some m → (b.before < t) × (t ≤ (g).lines.admitted)
-    mail_known t i m e = Reached.known kind owes b batches begins jobs s k.ghost x t (λ q. none_not (sym (ap (λ (u : Cell A F R). u.mails i) q) ∙ e))
+    mail_known t i m e = GoodStates.known kind owes b batches begins jobs s k.ghost x t (λ q. none_not (sym (ap (λ (u : Cell A F R). u.mails i) q) ∙ e))
 
     shown : (t i : ℕ) (m : Mail F) → (s.cells t).mails i ≡ Some m → (l : Letter F) → m.letter ≡ l → Shows.MailShows kind.system w course b.before Is_real k.ghost t i m.host m.path l
     shown t i m e l z = (let n = mail_known t i m e in subst (Shows.MailShows kind.system w course b.before Is_real k.ghost t i m.host m.path) z ((x.cells t n.0 n.1).mails i m e))
@@ -269,7 +231,7 @@ module _ {A F R J : Type 0} (kind : Kind A F R J) (owes : Owes kind) (b : Begin 
       )
         where
           n : (b.before < t) × (t ≤ (g).lines.admitted)
-          n = Reached.known kind owes b batches begins jobs s k.ghost x t (λ q. none_not (sym (ap (λ (u : Cell A F R). u.event) q) ∙ e))
+          n = GoodStates.known kind owes b batches begins jobs s k.ghost x t (λ q. none_not (sym (ap (λ (u : Cell A F R). u.event) q) ∙ e))
 
           c : Shows.CellShows kind.system w course b.before Is_real k.ghost t (s.cells t)
           c = x.cells t (n).0 (n).1

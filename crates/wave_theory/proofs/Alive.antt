@@ -9,11 +9,12 @@ use Rattle.wave_states.specs.Actors.{Actors}
 use Rattle.wave_states.specs.States.{State, Cell, Claim, Entry, Hand, Record, Letter, Enter, Visit, Back, Release, Transfer, Mail, Ask, set}
 use Rattle.wave_states.specs.Steps.{Bench, with_bench}
 use Rattle.wave_theory.proofs.Basics.{clash, number_cases, not_same, path_cases, set_at, set_there}
-use Rattle.wave_theory.proofs.Order.{Way, IsWay, visits, rank, Entering, Lined, Coming, Done, here}
+use Rattle.wave_theory.proofs.Order.{Way, IsWay, visits, rank, Entering, Lined, Coming, here}
 use Rattle.wave_theory.proofs.Leaves.{Course}
 use Rattle.wave_theory.proofs.Frames.{entered_spot, visits_of}
 use Rattle.wave_theory.proofs.Shows
 use Rattle.wave_states.specs.States.{is_coming}
+use Rattle.wave_theory.proofs.Stages.{lined_done}
 
 module _ {F : Type 0} where
   pub record EnterThere (mails : ℕ → Option (Mail F)) (k : ℕ) : Type 0 where
@@ -150,9 +151,6 @@ module _ {A F R J : Type 0} (sys : Actors A F R J) (w : Way) (course : Course sy
         lined = λ e. let i = o.lined (sym (f.stage b z) ∙ e) in lined_now b z l (sym (f.stage b z) ∙ e) i;
       })
         where
-          lined_done : Lined ≡ Done → ⊥
-          lined_done e = grind arith
-
           lined_now : (b : ℕ) → nat_eq t b ≡ false → b ≤ g.lines.admitted → g.lines.stage b ≡ Lined → ClaimThere (g.entry (here w g.lines b)).waiting (rank w (here w g.lines b) b) b → ClaimThere (g'.entry (here w g'.lines b)).waiting (rank w (here w g'.lines b) b) b
           lined_now b z l e i = subst (λ r. ClaimThere (g'.entry r).waiting (rank w r b) b) (sym (ap (w.place b) (f.pos b z))) (elim (path_cases p (here w g.lines b)) [
             | inr d ↦ record { claim = i.claim; there = ap (λ (u : Entry F). u.waiting (rank w (here w g.lines b) b)) (f.entry (here w g.lines b) d) ∙ i.there; ticket_is = i.ticket_is }

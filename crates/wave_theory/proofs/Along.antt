@@ -10,7 +10,8 @@ use Rattle.wave_states.specs.Begins.{Begin, start_state}
 use Rattle.wave_states.specs.Kinds.{Kind}
 use Rattle.wave_states.specs.Owes.{Owes, IsBegin}
 use Rattle.wave_theory.proofs.Basics.{then_some, if_some, some_same}
-use Rattle.wave_theory.proofs.Reached.{Good_state, Next, Goes}
+use Rattle.wave_theory.proofs.GoodStates.{Good_state, Next, Goes}
+use Rattle.wave_theory.proofs.GoodStates
 use Rattle.wave_theory.proofs.Reached
 
 module _ {A F R J : Type 0} (kind : Kind A F R J) (owes : Owes kind) (b : Begin F) (batches : List (List J)) (begins : IsBegin kind b) (jobs : All (All kind.is_job) batches) (some_host : 0 < kind.hosts) (workers : ℕ) where
@@ -18,7 +19,7 @@ module _ {A F R J : Type 0} (kind : Kind A F R J) (owes : Owes kind) (b : Begin 
   Good s = Good_state kind owes b batches begins jobs s
 
   abbrev pub Follows : (s s' : State A F R J) → Good s → Label → Type 0
-  Follows s s' k l = Next kind owes b batches begins jobs s s' k.ghost (Reached.total kind owes b batches begins jobs s k.tally) l.act
+  Follows s s' k l = Next kind owes b batches begins jobs s s' k.ghost (GoodStates.total kind owes b batches begins jobs s k.tally) l.act
 
   abbrev pub first : Good (start_state b batches)
   first = (Reached.first_good kind owes b batches begins jobs some_host).good

@@ -22,11 +22,12 @@ use Rattle.wave_theory.proofs.Shows
 use Rattle.wave_theory.proofs.Told
 use Rattle.wave_theory.proofs.Halts
 use Rattle.wave_theory.proofs.InHand.{running_is}
-use Rattle.wave_theory.proofs.Reached.{Good_state}
-use Rattle.wave_theory.proofs.Reached
+use Rattle.wave_theory.proofs.GoodStates.{Good_state}
+use Rattle.wave_theory.proofs.GoodStates
 use Rattle.wave_theory.specs.Listed.{IsIn}
 use Rattle.wave_theory.specs.Holding.{stops, WaitsFor, IsParting, IsHeld, IsAsAlone, Holders}
 use Rattle.wave_states.specs.Labels.{Label}
+use Rattle.wave_theory.proofs.Stages.{coming_lined, done_lined, entering_lined, there_done, there_lined}
 
 -- a claim that is among these
 pub claim_in : (looks : ℕ → Bool) (hs : List Claim) (t : ℕ) → AllByRecursion (λ c. c.peek ≡ looks c.ticket) hs → Shows.holds_claim hs t ≡ true → IsIn hs (record { ticket = t; peek = looks t })
@@ -83,22 +84,10 @@ lined_waits st Lined o p z e = by st z
     by States.Status.Ended z = absurd z
     by (States.Status.Ready q) z = absurd z
     by (Running q) z = absurd z
-lined_waits st Entering o p z e = absurd (no e)
-  where
-    no : Entering ≡ Lined → ⊥
-    no e = grind arith
-lined_waits st Coming o p z e = absurd (no e)
-  where
-    no : Coming ≡ Lined → ⊥
-    no e = grind arith
-lined_waits st There o p z e = absurd (no e)
-  where
-    no : There ≡ Lined → ⊥
-    no e = grind arith
-lined_waits st Done o p z e = absurd (no e)
-  where
-    no : Done ≡ Lined → ⊥
-    no e = grind arith
+lined_waits st Entering o p z e = absurd (entering_lined e)
+lined_waits st Coming o p z e = absurd (coming_lined e)
+lined_waits st There o p z e = absurd (there_lined e)
+lined_waits st Done o p z e = absurd (done_lined e)
 
 pending_is : (v : Stage) → is_pending v ≡ true → (v ≡ Entering) ⊎ (v ≡ Lined)
 pending_is Entering e = inl refl
@@ -125,7 +114,7 @@ module _ {A F R J : Type 0} (kind : Kind A F R J) (owes : Owes kind) (b : Begin 
     x = k.shows
 
     known_event : (t : ℕ) (event : Event A) → (s.cells t).event ≡ Some event → (b.before < t) × (t ≤ (k.ghost).lines.admitted)
-    known_event t event e = Reached.known kind owes b batches begins jobs s k.ghost x t (λ q. none_not (sym (ap (λ (u : Cell A F R). u.event) q) ∙ e))
+    known_event t event e = GoodStates.known kind owes b batches begins jobs s k.ghost x t (λ q. none_not (sym (ap (λ (u : Cell A F R). u.event) q) ∙ e))
 
     module _ (t : ℕ) (event : Event A) (is_event : (s.cells t).event ≡ Some event) where
       kn : (b.before < t) × (t ≤ (k.ghost).lines.admitted)
@@ -210,9 +199,6 @@ module _ {A F R J : Type 0} (kind : Kind A F R J) (owes : Owes kind) (b : Begin 
           | inr z ↦ z
           | inl z ↦ absurd (off _ (running_is event.status _ _ _ (status (suc b.before + index) event e) z))
         ]
-
-        there_done : There ≡ Done → ⊥
-        there_done e = grind arith
 
         holds_hand : (v : ℕ) (hd : Hand A F) → s.hands v ≡ Some hd → (k.ghost).lines.holds hd.path hd.ticket ≡ true
         holds_hand v hd i = (let hs = x.hands v hd i in subst (λ q. (k.ghost).lines.holds q hd.ticket ≡ true) (sym hs.place) (Rattle.wave_theory.proofs.Frames.holds_spot kind.system w law course b.before Is_real k.ghost x.good hd.ticket (first _ _ hs.later) hs.known (λ z. there_done (sym hs.stage ∙ z)) (ap is_pending hs.stage)))

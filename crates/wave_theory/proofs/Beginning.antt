@@ -12,7 +12,7 @@ use Rattle.wave_states.specs.Steps.{child_or_new, new_entry}
 use Rattle.wave_theory.proofs.Basics.{bool_cases, clash, some_same, none_not, some_not, number_is, number_cases, not_same, path_is, set_at, set_there, and_second, and_both, differ}
 use Rattle.wave_theory.proofs.Order.{Way, IsWay, visits, rank, Done, Lines, Good}
 use Rattle.wave_theory.proofs.Ranks.{rank_pos}
-use Rattle.wave_theory.proofs.Stops.{root_number}
+use Rattle.wave_theory.proofs.NewTickets.{root_number}
 use Rattle.wave_theory.proofs.Leaves.{Course, IsCourse, frames}
 use Rattle.wave_theory.proofs.Tracks.{Trail, owner, Track, unborn}
 use Rattle.wave_theory.proofs.Paths.{parent_child}

@@ -21,10 +21,10 @@ use Rattle.wave_theory.proofs.Alone.{Fine, Stands, look_ends}
 use Rattle.wave_theory.proofs.Ways.{One, IsOne, way_of, is_way_of, in_and_out, in_and_out_is, one_of, Counts, over_later, next_is, none_yet, looks_is, looks_at}
 use Rattle.wave_theory.proofs.Maps.{children_enter, children_apart, children_root}
 use Rattle.wave_theory.proofs.Paths.{has_append, has_filter}
-use Rattle.wave_theory.proofs.Folds.{zero_done, done_is, known_job}
+use Rattle.wave_theory.proofs.Folds.{zero_done}
 use Rattle.wave_theory.proofs.Folds
 use Rattle.wave_theory.proofs.Leaves.{Course, IsCourse, Segment, Enters, Ends, Follows}
-use Rattle.wave_theory.proofs.Plans.{first_of, last_of, first_ok, counts, one_at_ok, holds, fine_after, sorted_after, result_ok, less_one, at}
+use Rattle.wave_theory.proofs.Plans.{first_of, last_of, first_ok, counts, one_at_ok, holds, fine_after, sorted_after, result_ok, at}
 use Rattle.wave_theory.proofs.Plans
 
 abbrev pub leaf_of : {F : Type 0} → Tree F → Path → F × List Step
@@ -93,9 +93,6 @@ module _ {A F R J : Type 0} (kind : Kind A F R J) (owes : Owes kind) where
     z_is : z ≡ goes_on kind.system y (L).actor (L).fields (L).pause
     unfolding L
     z_is = next_is kind.system k x ∙ ap (segment_if kind.system y) none
-
-    Seg : Type 0
-    Seg = Segment kind.system (way_by kind.system (λ t. view_of kind.system x n)) (course_by kind.system kind.hosts (λ t. view_of kind.system x n)) 0 k
 
     more : z.result ≡ None → suc k ≤ n
     more e = elim (at_or_below k n l) [ inl m ↦ m | inr m ↦ absurd (none_not (sym e ∙ subst (λ i. (after_segments kind.system (suc i) x).result ≡ Some c.result) (sym m) c.ends)) ]

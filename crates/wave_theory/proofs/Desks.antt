@@ -5,7 +5,7 @@ use Rattle.wave_base.specs.declared.path.Path.{Path}
 use Rattle.wave_base.specs.Paths.{path_eq}
 use Rattle.wave_states.specs.Actors.{Actors}
 use Rattle.wave_states.specs.States.{Hold, Release, Mail, Status, set, hold_at}
-use Rattle.wave_states.specs.Steps.{Desk, send, release, give_up, kept_of, left_of, with_held}
+use Rattle.wave_states.specs.Desks.{Desk, send, release, give_up, kept_of, left_of, with_held}
 use Rattle.wave_theory.proofs.Basics.{some_same, none_not, number_cases, path_self, path_cases, set_at, set_there, differ}
 use Rattle.wave_theory.proofs.Order.{Way}
 use Rattle.wave_theory.proofs.Leaves.{Course}

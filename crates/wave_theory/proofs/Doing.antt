@@ -22,9 +22,10 @@ use Rattle.wave_theory.proofs.Reading.{step_local}
 use Rattle.wave_theory.proofs.Courses
 use Rattle.wave_theory.proofs.Shows
 use Rattle.wave_theory.proofs.Agreed
-use Rattle.wave_theory.proofs.Reached.{Good_state}
-use Rattle.wave_theory.proofs.Reached
+use Rattle.wave_theory.proofs.GoodStates.{Good_state}
+use Rattle.wave_theory.proofs.GoodStates
 use Rattle.wave_theory.specs.Doable.{CanDo, Doable}
+use Rattle.wave_theory.proofs.Stages.{there_done}
 
 less_is : (a c : ℕ) → a < c → nat_lt a c ≡ true
 less_is a c l = grind (arith, nat_tests)
@@ -85,7 +86,7 @@ module _ {A F R J : Type 0} (kind : Kind A F R J) (owes : Owes kind) (b : Begin 
         ∙ if_can (nat_lt v workers) _ (less_is v workers less) (map_can (λ y. with_bench s (ticket_of a) (path_of a) v y) _ (subst (λ o. is_some (act_bench kind.system a host (part_of s (ticket_of a) (path_of a)) o) ≡ true) (sym idle) e))
 
     mail_known : (t i : ℕ) (m : Mail F) → (s.cells t).mails i ≡ Some m → (b.before < t) × (t ≤ (g).lines.admitted)
-    mail_known t i m e = Reached.known kind owes b batches begins jobs s k.ghost x t (λ q. none_not (sym (ap (λ (u : Cell A F R). u.mails i) q) ∙ e))
+    mail_known t i m e = GoodStates.known kind owes b batches begins jobs s k.ghost x t (λ q. none_not (sym (ap (λ (u : Cell A F R). u.mails i) q) ∙ e))
 
     event_of : (t : ℕ) → (b.before < t) × (t ≤ (g).lines.admitted) → (e : Event A) × ((s.cells t).event ≡ Some e)
     event_of t n = (let c = x.cells t n.0 n.1 in (c.event, c.event_is))
@@ -109,7 +110,7 @@ module _ {A F R J : Type 0} (kind : Kind A F R J) (owes : Owes kind) (b : Begin 
     starting t event p e r = (owner ((g).trail p), ap is_some entry_there, by_bench (owner ((g).trail p)) (Start t p) refl (start_can (part_of s t p) t p (owner ((g).trail p)) event ((g).entry p) (seg).actor (record_there).0 e entry_there actor_is (record_there).1 r))
       where
         n : (b.before < t) × (t ≤ (g).lines.admitted)
-        n = Reached.known kind owes b batches begins jobs s k.ghost x t (λ q. none_not (sym (ap (λ (u : Cell A F R). u.event) q) ∙ e))
+        n = GoodStates.known kind owes b batches begins jobs s k.ghost x t (λ q. none_not (sym (ap (λ (u : Cell A F R). u.event) q) ∙ e))
 
         c : Shows.CellShows kind.system w course b.before Is_real k.ghost t (s.cells t)
         c = x.cells t (n).0 (n).1
@@ -119,9 +120,6 @@ module _ {A F R J : Type 0} (kind : Kind A F R J) (owes : Owes kind) (b : Begin 
 
         at : ((g).lines.stage t ≡ There) × ((g).out t ≡ false) × (p ≡ here w (g).lines t)
         at = ready_there event.status _ _ _ p (subst (λ (u : Event A). Shows.StatusShows u.status ((g).lines.stage t) ((g).out t) (here w (g).lines t)) same c.status) r
-
-        there_done : There ≡ Done → ⊥
-        there_done e = grind arith
 
         going : (g).lines.pos t ≤ w.last t
         going = x.good.going t n.1 (λ d. there_done (sym at.0 ∙ d))

@@ -24,7 +24,7 @@ use Rattle.wave_theory.proofs.InHand
 use Rattle.wave_theory.proofs.Noted
 use Rattle.wave_theory.proofs.Often
 use Rattle.wave_theory.proofs.Passed
-use Rattle.wave_theory.proofs.Reached.{Good_state}
+use Rattle.wave_theory.proofs.GoodStates.{Good_state}
 use Rattle.wave_theory.proofs.Reached
 
 module _ {A F R J : Type 0} (kind : Kind A F R J) (owes : Owes kind) (b : Begin F) (batches : List (List J)) (begins : IsBegin kind b) (jobs : All (All kind.is_job) batches) (some_host : 0 < kind.hosts) (workers : ℕ) (some_worker : 0 < workers) (n : ℕ)

@@ -26,12 +26,14 @@ use Rattle.wave_theory.proofs.Deeds.{Outline, outline, Deed, done_by}
 use Rattle.wave_theory.proofs.Deeds
 use Rattle.wave_theory.proofs.Beginning
 use Rattle.wave_theory.proofs.Homes
+use Rattle.wave_theory.proofs.HomesKept
 use Rattle.wave_theory.proofs.Sites
 use Rattle.wave_theory.proofs.Live
-use Rattle.wave_theory.proofs.Reached.{Good_state, Next}
+use Rattle.wave_theory.proofs.GoodStates.{Good_state}
 use Rattle.wave_theory.proofs.Reached
 use Rattle.wave_theory.proofs.Along
 use Rattle.wave_theory.specs.Counted.{most_moves}
+use Rattle.wave_theory.proofs.Stages.{there_done}
 
 module _ {A F R J : Type 0} (kind : Kind A F R J) (owes : Owes kind) (b : Begin F) (batches : List (List J)) (begins : IsBegin kind b) (jobs : All (All kind.is_job) batches) where
   abbrev w : Way
@@ -61,9 +63,6 @@ module _ {A F R J : Type 0} (kind : Kind A F R J) (owes : Owes kind) (b : Begin 
   -- a context that has an entry was there, or a ticket came, or it was never sent on
   abbrev pub FewOf : Outline → Type 0
   FewOf o = (p : Path) → o.births p ≡ true → Came o.served o.trail p
-
-  there_done : There ≡ Done → ⊥
-  there_done e = grind arith
 
   module _ (s : State A F R J) (k : Good s) (g' : Shows.Ghost F) (h : FewOf (outline k.ghost)) where
     abbrev g : Shows.Ghost F
@@ -157,7 +156,7 @@ module _ {A F R J : Type 0} (kind : Kind A F R J) (owes : Owes kind) (b : Begin 
     Held ls s k = Homes.Homes kind owes b batches begins jobs k.ghost × FewOf (outline k.ghost)
 
     held_next : (ls : List Label) (s s' : State A F R J) (k : Good s) (l : Label) → Along.from_start kind owes b batches begins jobs some_host workers ls s → Held ls s k → step kind.system workers s l ≡ Some s' → (n : Along.Follows kind owes b batches begins jobs some_host workers s s' k l) → Held (ls ++ l ∷ []) s' n.good
-    held_next ls s s' k l r h e n = (Homes.homes_next kind owes b batches begins jobs s k.ghost (n.good).ghost l.act k.shows n.turn h.0, subst FewOf (sym (n.turn).is) (by_deed s k (n.good).ghost h.1 (ticket_of l.act) (path_of l.act) (n.turn).deed (n.turn).fits))
+    held_next ls s s' k l r h e n = (HomesKept.homes_next kind owes b batches begins jobs s k.ghost (n.good).ghost l.act k.shows n.turn h.0, subst FewOf (sym (n.turn).is) (by_deed s k (n.good).ghost h.1 (ticket_of l.act) (path_of l.act) (n.turn).deed (n.turn).fits))
 
     pub record Counting (s : State A F R J) : Type 0 where
       pub good : Good s
@@ -171,7 +170,7 @@ module _ {A F R J : Type 0} (kind : Kind A F R J) (owes : Owes kind) (b : Begin 
         on C c = subst C (sym (Reached.first_ghost kind owes b batches begins jobs some_host)) c
 
         first : Held [] (start_state b batches) (Along.first kind owes b batches begins jobs some_host workers)
-        first = (on (λ g. Homes.Homes kind owes b batches begins jobs g) (Homes.homes_first kind owes b batches begins jobs), on (λ g. FewOf (outline g)) (λ p e. inl e))
+        first = (on (λ g. Homes.Homes kind owes b batches begins jobs g) (HomesKept.homes_first kind owes b batches begins jobs), on (λ g. FewOf (outline g)) (λ p e. inl e))
 
         by : Along.Along kind owes b batches begins jobs some_host workers Held held_next ls s → Counting s
         by a = record { good = a.good; homes = (a.holds).0; few = (a.holds).1 }
@@ -205,7 +204,7 @@ module _ {A F R J : Type 0} (kind : Kind A F R J) (owes : Owes kind) (b : Begin 
         by_ticket l =
             let a = rank_every w p (k.ghost).lines.admitted ((k.ghost).lines.served p) (positive _ _ l) ((k.alive).few p) in
             let gr = (k.shows.good.grants a.0 p a.1 a.3).1 (subst (λ m. m ≤ (k.ghost).lines.served p) (sym a.4) (upto _)) in
-            let y = Homes.sent_so_often kind owes b batches begins jobs s k.ghost k.shows homes.of (k.alive).few a.0 p (later a.0 (subst (λ m. early p < m) (sym a.4) l)) a.2 gr.entered in
+            let y = HomesKept.sent_so_often kind owes b batches begins jobs s k.ghost k.shows homes.of (k.alive).few a.0 p (later a.0 (subst (λ m. early p < m) (sym a.4) l)) a.2 gr.entered in
             subst (λ m. m ≤ most_moves b (work_after kind.system b batches n)) (sym y.5) (Sites.shifts_few kind owes b batches begins jobs n y.0 p (trans _ _ _ y.4 (index_below y.1 y.2 y.3)))
           where
             positive : (a c : ℕ) → a < c → 1 ≤ c

@@ -9,16 +9,21 @@ use Rattle.wave_states.specs.Actors.{Actors}
 use Rattle.wave_states.specs.States.{State, Cell, Column, Claim, Hand, Letter, Enter, Visit, Back, Release, Transfer, set}
 use Rattle.wave_states.specs.Steps.{Bench, with_bench}
 use Rattle.wave_theory.proofs.Basics.{clash, number_cases, path_self, path_cases, set_at, set_there, set_at_path, and_first, and_second}
-use Rattle.wave_theory.proofs.Order.{Way, IsWay, visits, rank, Entering, Coming, There, Done, is_pending, here, Good}
+use Rattle.wave_theory.proofs.Order.{Way, IsWay, visits, rank, Done, is_pending, here, Good}
 use Rattle.wave_theory.proofs.Ranks.{comes, rank_pos}
 use Rattle.wave_theory.proofs.Leaves.{Course}
 use Rattle.wave_theory.proofs.Tracks.{owner, Track}
 use Rattle.wave_theory.proofs.Paths.{parent_child}
 use Rattle.wave_theory.proofs.Shows
+use Rattle.wave_theory.proofs.Stages.{coming_done, entering_done, there_done}
 
 pub option_some : {X : Type 0} (o : Option X) → is_some o ≡ true → (x : X) × (o ≡ Some x)
 option_some None e = absurd (clash false e refl)
 option_some (Some x) e = (x, refl)
+
+pub option_none : {X : Type 0} (o : Option X) → is_some o ≡ false → o ≡ None
+option_none None e = refl
+option_none (Some x) e = absurd (clash true refl e)
 
 pub not_is : (a : Bool) → not a ≡ true → a ≡ false
 not_is true e = absurd (clash false e refl)
@@ -71,15 +76,6 @@ module _ {A F R J : Type 0} (sys : Actors A F R J) (w : Way) (law : IsWay w) (co
 
     pub holds_spot : (b : ℕ) → 1 ≤ b → b ≤ g.lines.admitted → g.lines.stage b ≢ Done → is_pending (g.lines.stage b) ≡ false → g.lines.holds (spot g b) b ≡ true
     holds_spot b lb l n f = good.keeps b (spot g b) lb (record { known = l; entered = entered_spot b l n; past = λ x. absurd (clash _ x f) }) (at_spot b l n)
-
-  coming_done : Coming ≡ Done → ⊥
-  coming_done e = grind arith
-
-  entering_done : Entering ≡ Done → ⊥
-  entering_done e = grind arith
-
-  there_done : There ≡ Done → ⊥
-  there_done e = grind arith
 
   module _ (g g' : Shows.Ghost F) (t : ℕ) (p : Path) (v : ℕ) (good : Good w g.lines) (f : Shows.Frame sys w course low is_real g g' t p v) where
     spot_same : (b : ℕ) → nat_eq t b ≡ false → spot g' b ≡ spot g b

@@ -11,7 +11,7 @@ use Rattle.wave_states.specs.Begins.{Begin, start_state}
 use Rattle.wave_states.specs.Kinds.{Kind}
 use Rattle.wave_states.specs.Owes.{Owes, IsBegin}
 use Rattle.wave_theory.proofs.Basics.{clash, number_cases, number_self, set_at, set_there, differ}
-use Rattle.wave_theory.proofs.Order.{Way, Stage, There, Done}
+use Rattle.wave_theory.proofs.Order.{Way, Stage, There}
 use Rattle.wave_theory.proofs.Leaves.{Course}
 use Rattle.wave_theory.proofs.Courses
 use Rattle.wave_theory.proofs.Shows
@@ -19,10 +19,11 @@ use Rattle.wave_theory.proofs.Deeds.{Outline, outline, Deed, done_by, Suits}
 use Rattle.wave_theory.proofs.Deeds
 use Rattle.wave_theory.proofs.Forms.{stop_form, admit_form}
 use Rattle.wave_theory.proofs.Homes
-use Rattle.wave_theory.proofs.Reached.{Good_state, Next}
+use Rattle.wave_theory.proofs.GoodStates.{Good_state}
 use Rattle.wave_theory.proofs.Reached
 use Rattle.wave_theory.proofs.Along
 use Rattle.wave_theory.specs.Holding.{is_stop_of, stops}
+use Rattle.wave_theory.proofs.Stages.{there_done}
 
 pub stops_more : (t : ℕ) (ls : List Label) (l : Label) → stops t (ls ++ l ∷ []) ≡ (if is_stop_of t l.act then suc (stops t ls) else stops t ls)
 stops_more t [] l = refl
@@ -105,9 +106,6 @@ module _ {A F R J : Type 0} (kind : Kind A F R J) (owes : Owes kind) (b : Begin 
 
       to_list : {pos : ℕ → ℕ} {m : ℕ} → HaltsOf (counts l.act) pos m → HaltsOf (λ t. stops t (ls ++ l ∷ [])) pos m
       to_list y = record { each = λ t a c. y.each t a c ∙ sym (stops_more t ls l); none = λ t a. stops_more t ls l ∙ y.none t a }
-
-      there_done : There ≡ Done → ⊥
-      there_done e = grind arith
 
       -- a Stop of the ticket
       stopping : (t : ℕ) (p : Path) → k.ghost.lines.stage t ≡ There → (v : Stage) → HaltsOf (counts (Stop t p)) (set nat_eq (g).lines.pos t (suc ((g).lines.pos t))) (g).lines.admitted

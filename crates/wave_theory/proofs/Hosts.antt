@@ -5,7 +5,7 @@ use Rattle.wave_base.specs.declared.path.Path.{Path}
 use Rattle.wave_base.specs.Paths.{path_eq}
 use Rattle.wave_states.specs.States.{State, Cell, Entry}
 use Rattle.wave_theory.proofs.Basics.{clash, none_not, bool_cases}
-use Rattle.wave_theory.proofs.Order.{Way, IsWay, Done, here}
+use Rattle.wave_theory.proofs.Order.{Way, IsWay, here}
 use Rattle.wave_theory.proofs.Leaves.{Course}
 use Rattle.wave_theory.proofs.Tracks.{owner}
 use Rattle.wave_theory.proofs.Frames.{option_some, holds_spot}
@@ -17,10 +17,10 @@ use Rattle.wave_states.specs.Owes.{Owes, IsBegin}
 use Rattle.wave_states.specs.Owners.{IsOwner}
 use Rattle.wave_theory.proofs.Courses.{View, view, view_real, done_at, entered_after, leaf_first, view_later, done_or_over}
 use Rattle.wave_theory.proofs.Courses
-use Rattle.wave_theory.proofs.Reached.{Heads, Good_state, ResultIs, result_of}
-use Rattle.wave_theory.proofs.Reached
+use Rattle.wave_theory.proofs.GoodStates.{Heads, Good_state, ResultIs, result_of}
+use Rattle.wave_theory.proofs.GoodStates
 use Rattle.wave_theory.proofs.Basics.{map_some, if_some, set_at, set_at_path}
-use Rattle.wave_theory.proofs.Order.{Coming, is_pending}
+use Rattle.wave_theory.proofs.Order.{is_pending}
 use Rattle.wave_states.specs.States.{Column, Hand, hold_at}
 use Rattle.wave_states.specs.Labels.{Act, Label, Admit, Queue, Grant, Start, Stop, Free, Pass, Land, Commit, ticket_of, path_of}
 use Rattle.wave_states.specs.Labels
@@ -35,6 +35,7 @@ use Rattle.wave_theory.proofs.Leaves.{IsCourse}
 use Rattle.wave_states.specs.Steps.{stop}
 use Rattle.wave_states.specs.States.{Event, Transfer}
 use Rattle.wave_theory.proofs.Basics.{number_is, path_is, and_first, and_second}
+use Rattle.wave_theory.proofs.Stages.{coming_done}
 
 module _ {A F R J : Type 0} (kind : Kind A F R J) (owes : Owes kind) (b : Begin F) (batches : List (List J)) (begins : IsBegin kind b) (jobs : All (All kind.is_job) batches) where
   abbrev w : Way
@@ -65,7 +66,7 @@ module _ {A F R J : Type 0} (kind : Kind A F R J) (owes : Owes kind) (b : Begin 
     -- where a Visit or a Back comes to
     visited : (t n : ℕ) (p : Path) (h : ℕ) (z : Part A F R) → Opened.Visits n p h (part_of s t p) z → is_some ((s.columns p).store h) ≡ true
     visited t n p h z q =
-        let kn = Reached.known kind owes b batches begins jobs s k.ghost x t (λ i. none_not (sym (ap (λ (u : Cell A F R). u.event) i) ∙ q.event_is)) in
+        let kn = GoodStates.known kind owes b batches begins jobs s k.ghost x t (λ i. none_not (sym (ap (λ (u : Cell A F R). u.event) i) ∙ q.event_is)) in
         let c : Shows.CellShows kind.system w course b.before Is_real k.ghost t (s.cells t) = x.cells t kn.0 kn.1 in
         let m = shows_letter kind.system w course b.before Is_real k.ghost t n h p q.letter (s.cells t) c q.letter_at in
         let y : Shows.ComingShows kind.system w course b.before Is_real k.ghost t n h p = (elim (coming_is q.letter q.coming) [
@@ -76,9 +77,6 @@ module _ {A F R J : Type 0} (kind : Kind A F R J) (owes : Owes kind) (b : Begin 
         let st = (c.where_held p held.0 held.1).1 in
         in_store p h st (by_holder kn.0 kn.1 y) y.host_is
       where
-        coming_done : Coming ≡ Done → ⊥
-        coming_done e = grind arith
-
         by_holder : b.before < t → t ≤ (k.ghost).lines.admitted → Shows.ComingShows kind.system w course b.before Is_real k.ghost t n h p → (k.ghost).born p ≡ true
         by_holder lt la y = elim (bool_cases ((k.ghost).born p)) [
           | inl u ↦ u

@@ -28,11 +28,9 @@ use Rattle.wave_theory.proofs.Plans
 use Rattle.wave_theory.proofs.Courses.{View, view, view_real}
 use Rattle.wave_theory.proofs.Courses
 use Rattle.wave_theory.proofs.Shows
-use Rattle.wave_theory.proofs.Reached.{Good_state}
+use Rattle.wave_theory.proofs.GoodStates.{Good_state}
 use Rattle.wave_theory.specs.Hands.{CanStop, HandsStay, HandsStayOver}
-
-there_done : There ≡ Done → ⊥
-there_done e = grind arith
+use Rattle.wave_theory.proofs.Stages.{there_done}
 
 -- the status of a ticket whose segment is out
 pub running_is : (st : Status) (v : Stage) (o : Bool) (p : Path) → Shows.StatusShows st v o p → o ≡ true → st ≡ Running p

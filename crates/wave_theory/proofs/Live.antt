@@ -33,8 +33,8 @@ use Rattle.wave_states.specs.Alone.{places_alone, fold_alone, job_after, run_alo
 use Rattle.wave_theory.proofs.Courses.{View, view, view_real, done_at, entered_after, leaf_first, view_later, done_or_over}
 use Rattle.wave_theory.proofs.Courses
 use Rattle.wave_theory.proofs.Folds
-use Rattle.wave_theory.proofs.Reached.{Heads, Good_state, ResultIs, result_of}
-use Rattle.wave_theory.proofs.Reached
+use Rattle.wave_theory.proofs.GoodStates.{Heads, Good_state, ResultIs, result_of}
+use Rattle.wave_theory.proofs.GoodStates
 use Rattle.wave_theory.specs.Complete.{IsComplete}
 use Rattle.std.proofs.Common.{nat_lt}
 use Rattle.std.proofs.lemmas.Bool.Decides.{nat_tests}
@@ -44,6 +44,7 @@ use Rattle.wave_theory.specs.NeverStuck.{CanTake, NeverStuck}
 use Rattle.wave_theory.proofs.Able
 use Rattle.wave_theory.proofs.Stuck
 use Rattle.wave_theory.proofs.Told
+use Rattle.wave_theory.proofs.Stages.{coming_done, entering_done, lined_done, there_done}
 
 pub less_is : (a c : ℕ) → a < c → nat_lt a c ≡ true
 less_is a c l = grind (arith, nat_tests)
@@ -134,21 +135,9 @@ module _ {A F R J : Type 0} (kind : Kind A F R J) (owes : Owes kind) (b : Begin 
     pub stage_cases : (u : Stage) → (u ≡ Done) ⊎ (u ≡ Done → ⊥)
     stage_cases Done = inl refl
     stage_cases Entering = inr entering_done
-      where
-        entering_done : Entering ≡ Done → ⊥
-        entering_done e = grind arith
     stage_cases Lined = inr lined_done
-      where
-        lined_done : Lined ≡ Done → ⊥
-        lined_done e = grind arith
     stage_cases Coming = inr coming_done
-      where
-        coming_done : Coming ≡ Done → ⊥
-        coming_done e = grind arith
     stage_cases There = inr there_done
-      where
-        there_done : There ≡ Done → ⊥
-        there_done e = grind arith
 
     -- a committed ticket has ended
     pub committed_done : (i : ℕ) → i < s.head.done → (k.ghost).lines.stage (suc b.before + i) ≡ Done
@@ -243,13 +232,7 @@ module _ {A F R J : Type 0} (kind : Kind A F R J) (owes : Owes kind) (b : Begin 
       no_mail t i m e = by m.letter ((x.cells t n.0 n.1).mails i m e)
         where
           n : (b.before < t) × (t ≤ (g).lines.admitted)
-          n = Reached.known kind owes b batches begins jobs s k.ghost x t (λ q. none_not (sym (ap (λ (u : Cell A F R). u.mails i) q) ∙ e))
-
-          entering_done : Entering ≡ Done → ⊥
-          entering_done e = grind arith
-
-          coming_done : Coming ≡ Done → ⊥
-          coming_done e = grind arith
+          n = GoodStates.known kind owes b batches begins jobs s k.ghost x t (λ q. none_not (sym (ap (λ (u : Cell A F R). u.mails i) q) ∙ e))
 
           by : (l : Letter F) → Shows.MailShows kind.system w course b.before Is_real k.ghost t i m.host m.path l → ⊥
           by (Enter a) y = entering_done (sym y.stage ∙ stage_done t n.1)
@@ -352,9 +335,6 @@ module _ {A F R J : Type 0} (kind : Kind A F R J) (owes : Owes kind) (b : Begin 
         no_others = λ p h e. let o = option_some ((s.columns p).store h) e in sym (born_there p) ∙ (found kind.system w course b.before Is_real k.ghost p (s.columns p) h o.0 (x.columns p) o.1).born;
       }
         where
-          lined_done : Lined ≡ Done → ⊥
-          lined_done e = grind arith
-
           empty_of : {p : Path} {en : Entry F} → en ≡ (g).entry p → (hs : List Claim) → en.holders ≡ hs → en.holders ≡ []
           empty_of f [] e = e
           empty_of {p} {en} f (c ∷ hs) e = absurd (unheld p c.ticket (sym ((x.entries p).holders c.ticket) ∙ ap (λ (u : Entry F). Shows.holds_claim u.holders c.ticket) (sym f) ∙ ap (λ u. Shows.holds_claim u c.ticket) e ∙ ap (λ i. i || Shows.holds_claim hs c.ticket) (number_self c.ticket)))

@@ -18,10 +18,10 @@ use Rattle.wave_theory.proofs.Plans.{first_of, last_of, counts, segments_is}
 use Rattle.wave_theory.proofs.Courses.{View, view, view_real, entered_after}
 use Rattle.wave_theory.proofs.Courses
 use Rattle.wave_theory.proofs.Agreed.{ended_done, stage_cases}
-use Rattle.wave_theory.proofs.Spent
+use Rattle.wave_theory.proofs.Balances
 use Rattle.wave_theory.proofs.Shows
-use Rattle.wave_theory.proofs.Reached.{Good_state}
-use Rattle.wave_theory.proofs.Reached
+use Rattle.wave_theory.proofs.GoodStates.{Good_state}
+use Rattle.wave_theory.proofs.GoodStates
 use Rattle.wave_theory.specs.Sent.{Sent, shares}
 
 -- nothing is held
@@ -43,7 +43,7 @@ module _ {A F R J : Type 0} (kind : Kind A F R J) (owes : Owes kind) (b : Begin 
   law = Courses.law kind owes b batches begins jobs
 
   -- what a ticket comes to before its last segment
-  came_all : (index : ℕ) (job : J) → job_after kind.system b batches index ≡ Some job → Spent.came_to kind owes b batches begins jobs (suc b.before + index) (w.last (suc b.before + index)) ≡ length (run_alone kind.system (suc b.before + index) (fold_alone kind.system b batches index).tree job).entered
+  came_all : (index : ℕ) (job : J) → job_after kind.system b batches index ≡ Some job → Balances.came_to kind owes b batches begins jobs (suc b.before + index) (w.last (suc b.before + index)) ≡ length (run_alone kind.system (suc b.before + index) (fold_alone kind.system b batches index).tree job).entered
   came_all index job e = ap (λ (v : View A F R). sum_to (suc v.one.last) (λ i. one_if kind.system (v.one.fresh i))) (view_real kind owes b batches begins jobs index job e)
       ∙ entries kind.system (first_of kind owes b batches begins jobs index job) (last_of kind owes b batches begins jobs index job) (counts kind owes b batches begins jobs index job e) refl refl
       ∙ ap length (sym (entered_after kind owes b batches begins jobs index job e))
@@ -51,14 +51,14 @@ module _ {A F R J : Type 0} (kind : Kind A F R J) (owes : Owes kind) (b : Begin 
   segments_all : (index : ℕ) (job : J) → job_after kind.system b batches index ≡ Some job → suc (w.last (suc b.before + index)) ≡ segments_of kind.system (suc b.before + index) (fold_alone kind.system b batches index).tree job
   segments_all index job e = ap (λ (v : View A F R). suc v.one.last) (view_real kind owes b batches begins jobs index job e) ∙ segments_is kind owes b batches begins jobs index job e
 
-  live_one : (v : Stage) → Spent.live kind owes b batches begins jobs v ≤ 1
+  live_one : (v : Stage) → Balances.live kind owes b batches begins jobs v ≤ 1
   live_one Entering = omega arith
   live_one Lined = omega arith
   live_one Coming = omega arith
   live_one There = omega arith
   live_one Done = omega arith
 
-  module _ (s : State A F R J) (k : Good_state kind owes b batches begins jobs s) (balance : (t : ℕ) → b.before < t → t ≤ k.ghost.lines.admitted → (e : Event A) → (s.cells t).event ≡ Some e → Spent.Balance kind owes b batches begins jobs e t (k.ghost.lines.stage t) (k.ghost.lines.pos t)) where
+  module _ (s : State A F R J) (k : Good_state kind owes b batches begins jobs s) (balance : (t : ℕ) → b.before < t → t ≤ k.ghost.lines.admitted → (e : Event A) → (s.cells t).event ≡ Some e → Balances.Balance kind owes b batches begins jobs e t (k.ghost.lines.stage t) (k.ghost.lines.pos t)) where
     x : Shows.Shows kind.system w course b.before Is_real s k.ghost
     x = k.shows
 
@@ -69,7 +69,7 @@ module _ {A F R J : Type 0} (kind : Kind A F R J) (owes : Owes kind) (b : Begin 
     sent index event e = record { job = r.job; job_is = job_is; within = elim (stage_cases ((g).lines.stage (suc b.before + index))) [ inl d ↦ upto _ _ (over d) | inr d ↦ going d ]; exactly = λ z. over (ended_done event.status _ _ _ status z) }
       where
         n : (b.before < suc b.before + index) × (suc b.before + index ≤ (g).lines.admitted)
-        n = Reached.known kind owes b batches begins jobs s k.ghost x (suc b.before + index) (λ q. none_not (sym (ap (λ (u : Cell A F R). u.event) q) ∙ e))
+        n = GoodStates.known kind owes b batches begins jobs s k.ghost x (suc b.before + index) (λ q. none_not (sym (ap (λ (u : Cell A F R). u.event) q) ∙ e))
 
         c : Shows.CellShows kind.system w course b.before Is_real k.ghost (suc b.before + index) (s.cells (suc b.before + index))
         c = x.cells (suc b.before + index) (n).0 (n).1
@@ -92,7 +92,7 @@ module _ {A F R J : Type 0} (kind : Kind A F R J) (owes : Owes kind) (b : Begin 
         upto : (a c : ℕ) → a ≡ c → a ≤ c
         upto a c e = omega (arith, e)
 
-        bal : Spent.Balance kind owes b batches begins jobs event (suc b.before + index) ((g).lines.stage (suc b.before + index)) ((g).lines.pos (suc b.before + index))
+        bal : Balances.Balance kind owes b batches begins jobs event (suc b.before + index) ((g).lines.stage (suc b.before + index)) ((g).lines.pos (suc b.before + index))
         bal = balance (suc b.before + index) (n).0 (n).1 event e
 
         going : ((g).lines.stage (suc b.before + index) ≡ Done → ⊥) → event.sent ≤ shares kind b batches index (r).job
@@ -108,8 +108,8 @@ module _ {A F R J : Type 0} (kind : Kind A F R J) (owes : Owes kind) (b : Begin 
             at_most x y p v m c last full segs ent a q l u i j = omega (arith, a, q, l, u, i, j)
 
         over : (g).lines.stage (suc b.before + index) ≡ Done → event.sent ≡ shares kind b batches index (r).job
-        over d = exact _ _ _ _ _ _ _ _ bal nothing (ap (Spent.pend kind owes b batches begins jobs) d) (ap (Spent.live kind owes b batches begins jobs) d) pos_is
-            (ap (Spent.came_to kind owes b batches begins jobs (suc b.before + index)) pos_is ∙ Spent.came_more kind owes b batches begins jobs (suc b.before + index) (w.last (suc b.before + index)) ∙ ap (λ i. Spent.came_to kind owes b batches begins jobs (suc b.before + index) (w.last (suc b.before + index)) + one_if kind.system i) (Spent.none_after kind owes b batches begins jobs (suc b.before + index) c.real) ∙ none_more _)
+        over d = exact _ _ _ _ _ _ _ _ bal nothing (ap (Balances.pend kind owes b batches begins jobs) d) (ap (Balances.live kind owes b batches begins jobs) d) pos_is
+            (ap (Balances.came_to kind owes b batches begins jobs (suc b.before + index)) pos_is ∙ Balances.came_more kind owes b batches begins jobs (suc b.before + index) (w.last (suc b.before + index)) ∙ ap (λ i. Balances.came_to kind owes b batches begins jobs (suc b.before + index) (w.last (suc b.before + index)) + one_if kind.system i) (Balances.none_after kind owes b batches begins jobs (suc b.before + index) c.real) ∙ none_more _)
             (segments_all index r.job job_is) (came_all index r.job job_is)
           where
             pos_is : (g).lines.pos (suc b.before + index) ≡ suc (w.last (suc b.before + index))

@@ -23,13 +23,14 @@ use Rattle.wave_theory.proofs.Courses
 use Rattle.wave_theory.proofs.Shows
 use Rattle.wave_theory.proofs.Deeds.{Outline, outline, Deed, done_by}
 use Rattle.wave_theory.proofs.Deeds
-use Rattle.wave_theory.proofs.Passed
+use Rattle.wave_theory.proofs.Passing
 use Rattle.wave_theory.proofs.Told
-use Rattle.wave_theory.proofs.Reached.{Good_state, Next}
-use Rattle.wave_theory.proofs.Reached
+use Rattle.wave_theory.proofs.GoodStates.{Good_state, Next}
+use Rattle.wave_theory.proofs.GoodStates
 use Rattle.wave_theory.proofs.Along
 use Rattle.wave_theory.specs.Counted.{is_pass_of, passed_to}
 use Rattle.wave_theory.specs.Numbers.{HasEntry}
+use Rattle.wave_theory.proofs.Stages.{coming_entering, done_entering, entering_done, lined_entering, there_entering}
 
 pub passed_on : (t : ℕ) (p : Path) (ls : List Label) (l : Label) → passed_to t p (ls ++ l ∷ []) ≡ passed_to t p ls + (if is_pass_of t p l.act then 1 else 0)
 passed_on t p [] l = by (is_pass_of t p l.act)
@@ -194,7 +195,7 @@ module _ {A F R J : Type 0} (kind : Kind A F R J) (owes : Owes kind) (b : Begin 
 
       -- what a mail of the state after the label shows
       shown : (t i : ℕ) (m : Mail F) (a : Ask) → (s'.cells t).mails i ≡ Some m → m.letter ≡ Enter a → Shows.EnterShows kind.system w course b.before Is_real (n.good).ghost t i m.host m.path a
-      shown t i m a z q = (let kn = Reached.known kind owes b batches begins jobs s' (n.good).ghost (n.good).shows t (λ y. none_not (sym (ap (λ (u : Cell A F R). u.mails i) y) ∙ z)) in
+      shown t i m a z q = (let kn = GoodStates.known kind owes b batches begins jobs s' (n.good).ghost (n.good).shows t (λ y. none_not (sym (ap (λ (u : Cell A F R). u.mails i) y) ∙ z)) in
           subst (Shows.MailShows kind.system w course b.before Is_real (n.good).ghost t i m.host m.path) q (((n.good).shows.cells t kn.0 kn.1).mails i m z))
 
       none_more : (a : ℕ) → a + 0 ≡ a
@@ -219,42 +220,24 @@ module _ {A F R J : Type 0} (kind : Kind A F R J) (owes : Owes kind) (b : Begin 
               where
                 above : (a : ℕ) → a < suc a
                 above a = omega arith
-            by Deeds.Rests q su f = h.under_way (ticket_of l.act) i m a (Passed.mails_kept kind owes b batches begins jobs 0 s s' l.worker l.host l.act by_it np (inl su) i m z) y
-            by Deeds.Lands q su f = h.under_way (ticket_of l.act) i m a (Passed.mails_kept kind owes b batches begins jobs 0 s s' l.worker l.host l.act by_it np (inr su) i m z) y
+            by Deeds.Rests q su f = h.under_way (ticket_of l.act) i m a (Passing.mails_kept kind owes b batches begins jobs 0 s s' l.worker l.host l.act by_it np (inl su) i m z) y
+            by Deeds.Lands q su f = h.under_way (ticket_of l.act) i m a (Passing.mails_kept kind owes b batches begins jobs 0 s s' l.worker l.host l.act by_it np (inr su) i m z) y
             by (Deeds.Goes_in st r) q su f = nothing _ _ (h.none (ticket_of l.act) m.path (inl (subst (λ u. w.entered (ticket_of l.act) ((g).lines.pos (ticket_of l.act)) u ≡ false) (sym at_child) (law.once (ticket_of l.act) ((g).lines.pos (ticket_of l.act)) f.more f.fresh))))
               where
                 at_child : m.path ≡ w.place (ticket_of l.act) (suc ((g).lines.pos (ticket_of l.act)))
                 at_child = (shown (ticket_of l.act) i m a z y).place ∙ ap (w.place (ticket_of l.act)) (ap (λ (u : Outline). u.pos (ticket_of l.act)) (is ∙ ap (done_by w o (ticket_of l.act) (path_of l.act)) q) ∙ set_at (g).lines.pos (ticket_of l.act) _)
-            by Deeds.Lines_up q su f = absurd (off (sym (set_at (g).lines.stage (ticket_of l.act) Lined) ∙ stage_is Deeds.Lines_up q))
-              where
-                off : Lined ≡ Entering → ⊥
-                off e = grind arith
-            by Deeds.Lets_in q su f = absurd (off (sym (set_at (g).lines.stage (ticket_of l.act) There) ∙ stage_is Deeds.Lets_in q))
-              where
-                off : There ≡ Entering → ⊥
-                off e = grind arith
-            by Deeds.Arrives q su f = absurd (off (sym (set_at (g).lines.stage (ticket_of l.act) There) ∙ stage_is Deeds.Arrives q))
-              where
-                off : There ≡ Entering → ⊥
-                off e = grind arith
-            by Deeds.Goes_on q su f = absurd (off (sym (set_at (g).lines.stage (ticket_of l.act) Coming) ∙ stage_is Deeds.Goes_on q))
-              where
-                off : Coming ≡ Entering → ⊥
-                off e = grind arith
-            by Deeds.Ends q su f = absurd (off (sym (set_at (g).lines.stage (ticket_of l.act) Done) ∙ stage_is Deeds.Ends q))
-              where
-                off : Done ≡ Entering → ⊥
-                off e = grind arith
-            by (Deeds.Moves to) q su f = absurd (off (sym (set_at (g).lines.stage (ticket_of l.act) Done) ∙ stage_is (Deeds.Moves to) q))
-              where
-                off : Done ≡ Entering → ⊥
-                off e = grind arith
+            by Deeds.Lines_up q su f = absurd (lined_entering (sym (set_at (g).lines.stage (ticket_of l.act) Lined) ∙ stage_is Deeds.Lines_up q))
+            by Deeds.Lets_in q su f = absurd (there_entering (sym (set_at (g).lines.stage (ticket_of l.act) There) ∙ stage_is Deeds.Lets_in q))
+            by Deeds.Arrives q su f = absurd (there_entering (sym (set_at (g).lines.stage (ticket_of l.act) There) ∙ stage_is Deeds.Arrives q))
+            by Deeds.Goes_on q su f = absurd (coming_entering (sym (set_at (g).lines.stage (ticket_of l.act) Coming) ∙ stage_is Deeds.Goes_on q))
+            by Deeds.Ends q su f = absurd (done_entering (sym (set_at (g).lines.stage (ticket_of l.act) Done) ∙ stage_is Deeds.Ends q))
+            by (Deeds.Moves to) q su f = absurd (done_entering (sym (set_at (g).lines.stage (ticket_of l.act) Done) ∙ stage_is (Deeds.Moves to) q))
 
         next_plain : Often (ls ++ l ∷ []) s' n.good
         next_plain = record {
           none = λ t p q. same t p ∙ h.none t p (not_yet t p q);
           under_way = λ t i m a z q. subst (λ c. c ≤ a.followed) (sym (same t m.path)) (elim (number_cases (ticket_of l.act) t) [
-            | inr d ↦ h.under_way t i m a (sym (ap (λ (c : Cell A F R). c.mails i) (Passed.cells_off kind owes b batches begins jobs 0 s s' l.worker l.host l.act by_it t d)) ∙ z) q
+            | inr d ↦ h.under_way t i m a (sym (ap (λ (c : Cell A F R). c.mails i) (Passing.cells_off kind owes b batches begins jobs 0 s s' l.worker l.host l.act by_it t d)) ∙ z) q
             | inl d ↦ subst (λ u. passed_to u m.path ls ≤ a.followed) d (own (n.turn).deed refl (n.turn).suits (n.turn).fits i m a (subst (λ u. (s'.cells u).mails i ≡ Some m) (sym d) z) q)
           ]);
           few = λ t p. subst (λ c. c ≤ (((n.good).ghost).trail p).last) (sym (same t p)) (few_on t p);
@@ -277,9 +260,6 @@ module _ {A F R J : Type 0} (kind : Kind A F R J) (owes : Owes kind) (b : Begin 
           now_path : now.path ≡ p₀
           higher : ask.followed < now_ask.followed
 
-        entering_done : Entering ≡ Done → ⊥
-        entering_done e = grind arith
-
         before_it : Before_it
         before_it = (let y = map_some _ _ s' (subst (λ a. step_by kind.system s l.worker l.host a ≡ Some s') a_is by_it) in by (s.hands l.worker) y.0 y.1 y.2)
           where
@@ -287,7 +267,7 @@ module _ {A F R J : Type 0} (kind : Kind A F R J) (owes : Owes kind) (b : Begin 
             by (Some hd) y q d = absurd (none_not q)
             by None y q d =
                 let z = map_some (λ (x : Part A F R). record { part = x; hand = None }) _ y q in let f = passes j to p₀ l.host (part_of s t p₀) z.0 z.1 in
-                let kn = Reached.known kind owes b batches begins jobs s k.ghost k.shows t (λ x. none_not (sym (ap (λ (u : Cell A F R). u.mails j) x) ∙ f.letter_at.mail_is)) in
+                let kn = GoodStates.known kind owes b batches begins jobs s k.ghost k.shows t (λ x. none_not (sym (ap (λ (u : Cell A F R). u.mails j) x) ∙ f.letter_at.mail_is)) in
                 let ep : Shows.EnterShows kind.system w course b.before Is_real k.ghost t j l.host p₀ f.ask = shows_letter kind.system w course b.before Is_real k.ghost t j l.host p₀ (Enter f.ask) (s.cells t) (k.shows.cells t kn.0 kn.1) f.letter_at in
                 record {
                   known = kn;
@@ -302,7 +282,7 @@ module _ {A F R J : Type 0} (kind : Kind A F R J) (owes : Owes kind) (b : Begin 
                   now_is = ap (λ (u : State A F R J). (u.cells t).mails j) d ∙ ap (λ (u : Cell A F R). u.mails j) (set_at s.cells t y.part.cell) ∙ ap (λ (u : Bench A F R). u.part.cell.mails j) z.2 ∙ ap (λ (u : Part A F R). u.cell.mails j) (sym f.gives) ∙ set_at (s.cells t).mails j _;
                   now_letter = refl;
                   now_path = refl;
-                  higher = Passed.forward_more kind owes b batches begins jobs 0 (is_some ((s.columns p₀).store l.host)) f.mark f.ask.followed to (subst (λ o. (if is_some ((s.columns p₀).store l.host) then Steps.Deliver else route_by o f.ask.followed) ≡ Forward to) f.mark_is f.route_is);
+                  higher = Passing.forward_more kind owes b batches begins jobs 0 (is_some ((s.columns p₀).store l.host)) f.mark f.ask.followed to (subst (λ o. (if is_some ((s.columns p₀).store l.host) then Steps.Deliver else route_by o f.ask.followed) ≡ Forward to) f.mark_is f.route_is);
                 }
 
         abbrev bi : Before_it
@@ -338,7 +318,7 @@ module _ {A F R J : Type 0} (kind : Kind A F R J) (owes : Owes kind) (b : Begin 
             | inl z ↦ absurd (sent_already u p (number_is t u (and_first _ _ z)) (path_is p₀ p (and_second (nat_eq t u) _ z)) (not_yet u p q))
           ];
           under_way = λ u i m a z q. elim (number_cases t u) [
-            | inr d ↦ subst (λ c. c ≤ a.followed) (sym (elsewhere u m.path (ap (λ i. i && path_eq p₀ m.path) d))) (h.under_way u i m a (sym (ap (λ (c : Cell A F R). c.mails i) (Passed.cells_off kind owes b batches begins jobs 0 s s' l.worker l.host l.act by_it u (subst (λ x. nat_eq x u ≡ false) (sym ticket_is) d))) ∙ z) q)
+            | inr d ↦ subst (λ c. c ≤ a.followed) (sym (elsewhere u m.path (ap (λ i. i && path_eq p₀ m.path) d))) (h.under_way u i m a (sym (ap (λ (c : Cell A F R). c.mails i) (Passing.cells_off kind owes b batches begins jobs 0 s s' l.worker l.host l.act by_it u (subst (λ x. nat_eq x u ≡ false) (sym ticket_is) d))) ∙ z) q)
             | inl d ↦ subst (λ x. passed_to x m.path (ls ++ l ∷ []) ≤ a.followed) d (own_now i m a (subst (λ x. (s'.cells x).mails i ≡ Some m) (sym d) z) q)
           ];
           few = λ u p. elim (bool_cases (nat_eq t u && path_eq p₀ p)) [
@@ -359,7 +339,7 @@ module _ {A F R J : Type 0} (kind : Kind A F R J) (owes : Owes kind) (b : Begin 
             own_now : (i : ℕ) (m : Mail F) (a : Ask) → (s'.cells t).mails i ≡ Some m → m.letter ≡ Enter a → passed_to t m.path (ls ++ l ∷ []) ≤ a.followed
             own_now i m a z q = (let x = shown t i m a z q in let y = shown t j (bi).now (bi).now_ask (bi).now_is (bi).now_letter in
                 let same : (bi).now ≡ m = some_same (bi).now m (sym (bi).now_is ∙ ap (s'.cells t).mails (y.main ∙ sym x.main) ∙ z) in
-                let asks : (bi).now_ask ≡ a = Passed.enter_same kind owes b batches begins jobs 0 (bi).now_ask a (sym (bi).now_letter ∙ ap (λ (u : Mail F). u.letter) same ∙ q) in
+                let asks : (bi).now_ask ≡ a = Passing.enter_same kind owes b batches begins jobs 0 (bi).now_ask a (sym (bi).now_letter ∙ ap (λ (u : Mail F). u.letter) same ∙ q) in
                 subst (λ (u : Ask). passed_to t m.path (ls ++ l ∷ []) ≤ u.followed) asks (subst (λ r. passed_to t r (ls ++ l ∷ []) ≤ (bi).now_ask.followed) (sym (bi).now_path ∙ ap (λ (u : Mail F). u.path) same) at_now))
 
             few_now : passed_to t p₀ (ls ++ l ∷ []) ≤ (((n.good).ghost).trail p₀).last
@@ -373,7 +353,7 @@ module _ {A F R J : Type 0} (kind : Kind A F R J) (owes : Owes kind) (b : Begin 
       where
         by : (i : Bool) → is_pass l.act ≡ i → Often (ls ++ l ∷ []) s' n.good
         by false q = next_plain ls s s' k l h e n q
-        by true q = (let z = Passed.pass_form kind owes b batches begins jobs 0 l.act q in next_pass ls s s' k l h e n z.0 z.1 z.2 z.3 z.4)
+        by true q = (let z = Passing.pass_form kind owes b batches begins jobs 0 l.act q in next_pass ls s s' k l h e n z.0 z.1 z.2 z.3 z.4)
 
     often_first : Often [] (start_state b batches) (Along.first kind owes b batches begins jobs some_host workers)
     often_first = record { none = λ t p q. refl; under_way = λ t i m a z q. nothing a.followed; few = λ t p. nothing _ }

@@ -5,7 +5,8 @@ use Rattle.wave_base.specs.declared.path.Path.{Path}
 use Rattle.wave_base.specs.Paths.{path_eq}
 use Rattle.wave_states.specs.Actors.{Actors}
 use Rattle.wave_states.specs.States.{State, Cell, Column, Claim, Entry, Event, Hand, Hold, Record, Letter, Enter, Visit, Back, Release, Transfer, Mail, Mark, Ask, Status, Ready, Waiting, set, hold_at, holds_as_peek, ask_in, is_coming, is_release, entry_in}
-use Rattle.wave_states.specs.Steps.{Bench, Part, Route, Forward, queue, queued, grant, granted, visit, start, started, free, pass, passed_on, land, stop, stopped, desk_back, segment_of, entry_for, route, may_join, letter_at, mail_for, only_if, ready_at, with_event, without_mail, with_status, with_entry, with_holders, others, landed, only_if}
+use Rattle.wave_states.specs.Steps.{Bench, Part, Route, Forward, queue, queued, grant, granted, visit, start, started, free, pass, passed_on, land, stop, stopped, desk_back, segment_of, entry_for, route, may_join, letter_at, mail_for, only_if, ready_at, with_event, without_mail, with_entry, with_holders, others, landed, only_if}
+use Rattle.wave_states.specs.Desks.{with_status}
 use Rattle.wave_theory.proofs.Basics.{clash, some_same, none_not, then_some, only_some, if_some, and_first, and_second, number_is, path_is}
 
 pub record LetterIs {F : Type 0} (o : Option (Mail F)) (host : ℕ) (p : Path) (m : Letter F) : Type 0 where

@@ -7,7 +7,8 @@ use Rattle.wave_base.specs.declared.children.Child.{Child}
 use Rattle.wave_base.specs.Paths.{path_eq, is_above, parent_of}
 use Rattle.wave_states.specs.Actors.{Actors, Pause, Go, Down, Over}
 use Rattle.wave_states.specs.States.{Claim, Entry, Event, Hand, Hold, Letter, Enter, Visit, Release, Transfer, Mail, Ask, Travelling, Ended, set, hold_at, holds_as_peek}
-use Rattle.wave_states.specs.Steps.{Part, Desk, send, release, give_up, keep_below, into_child, ended, kept_of, left_of, nothing_kept, not_at, with_held, with_status, with_body, with_entry, put_back, over_here, over_there, over_by, paused, stopped, looked, desk_back, host_or, moved_on, segment_of}
+use Rattle.wave_states.specs.Steps.{Part, keep_below, into_child, ended, with_body, with_entry, put_back, over_here, over_there, over_by, paused, stopped, looked, desk_back, host_or, moved_on, segment_of}
+use Rattle.wave_states.specs.Desks.{Desk, send, release, give_up, kept_of, left_of, nothing_kept, not_at, with_held, with_status}
 use Rattle.wave_theory.proofs.Basics.{clash, some_same, none_not, bool_cases, number_cases, set_at, set_there, path_is, not_same}
 use Rattle.wave_theory.proofs.Opened.{Stopping}
 use Rattle.wave_theory.proofs.Held.{hold_cons, none_some}
@@ -27,10 +28,6 @@ kept_left keep (x ∷ xs) = elim (bool_cases (keep x.0)) [
   where
     plus : (a c : ℕ) → a + suc c ≡ suc (a + c)
     plus a c = omega arith
-
-none_kept : (held : List (Path × Hold)) → kept_of nothing_kept held ≡ []
-none_kept [] = refl
-none_kept (x ∷ xs) = none_kept xs
 
 -- but for one, where each stands once
 all_kept : (p : Path) (held : List (Path × Hold)) → hold_at held p ≡ None → length (kept_of (not_at p) held) ≡ length held

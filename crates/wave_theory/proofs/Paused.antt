@@ -5,7 +5,8 @@ use Rattle.wave_base.specs.declared.path.Step.{Step}
 use Rattle.wave_base.specs.declared.path.Path.{Path}
 use Rattle.wave_states.specs.Actors.{Actors, Left, Pause, Go, Down, Over}
 use Rattle.wave_states.specs.States.{State, Hand, Hold, hold_at, holds_as_peek, set}
-use Rattle.wave_states.specs.Steps.{Part, Desk, with_bench, stopped, looked, paused, into_child, over_here, over_there, over_by, put_back, desk_back, with_body, part_of}
+use Rattle.wave_states.specs.Steps.{Part, with_bench, stopped, looked, paused, into_child, over_here, over_there, over_by, put_back, desk_back, with_body, part_of}
+use Rattle.wave_states.specs.Desks.{Desk}
 use Rattle.wave_theory.proofs.Basics.{bool_cases, some_same, number_self, number_cases, not_same}
 use Rattle.wave_theory.proofs.Order.{Way, IsWay}
 use Rattle.wave_theory.proofs.Leaves.{Course, IsCourse, Segment}
@@ -16,6 +17,10 @@ use Rattle.wave_theory.proofs.Deeds
 use Rattle.wave_states.specs.Labels
 use Rattle.wave_theory.proofs.Shows
 use Rattle.wave_theory.proofs.Leaves.{Follows}
+use Rattle.wave_theory.proofs.EnteringChild
+use Rattle.wave_theory.proofs.GoingOn
+use Rattle.wave_theory.proofs.MovingAway
+use Rattle.wave_theory.proofs.Parting
 use Rattle.wave_theory.proofs.Stopping
 
 same_pair : {X Y : Type 0} (a c : X) (b d : Y) → a ≡ c → b ≡ d → ◌≡◌ {A = X × Y} (a, b) (c, d)
@@ -55,16 +60,16 @@ module _ {A F R J : Type 0} (sys : Actors A F R J) (w : Way) (law : IsWay w) (co
     follows u e = subst (Follows sys w course t (g.lines.pos t) left) e seg.follows
 
     -- into a child
-    into_it : (st : Step) (peek go : Bool) (i : Stopping.InFacts sys w law course low is_real courses s g x hd v h hand_is y q p st peek go) → (o : Option Hold) → hold_at q.event.held (p ++ st ∷ []) ≡ o →
-        y ≡ put_back (part_of s t p) h (Stopping.finish sys w law course low is_real courses s g x hd v h hand_is y q go (p ++ st ∷ []) (into_child p h desk q.entry (left).fields hd.body.children st peek o).0, (into_child p h desk q.entry (left).fields hd.body.children st peek o).1) → Changed
-    into_it st peek go i None e k = (Stopping.z_new sys w law course low is_real courses s g x hd v h hand_is y q st peek go i e, Stopping.is_new sys w law course low is_real courses s g x hd v h hand_is y q st peek go i e k, Stopping.lives_new sys w law course low is_real courses s g x hd v h hand_is y q st peek go i e k, Stopping.turn_new sys w law course low is_real courses s g x hd v h hand_is y q st peek go i e)
-    into_it st peek go i (Some a) e k = (Stopping.z_old sys w law course low is_real courses s g x hd v h hand_is y q st peek go i a e, Stopping.is_old sys w law course low is_real courses s g x hd v h hand_is y q st peek go i a e k, Stopping.lives_old sys w law course low is_real courses s g x hd v h hand_is y q st peek go i a e k, Stopping.turn_old sys w law course low is_real courses s g x hd v h hand_is y q st peek go i a e)
+    into_it : (st : Step) (peek go : Bool) (i : GoingOn.InFacts sys w law course low is_real courses s g x hd v h hand_is y q p st peek go) → (o : Option Hold) → hold_at q.event.held (p ++ st ∷ []) ≡ o →
+        y ≡ put_back (part_of s t p) h (GoingOn.finish sys w law course low is_real courses s g x hd v h hand_is y q go (p ++ st ∷ []) (into_child p h desk q.entry (left).fields hd.body.children st peek o).0, (into_child p h desk q.entry (left).fields hd.body.children st peek o).1) → Changed
+    into_it st peek go i None e k = (EnteringChild.z_new sys w law course low is_real courses s g x hd v h hand_is y q st peek go i e, EnteringChild.is_new sys w law course low is_real courses s g x hd v h hand_is y q st peek go i e k, EnteringChild.lives_new sys w law course low is_real courses s g x hd v h hand_is y q st peek go i e k, EnteringChild.turn_new sys w law course low is_real courses s g x hd v h hand_is y q st peek go i e)
+    into_it st peek go i (Some a) e k = (GoingOn.z_old sys w law course low is_real courses s g x hd v h hand_is y q st peek go i a e, GoingOn.is_old sys w law course low is_real courses s g x hd v h hand_is y q st peek go i a e k, GoingOn.lives_old sys w law course low is_real courses s g x hd v h hand_is y q st peek go i a e k, GoingOn.turn_old sys w law course low is_real courses s g x hd v h hand_is y q st peek go i a e)
 
-    over_it : w.looks t p ≡ false → (r : R) → Stopping.EndFacts sys w law course low is_real courses s g x hd v h hand_is y q p r → (m : Option (Path × ℕ)) → sys.moved r ≡ m → y ≡ over_by p (part_of s t p) h desk (with_body q.entry (Some (record { fields = (left).fields; children = hd.body.children }))) r m → Changed
-    over_it off r i None mv k = (Stopping.z_end sys w law course low is_real courses s g x hd v h hand_is y q r i off, Stopping.is_end sys w law course low is_real courses s g x hd v h hand_is y q r i off k, Stopping.lives_end sys w law course low is_real courses s g x hd v h hand_is y q r i off k, Stopping.turn_end sys w law course low is_real courses s g x hd v h hand_is y q r i off (inl mv))
+    over_it : w.looks t p ≡ false → (r : R) → Parting.EndFacts sys w law course low is_real courses s g x hd v h hand_is y q p r → (m : Option (Path × ℕ)) → sys.moved r ≡ m → y ≡ over_by p (part_of s t p) h desk (with_body q.entry (Some (record { fields = (left).fields; children = hd.body.children }))) r m → Changed
+    over_it off r i None mv k = (Parting.z_end sys w law course low is_real courses s g x hd v h hand_is y q r i off, Parting.is_end sys w law course low is_real courses s g x hd v h hand_is y q r i off k, Parting.lives_end sys w law course low is_real courses s g x hd v h hand_is y q r i off k, Parting.turn_end sys w law course low is_real courses s g x hd v h hand_is y q r i off (inl mv))
     over_it off r i (Some m) mv k = elim (number_cases m.1 h) [
-      | inl e ↦ (Stopping.z_end sys w law course low is_real courses s g x hd v h hand_is y q r i off, Stopping.is_end sys w law course low is_real courses s g x hd v h hand_is y q r i off (k ∙ choose_first m.1 e), Stopping.lives_end sys w law course low is_real courses s g x hd v h hand_is y q r i off (k ∙ choose_first m.1 e), Stopping.turn_end sys w law course low is_real courses s g x hd v h hand_is y q r i off (inr (mv ∙ ap Some (same_pair m.0 hd.path m.1 _ (i.moves m.0 m.1 mv).0 (e ∙ (Stopping.f sys w law course low is_real courses s g x hd v h hand_is y q).host_is)))))
-      | inr e ↦ (Stopping.z_moved sys w law course low is_real courses s g x hd v h hand_is y q r i off m.1 (not_same m.1 h e), Stopping.is_moved sys w law course low is_real courses s g x hd v h hand_is y q r i off m.1 (not_same m.1 h e) (k ∙ choose_second m.1 e), Stopping.lives_moved sys w law course low is_real courses s g x hd v h hand_is y q r i off m.1 (not_same m.1 h e) (i.moves m.0 m.1 mv).1 (k ∙ choose_second m.1 e), Stopping.turn_moved sys w law course low is_real courses s g x hd v h hand_is y q r i off m.1 (not_same m.1 h e) (mv ∙ ap Some (same_pair m.0 hd.path m.1 m.1 (i.moves m.0 m.1 mv).0 refl)))
+      | inl e ↦ (Parting.z_end sys w law course low is_real courses s g x hd v h hand_is y q r i off, Parting.is_end sys w law course low is_real courses s g x hd v h hand_is y q r i off (k ∙ choose_first m.1 e), Parting.lives_end sys w law course low is_real courses s g x hd v h hand_is y q r i off (k ∙ choose_first m.1 e), Parting.turn_end sys w law course low is_real courses s g x hd v h hand_is y q r i off (inr (mv ∙ ap Some (same_pair m.0 hd.path m.1 _ (i.moves m.0 m.1 mv).0 (e ∙ (Stopping.f sys w law course low is_real courses s g x hd v h hand_is y q).host_is)))))
+      | inr e ↦ (MovingAway.z_moved sys w law course low is_real courses s g x hd v h hand_is y q r i off m.1 (not_same m.1 h e), MovingAway.is_moved sys w law course low is_real courses s g x hd v h hand_is y q r i off m.1 (not_same m.1 h e) (k ∙ choose_second m.1 e), MovingAway.lives_moved sys w law course low is_real courses s g x hd v h hand_is y q r i off m.1 (not_same m.1 h e) (i.moves m.0 m.1 mv).1 (k ∙ choose_second m.1 e), MovingAway.turn_moved sys w law course low is_real courses s g x hd v h hand_is y q r i off m.1 (not_same m.1 h e) (mv ∙ ap Some (same_pair m.0 hd.path m.1 m.1 (i.moves m.0 m.1 mv).0 refl)))
     ]
       where
         here : Part A F R
@@ -86,17 +91,17 @@ module _ {A F R J : Type 0} (sys : Actors A F R J) (w : Way) (law : IsWay w) (co
     ]
       where
         looked_case : w.looks t p ≡ true → (r : R) × ((left).pause ≡ Over r) → looked (part_of s t p) h desk q.entry (left).pause ≡ Some y → Changed
-        looked_case looks_on r e = (let i = Stopping.end_facts sys w law course low is_real courses s g x hd v h hand_is y q r.0 (follows (Over r.0) r.1) in
-            (Stopping.z_look sys w law course low is_real courses s g x hd v h hand_is y q r.0 i looks_on, Stopping.is_look sys w law course low is_real courses s g x hd v h hand_is y q r.0 i looks_on (sym (some_same _ y (subst (λ u. looked (part_of s t p) h desk q.entry u ≡ Some y) r.1 e))), Stopping.lives_look sys w law course low is_real courses s g x hd v h hand_is y q r.0 i looks_on (sym (some_same _ y (subst (λ u. looked (part_of s t p) h desk q.entry u ≡ Some y) r.1 e))), Stopping.turn_look sys w law course low is_real courses s g x hd v h hand_is y q r.0 i looks_on))
+        looked_case looks_on r e = (let i = Parting.end_facts sys w law course low is_real courses s g x hd v h hand_is y q r.0 (follows (Over r.0) r.1) in
+            (Parting.z_look sys w law course low is_real courses s g x hd v h hand_is y q r.0 i looks_on, Parting.is_look sys w law course low is_real courses s g x hd v h hand_is y q r.0 i looks_on (sym (some_same _ y (subst (λ u. looked (part_of s t p) h desk q.entry u ≡ Some y) r.1 e))), Parting.lives_look sys w law course low is_real courses s g x hd v h hand_is y q r.0 i looks_on (sym (some_same _ y (subst (λ u. looked (part_of s t p) h desk q.entry u ≡ Some y) r.1 e))), Parting.turn_look sys w law course low is_real courses s g x hd v h hand_is y q r.0 i looks_on))
 
         plain_case : w.looks t p ≡ false → (u : Pause R) → (left).pause ≡ u → paused sys p h (part_of s t p) desk q.entry (left).fields hd.body.children (sys.peeks (left).actor) (left).pause ≡ y → Changed
-        plain_case off (Go st) e k = into_it st (sys.peeks (left).actor) true (Stopping.go_facts sys w law course low is_real courses s g x hd v h hand_is y q st (follows (Go st) e)) (hold_at q.event.held (p ++ st ∷ [])) refl
+        plain_case off (Go st) e k = into_it st (sys.peeks (left).actor) true (GoingOn.go_facts sys w law course low is_real courses s g x hd v h hand_is y q st (follows (Go st) e)) (hold_at q.event.held (p ++ st ∷ [])) refl
             (sym k ∙ ap (paused sys p h (part_of s t p) desk q.entry (left).fields hd.body.children (sys.peeks (left).actor)) e)
-        plain_case off (Down st) e k = into_it st false false (Stopping.down_facts sys w law course low is_real courses s g x hd v h hand_is y q st (follows (Down st) e)) (hold_at q.event.held (p ++ st ∷ [])) refl
+        plain_case off (Down st) e k = into_it st false false (GoingOn.down_facts sys w law course low is_real courses s g x hd v h hand_is y q st (follows (Down st) e)) (hold_at q.event.held (p ++ st ∷ [])) refl
             (sym k ∙ ap (paused sys p h (part_of s t p) desk q.entry (left).fields hd.body.children (sys.peeks (left).actor)) e)
-        plain_case off Pause.Back e k = (let i = Stopping.back_facts sys w law course low is_real courses s g x hd v h hand_is y q (follows Pause.Back e) in
-            (Stopping.z_back sys w law course low is_real courses s g x hd v h hand_is y q i, Stopping.is_back sys w law course low is_real courses s g x hd v h hand_is y q i (sym k ∙ ap (paused sys p h (part_of s t p) desk q.entry (left).fields hd.body.children (sys.peeks (left).actor)) e), Stopping.lives_back sys w law course low is_real courses s g x hd v h hand_is y q i (sym k ∙ ap (paused sys p h (part_of s t p) desk q.entry (left).fields hd.body.children (sys.peeks (left).actor)) e), Stopping.turn_back sys w law course low is_real courses s g x hd v h hand_is y q i))
-        plain_case off (Over r) e k = over_it off r (Stopping.end_facts sys w law course low is_real courses s g x hd v h hand_is y q r (follows (Over r) e)) (sys.moved r) refl
+        plain_case off Pause.Back e k = (let i = GoingOn.back_facts sys w law course low is_real courses s g x hd v h hand_is y q (follows Pause.Back e) in
+            (GoingOn.z_back sys w law course low is_real courses s g x hd v h hand_is y q i, GoingOn.is_back sys w law course low is_real courses s g x hd v h hand_is y q i (sym k ∙ ap (paused sys p h (part_of s t p) desk q.entry (left).fields hd.body.children (sys.peeks (left).actor)) e), GoingOn.lives_back sys w law course low is_real courses s g x hd v h hand_is y q i (sym k ∙ ap (paused sys p h (part_of s t p) desk q.entry (left).fields hd.body.children (sys.peeks (left).actor)) e), GoingOn.turn_back sys w law course low is_real courses s g x hd v h hand_is y q i))
+        plain_case off (Over r) e k = over_it off r (Parting.end_facts sys w law course low is_real courses s g x hd v h hand_is y q r (follows (Over r) e)) (sys.moved r) refl
             (sym k ∙ ap (paused sys p h (part_of s t p) desk q.entry (left).fields hd.body.children (sys.peeks (left).actor)) e)
 
     pub record Stopped_state : Type 0 where

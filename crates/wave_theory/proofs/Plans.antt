@@ -1,10 +1,9 @@
 -- The ways of all tickets of a plan, by the fold.
-use Rattle.std.proofs.Common.{◌≡◌, ℕ, zero, suc, ◌+◌, ◌-◌, ◌≤◌, inl, inr, nat_lt, Bool, true, false, List, [], ◌∷◌, ◌++◌, length, Option, Some, None, refl, sym, ◌∙◌, ap, subst, arith}
+use Rattle.std.proofs.Common.{◌≡◌, ℕ, zero, suc, ◌+◌, ◌-◌, inl, inr, nat_lt, Bool, true, false, List, [], ◌∷◌, ◌++◌, length, Option, Some, None, refl, sym, ◌∙◌, ap, subst}
 use Rattle.std.specs.Prelude.{if◌then◌else◌, slice_get, unwrap_or, All}
 use Rattle.std.specs.List.{AllByRecursion}
 use Rattle.std.specs.List.Sorted.{IsStrictlySortedBy}
 use Rattle.std.proofs.lemmas.List.Elements.{All-append, recursion_from_All, All-from_recursion}
-use Rattle.std.proofs.lemmas.Bool.Decides.{nat_tests}
 use Rattle.wave_base.specs.declared.path.Path.{Path}
 use Rattle.std.specs.List.{filter}
 use Rattle.wave_base.specs.Paths.{path_cmp, is_above}
@@ -17,9 +16,9 @@ use Rattle.wave_states.specs.Begins.{Begin}
 use Rattle.wave_states.specs.Kinds.{Kind}
 use Rattle.wave_states.specs.Owes.{Owes, Keeps, MovesOnly, IsBegin}
 use Rattle.wave_theory.proofs.Basics.{some_same, none_not, options}
-use Rattle.wave_theory.proofs.Order.{Way, IsWay}
+use Rattle.wave_theory.proofs.Order.{Way}
 use Rattle.wave_theory.proofs.Alone.{Fine, Stands, step_moved, first_fine, root_only}
-use Rattle.wave_theory.proofs.Ways.{One, IsOne, way_of, is_way_of, in_and_out, in_and_out_is, one_of, one_is, Counts, counted, stays_over, none_yet}
+use Rattle.wave_theory.proofs.Ways.{One, IsOne, way_of, in_and_out, in_and_out_is, one_of, one_is, Counts, counted, stays_over, none_yet}
 
 abbrev pub less_one : ℕ → ℕ
 less_one zero = zero
@@ -201,29 +200,3 @@ module _ {A F R J : Type 0} (kind : Kind A F R J) (owes : Owes kind) where
     pub one_at_ok : (i : ℕ) (o : Option J) → job_after kind.system b batches i ≡ o → IsOne (one_at i o)
     one_at_ok i None e = in_and_out_is
     one_at_ok i (Some j) e = one_is kind owes (first_of i j) (last_of i j) (first_ok i j e) (counts i j e) refl refl (root_only kind owes j (suc b.before + i) (at i).tree)
-
-    pub one_ok : (t : ℕ) → IsOne (one t)
-    one_ok t = by (nat_lt b.before t)
-      where
-        by : (c : Bool) → IsOne (if c then one_at (t - suc b.before) (job_after kind.system b batches (t - suc b.before)) else in_and_out)
-        by true = one_at_ok (t - suc b.before) (job_after kind.system b batches (t - suc b.before)) refl
-        by false = in_and_out_is
-
-    pub law : IsWay w
-    law = is_way_of one one_ok
-
-    -- the way of a ticket of this run
-    pub one_is_at : (i : ℕ) (j : J) → job_after kind.system b batches i ≡ Some j → one (suc b.before + i) ≡ one_of kind.system (first_of i j) (last_of i j)
-    one_is_at i j e = rw (later b.before i) (ap (λ k. one_at k (job_after kind.system b batches k)) (index b.before i) ∙ ap (one_at i) e)
-      where
-        later : (x i : ℕ) → nat_lt x (suc x + i) ≡ true
-        later x i = grind (arith, nat_tests)
-
-        index : (x i : ℕ) → suc x + i - suc x ≡ i
-        index x i = omega arith
-
-    pub one_before : (t : ℕ) → t ≤ b.before → one t ≡ in_and_out
-    one_before t l = rw (not_later b.before t l) refl
-      where
-        not_later : (x t : ℕ) → t ≤ x → nat_lt x t ≡ false
-        not_later x t l = grind (arith, nat_tests)

@@ -7,9 +7,10 @@ use Rattle.wave_base.specs.Paths.{path_eq}
 use Rattle.wave_base.specs.Kids.{child_at}
 use Rattle.wave_states.specs.Actors.{Actors}
 use Rattle.wave_states.specs.States.{State, Claim, Entry, Enter, Waiting, set, hold_at, Mail}
-use Rattle.wave_states.specs.Steps.{Part, Route, Deliver, Born, Wait, Forward, with_bench, queued, entry_for, route, in_line, with_entry, part_of, with_status, child_or_new}
+use Rattle.wave_states.specs.Steps.{Part, Route, Deliver, Born, Wait, Forward, with_bench, queued, entry_for, route, in_line, with_entry, part_of, child_or_new}
+use Rattle.wave_states.specs.Desks.{with_status}
 use Rattle.wave_theory.proofs.Basics.{bool_cases, clash, some_same, none_not, number_cases, not_same, path_cases, set_at, set_there, set_at_path}
-use Rattle.wave_theory.proofs.Order.{Way, IsWay, Entering, Lined, Coming, There, Done, is_pending, here, staged, visits, rank}
+use Rattle.wave_theory.proofs.Order.{Way, IsWay, Lined, is_pending, here, staged, visits, rank}
 use Rattle.wave_theory.proofs.Turns.{line_good}
 use Rattle.wave_theory.proofs.Leaves.{Course}
 use Rattle.wave_theory.proofs.Tracks.{Trail, owner, Track, change_track, born_track, not_born_again, store_at, born}
@@ -26,21 +27,7 @@ use Rattle.wave_theory.proofs.Deeds.{grown}
 use Rattle.wave_theory.proofs.Deeds
 use Rattle.wave_states.specs.Labels
 use Rattle.wave_theory.proofs.Shows
-
-entering_coming : Entering ≡ Coming → ⊥
-entering_coming e = grind arith
-
-entering_there : Entering ≡ There → ⊥
-entering_there e = grind arith
-
-entering_done : Entering ≡ Done → ⊥
-entering_done e = grind arith
-
-lined_entering : Lined ≡ Entering → ⊥
-lined_entering e = grind arith
-
-entering_lined : Entering ≡ Lined → ⊥
-entering_lined e = grind arith
+use Rattle.wave_theory.proofs.Stages.{entering_coming, entering_done, entering_lined, entering_there, lined_coming, lined_entering}
 
 module _ {A F R J : Type 0} (sys : Actors A F R J) (w : Way) (law : IsWay w) (course : Course sys) (low : ℕ) (is_real : ℕ → Type 0) where
   abbrev after : Shows.Ghost F → ℕ → Path → ℕ → Bool → Shows.Ghost F
@@ -289,9 +276,6 @@ module _ {A F R J : Type 0} (sys : Actors A F R J) (w : Way) (law : IsWay w) (co
     queue_tally n y = Tallies.tally_update sys w course low is_real g g' t p v n frame refl lt la y
         (Tallies.stage_more sys w course low is_real g g' t refl (λ i l. refl) (ap (λ u. Tallies.stage_part (w.fresh t (g.lines.pos t)) u (g.out t)) stage_now ∙ sym (ap (λ u. suc (Tallies.stage_part (w.fresh t (g.lines.pos t)) u (g.out t))) e.stage)))
         (λ z. absurd (lined_coming (sym stage_now ∙ z)))
-      where
-        lined_coming : Lined ≡ Coming → ⊥
-        lined_coming e = grind arith
 
     pub queue_alive : Alive.Alive sys w course low is_real s g → s.hands v ≡ None → Alive.Alive sys w course low is_real (with_bench s t p v (record { part = y; hand = None })) g'
     queue_alive a idle = Alive.alive_update sys w course low is_real s g g' t p v (record { part = y; hand = None }) x frame refl la lt a
@@ -321,9 +305,6 @@ module _ {A F R J : Type 0} (sys : Actors A F R J) (w : Way) (law : IsWay w) (co
 
         mine : Alive.AliveOne sys w course low is_real g t (s.cells t).mails
         mine = a.one t lt la
-
-        lined_coming : Lined ≡ Coming → ⊥
-        lined_coming e = grind arith
 
         vt : visits w t p ≡ true
         vt = subst (λ r. visits w t r ≡ true) (sym e.place) (visits_of sys w law course low is_real g x.good t (here w g.lines t) la (entered_spot sys w law course low is_real g x.good t la (λ z. entering_done (sym e.stage ∙ z))))

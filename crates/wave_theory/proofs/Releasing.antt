@@ -17,7 +17,8 @@ use Rattle.wave_states.specs.Labels.{Act, Label, Admit, Queue, Grant, Start, Sto
 use Rattle.wave_states.specs.Labels
 use Rattle.wave_states.specs.Begins.{Begin, start_state}
 use Rattle.wave_states.specs.Runs.{run}
-use Rattle.wave_states.specs.Steps.{Part, Bench, Desk, send, release, give_up, keep_below, into_child, kept_of, left_of, nothing_kept, not_at, with_held, with_status, with_body, put_back, over_here, over_there, over_by, paused, stopped, looked, desk_back, host_or, moved_on, segment_of, with_hand, calm, act_bench, stop, part_of, step, step_by, only_if, next_ticket, admitted, committed}
+use Rattle.wave_states.specs.Steps.{Part, Bench, keep_below, into_child, with_body, put_back, over_here, over_there, over_by, paused, stopped, looked, desk_back, host_or, moved_on, segment_of, with_hand, calm, act_bench, stop, part_of, step, step_by, only_if, next_ticket, admitted, committed}
+use Rattle.wave_states.specs.Desks.{Desk, send, release, give_up, kept_of, left_of, nothing_kept, not_at, with_held, with_status}
 use Rattle.wave_theory.proofs.Basics.{some_same, none_not, bool_cases, number_cases, set_at, set_there, differ, then_some, map_some, only_some, if_some}
 use Rattle.wave_theory.proofs.Commute.{local_step}
 use Rattle.wave_theory.proofs.Desks.{keep_release}

@@ -14,7 +14,7 @@ use Rattle.wave_states.specs.Owes.{Owes, IsBegin}
 use Rattle.wave_states.specs.Steps.{step, next_ticket}
 use Rattle.wave_states.specs.Canonical.{below, at_host, by_event, by_mail, to_mark, runs_it, place, by_status, grants_of, starts_of, stops_of, by_mails, mail_act, passes_of, early, stops, late, idle_in, taken_as, takes, taken_by, stop_by, enabled, enabled_for}
 use Rattle.wave_theory.proofs.Basics.{bool_cases, clash, number_is, and_first}
-use Rattle.wave_theory.proofs.Reached.{Good_state}
+use Rattle.wave_theory.proofs.GoodStates.{Good_state}
 use Rattle.wave_theory.specs.Listed.{kind_of, mail_of, Before, Rising, Sorted}
 
 all_append : {X : Type 0} (P : X → Type 0) (xs ys : List X) → AllByRecursion P xs → AllByRecursion P ys → AllByRecursion P (xs ++ ys)

@@ -32,10 +32,11 @@ use Rattle.wave_theory.proofs.Shows
 use Rattle.wave_theory.proofs.Folds
 use Rattle.wave_theory.proofs.Homes.{is_done, spot_of}
 use Rattle.wave_theory.proofs.Homes
+use Rattle.wave_theory.proofs.HomesKept
 use Rattle.wave_theory.proofs.Sites
 use Rattle.wave_theory.proofs.Live
 use Rattle.wave_theory.proofs.Told
-use Rattle.wave_theory.proofs.Reached.{Good_state, Next}
+use Rattle.wave_theory.proofs.GoodStates.{Good_state}
 use Rattle.wave_theory.proofs.Reached
 use Rattle.wave_theory.proofs.Along
 
@@ -110,14 +111,14 @@ module _ {A F R J : Type 0} (kind : Kind A F R J) (owes : Owes kind) (b : Begin 
     HasHomes ls s k = HomesAre k.ghost
 
     homes_next : (ls : List Label) (s s' : State A F R J) (k : Good s) (l : Label) → Along.from_start kind owes b batches begins jobs some_host workers ls s → HasHomes ls s k → step kind.system workers s l ≡ Some s' → (n : Along.Follows kind owes b batches begins jobs some_host workers s s' k l) → HasHomes (ls ++ l ∷ []) s' n.good
-    homes_next ls s s' k l r h e n = Homes.homes_next kind owes b batches begins jobs s k.ghost (n.good).ghost l.act k.shows n.turn h
+    homes_next ls s s' k l r h e n = HomesKept.homes_next kind owes b batches begins jobs s k.ghost (n.good).ghost l.act k.shows n.turn h
 
     pub record Homed (s : State A F R J) : Type 0 where
       pub good : Good s
       pub homes : HomesAre good.ghost
 
     pub homed : (ls : List Label) (s : State A F R J) → run kind.system workers (start_state b batches) ls ≡ Some s → Homed s
-    homed ls s e = by (Along.along kind owes b batches begins jobs some_host workers HasHomes homes_next (subst HomesAre (sym (Reached.first_ghost kind owes b batches begins jobs some_host)) (Homes.homes_first kind owes b batches begins jobs)) ls s e)
+    homed ls s e = by (Along.along kind owes b batches begins jobs some_host workers HasHomes homes_next (subst HomesAre (sym (Reached.first_ghost kind owes b batches begins jobs some_host)) (HomesKept.homes_first kind owes b batches begins jobs)) ls s e)
       where
         by : Along.Along kind owes b batches begins jobs some_host workers HasHomes homes_next ls s → Homed s
         by a = record { good = a.good; homes = a.holds }

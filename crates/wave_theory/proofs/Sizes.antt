@@ -4,17 +4,16 @@ use Rattle.wave_base.specs.declared.path.Path.{Path}
 use Rattle.wave_states.specs.Actors.{Actors}
 use Rattle.wave_states.specs.States.{State}
 use Rattle.wave_theory.proofs.Basics.{clash, none_not, options}
-use Rattle.wave_theory.proofs.Order.{Way, IsWay, Done, Stage, Entering, Lined, Coming, There}
+use Rattle.wave_theory.proofs.Order.{Way, Done, Stage, Entering, Lined, Coming, There}
 use Rattle.wave_theory.proofs.Leaves.{Course}
 use Rattle.std.specs.Prelude.{All}
 use Rattle.wave_states.specs.Begins.{Begin}
 use Rattle.wave_states.specs.Kinds.{Kind}
 use Rattle.wave_states.specs.Owes.{Owes, IsBegin}
-use Rattle.wave_theory.proofs.Courses.{View, view, view_real, done_at, entered_after, leaf_first, view_later, done_or_over}
-use Rattle.wave_theory.proofs.Reached.{Heads, Good_state, ResultIs, result_of}
+use Rattle.wave_theory.proofs.Courses.{View, view_real, done_at, entered_after}
+use Rattle.wave_theory.proofs.GoodStates.{Good_state}
 use Rattle.wave_theory.proofs.Order.{Coming}
-use Rattle.wave_states.specs.Labels.{Act, Label, Admit, Queue, Grant, Start, Stop, Free, Pass, Land, Commit, ticket_of, path_of}
-use Rattle.wave_states.specs.Labels
+use Rattle.wave_states.specs.Labels.{Label}
 use Rattle.std.specs.Prelude.{◌*◌}
 use Rattle.wave_base.specs.Fold.{next_job, with_job, Progress}
 use Rattle.wave_states.specs.Actors.{Pause, Go, Down, Over}
@@ -24,13 +23,13 @@ use Rattle.wave_states.specs.Runs.{Finished}
 use Rattle.wave_theory.specs.Counted.{Counted, taken, size}
 use Rattle.wave_theory.proofs.Ways.{Counts, none_yet, next_is}
 use Rattle.wave_theory.proofs.Plans.{first_of, last_of, counts}
-use Rattle.wave_theory.proofs.Courses.{view_real, view_at, View}
+use Rattle.wave_theory.proofs.Courses.{view_real, View}
 use Rattle.wave_theory.proofs.Tallies.{sum_up, sum_to, sum_zero, sum_more, sum_same, sum_less, over_part, full_part, stage_part, progress, over_parts}
 use Rattle.wave_theory.proofs.Live
 use Rattle.wave_theory.proofs.Plans
 use Rattle.wave_theory.proofs.Folds
 use Rattle.wave_theory.proofs.Courses
-use Rattle.wave_theory.proofs.Reached
+use Rattle.wave_theory.proofs.GoodStates
 use Rattle.wave_theory.proofs.Shows
 use Rattle.wave_theory.proofs.Told
 
@@ -150,9 +149,6 @@ module _ {A F R J : Type 0} (kind : Kind A F R J) (owes : Owes kind) (b : Begin 
   abbrev at : ℕ → Progress F R J
   at n = fold_alone kind.system b batches n
 
-  law : IsWay w
-  law = Courses.law kind owes b batches begins jobs
-
   -- the most that a ticket takes, its Admit and its Commit aside
   abbrev full : ℕ → ℕ
   full i = sum_to (suc (w.last (suc b.before + i))) (λ k. full_part (w.fresh (suc b.before + i) k))
@@ -204,7 +200,7 @@ module _ {A F R J : Type 0} (kind : Kind A F R J) (owes : Owes kind) (b : Begin 
       either (suc m) zero = inr (suc m, omega arith)
       either (suc m) (suc n) = elim (either m n) [ inl i ↦ inl (i.0, omega (arith, i.1)) | inr i ↦ inr (i.0, omega (arith, i.1)) ]
 
-  module _ (s : State A F R J) (labels : List Rattle.wave_states.specs.Labels.Label) (r : Reached.Goes kind owes b batches begins jobs s (taken labels)) where
+  module _ (s : State A F R J) (labels : List Rattle.wave_states.specs.Labels.Label) (r : GoodStates.Goes kind owes b batches begins jobs s (taken labels)) where
     abbrev k : Good_state kind owes b batches begins jobs s
     k = r.good
 

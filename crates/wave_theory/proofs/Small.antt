@@ -26,12 +26,13 @@ use Rattle.wave_theory.proofs.Folds
 use Rattle.wave_theory.proofs.Live
 use Rattle.wave_theory.proofs.Sizes
 use Rattle.wave_theory.proofs.Told
+use Rattle.wave_theory.proofs.Arrivals
 use Rattle.wave_theory.proofs.Noted
 use Rattle.wave_theory.proofs.Few
-use Rattle.wave_theory.proofs.Spent
+use Rattle.wave_theory.proofs.Balances
 use Rattle.wave_theory.proofs.Mailed
-use Rattle.wave_theory.proofs.Reached.{Good_state}
-use Rattle.wave_theory.proofs.Reached
+use Rattle.wave_theory.proofs.GoodStates.{Good_state}
+use Rattle.wave_theory.proofs.GoodStates
 use Rattle.wave_theory.specs.Numbers.{HasEntry}
 use Rattle.wave_theory.specs.Counted.{most_moves}
 use Rattle.wave_theory.specs.Sent.{Within, shares}
@@ -193,7 +194,7 @@ module _ {A F R J : Type 0} (kind : Kind A F R J) (owes : Owes kind) (b : Begin 
               trans i d a m l q r = omega (arith, l, q, r)
 
       mail_known : (t i : ℕ) (m : Mail F) → (s.cells t).mails i ≡ Some m → (b.before < t) × (t ≤ (g).lines.admitted)
-      mail_known t i m e = Reached.known kind owes b batches begins jobs s k.ghost x t (λ q. none_not (sym (ap (λ (u : Cell A F R). u.mails i) q) ∙ e))
+      mail_known t i m e = GoodStates.known kind owes b batches begins jobs s k.ghost x t (λ q. none_not (sym (ap (λ (u : Cell A F R). u.mails i) q) ∙ e))
 
       entry_is : (p : Path) (en : Entry F) → HasEntry s p en → en ≡ (g).entry p
       entry_is p en h = Told.entry_same kind owes b batches begins jobs s k p en h
@@ -256,8 +257,8 @@ module _ {A F R J : Type 0} (kind : Kind A F R J) (owes : Owes kind) (b : Begin 
     abbrev note : Noted.Note kind owes b batches begins jobs some_host workers ls s
     note = Noted.noting kind owes b batches begins jobs some_host workers ls s r
 
-    abbrev spent : Spent.Spending kind owes b batches begins jobs some_host workers s
-    spent = Spent.spending kind owes b batches begins jobs some_host workers ls s r
+    abbrev spent : Balances.Spending kind owes b batches begins jobs some_host workers s
+    spent = Balances.spending kind owes b batches begins jobs some_host workers ls s r
 
     abbrev counted : Few.Counting kind owes b batches begins jobs some_host workers s
     counted = Few.counting kind owes b batches begins jobs some_host workers ls s r
@@ -275,7 +276,7 @@ module _ {A F R J : Type 0} (kind : Kind A F R J) (owes : Owes kind) (b : Begin 
         ts : List ℕ
         ts = Rattle.wave_theory.specs.Came.senders_from kind.system workers (p ++ st ∷ []) (Some (start_state b batches)) ls
 
-        sent : Noted.Firsts kind owes b batches begins jobs (Rattle.wave_theory.specs.Came.senders_from kind.system workers (p ++ st ∷ []) (Some (start_state b batches)) ls) (((note).good.ghost).lines.given (p ++ st ∷ [])) (p ++ st ∷ [])
+        sent : Arrivals.Firsts kind owes b batches begins jobs (Rattle.wave_theory.specs.Came.senders_from kind.system workers (p ++ st ∷ []) (Some (start_state b batches)) ls) (((note).good.ghost).lines.given (p ++ st ∷ [])) (p ++ st ∷ [])
         sent = (note).noted.sent (p ++ st ∷ [])
 
         not_root : (p : Path) → is_root (p ++ st ∷ []) ≡ false
@@ -306,7 +307,7 @@ module _ {A F R J : Type 0} (kind : Kind A F R J) (owes : Owes kind) (b : Begin 
       admitted = admitted_few n over s (counted).good;
       known = known_few_jobs n over s (counted).good;
       sent = sent_few;
-      mails = λ t i m e. (let q = Reached.known kind owes b batches begins jobs s ((counted).good.ghost) (counted).good.shows t (λ z. none_not (sym (ap (λ (u : Cell A F R). u.mails i) z) ∙ e)) in
+      mails = λ t i m e. (let q = GoodStates.known kind owes b batches begins jobs s ((counted).good.ghost) (counted).good.shows t (λ z. none_not (sym (ap (λ (u : Cell A F R). u.mails i) z) ∙ e)) in
           let c = (counted).good.shows.cells t q.0 q.1 in elim (below_or i c.event.sent) [
             | inr l ↦ trans_few _ _ _ l (sent_few t c.event c.event_is)
             | inl l ↦ absurd (none_not (sym (c.unused i l) ∙ e))
@@ -337,7 +338,7 @@ module _ {A F R J : Type 0} (kind : Kind A F R J) (owes : Owes kind) (b : Begin 
             find (suc a) (suc t) l = (let r = find a t (omega (arith, l)) in (r.0, omega (arith, r.1)))
 
         sent_few : (t : ℕ) (event : Event A) → (s.cells t).event ≡ Some event → event.sent ≤ (work n).segments + (work n).entered
-        sent_few t event e = (let q = Reached.known kind owes b batches begins jobs s ((spent).good.ghost) (spent).good.shows t (λ z. none_not (sym (ap (λ (u : Cell A F R). u.event) z) ∙ e)) in
+        sent_few t event e = (let q = GoodStates.known kind owes b batches begins jobs s ((spent).good.ghost) (spent).good.shows t (λ z. none_not (sym (ap (λ (u : Cell A F R). u.event) z) ∙ e)) in
             let i = index_of t q.0 in
             let y = Mailed.sent kind owes b batches begins jobs s (spent).good (spent).kept.balance i.0 event (ap (λ u. (s.cells u).event) (sym i.1) ∙ e) in
             trans_few _ _ _ y.within (shares_in n i.0 y.job y.job_is (index_below n over i.0 y.job y.job_is)))

@@ -18,18 +18,7 @@ use Rattle.wave_theory.proofs.Tallies
 use Rattle.wave_theory.proofs.Deeds
 use Rattle.wave_states.specs.Labels
 use Rattle.wave_theory.proofs.Shows
-
-there_lined : There ≡ Lined → ⊥
-there_lined e = grind arith
-
-there_entering : There ≡ Entering → ⊥
-there_entering e = grind arith
-
-there_coming : There ≡ Coming → ⊥
-there_coming e = grind arith
-
-there_done : There ≡ Done → ⊥
-there_done e = grind arith
+use Rattle.wave_theory.proofs.Stages.{there_coming, there_done, there_entering, there_lined}
 
 -- who is ready is at its context, with no segment out
 pub ready_now : (v : Stage) (o : Bool) (p q : Path) → Shows.StatusShows (Ready p) v o q → (v ≡ There) × (p ≡ q) × (o ≡ false)

@@ -21,6 +21,7 @@ use Rattle.wave_theory.proofs.Tracks.{routed}
 use Rattle.wave_theory.proofs.Leaves.{Follows}
 use Rattle.wave_theory.proofs.Alive
 use Rattle.wave_theory.proofs.Able
+use Rattle.wave_theory.proofs.Stages.{there_done}
 
 module _ {A F R J : Type 0} (sys : Actors A F R J) (w : Way) (law : IsWay w) (course : Course sys) (low : ℕ) (is_real : ℕ → Type 0) (courses : IsCourse sys w course low is_real) where
   module _ (s : State A F R J) (g : Shows.Ghost F) (x : Shows.Shows sys w course low is_real s g) (a : Alive.Alive sys w course low is_real s g) (workers v : ℕ) (less : nat_lt v workers ≡ true) (idle : s.hands v ≡ None) where
@@ -152,9 +153,6 @@ module _ {A F R J : Type 0} (sys : Actors A F R J) (w : Way) (law : IsWay w) (co
         | inr o ↦ ready o c.event.status refl (subst (λ u. Shows.StatusShows c.event.status u (g.out t) p) e c.status)
       ]
         where
-          there_done : There ≡ Done → ⊥
-          there_done e = grind arith
-
           going : g.lines.pos t ≤ w.last t
           going = x.good.going t la (λ n. there_done (sym e ∙ n))
 

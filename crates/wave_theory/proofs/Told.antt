@@ -10,8 +10,8 @@ use Rattle.wave_base.specs.Paths.{path_eq}
 use Rattle.wave_states.specs.States.{State, Cell, Claim, Entry, Event, Record, Mail, steps_of, Ask}
 use Rattle.wave_states.specs.Steps.{free, route, Deliver, Wait, Forward}
 use Rattle.wave_theory.proofs.Basics.{clash, some_same, none_not, options, number_cases, bool_cases}
-use Rattle.wave_theory.proofs.Order.{Way, IsWay, visits, rank, Entering, Lined, Done, here}
-use Rattle.wave_theory.proofs.Stops.{root_number}
+use Rattle.wave_theory.proofs.Order.{Way, IsWay, visits, rank, Done, here}
+use Rattle.wave_theory.proofs.NewTickets.{root_number}
 use Rattle.wave_theory.proofs.Leaves.{Course}
 use Rattle.wave_theory.proofs.Tracks.{owner, Routed, routed}
 use Rattle.wave_theory.proofs.Found.{found}
@@ -32,13 +32,14 @@ use Rattle.wave_theory.proofs.Courses.{View, view, view_real, done_at, entered_a
 use Rattle.wave_theory.proofs.Courses
 use Rattle.wave_theory.proofs.Folds
 use Rattle.wave_theory.proofs.Beginning.{rank_start}
-use Rattle.wave_theory.proofs.Reached.{Heads, Good_state, ResultIs, result_of}
-use Rattle.wave_theory.proofs.Reached
+use Rattle.wave_theory.proofs.GoodStates.{Heads, Good_state, ResultIs, result_of}
+use Rattle.wave_theory.proofs.GoodStates
 use Rattle.wave_theory.specs.Results.{Results, Tickets}
 use Rattle.wave_theory.specs.Numbers.{IsNumber, Numbers, HasEntry}
 use Rattle.wave_theory.specs.Records.{Records}
 use Rattle.wave_theory.specs.Bounds.{NothingAt}
 use Rattle.wave_theory.specs.Always.{served_before}
+use Rattle.wave_theory.proofs.Stages.{entering_done, lined_done}
 
 same_mail : {F : Type 0} (m : Mail F) (h : ℕ) (p : Path) (l : Rattle.wave_states.specs.States.Letter F) → m.host ≡ h → m.path ≡ p → m.letter ≡ l → m ≡ record { host = h; path = p; letter = l }
 same_mail m h p l e f k = λ i. record { host = e i; path = f i; letter = k i }
@@ -129,17 +130,11 @@ module _ {A F R J : Type 0} (kind : Kind A F R J) (owes : Owes kind) (b : Begin 
         there : (at (suc r.index)).head.done ≡ suc r.index
         there = ap (λ (v : Progress F R J). v.head.done) (goes_on r.index r.job r.job_is) ∙ Folds.with_done_done (at r.index).head _ ∙ ap suc (done_at kind owes b batches begins jobs r.index r.job r.job_is)
 
-    entering_done : Entering ≡ Done → ⊥
-    entering_done e = grind arith
-
-    lined_done : Lined ≡ Done → ⊥
-    lined_done e = grind arith
-
     comes_spot : (t : ℕ) (p : Path) → t ≤ (k.ghost).lines.admitted → ((k.ghost).lines.stage t ≡ Done → ⊥) → here w (k.ghost).lines t ≡ p → visits w t p ≡ true
     comes_spot t p l n e = subst (λ r. visits w t r ≡ true) e (visits_of kind.system w law course b.before Is_real k.ghost x.good t (here w (k.ghost).lines t) l (entered_spot kind.system w law course b.before Is_real k.ghost x.good t l n))
 
     mail_known : (t i : ℕ) (m : Mail F) → (s.cells t).mails i ≡ Some m → (b.before < t) × (t ≤ (k.ghost).lines.admitted)
-    mail_known t i m e = Reached.known kind owes b batches begins jobs s k.ghost x t (λ q. none_not (sym (ap (λ (u : Cell A F R). u.mails i) q) ∙ e))
+    mail_known t i m e = GoodStates.known kind owes b batches begins jobs s k.ghost x t (λ q. none_not (sym (ap (λ (u : Cell A F R). u.mails i) q) ∙ e))
 
     pub entry_same : (p : Path) (en : Entry F) → HasEntry s p en → en ≡ (k.ghost).entry p
     entry_same p en (inl e) = (found kind.system w course b.before Is_real k.ghost p (s.columns p) e.0 en (x.columns p) e.1).entry_is
@@ -186,7 +181,7 @@ module _ {A F R J : Type 0} (kind : Kind A F R J) (owes : Owes kind) (b : Begin 
     pub bounds : Bounded_by
     bounds = record {
       cells = λ t n. x.no_cells t (λ l m. n (subst (λ i. i < t) (sym x.before) l) (subst (λ i. t ≤ i) (x.admitted ∙ ap (λ i. i + s.admitted) (sym x.before)) m));
-      mails = λ t i e p l. let n = Reached.known kind owes b batches begins jobs s k.ghost x t (λ q. none_not (sym (ap (λ (u : Cell A F R). u.event) q) ∙ p)) in
+      mails = λ t i e p l. let n = GoodStates.known kind owes b batches begins jobs s k.ghost x t (λ q. none_not (sym (ap (λ (u : Cell A F R). u.event) q) ∙ p)) in
           let c = x.cells t n.0 n.1 in c.unused i (subst (λ (u : Event A). u.sent < i) (some_same e c.event (sym p ∙ c.event_is)) l);
       children = λ q st en r se be ce i. let same : r ≡ (k.ghost).body q = (x.entries q).body r (ap (λ (u : Entry F). u.body) (sym (entry_same q en se)) ∙ be) in
           let c : Shows.Unborn kind.system w course b.before Is_real k.ghost (q ++ st ∷ []) (s.columns (q ++ st ∷ [])) = subst (λ o. Shows.ColumnShows kind.system w course b.before Is_real o k.ghost (q ++ st ∷ []) (s.columns (q ++ st ∷ []))) ((x.entries q).strangers st (ap (λ (u : Record F). child_at u.children st) (sym same) ∙ ce)) (x.columns (q ++ st ∷ [])) in

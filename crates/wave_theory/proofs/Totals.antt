@@ -18,24 +18,20 @@ use Rattle.wave_states.specs.Work.{work_after, moves_away}
 use Rattle.wave_states.specs.Begins.{Begin, has_moved}
 use Rattle.wave_states.specs.Owes.{Owes, IsBegin}
 use Rattle.wave_theory.proofs.Basics.{clash, options, bool_cases, path_cases, path_is, path_self}
-use Rattle.wave_theory.proofs.Order.{Way, IsWay, rank}
+use Rattle.wave_theory.proofs.Order.{Way, rank}
 use Rattle.wave_theory.proofs.Tallies.{sum_to, sum_zero, sum_more, sum_same}
-use Rattle.wave_theory.proofs.Homes.{spot_of}
 use Rattle.wave_theory.proofs.Homes
 use Rattle.wave_theory.proofs.Courses
 use Rattle.wave_theory.proofs.Plans
-use Rattle.wave_theory.proofs.Sites.{shift_by}
+use Rattle.wave_theory.proofs.Places.{shift_by}
 use Rattle.wave_theory.proofs.Sites
 use Rattle.wave_theory.proofs.Live
 use Rattle.wave_theory.proofs.Settled
 use Rattle.wave_theory.proofs.Told
-use Rattle.wave_theory.proofs.Reached.{Good_state}
+use Rattle.wave_theory.proofs.GoodStates.{Good_state}
 use Rattle.wave_theory.specs.Numbers.{HasEntry}
 use Rattle.wave_theory.specs.Counted.{most_moves}
 use Rattle.wave_theory.specs.Finals.{Loads, AllMoves}
-
-sum_none : (f : Path → ℕ) → sum_by f [] ≡ 0
-sum_none f = refl
 
 -- sums over paths
 sum_like : (f h : Path → ℕ) (ps : List Path) → ((p : Path) → list_any (path_eq p) ps ≡ true → f p ≡ h p) → sum_by f ps ≡ sum_by h ps

@@ -6,15 +6,7 @@ use Rattle.wave_states.specs.States.{set}
 use Rattle.wave_theory.proofs.Basics.{bool_cases, clash, number_cases, not_same, path_is, path_self, set_at, set_there, set_here}
 use Rattle.wave_theory.proofs.Order.{Way, IsWay, visits, rank, Stage, Entering, Lined, Coming, There, Done, is_pending, Lines, here, Granted, Good, staged, let_at, freed}
 use Rattle.wave_theory.proofs.Ranks.{rank_same, comes}
-
-lined_not : Lined ≡ Done → ⊥
-lined_not e = grind arith
-
-entering_not : Entering ≡ Done → ⊥
-entering_not e = grind arith
-
-pub there_not : There ≡ Done → ⊥
-there_not e = grind arith
+use Rattle.wave_theory.proofs.Stages.{coming_done, entering_done, lined_done, there_done}
 
 below_by : (x y z : ℕ) → y ≡ suc z → x ≤ suc z → (x ≡ y → ⊥) → x ≤ z
 below_by x y z e l ne = grind arith
@@ -104,13 +96,10 @@ module _ {w : Way} (law : IsWay w) where
       to a p x = record { known = x.known; entered = x.entered; past = λ e. x.past (sym (same a) ∙ e) }
 
   pub line_good : (s : Lines) (t : ℕ) → Good w s → s.stage t ≡ Entering → Good w (staged s t Lined)
-  line_good s t g m = restage_one s t Lined (ap is_pending (sym m)) (λ e. entering_not (sym m ∙ e)) lined_not g
+  line_good s t g m = restage_one s t Lined (ap is_pending (sym m)) (λ e. entering_done (sym m ∙ e)) lined_done g
 
   pub arrive_good : (s : Lines) (t : ℕ) → Good w s → s.stage t ≡ Coming → Good w (staged s t There)
-  arrive_good s t g m = restage_one s t There (ap is_pending (sym m)) (λ e. coming_no (sym m ∙ e)) there_not g
-    where
-      coming_no : Coming ≡ Done → ⊥
-      coming_no e = grind arith
+  arrive_good s t g m = restage_one s t There (ap is_pending (sym m)) (λ e. coming_done (sym m ∙ e)) there_done g
 
   -- a release arrives
   pub free_good : (s : Lines) (t : ℕ) (p : Path) → Good w s → w.held t (s.pos t) p ≡ false → Good w (freed s t p)
@@ -147,7 +136,7 @@ module _ {w : Way} (law : IsWay w) where
       | inr d ↦ g.going a l (subst (λ y. y ≢ Done) (off s.stage t There a d) n)
     ];
     ended = λ a l e. elim (number_cases t a) [
-      | inl d ↦ absurd (there_not (sym (set_at s.stage t There) ∙ subst (λ b. set nat_eq s.stage t There b ≡ Done) (sym d) e))
+      | inl d ↦ absurd (there_done (sym (set_at s.stage t There) ∙ subst (λ b. set nat_eq s.stage t There b ≡ Done) (sym d) e))
       | inr d ↦ g.ended a l (sym (off s.stage t There a d) ∙ e)
     ];
     is_fresh = λ a l e. elim (number_cases t a) [
@@ -211,7 +200,7 @@ module _ {w : Way} (law : IsWay w) where
       s' = let_at w s t
 
       k : s.pos t ≤ w.last t
-      k = g.going t la (λ e. lined_not (sym st ∙ e))
+      k = g.going t la (λ e. lined_done (sym st ∙ e))
 
       in_p : w.entered t (s.pos t) p ≡ true
       in_p = law.held_entered t (s.pos t) p (law.at_held t (s.pos t) k)

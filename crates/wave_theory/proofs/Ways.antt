@@ -175,9 +175,6 @@ module _ {A F R J : Type 0} (sys : Actors A F R J) where
 
 module _ {A F R J : Type 0} (kind : Kind A F R J) (owes : Owes kind) where
   module _ (x : Alone A F R) (n : ℕ) (fin : Fine kind owes x) (c : Counts kind.system x (suc n)) where
-    abbrev pub step : ℕ → Alone A F R
-    step k = after_segments kind.system k x
-
     pub all_fine : (k : ℕ) → Fine kind owes (after_segments kind.system k x)
     unfolding after_segments
     all_fine zero = fin

@@ -1,5 +1,5 @@
 -- A line without its line feed, to the reader of a journal.
-use Rattle.std.specs.Prelude.{◌≡◌, ℕ, List, ◌∷◌, ◌++◌}
+use Rattle.std.specs.Prelude.{◌≡◌, ℕ, List}
 use Rattle.wave_base.specs.declared.shape.Shape.{Shape}
 use Rattle.wave_labels.specs.declared.label.Label.{Label}
 use Rattle.journal_text.specs.Fits.{IsLabel}
@@ -15,9 +15,3 @@ abbrev pub IsNoLine : Shape → ℕ → List ℕ → Type 0
 IsNoLine shape i line = (label : Label) → IsLabel shape label → line ≡ line_text shape i label → ⊥
 
 -- ---- the front of a text
-
--- the text begins with the line of this label, and of no other
-pub record IsOnlyFront (shape : Shape) (i : ℕ) (text : List ℕ) (label : Label) (rest : List ℕ) : Type 0 where
-  pub spelled : text ≡ line_text shape i label ++ 10 ∷ rest
-  pub fits : IsLabel shape label
-  pub only : (other : Label) (left : List ℕ) → IsLabel shape other → text ≡ line_text shape i other ++ 10 ∷ left → (other ≡ label) × (left ≡ rest)

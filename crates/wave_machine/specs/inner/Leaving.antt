@@ -18,7 +18,8 @@ use Rattle.code_actor.specs.CodeActors.{Fields}
 use Rattle.wave_states.specs.Actors.{Pause, Go, Down, Back, Over}
 use Rattle.wave_states.specs.States as theory
 use Rattle.wave_states.specs.States.{Column, Entry, Enter, Letter, Mail, Transfer, hold_at}
-use Rattle.wave_states.specs.Steps.{Desk, Part, cell_of, child_or_new, host_or, into_child, keep_below, kept_of, looked, moved_on, not_at, over_by, put_back, send, with_body, with_held}
+use Rattle.wave_states.specs.Desks.{Desk, kept_of, not_at, send, with_held}
+use Rattle.wave_states.specs.Steps.{Part, cell_of, child_or_new, host_or, into_child, keep_below, looked, moved_on, over_by, put_back, with_body}
 use Rattle.wave_machine.specs.declared.actor.Actor.{Actor}
 
 abbrev pub Hold : Type 0

@@ -6,7 +6,8 @@ use Rattle.code_actor.specs.CodeActors.{Fields, pause_of}
 use Rattle.context_queue.specs.Entries.{record_of}
 use Rattle.wave_states.specs.States as theory
 use Rattle.wave_states.specs.States.{hold_at, holds_as_peek}
-use Rattle.wave_states.specs.Steps.{give_up, host_or, send}
+use Rattle.wave_states.specs.Desks.{give_up, send}
+use Rattle.wave_states.specs.Steps.{host_or}
 use Rattle.wave_machine.specs.inner.Leaving.{Tells, into, onward, stopped_by}
 use Rattle.wave_machine.proofs.Ways.{back_left, down_left, go_left, into_path, mail_there, no_mail}
 use Rattle.wave_machine.proofs.leaving.leave.Goals as goal

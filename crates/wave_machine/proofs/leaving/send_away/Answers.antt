@@ -1,7 +1,8 @@
 use Rattle.std.proofs.Common.{refl, sym, subst}
 use Rattle.std.specs.FinMap as table
 use Rattle.host_map.specs.Stores.{IsAt}
-use Rattle.wave_states.specs.Steps.{departed, kept_of, not_at, with_held}
+use Rattle.wave_states.specs.Steps.{departed}
+use Rattle.wave_states.specs.Desks.{kept_of, not_at, with_held}
 use Rattle.wave_machine.proofs.Ways.{from_store}
 use Rattle.wave_machine.proofs.leaving.send_away.Goals as goal
 

@@ -2,7 +2,8 @@ use Rattle.std.proofs.Common.{◌≡◌, ◌∙◌, ◌+◌, length, map, List, 
 use Rattle.std.specs.List.{filter}
 use Rattle.wave_base.specs.declared.path.Path.{Path}
 use Rattle.wave_states.specs.States.{Ended}
-use Rattle.wave_states.specs.Steps.{ended, nothing_kept, with_status}
+use Rattle.wave_states.specs.Steps.{ended}
+use Rattle.wave_states.specs.Desks.{nothing_kept, with_status}
 use Rattle.event_cells.specs.declared.held.Hold.{Hold}
 use Rattle.event_cells.specs.Cells.{held_of}
 use Rattle.event_cells.specs.inner.Releases.{releases, sent_on}

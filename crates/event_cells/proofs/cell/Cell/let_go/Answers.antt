@@ -1,5 +1,5 @@
 use Rattle.std.proofs.Common.{◌∙◌, ap, map, sym}
-use Rattle.wave_states.specs.Steps.{kept_of, not_at}
+use Rattle.wave_states.specs.Desks.{kept_of, not_at}
 use Rattle.event_cells.specs.Cells.{held_of}
 use Rattle.event_cells.proofs.Desks.{held_filter, length-filter_le}
 use Rattle.event_cells.proofs.cell.Cell.let_go.Goals as goal

@@ -1,7 +1,7 @@
 use Rattle.std.proofs.Common.{List, ◌∙◌, ◌+◌, length, map, ap, sym}
 use Rattle.wave_base.specs.declared.path.Path.{Path}
 use Rattle.wave_base.specs.Paths.{is_above}
-use Rattle.wave_states.specs.Steps.{give_up}
+use Rattle.wave_states.specs.Desks.{give_up}
 use Rattle.event_cells.specs.declared.held.Hold.{Hold}
 use Rattle.event_cells.specs.Cells.{held_of}
 use Rattle.event_cells.specs.inner.Releases.{releases, sent_on}

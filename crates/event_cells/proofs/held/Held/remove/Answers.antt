@@ -5,7 +5,7 @@ use Rattle.std.specs.List.Sorted.{IsStrictlySortedBy}
 use Rattle.std.specs.Map.{keys_of}
 use Rattle.wave_base.specs.declared.path.Path.{Path}
 use Rattle.wave_base.specs.Paths.{path_cmp}
-use Rattle.wave_states.specs.Steps.{not_at}
+use Rattle.wave_states.specs.Desks.{not_at}
 use Rattle.wave_base.specs.PathLaws.{path_cmp_total, same_path}
 use Rattle.event_cells.specs.declared.held.Hold.{Hold}
 use Rattle.event_cells.proofs.Sorted.{sorted_kept}

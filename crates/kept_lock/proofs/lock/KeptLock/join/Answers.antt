@@ -1,5 +1,5 @@
 use Rattle.std.proofs.Common.{rules}
-use Rattle.kept_lock.proofs.Steps.{joins}
+use Rattle.kept_lock.proofs.Joining.{joins}
 use Rattle.kept_lock.proofs.lock.KeptLock.join.Goals as goal
 
 pub join_seat-requires : goal.join_seat-requires

@@ -1,7 +1,7 @@
 use Rattle.std.proofs.Common.{[], ◌∷◌, ◌++◌, ◌∙◌, ap, sym, subst, Some, Option, List}
 use Rattle.atomic_table.specs.Table.{opening}
 use Rattle.kept_lock.specs.Rule.{first_view, Keeps}
-use Rattle.kept_lock.proofs.Steps.{opens}
+use Rattle.kept_lock.proofs.Joining.{opens}
 use Rattle.kept_lock.proofs.lock.KeptLock.new.Goals as goal
 
 pub new-requires : goal.new-requires

@@ -1,7 +1,7 @@
 use Rattle.std.proofs.Common.{Ok, Err}
 use Rattle.std.specs.Prelude.{Result, OnOk}
 use Rattle.wave_base.specs.declared.memory.OutOfMemory.{OutOfMemory}
-use Rattle.service_vm.proofs.Doing.{call_did}
+use Rattle.service_vm.proofs.DoingFrames.{call_did}
 use Rattle.service_vm.proofs.run.Run.call.Goals as goal
 
 -- what follows from a fact on success

@@ -8,7 +8,8 @@ use Rattle.service_code.specs.declared.instr.Instr.TheVariants as instr
 use Rattle.service_verify.specs.Steps.{taken, is_held}
 use Rattle.service_vm.specs.Acts.{Did, Entering}
 use Rattle.service_vm.specs.Frames.{Frames}
-use Rattle.service_vm.proofs.Doing.{entering_is, entered_frames, down_did, down_traps, trap_over}
+use Rattle.service_vm.proofs.DoingFrames.{entering_is, down_did, down_traps}
+use Rattle.service_vm.proofs.Doing.{entered_frames, trap_over}
 use Rattle.service_vm.proofs.Seen.{key_there}
 use Rattle.service_vm.proofs.run.Run.call_down.Goals as goal
 

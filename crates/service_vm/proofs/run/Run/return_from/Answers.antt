@@ -1,5 +1,5 @@
 use Rattle.std.proofs.Common.{sym, ◌∙◌}
-use Rattle.service_vm.proofs.Doing.{closed, return_runs, return_pauses}
+use Rattle.service_vm.proofs.DoingFrames.{closed, return_runs, return_pauses}
 use Rattle.service_vm.proofs.run.Run.return_from.Goals as goal
 
 pub returns-then-not-down-clause-does : goal.returns-then-not-down-clause-does

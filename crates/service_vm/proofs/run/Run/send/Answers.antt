@@ -5,7 +5,8 @@ use Rattle.wave_base.specs.declared.limits.TheConstants.{MESSAGES}
 use Rattle.wave_base.specs.declared.trap.TrapKind.TheVariants.{Sends}
 use Rattle.deferred_out.specs.Refused.{message_of}
 use Rattle.deferred_out.specs.declared.outputs.SendError.TheVariants.{Sends as Full}
-use Rattle.service_vm.proofs.Doing.{send_runs, send_traps, trap_over}
+use Rattle.service_vm.proofs.DoingFrames.{send_runs, send_traps}
+use Rattle.service_vm.proofs.Doing.{trap_over}
 use Rattle.service_vm.proofs.run.Run.send.Goals as goal
 
 room : (n m : ℕ) → n ≤ m → (n ≡ m → ⊥) → nat_lt n m ≡ true

@@ -6,7 +6,8 @@ use Rattle.wave_base.specs.declared.call.Call.{Call}
 use Rattle.wave_base.specs.declared.trap.TrapKind.TheVariants as trap
 use Rattle.deferred_out.specs.Refused.{call_of}
 use Rattle.deferred_out.specs.declared.outputs.SpawnError.TheVariants.{Generation, Spawns}
-use Rattle.service_vm.proofs.Doing.{spawn_runs, spawn_old, spawn_full, trap_over}
+use Rattle.service_vm.proofs.DoingFrames.{spawn_runs, spawn_old, spawn_full}
+use Rattle.service_vm.proofs.Doing.{trap_over}
 use Rattle.service_vm.proofs.run.Run.spawn.Goals as goal
 
 room : (n m : ℕ) → n ≤ m → (n ≡ m → ⊥) → nat_lt n m ≡ true

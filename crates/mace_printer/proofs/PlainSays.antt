@@ -1,0 +1,234 @@
+-- The canonical words of statements that assign nothing and have no block spell them.
+use Rattle.std.proofs.Common.{◌≡◌, ℕ, List, [], ◌∷◌, ◌++◌, map, Option, Some, None, refl, sym, ap, ◌∙◌, append_assoc}
+use Rattle.std.proofs.lemmas.List.{map-append}
+use Rattle.wave_base.specs.declared.span.Span.{Span}
+use Rattle.mace_lexer.specs.declared.token.Word.{Word}
+use Rattle.mace_lexer.specs.declared.token.Word.TheVariants as word
+use Rattle.mace_lexer.specs.declared.keyword.Keyword.TheVariants as k
+use Rattle.mace_lexer.specs.declared.sign.Sign.TheVariants as s
+use Rattle.mace_ast.specs.declared.name.Name.{Name}
+use Rattle.mace_ast.specs.Exprs.{ExprTree, bare_expr, nowhere}
+use Rattle.mace_ast.specs.Stmts as st
+use Rattle.mace_ast.specs.Stmts.{bare_stmt}
+use Rattle.mace_grammar.specs.Part.{maybe}
+use Rattle.mace_grammar.specs.Words as w
+use Rattle.mace_grammar.specs.Words.{Version}
+use Rattle.mace_grammar.specs.Fits.{IsName, Each, IfThere, ExprFits, EndFits}
+use Rattle.std.specs.Prelude.{codes}
+use Rattle.std.specs.Option.{option_map}
+use Rattle.mace_grammar.specs.Grammar as g
+use Rattle.mace_grammar.specs.Spelled.{plain}
+use Rattle.mace_printer.specs.Canon.{whole_words, index_words, listed, call_words, maybe_words, stmt_words}
+use Rattle.mace_printer.proofs.Says.{Says, key_says, sign_says, named, name_says, text_says, field_says, leave_says, finish_says}
+use Rattle.mace_printer.proofs.ExprSays.{expr_says, any_key_says, any_arguments_say}
+
+-- words in brackets, and then more words
+pub bracket_split : (a b : Word) (inner rest : List Word) → map plain (a ∷ (inner ++ (b ∷ rest))) ≡ map plain (a ∷ (inner ++ (b ∷ []))) ++ map plain rest
+bracket_split a b inner rest =
+    ap (λ l. plain a ∷ l)
+    (map-append plain inner (b ∷ rest)
+    ∙ sym (append_assoc (map plain inner) (plain b ∷ []) (map plain rest))
+    ∙ ap (λ l. l ++ map plain rest) (sym (map-append plain inner (b ∷ []))))
+
+abbrev pub semicolon : List Word
+semicolon = word.Sign s.Semicolon ∷ []
+
+pub semicolon_says : Says (w.sign s.Semicolon) nowhere semicolon
+semicolon_says = sign_says s.Semicolon
+
+abbrev paren_words : List ExprTree → List Word
+paren_words args = word.Sign s.LeftParen ∷ (listed whole_words args ++ (word.Sign s.RightParen ∷ []))
+
+module _ (version : Version) where
+  -- ---- statements without a block
+
+  pub let_says : (at : Span) (x : Name) (value : ExprTree) → IsName version x.text → ExprFits version value → Says (g.let_stmt version) (bare_stmt (st.Let at x value)) (stmt_words (st.Let at x value))
+  let_says at x value i f = (
+    nowhere,
+    plain (word.Key k.Let) ∷ [],
+    _,
+    refl,
+    key_says k.Let,
+    (
+      named x.text,
+      plain (word.Name x.text) ∷ [],
+      _,
+      refl,
+      name_says version x.text i,
+      (
+        nowhere,
+        plain (word.Sign s.Equals) ∷ [],
+        _,
+        refl,
+        sign_says s.Equals,
+        (
+          bare_expr value,
+          map plain (whole_words value),
+          _,
+          map-append plain (whole_words value) semicolon,
+          expr_says version value f,
+          (nowhere, map plain semicolon, [], refl, semicolon_says, (refl, refl)),
+        ),
+      ),
+    ),
+  )
+
+  pub require_says : (at : Span) (test : ExprTree) → ExprFits version test → Says (g.require_stmt version) (bare_stmt (st.Require at test)) (stmt_words (st.Require at test))
+  require_says at test f = (
+    nowhere,
+    plain (word.Key k.Require) ∷ [],
+    _,
+    refl,
+    key_says k.Require,
+    (
+      bare_expr test,
+      map plain (whole_words test),
+      _,
+      map-append plain (whole_words test) semicolon,
+      expr_says version test f,
+      (nowhere, map plain semicolon, [], refl, semicolon_says, (refl, refl)),
+    ),
+  )
+
+  pub send_says : (at : Span) (label : List ℕ) (value : ExprTree) → ExprFits version value → Says (g.send_stmt version) (bare_stmt (st.Send at label value)) (stmt_words (st.Send at label value))
+  send_says at label value f = (
+    nowhere,
+    plain (word.Key k.Send) ∷ [],
+    _,
+    refl,
+    key_says k.Send,
+    (
+      label,
+      plain (word.Text label) ∷ [],
+      _,
+      refl,
+      text_says label,
+      (
+        nowhere,
+        plain (word.Sign s.Comma) ∷ [],
+        _,
+        refl,
+        sign_says s.Comma,
+        (
+          bare_expr value,
+          map plain (whole_words value),
+          _,
+          map-append plain (whole_words value) semicolon,
+          expr_says version value f,
+          (nowhere, map plain semicolon, [], refl, semicolon_says, (refl, refl)),
+        ),
+      ),
+    ),
+  )
+
+  pub spawn_says : (at : Span) (event : List ℕ) (args : List ExprTree) → IsName version event → Each (ExprFits version) args → Says (g.spawn_stmt version) (bare_stmt (st.Spawn at event args)) (stmt_words (st.Spawn at event args))
+  spawn_says at event args i f = (
+    nowhere,
+    plain (word.Key k.Spawn) ∷ [],
+    _,
+    refl,
+    key_says k.Spawn,
+    (
+      named event,
+      plain (word.Name event) ∷ [],
+      _,
+      refl,
+      name_says version event i,
+      (
+        map bare_expr args,
+        map plain (paren_words args),
+        _,
+        map-append plain (paren_words args) semicolon,
+        any_arguments_say version args f,
+        (nowhere, map plain semicolon, [], refl, semicolon_says, (refl, refl)),
+      ),
+    ),
+  )
+
+  pub call_says : (at : Span) (f : List ℕ) (args : List ExprTree) → IsName version f → Each (ExprFits version) args → Says (g.call_stmt version) (bare_stmt (st.Call at f args)) (stmt_words (st.Call at f args))
+  call_says at f args i k = (
+    named f,
+    plain (word.Name f) ∷ [],
+    _,
+    refl,
+    name_says version f i,
+    (
+      map bare_expr args,
+      map plain (paren_words args),
+      _,
+      map-append plain (paren_words args) semicolon,
+      any_arguments_say version args k,
+      (nowhere, map plain semicolon, [], refl, semicolon_says, (refl, refl)),
+    ),
+  )
+
+  pub child_says : (at : Span) (c : List ℕ) (place : ExprTree) (f : List ℕ) (args : List ExprTree) → IsName version c → ExprFits version place → IsName version f → Each (ExprFits version) args → Says (g.child_call_stmt version) (bare_stmt (st.ChildCall at c place f args)) (stmt_words (st.ChildCall at c place f args))
+  child_says at c place f args i p j k = (
+    named c,
+    plain (word.Name c) ∷ [],
+    _,
+    refl,
+    name_says version c i,
+    (
+      bare_expr place,
+      map plain (index_words place),
+      _,
+      map-append plain (index_words place) (word.Sign s.Dot ∷ (call_words f args ++ semicolon)),
+      any_key_says version place p,
+      (
+        named f,
+        map plain (word.Sign s.Dot ∷ word.Name f ∷ []),
+        _,
+        refl,
+        field_says version f j,
+        (
+          map bare_expr args,
+          map plain (paren_words args),
+          _,
+          map-append plain (paren_words args) semicolon,
+          any_arguments_say version args k,
+          (nowhere, map plain semicolon, [], refl, semicolon_says, (refl, refl)),
+        ),
+      ),
+    ),
+  )
+
+  -- ---- statements that end a method or an event early
+
+  maybe_says : (value : Option ExprTree) → IfThere (ExprFits version) value → Says (maybe (g.any_expr version)) (option_map bare_expr value) (maybe_words value)
+  maybe_says None f = refl
+  maybe_says (Some value) f = expr_says version value f
+
+  pub return_says : (at : Span) (value : Option ExprTree) → EndFits version value → Says (g.return_stmt version) (bare_stmt (st.Return at value)) (stmt_words (st.Return at value))
+  return_says at value f = (
+    nowhere,
+    plain (word.Key k.Return) ∷ [],
+    _,
+    refl,
+    leave_says version f.0,
+    (
+      option_map bare_expr value,
+      map plain (maybe_words value),
+      _,
+      map-append plain (maybe_words value) semicolon,
+      maybe_says value f.1,
+      (nowhere, map plain semicolon, [], refl, semicolon_says, (refl, refl)),
+    ),
+  )
+
+  pub finish_stmt_says : (at : Span) (value : Option ExprTree) → EndFits version value → Says (g.finish_stmt version) (bare_stmt (st.Finish at value)) (stmt_words (st.Finish at value))
+  finish_stmt_says at value f = (
+    nowhere,
+    plain (word.Name (codes "finish")) ∷ [],
+    _,
+    refl,
+    finish_says version f.0,
+    (
+      option_map bare_expr value,
+      map plain (maybe_words value),
+      _,
+      map-append plain (maybe_words value) semicolon,
+      maybe_says value f.1,
+      (nowhere, map plain semicolon, [], refl, semicolon_says, (refl, refl)),
+    ),
+  )
