@@ -87,41 +87,49 @@ macro_rules! rows {
     };
 }
 
+// The rows of version 1, and more behind them.
+macro_rules! rows_and {
+    ($($more:tt)*) => {
+        rows! {
+            ADD sign Int;
+            SUB sign Int;
+            MUL sign Int;
+            DIV sign Int;
+            REM sign Int;
+            NEG sign Int;
+            NOT sign Bool;
+            EQ sign Bool;
+            NE sign Bool;
+            LT sign Bool;
+            LE sign Bool;
+            GT sign Bool;
+            GE sign Bool;
+            BEQ sign Bool;
+            BNE sign Bool;
+            TEQ sign Bool;
+            TNE sign Bool;
+            TLT sign Bool;
+            CAT sign Text;
+            AT sign Int;
+            PUT sign Map;
+            CUT sign Map;
+            HAS call Bool;
+            SIZE call Int;
+            KEY call Int;
+            LEN call Int;
+            STR call Text;
+            PART call Text;
+            $($more)*
+        }
+    };
+}
+
 /// The operators and builtins of version 1 of the language.
 #[tactic(auto, unfolding(crate::specs::Rows::wave_rows, crate::specs::Operators::operators))]
 pub fn wave_ops() -> OpTable<28>
     ensures { result ≡ wave_rows }
 {
-    let rows = rows! {
-        ADD sign Int;
-        SUB sign Int;
-        MUL sign Int;
-        DIV sign Int;
-        REM sign Int;
-        NEG sign Int;
-        NOT sign Bool;
-        EQ sign Bool;
-        NE sign Bool;
-        LT sign Bool;
-        LE sign Bool;
-        GT sign Bool;
-        GE sign Bool;
-        BEQ sign Bool;
-        BNE sign Bool;
-        TEQ sign Bool;
-        TNE sign Bool;
-        TLT sign Bool;
-        CAT sign Text;
-        AT sign Int;
-        PUT sign Map;
-        CUT sign Map;
-        HAS call Bool;
-        SIZE call Int;
-        KEY call Int;
-        LEN call Int;
-        STR call Text;
-        PART call Text;
-    };
+    let rows = rows_and! {};
     OpTable { rows }
 }
 
@@ -130,35 +138,7 @@ pub fn wave_ops() -> OpTable<28>
 pub fn wave_ops_2() -> OpTable<34>
     ensures { result ≡ wave_rows_2 }
 {
-    let rows = rows! {
-        ADD sign Int;
-        SUB sign Int;
-        MUL sign Int;
-        DIV sign Int;
-        REM sign Int;
-        NEG sign Int;
-        NOT sign Bool;
-        EQ sign Bool;
-        NE sign Bool;
-        LT sign Bool;
-        LE sign Bool;
-        GT sign Bool;
-        GE sign Bool;
-        BEQ sign Bool;
-        BNE sign Bool;
-        TEQ sign Bool;
-        TNE sign Bool;
-        TLT sign Bool;
-        CAT sign Text;
-        AT sign Int;
-        PUT sign Map;
-        CUT sign Map;
-        HAS call Bool;
-        SIZE call Int;
-        KEY call Int;
-        LEN call Int;
-        STR call Text;
-        PART call Text;
+    let rows = rows_and! {
         MIN call Int;
         MAX call Int;
         ABS call Int;
