@@ -11,7 +11,6 @@ use mace_grammar::{COMPARISON_OPS, Class, PRODUCT_OPS, SUM_OPS};
 use mace_lexer::{Keyword, Sign, Token};
 
 /// Whether a word of one of these classes is next.
-#[tactic(auto, using(mace_grammar::proofs::Classes::contains_is))]
 pub fn sees_any(set: &[Class], version: u8, tokens: &[Token]) -> bool
     ensures { result ≡ sees (kind (numbered version)) set.now tokens.now }
 {
