@@ -32,7 +32,6 @@ stood_after m m' l on takes = record { start = on.start; state = on.next; stands
 pub stood_kept : (m m' : Kept) → IsStood m → Keeps m m' → IsStood m'
 stood_kept m m' on keeps = record { start = on.start; state = on.state; stands = keeps on.start on.state on.stands }
 
-
 -- and so does a Stop
 pub stood_stopped : (m m' : Kept) (lease : Lease) (why : Pause) (host : ℕ) → IsStopping m lease why → CanStop m lease why host → Stops m lease why host m' → IsStood m'
 stood_stopped m m' lease why host on can stops =
