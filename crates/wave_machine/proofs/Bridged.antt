@@ -105,6 +105,17 @@ pub map_twice : {X Y Z : Type 0} (g : Y → Z) (f : X → Y) (xs : List X) → m
 map_twice g f [] = refl
 map_twice g f (x ∷ xs) = ap (λ r. g (f x) ∷ r) (map_twice g f xs)
 
+pub no_workers : (m : Kept) (t : ℕ) (st : Status) → stops_labels m.stores m.hands [] t st ≡ []
+no_workers m t status.Travelling = refl
+no_workers m t (status.Waiting p) = refl
+no_workers m t (status.Ready p) = refl
+no_workers m t status.Ended = refl
+no_workers m t (status.Running p) = by_place (place_in m.stores p)
+  where
+    by_place : (o : Option ℕ) → stop_labels m.stores m.hands [] t p o ≡ []
+    by_place None = refl
+    by_place (Some h) = refl
+
 module _ (w : ℕ) (m : Kept) (idle : slice_get m.hands w ≡ Some None) where
   alone_stops : (t : ℕ) (st : Status) → stops_labels m.stores m.hands (tickets_from w (w + 1 - w)) t st ≡ []
   alone_stops t status.Travelling = refl

@@ -1,13 +1,11 @@
 -- A label as programs have it, and the act that it is.
-use Rattle.std.proofs.Common.{◌≡◌, ℕ, Some, sym, subst}
+use Rattle.std.proofs.Common.{◌≡◌, ℕ, sym, subst}
 use Rattle.wave_base.specs.declared.pause.Pause.{Pause}
 use Rattle.wave_labels.specs.declared.label.Act.{Act}
 use Rattle.wave_labels.specs.declared.label.Label.{Label}
 use Rattle.wave_labels.specs.Labels.{act_of, label_of}
-use Rattle.wave_states.specs.Labels as theory
 use Rattle.wave_states.specs.Steps.{step}
 use Rattle.plan_actors.specs.PlanActors.{plan_actors}
-use Rattle.plan_actors.specs.Plans.{Plan}
 use Rattle.wave_machine.specs.declared.lease.Lease.{Lease}
 use Rattle.wave_machine.specs.Machines.{Kept, IsEnabled, Keeps, Takes}
 use Rattle.wave_machine.specs.Prepared.{IsStood}
@@ -31,7 +29,6 @@ stood_after m m' l on takes = record { start = on.start; state = on.next; stands
 
 pub stood_kept : (m m' : Kept) → IsStood m → Keeps m m' → IsStood m'
 stood_kept m m' on keeps = record { start = on.start; state = on.state; stands = keeps on.start on.state on.stands }
-
 
 -- and so does a Stop
 pub stood_stopped : (m m' : Kept) (lease : Lease) (why : Pause) (host : ℕ) → IsStopping m lease why → CanStop m lease why host → Stops m lease why host m' → IsStood m'

@@ -1,5 +1,5 @@
 -- What a state lists of each kind is what is asked for by what is kept of it.
-use Rattle.std.proofs.Common.{◌≡◌, ◌∙◌, inl, inr, ℕ, zero, suc, ◌+◌, ◌<◌, ◌≤◌, ◌&&◌, ◌==◌, Bool, true, false, cond, List, [], ◌∷◌, ◌++◌, length, map, is_some, is_none, Option, Some, None, refl, sym, ap, subst, arith, position}
+use Rattle.std.proofs.Common.{◌≡◌, ◌∙◌, inl, inr, ℕ, zero, suc, ◌+◌, ◌<◌, ◌≤◌, ◌&&◌, ◌==◌, Bool, true, false, cond, List, [], ◌∷◌, length, map, is_some, is_none, Option, Some, None, refl, sym, ap, subst, arith, position}
 use Rattle.std.specs.Prelude.{filter, flat_map, nat_eq, nat_lt, if◌then◌else◌, option_map, slice_get}
 use Rattle.std.specs.FinMap as table
 use Rattle.wave_base.specs.declared.outcome.EventResult.{EventResult}

@@ -1,5 +1,5 @@
 -- Lists of labels: filters over joined lists, lists by ticket, and lists by number.
-use Rattle.std.proofs.Common.{◌≡◌, ◌∙◌, ◌⊎◌, inl, inr, ℕ, zero, suc, ◌+◌, ◌-◌, ◌<◌, ◌≤◌, Bool, true, false, cond, not, List, [], ◌∷◌, ◌++◌, length, map, Option, Some, None, option_map, refl, sym, ap, subst, arith, append_assoc, append-nil, get_or, drop}
+use Rattle.std.proofs.Common.{◌≡◌, ◌∙◌, ◌⊎◌, inl, inr, ℕ, zero, suc, ◌+◌, ◌-◌, ◌<◌, ◌≤◌, Bool, true, false, cond, not, List, [], ◌∷◌, ◌++◌, length, map, Option, Some, None, option_map, refl, sym, ap, subst, arith, append_assoc, get_or, drop}
 use Rattle.std.specs.Prelude.{slice_get, flat_map, filter, nat_lt, nat_eq, position, if◌then◌else◌}
 use Rattle.std.specs.BTreeMap.{is_at}
 use Rattle.std.specs.Cmp.{unsigned_ties}
@@ -9,7 +9,7 @@ use Rattle.std.specs.Map.{keys_of, lookup}
 use Rattle.std.specs.Ordering.{nat_cmp}
 use Rattle.std.specs.declared.cmp.Ordering.TheVariants.{Less, Equal, Greater}
 use Rattle.std.proofs.lemmas.Bool.Decides.{nat_tests}
-use Rattle.std.proofs.lemmas.List.{drop_all, drop_more}
+use Rattle.std.proofs.lemmas.List.{drop_more}
 use Rattle.std.proofs.lemmas.List.Elements.{filter-append}
 use Rattle.wave_base.specs.Fold.{tickets_from}
 use Rattle.wave_theory.proofs.Basics.{differ, number_cases, number_self, some_not}

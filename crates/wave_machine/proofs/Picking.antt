@@ -1,13 +1,11 @@
 -- What a loop over labels has picked.
-use Rattle.std.proofs.Common.{◌≡◌, ◌∙◌, ℕ, zero, suc, ◌+◌, ◌-◌, ◌/◌, ◌%◌, ◌^◌, ◌<◌, ◌≤◌, Bool, true, false, not, cond, List, [], ◌∷◌, length, map, Some, refl, sym, ap, arith, get_or, drop}
-use Rattle.std.specs.Prelude.{filter, nat_lt, nat_le, if◌then◌else◌, option_map, slice_get}
-use Rattle.std.proofs.lemmas.Bool.Decides.{nat_tests}
-use Rattle.std.proofs.lemmas.List.{drop_more, length-map}
+use Rattle.std.proofs.Common.{◌≡◌, ◌∙◌, ℕ, zero, suc, ◌-◌, ◌/◌, ◌%◌, ◌^◌, ◌≤◌, Bool, not, List, [], ◌∷◌, length, map, Some, refl, sym, ap, arith}
+use Rattle.std.specs.Prelude.{option_map, slice_get}
+use Rattle.std.proofs.lemmas.List.{length-map}
 use Rattle.wave_labels.specs.declared.label.Label as program
 use Rattle.wave_labels.specs.Labels.{label_of}
-use Rattle.wave_states.specs.Labels.{Label, takes_mail, ticket_of}
-use Rattle.wave_states.specs.Runs.{first_of, greatest, last_of, least, newest, oldest, seed, next_draw}
-use Rattle.wave_theory.proofs.Basics.{none_not, some_same}
+use Rattle.wave_states.specs.Labels.{Label, takes_mail}
+use Rattle.wave_states.specs.Runs.{last_of, seed, next_draw}
 use Rattle.wave_machine.specs.Machines.{TheState}
 
 slice_of_map : {X Y : Type 0} (f : X → Y) (xs : List X) (i : ℕ) → slice_get (map f xs) i ≡ option_map f (slice_get xs i)

@@ -24,7 +24,7 @@ use Rattle.wave_states.specs.Actors.{Actors}
 use Rattle.wave_states.specs.Labels as labels
 use Rattle.wave_states.specs.Labels.{Label}
 use Rattle.wave_states.specs.States as theory
-use Rattle.wave_states.specs.States.{Column, Hand, Event, Running, Ended, holds_as_peek, set}
+use Rattle.wave_states.specs.States.{Column, Hand, Event, holds_as_peek, set}
 use Rattle.wave_states.specs.Steps.{Bench, Part, act_bench, cell_of, desk_back, part_of, segment_of, step, stop, with_bench}
 use Rattle.wave_states.specs.Desks.{Desk}
 use Rattle.wave_theory.proofs.Basics.{if_some, map_some, none_not, some_same}

@@ -9,7 +9,7 @@ use Rattle.wave_base.specs.Paths.{path_eq}
 use Rattle.wave_base.specs.PathLaws.{path_eq_decides}
 use Rattle.context_queue.specs.declared.entry.Entry.{Entry}
 use Rattle.context_queue.specs.Entries.{SameButRooms as SameEntry, entry_of}
-use Rattle.head_tickets.specs.Heads.{Heading, next_ticket}
+use Rattle.head_tickets.specs.Heads.{next_ticket}
 use Rattle.host_map.specs.Stores.{Stores, has}
 use Rattle.event_cells.specs.declared.cell.Cell.{Cell}
 use Rattle.event_cells.specs.Cells.{SameButRooms as SameCell}

@@ -7,14 +7,23 @@ ghost use Rattle.wave_theory.specs.Listed.{kind_of};
 use wave_labels::Act;
 
 pub(crate) const ADMIT: u8 = 0;
+
 pub(crate) const QUEUE: u8 = 1;
+
 pub(crate) const GRANT: u8 = 2;
+
 pub(crate) const VISIT: u8 = 3;
+
 pub(crate) const START: u8 = 4;
+
 pub(crate) const STOP: u8 = 5;
+
 pub(crate) const FREE: u8 = 6;
+
 pub(crate) const PASS: u8 = 7;
+
 pub(crate) const LAND: u8 = 8;
+
 pub(crate) const COMMIT: u8 = 9;
 
 // The place of its kind in the order.

@@ -8,8 +8,8 @@ use Rattle.wave_machine.proofs.choosing.one_of_last.Goals as goal
 less : (a b : ℕ) → true ≡ nat_lt a b → a < b
 less a b e = grind (arith, nat_tests)
 
-pub returns-then-kind-gt5 : goal.returns-then-kind-gt5
-returns-then-kind-gt5 c = in_place c.args.index.now (length c.args.index.now - 1) c.in-Some.last.now (sym c.in-Some.ensures.value)
+pub returns-then-is_late : goal.returns-then-is_late
+returns-then-is_late c = in_place c.args.index.now (length c.args.index.now - 1) c.in-Some.last.now (sym c.in-Some.ensures.value)
 
 pub returns-in-Some-get : goal.returns-in-Some-get
 returns-in-Some-get c =

@@ -1,15 +1,15 @@
-use Rattle.std.proofs.Common.{◌≡◌, ℕ, suc, ◌+◌, ◌<◌, List, [], ◌∷◌, ◌++◌, Some, arith}
+use Rattle.std.proofs.Common.{◌≡◌, ℕ, suc, ◌<◌, List, [], ◌∷◌, ◌++◌, Some, arith}
 use Rattle.wave_base.specs.declared.start.Start.{Start}
 use Rattle.wave_states.specs.Begins.{start_state}
 use Rattle.wave_states.specs.Labels.{Label}
 use Rattle.wave_states.specs.Runs.{run}
-use Rattle.wave_states.specs.Owes.{IsBegin, IsPlan}
+use Rattle.wave_states.specs.Owes.{IsPlan}
 use Rattle.plan_actors.specs.PlanActors.{plan_actors, plan_kind}
 use Rattle.plan_actors.specs.Plans.{Plan, Fits, FitsStart, Setting, begin_in}
 use Rattle.plan_actors.proofs.Meeting.{plan_fits, begin_fits}
 use Rattle.plan_actors.proofs.Owing.{setting_of}
-use Rattle.wave_machine.specs.Machines.{Known, TheState}
-use Rattle.wave_machine.specs.inner.Listable.{CanList, one_more}
+use Rattle.wave_machine.specs.Machines.{TheState}
+use Rattle.wave_machine.specs.inner.Listable.{CanList}
 use Rattle.wave_machine.proofs.Taking.{run_more}
 use Rattle.wave_machine.proofs.Widened.{run_wider, with_workers}
 use Rattle.wave_machine.proofs.listable.states_list.Goals as goal
