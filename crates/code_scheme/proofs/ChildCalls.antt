@@ -16,7 +16,7 @@ use Rattle.wave_base.proofs.Trees.{put_same}
 use Rattle.wave_base.specs.declared.pause.Pause.{Pause}
 use Rattle.wave_base.specs.declared.pause.Pause.TheVariants as pause
 use Rattle.value_ops.specs.Kinds.{Answer}
-use Rattle.resolved_service.specs.Meaning.{State, Done, with_world, enter_at}
+use Rattle.resolved_service.specs.Meaning.{State, with_world, enter_at}
 use Rattle.resolved_service.specs.World as world
 use Rattle.resolved_service.specs.World.{World, child, changed, with_entered, releasing, has}
 use Rattle.service_code.specs.declared.instr.Instr.{Instr}
@@ -27,7 +27,7 @@ use Rattle.service_verify.specs.Boxes.{Box, first_locals}
 use Rattle.service_verify.specs.Fit.{IsFit}
 use Rattle.service_verify.specs.Points.{IsVerified}
 use Rattle.service_verify.specs.Standing.{IsCaller}
-use Rattle.service_verify.specs.Steps.{Move, Runs, Paused, with_some, taken, trapped, is_held, on_int, created, entering, returned, with_result}
+use Rattle.service_verify.specs.Steps.{Move, Runs, Paused, with_some, taken, trapped, is_held, on_int, entering, returned, with_result}
 use Rattle.service_verify.specs.Tours.{Tour, Fields, into, halted}
 use Rattle.code_scheme.proofs.Micro.{resumed}
 use Rattle.code_scheme.proofs.Follow.{Here, frame_of, box_of, tour_of, SameHeld, IsOver, Moving, At, Leads, Follows, move_at, IsLine, moving, leads, arrives, traps}

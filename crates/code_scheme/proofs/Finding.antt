@@ -13,7 +13,6 @@ use Rattle.wave_base.specs.PathLaws.{path_eq_decides}
 use Rattle.wave_base.proofs.Trees.{there-enter}
 use Rattle.resolved_service.specs.Meaning.{State}
 use Rattle.resolved_service.specs.World.{World, changed}
-use Rattle.service_code.specs.declared.instr.Instr.TheVariants as i
 use Rattle.service_verify.specs.Steps.{Move, with_some, taken}
 use Rattle.code_scheme.specs.Texts.{Text, place_of_text}
 use Rattle.code_scheme.proofs.Follow.{Here, frame_of, SameHeld, Moving}

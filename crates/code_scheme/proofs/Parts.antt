@@ -4,7 +4,6 @@ use Rattle.std.specs.Prelude.{slice_get, option_and_then}
 use Rattle.std.specs.Option.{option_map}
 use Rattle.std.proofs.lemmas.Bool.{cases_lt}
 use Rattle.std.proofs.lemmas.Option.{slice_get_within, slice_get-map}
-use Rattle.wave_base.specs.declared.value.Value.TheVariants as v
 use Rattle.service_code.specs.declared.instr.Instr.{Instr}
 use Rattle.service_verify.specs.Fit.{jump_of, is_tick, is_call_down, Jumps, TicksAt, IsTicked, IsTickedCall}
 use Rattle.code_scheme.specs.Scheme.{Line}

@@ -1,5 +1,5 @@
 -- Heads as they are kept, and the fold's.
-use Rattle.std.proofs.Common.{◌≡◌, ◌<◌, ◌+◌, ◌↔◌, ℕ, suc, Bool, true, false, if◌then◌else◌, List, [], ◌∷◌, ◌++◌, length, Option, Some, None, IsSome, IsNone, IsTrue, option_map, slice_get, All, refl, sym, ap, subst, ◌∙◌, arith, append-nil, le_refl, nat_lt}
+use Rattle.std.proofs.Common.{◌≡◌, ◌<◌, ◌↔◌, ℕ, Bool, true, false, if◌then◌else◌, List, [], ◌∷◌, ◌++◌, length, None, IsSome, IsTrue, option_map, slice_get, All, refl, sym, ap, subst, ◌∙◌, arith, append-nil, le_refl, nat_lt}
 use Rattle.std.proofs.lemmas.List.{append_cancel_left}
 use Rattle.std.proofs.lemmas.List.Elements.{All-head, All-tail}
 use Rattle.std.proofs.lemmas.Option.{slice_get_past}

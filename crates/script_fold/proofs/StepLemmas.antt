@@ -1,5 +1,5 @@
 -- One job more: what is kept stands for the fold one job further.
-use Rattle.std.proofs.Common.{◌≡◌, ◌≤◌, ◌+◌, ℕ, zero, suc, true, List, [], ◌∷◌, ◌++◌, length, map, Option, Some, None, IfSome, is_none, slice_get, sum_by, All, refl, sym, ap, subst, ◌∙◌, arith, length-append, append_assoc}
+use Rattle.std.proofs.Common.{◌≡◌, ◌≤◌, ◌+◌, ℕ, suc, true, List, [], ◌∷◌, ◌++◌, length, map, Option, Some, None, IfSome, is_none, slice_get, sum_by, refl, sym, ap, subst, ◌∙◌, arith, length-append}
 use Rattle.std.proofs.lemmas.List.{map-append}
 use Rattle.wave_base.specs.declared.call.Call.{Call}
 use Rattle.wave_base.specs.declared.numbers.Ticket.{Ticket}
@@ -12,18 +12,18 @@ use Rattle.wave_base.specs.declared.shape.Shape.{Shape}
 use Rattle.wave_base.specs.declared.shot.Shot.{Shot}
 use Rattle.wave_base.specs.declared.start.Start.{Start}
 use Rattle.wave_base.specs.declared.value.Value.{Value}
-use Rattle.wave_base.specs.Fold.{Head, Ran, Progress, first_head, next_batch, next_job, with_done, head_after, tickets_of, made, with_result, with_job, is_over, created_lines}
+use Rattle.wave_base.specs.Fold.{Head, Ran, Progress, first_head, next_job, with_done, head_after, tickets_of, made, with_result, with_job, created_lines}
 use Rattle.wave_base.specs.Places.{with_contexts, after_job, move_in, move_of}
 use Rattle.wave_base.specs.Tree.{Tree, there}
 use Rattle.context_tree.specs.Contexts.{tree_of, as_pair}
-use Rattle.head_tickets.specs.Heads.{Heading, head_of, requests}
+use Rattle.head_tickets.specs.Heads.{Heading, requests}
 use Rattle.resolved_service.specs.Jobs.{shot_of}
 use Rattle.script_fold.specs.declared.folding.Folding.{Folding}
-use Rattle.script_fold.specs.Lines.{Meaning, line_by, name_of, most_jobs, FitsJob}
+use Rattle.script_fold.specs.Lines.{Meaning, line_by, name_of, FitsJob}
 use Rattle.script_fold.specs.Owed.{Owed}
 use Rattle.script_fold.specs.Runs.{after_jobs, hosts_after, ticket_of}
 use Rattle.script_fold.specs.inner.Standing.{IsWaiting, IsAdmitted, IsKept, Stands, Ended}
-use Rattle.script_fold.specs.inner.Visiting.{Entries, IsVisited, IsMoveWithin}
+use Rattle.script_fold.specs.inner.Visiting.{IsVisited, IsMoveWithin}
 use Rattle.script_fold.proofs.FoldLemmas.{IsGood, good_after, good_ran, line_few, line_moved, hosts_push, there_move, room_after}
 use Rattle.script_fold.proofs.LeftLemmas.{All-drop_head}
 

@@ -1,5 +1,5 @@
 -- What one who runs calls owes: of trees and calls that fit, what a call does is known to do no more than this.
-use Rattle.std.specs.Prelude.{◌≡◌, ◌≤◌, ◌||◌, ℕ, suc, true, List, [], length, Option, None, All}
+use Rattle.std.specs.Prelude.{◌≡◌, ◌≤◌, ◌||◌, suc, true, List, [], length, None, All}
 use Rattle.std.specs.List.{list_any}
 use Rattle.std.specs.List.Sorted.{IsStrictlySortedBy}
 use Rattle.wave_base.specs.declared.limits.TheConstants.{GENERATION, SPAWNS}

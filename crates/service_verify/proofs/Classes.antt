@@ -1,6 +1,6 @@
 -- The classes along a path.
 use Rattle.std.proofs.Common.{◌≡◌, ℕ, zero, suc, take, ◌+◌, ◌-◌, ◌<◌, ◌≤◌, ◌&&◌, Bool, true, false, List, [], ◌∷◌, ◌++◌, length, Option, Some, None, ◌⊎◌, inl, inr, refl, ap, sym, ◌∙◌, arith, append_assoc}
-use Rattle.std.specs.Prelude.{map, reverse, slice_get}
+use Rattle.std.specs.Prelude.{reverse, slice_get}
 use mathlib.Core.Bool.{true≢false}
 use Rattle.std.proofs.lemmas.Bool.{cases_lt}
 use Rattle.std.proofs.lemmas.Option.{slice_get_within}
@@ -12,7 +12,7 @@ use Rattle.wave_base.specs.declared.path.Step.{Step}
 use Rattle.wave_base.specs.declared.shape.ClassInfo.{ClassInfo}
 use Rattle.wave_base.specs.declared.shape.Shape.{Shape}
 use Rattle.wave_base.specs.Paths.{parent_of}
-use Rattle.wave_base.specs.Shapes.{class_from, class_of, parent_in, parent_class, is_class, is_path_from, is_path, kinds_of_class, passes_root, IsShape}
+use Rattle.wave_base.specs.Shapes.{class_from, class_of, parent_in, parent_class, is_class, is_path_from, is_path, passes_root, IsShape}
 use Rattle.service_verify.specs.Rules.{classes_above, levels_above, is_child_class}
 use Rattle.service_verify.proofs.Judged.{some_same}
 

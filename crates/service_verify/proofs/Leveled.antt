@@ -1,6 +1,6 @@
 -- What an event has of the contexts above it, as it goes down and back.
-use Rattle.std.proofs.Common.{◌≡◌, ◌⊎◌, inl, inr, ℕ, zero, suc, ◌+◌, ◌-◌, ◌<◌, ◌≤◌, List, [], ◌∷◌, ◌++◌, length, take, if◌then◌else◌, Bool, true, false, Option, Some, None, refl, ap, sym, subst, ◌∙◌, arith, append_assoc}
-use Rattle.std.specs.Prelude.{map, slice_get}
+use Rattle.std.proofs.Common.{◌≡◌, ◌⊎◌, inl, inr, ℕ, zero, suc, ◌+◌, ◌-◌, ◌<◌, ◌≤◌, List, [], ◌∷◌, ◌++◌, length, take, if◌then◌else◌, Bool, true, Some, None, refl, ap, sym, subst, ◌∙◌, arith, append_assoc}
+use Rattle.std.specs.Prelude.{slice_get}
 use Rattle.std.specs.Option.{option_map}
 use Rattle.std.proofs.lemmas.Bool.{cases_lt}
 use Rattle.std.proofs.lemmas.List.{length-append, append-nil, take-append-le, length-take-le}
@@ -17,7 +17,7 @@ use Rattle.downgrade_views.specs.Levels.{Level, value_in, field_in, field_at, Ha
 use Rattle.downgrade_views.proofs.Finding.{kept_field, whole_field}
 use Rattle.service_code.specs.declared.program.Program.{Program}
 use Rattle.service_verify.specs.Reads.{kept, is_kept}
-use Rattle.service_verify.specs.Standing.{kinds_of, HasFields, HasLevels, Agree, HasTree}
+use Rattle.service_verify.specs.Standing.{HasFields, HasLevels, Agree, HasTree}
 use Rattle.service_verify.specs.Tours.{Fields, fields_from, fields_above}
 use Rattle.service_verify.proofs.Lists.{take_get, take_take, more_get, last_get, map_get}
 

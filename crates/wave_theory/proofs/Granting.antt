@@ -1,5 +1,5 @@
 -- Grants keep what the state shows.
-use Rattle.std.proofs.Common.{◌≡◌, ℕ, zero, suc, ◌<◌, ◌≤◌, ◌&&◌, ◌||◌, not, inl, inr, nat_eq, Bool, true, false, Option, Some, None, is_some, refl, sym, ◌∙◌, ap, subst, arith, ap₂}
+use Rattle.std.proofs.Common.{◌≡◌, ℕ, zero, suc, ◌<◌, ◌≤◌, ◌&&◌, ◌||◌, not, inl, inr, nat_eq, Bool, true, false, Some, None, is_some, refl, sym, ◌∙◌, ap, subst, arith, ap₂}
 use Rattle.std.specs.Prelude.{cond}
 use Rattle.std.specs.List.{AllByRecursion}
 use Rattle.wave_base.specs.declared.path.Path.{Path}

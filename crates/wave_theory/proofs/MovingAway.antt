@@ -27,7 +27,6 @@ use Rattle.wave_states.specs.Labels
 use Rattle.wave_theory.proofs.Shows
 use Rattle.wave_theory.proofs.Stages.{done_coming, done_entering, done_lined}
 use Rattle.wave_theory.proofs.Stopping
-use Rattle.wave_theory.proofs.GoingOn
 use Rattle.wave_theory.proofs.Parting
 
 module _ {A F R J : Type 0} (sys : Actors A F R J) (w : Way) (law : IsWay w) (course : Course sys) (low : ℕ) (is_real : ℕ → Type 0) (courses : IsCourse sys w course low is_real) where

@@ -1,5 +1,5 @@
 -- An event is over: all that it held is released.
-use Rattle.std.proofs.Common.{◌≡◌, ℕ, suc, ◌<◌, ◌≤◌, ◌⊎◌, ◌&&◌, not, inl, inr, Bool, true, false, Option, Some, None, is_some, List, refl, sym, ◌∙◌, ap, subst, arith}
+use Rattle.std.proofs.Common.{◌≡◌, ℕ, suc, ◌<◌, ◌≤◌, ◌⊎◌, ◌&&◌, not, inl, inr, Bool, true, false, Some, None, is_some, List, refl, sym, ◌∙◌, ap, subst, arith}
 use Rattle.std.specs.List.{AllByRecursion}
 use Rattle.wave_base.specs.declared.path.Path.{Path}
 use Rattle.wave_base.specs.Paths.{path_eq}
@@ -24,7 +24,6 @@ use Rattle.wave_states.specs.Labels
 use Rattle.wave_theory.proofs.Shows
 use Rattle.wave_theory.proofs.Stages.{done_coming, done_entering, done_lined}
 use Rattle.wave_theory.proofs.Stopping
-use Rattle.wave_theory.proofs.GoingOn
 use Rattle.wave_theory.proofs.Frames.{option_none}
 
 module _ {A F R J : Type 0} (sys : Actors A F R J) (w : Way) (law : IsWay w) (course : Course sys) (low : ℕ) (is_real : ℕ → Type 0) (courses : IsCourse sys w course low is_real) where

@@ -1,9 +1,8 @@
 -- What `verify` finds out of a program's code, function by function.
-use Rattle.std.specs.Prelude.{◌≡◌, ◌<◌, ◌≤◌, ℕ, Bool, true, false, ◌&&◌, ◌||◌, ◌==◌, if◌then◌else◌, List, [], ◌∷◌, length, drop, replicate, Option, Some, None, Ok, slice_get}
+use Rattle.std.specs.Prelude.{◌≡◌, ◌<◌, ℕ, Bool, false, ◌&&◌, ◌||◌, if◌then◌else◌, List, length, drop, replicate, Option, Some, None, Ok, slice_get}
 use Rattle.std.specs.List.{list_all}
 use Rattle.std.specs.Option.{option_map, option_and_then, unwrap_or}
 use Rattle.wave_base.specs.declared.shape.ClassInfo.{ClassInfo}
-use Rattle.wave_base.specs.declared.shape.Shape.{Shape}
 use Rattle.service_code.specs.declared.instr.Instr.{Instr}
 use Rattle.service_code.specs.declared.program.Function.{Function}
 use Rattle.service_code.specs.declared.program.Program.{Program}

@@ -1,4 +1,4 @@
-use Rattle.std.proofs.Common.{◌≡◌, List, map, ap, sym, ◌∙◌}
+use Rattle.std.proofs.Common.{List, map, ap, sym, ◌∙◌}
 use Rattle.wave_base.specs.declared.outcome.Outcome.TheVariants.{Shots}
 use Rattle.wave_base.specs.declared.shot.Shot.{Shot}
 use Rattle.resolved_service.specs.Jobs.{shot_of, only}

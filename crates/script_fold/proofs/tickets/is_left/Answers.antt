@@ -1,4 +1,4 @@
-use Rattle.std.proofs.Common.{◌≡◌, ◌+◌, [], IsNone, sym, rules}
+use Rattle.std.proofs.Common.{◌+◌, IsNone, sym, rules}
 use Rattle.head_tickets.specs.Heads.{next_ticket}
 use Rattle.head_tickets.proofs.TicketLists.{none_waits}
 use Rattle.script_fold.proofs.HeadLemmas.{ready_begun, over_when, none_later}

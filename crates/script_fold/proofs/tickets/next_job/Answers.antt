@@ -1,4 +1,4 @@
-use Rattle.std.proofs.Common.{◌≡◌, ◌+◌, ◌<◌, suc, length, List, All, sym, subst, ◌∙◌, arith}
+use Rattle.std.proofs.Common.{◌≡◌, ◌+◌, ◌<◌, length, List, All, sym, subst, ◌∙◌, arith}
 use Rattle.wave_base.specs.declared.script.Line.{Line}
 use Rattle.script_fold.proofs.HeadLemmas.{some_waits}
 use Rattle.script_fold.proofs.tickets.next_job.Goals as goal

@@ -1,4 +1,4 @@
-use Rattle.std.proofs.Common.{◌≡◌, ◌≤◌, ◌+◌, if◌then◌else◌, true, false, ap, sym, ◌∙◌, arith}
+use Rattle.std.proofs.Common.{◌+◌, if◌then◌else◌, ap, sym, ◌∙◌, arith}
 use Rattle.service_verify.proofs.Surveying.{next_go, first_go}
 use Rattle.service_verify.proofs.looks.after_go.Goals as goal
 use Rattle.service_verify.proofs.looks.after_go.Goals.{then-is_go, else-is_go}

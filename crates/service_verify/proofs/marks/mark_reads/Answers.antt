@@ -1,4 +1,4 @@
-use Rattle.std.proofs.Common.{◌≡◌, ◌+◌, ap, sym, ◌∙◌, drop, get_or, pos}
+use Rattle.std.proofs.Common.{◌+◌, ap, sym, ◌∙◌, drop, get_or, pos}
 use Rattle.std.specs.Prelude.{◌||◌}
 use Rattle.service_code.specs.declared.instr.Instr.TheVariants.{PushInt}
 use Rattle.service_verify.specs.Reads.{reads_at, code_reads}

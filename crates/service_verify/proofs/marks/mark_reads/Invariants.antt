@@ -1,6 +1,4 @@
-use Rattle.std.proofs.Common.{◌≡◌, ℕ, drop, length}
-use Rattle.std.specs.Prelude.{◌||◌}
-use Rattle.std.specs.Option.{option_map}
+use Rattle.std.proofs.Common.{drop}
 use Rattle.service_verify.specs.Reads.{code_reads}
 use Rattle.service_verify.specs.inner.Surveys.{IsMarkedSoFar}
 use Rattle.service_verify.proofs.marks.mark_reads.Given as goal

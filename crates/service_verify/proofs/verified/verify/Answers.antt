@@ -1,5 +1,4 @@
-use Rattle.std.proofs.Common.{◌≡◌, ◌≤◌, ◌∙◌, ap, sym, subst, length, arith}
-use Rattle.std.specs.Prelude.{Ok, Err}
+use Rattle.std.proofs.Common.{◌≤◌, ap, subst, length, arith}
 use Rattle.service_verify.proofs.Lists.{item_there}
 use Rattle.service_verify.proofs.Surveying.{fault_named, keep_more, surveyed_at, all_keep, all_surveyed}
 use Rattle.service_verify.proofs.verified.verify.Goals as goal

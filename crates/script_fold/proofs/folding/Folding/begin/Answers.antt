@@ -1,11 +1,10 @@
-use Rattle.std.proofs.Common.{◌≡◌, ◌<◌, ◌≤◌, List, [], length, map, All, ap, sym, subst, ◌∙◌, arith}
+use Rattle.std.proofs.Common.{◌≡◌, ◌<◌, List, [], length, map, All, ap, sym, subst, ◌∙◌, arith}
 use Rattle.wave_base.specs.declared.script.Line.{Line}
 use Rattle.wave_base.specs.declared.script.Script.{Script}
 use Rattle.wave_base.specs.declared.shot.Shot.{Shot}
 use Rattle.wave_base.specs.Fold.{Head, next_batch, first_head}
 use Rattle.context_tree.specs.Contexts.{tree_of}
 use Rattle.head_tickets.specs.Heads.{head_of}
-use Rattle.script_fold.specs.Lines.{name_of}
 use Rattle.script_fold.proofs.StartLemmas.{first_again, first_full}
 use Rattle.script_fold.proofs.folding.Folding.begin.Goals as goal
 

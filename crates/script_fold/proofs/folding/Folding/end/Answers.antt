@@ -1,4 +1,4 @@
-use Rattle.std.proofs.Common.{◌≡◌, map, ap, sym, ◌∙◌}
+use Rattle.std.proofs.Common.{map, ap, sym, ◌∙◌}
 use Rattle.wave_base.specs.Tree.{shots}
 use Rattle.resolved_service.specs.Jobs.{shot_of}
 use Rattle.script_fold.specs.Runs.{after_jobs, hosts_after, finished_by, ticket_of}

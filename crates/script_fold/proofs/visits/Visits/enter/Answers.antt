@@ -1,4 +1,4 @@
-use Rattle.std.proofs.Common.{◌∙◌, ap, subst, Some}
+use Rattle.std.proofs.Common.{◌∙◌, ap, subst}
 use Rattle.std.specs.BTreeMap.{insert_entry}
 use Rattle.wave_base.specs.Paths.{path_cmp}
 use Rattle.script_fold.proofs.VisitLemmas.{entered_visited, Sets}

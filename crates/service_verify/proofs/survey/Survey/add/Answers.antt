@@ -1,4 +1,4 @@
-use Rattle.std.proofs.Common.{◌≡◌, ◌∙◌, ap, sym, subst}
+use Rattle.std.proofs.Common.{◌∙◌, ap, subst}
 use Rattle.service_verify.specs.Reads.{code_reads}
 use Rattle.service_verify.specs.inner.Surveys.{IsMarked, looks_after, looks_by}
 use Rattle.service_verify.proofs.Surveying.{then_surveyed}

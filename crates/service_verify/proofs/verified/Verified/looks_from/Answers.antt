@@ -1,4 +1,4 @@
-use Rattle.std.proofs.Common.{◌≡◌, ap, sym, length, arith}
+use Rattle.std.proofs.Common.{ap, sym, length, arith}
 use Rattle.service_code.specs.declared.program.Program.{Program}
 use Rattle.service_verify.proofs.Surveying.{looks_past}
 use Rattle.service_verify.proofs.verified.Verified.looks_from.Goals as goal
