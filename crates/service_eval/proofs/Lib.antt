@@ -19,6 +19,7 @@ pub mod FinishLemmas
 pub mod FinishTurns
 pub mod EditLemmas
 pub mod OnceLemmas
+pub mod ChangeLemmas
 pub mod BlockTurns
 pub mod SendTurns
 pub mod EventLemmas

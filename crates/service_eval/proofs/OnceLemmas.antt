@@ -23,7 +23,7 @@ use Rattle.service_eval.specs.Answers.{told}
 use Rattle.service_eval.specs.Items.{Block}
 use Rattle.service_eval.specs.Machines.{Mach, on_top, in_state, come_of, comes_to}
 use Rattle.service_eval.specs.Ready.{Ready}
-use Rattle.service_eval.specs.Turns.{mach, Alters, AtOnce}
+use Rattle.service_eval.specs.Turns.{mach, Alters, Does, AtOnce}
 use Rattle.service_eval.specs.Worlds.{Holds, Traps, Fails}
 use Rattle.service_eval.proofs.EditLemmas.{field_same}
 use Rattle.service_eval.proofs.FinishLemmas.{gives_fails}
@@ -77,15 +77,20 @@ module _ (call : ℕ → Path → List Value → Act (Option Value)) (n : ℕ) (
     pub two_fails : (e : Stop) (w : World) → Traps (and_then (value call p a st) (λ _. value call p b)) e w → Traps (effect call n p s st) e w
     two_fails e w h = subst (λ o. Traps o e w) (sym is) (second_fails (value call p a st) (value call p b) f e w h)
 
-module _ (code : Code) (contexts : Contexts) (m m' : Machine) (s : Step) (ready : Ready code.shape.now code.methods.now (mach code contexts m)) where
+-- a statement that is done by a change is done at once
+pub told_once : (code : Code) (contexts contexts' : Contexts) (m m' : Machine) (s : Step) (change : Act (Unit {0})) (r : Result (Unit {0}) Stop) → effect (called code.methods.now TICKS) TICKS m.path s (mach code contexts m).state ≡ change (mach code contexts m).state → Does code contexts m change r contexts' m' → AtOnce code contexts m s (told r) contexts' m'
+told_once code contexts contexts' m m' s change (Ok u) is h = (is ∙ h.0, h.1, h.2)
+told_once code contexts contexts' m m' s change (Err e) is h = (subst (λ o. Traps o e (mach code contexts' m').state.world) (sym is) h.0, h.1)
+
+module _ (code : Code) (contexts : Contexts) (m m' : Machine) (change : Act (Unit {0})) (ready : Ready code.shape.now code.methods.now (mach code contexts m)) where
   abbrev M : Mach
   M = mach code contexts m
 
   abbrev does : Outcome (Unit {0})
-  does = effect (called code.methods.now TICKS) TICKS m.path s (mach code contexts m).state
+  does = change (mach code contexts m).state
 
   -- it came to another state
-  pub once : (contexts' : Contexts) (st : State) → does ≡ Done tt st → Same M.state.world st.world → mach code contexts' m' ≡ in_state st M → AtOnce code contexts m s (Ok true) contexts' m'
+  once : (contexts' : Contexts) (st : State) → does ≡ Done tt st → Same M.state.world st.world → mach code contexts' m' ≡ in_state st M → Does code contexts m change (Ok tt) contexts' m'
   once contexts' st is same to = (
     is ∙ ap (λ (x : Mach). Done tt x.state) (sym to),
     to ∙ ap (λ (x : Mach). in_state x.state M) (sym to),
@@ -93,12 +98,12 @@ module _ (code : Code) (contexts : Contexts) (m m' : Machine) (s : Step) (ready 
   )
 
   -- a local's value was changed where it stands
-  pub slot_once : (at : Span) (a : Answer Value) (slot : ℕ) → does ≡ and_then (answer a at M.state) (set_local slot) → (v : Value) (r : Result (Unit {0}) Stop) → Alters a at (get_or M.state.locals slot nothing) r v → mach code contexts m' ≡ in_state (record { locals = slice_set M.state.locals slot v; world = M.state.world }) M → AtOnce code contexts m s (told r) contexts m'
-  slot_once at a slot is v (Ok u) h same =
+  pub slot_does : (at : Span) (a : Answer Value) (slot : ℕ) → does ≡ and_then (answer a at M.state) (set_local slot) → (v : Value) (r : Result (Unit {0}) Stop) → Alters a at (get_or M.state.locals slot nothing) r v → mach code contexts m' ≡ in_state (record { locals = slice_set M.state.locals slot v; world = M.state.world }) M → Does code contexts m change r contexts m'
+  slot_does at a slot is v (Ok u) h same =
       once contexts (record { locals = slice_set M.state.locals slot v; world = M.state.world }) (is ∙ ap (λ a. and_then (answer a at M.state) (set_local slot)) h) (same_world M.state.world) same
-  slot_once at a slot is v (Err (stop.Ended e)) h same = absurd h
-  slot_once at a slot is v (Err stop.OutOfMemory) h same = (tt, subst (λ (x : Mach). Holds code.shape.now x.state.world.tree) (sym same) ready.holds)
-  slot_once at a slot is v (Err (stop.Trapped t)) h same =
+  slot_does at a slot is v (Err (stop.Ended e)) h same = absurd h
+  slot_does at a slot is v (Err stop.OutOfMemory) h same = (tt, subst (λ (x : Mach). Holds code.shape.now x.state.world.tree) (sym same) ready.holds)
+  slot_does at a slot is v (Err (stop.Trapped t)) h same =
       let traps : Traps does (stop.Trapped t) M.state.world = subst (λ o. Traps o (stop.Trapped t) M.state.world) (sym is) (gives_fails a at M.state (set_local slot) (stop.Trapped t) (h.0, h.1)) in
       (subst (λ (x : Mach). Traps does (stop.Trapped t) x.state.world) (sym same) traps, subst (λ (x : Mach). Holds code.shape.now x.state.world.tree) (sym same) ready.holds)
 
@@ -111,14 +116,14 @@ module _ (code : Code) (contexts : Contexts) (m m' : Machine) (s : Step) (ready 
     unfolding read_field
     kept e = ap (λ t. record M.state.world { tree = t }) (ap (with_field M.state.world.tree M.path f) e ∙ field_same M.state.world.tree M.path f)
 
-    pub field_once : (r : Result (Unit {0}) Stop) → Alters a at (read_field f M.path M.state.world) r v → mach code contexts' m' ≡ in_state (record { locals = M.state.locals; world = after }) M → AtOnce code contexts m s (told r) contexts' m'
+    pub field_does : (r : Result (Unit {0}) Stop) → Alters a at (read_field f M.path M.state.world) r v → mach code contexts' m' ≡ in_state (record { locals = M.state.locals; world = after }) M → Does code contexts m change r contexts' m'
     unfolding set_field
-    field_once (Ok u) h same =
+    field_does (Ok u) h same =
         once contexts' (record { locals = M.state.locals; world = after }) (is ∙ ap (λ a. and_then (answer a at M.state) (put_field f M.path)) h) (same_field f v M.path M.state.world) same
-    field_once (Err (stop.Ended e)) h same = absurd h
-    field_once (Err stop.OutOfMemory) h same =
+    field_does (Err (stop.Ended e)) h same = absurd h
+    field_does (Err stop.OutOfMemory) h same =
         (tt, subst (λ (x : Mach). Holds code.shape.now x.state.world.tree) (sym same) (subst (λ (w : World). Holds code.shape.now w.tree) (sym (kept h)) ready.holds))
-    field_once (Err (stop.Trapped t)) h same =
+    field_does (Err (stop.Trapped t)) h same =
         let traps : Traps does (stop.Trapped t) M.state.world = subst (λ o. Traps o (stop.Trapped t) M.state.world) (sym is) (gives_fails a at M.state (put_field f M.path) (stop.Trapped t) (h.0, h.1)) in
         let there : Traps does (stop.Trapped t) after = subst (Traps does (stop.Trapped t)) (sym (kept h.2)) traps in (
           subst (λ (x : Mach). Traps does (stop.Trapped t) x.state.world) (sym same) there,

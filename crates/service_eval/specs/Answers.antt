@@ -1,5 +1,5 @@
 -- What calls answer where an operator gives a value or traps at a place.
-use Rattle.std.specs.Prelude.{ℤ, ◌≡◌, ◌&&◌, Bool, true, false, is_none, get_or, List, [], ◌∷◌, Option, Some, None, Result, Ok, Err}
+use Rattle.std.specs.Prelude.{◌≡◌, ◌&&◌, Bool, true, false, is_none, List, [], ◌∷◌, Option, Some, None, Result, Ok, Err}
 use Rattle.wave_base.specs.declared.span.Span.{Span}
 use Rattle.wave_base.specs.declared.value.Kind.{Kind}
 use Rattle.wave_base.specs.declared.value.Kind.TheVariants as k
@@ -7,7 +7,6 @@ use Rattle.wave_base.specs.declared.value.Value.{Value}
 use Rattle.wave_base.specs.declared.value.Value.TheVariants.{Int, Bool as Truth, Str, Map}
 use Rattle.value_ops.specs.Kinds.{Answer}
 use Rattle.resolved_service.specs.Meaning.{Outcome, Done, State, Act, and_then}
-use Rattle.resolved_service.specs.World.{nothing}
 use Rattle.service_eval.specs.declared.operand.Operand.{Operand}
 use Rattle.service_eval.specs.declared.operand.Operand.TheVariants as operand
 use Rattle.service_eval.specs.declared.stop.Stop.{Stop}
@@ -36,11 +35,6 @@ are_kinds (a ∷ b ∷ c ∷ []) (x ∷ y ∷ []) = is_kind a x && (is_kind b y 
 are_kinds (a ∷ b ∷ c ∷ []) (x ∷ y ∷ z ∷ []) = is_kind a x && (is_kind b y && is_kind c z)
 are_kinds _ _ = false
 
--- the int that a value is, if it is one
-abbrev pub int_in : Value → Option ℤ
-int_in (Int n) = Some n
-int_in _ = None
-
 -- the value that an operand has
 abbrev pub value_in : Operand → Value
 value_in (operand.Held v) = v.now
@@ -59,9 +53,9 @@ Finds out st (Ok (Some v)) = out ≡ Done v st
 Finds out st (Err e) = Traps out e st.world
 
 -- two values, the one found after the other
-abbrev pub FindsTwo : Outcome Value → Act Value → State → Result (Option (List Value)) Stop → Type 0
+abbrev pub FindsTwo : Outcome Value → Act Value → State → Result (Option (Value × Value)) Stop → Type 0
 FindsTwo first second st (Ok None) = Unit {0}
-FindsTwo first second st (Ok (Some vs)) = (first ≡ Done (get_or vs 0 nothing) st) × (second st ≡ Done (get_or vs 1 nothing) st)
+FindsTwo first second st (Ok (Some vs)) = (first ≡ Done vs.0 st) × (second st ≡ Done vs.1 st)
 FindsTwo first second st (Err e) = Traps (and_then first (λ _. second)) e st.world
 
 -- that a change was made, or why it wasn't

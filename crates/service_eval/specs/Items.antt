@@ -10,6 +10,7 @@ use Rattle.service_eval.specs.declared.work.Caller.{Caller}
 use Rattle.service_eval.specs.declared.work.Ending.{Ending}
 use Rattle.service_eval.specs.declared.work.ForLoop.{ForLoop}
 use Rattle.service_eval.specs.declared.work.WhileLoop.{WhileLoop}
+use Rattle.service_eval.specs.declared.work.Variable.TheVariants as variable
 use Rattle.service_eval.specs.declared.work.Ending.TheVariants as ending
 use Rattle.service_eval.specs.declared.work.Work.{Work}
 use Rattle.service_eval.specs.declared.work.Work.TheVariants as work
@@ -41,12 +42,12 @@ pub data Item : Type 0 where
   Return : (locals values : List Value) (up : Bool) → Item
 
 abbrev pub end_of : Ending → End
-end_of (ending.SetLocal s) = SetLocal s
-end_of (ending.SetField f) = SetField f
-end_of (ending.PutLocal s) = PutLocal s
-end_of (ending.PutField f) = PutField f
-end_of (ending.CutLocal s) = CutLocal s
-end_of (ending.CutField f) = CutField f
+end_of (ending.Set (variable.Local s)) = SetLocal s
+end_of (ending.Set (variable.Field f)) = SetField f
+end_of (ending.Put (variable.Local s)) = PutLocal s
+end_of (ending.Put (variable.Field f)) = PutField f
+end_of (ending.Cut (variable.Local s)) = CutLocal s
+end_of (ending.Cut (variable.Field f)) = CutField f
 end_of (ending.Branch b) = Branch (steps_in b.body.now) (steps_in b.other.now)
 end_of ending.Require = Require
 end_of (ending.Send label) = Send label.now

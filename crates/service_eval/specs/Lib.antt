@@ -4,4 +4,5 @@ pub mod Ready
 pub mod Worlds
 pub mod Answers
 pub mod Turns
+pub mod Changes
 pub mod Events

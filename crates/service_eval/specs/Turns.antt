@@ -14,7 +14,7 @@ use Rattle.service_eval.specs.declared.stop.Stop.TheVariants as stop
 use Rattle.service_eval.specs.Answers.{Looks}
 use Rattle.service_eval.specs.Items.{Item}
 use Rattle.service_eval.specs.Machines.{Mach, state_of, mach_of, on_top, before_all, in_state, rest_at, come_of, comes_to}
-use Rattle.resolved_service.specs.Meaning.{Leave, Done, Left, value, effect, called}
+use Rattle.resolved_service.specs.Meaning.{Act, Leave, Done, Left, value, effect, called}
 use Rattle.resolved_service.specs.Steps.{Step}
 use Rattle.resolved_service.specs.View.{Tree}
 use Rattle.service_eval.specs.Ready.{Ready, Follows, Turned}
@@ -57,16 +57,19 @@ Alters answer at before (Err (stop.Trapped t)) after = (answer ≡ Err t.kind) �
 Alters answer at before (Err stop.OutOfMemory) after = after ≡ before
 Alters answer at before (Err (stop.Ended _)) after = ⊥
 
--- a statement was done at once: what it means, which is all that changed; or nothing was done
-abbrev pub AtOnce : Code → Contexts → Machine → Step → Result Bool Stop → Contexts → Machine → Type 0
-AtOnce code contexts m s (Ok true) contexts' m' =
-    (effect (called code.methods.now TICKS) TICKS m.path s (mach code contexts m).state ≡ Done tt (mach code contexts' m').state)
+-- an act was done, and is all that changed; or it failed
+abbrev pub Does : Code → Contexts → Machine → Act (Unit {0}) → Result (Unit {0}) Stop → Contexts → Machine → Type 0
+Does code contexts m act (Ok _) contexts' m' =
+    (act (mach code contexts m).state ≡ Done tt (mach code contexts' m').state)
     × (mach code contexts' m' ≡ in_state (mach code contexts' m').state (mach code contexts m))
     × Ready code.shape.now code.methods.now (mach code contexts' m')
+Does code contexts m act (Err e) contexts' m' = Traps (act (mach code contexts m).state) e (mach code contexts' m').state.world × Holds code.shape.now (mach code contexts' m').state.world.tree
+
+-- a statement was done at once; or nothing was done
+abbrev pub AtOnce : Code → Contexts → Machine → Step → Result Bool Stop → Contexts → Machine → Type 0
+AtOnce code contexts m s (Ok true) contexts' m' = Does code contexts m (effect (called code.methods.now TICKS) TICKS m.path s) (Ok tt) contexts' m'
 AtOnce code contexts m s (Ok false) contexts' m' = mach code contexts' m' ≡ mach code contexts m
-AtOnce code contexts m s (Err e) contexts' m' =
-    Traps (effect (called code.methods.now TICKS) TICKS m.path s (mach code contexts m).state) e (mach code contexts' m').state.world
-    × Holds code.shape.now (mach code contexts' m').state.world.tree
+AtOnce code contexts m s (Err e) contexts' m' = Does code contexts m (effect (called code.methods.now TICKS) TICKS m.path s) (Err e) contexts' m'
 
 -- all was done: nothing is left to do
 abbrev pub Ran : Code → Mach → Result (Unit {0}) Stop → Mach → Type 0

@@ -4,18 +4,19 @@ ghost use Rattle.std.specs.Prelude.{◌≡◌, [], ◌∷◌, OnOk, IfErr, IsNon
 ghost use Rattle.std.specs.Option.{option_map};
 ghost use Rattle.resolved_service.specs.Steps.{For, Return, Finish, step, step_of, steps_in};
 ghost use Rattle.resolved_service.specs.View.{tree_of};
+ghost use Rattle.service_eval.specs.Changes.{IsOther};
 ghost use Rattle.service_eval.specs.Items.{end_of, else_steps, else_in};
 ghost use Rattle.service_eval.specs.Items as i;
 ghost use Rattle.service_eval.specs.Turns.{IsNext, Goes, AreNext, GoOn};
 
-use crate::at_once::at_once;
+use crate::assignments::{assignment_in, at_once, begin_assignment};
 use crate::calls::give_back;
 use crate::code::Code;
 use crate::eval::found;
 use crate::finish::finish;
 use crate::machine::Machine;
 use crate::stop::Stop;
-use crate::work::{Branches, Ending, ForLoop, Tail, WhileLoop, Work};
+use crate::work::{Branches, Ending, ForLoop, Variable, WhileLoop, Work};
 use context_tree::Tree;
 use resolved_service::{Action, Expr, Stmt};
 use wave_base::Span;
@@ -88,27 +89,26 @@ fn begin<'s>(
     requires { IsNext code contexts.old m.old (i.Begin (step_of stmt.now)) }
     ensures { Goes code.entry contexts.old m.old (i.Begin (step_of stmt.now)) result contexts.new m.new }
 {
+    match assignment_in(stmt) {
+        Some(change) => begin_assignment(code, contexts, m, stmt.at, change),
+        None => begin_other(code, contexts, m, stmt),
+    }
+}
+
+// The same of a statement that changes no variable.
+fn begin_other<'s>(
+    code: Code<'s>,
+    contexts: &mut Tree,
+    m: &mut Machine<'s>,
+    stmt: &'s Stmt,
+) -> Result<(), Stop>
+    requires next { IsNext code contexts.old m.old (i.Begin (step_of stmt.now)) }
+    requires other { IsOther (step_of stmt.now) }
+    ensures { Goes code.entry contexts.old m.old (i.Begin (step_of stmt.now)) result contexts.new m.new }
+{
     let at = stmt.at;
     let base = m.height();
     match &stmt.action {
-        Action::SetLocal(slot, e) => {
-            let ending = Ending::SetLocal(*slot as usize);
-            begin_one(code, contexts, m, at, e, ending)
-        }
-        Action::SetField(f, e) => begin_one(code, contexts, m, at, e, Ending::SetField(*f)),
-        Action::PutLocal(slot, key, e) => {
-            let ending = Ending::PutLocal(*slot);
-            with_two(code, contexts, m, key, e, Tail { at, ending, base })
-        }
-        Action::PutField(f, key, e) => {
-            let ending = Ending::PutField(*f);
-            with_two(code, contexts, m, key, e, Tail { at, ending, base })
-        }
-        Action::CutLocal(slot, key) => {
-            let ending = Ending::CutLocal(*slot);
-            begin_one(code, contexts, m, at, key, ending)
-        }
-        Action::CutField(f, key) => begin_one(code, contexts, m, at, key, Ending::CutField(*f)),
         Action::If(test, body, other) => {
             let ending = Ending::Branch(Branches {
                 body: body.as_slice(),
@@ -138,10 +138,11 @@ fn begin<'s>(
         Action::Do(e) => m.push_two(Work::Eval(e), Work::Finish(at, Ending::Drop, base)),
         Action::Return(value) => begin_return(code, contexts, m, at, value),
         Action::Finish(value) => begin_finish(code, contexts, m, at, value),
+        _ => unreachable!(),
     }
 }
 
-// The one expression of a statement, and then what the statement does with its value.
+// The one expression of a statement, and then what the statement does with its value: at once, where no call is met.
 fn begin_one<'s>(
     code: Code<'s>,
     contexts: &mut Tree,
@@ -154,7 +155,14 @@ fn begin_one<'s>(
     ensures { GoOn code.entry contexts.old m.old (i.Eval (tree_of e.now) ∷ i.Finish at (end_of ending.entry) (length m.old.values.items) ∷ []) result contexts.new m.new }
 {
     let base = m.height();
-    with_one(code, contexts, m, e, Tail { at, ending, base })
+    match found(code, contexts, m, e) {
+        Ok(Some(value)) => match m.give(value) {
+            Ok(()) => finish(code, contexts, m, at, ending, base),
+            Err(e) => Err(e),
+        },
+        Ok(None) => m.push_two(Work::Eval(e), Work::Finish(at, ending, base)),
+        Err(e) => Err(e),
+    }
 }
 
 // The method ends, with a value or without one.
@@ -191,57 +199,6 @@ fn begin_finish<'s>(
     }
 }
 
-// An expression, and then the rest of its statement: at once, where no call is met.
-fn with_one<'s>(
-    code: Code<'s>,
-    contexts: &mut Tree,
-    m: &mut Machine<'s>,
-    e: &'s Expr,
-    tail: Tail<'s>,
-) -> Result<(), Stop>
-    requires { AreNext code contexts.old m.old (i.Eval (tree_of e.now) ∷ i.Finish tail.at (end_of tail.ending) tail.base ∷ []) }
-    ensures { GoOn code.entry contexts.old m.old (i.Eval (tree_of e.now) ∷ i.Finish tail.entry.at (end_of tail.entry.ending) tail.entry.base ∷ []) result contexts.new m.new }
-{
-    let Tail { at, ending, base } = tail;
-    match found(code, contexts, m, e) {
-        Ok(Some(value)) => match m.give(value) {
-            Ok(()) => finish(code, contexts, m, at, ending, base),
-            Err(e) => Err(e),
-        },
-        Ok(None) => m.push_two(Work::Eval(e), Work::Finish(at, ending, base)),
-        Err(e) => Err(e),
-    }
-}
-
-// A key and an expression, and then the rest of their statement: at once, where no call is met.
-fn with_two<'s>(
-    code: Code<'s>,
-    contexts: &mut Tree,
-    m: &mut Machine<'s>,
-    key: &'s Expr,
-    e: &'s Expr,
-    tail: Tail<'s>,
-) -> Result<(), Stop>
-    requires { AreNext code contexts.old m.old (i.Eval (tree_of key.now) ∷ i.Eval (tree_of e.now) ∷ i.Finish tail.at (end_of tail.ending) tail.base ∷ []) }
-    ensures { GoOn code.entry contexts.old m.old (i.Eval (tree_of key.now) ∷ i.Eval (tree_of e.now) ∷ i.Finish tail.entry.at (end_of tail.entry.ending) tail.entry.base ∷ []) result contexts.new m.new }
-{
-    match found(code, contexts, m, key) {
-        Ok(Some(value)) => match m.give(value) {
-            Ok(()) => with_one(code, contexts, m, e, tail),
-            Err(e) => Err(e),
-        },
-        Ok(None) => {
-            let Tail { at, ending, base } = tail;
-            m.push_three(
-                Work::Eval(key),
-                Work::Eval(e),
-                Work::Finish(at, ending, base),
-            )
-        }
-        Err(e) => Err(e),
-    }
-}
-
 // The statements of an `else`, if there is one.
 fn else_of(other: &Option<Vec<Stmt>>) -> &[Stmt]
     ensures { steps_in result.now ≡ else_steps (else_in other.now) }
@@ -267,11 +224,11 @@ fn begin_for<'s>(
     let at = cycle.at;
     let base = m.height();
     let slot = cycle.counter as usize;
-    let last = Work::Finish(at, Ending::SetLocal(slot + 1), base);
+    let last = Work::Finish(at, Ending::Set(Variable::Local(slot + 1)), base);
     match m.push_three(Work::Eval(to), last, Work::Counts(cycle, false)) {
         Ok(()) => m.push_two(
             Work::Eval(from),
-            Work::Finish(at, Ending::SetLocal(slot), base),
+            Work::Finish(at, Ending::Set(Variable::Local(slot)), base),
         ),
         Err(e) => Err(e),
     }

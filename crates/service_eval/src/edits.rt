@@ -1,11 +1,10 @@
-//! Maps changed where they stand.
+//! Values changed where they stand.
 
-ghost use Rattle.std.specs.Prelude.{◌≡◌, ◌∷◌, [], get_or, Err};
+ghost use Rattle.std.specs.Prelude.{◌≡◌, ◌∷◌, [], Err};
 ghost use Rattle.resolved_service.specs.Meaning.{row_put, row_cut};
-ghost use Rattle.resolved_service.specs.World.{nothing};
 ghost use Rattle.service_eval.specs.declared.stop.Stop.{Stop};
-ghost use Rattle.service_eval.specs.Answers.{int_in};
 ghost use Rattle.service_eval.specs.Turns.{Alters};
+ghost use Rattle.service_eval.specs.Changes.{edited, Revises};
 ghost use Rattle.value_ops.specs.Operators.{apply_row};
 ghost use Rattle.wave_base.specs.declared.trap.TrapKind.{TrapKind};
 
@@ -13,49 +12,78 @@ use crate::stop::Stop;
 use value_ops::{OpError, put_pair};
 use wave_base::{Span, Trap, TrapKind, Value};
 
-/// The map has the pair: the first of the values is the key, and the second what it has.
-pub fn put(map: &mut Value, own: &[Value], at: Span) -> Result<(), Stop>
-    ensures { Alters (apply_row row_put (map.old ∷ get_or own.now 0 nothing ∷ get_or own.now 1 nothing ∷ [])) at map.old result map.new }
+/// What becomes of a value.
+#[derive(Drop)]
+pub enum Edit {
+    /// Another value stands in its place.
+    Set(Value),
+    /// It is a map, and gets a pair: the key, and then what the key has.
+    Put(Value, Value),
+    /// It is a map, and loses a key.
+    Cut(Value),
+}
+
+impl Edit {
+    /// Changes one of some values; nothing changes where it is not there.
+    pub fn apply_at(self, values: &mut Vec<Value>, i: usize, at: Span) -> Result<(), Stop>
+        ensures { Revises self at values.old.items i result values.new.items }
+    {
+        if i < values.len() {
+            self.apply(&mut values[i], at)
+        } else {
+            let mut nothing = Value::Int(0);
+            self.apply(&mut nothing, at)
+        }
+    }
+
+    // Changes a value.
+    #[inline(always)]
+    fn apply(self, value: &mut Value, at: Span) -> Result<(), Stop>
+        ensures { Alters (edited self value.old) at value.old result value.new }
+    {
+        match self {
+            Edit::Set(new) => {
+                *value = new;
+                Ok(())
+            }
+            Edit::Put(key, new) => put(value, &key, &new, at),
+            Edit::Cut(key) => cut(value, &key, at),
+        }
+    }
+}
+
+// The map has the pair.
+fn put(map: &mut Value, key: &Value, new: &Value, at: Span) -> Result<(), Stop>
+    ensures { Alters (apply_row row_put (map.old ∷ key.now ∷ new.now ∷ [])) at map.old result map.new }
 {
     let Value::Map(table) = map else {
         return absent(at);
     };
-    let Some(key) = int_at(own, 0) else {
+    let Value::Int(key) = key else {
         return absent(at);
     };
-    let Some(value) = int_at(own, 1) else {
+    let Value::Int(new) = new else {
         return absent(at);
     };
-    match put_pair(table, key, value) {
+    match put_pair(table, *key, *new) {
         Ok(()) => Ok(()),
         Err(OpError::Trap(kind)) => Err(Stop::Trapped(Trap { kind, at })),
         Err(OpError::OutOfMemory) => Err(Stop::OutOfMemory),
     }
 }
 
-/// The map has the key no more, which is the first of the values.
-pub fn cut(map: &mut Value, own: &[Value], at: Span) -> Result<(), Stop>
-    ensures { Alters (apply_row row_cut (map.old ∷ get_or own.now 0 nothing ∷ [])) at map.old result map.new }
+// The map has the key no more.
+fn cut(map: &mut Value, key: &Value, at: Span) -> Result<(), Stop>
+    ensures { Alters (apply_row row_cut (map.old ∷ key.now ∷ [])) at map.old result map.new }
 {
     let Value::Map(table) = map else {
         return absent(at);
     };
-    let Some(key) = int_at(own, 0) else {
+    let Value::Int(key) = key else {
         return absent(at);
     };
-    table.cut(key);
+    table.cut(*key);
     Ok(())
-}
-
-// The int at a place; a number where there is no value.
-fn int_at(values: &[Value], at: usize) -> Option<i64>
-    ensures { result ≡ int_in (get_or values.now at nothing) }
-{
-    match values.get(at) {
-        Some(Value::Int(n)) => Some(*n),
-        Some(_) => None,
-        None => Some(0),
-    }
 }
 
 // That there is nothing to be given, at a place.

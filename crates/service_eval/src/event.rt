@@ -32,7 +32,9 @@ use wave_base::{
 /// What an event leaves behind besides its changes of the tree, and the contexts that it entered, in order.
 #[derive(Debug, Drop)]
 pub struct EventRan {
+    /// How it ended, with its messages and the calls that it created.
     pub result: EventResult,
+    /// The paths that it entered, the first one first.
     pub entered: Seq<Path>,
 }
 

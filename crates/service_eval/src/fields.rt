@@ -1,4 +1,4 @@
-//! The fields of contexts: read where they are, and set.
+//! The fields of contexts, read where they are.
 
 ghost use Rattle.std.specs.Prelude.{◌≡◌, ℕ, ◌<◌, ◌↔◌, true, IsTrue, List};
 ghost use Rattle.context_tree.specs.Contexts.{Contexts, tree_of, is_there, with_field, HasField};
@@ -53,38 +53,5 @@ fn class_of(path: &Path) -> usize
     match path.as_slice() {
         [.., last] => last.class.0 as usize,
         [] => 0,
-    }
-}
-
-/// Whether the context at a path is there with a field.
-pub fn has_field(tree: &Tree, path: &Path, field: usize) -> bool
-    ensures { IsTrue result ↔ HasField tree.now path.now field }
-{
-    match tree.get(path) {
-        Some(record) => field < record.fields.len(),
-        None => false,
-    }
-}
-
-/// Sets a field, where there is one, of a context that is there.
-pub fn set_field(tree: &mut Tree, path: &Path, field: usize, value: Value)
-    requires { is_there tree.old path.now ≡ true }
-    ensures { (shape : Shape) → tree_of shape tree.new ≡ with_field (tree_of shape tree.old) path.now field value }
-{
-    if has_field(tree, path, field) {
-        tree.set(path, field, value);
-    }
-}
-
-/// Takes the value of a field, which is a number then, of a context that is there.
-pub fn lift_field(tree: &mut Tree, path: &Path, field: usize) -> Value
-    requires { is_there tree.old path.now ≡ true }
-    ensures value { (shape : Shape) → result ≡ get_or ((tree_of shape tree.old).fields path.now) field nothing }
-    ensures rest { (shape : Shape) → tree_of shape tree.new ≡ with_field (tree_of shape tree.old) path.now field nothing }
-{
-    if has_field(tree, path, field) {
-        tree.replace(path, field, Value::Int(0))
-    } else {
-        Value::Int(0)
     }
 }

@@ -1,18 +1,19 @@
 //! What statements do once their expressions have their values.
 
 ghost use Rattle.resolved_service.specs.Steps.{steps_in};
+ghost use Rattle.service_eval.specs.declared.work.Ending.TheVariants as ending;
 ghost use Rattle.service_eval.specs.Items as i;
 ghost use Rattle.service_eval.specs.Items.{end_of};
 ghost use Rattle.service_eval.specs.Turns.{IsNext, Goes};
 
 use crate::calls::give_back;
+use crate::changes::change;
 use crate::code::Code;
-use crate::edits::{cut, put};
-use crate::fields::{lift_field, set_field};
+use crate::edits::Edit;
 use crate::machine::Machine;
 use crate::stop::Stop;
 use crate::trace::trapped;
-use crate::work::{Branches, Ending, Work};
+use crate::work::{Branches, Ending, Variable, Work};
 use context_tree::Tree;
 use wave_base::{Span, TrapKind, Txt};
 
@@ -29,12 +30,9 @@ pub fn finish<'s>(
     ensures { Goes code.entry contexts.old m.old (i.Finish at (end_of ending.entry) base) result contexts.new m.new }
 {
     match ending {
-        Ending::SetLocal(slot) => set_slot(code, contexts, m, at, slot, base),
-        Ending::SetField(f) => set_own(code, contexts, m, at, f, base),
-        Ending::PutLocal(slot) => put_slot(code, contexts, m, at, slot, base),
-        Ending::PutField(f) => put_own(code, contexts, m, at, f, base),
-        Ending::CutLocal(slot) => cut_slot(code, contexts, m, at, slot, base),
-        Ending::CutField(f) => cut_own(code, contexts, m, at, f, base),
+        Ending::Set(variable) => set(code, contexts, m, at, variable, base),
+        Ending::Put(variable) => put(code, contexts, m, at, variable, base),
+        Ending::Cut(variable) => cut(code, contexts, m, at, variable, base),
         Ending::Branch(branches) => branch(code, contexts, m, at, branches, base),
         Ending::Require => demand(code, contexts, m, at, base),
         Ending::Send(label) => send(code, contexts, m, at, label, base),
@@ -45,114 +43,52 @@ pub fn finish<'s>(
     }
 }
 
-// A local has the value.
-fn set_slot<'s>(
+// The variable has the value.
+fn set<'s>(
     code: Code<'s>,
-    contexts: &Tree,
+    contexts: &mut Tree,
     m: &mut Machine<'s>,
     at: Span,
-    slot: usize,
+    variable: Variable,
     base: usize,
 ) -> Result<(), Stop>
-    requires { IsNext code contexts.now m.old (i.Finish at (i.SetLocal slot) base) }
-    ensures { Goes code.entry contexts.now m.old (i.Finish at (i.SetLocal slot) base) result contexts.now m.new }
+    requires { IsNext code contexts.old m.old (i.Finish at (end_of (ending.Set variable)) base) }
+    ensures { Goes code.entry contexts.old m.old (i.Finish at (end_of (ending.Set variable)) base) result contexts.new m.new }
 {
     let value = m.take(base);
-    m.set_local(slot, value);
-    Ok(())
+    change(code, contexts, m, at, variable, Edit::Set(value))
 }
 
-// A field has the value.
-fn set_own<'s>(
+// The variable's map has the pair.
+fn put<'s>(
     code: Code<'s>,
     contexts: &mut Tree,
     m: &mut Machine<'s>,
     at: Span,
-    f: u16,
+    variable: Variable,
     base: usize,
 ) -> Result<(), Stop>
-    requires { IsNext code contexts.old m.old (i.Finish at (i.SetField f) base) }
-    ensures { Goes code.entry contexts.old m.old (i.Finish at (i.SetField f) base) result contexts.new m.new }
+    requires { IsNext code contexts.old m.old (i.Finish at (end_of (ending.Put variable)) base) }
+    ensures { Goes code.entry contexts.old m.old (i.Finish at (end_of (ending.Put variable)) base) result contexts.new m.new }
 {
-    let value = m.take(base);
-    set_field(contexts, &m.path, f as usize, value);
-    Ok(())
+    let (key, value) = m.take_two(base);
+    change(code, contexts, m, at, variable, Edit::Put(key, value))
 }
 
-// A local map has the pair.
-fn put_slot<'s>(
-    code: Code<'s>,
-    contexts: &Tree,
-    m: &mut Machine<'s>,
-    at: Span,
-    slot: u16,
-    base: usize,
-) -> Result<(), Stop>
-    requires { IsNext code contexts.now m.old (i.Finish at (i.PutLocal slot) base) }
-    ensures { Goes code.entry contexts.now m.old (i.Finish at (i.PutLocal slot) base) result contexts.now m.new }
-{
-    let mut map = m.lift(slot as usize);
-    let done = put(&mut map, m.own(base), at);
-    m.set_local(slot as usize, map);
-    m.cut(base);
-    done
-}
-
-// A field's map has the pair.
-fn put_own<'s>(
+// The variable's map has the key no more.
+fn cut<'s>(
     code: Code<'s>,
     contexts: &mut Tree,
     m: &mut Machine<'s>,
     at: Span,
-    f: u16,
+    variable: Variable,
     base: usize,
 ) -> Result<(), Stop>
-    requires { IsNext code contexts.old m.old (i.Finish at (i.PutField f) base) }
-    ensures { Goes code.entry contexts.old m.old (i.Finish at (i.PutField f) base) result contexts.new m.new }
+    requires { IsNext code contexts.old m.old (i.Finish at (end_of (ending.Cut variable)) base) }
+    ensures { Goes code.entry contexts.old m.old (i.Finish at (end_of (ending.Cut variable)) base) result contexts.new m.new }
 {
-    let mut map = lift_field(contexts, &m.path, f as usize);
-    let done = put(&mut map, m.own(base), at);
-    set_field(contexts, &m.path, f as usize, map);
-    m.cut(base);
-    done
-}
-
-// A local map has the key no more.
-fn cut_slot<'s>(
-    code: Code<'s>,
-    contexts: &Tree,
-    m: &mut Machine<'s>,
-    at: Span,
-    slot: u16,
-    base: usize,
-) -> Result<(), Stop>
-    requires { IsNext code contexts.now m.old (i.Finish at (i.CutLocal slot) base) }
-    ensures { Goes code.entry contexts.now m.old (i.Finish at (i.CutLocal slot) base) result contexts.now m.new }
-{
-    let mut map = m.lift(slot as usize);
-    let done = cut(&mut map, m.own(base), at);
-    m.set_local(slot as usize, map);
-    m.cut(base);
-    done
-}
-
-// A field's map has the key no more.
-fn cut_own<'s>(
-    code: Code<'s>,
-    contexts: &mut Tree,
-    m: &mut Machine<'s>,
-    at: Span,
-    f: u16,
-    base: usize,
-) -> Result<(), Stop>
-    requires { IsNext code contexts.old m.old (i.Finish at (i.CutField f) base) }
-    ensures { Goes code.entry contexts.old m.old (i.Finish at (i.CutField f) base) result contexts.new m.new }
-{
-    let mut map = lift_field(contexts, &m.path, f as usize);
-    let done = cut(&mut map, m.own(base), at);
-    set_field(contexts, &m.path, f as usize, map);
-    m.cut(base);
-    done
+    let key = m.take(base);
+    change(code, contexts, m, at, variable, Edit::Cut(key))
 }
 
 // The statements for the value of a test.

@@ -1,9 +1,10 @@
 //! The events of a resolved service, run.
 #![tactic(auto)]
 
-mod at_once;
+mod assignments;
 mod block;
 mod calls;
+mod changes;
 mod code;
 mod edits;
 mod eval;

@@ -18,8 +18,11 @@ use wave_base::{Path, Span, Value};
 /// Where an expression's value is looked up: the code, the contexts, and the machine with its locals and its place.
 #[derive(Clone, Copy)]
 pub struct View<'v, 's> {
+    /// The code, with the shape by which fields begin.
     pub code: Code<'v>,
+    /// The contexts that are there.
     pub contexts: &'v Tree,
+    /// The machine, with its locals and its place.
     pub m: &'v Machine<'s>,
 }
 

@@ -19,12 +19,8 @@ use crate::rows::apply_two;
 use crate::stop::Stop;
 use crate::work::{ForLoop, WhileLoop, Work};
 use context_tree::Tree;
+use value_ops::rows::{ADD, LT};
 use wave_base::{Span, Value};
-
-/// The operator rows of a loop over numbers.
-const ADD: usize = 0;
-
-const LT: usize = 9;
 
 /// A loop's test is to have its value: at once, where no call is met.
 pub fn turns<'s>(

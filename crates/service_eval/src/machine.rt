@@ -15,10 +15,15 @@ use wave_base::{Path, Value};
 /// context of the function that runs; and what the event has done.
 #[derive(Drop)]
 pub struct Machine<'s> {
+    /// What is still to be done, the next one last.
     pub work: Vec<Work<'s>>,
+    /// The values that wait for it.
     pub values: Vec<Value>,
+    /// The locals of the function that runs, by their slots.
     pub locals: Vec<Value>,
+    /// The context where it runs.
     pub path: Path,
+    /// What the event has done.
     pub trace: Trace,
 }
 
@@ -137,6 +142,20 @@ impl<'s> Machine<'s> {
         value
     }
 
+    /// Takes an item's own values away, and gives the first two.
+    pub fn take_two(&mut self, base: usize) -> (Value, Value)
+        ensures first { result.0 ≡ own 0 base self.old.values.items }
+        ensures second { result.1 ≡ own 1 base self.old.values.items }
+        ensures rest { (tree : _) → mach_of tree self.new ≡ cut_to base (mach_of tree self.old) }
+    {
+        if base >= self.values.len() {
+            return (Value::Int(0), Value::Int(0));
+        }
+        let second = self.take(base + 1);
+        let first = self.take(base);
+        (first, second)
+    }
+
     /// Takes an item's own values, from one of them on.
     pub fn take_all(&mut self, base: usize) -> Result<Vec<Value>, Stop>
         ensures values { IfOk result (λ taken. taken.items ≡ drop base self.old.values.items) }
@@ -168,18 +187,6 @@ impl<'s> Machine<'s> {
     {
         if slot < self.locals.len() {
             self.locals[slot] = value;
-        }
-    }
-
-    /// Takes the value of a local, which is a number then.
-    pub fn lift(&mut self, slot: usize) -> Value
-        ensures value { result ≡ get_or self.old.locals.items slot nothing }
-        ensures rest { (tree : _) → mach_of tree self.new ≡ record (mach_of tree self.old) { state = record { locals = slice_set self.old.locals.items slot nothing; world = (mach_of tree self.old).state.world } } }
-    {
-        if slot < self.locals.len() {
-            mem::replace(&mut self.locals[slot], Value::Int(0))
-        } else {
-            Value::Int(0)
         }
     }
 

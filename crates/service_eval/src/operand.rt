@@ -8,7 +8,9 @@ use wave_base::{OutOfMemory, Value};
 /// A value of an expression: one that is kept elsewhere, or a new one.
 #[derive(Drop)]
 pub enum Operand<'v> {
+    /// One that is kept elsewhere.
     Held(&'v Value),
+    /// A new one.
     Made(Value),
 }
 

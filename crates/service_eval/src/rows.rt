@@ -11,11 +11,12 @@ ghost use Rattle.wave_base.specs.Values.{kind_of};
 
 use crate::stop::Stop;
 use std::alloc::Global;
+use value_ops::rows::{
+    ADD, AT, BEQ, BNE, CAT, DIV, EQ, GE, GT, HAS, KEY, LE, LT, MUL, NE, PART, REM, SUB, TEQ, TLT,
+    TNE,
+};
 use value_ops::{OpError, apply, apply_ints, apply_texts, compare_flags, part, read_map, takes_of};
 use wave_base::{Kind, OPERATORS, Span, Trap, TrapKind, Value};
-
-/// The operator row of a part of a text.
-const PART: usize = 27;
 
 /// What a row gives of any values; of others than it takes, it gives nothing.
 pub fn apply_any(alloc: Global, row: usize, args: &[Value], at: Span) -> Result<Value, Stop>
@@ -121,7 +122,8 @@ fn is_ints(row: usize) -> bool
     ensures { IsTrue result → takes_of row ≡ Kind.Int ∷ Kind.Int ∷ [] }
 {
     match row {
-        0 | 1 | 2 | 3 | 4 | 7 | 8 | 9 | 10 | 11 | 12 => true,
+        ADD | SUB | MUL | DIV | REM => true,
+        EQ | NE | LT | LE | GT | GE => true,
         _ => false,
     }
 }
@@ -133,7 +135,7 @@ fn is_read(row: usize) -> bool
     ensures reads { IsTrue result → gives_of row ≡ Kind.Map → ⊥ }
 {
     match row {
-        19 | 22 | 24 => true,
+        AT | HAS | KEY => true,
         _ => false,
     }
 }
@@ -144,7 +146,7 @@ fn is_texts(row: usize) -> bool
     ensures { IsTrue result → takes_of row ≡ Kind.Text ∷ Kind.Text ∷ [] }
 {
     match row {
-        15 | 16 | 17 | 18 => true,
+        TEQ | TNE | TLT | CAT => true,
         _ => false,
     }
 }
@@ -155,7 +157,7 @@ fn is_flags(row: usize) -> bool
     ensures { IsTrue result → takes_of row ≡ Kind.Bool ∷ Kind.Bool ∷ [] }
 {
     match row {
-        13 | 14 => true,
+        BEQ | BNE => true,
         _ => false,
     }
 }

@@ -8,6 +8,7 @@ pub enum Stop {
     /// It met a trap.
     #[error("trap {0:?}")]
     Trapped(Trap),
+    /// Memory was wanting.
     #[error("out of memory")]
     OutOfMemory,
     /// It was ended early, with this reply, if any.

@@ -13,12 +13,17 @@ use wave_base::{
 /// What an event has done so far, besides its changes of fields.
 #[derive(Drop)]
 pub struct Trace {
+    /// The event's generation: 0 for a request, and one more for each event that led to it.
     pub generation: u8,
     /// The ticks that are left.
     pub ticks: u32,
+    /// The paths that it has entered, the first one first.
     pub entered: Vec<Path>,
+    /// The paths of the contexts that it holds.
     pub held: Vec<Path>,
+    /// The messages that it has sent, in order.
     pub messages: Vec<Message>,
+    /// The calls that it has created, in order.
     pub created: Vec<Call>,
 }
 

@@ -4,46 +4,70 @@ use wave_base::{Class, Span, Txt, Value};
 /// What is done where a test is true, and where it is false.
 #[derive(Clone, Copy)]
 pub struct Branches<'s> {
+    /// The statements where it is true.
     pub body: &'s [Stmt],
+    /// The statements where it is false.
     pub other: &'s [Stmt],
 }
 
 /// A `while`.
 #[derive(Clone, Copy)]
 pub struct WhileLoop<'s> {
+    /// Where it starts, for the trap of a turn too many.
     pub at: Span,
+    /// What is to be true for another turn.
     pub test: &'s Expr,
+    /// The statements of a turn.
     pub body: &'s [Stmt],
 }
 
 /// A `for`, with its counter's slot.
 #[derive(Clone, Copy)]
 pub struct ForLoop<'s> {
+    /// Where it starts, for its traps.
     pub at: Span,
+    /// The slot of the counter; the bound and the name have the two next ones.
     pub counter: u16,
+    /// The statements of a turn.
     pub body: &'s [Stmt],
+}
+
+/// What statements change: a local by its slot, or a field by its place in its class.
+#[derive(Clone, Copy)]
+pub enum Variable {
+    /// A local of the function that runs.
+    Local(usize),
+    /// A field of its context.
+    Field(u16),
 }
 
 /// A method of the children of a class.
 #[derive(Clone, Copy)]
 pub struct Callee {
+    /// The children's class.
     pub class: Class,
+    /// The method's place among all methods.
     pub method: u16,
 }
 
 /// What a statement does with the values of its expressions.
 #[derive(Drop)]
 pub enum Ending<'s> {
-    SetLocal(usize),
-    SetField(u16),
-    PutLocal(u16),
-    PutField(u16),
-    CutLocal(u16),
-    CutField(u16),
+    /// Gives the variable the value.
+    Set(Variable),
+    /// Puts a pair into the variable's map: the key, and then what it has.
+    Put(Variable),
+    /// Takes the key out of the variable's map.
+    Cut(Variable),
+    /// Goes on with the one block or the other.
     Branch(Branches<'s>),
+    /// Ends the event with a trap, where the value is not true.
     Require,
+    /// Sends a message with the label.
     Send(&'s Txt),
+    /// Creates an event of this number with the values as arguments.
     Spawn(u16),
+    /// Drops the value, if any.
     Drop,
     /// Ends the method with the value.
     Return,
@@ -51,19 +75,14 @@ pub enum Ending<'s> {
     Finish,
 }
 
-/// What is left of a statement when its expressions have their values, which lie on `base` others.
-#[derive(Drop)]
-pub struct Tail<'s> {
-    pub at: Span,
-    pub ending: Ending<'s>,
-    pub base: usize,
-}
-
 /// Where a method returns to: the locals and the values of its caller, and whether it is at the parent.
 #[derive(Drop)]
 pub struct Caller {
+    /// The caller's locals.
     pub locals: Vec<Value>,
+    /// The caller's values.
     pub values: Vec<Value>,
+    /// Whether the caller is at the parent of the context where the method ran.
     pub up: bool,
 }
 

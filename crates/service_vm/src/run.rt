@@ -24,14 +24,23 @@ use wave_base::{
 /// has left, where it is, what it holds, how many contexts it has entered, and its generation.
 #[derive(Debug, Drop)]
 pub struct Run {
+    /// The functions under way, with their values.
     pub frames: Frames,
+    /// Copies of what stands above, from the root on.
     pub views: Views,
+    /// The messages that it has sent and the calls that it has created.
     pub outputs: Outputs,
+    /// The ticks that it has left.
     pub ticks: u32,
+    /// The context where it is.
     pub path: Path,
+    /// The contexts that it holds.
     pub held: Held,
+    /// How many contexts it has entered.
     pub entered: usize,
+    /// Its generation: 0 for a request, and one more for each event that led to it.
     pub generation: u8,
+    /// The allocator.
     pub alloc: Global,
 }
 

@@ -1,0 +1,16 @@
+use Rattle.std.proofs.Common.{◌≤◌, length, sym, subst, arith}
+use Rattle.std.proofs.lemmas.List.{set_past, get_or_past}
+use Rattle.resolved_service.specs.World.{nothing}
+use Rattle.service_eval.specs.Changes.{edited}
+use Rattle.service_eval.specs.Turns.{Alters}
+use Rattle.service_eval.proofs.edits.Edit.apply_at.Goals as goal
+
+pub returns-else-i-len : goal.returns-else-i-len
+returns-else-i-len c =
+    let vs = c.args.values.now.items in
+    let past : length vs ≤ c.args.i = omega (arith, c.if-i-len.false, c.len.ensures) in
+    record {
+      value = c.apply-else-i-len.new.value;
+      alters = subst (λ v. Alters (edited c.args.self v) c.args.at v c.apply-else-i-len.result c.apply-else-i-len.new.value) (sym (get_or_past vs c.args.i nothing past)) c.apply-else-i-len.ensures;
+      list = sym (set_past vs c.args.i c.apply-else-i-len.new.value past);
+    }

@@ -1,0 +1,32 @@
+use Rattle.std.proofs.Common.{drop, sym, ap, subst, ◌∙◌}
+use Rattle.context_tree.specs.Contexts.{tree_of as shown}
+use Rattle.wave_base.specs.declared.limits.TheConstants.{TICKS}
+use Rattle.resolved_service.specs.Meaning.{called}
+use Rattle.service_eval.specs.declared.edits.Edit.TheVariants as edit
+use Rattle.service_eval.specs.declared.work.Ending.TheVariants as ending
+use Rattle.service_eval.specs.Changes.{changing}
+use Rattle.service_eval.specs.Items.{end_of}
+use Rattle.service_eval.specs.Machines.{Mach}
+use Rattle.service_eval.specs.Ready.{Ready}
+use Rattle.service_eval.specs.Turns.{mach, Does}
+use Rattle.service_eval.proofs.ChangeLemmas.{set_ends, change_turn}
+use Rattle.service_eval.proofs.ReadyLemmas.{ready_with}
+use Rattle.service_eval.proofs.finish.set.Goals as goal
+
+pub change-requires : goal.change-requires
+change-requires c =
+    let T = shown c.args.code.shape.now c.args.contexts.now in
+    subst (Ready c.args.code.shape.now c.args.code.methods.now) (sym (c.take-value.ensures.rest T)) (ready_with _ _ _ _ _ c.requires c.requires.items.1)
+
+pub returns : goal.returns
+returns c =
+    let code = c.args.code in
+    let T = shown code.shape.now c.args.contexts.now in
+    let M : Mach = mach code c.args.contexts.now c.args.m.now in
+    let at = c.args.at in
+    let v = c.args.variable in
+    let took = c.take-value.ensures.rest T in
+    let does : Does code c.args.contexts.now c.take-value.new.self (changing M.path at v (edit.Set c.take-value.result)) c.change.result c.change.new.contexts c.change.new.m =
+    subst (λ p. Does code c.args.contexts.now c.take-value.new.self (changing p at v (edit.Set c.take-value.result)) c.change.result c.change.new.contexts c.change.new.m) (ap (λ (x : Mach). x.path) took) c.change.ensures in
+    change_turn code c.args.contexts.now c.change.new.contexts c.args.m.now c.take-value.new.self c.change.new.m at c.args.base (end_of (ending.Set v)) (changing M.path at v (edit.Set c.take-value.result)) c.change.result took
+    (set_ends (called code.methods.now TICKS) TICKS M.path at M.state (drop c.args.base M.values) v ∙ ap (λ x. changing M.path at v (edit.Set x) M.state) (sym c.take-value.ensures.value)) does
