@@ -18,8 +18,11 @@ use wave_base::{SCRIPT_BYTES, Script};
 /// A script, with the code of its service.
 #[derive(Drop)]
 pub struct Coded {
+    /// The service, judged and resolved.
     pub typed: Typed,
+    /// Its code, verified.
     pub program: Verified,
+    /// What is run on it.
     pub script: Script,
 }
 

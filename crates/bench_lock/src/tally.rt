@@ -6,6 +6,7 @@ use kept_lock::Kept;
 /// A count of turns. As a kept value it has no history, so that the locks alone are timed.
 #[derive(Drop)]
 pub struct Tally {
+    /// How many turns were counted.
     pub turns: u64,
 }
 

@@ -9,7 +9,9 @@ use wave_base::{Call, EventResult, OutOfMemory, Path};
 /// Runs the calls of a service's events by its code, each whole, on the tree that it is given.
 #[derive(Clone, Copy)]
 pub struct CodeRunner<'p> {
+    /// The verified code that runs.
     pub program: &'p Verified,
+    /// The service whose code it is. It is there for contracts alone.
     pub service: &'p Resolved,
 }
 

@@ -19,8 +19,11 @@ use wave_base::{Call, EventResult, OutOfMemory, Path, Seq};
 /// segments it ran.
 #[derive(Debug, Drop)]
 pub struct CallRan {
+    /// How the event ended, with its messages and the calls that it created.
     pub result: EventResult,
+    /// The paths that it entered, the first one first.
     pub entered: Seq<Path>,
+    /// How many segments ran, from 1.
     pub segments: u64,
 }
 

@@ -22,8 +22,11 @@ use wave_base::{Call, EventResult, OutOfMemory, Path, Pause, Shape, Ticket};
 /// A call under way: its event, the contexts that it entered, in order, and how many segments it has run.
 #[derive(Debug, Drop)]
 pub struct Walk {
+    /// The event between two of its segments.
     pub event: EventBox,
+    /// The paths that it has entered, the first one first.
     pub entered: Vec<Path>,
+    /// How many segments have run.
     pub segments: u64,
 }
 

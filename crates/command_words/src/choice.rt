@@ -11,13 +11,21 @@ const DEFAULT_WORKERS: u8 = 4;
 /// A command by its name.
 #[derive(Clone, Copy)]
 pub enum Verb {
+    /// `run`: the script, by the machine.
     Run,
+    /// `seq`: the script, by the plain evaluator.
     Seq,
+    /// `trace`: as `run`, with the journal behind the listing.
     Trace,
+    /// `check`: whether the service is typed.
     Check,
+    /// `print`: the service in canonical layout.
     Print,
+    /// `code`: the service's code.
     Code,
+    /// `gen`: the generated load of a number.
     Gen,
+    /// `load`: a generated load, run and summed up.
     Load,
 }
 

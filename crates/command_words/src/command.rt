@@ -4,7 +4,9 @@ ghost use Rattle.command_words.specs.Inputs.{is_free, reads_input, runs_workers}
 /// Whether the listing ends with the hosts of the contexts.
 #[derive(Clone, Copy, Debug, PartialEq, Eq)]
 pub enum Places {
+    /// The listing ends without them.
     Unlisted,
+    /// A line for each context tells its host.
     Listed,
 }
 

@@ -17,7 +17,9 @@ pub struct Commits {
 /// A ticket that is committed, with its result.
 #[derive(PartialEq, Eq, Debug, Drop)]
 pub struct Committed {
+    /// The ticket.
     pub ticket: Ticket,
+    /// What its job came to.
     pub result: EventResult,
 }
 

@@ -9,7 +9,9 @@ use wave_base::{OutOfMemory, Ticket};
 /// A ticket that waits at a context, and whether it only looks, so that it may hold the context beside others that do.
 #[derive(Clone, Copy, Debug, PartialEq, Eq)]
 pub struct Claim {
+    /// The ticket that waits.
     pub ticket: Ticket,
+    /// Whether it only looks.
     pub peek: bool,
 }
 

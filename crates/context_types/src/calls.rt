@@ -20,7 +20,9 @@ use wave_base::{Class, Kind, Span, Txt};
 /// A call with its names resolved, and the kind of its result, if it has one.
 #[derive(Drop)]
 pub struct Called {
+    /// The kind of its result; none where it gives nothing.
     pub gives: Option<Kind>,
+    /// The call, its names resolved.
     pub tree: Tree,
 }
 

@@ -23,7 +23,9 @@ use wave_base::{Kind, OutOfMemory, Span, Table, Txt, Value};
 /// An expression with its names resolved, and its kind.
 #[derive(Drop)]
 pub struct Judged {
+    /// The kind of its value.
     pub kind: Kind,
+    /// The expression, its names resolved.
     pub tree: Tree,
 }
 

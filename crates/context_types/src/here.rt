@@ -12,7 +12,9 @@ use wave_base::{Kind, Txt};
 /// What a statement stands in: a method or an event, and the kind that it gives, if any.
 #[derive(Clone, Copy)]
 pub enum Within {
+    /// A method, and the kind that it returns, if any.
     Method(Option<Kind>),
+    /// An event, and the kind that it replies with, if any.
     Event(Option<Kind>),
 }
 
@@ -20,11 +22,17 @@ pub enum Within {
 /// has the kinds of all slots that the function has given so far.
 #[derive(Drop)]
 pub struct Here<'t> {
+    /// What the service declares.
     pub known: &'t Tables,
+    /// The number of the class whose context it is.
     pub class: u16,
+    /// The number of the method among all methods, or of the event among all events.
     pub function: usize,
+    /// Which of the two it is.
     pub within: Within,
+    /// The locals that may be named here, the last one last.
     pub locals: Vec<Local>,
+    /// The kinds of all slots that the function has given so far, parameters first.
     pub slots: Vec<Kind>,
 }
 

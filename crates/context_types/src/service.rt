@@ -21,8 +21,11 @@ use wave_base::{CLASS_DEPTH, FIELDS, Kind, Seq, Shape};
 /// A service that is typed, with what it declares, and with its names resolved.
 #[derive(Debug, Drop)]
 pub struct Typed {
+    /// The syntax tree as it was read.
     pub service: Service,
+    /// What it declares.
     pub shape: Shape,
+    /// Its methods and events, with each name resolved.
     pub resolved: Resolved,
 }
 

@@ -10,8 +10,10 @@ use wave_base::{Call, GENERATION, MESSAGES, Message, OutOfMemory, SPAWNS, Seq};
 /// Why a message was not kept. It comes back.
 #[derive(Debug, Drop, Error)]
 pub enum SendError {
+    /// The event has sent `MESSAGES` messages.
     #[error("the event has sent all the messages that it may")]
     Sends(Message),
+    /// No memory was left for it.
     #[error("out of memory")]
     OutOfMemory(Message),
 }
@@ -19,10 +21,13 @@ pub enum SendError {
 /// Why a created call was not kept. It comes back.
 #[derive(Debug, Drop, Error)]
 pub enum SpawnError {
+    /// The event is of the greatest generation, `GENERATION`.
     #[error("an event of the greatest generation creates none")]
     Generation(Call),
+    /// The event has created `SPAWNS` calls.
     #[error("the event has created all the events that it may")]
     Spawns(Call),
+    /// No memory was left for it.
     #[error("out of memory")]
     OutOfMemory(Call),
 }

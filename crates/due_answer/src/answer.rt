@@ -7,8 +7,11 @@ use wave_base::{OutOfMemory, Seq};
 /// What is due for an input: the status, the bytes for `out`, and the note, which is empty where there is none.
 #[derive(Debug, Drop)]
 pub struct Answer {
+    /// The exit status.
     pub status: u8,
+    /// The one line for the error output, without its line end; empty where there is none.
     pub note: Seq<u8>,
+    /// The bytes for the output.
     pub text: Seq<u8>,
 }
 

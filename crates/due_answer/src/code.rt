@@ -14,7 +14,9 @@ use wave_base::{Class, OutOfMemory, Shape};
 /// The program of a typed service, or what is due where a function of it is too long.
 #[derive(Debug, Drop)]
 pub enum Compiled {
+    /// The code, verified.
     Program(Verified),
+    /// What is due where a function is too long.
     TooLong(Answer),
 }
 

@@ -20,7 +20,9 @@ use wave_base::OutOfMemory;
 /// A service that is typed, with its code, or what is due instead.
 #[derive(Debug, Drop)]
 pub enum Judged {
+    /// It is typed, and this is its code.
     Typed(Typed, Verified),
+    /// What is due instead.
     Refused(Answer),
 }
 

@@ -13,8 +13,11 @@ use wave_machine::Plan;
 /// What is to be run: a service with each name resolved, its code, and a script for it.
 #[derive(Debug, Drop)]
 pub struct Work {
+    /// The service, with each name resolved.
     pub service: Resolved,
+    /// Its code, verified.
     pub program: Verified,
+    /// What is to be run on it.
     pub script: Script,
 }
 

@@ -15,7 +15,9 @@ use wave_base::{Host, OutOfMemory, Path};
 /// At which host a context is held, and whether beside others.
 #[derive(Clone, Copy, Debug, PartialEq, Eq)]
 pub struct Hold {
+    /// The host where the context is.
     pub host: Host,
+    /// Whether the event only looks, beside others that do.
     pub peek: bool,
 }
 

@@ -14,8 +14,11 @@ use wave_base::{Host, OutOfMemory, Path};
 /// A mail under way: to a host, for a context.
 #[derive(Drop)]
 pub struct Envelope {
+    /// The host to which it is on its way.
     pub to: Host,
+    /// The context that it is for.
     pub path: Path,
+    /// What it is for.
     pub letter: Letter,
 }
 

@@ -9,6 +9,7 @@ pub enum Ending {
     ReadFault,
     /// The sink failed.
     WriteFault,
+    /// Memory was wanting.
     NoMemory,
     /// An answer was given whole: its status and note.
     Answered(u8, Seq<u8>),

@@ -15,7 +15,9 @@ use wave_base::{Host, OutOfMemory, Path};
 /// Where a context went from here, as its how-manieth move.
 #[derive(Clone, Copy, Debug, PartialEq, Eq)]
 pub struct Mark {
+    /// The host that it went to.
     pub to: Host,
+    /// Which of the context's moves that was, from 1.
     pub number: u64,
 }
 
@@ -33,6 +35,7 @@ pub enum Found {
 /// The entries of a host, and its departure marks.
 #[derive(Drop)]
 pub struct HostStore {
+    /// The entries that are here, by their paths.
     pub(crate) store: IndexMap<Path, Entry>,
     gone: IndexMap<Path, Mark>,
 }

@@ -8,10 +8,16 @@ use wave_machine::Plan;
 /// before each segment.
 #[derive(Drop)]
 pub(crate) struct Post<'l, 'p, R, G> {
+    /// What a worker waits by.
     pub rt: &'l R,
+    /// The allocator.
     pub alloc: Global,
+    /// The lock of the board.
     pub lock: &'l KeptLock<Board<'p>>,
+    /// The plan that the board runs.
     pub plan: &'p Plan,
+    /// Which of the plan's workers it is, from 0.
     pub number: Worker,
+    /// What it comes to before each segment.
     pub gate: &'l G,
 }

@@ -8,6 +8,7 @@ pub enum JournalError {
     /// another number of lines than stand behind it.
     #[error("line {line} is not as a journal has it")]
     Syntax { line: u32 },
+    /// Memory was wanting, and nothing is said of the text.
     #[error("out of memory")]
     OutOfMemory,
 }

@@ -4,15 +4,25 @@ ghost use Rattle.journal_text.specs.inner.Verbs.{verb_of};
 /// An act by its word.
 #[derive(Clone, Copy)]
 pub(crate) enum Verb {
+    /// `admit`: the next ticket's event is made.
     Admit,
+    /// `queue`: an Enter joins the line of a context.
     Queue,
+    /// `grant`: the next in a context's line gets in.
     Grant,
+    /// `visit`: an event comes back to a context that it holds.
     Visit,
+    /// `start`: a segment begins.
     Start,
+    /// `stop`: a segment ends.
     Stop,
+    /// `free`: a context is let go.
     Free,
+    /// `pass`: an Enter follows a departure mark to a host.
     Pass,
+    /// `land`: a context that moved arrives.
     Land,
+    /// `commit`: the next result is committed.
     Commit,
 }
 

@@ -11,6 +11,7 @@ pub(crate) struct Bell {
 }
 
 impl Bell {
+    /// A bell that has not rung, and for which no one listens.
     pub(crate) fn new() -> Bell {
         Bell {
             rings: AtomicU64::new(0),

@@ -9,7 +9,9 @@ use crate::lock::{KeptLock, Pass};
 
 /// The right to the value, which is out with the pass. It has no `Drop`, so it ends in `leave`.
 pub struct Guard<'a, V: Kept> {
+    /// The lock that it is of.
     pub(crate) lock: &'a KeptLock<V>,
+    /// The pass that is inside.
     pub(crate) pass: &'a mut Pass<V>,
 }
 

@@ -17,6 +17,7 @@ pub struct KeptLock<V: Kept> {
     pub(crate) table: Table<Option<V>, View<V::Name, V::Entry>, V::Name, Keeping<V>, Global>,
     // Rung at each release of the word.
     pub(crate) bell: Bell,
+    /// The leaves that added something.
     pub(crate) news: News,
     ghost sized: { (table.shared.table_id.words ≡ 1) × (table.shared.table_id.slots ≡ 1) },
 }
@@ -24,6 +25,7 @@ pub struct KeptLock<V: Kept> {
 /// The right to enter one lock. Contracts see what its holder knows: `Known`.
 #[derive(Drop)]
 pub struct Pass<V: Kept> {
+    /// Its seat at the lock's table.
     pub(crate) seat: Seat<Option<V>, View<V::Name, V::Entry>>,
     // The count of news at its last leave.
     pub(crate) last: Option<u64>,
@@ -32,6 +34,7 @@ pub struct Pass<V: Kept> {
 }
 
 impl<V: Kept> Pass<V> {
+    /// Its seat at the table, and the count of news at its last leave.
     pub(crate) fn into_parts(self) -> (Seat<Option<V>, View<V::Name, V::Entry>>, Option<u64>)
         requires { self.out ≡ None }
         ensures { (result.0 ≡ self.seat) × (result.1 ≡ self.last) }

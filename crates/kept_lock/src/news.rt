@@ -12,6 +12,7 @@ pub(crate) struct News {
 }
 
 impl News {
+    /// No news so far.
     pub(crate) fn new() -> News {
         News {
             told: AtomicU64::new(0),
@@ -32,6 +33,7 @@ impl News {
         }
     }
 
+    /// Rings, where the leave has added something.
     pub(crate) fn ring_if(&self, adds: bool) {
         if adds {
             self.bell.ring();

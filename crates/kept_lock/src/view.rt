@@ -25,6 +25,7 @@ pub struct Account<E> {
 
 /// Where a pass is.
 pub enum Place {
+    /// The pass is not inside, and may enter.
     Outside,
     /// The value is out with the pass.
     Inside,
@@ -36,8 +37,10 @@ pub enum Place {
 pub struct View<N, E> {
     /// The lock's name; none once the pass is joined to another.
     pub name: Option<N>,
+    /// Where it is.
     pub place: Place,
     /// What a pass that was joined to this one had seen, until the next look.
     pub told: LinkedList<E>,
+    /// What its holder knows.
     pub known: Known<E>,
 }

@@ -107,6 +107,7 @@ fn put_front(alloc: Global, out: &mut Vec<u8>, n: u64) -> Result<(), OutOfMemory
     put_bytes(out, b" ")
 }
 
+/// The line of how a ticket's job ended.
 pub(crate) fn outcome_line(
     alloc: Global,
     shape: &Shape,
@@ -123,6 +124,7 @@ pub(crate) fn outcome_line(
     Ok(Seq::from_vec(line))
 }
 
+/// The line of a context with its fields, as a snapshot of a ticket has it.
 pub(crate) fn shot_line(
     alloc: Global,
     shape: &Shape,
@@ -138,6 +140,7 @@ pub(crate) fn shot_line(
     Ok(Seq::from_vec(line))
 }
 
+/// The line of a message that a ticket's event sent.
 pub(crate) fn message_line(alloc: Global, n: u64, message: &Message) -> Result<Seq<u8>, OutOfMemory>
     ensures { IfOk result (λ line. line ≡ ticket_line n (message_text message.now)) }
 {
@@ -151,6 +154,7 @@ pub(crate) fn message_line(alloc: Global, n: u64, message: &Message) -> Result<S
     Ok(Seq::from_vec(line))
 }
 
+/// The line of a ticket that a ticket's event created.
 pub(crate) fn made_line(alloc: Global, n: u64, made: Ticket) -> Result<Seq<u8>, OutOfMemory>
     ensures { IfOk result (λ line. line ≡ ticket_line n (made_text made)) }
 {
@@ -162,6 +166,7 @@ pub(crate) fn made_line(alloc: Global, n: u64, made: Ticket) -> Result<Seq<u8>, 
     Ok(Seq::from_vec(line))
 }
 
+/// The line of a context's host.
 pub(crate) fn place_line(
     alloc: Global,
     shape: &Shape,
@@ -178,6 +183,7 @@ pub(crate) fn place_line(
     Ok(Seq::from_vec(line))
 }
 
+/// The last line, which names the last ticket of the run.
 pub(crate) fn done_line(alloc: Global, last: u64) -> Result<Seq<u8>, OutOfMemory>
     ensures { IfOk result (λ line. line ≡ done_line last) }
 {

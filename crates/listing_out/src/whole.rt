@@ -7,6 +7,7 @@ use std::alloc::Global;
 use wave_base::{Finished, OutOfMemory, Place, Seq, Shape, Ticket};
 use wave_text::put_bytes;
 
+/// The event's number at place `i`, where it is one of the service's.
 pub(crate) fn name_at(done: &Finished, i: usize) -> Option<u16>
     ensures { result ≡ name_at done.now i }
 {
@@ -16,6 +17,7 @@ pub(crate) fn name_at(done: &Finished, i: usize) -> Option<u16>
     }
 }
 
+/// The tickets of what the event at place `i` created.
 pub(crate) fn made_at(done: &Finished, i: usize) -> &[Ticket]
     ensures { result.now ≡ made_at done.now i }
 {
@@ -25,12 +27,14 @@ pub(crate) fn made_at(done: &Finished, i: usize) -> &[Ticket]
     }
 }
 
+/// The hosts of the contexts, if they are to be told.
 pub(crate) fn places_of(done: &Finished, map: bool) -> Option<&Seq<Place>>
     ensures { option_copied result ≡ places_of done.now map }
 {
     if map { Some(&done.places) } else { None }
 }
 
+/// The last ticket of a run; without tickets, the one before the first.
 pub(crate) fn last_ticket(first: Ticket, done: &Finished) -> u64
     requires first { 1 ≤ first.0 }
     requires few { length done.now.results ≤ 2 ^ 32 - 1 }

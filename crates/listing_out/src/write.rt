@@ -18,6 +18,7 @@ pub enum ListError {
     /// The sink failed.
     #[error("a write failed")]
     WriteFault,
+    /// Memory was wanting.
     #[error("out of memory")]
     OutOfMemory,
 }

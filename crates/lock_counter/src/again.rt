@@ -13,7 +13,9 @@ use std::sync::Wait;
 /// What is lent to a visit, and comes back where it fails.
 #[derive(Drop)]
 pub struct Order {
+    /// What is to be added.
     pub amount: u64,
+    /// The additions that were noted so far.
     pub notes: Vec<Addition>,
 }
 

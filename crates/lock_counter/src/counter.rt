@@ -7,21 +7,27 @@ use std::alloc::{AllocError, Global};
 /// What a counter is for. A counter borrows its plan, so that its type names a lifetime.
 #[derive(Drop)]
 pub struct Plan {
+    /// By which it is told from others.
     pub label: u64,
 }
 
 /// One addition, and the number of the pass that made it.
 #[derive(Clone, Copy)]
 pub struct Addition {
+    /// The number of the pass.
     pub by: u64,
+    /// What it added.
     pub amount: u64,
 }
 
 /// A total that wraps, and the additions that it is the sum of.
 #[derive(Drop)]
 pub struct Counter<'p> {
+    /// What it is for.
     pub plan: &'p Plan,
+    /// The sum of all additions, which wraps.
     pub total: u64,
+    /// The additions, the first one first.
     pub log: Vec<Addition>,
 }
 

@@ -11,6 +11,7 @@ use std::thread::{Threads, map_vec};
 /// A job that is ready.
 #[derive(Drop)]
 pub struct Turn<'l, 'p> {
+    /// The job.
     pub job: Job<'l, 'p>,
     ghost ready: { IsReady job },
 }

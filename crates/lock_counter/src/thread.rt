@@ -11,10 +11,15 @@ use std::sync::Wait;
 /// What a thread has: its pass, that pass's number, and what it is to add how often.
 #[derive(Drop)]
 pub struct Job<'l, 'p> {
+    /// The lock of the counter.
     pub lock: &'l KeptLock<Counter<'p>>,
+    /// The thread's pass.
     pub pass: Pass<Counter<'p>>,
+    /// The pass's number.
     pub me: u64,
+    /// What it adds each time.
     pub amount: u64,
+    /// How often it adds.
     pub times: u64,
 }
 

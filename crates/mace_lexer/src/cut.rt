@@ -14,28 +14,41 @@ use wave_base::{NAME_BYTES, OutOfMemory, Txt};
 /// The piece at the front of a text: blanks or a comment, or a word, each of so many bytes; or the fault that is found so far behind the front.
 #[derive(Drop)]
 pub enum Cut {
+    /// Blanks or a comment of so many bytes.
     Gap(usize),
+    /// A word of so many bytes.
     Spell(usize, Word),
+    /// A fault, so many bytes behind the front.
     Fault(LexFault, usize),
 }
 
 /// Which bytes go on with a piece.
 #[derive(Clone, Copy)]
 pub enum Class {
+    /// All but a line end.
     Line,
+    /// Letters, digits and `_`.
     Name,
+    /// Digits.
     Digit,
 }
 
 /// The form of a piece: what its first two bytes tell.
 #[derive(Clone, Copy)]
 pub enum Form {
+    /// Blanks other than a line end.
     Blank,
+    /// A line end.
     LineEnd,
+    /// `//`, up to the end of the line.
     Comment,
+    /// A text in quotes.
     Text,
+    /// A name or a keyword.
     Name,
+    /// Digits.
     Number,
+    /// A sign of one byte or two, or no piece at all.
     Sign,
 }
 

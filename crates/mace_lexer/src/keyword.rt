@@ -5,32 +5,59 @@ ghost use Rattle.mace_lexer.specs.Words.{keyword, keyword_bytes};
 /// A word that no name may be.
 #[derive(Clone, Copy, Debug, PartialEq, Eq)]
 pub enum Keyword {
+    /// `service`
     Service,
+    /// `context`
     Context,
+    /// `var`
     Var,
+    /// `method`
     Method,
+    /// `event`
     Event,
+    /// `here`
     Here,
+    /// `down`
     Down,
+    /// `reply`
     Reply,
+    /// `let`
     Let,
+    /// `if`
     If,
+    /// `else`
     Else,
+    /// `while`
     While,
+    /// `for`
     For,
+    /// `in`
     In,
+    /// `to`
     To,
+    /// `require`
     Require,
+    /// `send`
     Send,
+    /// `spawn`
     Spawn,
+    /// `drop`
     Drop,
+    /// `return`
     Return,
+    /// `true`
     True,
+    /// `false`
     False,
+    /// `empty`
     Empty,
+    /// `int`
     Int,
+    /// `bool`
     Bool,
+    /// `text`
     Text,
+    /// `map`
     Map,
 }
 

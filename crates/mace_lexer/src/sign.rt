@@ -5,30 +5,55 @@ ghost use Rattle.mace_lexer.specs.Words.{sign, sign_bytes};
 /// A sign of one or two bytes.
 #[derive(Clone, Copy, Debug, PartialEq, Eq)]
 pub enum Sign {
+    /// `{`
     LeftBrace,
+    /// `}`
     RightBrace,
+    /// `(`
     LeftParen,
+    /// `)`
     RightParen,
+    /// `[`
     LeftBracket,
+    /// `]`
     RightBracket,
+    /// `,`
     Comma,
+    /// `;`
     Semicolon,
+    /// `:`
     Colon,
+    /// `.`
     Dot,
+    /// `=`
     Equals,
+    /// `==`
     EqualsEquals,
+    /// `!=`
     BangEquals,
+    /// `<`
     Less,
+    /// `<=`
     LessEquals,
+    /// `>`
     Greater,
+    /// `>=`
     GreaterEquals,
+    /// `+`
     Plus,
+    /// `-`
     Minus,
+    /// `*`
     Star,
+    /// `/`
     Slash,
+    /// `%`
     Percent,
+    /// `&&`
     AndAnd,
+    /// `||`
     OrOr,
+    /// `!`
     Bang,
 }
 

@@ -27,8 +27,11 @@ pub enum Letter {
 /// A mail to a host, for a context.
 #[derive(Drop)]
 pub struct Mail {
+    /// Its event's ticket, and its number among that event's mails.
     pub id: MailId,
+    /// The context that it is for.
     pub path: Path,
+    /// What it is for.
     pub letter: Letter,
 }
 

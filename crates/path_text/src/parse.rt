@@ -10,11 +10,13 @@ use wave_base::{Path, Shape};
 /// Why a text is no path of a shape.
 #[derive(Clone, Copy, Debug, PartialEq, Eq, Error)]
 pub enum PathError {
+    /// The text has not the form of a path.
     #[error("no path's form")]
     Syntax,
     /// A class that is not a child class of the one before it, a key that does not fit, or too many steps.
     #[error("no such path")]
     UnknownClass,
+    /// Memory was wanting, and nothing is said of the text.
     #[error("out of memory")]
     OutOfMemory,
 }

@@ -10,7 +10,9 @@ use wave_text::{is_whole, is_word, split_at};
 /// A step of a path as it is written: its class's name and its key.
 #[derive(PartialEq, Eq, Debug, Drop)]
 pub struct Written {
+    /// The class's name.
     pub name: Seq<u8>,
+    /// The digits of the key, behind a `-` where it is negative.
     pub key: Seq<u8>,
 }
 

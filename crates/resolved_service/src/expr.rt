@@ -4,7 +4,9 @@ use wave_base::{Class, Span, Value};
 #[derive(Debug, Drop)]
 #[cycle(expr)]
 pub struct Expr {
+    /// Where it starts.
     pub at: Span,
+    /// What it is.
     pub node: Node,
 }
 

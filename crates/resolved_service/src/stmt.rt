@@ -5,7 +5,9 @@ use wave_base::{Span, Txt};
 #[derive(Debug, Drop)]
 #[cycle(stmt)]
 pub struct Stmt {
+    /// Where it starts.
     pub at: Span,
+    /// What it does.
     pub action: Action,
 }
 
@@ -25,12 +27,17 @@ pub enum Action {
     CutLocal(u16, Expr),
     /// Takes a key out of a field's map.
     CutField(u16, Expr),
+    /// The first block where the test is true, and else the second, if there is one.
     If(Expr, Vec<Stmt>, Option<Vec<Stmt>>),
+    /// The block, as long as the test is true.
     While(Expr, Vec<Stmt>),
     /// Counts from the first number up to the second: the slot of the counter; the bound and the name have the two next ones.
     For(u16, Expr, Expr, Vec<Stmt>),
+    /// Ends the event with a trap where it is false.
     Require(Expr),
+    /// Sends a message: its label, and its value.
     Send(Txt, Expr),
+    /// Creates an event of this number with these arguments.
     Spawn(u16, Vec<Expr>),
     /// A call whose value, if any, is dropped.
     Do(Expr),

@@ -16,8 +16,11 @@ use wave_base::{Host, OutOfMemory, Outcome, Path, Place, Seq, Start};
 /// A context's host, how many jobs entered it, and the last of them, where the first job of the run is 1.
 #[derive(Clone, Copy)]
 pub struct Visit {
+    /// The host where it is.
     pub host: Host,
+    /// How many jobs have entered it.
     pub load: u64,
+    /// The last job that entered it, from 1; 0 where none has.
     pub last: u64,
 }
 

@@ -12,6 +12,7 @@ use wave_base::{CLASS_DEPTH, Class, Kind, OPERATORS, Shape};
 /// What an instruction takes from the stack.
 #[derive(Clone, Copy, Debug)]
 pub enum Takes<'p> {
+    /// It takes nothing.
     Nothing,
     /// A value of any kind.
     Any,
@@ -30,16 +31,22 @@ pub enum Takes<'p> {
 /// What an instruction takes from the stack, and what it gives.
 #[derive(Clone, Copy, Debug)]
 pub struct Asks<'p> {
+    /// What it takes.
     pub takes: Takes<'p>,
+    /// The kind of the value that it puts there, if any.
     pub gives: Option<Kind>,
 }
 
 /// A function that is judged, with its number, in its program.
 #[derive(Clone, Copy)]
 pub struct Judge<'p> {
+    /// The program that it is of.
     pub program: &'p Program,
+    /// The operator table.
     pub operators: &'p OpTable<34>,
+    /// Its place among the program's functions.
     pub number: u16,
+    /// The function.
     pub function: &'p Function,
 }
 

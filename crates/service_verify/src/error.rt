@@ -22,16 +22,22 @@ pub enum Rule {
 /// Why a program is refused: the rule that an instruction breaks, with the numbers of its function and its own.
 #[derive(Clone, Copy, Debug, PartialEq, Eq, Error)]
 pub enum VerifyError {
+    /// The rule on the stack's height.
     #[error("function {function}, instruction {instruction}: the stack's height")]
     Stack { function: u16, instruction: u16 },
+    /// The rule on kinds and classes.
     #[error("function {function}, instruction {instruction}: a kind or a class")]
     Kind { function: u16, instruction: u16 },
+    /// The rule on targets and on what is reached.
     #[error("function {function}, instruction {instruction}: a target or a place that nothing reaches")]
     Jump { function: u16, instruction: u16 },
+    /// The rule on calls and ends.
     #[error("function {function}, instruction {instruction}: a call or an end")]
     Call { function: u16, instruction: u16 },
+    /// The rule on what instructions name by number.
     #[error("function {function}, instruction {instruction}: a local, field, text, level or operator")]
     Field { function: u16, instruction: u16 },
+    /// Memory was wanting, and nothing is said of the program.
     #[error("out of memory")]
     OutOfMemory,
 }
@@ -71,7 +77,9 @@ impl Rule {
 /// A rule that is broken, or want of memory.
 #[derive(Clone, Copy, Debug)]
 pub enum Refusal {
+    /// The rule that an instruction breaks.
     Broken(Rule),
+    /// Memory was wanting.
     OutOfMemory,
 }
 

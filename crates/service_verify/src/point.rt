@@ -11,7 +11,9 @@ use wave_base::{Class, Kind, OutOfMemory};
 /// What the verifier has before an instruction: the class of the context, and the kinds on the stack.
 #[derive(Debug, Drop)]
 pub struct Point {
+    /// The class of the context.
     pub class: Class,
+    /// The kinds of what lies on the stack.
     pub stack: Stack<Kind>,
 }
 

@@ -7,9 +7,13 @@ use wave_base::OutOfMemory;
 /// What is wrong with a line of a snapshot.
 #[derive(Clone, Copy, Debug, PartialEq, Eq)]
 pub enum Fault {
+    /// The line has not the form.
     Syntax,
+    /// The path is none of the service.
     Class,
+    /// The fields are not those of the class, or a value is none of its field's kind or passes a limit.
     Field,
+    /// The path does not come next.
     Order,
 }
 
@@ -29,6 +33,7 @@ pub enum ShotError {
     /// root's.
     #[error("line {line}: a path that does not come next")]
     Order { line: u32 },
+    /// Memory was wanting, and nothing is said of the text.
     #[error("out of memory")]
     OutOfMemory,
 }

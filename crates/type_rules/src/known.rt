@@ -3,9 +3,13 @@ use wave_base::{Kind, Seq, Shape, Txt};
 /// What a call of a method has to know: the class it belongs to, and the kinds that it takes and gives.
 #[derive(Debug, Drop, PartialEq, Eq)]
 pub struct Signature {
+    /// The number of the class that it belongs to.
     pub class: u16,
+    /// Its name.
     pub name: Txt,
+    /// The kinds of its parameters, in order.
     pub params: Seq<Kind>,
+    /// The kind that it returns, if any.
     pub result: Option<Kind>,
 }
 
@@ -13,8 +17,12 @@ pub struct Signature {
 /// it lies in, the root first; and the methods. And the version of the language that it is written in.
 #[derive(Debug, Drop, PartialEq, Eq)]
 pub struct Known {
+    /// The version of the language, 1 or 2.
     pub version: u8,
+    /// The classes and the events.
     pub shape: Shape,
+    /// For each class the numbers of those that it lies in, the root's first.
     pub above: Seq<Seq<u16>>,
+    /// The methods, by which calls name them.
     pub methods: Seq<Signature>,
 }

@@ -15,11 +15,17 @@ use wave_base::{Class, ClassInfo, EventInfo, FieldInfo, OutOfMemory, Seq, Table,
 pub struct Gathered {
     /// The version of the language.
     pub version: u8,
+    /// The classes, the root's first.
     pub classes: Vec<ClassInfo>,
+    /// For each class the numbers of those that it lies in, the root's first.
     pub above: Vec<Seq<u16>>,
+    /// The methods, in text order.
     pub methods: Vec<Signature>,
+    /// The events, in text order.
     pub events: Vec<EventInfo>,
+    /// The numbers of the classes by their names.
     pub class_names: Names,
+    /// The numbers of the events by their names.
     pub event_names: Names,
     /// The methods of each class.
     pub method_names: Vec<Names>,

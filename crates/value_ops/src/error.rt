@@ -7,6 +7,7 @@ pub enum OpError {
     /// The operands make it trap.
     #[error("trap {0:?}")]
     Trap(TrapKind),
+    /// Memory was wanting for the value.
     #[error("out of memory")]
     OutOfMemory,
 }

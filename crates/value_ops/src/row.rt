@@ -7,18 +7,26 @@ use wave_base::{Kind, operator_name};
 /// ones first, and the kind of what it gives.
 #[derive(Clone, Copy, Debug)]
 pub struct OpRow {
+    /// How the code listing names it.
     pub name: &'static [u8],
+    /// Whether a service writes it as a call.
     pub builtin: bool,
+    /// The kinds of its operands, the first ones first; none behind the last.
     pub takes: [Option<Kind>; 3],
+    /// The kind of its value.
     pub gives: Kind,
 }
 
 /// A row as a table keeps it: whose name it has, and the rest as it is.
 #[derive(Clone, Copy, Debug)]
 pub struct KeptRow {
+    /// The row of the operator table whose name it has.
     pub operator: usize,
+    /// Whether a service writes it as a call.
     pub builtin: bool,
+    /// The kinds of its operands, the first ones first; none behind the last.
     pub takes: [Option<Kind>; 3],
+    /// The kind of its value.
     pub gives: Kind,
     ghost known: { operator < OPERATORS },
 }

@@ -10,15 +10,20 @@ use std::alloc::Global;
 /// A call of an event: its number in the shape, its arguments, and its generation.
 #[derive(PartialEq, Eq, Debug, Drop)]
 pub struct Call {
+    /// The event's place in the shape.
     pub event: u16,
+    /// Its arguments, in order.
     pub args: Seq<Value>,
+    /// 0 for a request, and one more for each event that led to it; at most `GENERATION`.
     pub generation: u8,
 }
 
 /// What an event sends out.
 #[derive(PartialEq, Eq, Debug, Drop)]
 pub struct Message {
+    /// What it is called.
     pub label: Txt,
+    /// What it says.
     pub value: Value,
 }
 

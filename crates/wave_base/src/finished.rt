@@ -10,7 +10,9 @@ use std::alloc::Global;
 /// The host of a context.
 #[derive(Clone, Copy, Debug, PartialEq, Eq)]
 pub struct Place {
+    /// The context.
     pub path: Path,
+    /// The host where it is.
     pub host: Host,
 }
 
@@ -19,11 +21,17 @@ pub struct Place {
 /// entered each context.
 #[derive(PartialEq, Eq, Debug, Drop)]
 pub struct Finished {
+    /// What each ticket's job came to, the first ticket's first.
     pub results: Seq<EventResult>,
+    /// For each ticket the tickets of what it created.
     pub made: Seq<Seq<Ticket>>,
+    /// For each ticket its event's place in the shape; none for a move or a snapshot.
     pub names: Seq<Option<u16>>,
+    /// The hosts of all contexts of the last tree, in path order.
     pub places: Seq<Place>,
+    /// The fields of all contexts of the last tree, in path order.
     pub shots: Seq<Shot>,
+    /// How many tickets of this run entered each of these contexts.
     pub loads: Seq<u64>,
 }
 

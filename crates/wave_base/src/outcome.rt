@@ -31,8 +31,11 @@ pub enum Outcome {
 /// What an event leaves behind besides its changes: its outcome, its messages and the calls that it created.
 #[derive(PartialEq, Eq, Debug, Drop)]
 pub struct EventResult {
+    /// How it ended.
     pub outcome: Outcome,
+    /// The messages, in the order in which they were sent; none after a trap.
     pub messages: Seq<Message>,
+    /// The calls, in the order in which they were created; none after a trap.
     pub created: Seq<Call>,
 }
 

@@ -13,7 +13,9 @@ use std::alloc::Global;
 /// What a context keeps: its fields and its children.
 #[derive(PartialEq, Eq, Debug, Drop)]
 pub struct Record {
+    /// The values of its fields, in the order of its class.
     pub fields: Seq<Value>,
+    /// What it keeps of its children.
     pub children: Children,
 }
 

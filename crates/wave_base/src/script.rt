@@ -22,7 +22,9 @@ pub enum Line {
 /// What is to be run: the number of hosts, and the event lines in batches.
 #[derive(PartialEq, Eq, Debug, Drop)]
 pub struct Script {
+    /// The number of hosts, 1 to `HOSTS`.
     pub hosts: u8,
+    /// The event lines, batch by batch, in order; no batch is empty.
     pub batches: Seq<Seq<Line>>,
 }
 

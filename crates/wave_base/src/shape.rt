@@ -11,31 +11,42 @@ use std::alloc::Global;
 /// A field of a class, with the value that it begins with.
 #[derive(PartialEq, Eq, Debug, Drop)]
 pub struct FieldInfo {
+    /// Its name.
     pub name: Txt,
+    /// The kind of its values.
     pub kind: Kind,
+    /// What it begins with.
     pub initial: Value,
 }
 
 /// A class of contexts. The root's has no parent.
 #[derive(PartialEq, Eq, Debug, Drop)]
 pub struct ClassInfo {
+    /// Its name; the service's for the root.
     pub name: Txt,
+    /// The class whose contexts its contexts lie in; none for the root.
     pub parent: Option<Class>,
+    /// Its fields, in text order.
     pub fields: Seq<FieldInfo>,
 }
 
 /// An event of a service.
 #[derive(PartialEq, Eq, Debug, Drop)]
 pub struct EventInfo {
+    /// Its name.
     pub name: Txt,
+    /// The kinds of its parameters, in order.
     pub params: Seq<Kind>,
+    /// The kind that it replies with, if any.
     pub reply: Option<Kind>,
 }
 
 /// What a service declares: its classes, the root first and the others in text order, and its events.
 #[derive(PartialEq, Eq, Debug, Drop)]
 pub struct Shape {
+    /// The classes, the root first and the others in text order.
     pub classes: Seq<ClassInfo>,
+    /// The events, in text order.
     pub events: Seq<EventInfo>,
 }
 

@@ -10,7 +10,9 @@ use std::alloc::Global;
 /// A context with its fields.
 #[derive(PartialEq, Eq, Debug, Drop)]
 pub struct Shot {
+    /// The context.
     pub path: Path,
+    /// The values of its fields, in the order of its class.
     pub fields: Seq<Value>,
 }
 

@@ -6,7 +6,10 @@ use crate::seq::Seq;
 /// result, and the tickets of what it created.
 #[derive(PartialEq, Eq, Debug, Drop)]
 pub struct Shown {
+    /// Its event's place in the shape; none for a move or a snapshot.
     pub name: Option<u16>,
+    /// What its job came to.
     pub result: EventResult,
+    /// The tickets of what it created.
     pub made: Seq<Ticket>,
 }

@@ -14,8 +14,11 @@ use std::alloc::Global;
 /// What a run begins with: a tree with a host for each of its contexts, and the next ticket.
 #[derive(PartialEq, Eq, Debug, Drop)]
 pub struct Start {
+    /// The contexts with their fields, in path order.
     pub shots: Seq<Shot>,
+    /// Their hosts, in path order.
     pub places: Seq<Place>,
+    /// The ticket that is given first.
     pub next: Ticket,
 }
 

@@ -30,6 +30,8 @@ pub enum TrapKind {
 /// A trap with its place in the service text.
 #[derive(Clone, Copy, Debug, PartialEq, Eq)]
 pub struct Trap {
+    /// Why it came.
     pub kind: TrapKind,
+    /// Where in the service text, as the statement or the expression starts there.
     pub at: Span,
 }

@@ -25,6 +25,7 @@ pub enum Line {
     Move { hall: u64, host: u64 },
     /// A pair is taken in the hall.
     Pair { hall: u64 },
+    /// The end of a batch.
     Settle,
     /// So much is bought in the hall, at the stall.
     Buy { hall: u64, stall: u64, count: u64 },

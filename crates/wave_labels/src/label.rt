@@ -13,7 +13,9 @@ use wave_base::{Copied, Host, OutOfMemory, Path, Ticket, Worker};
 /// A mail by the ticket of its event, and its number among the mails of that event, from 1.
 #[derive(Clone, Copy, Debug)]
 pub struct MailId {
+    /// The ticket of the event that sent it.
     pub ticket: Ticket,
+    /// Its number among that event's mails, from 1.
     pub number: u32,
 }
 
@@ -45,8 +47,11 @@ pub enum Act {
 /// An act, with the worker that does it and the host where it is done.
 #[derive(Clone, Copy, Debug)]
 pub struct Label {
+    /// The worker that does it.
     pub worker: Worker,
+    /// The host where it is done.
     pub host: Host,
+    /// What is done.
     pub act: Act,
 }
 

@@ -8,7 +8,9 @@ use wave_base::{Call, EventResult, OutOfMemory, Path, Shape};
 /// Runs the calls of a service's events, each whole, on the tree that it is given.
 #[derive(Clone, Copy)]
 pub struct Evaluator<'s> {
+    /// What the service declares.
     pub shape: &'s Shape,
+    /// Its methods and events, with each name resolved.
     pub service: &'s Resolved,
 }
 
