@@ -7,13 +7,21 @@ use wave_base::OutOfMemory;
 /// Why a script line is refused.
 #[derive(Clone, Copy, Debug, PartialEq, Eq)]
 pub enum Fault {
+    /// The line has none of the forms.
     UnknownCommand,
+    /// No event has that name.
     UnknownEvent,
+    /// The event has more or fewer parameters.
     ArgCount,
+    /// An argument is not of its parameter's kind, does not fit 64 bits, or is too long a text.
     ArgType,
+    /// The path is none of the service.
     BadPath,
+    /// The number of hosts is not from 1 to 8, or a host is not below it.
     HostRange,
+    /// `hosts` behind an event line, a `settle` or another `hosts`.
     HostsLate,
+    /// An event line too many.
     TooMany,
 }
 
@@ -44,6 +52,7 @@ pub enum ScriptError {
     /// An event line too many.
     #[error("line {line}: an event line too many")]
     TooMany { line: u32 },
+    /// Memory was wanting, and nothing is said of the text.
     #[error("out of memory")]
     OutOfMemory,
 }

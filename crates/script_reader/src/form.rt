@@ -7,7 +7,9 @@ use wave_base::Seq;
 pub enum Literal {
     /// An optional `-` and digits.
     Number(Seq<u8>),
+    /// `true` or `false`.
     Truth(bool),
+    /// A text in quotes.
     Text(Quote),
 }
 
@@ -20,6 +22,8 @@ pub enum Form {
     Request(Seq<u8>, Seq<Literal>),
     /// The steps of a path, and the digits of a host.
     Move(Seq<Written>, Seq<u8>),
+    /// A list of all contexts.
     Snapshot,
+    /// The end of a batch.
     Settle,
 }

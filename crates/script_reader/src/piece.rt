@@ -8,7 +8,10 @@ pub enum Piece {
     Run(Seq<u8>),
     /// A text in quotes.
     Text(Quote),
+    /// `(`
     Open,
+    /// `)`
     Close,
+    /// `,`
     Comma,
 }

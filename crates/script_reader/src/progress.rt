@@ -11,11 +11,13 @@ use wave_base::{Line, OutOfMemory, Script, Seq};
 /// How far the reader of a script has come.
 #[derive(Debug, Drop)]
 pub(crate) struct Progress {
+    /// The number of hosts so far.
     pub(crate) hosts: u8,
     /// Whether a line stood there that says something.
     pub(crate) begun: bool,
     /// The number of event lines.
     pub(crate) events: usize,
+    /// The batches that a `settle` has ended.
     pub(crate) closed: Seq<Seq<Line>>,
     /// The event lines since the last `settle`.
     pub(crate) open_lines: Seq<Line>,

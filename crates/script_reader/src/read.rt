@@ -4,7 +4,7 @@ ghost use Rattle.wave_base.specs.Scripts.{IsScript};
 ghost use Rattle.wave_base.specs.Shapes.{IsShape};
 ghost use Rattle.script_reader.specs.Judged.{nothing_earlier, script_earlier};
 ghost use Rattle.script_reader.specs.Scripts.{IsAnswer};
-ghost use Rattle.script_reader.specs.inner.Steps.{IsStep, IsStop};
+ghost use Rattle.script_reader.specs.inner.Steps.{MayRead, IsStep, IsStop};
 
 use crate::earlier::Earlier;
 use crate::error::ScriptError;
@@ -47,11 +47,7 @@ fn read_lines(
     text: &[u8],
     earlier: Earlier,
 ) -> Result<Script, ScriptError>
-    requires shape { IsShape shape.now }
-    requires short { length text.now ≤ PLACED_BYTES }
-    requires some_host { 1 ≤ earlier.hosts }
-    requires few_hosts { earlier.hosts ≤ HOSTS }
-    requires few_lines { earlier.events ≤ EVENT_LINES }
+    requires { MayRead shape.now earlier text.now }
     ensures answer { IsAnswer shape.now earlier text.now result }
     ensures fits { IfOk result (IsScript shape.now) }
 {
@@ -77,11 +73,7 @@ fn read_after(
     text: &[u8],
     earlier: Earlier,
 ) -> Result<Script, ScriptError>
-    requires shape { IsShape shape.now }
-    requires short { length text.now ≤ PLACED_BYTES }
-    requires some_host { 1 ≤ earlier.hosts }
-    requires few_hosts { earlier.hosts ≤ HOSTS }
-    requires few_lines { earlier.events ≤ EVENT_LINES }
+    requires { MayRead shape.now earlier text.now }
     ensures answer { IsAnswer shape.now earlier text.now result }
     ensures fits { IfOk result (IsScript shape.now) }
 {

@@ -9,6 +9,7 @@ use wave_base::OutOfMemory;
 pub enum Refusal {
     /// What is wrong with the line.
     Fault(Fault),
+    /// Memory was wanting, and nothing is said of the line.
     OutOfMemory,
 }
 

@@ -15,6 +15,7 @@ pub enum Said {
     Nothing,
     /// It has none of the forms.
     Unknown,
+    /// It has this form.
     Says(Form),
 }
 

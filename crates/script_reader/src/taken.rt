@@ -7,6 +7,7 @@ pub enum Taken {
     Skipped,
     /// The number of hosts.
     Hosts(u8),
+    /// An event line.
     Event(Line),
     /// The end of a batch.
     Settle,

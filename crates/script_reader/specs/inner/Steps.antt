@@ -1,6 +1,9 @@
--- What one line does to the reader of a script.
-use Rattle.std.specs.Prelude.{◌≡◌, ℕ, List, Ok, Err}
+-- What the reader of a script asks, and what one line does to it.
+use Rattle.std.specs.Prelude.{◌≡◌, ◌≤◌, ℕ, List, length, Ok, Err}
+use Rattle.wave_base.specs.declared.limits.TheConstants.{PLACED_BYTES, HOSTS, EVENT_LINES}
 use Rattle.wave_base.specs.declared.shape.Shape.{Shape}
+use Rattle.wave_base.specs.Shapes.{IsShape}
+use Rattle.script_reader.specs.declared.earlier.Earlier.{Earlier}
 use Rattle.script_reader.specs.declared.error.Fault.{Fault}
 use Rattle.script_reader.specs.declared.error.ScriptError.{ScriptError}
 use Rattle.script_reader.specs.declared.error.ScriptError.TheVariants.{OutOfMemory}
@@ -11,6 +14,14 @@ use Rattle.script_reader.specs.declared.said.Said.{Said}
 use Rattle.script_reader.specs.declared.taken.Taken.{Taken}
 use Rattle.script_reader.specs.inner.Progressed.{with_taken}
 use Rattle.script_reader.specs.Scripts.{IsOnlySaid, judged, refused}
+
+-- a text of a length that can be placed, for a shape, behind what may have been said before
+pub record MayRead (shape : Shape) (earlier : Earlier) (text : List ℕ) : Type 0 where
+  pub is_shape : IsShape shape
+  pub short : length text ≤ PLACED_BYTES
+  pub some_host : 1 ≤ earlier.hosts
+  pub few_hosts : earlier.hosts ≤ HOSTS
+  pub few_lines : earlier.events ≤ EVENT_LINES
 
 -- the line is taken
 pub record IsStep (shape : Shape) (line : List ℕ) (before after : Progress) : Type 0 where
