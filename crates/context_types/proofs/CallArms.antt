@@ -54,7 +54,6 @@ module _ (h : Here) (at : Span) (name : List ℕ) (args : ExprTrees) where
 
 -- a method of a child, once it is known whether there is one
 module _ (h : Here) (at : Span) (method : Option ℕ) (args : ExprTrees) where
-
   pub child_same : (m : ℕ) → method ≡ Some m → first_wrong (asks_of_child h at method args) ≡ first_wrong (args_asks h at (signature_at h.known m).params args)
   child_same m found = ap (λ o. first_wrong (asks_of_child h at o args)) found
 

@@ -37,7 +37,6 @@ use Rattle.host_workers.proofs.Visiting.{Left, left, left_owns, left_same, made_
 use Rattle.host_workers.proofs.Walking.{even_steps, no_halt_steps, own_steps}
 
 module _ (o : Origin) (k : Known Trail) (w : Worker) (ready : IsReady o k w) (y : Board) (meets : Meets history_of owner_of StandsFor o k y) where
-
   module _ (z : Board) (still : StandsStill y z) where
     pub stands_after : StandsFor z o
     stands_after = still o meets.stands_for_name

@@ -36,7 +36,6 @@ at_shown P y y' e p = subst P (sym e) p
 -- the work was shown the board that the visit met, and left the one that the visit left
 module _ (o : Origin) (k : Known Trail) (w : Worker) (y y' : Board) (shows : y' ≡ y) (meets : Meets history_of owner_of StandsFor o k y) where
   module _ (ready : IsReady o k w) where
-
     module _ (z z' : Board) (leaves : z' ≡ z) where
       module _ (told : Attempt (Result Work OutOfMemory)) (met : StandsStill y' z' × HasTaken y' w z' told) where
         taken : StandsStill y z × HasTaken y w z told
@@ -54,7 +53,6 @@ module _ (o : Origin) (k : Known Trail) (w : Worker) (y y' : Board) (shows : y' 
 
     -- where lines are asked for too
     module _ (laws : offering.Laws) (n : ℕ) (there : AreCommitted o k n) where
-
       module _ (z z' : Board) (leaves : z' ≡ z) where
         module _ (told : Attempt (Result Offer OutOfMemory)) (met : StandsStill y' z' × HasFound y' w z' n told) where
           found : StandsStill y z × HasFound y w z n told

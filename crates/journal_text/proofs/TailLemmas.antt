@@ -27,7 +27,6 @@ pub record AreReadTo (shape : Shape) (tail : List ℕ) (before : List Label) (re
   pub only : (others : List Label) (left : List ℕ) → IsParted shape tail others left → AreMore shape before rest others left
 
 module _ (shape : Shape) where
-
   labels-append : (i : ℕ) (xs : List Label) (l : Label) (rest : List ℕ) → labels_text shape i (xs ++ l ∷ []) ++ rest ≡ labels_text shape i xs ++ (line_text shape (i + length xs) l ++ 10 ∷ rest)
   labels-append i [] l rest =
       let same : i + 0 ≡ i = omega arith in

@@ -25,7 +25,6 @@ same_comes o o' (Ok a) st e h = e ∙ h
 same_comes o o' (Err x) st e h = subst (λ o. Fails o x st.world) (sym e) h
 
 module _ (methods : List Method) (f : Phase) (fs : List Phase) (last : Option Last) (p : Path) (st : State) (few : st.world.ticks ≤ TICKS) where
-
   abbrev whole : Outcome (Option Value)
   whole = phases_run (called methods TICKS) TICKS (f ∷ fs) last p st
 

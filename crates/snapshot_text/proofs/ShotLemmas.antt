@@ -128,5 +128,4 @@ module _ (shape : Shape) (names : HasNames shape) where
           let found : Some vs ≡ Some s.fields = values_are (Some vs) of s h in
           let same : vs ≡ s.fields = cc in
           λ i. Some (record { path = same_path s h i; fields = same i })
-
-  -- ---- the line is written just so
+      -- ---- the line is written just so

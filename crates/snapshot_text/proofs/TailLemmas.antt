@@ -41,7 +41,6 @@ no_cons [] ys f = cc
 no_cons (x ∷ xs) ys f = cc
 
 module _ (shape : Shape) where
-
   shots-append : (xs : List Shot) (s : Shot) (rest : List ℕ) → shots_text shape (xs ++ s ∷ []) ++ rest ≡ shots_text shape xs ++ (shot_text shape s ++ 10 ∷ rest)
   shots-append [] s rest = append_assoc (shot_text shape s) (10 ∷ []) rest
   shots-append (x ∷ xs) s rest =
