@@ -17,8 +17,11 @@ use wave_machine::{Machine, Plan};
 /// Who stopped the workers, why, and after how many labels of the journal.
 #[derive(Clone, Copy)]
 pub struct StopWord {
+    /// The worker who stopped them.
     pub worker: Worker,
+    /// Why.
     pub why: StopCause,
+    /// After how many labels.
     pub place: usize,
 }
 

@@ -4,6 +4,8 @@ use wave_base::Pause;
 /// A segment that was run, and is still out: what was leased, and how it paused.
 #[derive(Drop)]
 pub struct End {
+    /// What was leased.
     pub lease: Lease,
+    /// How the segment paused.
     pub pause: Pause,
 }

@@ -6,7 +6,9 @@ use wave_labels::{Act, Label};
 /// What can be done by an idle worker: an act, and the host where it is done.
 #[derive(Clone, Copy, Debug, PartialEq, Eq)]
 pub struct Ready {
+    /// The host, from 0.
     pub host: Host,
+    /// What is done there.
     pub act: Act,
 }
 
