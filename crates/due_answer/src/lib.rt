@@ -10,8 +10,6 @@ mod report;
 mod runs;
 mod script;
 mod service;
-#[cfg(test)]
-mod tests;
 mod told;
 mod traces;
 mod work;

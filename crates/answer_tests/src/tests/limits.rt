@@ -1,8 +1,8 @@
 //! Services at their limits, and one past them.
 
 use super::{accepts, refuses};
-use crate::{Answer, judge};
 use command_words::{Command, Places};
+use due_answer::{Answer, judge};
 use std::alloc::Global;
 use std::process::Abort;
 use std::test::Fail;

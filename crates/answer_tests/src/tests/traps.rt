@@ -1,8 +1,8 @@
 //! Events that trap: a row for each way to a trap, with its place; and what an event that traps leaves behind.
 
 use super::unmarked;
-use crate::judge;
 use command_words::{Command, Places};
+use due_answer::judge;
 use std::alloc::{AllocError, Global};
 use std::process::Abort;
 use std::test::Fail;

@@ -9,8 +9,8 @@ mod second;
 mod traces;
 mod traps;
 
-use crate::{Answer, judge};
 use command_words::Command;
+use due_answer::{Answer, judge};
 use rows::{FINE, Part, ROWS};
 use std::alloc::Global;
 use std::process::Abort;

@@ -1,7 +1,7 @@
 //! Script lines: those that are fine, and what is told of those that aren't.
 
-use crate::{Answer, judge};
 use command_words::{Command, Places};
+use due_answer::{Answer, judge};
 use std::alloc::Global;
 use std::process::Abort;
 use std::test::Fail;

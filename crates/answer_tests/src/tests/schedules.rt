@@ -1,7 +1,7 @@
 //! Scripts run by the machine without threads: whichever rule picks, and however many workers there are, the listing is the same.
 
-use crate::judge;
 use command_words::{Command, Crew, Places, Schedule};
+use due_answer::judge;
 use std::alloc::Global;
 use std::process::Abort;
 use std::test::Fail;

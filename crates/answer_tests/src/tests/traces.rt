@@ -1,8 +1,8 @@
 //! Scripts that are traced: the listing, and behind it the journal of the run.
 
 use super::unmarked;
-use crate::{Answer, judge};
 use command_words::{Command, Crew, Places, Schedule};
+use due_answer::{Answer, judge};
 use std::alloc::Global;
 use std::process::Abort;
 use std::test::Fail;
