@@ -1,12 +1,13 @@
 //! Services at their limits, and one past them.
 
-use super::{accepts, refuses};
+use super::demands::{accepts, refuses};
+use super::{due, has, joined};
 use command_words::{Command, Places};
-use due_answer::{Answer, judge};
+use due_answer::Answer;
 use std::alloc::Global;
 use std::process::Abort;
 use std::test::Fail;
-use wave_base::{INPUT_BYTES, OutOfMemory};
+use wave_base::OutOfMemory;
 use wave_text::put_number;
 
 // A service that holds so many pieces with their numbers, each as `before` NUMBER `after`, between a front and a back.
@@ -18,8 +19,7 @@ fn many(
     back: &[u8],
     count: u64,
 ) -> Result<Vec<u8>, OutOfMemory> {
-    let mut text = Vec::from_slice(alloc, b"service L { ")?;
-    text.extend_from_slice(front)?;
+    let mut text = joined(alloc, &[b"service L { ", front])?;
     for i in 0..count {
         text.extend_from_slice(before)?;
         put_number(alloc, &mut text, i)?;
@@ -51,8 +51,8 @@ fn repeated(
     count: usize,
     back: &[u8],
 ) -> Result<Vec<u8>, OutOfMemory> {
-    let mut text = Vec::from_slice(alloc, front)?;
-    text.extend_from_slice(Vec::from_elem(alloc, byte, count)?.as_slice())?;
+    let bytes = Vec::from_elem(alloc, byte, count)?;
+    let text = joined(alloc, &[front, bytes.as_slice()])?;
     many(alloc, text.as_slice(), b"", b"", back, 0)
 }
 
@@ -79,9 +79,7 @@ fn a_text_in_a_service_has_at_most_200_bytes(rt: HostRuntime) -> Result<(), Fail
 // A service whose event replies a number in so many parentheses.
 fn in_parentheses(alloc: Global, count: usize) -> Result<Vec<u8>, OutOfMemory> {
     let closing = Vec::from_elem(alloc, b')', count)?;
-    let mut back = Vec::from_slice(alloc, b"1")?;
-    back.extend_from_slice(closing.as_slice())?;
-    back.extend_from_slice(b"; }")?;
+    let back = joined(alloc, &[b"1", closing.as_slice(), b"; }"])?;
     repeated(
         alloc,
         b"event e(): int { reply ",
@@ -166,8 +164,8 @@ fn two_thousand_declarations_are_read_and_typed(rt: HostRuntime) -> Result<(), F
 #[test]
 fn a_service_has_at_most_262144_bytes(rt: HostRuntime) -> Result<(), Fail> {
     let alloc = rt.alloc();
-    let mut text = Vec::from_slice(alloc, b"service L { }")?;
-    text.extend_from_slice(Vec::from_elem(alloc, b' ', 262_131)?.as_slice())?;
+    let blanks = Vec::from_elem(alloc, b' ', 262_131)?;
+    let mut text = joined(alloc, &[b"service L { }", blanks.as_slice()])?;
     accepts(&rt, alloc, text.as_slice())?;
     text.push(b' ')?;
     refuses(&rt, alloc, text.as_slice(), b"TooLarge service")?;
@@ -176,10 +174,8 @@ fn a_service_has_at_most_262144_bytes(rt: HostRuntime) -> Result<(), Fail> {
 
 // What is due for a script of a service that says nothing.
 fn scripted(rt: &impl Abort, alloc: Global, script: &[u8]) -> Result<Answer, OutOfMemory> {
-    let mut input = Vec::from_slice(alloc, b"service L { }\n----\n")?;
-    input.extend_from_slice(script)?;
-    assert!(rt; input.len() <= INPUT_BYTES);
-    judge(alloc, Command::Seq(Places::Unlisted), input.as_slice())
+    let input = joined(alloc, &[b"service L { }\n----\n", script])?;
+    due(rt, alloc, Command::Seq(Places::Unlisted), input.as_slice())
 }
 
 #[test]
@@ -187,11 +183,9 @@ fn a_script_has_at_most_1048576_bytes(rt: HostRuntime) -> Result<(), Fail> {
     let alloc = rt.alloc();
     let mut script = Vec::from_elem(alloc, b' ', 1_048_576)?;
     let most = scripted(&rt, alloc, script.as_slice())?;
-    assert_eq!(rt; most.note.as_slice(), b"".as_slice());
-    assert_eq!(rt; most.text.as_slice(), b"done 0\n".as_slice());
+    has(&rt, &most, 0, b"", b"done 0\n");
     script.push(b' ')?;
     let more = scripted(&rt, alloc, script.as_slice())?;
-    assert_eq!(rt; more.note.as_slice(), b"TooLarge script".as_slice());
-    assert_eq!(rt; more.status, 4);
+    has(&rt, &more, 4, b"TooLarge script", b"");
     Ok(())
 }

@@ -1,11 +1,11 @@
 //! Scripts run by the machine without threads: whichever rule picks, and however many workers there are, the listing is the same.
 
+use super::{due, has};
 use command_words::{Command, Crew, Places, Schedule};
-use due_answer::judge;
 use std::alloc::Global;
 use std::process::Abort;
 use std::test::Fail;
-use wave_base::{INPUT_BYTES, OutOfMemory};
+use wave_base::OutOfMemory;
 
 const SCHEDULES: [Schedule; 5] = [
     Schedule::Seed(7),
@@ -17,17 +17,14 @@ const SCHEDULES: [Schedule; 5] = [
 
 // What a script gives by each rule, with one worker and with sixteen.
 fn gives(rt: &impl Abort, alloc: Global, input: &[u8], listing: &[u8]) -> Result<(), OutOfMemory> {
-    assert!(rt; input.len() <= INPUT_BYTES);
     for schedule in &SCHEDULES {
         for workers in [1, 16] {
             let crew = Crew {
                 workers,
                 schedule: Some(*schedule),
             };
-            let answer = judge(alloc, Command::Run(Places::Listed, crew), input)?;
-            assert_eq!(rt; answer.note.as_slice(), b"".as_slice());
-            assert_eq!(rt; answer.text.as_slice(), listing);
-            assert_eq!(rt; answer.status, 0);
+            let answer = due(rt, alloc, Command::Run(Places::Listed, crew), input)?;
+            has(rt, &answer, 0, b"", listing);
         }
     }
     Ok(())

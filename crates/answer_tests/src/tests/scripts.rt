@@ -1,99 +1,94 @@
 //! Script lines: those that are fine, and what is told of those that aren't.
 
+use super::{due, equal, has, joined, rows_of, sides};
 use command_words::{Command, Places};
-use due_answer::{Answer, judge};
+use due_answer::Answer;
 use std::alloc::Global;
 use std::process::Abort;
 use std::test::Fail;
-use wave_base::{INPUT_BYTES, OutOfMemory};
+use wave_base::OutOfMemory;
 
 const FORMS: &[u8] =
     b"service F { context A[int] { context B[int] { } } event i(a: int): int { reply a; } event b(a: bool, t: text): text { reply t; } }\n----\n";
 
-const FINE: [&[u8]; 16] = [
-    b"  request\t i ( 7 )  ",
-    b"request i(007)",
-    b"request i(-0)",
-    b"request b(true,\"a\\\"b\\\\\")",
-    b"request b( false , \"\" )",
-    b"move / to 0",
-    b"move /A[-1]/B[0099] to 00",
-    b"\tsnapshot\t",
-    b" settle",
-    b"# request",
-    b" \t# x",
-    b"",
-    b"hosts 01",
-    b"request i(-9223372036854775808)",
-    b"move /A[-9223372036854775808] to 0",
-    b"request i(1)\r",
-];
+// Each line of it is fine.
+const FINE: &[u8] = b"  request\t i ( 7 )  
+request i(007)
+request i(-0)
+request b(true,\"a\\\"b\\\\\")
+request b( false , \"\" )
+move / to 0
+move /A[-1]/B[0099] to 00
+\tsnapshot\t
+ settle
+# request
+ \t# x
 
-/// A line, and what is told of it.
-type Row = (&'static [u8], &'static [u8]);
+hosts 01
+request i(-9223372036854775808)
+move /A[-9223372036854775808] to 0
+request i(1)\r";
 
-const REFUSED: [Row; 43] = [
-    (b"requesti(1)", b"S1 UnknownCommand"),
-    (b"request i(1) x", b"S1 UnknownCommand"),
-    (b"request i(1,)", b"S1 UnknownCommand"),
-    (b"request i(--1)", b"S1 UnknownCommand"),
-    (b"request i(1x)", b"S1 UnknownCommand"),
-    (b"request i(+1)", b"S1 UnknownCommand"),
-    (b"request b(true,\"a\\n\")", b"S1 UnknownCommand"),
-    (b"request b(true,\"a\tb\")", b"S1 UnknownCommand"),
-    (b"request b(true,\"a)", b"S1 UnknownCommand"),
-    (b"request b(true \"a\")", b"S1 UnknownCommand"),
-    (b"move/A[1] to 0", b"S1 UnknownCommand"),
-    (b"move /A[1]to 0", b"S1 UnknownCommand"),
-    (b"move /A[1] to0", b"S1 UnknownCommand"),
-    (b"move /A[1]/ to 0", b"S1 UnknownCommand"),
-    (b"move /A [1] to 0", b"S1 UnknownCommand"),
-    (b"move A[1] to 0", b"S1 UnknownCommand"),
-    (b"move /A[12345678901234567890] to 0", b"S1 UnknownCommand"),
-    (b"move /A[+1] to 0", b"S1 UnknownCommand"),
-    (b"move // to 0", b"S1 UnknownCommand"),
-    (b"hosts -1", b"S1 UnknownCommand"),
-    (b"hosts", b"S1 UnknownCommand"),
-    (b"hosts 1 # c", b"S1 UnknownCommand"),
-    (b"Settle", b"S1 UnknownCommand"),
-    (b"settle\r\r", b"S1 UnknownCommand"),
-    (b"----", b"S1 UnknownCommand"),
-    (b"request x(1)", b"S2 UnknownEvent"),
-    (b"request A()", b"S2 UnknownEvent"),
-    (b"request i()", b"S3 ArgCount"),
-    (b"request b(1)", b"S3 ArgCount"),
-    (b"request i(true)", b"S4 ArgType"),
-    (b"request i(\"1\")", b"S4 ArgType"),
-    (b"request i(9223372036854775808)", b"S4 ArgType"),
-    (b"request i(-9223372036854775809)", b"S4 ArgType"),
-    (b"request b(99999999999999999999999, \"x\")", b"S4 ArgType"),
-    (b"move /B[1] to 9", b"S5 BadPath"),
-    (b"move /F[1] to 0", b"S5 BadPath"),
-    (b"move /A[1]/A[1] to 0", b"S5 BadPath"),
-    (b"move /A[9223372036854775808] to 0", b"S5 BadPath"),
-    (b"move /A[1] to 1", b"S6 HostRange"),
-    (b"move / to 99999999999999999999999", b"S6 HostRange"),
-    (b"hosts 0", b"S6 HostRange"),
-    (b"hosts 9", b"S6 HostRange"),
-    (b"hosts 18446744073709551617", b"S6 HostRange"),
-];
+// What is told of a line, and the line.
+const REFUSED: &[u8] = b"
+S1 UnknownCommand: requesti(1)
+S1 UnknownCommand: request i(1) x
+S1 UnknownCommand: request i(1,)
+S1 UnknownCommand: request i(--1)
+S1 UnknownCommand: request i(1x)
+S1 UnknownCommand: request i(+1)
+S1 UnknownCommand: request b(true,\"a\\n\")
+S1 UnknownCommand: request b(true,\"a\tb\")
+S1 UnknownCommand: request b(true,\"a)
+S1 UnknownCommand: request b(true \"a\")
+S1 UnknownCommand: move/A[1] to 0
+S1 UnknownCommand: move /A[1]to 0
+S1 UnknownCommand: move /A[1] to0
+S1 UnknownCommand: move /A[1]/ to 0
+S1 UnknownCommand: move /A [1] to 0
+S1 UnknownCommand: move A[1] to 0
+S1 UnknownCommand: move /A[12345678901234567890] to 0
+S1 UnknownCommand: move /A[+1] to 0
+S1 UnknownCommand: move // to 0
+S1 UnknownCommand: hosts -1
+S1 UnknownCommand: hosts
+S1 UnknownCommand: hosts 1 # c
+S1 UnknownCommand: Settle
+S1 UnknownCommand: settle\r\r
+S1 UnknownCommand: ----
+S2 UnknownEvent: request x(1)
+S2 UnknownEvent: request A()
+S3 ArgCount: request i()
+S3 ArgCount: request b(1)
+S4 ArgType: request i(true)
+S4 ArgType: request i(\"1\")
+S4 ArgType: request i(9223372036854775808)
+S4 ArgType: request i(-9223372036854775809)
+S4 ArgType: request b(99999999999999999999999, \"x\")
+S5 BadPath: move /B[1] to 9
+S5 BadPath: move /F[1] to 0
+S5 BadPath: move /A[1]/A[1] to 0
+S5 BadPath: move /A[9223372036854775808] to 0
+S6 HostRange: move /A[1] to 1
+S6 HostRange: move / to 99999999999999999999999
+S6 HostRange: hosts 0
+S6 HostRange: hosts 9
+S6 HostRange: hosts 18446744073709551617
+";
 
-/// What may stand before a line with the number of hosts no longer.
+// What may stand before a line with the number of hosts no longer.
 const EARLIER: [&[u8]; 4] = [b"snapshot", b"settle", b"hosts 2", b"request i(1)"];
 
 // What is due for a script of these pieces.
 fn answered(rt: &impl Abort, alloc: Global, pieces: &[&[u8]]) -> Result<Answer, OutOfMemory> {
-    let mut input = Vec::from_slice(alloc, FORMS)?;
-    for piece in pieces {
-        input.extend_from_slice(piece)?;
-    }
-    assert!(rt; input.len() <= INPUT_BYTES);
-    judge(alloc, Command::Seq(Places::Unlisted), input.as_slice())
+    let script = joined(alloc, pieces)?;
+    let input = joined(alloc, &[FORMS, script.as_slice()])?;
+    due(rt, alloc, Command::Seq(Places::Unlisted), input.as_slice())
 }
 
 fn runs(rt: &impl Abort, alloc: Global, pieces: &[&[u8]]) -> Result<(), OutOfMemory> {
     let answer = answered(rt, alloc, pieces)?;
-    assert_eq!(rt; answer.note.as_slice(), b"".as_slice());
+    equal(rt, answer.note.as_slice(), b"");
     assert_eq!(rt; answer.status, 0);
     Ok(())
 }
@@ -106,11 +101,8 @@ fn refuses(
     line: &[u8],
 ) -> Result<(), OutOfMemory> {
     let answer = answered(rt, alloc, pieces)?;
-    let mut note = Vec::from_slice(alloc, name)?;
-    note.extend_from_slice(line)?;
-    assert_eq!(rt; answer.note.as_slice(), note.as_slice());
-    assert_eq!(rt; answer.text.as_slice(), b"".as_slice());
-    assert_eq!(rt; answer.status, 4);
+    let note = joined(alloc, &[name, line])?;
+    has(rt, &answer, 4, note.as_slice(), b"");
     Ok(())
 }
 
@@ -118,7 +110,7 @@ fn refuses(
 #[test]
 fn each_form_is_read(rt: HostRuntime) -> Result<(), Fail> {
     let alloc = rt.alloc();
-    for line in &FINE {
+    for line in FINE.split(|byte| *byte == b'\n') {
         runs(&rt, alloc, &[line, b"\n"])?;
         runs(&rt, alloc, &[line])?;
     }
@@ -128,7 +120,8 @@ fn each_form_is_read(rt: HostRuntime) -> Result<(), Fail> {
 #[test]
 fn each_fault_of_a_line_is_told(rt: HostRuntime) -> Result<(), Fail> {
     let alloc = rt.alloc();
-    for (line, name) in &REFUSED {
+    for row in rows_of(&rt, alloc, REFUSED)?.as_slice() {
+        let (name, line) = sides(row);
         refuses(&rt, alloc, &[b"# one\n", line, b"\n"], name, b" line 2")?;
     }
     Ok(())
@@ -151,10 +144,8 @@ fn hosts_come_first(rt: HostRuntime) -> Result<(), Fail> {
 
 // A request with a text of so many bytes.
 fn with_text(alloc: Global, count: usize) -> Result<Vec<u8>, OutOfMemory> {
-    let mut line = Vec::from_slice(alloc, b"request b(true,\"")?;
-    line.extend_from_slice(Vec::from_elem(alloc, b'x', count)?.as_slice())?;
-    line.extend_from_slice(b"\")")?;
-    Ok(line)
+    let text = Vec::from_elem(alloc, b'x', count)?;
+    joined(alloc, &[b"request b(true,\"", text.as_slice(), b"\")"])
 }
 
 #[test]

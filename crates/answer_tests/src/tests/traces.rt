@@ -1,12 +1,12 @@
 //! Scripts that are traced: the listing, and behind it the journal of the run.
 
-use super::unmarked;
+use super::{due, equal, has, joined, unmarked};
 use command_words::{Command, Crew, Places, Schedule};
-use due_answer::{Answer, judge};
+use due_answer::Answer;
 use std::alloc::Global;
 use std::process::Abort;
 use std::test::Fail;
-use wave_base::{INPUT_BYTES, OutOfMemory};
+use wave_base::OutOfMemory;
 
 const TICK: &[u8] =
     b"service Tick { var n: int = 0; event hit(): int { here { n = n + 1; } reply n; } }\n----\nrequest hit()\n";
@@ -30,30 +30,34 @@ fn traced(
     schedule: Option<Schedule>,
     input: &[u8],
 ) -> Result<Answer, OutOfMemory> {
-    assert!(rt; input.len() <= INPUT_BYTES);
     let crew = Crew {
         workers: 4,
         schedule,
     };
-    judge(alloc, Command::Trace(places, crew), input)
+    due(rt, alloc, Command::Trace(places, crew), input)
 }
 
-// The journal stands behind this listing.
-fn gives(rt: &impl Abort, answer: &Answer, status: u8, listing: &[u8], journal: &[u8]) {
-    let text = answer.text.as_slice();
-    assert_eq!(rt; text.get(..listing.len()).unwrap_or(b""), listing);
-    assert_eq!(rt; text.get(listing.len()..).unwrap_or(b""), journal);
-    assert_eq!(rt; answer.note.as_slice(), b"".as_slice());
-    assert_eq!(rt; answer.status, status);
+// It gives this listing, and behind it that journal.
+fn gives(
+    rt: &impl Abort,
+    alloc: Global,
+    answer: &Answer,
+    status: u8,
+    listing: &[u8],
+) -> Result<(), OutOfMemory> {
+    let text = joined(alloc, &[listing, SEVEN])?;
+    has(rt, answer, status, b"", text.as_slice());
+    Ok(())
 }
 
 #[test]
 fn the_journal_stands_behind_the_listing(rt: HostRuntime) -> Result<(), Fail> {
+    let alloc = rt.alloc();
     let seed = Some(Schedule::Seed(0));
-    let unlisted = traced(&rt, rt.alloc(), Places::Unlisted, seed, TICK)?;
-    gives(&rt, &unlisted, 0, b"#1 hit = 1\ndone 1\n", SEVEN);
-    let listed = traced(&rt, rt.alloc(), Places::Listed, seed, TICK)?;
-    gives(&rt, &listed, 0, b"#1 hit = 1\nplace / 0\ndone 1\n", SEVEN);
+    let unlisted = traced(&rt, alloc, Places::Unlisted, seed, TICK)?;
+    gives(&rt, alloc, &unlisted, 0, b"#1 hit = 1\ndone 1\n")?;
+    let listed = traced(&rt, alloc, Places::Listed, seed, TICK)?;
+    gives(&rt, alloc, &listed, 0, b"#1 hit = 1\nplace / 0\ndone 1\n")?;
     Ok(())
 }
 
@@ -66,51 +70,46 @@ fn a_trap_is_traced_too(rt: HostRuntime) -> Result<(), Fail> {
         b"service S { event e() { here { ^require 1 < 0; } } }\n----\nrequest e()\n",
     )?;
     assert_eq!(rt; column, 32);
-    let seeded = traced(
-        &rt,
-        alloc,
-        Places::Unlisted,
-        Some(Schedule::Seed(0)),
-        input.as_slice(),
-    )?;
+    let input = input.as_slice();
+    let seed = Some(Schedule::Seed(0));
+    let seeded = traced(&rt, alloc, Places::Unlisted, seed, input)?;
     gives(
         &rt,
+        alloc,
         &seeded,
         1,
         b"#1 e trap Require at 1:32\ndone 1\n",
-        SEVEN,
-    );
-    let free = traced(&rt, alloc, Places::Unlisted, None, input.as_slice())?;
+    )?;
+    let free = traced(&rt, alloc, Places::Unlisted, None, input)?;
     let front = b"#1 e trap Require at 1:32\ndone 1\njournal 7\n".as_slice();
     let text = free.text.as_slice();
-    assert_eq!(rt; text.get(..front.len()).unwrap_or(b""), front);
+    equal(&rt, text.get(..front.len()).unwrap_or(b""), front);
     assert_eq!(rt; text.iter().filter(|byte| **byte == b'\n').count(), 10);
     assert_eq!(rt; free.status, 1);
+    Ok(())
+}
+
+// Whatever picks the run.
+fn refuses(
+    rt: &impl Abort,
+    alloc: Global,
+    input: &[u8],
+    status: u8,
+    note: &[u8],
+) -> Result<(), OutOfMemory> {
+    for schedule in [None, Some(Schedule::Oldest)] {
+        let answer = traced(rt, alloc, Places::Listed, schedule, input)?;
+        has(rt, &answer, status, note, b"");
+    }
     Ok(())
 }
 
 #[test]
 fn a_refusal_has_no_journal(rt: HostRuntime) -> Result<(), Fail> {
     let alloc = rt.alloc();
-    let rows = [
-        (
-            b"service T { event e() { here { } } }\n".as_slice(),
-            3,
-            b"NoScript".as_slice(),
-        ),
-        (
-            b"service T { event e() { here { } } }\n----\nrequest f()\n".as_slice(),
-            4,
-            b"S2 UnknownEvent line 1".as_slice(),
-        ),
-    ];
-    for (input, status, note) in &rows {
-        for schedule in [None, Some(Schedule::Oldest)] {
-            let answer = traced(&rt, alloc, Places::Listed, schedule, input)?;
-            assert_eq!(rt; answer.note.as_slice(), *note);
-            assert_eq!(rt; answer.text.as_slice(), b"".as_slice());
-            assert_eq!(rt; answer.status, *status);
-        }
-    }
+    let alone = b"service T { event e() { here { } } }\n";
+    refuses(&rt, alloc, alone, 3, b"NoScript")?;
+    let unknown = b"service T { event e() { here { } } }\n----\nrequest f()\n";
+    refuses(&rt, alloc, unknown, 4, b"S2 UnknownEvent line 1")?;
     Ok(())
 }

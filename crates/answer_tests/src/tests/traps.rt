@@ -1,102 +1,65 @@
 //! Events that trap: a row for each way to a trap, with its place; and what an event that traps leaves behind.
 
-use super::unmarked;
+use super::{due, has, joined, rows_of, sides, unmarked};
 use command_words::{Command, Places};
-use due_answer::judge;
-use std::alloc::{AllocError, Global};
+use std::alloc::Global;
 use std::process::Abort;
 use std::test::Fail;
-use wave_base::{INPUT_BYTES, OutOfMemory};
+use wave_base::OutOfMemory;
 use wave_text::put_number;
-
-/// The kind that is told, and the phases of an event, where `^` marks the place.
-type Row = (&'static [u8], &'static [u8]);
 
 const FRONT: &[u8] =
     b"service S { var n: int = 5; var m: map = empty; var t: text = \"0123456789\"; context C[int] { var v: int = 0; method set(k: int): int { v = k; return v; } } method one(): int { return 1; } event e() { ";
 
 const BACK: &[u8] = b" } }\n----\nrequest e()\n";
 
-const TRAPS: [Row; 20] = [
-    (b"Overflow", b"here { n = 1 + ^9223372036854775807 * 2; }"),
-    (
-        b"Overflow",
-        b"here { n = 9223372036854775807; n = ^n + one(); }",
-    ),
-    (
-        b"Overflow",
-        b"here { n = 0 - 9223372036854775807 - 1; n = ^-n; }",
-    ),
-    (
-        b"Overflow",
-        b"here { n = 0 - 9223372036854775807 - 1; n = 2 * (1 + ^n / (0 - 1)); }",
-    ),
-    (b"DivZero", b"here { n = 1 + ^n / 0; }"),
-    (b"DivZero", b"here { require 1 < ^n % (n - 5); }"),
-    (b"TooLong", b"here { for i in 0 to 7 { t = ^t + t; } }"),
-    (b"Absent", b"here { n = 1 + ^m[n]; }"),
-    (b"Absent", b"here { m[1] = 1; n = ^key(m, 1); }"),
-    (b"Absent", b"here { t = t + ^part(t, 5, 11); }"),
-    (b"Absent", b"here { t = t + ^part(t, 2, 1); }"),
-    (b"Full", b"here { for i in 0 to 1001 { ^m[i] = i; } }"),
-    (b"Require", b"here { n = 6; ^require n < 6; }"),
-    (b"Ticks", b"here { ^while true { } }"),
-    (b"Ticks", b"here { ^for i in 0 to 100001 { } }"),
-    (
-        b"Ticks",
-        b"here { for i in 0 to 1 { } while true { n = 1 + ^one(); } }",
-    ),
-    (b"Sends", b"here { for i in 0 to 65 { ^send \"m\", i; } }"),
-    (b"Spawns", b"here { for i in 0 to 5 { ^spawn e(); } }"),
-    (
-        b"Reach",
-        b"here { for i in 0 to 256 { n = 1 + ^C[i].set(i); } }",
-    ),
-    (
-        b"Reach",
-        b"here { for i in 0 to 255 { C[i].set(i); } } ^down C[255] { }",
-    ),
-];
+// The kind that is told, and the phases of an event, where `^` marks the place.
+const TRAPS: &[u8] = b"
+Overflow: here { n = 1 + ^9223372036854775807 * 2; }
+Overflow: here { n = 9223372036854775807; n = ^n + one(); }
+Overflow: here { n = 0 - 9223372036854775807 - 1; n = ^-n; }
+Overflow: here { n = 0 - 9223372036854775807 - 1; n = 2 * (1 + ^n / (0 - 1)); }
+DivZero: here { n = 1 + ^n / 0; }
+DivZero: here { require 1 < ^n % (n - 5); }
+TooLong: here { for i in 0 to 7 { t = ^t + t; } }
+Absent: here { n = 1 + ^m[n]; }
+Absent: here { m[1] = 1; n = ^key(m, 1); }
+Absent: here { t = t + ^part(t, 5, 11); }
+Absent: here { t = t + ^part(t, 2, 1); }
+Full: here { for i in 0 to 1001 { ^m[i] = i; } }
+Require: here { n = 6; ^require n < 6; }
+Ticks: here { ^while true { } }
+Ticks: here { ^for i in 0 to 100001 { } }
+Ticks: here { for i in 0 to 1 { } while true { n = 1 + ^one(); } }
+Sends: here { for i in 0 to 65 { ^send \"m\", i; } }
+Spawns: here { for i in 0 to 5 { ^spawn e(); } }
+Reach: here { for i in 0 to 256 { n = 1 + ^C[i].set(i); } }
+Reach: here { for i in 0 to 255 { C[i].set(i); } } ^down C[255] { }
+";
 
 // The part of an event that comes first traps, and what comes later is left out.
-const FIRST: [Row; 9] = [
-    (b"Absent", b"here { n = ^m[0] + 1 / 0; }"),
-    (b"Absent", b"here { n = C[^m[0]].set(1 / 0); }"),
-    (b"Absent", b"here { m[^m[0]] = 1 / 0; }"),
-    (b"DivZero", b"here { C[1].set(^1 / 0); }"),
-    (b"DivZero", b"here { send \"m\", ^1 / 0; }"),
-    (b"DivZero", b"here { for i in ^1 / 0 to m[0] { } }"),
-    (b"DivZero", b"here { } down C[^1 / 0] { v = S.m[0]; }"),
-    (
-        b"Require",
-        b"here { n = 9; ^require false && 1 / 0 == 1 || n < 9; }",
-    ),
-    (
-        b"Overflow",
-        b"here { for i in 0 to 3 { n = i; i = 9; require n != 2 || i == 0 - 1 || ^9223372036854775807 + n < 0; } }",
-    ),
-];
+const FIRST: &[u8] = b"
+Absent: here { n = ^m[0] + 1 / 0; }
+Absent: here { n = C[^m[0]].set(1 / 0); }
+Absent: here { m[^m[0]] = 1 / 0; }
+DivZero: here { C[1].set(^1 / 0); }
+DivZero: here { send \"m\", ^1 / 0; }
+DivZero: here { for i in ^1 / 0 to m[0] { } }
+DivZero: here { } down C[^1 / 0] { v = S.m[0]; }
+Require: here { n = 9; ^require false && 1 / 0 == 1 || n < 9; }
+Overflow: here { for i in 0 to 3 { n = i; i = 9; require n != 2 || i == 0 - 1 || ^9223372036854775807 + n < 0; } }
+";
 
 // What the evaluator gives of a service and a script, one of its events having trapped.
 fn gives(rt: &impl Abort, alloc: Global, input: &[u8], listing: &[u8]) -> Result<(), OutOfMemory> {
-    assert!(rt; input.len() <= INPUT_BYTES);
-    let answer = judge(alloc, Command::Seq(Places::Unlisted), input)?;
-    assert_eq!(rt; answer.note.as_slice(), b"".as_slice());
-    assert_eq!(rt; answer.text.as_slice(), listing);
-    assert_eq!(rt; answer.status, 1);
+    let answer = due(rt, alloc, Command::Seq(Places::Unlisted), input)?;
+    has(rt, &answer, 1, b"", listing);
     Ok(())
 }
 
-fn joined(alloc: Global, pieces: &[&[u8]]) -> Result<Vec<u8>, AllocError> {
-    let mut text = Vec::new(alloc);
-    for piece in pieces {
-        text.extend_from_slice(piece)?;
-    }
-    Ok(text)
-}
-
-fn traps(rt: &impl Abort, alloc: Global, rows: &[Row]) -> Result<(), OutOfMemory> {
-    for (kind, phases) in rows {
+fn traps(rt: &impl Abort, alloc: Global, table: &[u8]) -> Result<(), OutOfMemory> {
+    for row in rows_of(rt, alloc, table)?.as_slice() {
+        let (kind, phases) = sides(row);
         let marked = joined(alloc, &[FRONT, phases, BACK])?;
         let (column, input) = unmarked(alloc, marked.as_slice())?;
         let mut listing = joined(alloc, &[b"#1 e trap ", kind, b" at 1:"])?;
@@ -109,13 +72,13 @@ fn traps(rt: &impl Abort, alloc: Global, rows: &[Row]) -> Result<(), OutOfMemory
 
 #[test]
 fn each_trap_is_told_at_its_place(rt: HostRuntime) -> Result<(), Fail> {
-    traps(&rt, rt.alloc(), &TRAPS)?;
+    traps(&rt, rt.alloc(), TRAPS)?;
     Ok(())
 }
 
 #[test]
 fn what_comes_first_traps(rt: HostRuntime) -> Result<(), Fail> {
-    traps(&rt, rt.alloc(), &FIRST)?;
+    traps(&rt, rt.alloc(), FIRST)?;
     Ok(())
 }
 
