@@ -3,9 +3,15 @@
 #![tactic(auto)]
 
 #[cfg(test)]
+mod base;
+#[cfg(test)]
 mod cells;
 #[cfg(test)]
 mod lexer;
+#[cfg(test)]
+mod listing;
+#[cfg(test)]
+mod nodes;
 #[cfg(test)]
 mod scripts;
 #[cfg(test)]
