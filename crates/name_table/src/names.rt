@@ -1,4 +1,4 @@
-ghost use Rattle.std.specs.Prelude.{◌≡◌, [], OnOk};
+ghost use Rattle.std.specs.Prelude.{◌≡◌, [], OnOk, OnErr};
 ghost use Rattle.name_table.specs.Numbers.{first_number, noted};
 
 use indexmap::IndexMap;
@@ -38,9 +38,10 @@ impl Names {
         self.numbers.get(name).copied()
     }
 
-    /// Notes a number for a name.
+    /// Notes a number for a name. Where memory is wanting, nothing has changed.
     pub fn note(&mut self, alloc: Global, name: &[u8], number: u16) -> Result<(), OutOfMemory>
-        ensures { OnOk result (self.new ≡ noted self.old name.now number) }
+        ensures ok { OnOk result (self.new ≡ noted self.old name.now number) }
+        ensures err { OnErr result (self.new ≡ self.old) }
     {
         if self.first(name).is_none() {
             let name = Vec::from_slice(alloc, name)?;

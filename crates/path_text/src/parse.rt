@@ -1,11 +1,12 @@
 ghost use Rattle.wave_base.specs.Shapes.{IsShape};
 ghost use Rattle.path_text.specs.Verdicts.{IsOnlyVerdict};
 
+use crate::classes::ChildClasses;
 use crate::resolve::resolve_steps;
 use crate::written::written_steps;
 use std::alloc::Global;
 use thiserror::Error;
-use wave_base::{Path, Shape};
+use wave_base::Path;
 
 /// Why a text is no path of a shape.
 #[derive(Clone, Copy, Debug, PartialEq, Eq, Error)]
@@ -22,16 +23,20 @@ pub enum PathError {
 }
 
 /// The path that a text stands for.
-pub fn parse_path(alloc: Global, shape: &Shape, text: &[u8]) -> Result<Path, PathError>
-    requires { IsShape shape.now }
-    ensures { IsOnlyVerdict shape.now text.now result }
+pub fn parse_path<C: ChildClasses>(
+    alloc: Global,
+    classes: &C,
+    text: &[u8],
+) -> Result<Path, PathError>
+    requires { IsShape (C.shape classes.now) }
+    ensures { IsOnlyVerdict (C.shape classes.now) text.now result }
 {
     let steps = match written_steps(alloc, text) {
         Ok(Some(steps)) => steps,
         Ok(None) => return Err(PathError::Syntax),
         Err(_) => return Err(PathError::OutOfMemory),
     };
-    match resolve_steps(shape, steps.as_slice()) {
+    match resolve_steps(classes, steps.as_slice()) {
         Some(path) => Ok(path),
         None => Err(PathError::UnknownClass),
     }

@@ -11,4 +11,4 @@ returns c =
     let names = c.index_mut-names.ensures.value ∙ get_or_default c.args.self.now.method_names.items c.args.class c.index_mut-names.result.now [] there in
     method_gained _ _ c.requires.gathered c.in_ok-signature.signature _ c.args.class c.args.m.now.name.text c.in_ok-signature.ensures (ap (λ s. s.class) c.in_ok-signature.ensures) (ap (λ s. s.name) c.in_ok-signature.ensures)
     c.requires.there (subst (λ n. n + 1 < 65536) number c.in_ok-method.ensures.room) refl refl refl c.in_ok-push.ensures.items refl refl refl
-    (ap (set c.args.self.now.method_names.items c.args.class) (c.in_ok-note.ensures ∙ (λ i. noted (names i) (c.bytes.ensures.bytes i) (number i))))
+    (ap (set c.args.self.now.method_names.items c.args.class) (c.in_ok-note.ensures.ok ∙ (λ i. noted (names i) (c.bytes.ensures.bytes i) (number i))))
