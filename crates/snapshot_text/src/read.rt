@@ -23,11 +23,7 @@ fn add(shots: &mut Seq<Shot>, shot: Shot) -> Result<(), OutOfMemory>
 }
 
 // The shots of the lines behind a head, or the first of these lines that has a fault.
-fn read_shots(
-    alloc: Global,
-    classes: &ClassNames<'_>,
-    tail: &[u8],
-) -> Result<Seq<Shot>, ShotError>
+fn read_shots(alloc: Global, classes: &ClassNames<'_>, tail: &[u8]) -> Result<Seq<Shot>, ShotError>
     requires shape { IsShape classes.now }
     requires names { HasNames classes.now }
     requires short { length tail.now ≤ PLACED_BYTES }

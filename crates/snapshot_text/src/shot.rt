@@ -41,7 +41,11 @@ fn values_of(
 }
 
 // The path that a text is written for.
-fn path_of(alloc: Global, classes: &ClassNames<'_>, text: &[u8]) -> Result<Option<Path>, OutOfMemory>
+fn path_of(
+    alloc: Global,
+    classes: &ClassNames<'_>,
+    text: &[u8],
+) -> Result<Option<Path>, OutOfMemory>
     requires shape { IsShape classes.now }
     requires names { HasNames classes.now }
     ensures only { IfOk result (IsPathOf classes.now text.now) }
@@ -56,7 +60,11 @@ fn path_of(alloc: Global, classes: &ClassNames<'_>, text: &[u8]) -> Result<Optio
 }
 
 // The one shot that a line can be written for.
-fn shot_in(alloc: Global, classes: &ClassNames<'_>, line: &[u8]) -> Result<Option<Shot>, OutOfMemory>
+fn shot_in(
+    alloc: Global,
+    classes: &ClassNames<'_>,
+    line: &[u8],
+) -> Result<Option<Shot>, OutOfMemory>
     requires shape { IsShape classes.now }
     requires names { HasNames classes.now }
     ensures only { IfOk result (IsShotOf classes.now line.now) }

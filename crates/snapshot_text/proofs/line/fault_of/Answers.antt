@@ -1,4 +1,4 @@
-use Rattle.std.proofs.Common.{◌≡◌, true, Some, None, IfSome, IfNone, sym, ap, subst, ◌∙◌}
+use Rattle.std.proofs.Common.{IfSome, IfNone, sym, ap, subst, ◌∙◌}
 use Rattle.std.specs.List.{list_all}
 use Rattle.path_text.specs.Paths.{path_of}
 use Rattle.path_text.specs.Steps.{is_step}

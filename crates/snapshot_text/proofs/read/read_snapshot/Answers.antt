@@ -1,4 +1,4 @@
-use Rattle.std.proofs.Common.{[], IfSome, IfNone, length, ap, sym, subst, arith}
+use Rattle.std.proofs.Common.{IfSome, IfNone, length, ap, sym, subst, arith}
 use Rattle.std.proofs.lemmas.Bool.Decides.{nat_tests}
 use Rattle.path_text.proofs.StepLemmas.{is_nil}
 use Rattle.std.specs.Prelude.{codes}
