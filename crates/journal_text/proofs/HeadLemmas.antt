@@ -1,24 +1,15 @@
 -- The head of a journal, and the number of lines behind it.
-use Rattle.std.proofs.Common.{◌≡◌, ◌+◌, ◌<◌, ◌≤◌, ◌^◌, ℕ, Bool, true, false, cond, List, [], ◌∷◌, ◌++◌, length, All, refl, sym, ap, subst, ◌∙◌, length-append, lit<, arith}
-use Rattle.std.specs.Prelude.{◌==◌, not, codes, count_by}
-use Rattle.std.specs.Fmt.{decimal}
-use Rattle.std.specs.List.{list_all}
-use Rattle.std.proofs.lemmas.Bool.{and_parts}
+use Rattle.std.proofs.Common.{◌≡◌, ◌+◌, ◌<◌, ◌≤◌, ◌^◌, ℕ, List, [], ◌∷◌, length, All, refl, length-append, arith}
 use Rattle.std.proofs.lemmas.List.Elements.{All-head, All-tail}
-use Rattle.std.proofs.lemmas.List.Sums.{sum_by-cons, sum_by-append, count_by-le-length}
 use Rattle.wave_base.specs.declared.shape.Shape.{Shape}
 use Rattle.wave_base.specs.Names.{HasNames}
 use Rattle.wave_labels.specs.declared.label.Label.{Label}
-use Rattle.wave_text.specs.Splits.{is_other, HasNone, IsSplit}
-use Rattle.wave_text.proofs.SplitLemmas.{one_split, none-append}
 use Rattle.journal_text.specs.Fits.{IsLabel}
 use Rattle.wave_text.specs.Counted.{line_count}
 use Rattle.wave_text.proofs.CountedLemmas.{line_more}
-use Rattle.journal_text.specs.JournalTexts.{head_text, labels_text}
+use Rattle.journal_text.specs.JournalTexts.{labels_text}
 use Rattle.journal_text.specs.LabelTexts.{line_text}
-use Rattle.journal_text.specs.Verdicts.{HasNoHead}
 use Rattle.journal_text.proofs.LineLemmas.{line_has_none}
-use Rattle.journal_text.proofs.SolidLemmas.{solid_has_none, decimal_solid}
 
 module _ (shape : Shape) (names : HasNames shape) where
   pub labels_many : (i : ℕ) (ls : List Label) → length ls ≤ length (labels_text shape i ls)

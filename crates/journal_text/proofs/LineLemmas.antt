@@ -1,15 +1,12 @@
 -- Lines of labels have no line feed in them, so that a text has one line at its front.
 use Rattle.std.proofs.Common.{◌≡◌, ◌<◌, ◌^◌, ℕ, List, [], ◌∷◌, ◌++◌, refl, sym, subst, ◌∙◌, lit<, arith}
-use Rattle.std.specs.Prelude.{◌&&◌}
 use Rattle.std.specs.Fmt.{decimal}
-use Rattle.std.specs.List.{list_all}
-use Rattle.std.proofs.lemmas.Bool.{and_parts}
 use Rattle.wave_base.specs.declared.shape.Shape.{Shape}
 use Rattle.wave_base.specs.Names.{HasNames}
 use Rattle.wave_labels.specs.declared.label.Act.{Act}
 use Rattle.wave_labels.specs.declared.label.Act.TheVariants as act
 use Rattle.wave_labels.specs.declared.label.Label.{Label}
-use Rattle.wave_text.specs.Splits.{is_other, HasNone, IsSplit}
+use Rattle.wave_text.specs.Splits.{HasNone, IsSplit}
 use Rattle.wave_text.proofs.SplitLemmas.{none-append, one_split, nowhere}
 use Rattle.journal_text.specs.Fits.{HasPath, HasNumbers, IsLabel}
 use Rattle.journal_text.specs.LabelTexts.{spaced, act_words, label_words, line_text}

@@ -1,7 +1,6 @@
 -- The first word of a line.
-use Rattle.std.proofs.Common.{◌≡◌, ℕ, List, [], ◌∷◌, Option, Some, Result, Ok, Err, IfOk, refl, sym, subst, ◌∙◌}
-use Rattle.wave_text.specs.Splits.{HasNone, IsSplit, ArePartsAt}
-use Rattle.wave_text.proofs.SplitLemmas.{one_split, nowhere}
+use Rattle.std.proofs.Common.{◌≡◌, ℕ, List, [], ◌∷◌, Option, Some, Result, Ok, Err, IfOk, sym, subst, ◌∙◌}
+use Rattle.wave_text.specs.Splits.{HasNone, ArePartsAt}
 use Rattle.journal_text.specs.LabelTexts.{spaced}
 use Rattle.journal_text.specs.inner.Parts.{IsWordOf}
 

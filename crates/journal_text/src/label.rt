@@ -8,20 +8,21 @@ use crate::number::marked_byte;
 use crate::operands::act_with;
 use crate::verb::verb_of;
 use crate::word::word_of;
+use path_text::ClassNames;
 use std::alloc::Global;
-use wave_base::{Host, OutOfMemory, Shape, Worker};
+use wave_base::{Host, OutOfMemory, Worker};
 use wave_labels::{Act, Label};
 
 // The act that a text is written for.
-fn act_of(alloc: Global, shape: &Shape, text: &[u8]) -> Result<Option<Act>, OutOfMemory>
-    requires shape { IsShape shape.now }
-    requires names { HasNames shape.now }
-    ensures only { IfOk result (IsActOf shape.now text.now) }
-    ensures of_shape { IfOk result (λ o. IfSome o (HasPath shape.now)) }
+fn act_of(alloc: Global, classes: &ClassNames<'_>, text: &[u8]) -> Result<Option<Act>, OutOfMemory>
+    requires shape { IsShape classes.now }
+    requires names { HasNames classes.now }
+    ensures only { IfOk result (IsActOf classes.now text.now) }
+    ensures of_shape { IfOk result (λ o. IfSome o (HasPath classes.now)) }
 {
     let (word, rest) = word_of(text);
     match verb_of(word) {
-        Some(verb) => act_with(alloc, shape, verb, rest),
+        Some(verb) => act_with(alloc, classes, verb, rest),
         None => Ok(None),
     }
 }
@@ -29,13 +30,13 @@ fn act_of(alloc: Global, shape: &Shape, text: &[u8]) -> Result<Option<Act>, OutO
 /// The one label that a line can be written for, whatever number it has.
 pub(crate) fn label_of(
     alloc: Global,
-    shape: &Shape,
+    classes: &ClassNames<'_>,
     line: &[u8],
 ) -> Result<Option<Label>, OutOfMemory>
-    requires shape { IsShape shape.now }
-    requires names { HasNames shape.now }
-    ensures only { IfOk result (IsLabelOf shape.now line.now) }
-    ensures of_shape { IfOk result (λ o. IfSome o (λ l. HasPath shape.now l.act)) }
+    requires shape { IsShape classes.now }
+    requires names { HasNames classes.now }
+    ensures only { IfOk result (IsLabelOf classes.now line.now) }
+    ensures of_shape { IfOk result (λ o. IfSome o (λ l. HasPath classes.now l.act)) }
 {
     let (_, rest) = word_of(line);
     let (worker, rest) = word_of(rest);
@@ -46,7 +47,7 @@ pub(crate) fn label_of(
     let Some(host) = marked_byte(host) else {
         return Ok(None);
     };
-    match act_of(alloc, shape, rest)? {
+    match act_of(alloc, classes, rest)? {
         Some(act) => Ok(Some(Label {
             worker: Worker(worker),
             host: Host(host),

@@ -8,19 +8,23 @@ ghost use Rattle.journal_text.specs.inner.Parts.{IsPathOf, IsTicketAtOf, IsMailA
 use crate::number::{byte_of, mail_of, ticket_of};
 use crate::verb::Verb;
 use crate::word::word_of;
-use path_text::{PathError, parse_path};
+use path_text::{ClassNames, PathError, parse_path};
 use std::alloc::Global;
-use wave_base::{Host, OutOfMemory, Path, Shape, Ticket};
+use wave_base::{Host, OutOfMemory, Path, Ticket};
 use wave_labels::{Act, MailId};
 
 // The path that a text is written for.
-fn path_of(alloc: Global, shape: &Shape, text: &[u8]) -> Result<Option<Path>, OutOfMemory>
-    requires shape { IsShape shape.now }
-    requires names { HasNames shape.now }
-    ensures only { IfOk result (IsPathOf shape.now text.now) }
-    ensures of_shape { IfOk result (λ o. IfSome o (λ p. is_path shape.now p ≡ true)) }
+fn path_of(
+    alloc: Global,
+    classes: &ClassNames<'_>,
+    text: &[u8],
+) -> Result<Option<Path>, OutOfMemory>
+    requires shape { IsShape classes.now }
+    requires names { HasNames classes.now }
+    ensures only { IfOk result (IsPathOf classes.now text.now) }
+    ensures of_shape { IfOk result (λ o. IfSome o (λ p. is_path classes.now p ≡ true)) }
 {
-    match parse_path(alloc, shape, text) {
+    match parse_path(alloc, classes, text) {
         Ok(path) => Ok(Some(path)),
         Err(PathError::Syntax) => Ok(None),
         Err(PathError::UnknownClass) => Ok(None),
@@ -31,49 +35,53 @@ fn path_of(alloc: Global, shape: &Shape, text: &[u8]) -> Result<Option<Path>, Ou
 // A ticket and a path.
 fn ticket_at(
     alloc: Global,
-    shape: &Shape,
+    classes: &ClassNames<'_>,
     text: &[u8],
 ) -> Result<Option<(Ticket, Path)>, OutOfMemory>
-    requires shape { IsShape shape.now }
-    requires names { HasNames shape.now }
-    ensures only { IfOk result (IsTicketAtOf shape.now text.now) }
-    ensures of_shape { IfOk result (λ o. IfSome o (λ x. is_path shape.now x.1 ≡ true)) }
+    requires shape { IsShape classes.now }
+    requires names { HasNames classes.now }
+    ensures only { IfOk result (IsTicketAtOf classes.now text.now) }
+    ensures of_shape { IfOk result (λ o. IfSome o (λ x. is_path classes.now x.1 ≡ true)) }
 {
     let (ticket, rest) = word_of(text);
     let (path, _) = word_of(rest);
     let Some(ticket) = ticket_of(ticket) else {
         return Ok(None);
     };
-    match path_of(alloc, shape, path)? {
+    match path_of(alloc, classes, path)? {
         Some(path) => Ok(Some((ticket, path))),
         None => Ok(None),
     }
 }
 
 // A mail and a path.
-fn mail_at(alloc: Global, shape: &Shape, text: &[u8]) -> Result<Option<(MailId, Path)>, OutOfMemory>
-    requires shape { IsShape shape.now }
-    requires names { HasNames shape.now }
-    ensures only { IfOk result (IsMailAtOf shape.now text.now) }
-    ensures of_shape { IfOk result (λ o. IfSome o (λ x. is_path shape.now x.1 ≡ true)) }
+fn mail_at(
+    alloc: Global,
+    classes: &ClassNames<'_>,
+    text: &[u8],
+) -> Result<Option<(MailId, Path)>, OutOfMemory>
+    requires shape { IsShape classes.now }
+    requires names { HasNames classes.now }
+    ensures only { IfOk result (IsMailAtOf classes.now text.now) }
+    ensures of_shape { IfOk result (λ o. IfSome o (λ x. is_path classes.now x.1 ≡ true)) }
 {
     let (mail, rest) = word_of(text);
     let (path, _) = word_of(rest);
     let Some(mail) = mail_of(mail) else {
         return Ok(None);
     };
-    match path_of(alloc, shape, path)? {
+    match path_of(alloc, classes, path)? {
         Some(path) => Ok(Some((mail, path))),
         None => Ok(None),
     }
 }
 
 // A mail, a path, and a host behind the word `to`.
-fn pass_in(alloc: Global, shape: &Shape, text: &[u8]) -> Result<Option<Act>, OutOfMemory>
-    requires shape { IsShape shape.now }
-    requires names { HasNames shape.now }
-    ensures only { IfOk result (IsOperandsOf shape.now Pass text.now) }
-    ensures of_shape { IfOk result (λ o. IfSome o (HasPath shape.now)) }
+fn pass_in(alloc: Global, classes: &ClassNames<'_>, text: &[u8]) -> Result<Option<Act>, OutOfMemory>
+    requires shape { IsShape classes.now }
+    requires names { HasNames classes.now }
+    ensures only { IfOk result (IsOperandsOf classes.now Pass text.now) }
+    ensures of_shape { IfOk result (λ o. IfSome o (HasPath classes.now)) }
 {
     let (mail, rest) = word_of(text);
     let (path, rest) = word_of(rest);
@@ -84,7 +92,7 @@ fn pass_in(alloc: Global, shape: &Shape, text: &[u8]) -> Result<Option<Act>, Out
     let Some(host) = byte_of(host) else {
         return Ok(None);
     };
-    match path_of(alloc, shape, path)? {
+    match path_of(alloc, classes, path)? {
         Some(path) => Ok(Some(Act::Pass(mail, path, Host(host)))),
         None => Ok(None),
     }
@@ -93,25 +101,25 @@ fn pass_in(alloc: Global, shape: &Shape, text: &[u8]) -> Result<Option<Act>, Out
 /// The act of a word with what stands behind it.
 pub(crate) fn act_with(
     alloc: Global,
-    shape: &Shape,
+    classes: &ClassNames<'_>,
     verb: Verb,
     text: &[u8],
 ) -> Result<Option<Act>, OutOfMemory>
-    requires shape { IsShape shape.now }
-    requires names { HasNames shape.now }
-    ensures only { IfOk result (IsOperandsOf shape.now verb text.now) }
-    ensures of_shape { IfOk result (λ o. IfSome o (HasPath shape.now)) }
+    requires shape { IsShape classes.now }
+    requires names { HasNames classes.now }
+    ensures only { IfOk result (IsOperandsOf classes.now verb text.now) }
+    ensures of_shape { IfOk result (λ o. IfSome o (HasPath classes.now)) }
 {
     match verb {
         Verb::Admit => Ok(ticket_of(text).map(Act::Admit)),
         Verb::Commit => Ok(ticket_of(text).map(Act::Commit)),
-        Verb::Grant => Ok(ticket_at(alloc, shape, text)?.map(|(t, p)| Act::Grant(t, p))),
-        Verb::Start => Ok(ticket_at(alloc, shape, text)?.map(|(t, p)| Act::Start(t, p))),
-        Verb::Stop => Ok(ticket_at(alloc, shape, text)?.map(|(t, p)| Act::Stop(t, p))),
-        Verb::Queue => Ok(mail_at(alloc, shape, text)?.map(|(m, p)| Act::Queue(m, p))),
-        Verb::Visit => Ok(mail_at(alloc, shape, text)?.map(|(m, p)| Act::Visit(m, p))),
-        Verb::Free => Ok(mail_at(alloc, shape, text)?.map(|(m, p)| Act::Free(m, p))),
-        Verb::Land => Ok(mail_at(alloc, shape, text)?.map(|(m, p)| Act::Land(m, p))),
-        Verb::Pass => pass_in(alloc, shape, text),
+        Verb::Grant => Ok(ticket_at(alloc, classes, text)?.map(|(t, p)| Act::Grant(t, p))),
+        Verb::Start => Ok(ticket_at(alloc, classes, text)?.map(|(t, p)| Act::Start(t, p))),
+        Verb::Stop => Ok(ticket_at(alloc, classes, text)?.map(|(t, p)| Act::Stop(t, p))),
+        Verb::Queue => Ok(mail_at(alloc, classes, text)?.map(|(m, p)| Act::Queue(m, p))),
+        Verb::Visit => Ok(mail_at(alloc, classes, text)?.map(|(m, p)| Act::Visit(m, p))),
+        Verb::Free => Ok(mail_at(alloc, classes, text)?.map(|(m, p)| Act::Free(m, p))),
+        Verb::Land => Ok(mail_at(alloc, classes, text)?.map(|(m, p)| Act::Land(m, p))),
+        Verb::Pass => pass_in(alloc, classes, text),
     }
 }

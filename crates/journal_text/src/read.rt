@@ -7,6 +7,7 @@ ghost use Rattle.journal_text.specs.inner.Tails.{AreRead};
 
 use crate::error::JournalError;
 use crate::line::read_line;
+use path_text::ClassNames;
 use std::alloc::Global;
 use wave_base::{OutOfMemory, Seq, Shape};
 use wave_labels::Label;
@@ -24,11 +25,15 @@ fn add(labels: &mut Seq<Label>, label: Label) -> Result<(), OutOfMemory>
 }
 
 // The labels of the lines behind a head, or the first of these lines that is none.
-fn read_labels(alloc: Global, shape: &Shape, tail: &[u8]) -> Result<Seq<Label>, JournalError>
-    requires shape { IsShape shape.now }
-    requires names { HasNames shape.now }
+fn read_labels(
+    alloc: Global,
+    classes: &ClassNames<'_>,
+    tail: &[u8],
+) -> Result<Seq<Label>, JournalError>
+    requires shape { IsShape classes.now }
+    requires names { HasNames classes.now }
     requires short { length tail.now ≤ PLACED_BYTES }
-    ensures { AreRead shape.now tail.now result }
+    ensures { AreRead classes.now tail.now result }
 {
     let mut labels = Seq::new(alloc);
     let mut number = 1u32;
@@ -37,7 +42,7 @@ fn read_labels(alloc: Global, shape: &Shape, tail: &[u8]) -> Result<Seq<Label>, 
         let Some((line, after)) = split_at(rest, b'\n') else {
             return Err(JournalError::Syntax { line: number + 1 });
         };
-        let Some(Label { worker, host, act }) = read_line(alloc, shape, u64::from(number), line)?
+        let Some(Label { worker, host, act }) = read_line(alloc, classes, u64::from(number), line)?
         else {
             return Err(JournalError::Syntax { line: number + 1 });
         };
@@ -58,5 +63,6 @@ pub fn read_journal(alloc: Global, shape: &Shape, text: &[u8]) -> Result<Seq<Lab
     let Some(tail) = behind_head(alloc, b"journal ", text)? else {
         return Err(JournalError::Syntax { line: 1 });
     };
-    read_labels(alloc, shape, tail)
+    let classes = ClassNames::of(alloc, shape)?;
+    read_labels(alloc, &classes, tail)
 }

@@ -1,8 +1,7 @@
 -- A path that was read fits its shape, and the fields of a class have words as names.
-use Rattle.std.proofs.Common.{◌≡◌, ◌<◌, ◌≤◌, ◌^◌, ℕ, zero, suc, ℤ, pos, negsuc, true, false, cond, List, [], ◌∷◌, length, map, slice_get, Option, Some, None, All, FitsSigned, w64, refl, sym, ap, subst, ◌∙◌, arith}
+use Rattle.std.proofs.Common.{◌≡◌, ◌<◌, ◌≤◌, ◌^◌, ℕ, zero, suc, ℤ, pos, true, false, cond, List, [], ◌∷◌, length, map, slice_get, Some, None, All, FitsSigned, w64, refl, sym, ap, subst, ◌∙◌, arith}
 use Rattle.std.specs.Prelude.{◌==◌, ◌&&◌, nat_le, nat_lt, neg_ℤ, option_map}
 use Rattle.std.specs.List.{list_all}
-use Rattle.std.specs.Option.{option_and_then}
 use Rattle.std.proofs.lemmas.Bool.{and_parts}
 use Rattle.std.proofs.lemmas.Bool.Decides.{nat_tests}
 use Rattle.std.proofs.lemmas.List.Elements.{All-nil, All-cons, All-head, All-tail}
@@ -11,7 +10,7 @@ use Rattle.wave_base.specs.declared.path.Step.{Step}
 use Rattle.wave_base.specs.declared.shape.ClassInfo.{ClassInfo}
 use Rattle.wave_base.specs.declared.shape.Shape.{Shape}
 use Rattle.wave_base.specs.Names.{HasNames, AreNames, is_word, is_name}
-use Rattle.wave_base.specs.Shapes.{fields_in, declared_fields, is_path}
+use Rattle.wave_base.specs.Shapes.{fields_in, declared_fields}
 use Rattle.wave_text.specs.Numbers.{number_of, positive, negative, whole_of}
 use Rattle.path_text.specs.declared.written.Written.{Written}
 use Rattle.path_text.specs.Paths.{child_class, step_with, step_below, steps_below, path_of}

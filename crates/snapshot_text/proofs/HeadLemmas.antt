@@ -1,20 +1,14 @@
 -- The head of a snapshot, and the number of lines behind it.
-use Rattle.std.proofs.Common.{◌≡◌, ◌+◌, ◌<◌, ◌≤◌, ◌^◌, ℕ, List, [], ◌∷◌, ◌++◌, length, All, refl, sym, ap, subst, ◌∙◌, length-append, lit<, arith}
-use Rattle.std.specs.Prelude.{codes}
-use Rattle.std.specs.Fmt.{decimal}
+use Rattle.std.proofs.Common.{◌≡◌, List, [], ◌∷◌, length, All, refl, arith}
 use Rattle.std.proofs.lemmas.List.Elements.{All-head, All-tail}
 use Rattle.wave_base.specs.declared.shape.Shape.{Shape}
 use Rattle.wave_base.specs.declared.shot.Shot.{Shot}
 use Rattle.wave_base.specs.Names.{HasNames}
-use Rattle.wave_text.specs.Splits.{HasNone, IsSplit}
 use Rattle.path_text.specs.ShotTexts.{shot_text}
-use Rattle.wave_text.proofs.SplitLemmas.{one_split, nowhere, none-append}
 use Rattle.wave_text.specs.Counted.{line_count}
-use Rattle.wave_text.proofs.CountedLemmas.{few_lines, line_more}
-use Rattle.journal_text.proofs.SolidLemmas.{solid_has_none, decimal_solid}
+use Rattle.wave_text.proofs.CountedLemmas.{line_more}
 use Rattle.snapshot_text.specs.Shots.{IsShot}
-use Rattle.snapshot_text.specs.SnapshotTexts.{head_text, shots_text}
-use Rattle.snapshot_text.specs.Verdicts.{HasNoHead}
+use Rattle.snapshot_text.specs.SnapshotTexts.{shots_text}
 use Rattle.snapshot_text.proofs.ShotLemmas.{shot_no_feed}
 
 -- ---- the lines of shots are as many as these

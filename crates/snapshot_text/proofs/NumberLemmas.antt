@@ -1,10 +1,9 @@
 -- Which bytes stand nowhere in numbers and values as they are written.
-use Rattle.std.proofs.Common.{◌≡◌, ◌+◌, ◌<◌, ◌^◌, ℕ, ℤ, Bool, true, false, cond, List, [], ◌∷◌, ◌++◌, All, FitsSigned, w64, refl, sym, ap, subst, ◌∙◌, append_assoc, append-nil, arith, lit<}
+use Rattle.std.proofs.Common.{◌≡◌, ◌+◌, ◌<◌, ℕ, ℤ, true, false, cond, List, [], ◌∷◌, ◌++◌, FitsSigned, w64, refl, ap, ◌∙◌, append_assoc, append-nil, arith, lit<}
 use Rattle.std.specs.Prelude.{◌==◌, ◌&&◌, ◌||◌, codes}
 use Rattle.std.specs.Char.{is_ascii_digit}
 use Rattle.std.specs.Fmt.{signed_decimal}
 use Rattle.std.specs.List.{list_all}
-use Rattle.std.proofs.lemmas.Bool.{and_parts}
 use Rattle.std.proofs.lemmas.Bool.Decides.{nat_tests}
 use Rattle.wave_base.specs.Names.{is_digits}
 use Rattle.wave_text.specs.ValueTexts.{pair_text, comma_before, pairs_from, pairs_text}

@@ -1,18 +1,17 @@
 -- Paths in order, each with its parent before it: those between a path and its child lie below that path.
-use Rattle.std.proofs.Common.{◌≡◌, ◌⊎◌, inl, inr, ◌+◌, ◌-◌, ◌<◌, ℕ, zero, suc, Bool, true, false, cond, List, [], ◌∷◌, ◌++◌, length, map, slice_get, Some, refl, sym, ap, subst, ◌∙◌, append_assoc, append-nil, arith}
+use Rattle.std.proofs.Common.{◌≡◌, ◌⊎◌, inl, inr, ◌-◌, Bool, true, false, List, [], ◌∷◌, ◌++◌, length, slice_get, Some, refl, sym, ap, subst, ◌∙◌, append_assoc, append-nil, arith}
 use Rattle.std.specs.Prelude.{◌&&◌, ◌||◌, IsTrue}
 use Rattle.std.specs.BTreeMap.Comparable.{le_lt_trans}
 use Rattle.std.specs.List.{list_any}
-use Rattle.std.specs.Ordering.{ordering_reverse, ordering_then, is_lt, is_le, is_eq, eq_by_cmp}
+use Rattle.std.specs.Ordering.{ordering_reverse, ordering_then, is_lt, is_le, is_eq}
 use Rattle.std.specs.declared.cmp.Ordering.{Ordering}
 use Rattle.std.specs.declared.cmp.Ordering.TheVariants.{Less, Equal, Greater}
 use Rattle.std.proofs.lemmas.Bool.{and_parts, or_cases, or_left, or_right}
-use Rattle.std.proofs.lemmas.List.{map-append}
 use Rattle.wave_base.specs.declared.path.Path.{Path}
 use Rattle.wave_base.specs.declared.path.Step.{Step}
 use Rattle.wave_base.specs.declared.shot.Shot.{Shot}
 use Rattle.wave_base.specs.Paths.{step_eq, step_cmp, path_eq, path_cmp, is_above, parent_of}
-use Rattle.wave_base.specs.PathLaws.{step_cmp_total, step_eq_equiv, step_eq_ties, same_step, path_cmp_total, path_eq_decides, path_eq_equiv, path_eq_ties, is_above_append}
+use Rattle.wave_base.specs.PathLaws.{step_cmp_total, step_eq_ties, same_step, path_cmp_total, path_eq_decides, path_eq_equiv, path_eq_ties}
 use Rattle.snapshot_text.specs.Shots.{is_less, is_behind, comes_next, are_in_order, paths_of}
 
 -- ---- one path more

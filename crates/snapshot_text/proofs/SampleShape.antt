@@ -1,5 +1,5 @@
 -- The small shape of the tests is one, and has names.
-use Rattle.std.proofs.Common.{◌≡◌, ◌<◌, ◌≤◌, ℕ, zero, suc, true, List, Some, [], ◌∷◌, map, All, refl, arith}
+use Rattle.std.proofs.Common.{◌≡◌, ◌<◌, ◌≤◌, ℕ, zero, suc, true, Some, [], ◌∷◌, map, All, refl, arith}
 use Rattle.std.proofs.lemmas.List.Elements.{All-nil, All-cons}
 use Rattle.wave_base.specs.declared.shape.ClassInfo.{ClassInfo}
 use Rattle.wave_base.specs.declared.shape.FieldInfo.{FieldInfo}

@@ -1,5 +1,5 @@
 -- What is said of a whole text, from what is known of its head and of the lines behind it.
-use Rattle.std.proofs.Common.{◌≡◌, ◌⊎◌, inl, inr, ◌+◌, ◌<◌, ◌≤◌, ℕ, List, [], ◌∷◌, ◌++◌, length, All, Result, Ok, Err, refl, sym, ap, subst, ◌∙◌, append-nil, length-append, arith}
+use Rattle.std.proofs.Common.{◌≡◌, inl, inr, ◌+◌, ℕ, List, [], ◌∷◌, ◌++◌, length, Result, Ok, Err, refl, sym, ap, subst, ◌∙◌, append-nil}
 use Rattle.std.specs.Prelude.{codes}
 use Rattle.wave_base.specs.declared.shape.Shape.{Shape}
 use Rattle.wave_base.specs.declared.shot.Shot.{Shot}
@@ -11,10 +11,9 @@ use Rattle.snapshot_text.specs.declared.error.Fault.TheVariants as fault
 use Rattle.snapshot_text.specs.declared.error.ShotError.{ShotError}
 use Rattle.snapshot_text.specs.declared.error.ShotError.TheVariants as error
 use Rattle.snapshot_text.specs.Refusals.{refused}
-use Rattle.snapshot_text.specs.Shots.{IsShot, AreShots, are_in_order, paths_of}
 use Rattle.snapshot_text.specs.SnapshotTexts.{IsSnapshotText, head_text, shots_text}
 use Rattle.snapshot_text.specs.Verdicts.{HasNoHead, IsEmpty, BeginsWithFault, StopsAfter, IsRefused, IsVerdict, IsOnlyVerdict}
-use Rattle.snapshot_text.specs.inner.Tails.{IsParted, IsEnd, IsOnlyParted, StopsWith, AreRead}
+use Rattle.snapshot_text.specs.inner.Tails.{IsParted, IsOnlyParted, StopsWith, AreRead}
 use Rattle.snapshot_text.proofs.HeadLemmas.{lines_are}
 
 no_shots : (shape : Shape) (shots : List Shot) → (shots ≡ [] → ⊥) → [] ≡ shots_text shape shots → ⊥

@@ -10,20 +10,20 @@ use crate::error::{Fault, ShotError, refused};
 use crate::form::form_of;
 use crate::order::comes_next;
 use crate::shot::shot_of;
-use path_text::resolve_steps;
+use path_text::{ClassNames, resolve_steps};
 use std::alloc::Global;
-use wave_base::{OutOfMemory, Shape, Shot};
+use wave_base::{OutOfMemory, Shot};
 
 // What is wrong with a line that is none of a shot.
-fn fault_of(alloc: Global, shape: &Shape, line: &[u8]) -> Result<Fault, OutOfMemory>
-    requires shape { IsShape shape.now }
-    requires none { IsLineOfNone shape.now line.now }
-    ensures { IfOk result (λ f. (before : List Shot) → IsOnlyFault shape.now before line.now f) }
+fn fault_of(alloc: Global, classes: &ClassNames<'_>, line: &[u8]) -> Result<Fault, OutOfMemory>
+    requires shape { IsShape classes.now }
+    requires none { IsLineOfNone classes.now line.now }
+    ensures { IfOk result (λ f. (before : List Shot) → IsOnlyFault classes.now before line.now f) }
 {
     let Some(steps) = form_of(alloc, line)? else {
         return Ok(Fault::Syntax);
     };
-    match resolve_steps(shape, steps.as_slice()) {
+    match resolve_steps(classes, steps.as_slice()) {
         Some(_) => Ok(Fault::Field),
         None => Ok(Fault::Class),
     }
@@ -32,19 +32,19 @@ fn fault_of(alloc: Global, shape: &Shape, line: &[u8]) -> Result<Fault, OutOfMem
 /// The shot of the next line, or what is wrong with that line, which has this number.
 pub(crate) fn read_line(
     alloc: Global,
-    shape: &Shape,
+    classes: &ClassNames<'_>,
     before: &[Shot],
     number: u32,
     line: &[u8],
 ) -> Result<Shot, ShotError>
-    requires shape { IsShape shape.now }
-    requires names { HasNames shape.now }
+    requires shape { IsShape classes.now }
+    requires names { HasNames classes.now }
     requires order { are_in_order [] (paths_of before.now) ≡ true }
-    ensures ok { IfOk result (IsNextLine shape.now before.now line.now) }
-    ensures err { IfErr result (IsRefusal shape.now before.now line.now number) }
+    ensures ok { IfOk result (IsNextLine classes.now before.now line.now) }
+    ensures err { IfErr result (IsRefusal classes.now before.now line.now number) }
 {
-    let Some(shot) = shot_of(alloc, shape, line)? else {
-        let fault = fault_of(alloc, shape, line)?;
+    let Some(shot) = shot_of(alloc, classes, line)? else {
+        let fault = fault_of(alloc, classes, line)?;
         return Err(refused(fault, number));
     };
     if comes_next(before, &shot.path) {

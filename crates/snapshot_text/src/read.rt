@@ -7,6 +7,7 @@ ghost use Rattle.snapshot_text.specs.inner.Tails.{AreRead};
 
 use crate::error::ShotError;
 use crate::line::read_line;
+use path_text::ClassNames;
 use std::alloc::Global;
 use wave_base::{OutOfMemory, Seq, Shape, Shot};
 use wave_text::{behind_head, split_at};
@@ -22,11 +23,11 @@ fn add(shots: &mut Seq<Shot>, shot: Shot) -> Result<(), OutOfMemory>
 }
 
 // The shots of the lines behind a head, or the first of these lines that has a fault.
-fn read_shots(alloc: Global, shape: &Shape, tail: &[u8]) -> Result<Seq<Shot>, ShotError>
-    requires shape { IsShape shape.now }
-    requires names { HasNames shape.now }
+fn read_shots(alloc: Global, classes: &ClassNames<'_>, tail: &[u8]) -> Result<Seq<Shot>, ShotError>
+    requires shape { IsShape classes.now }
+    requires names { HasNames classes.now }
     requires short { length tail.now ≤ PLACED_BYTES }
-    ensures { AreRead shape.now tail.now result }
+    ensures { AreRead classes.now tail.now result }
 {
     let mut shots = Seq::new(alloc);
     let mut number = 1u32;
@@ -35,7 +36,7 @@ fn read_shots(alloc: Global, shape: &Shape, tail: &[u8]) -> Result<Seq<Shot>, Sh
         let Some((line, after)) = split_at(rest, b'\n') else {
             return Err(ShotError::Syntax { line: number + 1 });
         };
-        match read_line(alloc, shape, shots.as_slice(), number + 1, line) {
+        match read_line(alloc, classes, shots.as_slice(), number + 1, line) {
             Ok(shot) => add(&mut shots, shot)?,
             Err(error) => return Err(error),
         }
@@ -58,5 +59,6 @@ pub fn read_snapshot(alloc: Global, shape: &Shape, text: &[u8]) -> Result<Seq<Sh
     if tail.is_empty() {
         return Err(ShotError::Order { line: 1 });
     }
-    read_shots(alloc, shape, tail)
+    let classes = ClassNames::of(alloc, shape)?;
+    read_shots(alloc, &classes, tail)
 }

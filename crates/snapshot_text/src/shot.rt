@@ -9,9 +9,9 @@ ghost use Rattle.snapshot_text.specs.inner.Guesses.{AreGoodFor, AreValuesOf, IsP
 ghost use Rattle.snapshot_text.specs.Shots.{IsShot};
 
 use crate::value::value_of;
-use path_text::{PathError, fields_at, parse_path, put_shot};
+use path_text::{ClassNames, PathError, fields_at, parse_path, put_shot};
 use std::alloc::Global;
-use wave_base::{FieldInfo, OutOfMemory, Path, Seq, Shape, Shot, Value};
+use wave_base::{FieldInfo, OutOfMemory, Path, Seq, Shot, Value};
 use wave_text::parts_at;
 
 // The values that fields are written with.
@@ -41,13 +41,17 @@ fn values_of(
 }
 
 // The path that a text is written for.
-fn path_of(alloc: Global, shape: &Shape, text: &[u8]) -> Result<Option<Path>, OutOfMemory>
-    requires shape { IsShape shape.now }
-    requires names { HasNames shape.now }
-    ensures only { IfOk result (IsPathOf shape.now text.now) }
-    ensures path { IfOk result (λ o. IfSome o (IsPath shape.now)) }
+fn path_of(
+    alloc: Global,
+    classes: &ClassNames<'_>,
+    text: &[u8],
+) -> Result<Option<Path>, OutOfMemory>
+    requires shape { IsShape classes.now }
+    requires names { HasNames classes.now }
+    ensures only { IfOk result (IsPathOf classes.now text.now) }
+    ensures path { IfOk result (λ o. IfSome o (IsPath classes.now)) }
 {
-    match parse_path(alloc, shape, text) {
+    match parse_path(alloc, classes, text) {
         Ok(path) => Ok(Some(path)),
         Err(PathError::Syntax) => Ok(None),
         Err(PathError::UnknownClass) => Ok(None),
@@ -56,18 +60,22 @@ fn path_of(alloc: Global, shape: &Shape, text: &[u8]) -> Result<Option<Path>, Ou
 }
 
 // The one shot that a line can be written for.
-fn shot_in(alloc: Global, shape: &Shape, line: &[u8]) -> Result<Option<Shot>, OutOfMemory>
-    requires shape { IsShape shape.now }
-    requires names { HasNames shape.now }
-    ensures only { IfOk result (IsShotOf shape.now line.now) }
-    ensures fits { IfOk result (λ o. IfSome o (IsShot shape.now)) }
+fn shot_in(
+    alloc: Global,
+    classes: &ClassNames<'_>,
+    line: &[u8],
+) -> Result<Option<Shot>, OutOfMemory>
+    requires shape { IsShape classes.now }
+    requires names { HasNames classes.now }
+    ensures only { IfOk result (IsShotOf classes.now line.now) }
+    ensures fits { IfOk result (λ o. IfSome o (IsShot classes.now)) }
 {
     let (_, rest) = parts_at(line, b' ');
     let (path, rest) = parts_at(rest, b' ');
-    let Some(path) = path_of(alloc, shape, path)? else {
+    let Some(path) = path_of(alloc, classes, path)? else {
         return Ok(None);
     };
-    let fields = fields_at(shape, &path);
+    let fields = fields_at(classes.shape(), &path);
     match values_of(alloc, fields, rest)? {
         Some(fields) => Ok(Some(Shot { path, fields })),
         None => Ok(None),
@@ -77,19 +85,19 @@ fn shot_in(alloc: Global, shape: &Shape, line: &[u8]) -> Result<Option<Shot>, Ou
 /// The shot of a line, where the line is written just so.
 pub(crate) fn shot_of(
     alloc: Global,
-    shape: &Shape,
+    classes: &ClassNames<'_>,
     line: &[u8],
 ) -> Result<Option<Shot>, OutOfMemory>
-    requires shape { IsShape shape.now }
-    requires names { HasNames shape.now }
-    ensures some { IfOk result (λ o. IfSome o (IsOnlyLineOf shape.now line.now)) }
-    ensures none { IfOk result (λ o. IfNone o (IsLineOfNone shape.now line.now)) }
+    requires shape { IsShape classes.now }
+    requires names { HasNames classes.now }
+    ensures some { IfOk result (λ o. IfSome o (IsOnlyLineOf classes.now line.now)) }
+    ensures none { IfOk result (λ o. IfNone o (IsLineOfNone classes.now line.now)) }
 {
-    let Some(shot) = shot_in(alloc, shape, line)? else {
+    let Some(shot) = shot_in(alloc, classes, line)? else {
         return Ok(None);
     };
     let mut written = Vec::new(alloc);
-    put_shot(alloc, &mut written, shape, &shot)?;
+    put_shot(alloc, &mut written, classes.shape(), &shot)?;
     if written.as_slice() == line {
         Ok(Some(shot))
     } else {

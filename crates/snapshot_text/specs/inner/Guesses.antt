@@ -17,7 +17,7 @@ use Rattle.wave_base.specs.Values.{kind_of}
 use Rattle.wave_text.specs.ValueTexts.{value_text, pair_text, pairs_text}
 use Rattle.path_text.specs.PathTexts.{path_text}
 use Rattle.path_text.specs.ShotTexts.{fields_text}
-use Rattle.snapshot_text.specs.Shots.{IsValue, IsShot}
+use Rattle.snapshot_text.specs.Shots.{IsValue}
 use Rattle.snapshot_text.specs.Verdicts.{IsLineOf}
 use Rattle.snapshot_text.specs.inner.Fronts.{Ends}
 

@@ -4,7 +4,7 @@ use Rattle.journal_text.proofs.read.read_labels.Given as goal
 
 abbrev pub invariant-loop-rest : goal.invariant-loop-rest
 invariant-loop-rest l = record {
-  read : AreReadTo l.shape l.tail l.labels l.rest;
+  read : AreReadTo l.classes l.tail l.labels l.rest;
   number : l.number ≡ length l.labels + 1;
   short : l.number + length l.rest ≤ length l.tail + 1;
 }

@@ -9,5 +9,5 @@ returns-in_default-clause-err c = inr (c.in_ok-fault.fault, c.in_ok-fault.ensure
 
 pub returns-else-comes_next-clause-err : goal.returns-else-comes_next-clause-err
 returns-else-comes_next-clause-err c =
-    let only = subst (λ o. IfSome o (IsOnlyLineOf c.args.shape.now c.args.line.now)) c.in-Some.is c.in_ok-shot.ensures.some in
-    inr (fault.Order, out_of_order c.args.shape.now c.args.before.now c.args.line.now c.requires.names c.in-Some.shot only (sym c.comes_next.ensures ∙ c.if-comes_next.false), refl)
+    let only = subst (λ o. IfSome o (IsOnlyLineOf c.args.classes.now c.args.line.now)) c.in-Some.is c.in_ok-shot.ensures.some in
+    inr (fault.Order, out_of_order c.args.classes.now c.args.before.now c.args.line.now c.requires.names c.in-Some.shot only (sym c.comes_next.ensures ∙ c.if-comes_next.false), refl)

@@ -1,4 +1,4 @@
-use Rattle.std.proofs.Common.{◌≡◌, ℤ, Some, w64, ◌∙◌}
+use Rattle.std.proofs.Common.{◌≡◌, Some, w64, ◌∙◌}
 use Rattle.std.proofs.lemmas.Int.{to_z-of_z}
 use Rattle.snapshot_text.proofs.MapLemmas.{pair_front}
 use Rattle.snapshot_text.proofs.map.pair_of.Goals as goal

@@ -3,7 +3,7 @@ use Rattle.std.proofs.lemmas.Int.{to_z-of_z}
 use Rattle.std.proofs.lemmas.Bool.Decides.{nat_tests}
 use Rattle.wave_base.specs.Tables.{IsTable, with_pair}
 use Rattle.path_text.proofs.StepLemmas.{is_nil}
-use Rattle.snapshot_text.specs.inner.Guesses.{behind_first, IsTableOf}
+use Rattle.snapshot_text.specs.inner.Guesses.{behind_first}
 use Rattle.snapshot_text.proofs.MapLemmas.{IsTableTo, none_read, pair_read, pair_missed, all_read}
 use Rattle.snapshot_text.proofs.map.table_of.Goals as goal
 

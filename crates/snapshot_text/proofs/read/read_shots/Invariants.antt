@@ -4,7 +4,7 @@ use Rattle.snapshot_text.proofs.read.read_shots.Given as goal
 
 abbrev pub invariant-loop-rest : goal.invariant-loop-rest
 invariant-loop-rest l = record {
-  read : AreReadTo l.shape l.tail l.shots l.rest;
+  read : AreReadTo l.classes l.tail l.shots l.rest;
   number : l.number ≡ length l.shots + 1;
   short : l.number + length l.rest ≤ length l.tail + 1;
 }

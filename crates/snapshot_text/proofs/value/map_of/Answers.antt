@@ -3,7 +3,7 @@ use Rattle.wave_base.specs.declared.value.Kind.TheVariants as k
 use Rattle.wave_base.specs.declared.value.Value.TheVariants as value
 use Rattle.wave_text.specs.Splits.{ArePartsAt}
 use Rattle.snapshot_text.specs.Shots.{IsValue}
-use Rattle.snapshot_text.specs.inner.Guesses.{behind_first, IsTableOf, IsSeen}
+use Rattle.snapshot_text.specs.inner.Guesses.{IsTableOf, IsSeen}
 use Rattle.snapshot_text.proofs.ValueLemmas.{map_seen, map_unseen}
 use Rattle.snapshot_text.proofs.value.map_of.Goals as goal
 

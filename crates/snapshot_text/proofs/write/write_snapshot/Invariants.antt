@@ -1,4 +1,4 @@
-use Rattle.std.proofs.Common.{◌≡◌, ◌++◌, ◌∷◌, drop, length}
+use Rattle.std.proofs.Common.{◌≡◌, ◌++◌, drop}
 use Rattle.snapshot_text.specs.SnapshotTexts.{snapshot_text, shots_text}
 use Rattle.snapshot_text.proofs.write.write_snapshot.Given as goal
 
