@@ -1,23 +1,13 @@
 //! Runs a service: reads a service and a script from standard input, and writes what its events answer.
 #![tactic(auto)]
 
-mod alone;
-mod ending;
-mod giving;
-mod listed;
-mod loads;
-mod response;
-mod task;
-mod team;
 #[cfg(test)]
 mod tests;
-mod together;
-mod top;
 
+use eventwave::start;
 use std::env;
 use std::io::ErrorKind;
 use std::process::ExitCode;
-use top::start;
 use wave_base::{OutOfMemory, Words};
 use wave_io::{OpenGate, StdSink, StdSource};
 

@@ -2,7 +2,7 @@
 
 use super::rows::{Row, bytes, calls, holds, plain, words};
 use super::services::{FORMS, FORMS_PRINTED, MARKET, TICK};
-use crate::top::{eventwave, eventwave_alone, start};
+use eventwave::{eventwave, eventwave_alone, start};
 use std::test::Fail;
 use wave_base::{OutOfMemory, Seq};
 use wave_io::{MemSink, MemSource, OpenGate};

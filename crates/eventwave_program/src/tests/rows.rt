@@ -1,6 +1,6 @@
 //! Runs of the top call, and what each has to come to.
 
-use crate::top::eventwave;
+use eventwave::eventwave;
 use std::alloc::Global;
 use std::process::Abort;
 use std::sync::Wait;

@@ -3,7 +3,7 @@
 use super::crews::{LOOKED, LOOKS, MOVED, MOVES, TO_AND_FRO, WENT_TO_AND_FRO};
 use super::rows::{Row, all_hold, bytes, calls, holds, joined, plain, ran_on, traps, words, works};
 use super::services::{CHAIN, MARKET};
-use crate::top::eventwave;
+use eventwave::eventwave;
 use std::alloc::Global;
 use std::sync::Wait;
 use std::test::Fail;

@@ -1,0 +1,16 @@
+//! The top call: does what the words of a command line ask for, over a source and sinks of the caller's own, and answers the status. The program
+//! `eventwave_program` makes it over the standard streams.
+#![tactic(auto)]
+
+mod alone;
+mod ending;
+mod giving;
+mod listed;
+mod loads;
+mod response;
+mod task;
+mod team;
+mod together;
+mod top;
+
+pub use top::{eventwave, eventwave_alone, start};
