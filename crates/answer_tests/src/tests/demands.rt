@@ -8,12 +8,14 @@ use std::test::Fail;
 use wave_base::OutOfMemory;
 use wave_text::put_number;
 
+/// The service is typed.
 pub fn accepts(rt: &impl Abort, alloc: Global, text: &[u8]) -> Result<(), OutOfMemory> {
     let answer = due(rt, alloc, Command::Check, text)?;
     has(rt, &answer, 0, b"", b"ok\n");
     Ok(())
 }
 
+/// The service is refused, and this is the note.
 pub fn refuses(
     rt: &impl Abort,
     alloc: Global,

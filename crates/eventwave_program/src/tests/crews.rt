@@ -9,21 +9,26 @@ use std::test::Fail;
 use std::thread::Threads;
 use wave_io::OpenGate;
 
+/// A script for the market: a hall moves between two purchases.
 pub const MOVES: &[u8] =
     b"hosts 2\nrequest buy(1,1,3)\nmove /Hall[1] to 1\nrequest buy(1,2,4)\nrequest pair(1)\n";
 
+/// What it comes to, with places.
 pub const MOVED: &[u8] =
     b"#1 buy = 7\n#1 send \"till\" 3\n#2 moved /Hall[1] to 1\n#3 buy = 6\n#3 send \"till\" 7\n#4 pair = 11\nplace / 0\nplace /Hall[1] 1\nplace /Hall[1]/Stall[1] 0\nplace /Hall[1]/Stall[2] 1\ndone 4\n";
 
-// To and fro, with a purchase between each two moves.
+/// To and fro, with a purchase between each two moves.
 pub const TO_AND_FRO: &[u8] =
     b"hosts 2\nrequest buy(1,1,1)\nmove /Hall[1] to 1\nrequest buy(1,1,1)\nmove /Hall[1] to 0\nrequest buy(1,1,1)\nmove /Hall[1] to 1\nrequest buy(1,1,1)\n";
 
+/// What it comes to, with places.
 pub const WENT_TO_AND_FRO: &[u8] =
     b"#1 buy = 9\n#1 send \"till\" 1\n#2 moved /Hall[1] to 1\n#3 buy = 8\n#3 send \"till\" 2\n#4 moved /Hall[1] to 0\n#5 buy = 7\n#5 send \"till\" 3\n#6 moved /Hall[1] to 1\n#7 buy = 6\n#7 send \"till\" 4\ndone 7\n";
 
+/// A script for the market: snapshots behind purchases.
 pub const LOOKS: &[u8] = b"request buy(1,1,3)\nsnapshot\nrequest buy(1,2,4)\nsnapshot\n";
 
+/// What it comes to.
 pub const LOOKED: &[u8] =
     b"#1 buy = 7\n#1 send \"till\" 3\n#2 snapshot 3\n#2 at / seen=1\n#2 at /Hall[1] count=3\n#2 at /Hall[1]/Stall[1] stock=7\n#3 buy = 6\n#3 send \"till\" 7\n#4 snapshot 4\n#4 at / seen=2\n#4 at /Hall[1] count=7\n#4 at /Hall[1]/Stall[1] stock=7\n#4 at /Hall[1]/Stall[2] stock=6\ndone 4\n";
 

@@ -9,14 +9,17 @@ use std::thread::Threads;
 use wave_base::{OutOfMemory, Seq, Words};
 use wave_io::{Gate, MemSink, MemSource, OpenGate};
 
+/// A text as a list of bytes.
 pub fn bytes(alloc: Global, text: &[u8]) -> Result<Seq<u8>, OutOfMemory> {
     Ok(Seq::from_vec(Vec::from_slice(alloc, text)?))
 }
 
+/// The numbers of calls that are to fail.
 pub fn calls(alloc: Global, numbers: &[u64]) -> Result<Seq<u64>, OutOfMemory> {
     Ok(Seq::from_vec(Vec::from_slice(alloc, numbers)?))
 }
 
+/// The words of a text, each behind a blank.
 pub fn words(alloc: Global, text: &str) -> Result<Words, OutOfMemory> {
     let mut words = Words::new(alloc);
     for word in text.split(' ') {
@@ -37,6 +40,7 @@ pub struct Row<'a> {
     pub note: &'a [u8],
 }
 
+/// The run of a row comes to what has to come out.
 pub fn holds<R: Abort + Threads + Wait + Sync>(
     rt: &R,
     alloc: Global,
@@ -81,6 +85,7 @@ pub fn ran_on<R: Threads + Wait + Sync, G: Gate + Sync>(
     Ok((status, out))
 }
 
+/// A row in which no read and no write fails.
 pub fn plain<'a>(
     words: &'a str,
     input: &'a [u8],
@@ -110,6 +115,7 @@ pub struct Case<'a> {
     pub note: &'a [u8],
 }
 
+/// A case that ends with status 0.
 pub fn works<'a>(words: &'a str, service: &'a [u8], script: &'a [u8], out: &'a [u8]) -> Case<'a> {
     Case {
         words,
@@ -121,6 +127,7 @@ pub fn works<'a>(words: &'a str, service: &'a [u8], script: &'a [u8], out: &'a [
     }
 }
 
+/// The same where an event traps.
 pub fn traps<'a>(words: &'a str, service: &'a [u8], script: &'a [u8], out: &'a [u8]) -> Case<'a> {
     Case {
         status: 1,
@@ -128,6 +135,7 @@ pub fn traps<'a>(words: &'a str, service: &'a [u8], script: &'a [u8], out: &'a [
     }
 }
 
+/// A script that is refused.
 pub fn refuses<'a>(service: &'a [u8], script: &'a [u8], note: &'a [u8]) -> Case<'a> {
     Case {
         status: 4,
@@ -144,6 +152,7 @@ pub fn joined(alloc: Global, service: &[u8], script: &[u8]) -> Result<Vec<u8>, O
     Ok(input)
 }
 
+/// Each of the cases comes to what it has to.
 pub fn all_hold<R: Abort + Threads + Wait + Sync>(
     rt: &R,
     alloc: Global,

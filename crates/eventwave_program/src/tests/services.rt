@@ -1,8 +1,10 @@
 //! The services of the tests.
 
+/// One counter, with one request.
 pub const TICK: &[u8] =
     b"service Tick { var n: int = 0; event hit(): int { here { n = n + 1; } reply n; } }\n----\nrequest hit()\n";
 
+/// Halls with stalls: purchases go down to a stall, and some ask two stalls of a hall.
 pub const MARKET: &[u8] = b"service Market {
   var seen: int = 0;
   context Hall[int] {
@@ -24,6 +26,7 @@ pub const MARKET: &[u8] = b"service Market {
 }
 ";
 
+/// A hall whose number is at the end of its range, so that one more traps.
 pub const EDGE: &[u8] = b"service Edge {
   var seen: int = 0;
   context Hall[int] {
@@ -37,6 +40,7 @@ pub const EDGE: &[u8] = b"service Edge {
 }
 ";
 
+/// Events that create events, one of them without end.
 pub const CHAIN: &[u8] = b"service Chain {
   var n: int = 0;
   event two(): int {
@@ -48,6 +52,7 @@ pub const CHAIN: &[u8] = b"service Chain {
 }
 ";
 
+/// A loop of so many turns.
 pub const LOOP: &[u8] = b"service Loop {
   event turns(k: int): int {
     here { let s = 0; for i in 0 to k { s = s + i; } }
@@ -56,12 +61,14 @@ pub const LOOP: &[u8] = b"service Loop {
 }
 ";
 
+/// Division and remainder.
 pub const CALC: &[u8] = b"service Calc {
   event div(a: int, b: int): int { reply a / b; }
   event rem(a: int, b: int): int { reply a % b; }
 }
 ";
 
+/// An event that enters so many contexts.
 pub const WIDE: &[u8] = b"service Wide {
   context Cell[int] {
     var v: int = 0;
