@@ -4,9 +4,10 @@ ghost use Rattle.kept_lock.specs.Locks.{known, IsPassOf};
 
 use crate::tally::{Tally, share_of};
 use kept_lock::{KeptLock, Pass};
-use std::alloc::{AllocError, Global};
+use std::alloc::Global;
 use std::sync::Wait;
 use std::thread::{Threads, map_vec};
+use wave_base::OutOfMemory;
 
 // What one thread has.
 #[derive(Drop)]
@@ -37,7 +38,7 @@ fn jobs<'l>(
     first: &mut Pass<Tally>,
     turns: u32,
     threads: u8,
-) -> Result<Vec<Job<'l>>, AllocError>
+) -> Result<Vec<Job<'l>>, OutOfMemory>
     requires pass { IsPassOf lock.now first.old × ((known first.old).number ≡ 0) × ((known first.old).passes ≡ 1) }
     requires some { 0 < threads }
     ensures pass { IsPassOf lock.now first.new }
@@ -59,11 +60,12 @@ pub fn count<R: Threads + Wait + Sync>(
     alloc: Global,
     turns: u32,
     threads: u8,
-) -> Result<u64, AllocError>
+) -> Result<u64, OutOfMemory>
     requires { 0 < threads }
 {
-    let Ok((lock, mut first)) = KeptLock::new(alloc, (), Tally::new()) else {
-        return Err(AllocError);
+    let (lock, mut first) = match KeptLock::new(alloc, (), Tally::new()) {
+        Ok(opened) => opened,
+        Err((_, refused)) => return Err(refused),
     };
     let jobs = jobs(alloc, &lock, &mut first, turns, threads)?;
     map_vec(rt, jobs, &|job: Job| take_turns(rt, job))?;

@@ -15,10 +15,16 @@ use std::sync::Wait;
 use std::thread::Threads;
 use std::time::{Clock, Instant};
 use std::{env, io};
+use wave_base::OutOfMemory;
 
 // A word of the command line, as a number.
 fn number(word: Option<String>) -> Option<u32> {
     word?.as_str().parse::<u32>().ok()
+}
+
+// How the program ends where memory was refused.
+fn no_memory(_refused: OutOfMemory) -> io::Error {
+    io::Error::from(io::ErrorKind::OutOfMemory)
 }
 
 // Prints what each lock counted.
@@ -30,9 +36,9 @@ fn print_counts<R: Threads + Wait + Print + Sync>(
 ) -> io::Result<()>
     requires { 0 < threads }
 {
-    let kept = kept::count(rt, alloc, turns, threads)?;
+    let kept = kept::count(rt, alloc, turns, threads).map_err(no_memory)?;
     println!(rt; "kept lock: {threads} threads, {kept} turns")?;
-    let plain = plain::count(rt, alloc, turns, threads)?;
+    let plain = plain::count(rt, alloc, turns, threads).map_err(no_memory)?;
     println!(rt; "mutex: {threads} threads, {plain} turns")
 }
 
@@ -48,10 +54,10 @@ fn print_times<R: Threads + Wait + Print + Clock + Sync>(
 {
     for _ in 0..runs {
         let start = Instant::now(rt)?;
-        kept::count(rt, alloc, turns, threads)?;
+        kept::count(rt, alloc, turns, threads).map_err(no_memory)?;
         let kept = start.elapsed(rt)?.as_nanos();
         let start = Instant::now(rt)?;
-        plain::count(rt, alloc, turns, threads)?;
+        plain::count(rt, alloc, turns, threads).map_err(no_memory)?;
         let plain = start.elapsed(rt)?.as_nanos();
         println!(rt; "{threads} {kept} {plain}")?;
     }

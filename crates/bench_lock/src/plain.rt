@@ -2,9 +2,10 @@
 ghost use Rattle.std.specs.Prelude.{◌<◌};
 
 use crate::tally::{Tally, share_of};
-use std::alloc::{AllocError, Global};
+use std::alloc::Global;
 use std::sync::{Mutex, Wait};
 use std::thread::{Threads, map_vec};
+use wave_base::OutOfMemory;
 
 // What one thread has.
 #[derive(Drop)]
@@ -24,7 +25,7 @@ fn jobs<'l>(
     lock: &'l Mutex<Tally>,
     turns: u32,
     threads: u8,
-) -> Result<Vec<Job<'l>>, AllocError>
+) -> Result<Vec<Job<'l>>, OutOfMemory>
     requires { 0 < threads }
 {
     let mut jobs = Vec::new(alloc);
@@ -43,7 +44,7 @@ pub fn count<R: Threads + Wait + Sync>(
     alloc: Global,
     turns: u32,
     threads: u8,
-) -> Result<u64, AllocError>
+) -> Result<u64, OutOfMemory>
     requires { 0 < threads }
 {
     let lock = Mutex::new(Tally::new());

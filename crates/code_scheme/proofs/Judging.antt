@@ -30,7 +30,8 @@ use Rattle.std.proofs.lemmas.Bool.{cases_lt}
 use Rattle.std.proofs.lemmas.List.{length-replicate}
 use Rattle.std.proofs.lemmas.Option.{slice_get_within}
 use Rattle.service_verify.specs.Points.{Table, agreed, arrived_at, arrival, arrivals, visited_then, first_point, first_table, visit, judged_from, judged_function}
-use Rattle.service_verify.specs.Rules.{is_child_class, takes_only}
+use Rattle.service_verify.specs.Rules.{takes_only}
+use Rattle.wave_base.specs.Shapes.{is_child_class}
 use Rattle.service_verify.proofs.Taking.{kinds_eq_refl}
 use Rattle.code_scheme.proofs.Fixed.{number_self, max_left, max_right, Among, among_front, among_back, pt, after_line}
 use Rattle.code_scheme.proofs.Flow.{IsNext}

@@ -1,5 +1,5 @@
 -- The program of a service: its functions are its methods and then its events, each in text order.
-use Rattle.std.specs.Prelude.{◌≡◌, ◌<◌, ◌≤◌, ℕ, zero, suc, true, false, List, [], ◌∷◌, ◌++◌, length, map, Some, slice_get}
+use Rattle.std.specs.Prelude.{◌≡◌, ◌<◌, ◌≤◌, ℕ, zero, suc, min, true, false, List, [], ◌∷◌, ◌++◌, length, map, Some, slice_get}
 use Rattle.wave_base.specs.declared.limits.TheConstants.{INSTRUCTIONS}
 use Rattle.wave_base.specs.declared.shape.EventInfo.{EventInfo}
 use Rattle.wave_base.specs.declared.shape.Shape.{Shape}
@@ -61,10 +61,14 @@ scheme_program shape service = record {
   events = numbers_from (length service.methods) (length service.events);
 }
 
--- the first function that has more instructions than a function may have, and how many
+-- the length that is told: 4,294,967,295 stands for that many or more
+abbrev pub told_length : ℕ → ℕ
+told_length n = min n 4294967295
+
+-- the first function that has more instructions than a function may have, and the length that is told of it
 pub record IsTooLong (shape : Shape) (service : Resolved) (number size : ℕ) : Type 0 where
   pub function : Function
   pub is_there : slice_get (scheme_program shape service).functions number ≡ Some function
-  pub size_is : length function.code ≡ size
-  pub too_long : INSTRUCTIONS < size
+  pub too_long : INSTRUCTIONS < length function.code
+  pub size_is : size ≡ told_length (length function.code)
   pub first : (n : ℕ) (f : Function) → n < number → slice_get (scheme_program shape service).functions n ≡ Some f → length f.code ≤ INSTRUCTIONS

@@ -7,7 +7,7 @@ use Rattle.wave_base.specs.declared.value.Kind.{Kind}
 use Rattle.wave_base.specs.declared.value.Kind.TheVariants as k
 use Rattle.wave_base.specs.declared.value.Value.{Value}
 use Rattle.wave_base.specs.declared.value.Value.TheVariants as v
-use Rattle.wave_base.specs.Shapes.{IsShape, is_class, parent_class, kinds_of_class}
+use Rattle.wave_base.specs.Shapes.{IsShape, kinds_of_class, is_child_class}
 use Rattle.wave_base.specs.Values.{kind_of}
 use Rattle.value_ops.specs.Operators.{takes_of, gives_of}
 use Rattle.resolved_service.specs.declared.service.Event.{Event}
@@ -33,7 +33,7 @@ pub record IsMethod (methods : List Method) (class number : ℕ) (result : Optio
 
 -- a class whose contexts are children of this one's
 abbrev pub IsChild : Shape → ℕ → ℕ → Type 0
-IsChild shape class child = is_class class (parent_class shape child) ≡ true
+IsChild shape class child = is_child_class shape class child ≡ true
 
 -- what a statement stands in: a method or an event, and the kind that it gives, if any
 pub data Within : Type 0 where

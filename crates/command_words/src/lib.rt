@@ -4,8 +4,6 @@
 mod choice;
 mod command;
 mod reading;
-#[cfg(test)]
-mod tests;
 mod values;
 
 pub use command::{Command, Crew, Places, Schedule};

@@ -5,13 +5,12 @@ ghost use Rattle.command_words.specs.Reading.{asked_by, command_line, command_of
 
 use crate::choice::chosen;
 use crate::command::{Command, Places};
-use clap::error::ErrorKind;
 use clap::{Arg, ArgAction, ArgMatches};
-use std::alloc::{AllocError, Global};
+use std::alloc::Global;
 use wave_base::{OutOfMemory, Words};
 
 // A name, perhaps a number, and the options; no help and no version.
-fn command_line<'a>(alloc: Global) -> Result<clap::Command<'a>, AllocError>
+fn command_line<'a>(alloc: Global) -> Result<clap::Command<'a>, OutOfMemory>
     ensures { IfOk result (λ c. app_of c ≡ command_line) }
 {
     let name = Arg::new(alloc, "command").required(true);
@@ -21,15 +20,17 @@ fn command_line<'a>(alloc: Global) -> Result<clap::Command<'a>, AllocError>
     let map = Arg::new(alloc, "map")
         .long("map")
         .action(ArgAction::SetTrue);
-    clap::Command::new(alloc, "eventwave")
-        .no_binary_name(true)
-        .disable_help_flag(true)
-        .disable_version_flag(true)
-        .arg(name)?
-        .arg(number)?
-        .arg(workers)?
-        .arg(schedule)?
-        .arg(map)
+    Ok(
+        clap::Command::new(alloc, "eventwave")
+            .no_binary_name(true)
+            .disable_help_flag(true)
+            .disable_version_flag(true)
+            .arg(name)?
+            .arg(number)?
+            .arg(workers)?
+            .arg(schedule)?
+            .arg(map)?,
+    )
 }
 
 fn places_of(map: Option<&str>) -> Places
@@ -61,8 +62,10 @@ fn command_in<'a>(alloc: Global, words: &'a [&'a str]) -> Result<Option<Command>
 {
     match command_line(alloc)?.try_get_matches_from(words) {
         Ok(matches) => Ok(asked_by(&matches)),
-        Err(error) if error.kind() == ErrorKind::OutOfMemory => Err(OutOfMemory),
-        Err(_) => Ok(None),
+        Err(error) => match OutOfMemory::of_words(error.kind()) {
+            Some(refused) => Err(refused),
+            None => Ok(None),
+        },
     }
 }
 

@@ -60,10 +60,7 @@ impl Entry {
         ensures same { SameButRooms self.old self.new }
     {
         self.waiting.reserve(more)?;
-        match self.waiting.len().checked_add(more) {
-            Some(peeks) => self.peeks.reserve(peeks),
-            None => Err(OutOfMemory),
-        }
+        self.peeks.reserve(self.waiting.len() + more)
     }
 
     /// A ticket joins the line under its entry number, which is above those served.

@@ -10,6 +10,3 @@ pub use entry::Entry;
 pub use laws::entries_stand;
 pub use peeks::Peeks;
 pub use waiting::{Claim, Waiting};
-
-#[cfg(test)]
-mod tests;

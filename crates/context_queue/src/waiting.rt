@@ -78,13 +78,16 @@ impl Waiting {
         }
     }
 
-    /// Makes room for so many more.
+    /// Makes room for so many more. Then those and the ones that wait are together no more than a number counts.
     pub fn reserve(&mut self, more: usize) -> Result<(), OutOfMemory>
         ensures ok { OnOk result (more ≤ self.new.room) }
+        ensures counted { OnOk result (map.len self.new.claims + more < 2 ^ 64) }
         ensures room { self.old.room ≤ self.new.room }
         ensures claims { self.new.claims ≡ self.old.claims }
     {
         self.claims.reserve(more)?;
+        // a number, which counts those that are there and for how many more there is room
+        let _places = self.claims.capacity();
         Ok(())
     }
 

@@ -10,14 +10,6 @@ use Rattle.wave_base.specs.Paths.{parent_of}
 use Rattle.wave_base.specs.Shapes.{class_from, is_class, parent_in, parent_class, is_path_from}
 use Rattle.context_tree.specs.Contexts.{Contexts, is_there}
 
--- it is that of the last step
-pub last_class : (c : ℕ) (p : List Step) (d : Step) → 0 < length p → (get_or p (length p - 1) d).class.0 ≡ class_from c p
-last_class c [] d h = absurd (omega arith)
-last_class c (s ∷ []) d h = refl
-last_class c (s ∷ t ∷ p) d h =
-    let i : length (s ∷ t ∷ p) - 1 ≡ suc (length (t ∷ p) - 1) = omega arith in
-    ap (λ n. (get_or (s ∷ t ∷ p) n d).class.0) i ∙ last_class s.class.0 (t ∷ p) d (omega arith)
-
 first_true : (a b : Bool) → (a && b) ≡ true → (a ≡ true) × (b ≡ true)
 first_true true b h = (refl, h)
 first_true false b h = absurd (true≢false (sym h))

@@ -6,6 +6,3 @@ mod tree;
 
 pub use laws::{slots_stay, trees_tell_contexts, trees_that_fit};
 pub use tree::Tree;
-
-#[cfg(test)]
-mod tests;

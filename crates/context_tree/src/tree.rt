@@ -70,7 +70,7 @@ impl Tree {
         if self.contexts.contains_key(path) {
             return Ok(());
         }
-        let record = Record::initial(alloc, shape, class_of(path))?;
+        let record = Record::initial(alloc, shape, path.class())?;
         self.contexts.insert(*path, record)?;
         Ok(())
     }
@@ -179,15 +179,5 @@ impl Tree {
             }),
             None => unreachable!(),
         }
-    }
-}
-
-// The class of the context at a path.
-fn class_of(path: &Path) -> Class
-    ensures { result.0 ≡ class_of path.now }
-{
-    match path.as_slice() {
-        [.., last] => last.class,
-        [] => Class(0),
     }
 }

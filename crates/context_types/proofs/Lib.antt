@@ -3,12 +3,14 @@ pub mod CallArms
 pub mod Checked
 pub mod Exits
 pub mod FunctionArms
+pub mod Judged
 pub mod Lists
 pub mod Operations
 pub mod Puts
 pub mod Scopes
 pub mod ServiceArms
 pub mod Spawns
+pub mod Staying
 pub mod StmtArms
 pub mod StmtNodes
 pub mod SyntaxNodes

@@ -10,7 +10,8 @@ use Rattle.type_rules.specs.declared.error.TypeError.{TypeError}
 use Rattle.type_rules.specs.declared.known.Known.{Known}
 use Rattle.type_rules.specs.declared.known.Signature.{Signature}
 use Rattle.type_rules.specs.Demands.{Demand, first_wrong, Fails}
-use Rattle.type_rules.specs.Known.{class_count, classes_count, methods_of, methods_in}
+use Rattle.type_rules.specs.Known.{methods_of, methods_in}
+use Rattle.mace_ast.specs.Counts.{class_count, classes_count}
 use Rattle.type_rules.specs.Functions.{MethodView}
 use Rattle.type_rules.specs.Services.{name_asks, fields_demands, methods_demands, context_demands, contexts_demands, resolve_context, resolve_contexts}
 use Rattle.type_rules.specs.Views.{method_view}

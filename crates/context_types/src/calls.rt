@@ -15,7 +15,7 @@ use mace_ast::Expr;
 use resolved_service::{Expr as Tree, Node as Resolved};
 use std::alloc::Global;
 use type_rules::{Callee, TypeError};
-use wave_base::{Class, Kind, Span, Txt};
+use wave_base::{Class, Kind, Span, Txt, boxed, push};
 
 /// A call with its names resolved, and the kind of its result, if it has one.
 #[derive(Drop)]
@@ -104,7 +104,7 @@ impl Here<'_> {
         };
         let signature = self.known.signature(method);
         let args = self.args(alloc, at, signature.params.as_slice(), args)?;
-        let key = Box::new(alloc, key)?;
+        let key = boxed(alloc, key)?;
         let node = Resolved::Child(Class(class), method, key, args);
         Ok(Called::new(at, signature.result, node))
     }
@@ -142,7 +142,7 @@ impl Here<'_> {
         let mut trees = Vec::new(alloc);
         'each: for (i, arg) in args.iter().enumerate() {
             let tree = self.expr_of(alloc, kinds[i], arg)?;
-            trees.push(tree)?;
+            push(&mut trees, tree)?;
         }
         Ok(trees)
     }

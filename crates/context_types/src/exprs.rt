@@ -18,7 +18,7 @@ use resolved_service::{Expr as Tree, Node as Resolved};
 use std::alloc::Global;
 use type_rules::{TypeError, Variable};
 use type_tables::{rows_before, rows_of_index, rows_of_sign, same_kind};
-use wave_base::{Kind, OutOfMemory, Span, Table, Txt, Value};
+use wave_base::{Kind, OutOfMemory, Span, Table, Txt, Value, boxed, push};
 
 /// An expression with its names resolved, and its kind.
 #[derive(Drop)]
@@ -132,7 +132,7 @@ impl Here<'_> {
         let Some((field, kind)) = self.known.field(class, name) else {
             return Err(TypeError::UnknownName(at));
         };
-        Ok(Judged::new(at, kind, Resolved::Above(level, field)))
+        Ok(Judged::new(at, kind, Resolved::Above(level, field as u16)))
     }
 
     // `m[k]`
@@ -163,7 +163,7 @@ impl Here<'_> {
             return Err(TypeError::Mismatch(at));
         };
         let mut args = Vec::new(alloc);
-        args.push(operand.tree)?;
+        push(&mut args, operand.tree)?;
         Ok(Judged::new(at, operators.gives(row), Resolved::Op(row, args)))
     }
 
@@ -223,7 +223,7 @@ fn truths(
     if left.kind != Kind::Bool || right.kind != Kind::Bool {
         return Err(TypeError::Mismatch(at));
     }
-    let left = Box::new(alloc, left.tree)?;
-    let right = Box::new(alloc, right.tree)?;
+    let left = boxed(alloc, left.tree)?;
+    let right = boxed(alloc, right.tree)?;
     Ok((left, right))
 }

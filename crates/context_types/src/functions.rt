@@ -1,4 +1,4 @@
-ghost use Rattle.std.specs.Prelude.{◌≡◌, ◌&&◌, is_none, length, map};
+ghost use Rattle.std.specs.Prelude.{◌≡◌, ◌+◌, ◌&&◌, is_none, length, map};
 ghost use Rattle.std.specs.Option.{option_map, option_map_or};
 ghost use Rattle.value_ops.specs.Rows.{first_builtin};
 ghost use Rattle.resolved_service.specs.Steps.{surely_ends};
@@ -11,6 +11,7 @@ ghost use Rattle.type_rules.specs.Known as known;
 ghost use Rattle.type_rules.specs.Stmts.{after_all, resolve_stmts, stmts_demands};
 ghost use Rattle.type_rules.specs.Functions as rules;
 ghost use Rattle.type_rules.specs.Views.{last_view, method_view, phase_view, event_view};
+ghost use Rattle.context_types.specs.inner.Judged.{FewFields, AllFew};
 ghost use Rattle.context_types.specs.inner.Places.{here_of, function_of, AreSteps};
 
 use crate::here::{Here, Within};
@@ -19,7 +20,7 @@ use resolved_service::{Event, Last, Method, Phase, Stmt as Step, surely_ends};
 use std::alloc::Global;
 use type_rules::TypeError;
 use type_tables::{Tables, kinds_of};
-use wave_base::{Class, Kind, Seq, Txt};
+use wave_base::{Class, Kind, Seq, Txt, push};
 
 /// Whether nothing before the n-th has a name, by the first that has it.
 pub fn none_before(n: usize, first: Option<u16>) -> bool
@@ -49,6 +50,7 @@ pub fn method(
     number: usize,
     m: &MethodDecl,
 ) -> Result<Method, TypeError>
+    requires { FewFields tables.now (class + 1) }
     ensures { Judges (rules.method_demands tables.now class number (method_tree m.now)) (λ made. rules.resolve_method tables.now class number (method_tree m.now) ≡ method_view made) result }
 {
     let name = &m.name.text;
@@ -79,6 +81,7 @@ pub fn event(
     number: usize,
     e: &EventDecl,
 ) -> Result<Event, TypeError>
+    requires { AllFew tables.now }
     ensures { Judges (rules.event_demands tables.now number (event_tree e.now)) (λ made. rules.resolve_event tables.now (event_tree e.now) ≡ event_view made) result }
 {
     if !none_before(number, tables.event(&e.name.text)) {
@@ -110,6 +113,7 @@ impl<'t> Here<'t> {
         function: usize,
         within: Within,
     ) -> Here<'t>
+        requires { FewFields known.now (class + 1) }
         ensures { here_of result ≡ places.start known.now class function (function_of within) }
     {
         Here {
@@ -182,6 +186,7 @@ impl<'t> Here<'t> {
         ended: bool,
         phases: &[PhaseDecl],
     ) -> Result<(Vec<Phase>, bool), TypeError>
+        requires { AllFew self.old.known.now }
         ensures { let h = here_of self.old in let ps = map phase_tree phases.now in
             Judges (rules.phases_demands h ended ps)
             (λ made. (rules.event_end h ps ≡ here_of self.new) × (rules.resolve_phases h ps ≡ map phase_view made.0.items) × (rules.ended_behind h ended ps ≡ made.1)) result }
@@ -191,12 +196,13 @@ impl<'t> Here<'t> {
         for phase in phases {
             let phase = self.phase(alloc, past, phase)?;
             past = surely_ends(phase.body.as_slice());
-            made.push(phase)?;
+            push(&mut made, phase)?;
         }
         Ok((made, past))
     }
 
     fn phase(&mut self, alloc: Global, ended: bool, phase: &PhaseDecl) -> Result<Phase, TypeError>
+        requires { AllFew self.old.known.now }
         ensures { Judges (rules.phase_demands (here_of self.old) ended (phase_tree phase.now))
             (λ made. (rules.phase_end (here_of self.old) (phase_tree phase.now) ≡ here_of self.new) × (rules.resolve_phase (here_of self.old) (phase_tree phase.now) ≡ phase_view made)) result }
     {

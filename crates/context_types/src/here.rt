@@ -1,9 +1,9 @@
-ghost use Rattle.std.specs.Prelude.{◌≡◌, IfSome};
+ghost use Rattle.std.specs.Prelude.{◌≡◌, ◌+◌, IfSome};
 ghost use Rattle.std.specs.Option.{option_copied};
 ghost use Rattle.type_rules.specs.Here as rules;
 ghost use Rattle.type_rules.specs.Known as known;
-ghost use Rattle.context_types.specs.inner.Places.{here_of};
 ghost use Rattle.type_tables.specs.Rows.{IsCallable};
+ghost use Rattle.context_types.specs.inner.Judged.{FewFields};
 
 use type_rules::{Callee, Local, Variable};
 use type_tables::Tables;
@@ -34,9 +34,12 @@ pub struct Here<'t> {
     pub locals: Vec<Local>,
     /// The kinds of all slots that the function has given so far, parameters first.
     pub slots: Vec<Kind>,
+    ghost few: { FewFields known.now (class + 1) },
 }
 
 impl Here<'_> {
+    ghost use Rattle.context_types.specs.inner.Places.{here_of};
+
     /// The local of a name.
     pub fn local(&self, name: &Txt) -> Option<&Local>
         ensures { option_copied result ≡ rules.local_named (here_of self.now) name.now }
@@ -56,7 +59,7 @@ impl Here<'_> {
         match self.local(name) {
             Some(local) => Some(Variable::Local(local.slot, local.kind)),
             None => match self.known.field(self.class, name) {
-                Some((field, kind)) => Some(Variable::Field(field, kind)),
+                Some((field, kind)) => Some(Variable::Field(field as u16, kind)),
                 None => None,
             },
         }

@@ -1,6 +1,7 @@
 ghost use Rattle.std.specs.Prelude.{◌≡◌, ◌+◌, ◌<◌, ◌^◌, ◌++◌, length, map, IfOk, IfErr};
 ghost use Rattle.wave_base.specs.Shapes.{IsShape};
 ghost use Rattle.wave_base.specs.Values as values;
+ghost use Rattle.mace_ast.specs.Counts.{class_count, classes_count, IsFew};
 ghost use Rattle.mace_ast.specs.Decls.{method_tree, event_tree, context_tree, contexts_of, service_tree};
 ghost use Rattle.resolved_service.specs.Fits.{FitsService};
 ghost use Rattle.type_laws.specs.Differ.{NamesDiffer};
@@ -9,14 +10,15 @@ ghost use Rattle.type_rules.specs.Known as known;
 ghost use Rattle.type_rules.specs.Functions as functions;
 ghost use Rattle.type_rules.specs.Services as rules;
 ghost use Rattle.type_rules.specs.Views.{method_view, event_view, resolved_view};
+ghost use Rattle.context_types.specs.inner.Judged.{FewFields, AllFew, StandsAt, StandAt};
 
 use crate::functions::{event, method, none_before};
 use mace_ast::{ContextDecl, EventDecl, Literal, MethodDecl, Name, Service, VarDecl};
 use resolved_service::{Event, Method, Resolved};
 use std::alloc::Global;
 use type_rules::{TypeError, Which};
-use type_tables::{DECLARATIONS, Tables, same_kind};
-use wave_base::{CLASS_DEPTH, FIELDS, Kind, Seq, Shape};
+use type_tables::{Tables, same_kind};
+use wave_base::{CLASS_DEPTH, FIELDS, Kind, Seq, Shape, Txt, push};
 
 /// A service that is typed, with what it declares, and with its names resolved.
 #[derive(Debug, Drop)]
@@ -30,7 +32,9 @@ pub struct Typed {
 }
 
 /// Checks a service, and resolves its names: either all that is asked of it holds, or the first that doesn't is told.
+/// It has few enough declarations that numbers of 16 bits name them.
 pub fn check(alloc: Global, service: Service) -> Result<Typed, TypeError>
+    requires few { IsFew (service_tree service) }
     ensures typed { IfOk result (λ t. rules.IsTyped (service_tree service)) }
     ensures service { IfOk result (λ t. t.service ≡ service) }
     ensures shape { IfOk result (λ t. t.shape ≡ known.shape_of (service_tree service)) }
@@ -38,6 +42,7 @@ pub fn check(alloc: Global, service: Service) -> Result<Typed, TypeError>
     ensures well_formed { IfOk result (λ t. IsShape t.shape) }
     ensures names { IfOk result (λ t. NamesDiffer t.shape) }
     ensures fits { IfOk result (λ t. FitsService t.shape t.resolved) }
+    ensures few { IfOk result (λ t. length t.resolved.methods + length t.resolved.events < 2 ^ 16) }
     ensures err { IfErr result (λ e. Fails (rules.service_demands (service_tree service)) e) }
 {
     let tables = Tables::of(alloc, &service)?;
@@ -52,6 +57,8 @@ pub fn check(alloc: Global, service: Service) -> Result<Typed, TypeError>
 
 // All of a service, in the order of its text.
 fn all(alloc: Global, tables: &Tables, service: &Service) -> Result<Resolved, TypeError>
+    requires few { IsFew (service_tree service.now) }
+    requires known { tables.now ≡ known.known_of (service_tree service.now) }
     ensures { Judges (rules.demands_with tables.now (service_tree service.now)) (λ made. rules.resolve_with tables.now (service_tree service.now) ≡ resolved_view made) result }
 {
     let mut made = Vec::new(alloc);
@@ -75,9 +82,12 @@ fn contexts(
     decls: &[ContextDecl],
     made: &mut Vec<Method>,
 ) -> Result<u16, TypeError>
+    requires room { first + classes_count (contexts_of (map context_tree decls.now)) < 2 ^ 16 }
+    requires there { StandAt tables.now.shape first (contexts_of (map context_tree decls.now)) }
+    requires few { FewFields tables.now first }
     ensures { let cs = contexts_of (map context_tree decls.now) in
         Judges (rules.contexts_demands tables.now first (length made.old.items) cs)
-        (λ next. (next ≡ first + known.classes_count cs) × (map method_view made.new.items ≡ map method_view made.old.items ++ rules.resolve_contexts tables.now first (length made.old.items) cs)) result }
+        (λ next. (next ≡ first + classes_count cs) × (map method_view made.new.items ≡ map method_view made.old.items ++ rules.resolve_contexts tables.now first (length made.old.items) cs)) result }
 {
     let mut next = first;
     'each: for c in decls {
@@ -86,7 +96,7 @@ fn contexts(
     Ok(next)
 }
 
-// A context whose class has a number: there is room for 65,535 of them, more than a service text can hold.
+// A context whose class has a number; the number behind it and all that is inside it is told.
 #[cycle(context)]
 fn context(
     alloc: Global,
@@ -95,14 +105,14 @@ fn context(
     c: &ContextDecl,
     made: &mut Vec<Method>,
 ) -> Result<u16, TypeError>
+    requires room { class + class_count (context_tree c.now) < 2 ^ 16 }
+    requires there { StandsAt tables.now.shape class (context_tree c.now) }
+    requires few { FewFields tables.now class }
     ensures { Judges (rules.context_demands tables.now class (length made.old.items) (context_tree c.now))
-        (λ next. (next ≡ class + known.class_count (context_tree c.now)) × (map method_view made.new.items ≡ map method_view made.old.items ++ rules.resolve_context tables.now class (length made.old.items) (context_tree c.now))) result }
+        (λ next. (next ≡ class + class_count (context_tree c.now)) × (map method_view made.new.items ≡ map method_view made.old.items ++ rules.resolve_context tables.now class (length made.old.items) (context_tree c.now))) result }
 {
     class_name(tables, class, &c.name)?;
     fields(tables, class, c.vars.as_slice())?;
-    if class as usize == DECLARATIONS {
-        return Err(TypeError::OutOfMemory);
-    }
     let next = contexts(alloc, tables, class + 1, &c.contexts, made)?;
     methods(alloc, tables, class, c.methods.as_slice(), made)?;
     Ok(next)
@@ -134,11 +144,7 @@ fn fields(tables: &Tables, class: u16, vars: &[VarDecl]) -> Result<(), TypeError
 fn field(tables: &Tables, class: u16, number: usize, f: &VarDecl) -> Result<(), TypeError>
     ensures { Judges (rules.field_asks tables.now class number f.now) (λ _. Unit {0}) result }
 {
-    let first = match tables.field(class, &f.name.text) {
-        None => None,
-        Some((first, _)) => Some(first),
-    };
-    if !none_before(number, first) {
+    if !is_new_field(tables, class, number, &f.name.text) {
         return Err(TypeError::Duplicate(f.name.at));
     }
     if number >= FIELDS {
@@ -148,6 +154,16 @@ fn field(tables: &Tables, class: u16, number: usize, f: &VarDecl) -> Result<(), 
         return Err(TypeError::Mismatch(f.initial.at));
     }
     Ok(())
+}
+
+// Whether a class's field with a number may have a name: no earlier one has it.
+fn is_new_field(tables: &Tables, class: u16, number: usize, name: &Txt) -> bool
+    ensures { result ≡ known.none_before number (known.field_named tables.now class name.now) }
+{
+    match tables.field(class, name) {
+        None => true,
+        Some((first, _)) => number <= first,
+    }
 }
 
 fn literal_kind(literal: &Literal) -> Kind
@@ -169,25 +185,27 @@ fn methods(
     decls: &[MethodDecl],
     made: &mut Vec<Method>,
 ) -> Result<(), TypeError>
+    requires { FewFields tables.now (class + 1) }
     ensures { let ms = map method_tree decls.now in
         Judges (rules.methods_demands tables.now class (length made.old.items) ms)
         (λ _. map method_view made.new.items ≡ map method_view made.old.items ++ rules.resolve_methods tables.now class (length made.old.items) ms) result }
 {
     for m in decls {
         let m = method(alloc, tables, class, made.len(), m)?;
-        made.push(m)?;
+        push(made, m)?;
     }
     Ok(())
 }
 
 fn events(alloc: Global, tables: &Tables, decls: &[EventDecl]) -> Result<Vec<Event>, TypeError>
+    requires { AllFew tables.now }
     ensures { let es = map event_tree decls.now in
         Judges (rules.events_demands tables.now 0 es) (λ made. map (functions.resolve_event tables.now) es ≡ map event_view made.items) result }
 {
     let mut made = Vec::new(alloc);
     for (i, e) in decls.iter().enumerate() {
         let e = event(alloc, tables, i, e)?;
-        made.push(e)?;
+        push(&mut made, e)?;
     }
     Ok(made)
 }

@@ -14,7 +14,7 @@ use mace_ast::{Action, Expr, Name, Stmt};
 use resolved_service::{Action as Effect, Stmt as Step, is_end};
 use std::alloc::Global;
 use type_rules::TypeError;
-use wave_base::{Kind, Span};
+use wave_base::{Kind, Span, push};
 
 impl Here<'_> {
     /// A statement.
@@ -78,7 +78,7 @@ impl Here<'_> {
             }
             let step = self.stmt(alloc, s)?;
             ended = is_end(&step);
-            steps.push(step)?;
+            push(&mut steps, step)?;
         }
         Ok(steps)
     }
@@ -120,8 +120,8 @@ impl Here<'_> {
             Judges (rules.local_asks h name.now 3) (λ slot. (slot ≡ length self.old.slots.items) × (counted h name.now.text ≡ here_of self.new)) result }
     {
         let counter = self.free_slot(name, 3)?;
-        self.slots.push(Kind::Int)?;
-        self.slots.push(Kind::Int)?;
+        push(&mut self.slots, Kind::Int)?;
+        push(&mut self.slots, Kind::Int)?;
         self.declare(alloc, &name.text, Kind::Int, counter + 2)?;
         Ok(counter)
     }

@@ -15,7 +15,7 @@ pub enum SendError {
     Sends(Message),
     /// No memory was left for it.
     #[error("out of memory")]
-    OutOfMemory(Message),
+    OutOfMemory(Message, OutOfMemory),
 }
 
 /// Why a created call was not kept. It comes back.
@@ -29,7 +29,7 @@ pub enum SpawnError {
     Spawns(Call),
     /// No memory was left for it.
     #[error("out of memory")]
-    OutOfMemory(Call),
+    OutOfMemory(Call, OutOfMemory),
 }
 
 /// The messages and the created calls of an event, in order.
@@ -74,7 +74,7 @@ impl Outputs {
         }
         match self.messages.push(message) {
             Ok(()) => Ok(()),
-            Err((message, OutOfMemory)) => Err(SendError::OutOfMemory(message)),
+            Err((message, refused)) => Err(SendError::OutOfMemory(message, refused)),
         }
     }
 
@@ -94,7 +94,7 @@ impl Outputs {
         }
         match self.created.push(call) {
             Ok(()) => Ok(()),
-            Err((call, OutOfMemory)) => Err(SpawnError::OutOfMemory(call)),
+            Err((call, refused)) => Err(SpawnError::OutOfMemory(call, refused)),
         }
     }
 
@@ -115,57 +115,5 @@ impl Outputs {
         let messages = std::mem::replace(&mut self.messages, Seq::new(self.alloc));
         let created = std::mem::replace(&mut self.created, Seq::new(self.alloc));
         (messages, created)
-    }
-}
-
-#[cfg(test)]
-mod tests {
-    use super::*;
-    use std::test::Fail;
-    use wave_base::{Txt, Value};
-
-    fn message(alloc: Global, n: i64) -> Result<Message, OutOfMemory> {
-        Ok(Message {
-            label: Txt::from_bytes(alloc, b"till")?,
-            value: Value::Int(n),
-        })
-    }
-
-    fn call(alloc: Global, event: u16) -> Call {
-        Call {
-            event,
-            args: Seq::new(alloc),
-            generation: 1,
-        }
-    }
-
-    #[test]
-    fn keeps_64_messages(rt: HostRuntime) -> Result<(), Fail> {
-        let mut outputs = Outputs::new(rt.alloc());
-        for n in 0..64 {
-            assert!(rt; outputs.send(message(rt.alloc(), n)?).is_ok());
-        }
-        let refused = outputs.send(message(rt.alloc(), 64)?);
-        assert!(rt; matches!(refused, Err(SendError::Sends(_))));
-        let (messages, created) = outputs.take();
-        assert_eq!(rt; messages.len(), 64);
-        assert!(rt; created.is_empty());
-        Ok(())
-    }
-
-    #[test]
-    fn keeps_4_calls_of_the_first_generations(rt: HostRuntime) -> Result<(), Fail> {
-        let mut outputs = Outputs::new(rt.alloc());
-        for event in 0..4 {
-            assert!(rt; outputs.spawn(3, call(rt.alloc(), event)).is_ok());
-        }
-        let refused = outputs.spawn(4, call(rt.alloc(), 4));
-        assert!(rt; matches!(refused, Err(SpawnError::Generation(_))));
-        let refused = outputs.spawn(3, call(rt.alloc(), 5));
-        assert!(rt; matches!(refused, Err(SpawnError::Spawns(_))));
-        outputs.discard();
-        let (messages, created) = outputs.take();
-        assert!(rt; messages.is_empty() && created.is_empty());
-        Ok(())
     }
 }

@@ -26,6 +26,7 @@ use Rattle.due_answer.specs.inner.Coded.{IsCoded}
 use Rattle.due_answer.specs.inner.Served.{IsRead, IsTypedRead, IsTypedTree}
 use Rattle.due_answer.proofs.CodeLemmas.{is_coded, only_coded}
 use Rattle.due_answer.proofs.DueLemmas.{of_read}
+use Rattle.wave_base.specs.Memory.{the_refusal}
 
 -- ---- what is accepted, from one to the other
 
@@ -90,6 +91,6 @@ module _ (P : Script → Answer → Type 0) (shape : Shape) (text : List ℕ) wh
   }
 
 -- a fault that is told is the text's
-pub told_fault : (shape : Shape) (earlier : Earlier) (text : List ℕ) (e : ScriptError) → e ≢ error.OutOfMemory → IsAnswer shape earlier text (Err e) → IsScriptOf shape earlier text (Err e)
-told_fault shape earlier text error.OutOfMemory told h = absurd (told refl)
+pub told_fault : (shape : Shape) (earlier : Earlier) (text : List ℕ) (e : ScriptError) → e ≢ error.OutOfMemory the_refusal → IsAnswer shape earlier text (Err e) → IsScriptOf shape earlier text (Err e)
+told_fault shape earlier text (error.OutOfMemory _) told h = absurd (told refl)
 told_fault shape earlier text e told h = h

@@ -27,16 +27,14 @@ same_functions shape a b e = ap (λ (p : Program). p.functions) (same_programs s
 not_short : (shape : Shape) (a b : Resolved) → resolved_view a ≡ resolved_view b → (n size : ℕ) → IsTooLong shape a n size → AreShort shape b → ⊥
 not_short shape a b e n size long short =
     let small : length long.function.code ≤ INSTRUCTIONS = all_at (λ (f : Function). length f.code ≤ INSTRUCTIONS) (scheme_program shape b).functions n long.function (ap (λ fs. slice_get fs n) (sym (same_functions shape a b e)) ∙ long.is_there) short in
-    let size_is : length long.function.code ≡ size = long.size_is in
-    let big : INSTRUCTIONS < size = long.too_long in
-    omega (arith, small, size_is, big)
+    let big : INSTRUCTIONS < length long.function.code = long.too_long in
+    omega (arith, small, big)
 
 not_before : (shape : Shape) (a b : Resolved) → resolved_view a ≡ resolved_view b → (n m size more : ℕ) → IsTooLong shape a n size → IsTooLong shape b m more → n < m → ⊥
 not_before shape a b e n m size more x y lt =
     let small : length x.function.code ≤ INSTRUCTIONS = y.first n x.function lt (ap (λ fs. slice_get fs n) (sym (same_functions shape a b e)) ∙ x.is_there) in
-    let size_is : length x.function.code ≡ size = x.size_is in
-    let big : INSTRUCTIONS < size = x.too_long in
-    omega (arith, small, size_is, big)
+    let big : INSTRUCTIONS < length x.function.code = x.too_long in
+    omega (arith, small, big)
 
 -- the first one that is too long is the same
 same_long : (shape : Shape) (a b : Resolved) → resolved_view a ≡ resolved_view b → (n m size more : ℕ) (x : IsTooLong shape a n size) (y : IsTooLong shape b m more) → x.function ≡ y.function

@@ -1,6 +1,7 @@
 //! The code of a typed service.
 
-ghost use Rattle.std.specs.Prelude.{◌≡◌, ◌++◌, IfOk, OnOk, codes};
+ghost use Rattle.std.specs.Prelude.{◌≡◌, ◌<◌, ◌+◌, ◌^◌, ◌++◌, length, IfOk, OnOk, codes};
+ghost use Rattle.resolved_service.specs.Fits.{FitsService};
 ghost use Rattle.code_scheme.specs.Typed.{IsTyped};
 ghost use Rattle.due_answer.specs.inner.Coded.{IsCompiled, IsLongNamed, name_at};
 
@@ -8,7 +9,7 @@ use crate::answer::{Answer, refused};
 use context_types::Typed;
 use service_compiler::{CompileError, compile_verified};
 use service_verify::Verified;
-use std::alloc::{AllocError, Global};
+use std::alloc::Global;
 use wave_base::{Class, OutOfMemory, Shape};
 
 /// The program of a typed service, or what is due where a function of it is too long.
@@ -21,7 +22,7 @@ pub enum Compiled {
 }
 
 // Writes a function's name: `Class.method` or `event`.
-fn put_name(note: &mut Vec<u8>, typed: &Typed, number: u16) -> Result<(), AllocError>
+fn put_name(note: &mut Vec<u8>, typed: &Typed, number: u16) -> Result<(), OutOfMemory>
     ensures { OnOk result (note.new.items ≡ note.old.items ++ name_at typed.now.shape typed.now.resolved number) }
 {
     let methods = typed.resolved.methods.as_slice();
@@ -30,10 +31,10 @@ fn put_name(note: &mut Vec<u8>, typed: &Typed, number: u16) -> Result<(), AllocE
         Some(method) => {
             note.extend_from_slice(typed.shape.class_name(method.class))?;
             note.push(b'.')?;
-            note.extend_from_slice(method.name.bytes())
+            Ok(note.extend_from_slice(method.name.bytes())?)
         }
         None => match typed.shape.events.get(number - methods.len()) {
-            Some(event) => note.extend_from_slice(event.name.bytes()),
+            Some(event) => Ok(note.extend_from_slice(event.name.bytes())?),
             None => Ok(()),
         },
     }
@@ -50,7 +51,9 @@ fn refused_code(alloc: Global, typed: &Typed, number: u16) -> Result<Answer, Out
 
 /// Compiles a typed service.
 pub fn code_of(alloc: Global, typed: &Typed) -> Result<Compiled, OutOfMemory>
-    requires { IsTyped typed.now.shape typed.now.resolved }
+    requires typed { IsTyped typed.now.shape typed.now.resolved }
+    requires fits { FitsService typed.now.shape typed.now.resolved }
+    requires few { length typed.now.resolved.methods + length typed.now.resolved.events < 2 ^ 16 }
     ensures { IfOk result (IsCompiled typed.now.shape typed.now.resolved) }
 {
     match compile_verified(alloc, typed.shape.copy(alloc)?, &typed.resolved) {
@@ -58,6 +61,6 @@ pub fn code_of(alloc: Global, typed: &Typed) -> Result<Compiled, OutOfMemory>
         Err(CompileError::CodeTooLong { function, .. }) => {
             Ok(Compiled::TooLong(refused_code(alloc, typed, function)?))
         }
-        Err(CompileError::OutOfMemory) => Err(OutOfMemory),
+        Err(CompileError::OutOfMemory(refused)) => Err(refused),
     }
 }

@@ -9,6 +9,7 @@ ghost use Rattle.due_answer.specs.Accepted.{IsAcceptedBy, IsReady};
 ghost use Rattle.due_answer.specs.Due.{IsDueTold, IsDueLines, IsDueScript, refusal};
 ghost use Rattle.due_answer.specs.inner.Coded.{IsCoded};
 ghost use Rattle.due_answer.specs.inner.Served.{IsTypedTree};
+ghost use Rattle.wave_base.specs.Memory.{the_refusal};
 
 use crate::accepted::{Accepted, refuse};
 use crate::answer::{Answer, refused};
@@ -25,7 +26,7 @@ use wave_theory::rules_pick;
 
 fn refused_script(alloc: Global, error: &ScriptError) -> Result<Answer, OutOfMemory>
     ensures refused { IfOk result (λ a. a ≡ refusal 4 (script_note error.now)) }
-    ensures told { IfOk result (λ _. error.now ≢ ScriptError.OutOfMemory) }
+    ensures told { IfOk result (λ _. error.now ≢ ScriptError.OutOfMemory the_refusal) }
 {
     let note = script_note(alloc, error)?;
     refused(alloc, 4, note.as_slice())

@@ -1,10 +1,12 @@
-ghost use Rattle.std.specs.Prelude.{◌≡◌, ◌≢◌, [], IfOk};
+ghost use Rattle.std.specs.Prelude.{◌≡◌, ◌≢◌, ◌<◌, ◌+◌, ◌^◌, [], length, IfOk};
+ghost use Rattle.mace_ast.specs.Counts.{IsFew};
 ghost use Rattle.mace_ast.specs.Decls.{ServiceTree, service_tree};
 ghost use Rattle.service_reader.specs.declared.fault.TextFault.{TextFault};
 ghost use Rattle.fault_notes.specs.Notes.{text_note, type_note};
 ghost use Rattle.type_rules.specs.declared.error.TypeError.{TypeError};
 ghost use Rattle.due_answer.specs.Due.{refusal};
 ghost use Rattle.due_answer.specs.inner.Served.{IsChecked, IsServed, IsTypedTree};
+ghost use Rattle.wave_base.specs.Memory.{the_refusal};
 
 use crate::answer::{Answer, refused};
 use crate::code::{Compiled, code_of};
@@ -29,7 +31,7 @@ pub enum Judged {
 // The refusal of a text that is no service.
 fn refused_text(alloc: Global, fault: &TextFault) -> Result<Answer, OutOfMemory>
     ensures refused { IfOk result (λ a. a ≡ refusal 3 (text_note fault.now)) }
-    ensures told { IfOk result (λ _. fault.now ≢ TextFault.OutOfMemory) }
+    ensures told { IfOk result (λ _. fault.now ≢ TextFault.OutOfMemory the_refusal) }
 {
     let note = text_note(alloc, fault)?;
     refused(alloc, 3, note.as_slice())
@@ -38,7 +40,7 @@ fn refused_text(alloc: Global, fault: &TextFault) -> Result<Answer, OutOfMemory>
 // The refusal of a service that isn't typed.
 fn refused_types(alloc: Global, error: &TypeError) -> Result<Answer, OutOfMemory>
     ensures refused { IfOk result (λ a. a ≡ refusal 3 (type_note error.now)) }
-    ensures told { IfOk result (λ _. error.now ≢ TypeError.OutOfMemory) }
+    ensures told { IfOk result (λ _. error.now ≢ TypeError.OutOfMemory the_refusal) }
 {
     let note = type_note(alloc, error)?;
     refused(alloc, 3, note.as_slice())
@@ -46,7 +48,8 @@ fn refused_types(alloc: Global, error: &TypeError) -> Result<Answer, OutOfMemory
 
 // A typed service with its code.
 fn coded(alloc: Global, typed: Typed) -> Result<Judged, OutOfMemory>
-    requires { (tree : ServiceTree) × IsTypedTree tree typed }
+    requires typed { (tree : ServiceTree) × IsTypedTree tree typed }
+    requires few { length typed.resolved.methods + length typed.resolved.events < 2 ^ 16 }
     ensures { (tree : ServiceTree) → IsTypedTree tree typed → IfOk result (IsChecked tree) }
 {
     match code_of(alloc, &typed)? {
@@ -57,6 +60,7 @@ fn coded(alloc: Global, typed: Typed) -> Result<Judged, OutOfMemory>
 
 // A service, checked.
 fn checked(alloc: Global, service: Service) -> Result<Judged, OutOfMemory>
+    requires { IsFew (service_tree service) }
     ensures { IfOk result (IsChecked (service_tree service)) }
 {
     match check(alloc, service) {

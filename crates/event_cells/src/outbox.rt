@@ -88,16 +88,17 @@ impl Outbox {
         }
     }
 
-    /// Makes room for so many more mails, and sees that there are numbers for them.
+    /// Makes room for so many more mails, for which there are numbers too.
     pub fn reserve(&mut self, more: usize) -> Result<(), OutOfMemory>
         ensures ok { OnOk result (more ≤ self.new.room) }
         ensures room { self.old.room ≤ self.new.room }
         ensures sent { self.new.sent ≡ self.old.sent }
         ensures mails { self.new.mails ≡ self.old.mails }
     {
-        if more > (u32::MAX - self.sent) as usize {
-            return Err(OutOfMemory);
-        }
+        // A mail without a number can't be sent, so where the numbers run out there is to be no room. The request is then for more than any
+        // memory holds, and it is its refusal that answers.
+        let numbers = (u32::MAX - self.sent) as usize;
+        let more = if more > numbers { usize::MAX } else { more };
         self.mails.reserve(more)?;
         Ok(())
     }

@@ -66,27 +66,27 @@ module _ (words : List (List ℕ)) (left old new : Option (List ℕ)) where
   is_refused WordsRefused h e = h.0
   is_refused ReadFault h e = absurd (omega arith)
   is_refused WriteFault h e = absurd (omega arith)
-  is_refused NoMemory h e = absurd (omega arith)
+  is_refused (NoMemory _) h e = absurd (omega arith)
   is_refused (Answered status note) h e = absurd ((answered words left old new status note h).0 e)
 
   pub is_fault : (e : Ending) → Ended words left old new e → status_of e ≡ 5 → e ≡ ReadFault
   is_fault WordsRefused h e = absurd (omega arith)
   is_fault ReadFault h e = refl
   is_fault WriteFault h e = absurd (omega arith)
-  is_fault NoMemory h e = absurd (omega arith)
+  is_fault (NoMemory _) h e = absurd (omega arith)
   is_fault (Answered status note) h e = absurd ((answered words left old new status note h).1 e)
 
   pub is_write_fault : (e : Ending) → Ended words left old new e → status_of e ≡ 6 → e ≡ WriteFault
   is_write_fault WordsRefused h e = absurd (omega arith)
   is_write_fault ReadFault h e = absurd (omega arith)
   is_write_fault WriteFault h e = refl
-  is_write_fault NoMemory h e = absurd (omega arith)
+  is_write_fault (NoMemory _) h e = absurd (omega arith)
   is_write_fault (Answered status note) h e = absurd ((answered words left old new status note h).2 e)
 
   pub writes_nothing : (e : Ending) → Ended words left old new e → (status_of e ≡ 2) ⊎ (status_of e ≡ 5) → Keeps old new
   writes_nothing WordsRefused h e = h.1
   writes_nothing ReadFault h e = h.1
-  writes_nothing NoMemory h e = elim e [ inl x ↦ absurd (omega arith) | inr x ↦ absurd (omega arith) ]
+  writes_nothing (NoMemory _) h e = elim e [ inl x ↦ absurd (omega arith) | inr x ↦ absurd (omega arith) ]
   writes_nothing WriteFault h e = elim e [ inl x ↦ absurd (omega arith) | inr x ↦ absurd (omega arith) ]
   writes_nothing (Answered status note) h e =
       let own = answered words left old new status note h in
@@ -95,7 +95,7 @@ module _ (words : List (List ℕ)) (left old new : Option (List ℕ)) where
   pub writes_front : (e : Ending) → Ended words left old new e → (status_of e ≡ 6) ⊎ (status_of e ≡ 7) → WritesFront words left old new
   writes_front WordsRefused h e = inl h.1
   writes_front ReadFault h e = inl h.1
-  writes_front NoMemory h e = h
+  writes_front (NoMemory _) h e = h
   writes_front WriteFault h e = inr h
   writes_front (Answered status note) h e =
       let own = answered words left old new status note h in
@@ -113,7 +113,7 @@ module _ (words : List (List ℕ)) (left old new : Option (List ℕ)) where
   tells_note WordsRefused P h p = p
   tells_note ReadFault P h p = p
   tells_note WriteFault P h p = p
-  tells_note NoMemory P h p = p
+  tells_note (NoMemory _) P h p = p
   tells_note (Answered status note) P h p = subst (λ o. IfSome o P) (sym (tells_none status (answered words left old new status note h))) tt
 
 -- ---- a whole call
@@ -145,7 +145,7 @@ module _ (words : List (List ℕ)) (input out : Change) where
   wrong_words WordsRefused h none = inl refl
   wrong_words ReadFault h none = no_command words h.0.0 h.0.1 none
   wrong_words WriteFault h none = no_command words h.command h.accepted none
-  wrong_words NoMemory h none = inr refl
+  wrong_words (NoMemory _) h none = inr refl
   wrong_words (Answered status note) h none = no_command words h.command h.accepted none
 
   no_fault : (e : Ending) → Did words input out e → read_by words ≡ false → status_of e ≢ 5
@@ -165,7 +165,7 @@ module _ (words : List (List ℕ)) (input out : Change) where
   read_whole WordsRefused d given reads = absurd cc
   read_whole ReadFault d given reads = absurd cc
   read_whole WriteFault d given reads = absurd cc
-  read_whole NoMemory d given reads = absurd cc
+  read_whole (NoMemory _) d given reads = absurd cc
   read_whole (Answered status note) d given reads = subst (λ b. ReadsDue b input.bytes input.bytes_now (Answered status note)) reads d.read
 
   module _ (notes : Change) where
@@ -177,7 +177,7 @@ module _ (words : List (List ℕ)) (input out : Change) where
     given_due WordsRefused d told given = absurd cc
     given_due ReadFault d told given = absurd cc
     given_due WriteFault d told given = absurd cc
-    given_due NoMemory d told given = absurd cc
+    given_due (NoMemory _) d told given = absurd cc
     given_due (Answered status note) d told given =
         let s = d.ended in
         let f = s.found in
@@ -189,7 +189,7 @@ module _ (words : List (List ℕ)) (input out : Change) where
     due_given WordsRefused d c bytes accepted told reads writes = no_command words c accepted d.ended.0
     due_given ReadFault d c bytes accepted told reads writes = absurd (reads (reading d c accepted) (d.read_fault refl))
     due_given WriteFault d c bytes accepted told reads writes = absurd (writes (d.write_fault refl))
-    due_given NoMemory d c bytes accepted told reads writes = inl refl
+    due_given (NoMemory _) d c bytes accepted told reads writes = inl refl
     due_given (Answered status note) d c bytes accepted told reads writes =
         let f = same_due words input.bytes (λ a. Gave a out.bytes out.bytes_now (Answered status note)) d.ended c bytes accepted told in
         inr (record { due = f.due; told = f.told; holds = (f.holds.0, f.holds.2) })

@@ -18,7 +18,7 @@ module _ (old new : Option (List ℕ)) where
   gives_it P a WordsRefused p g = absurd g
   gives_it P a ReadFault p g = absurd g
   gives_it P a WriteFault p g = record { due = a; is_so = p; gave = g }
-  gives_it P a NoMemory p g = inr (record { due = a; is_so = p; gave = g })
+  gives_it P a (NoMemory _) p g = inr (record { due = a; is_so = p; gave = g })
   gives_it P a (Answered status note) p g = record { due = a; is_so = p; gave = g }
 
   -- where P holds, Q does
@@ -26,22 +26,22 @@ module _ (old new : Option (List ℕ)) where
   gives_as P Q WordsRefused f g = absurd g.gave
   gives_as P Q ReadFault f g = absurd g.gave
   gives_as P Q WriteFault f g = record { due = g.due; is_so = f g.due g.is_so; gave = g.gave }
-  gives_as P Q NoMemory f (inl kept) = inl kept
-  gives_as P Q NoMemory f (inr g) = inr (record { due = g.due; is_so = f g.due g.is_so; gave = g.gave })
+  gives_as P Q (NoMemory _) f (inl kept) = inl kept
+  gives_as P Q (NoMemory _) f (inr g) = inr (record { due = g.due; is_so = f g.due g.is_so; gave = g.gave })
   gives_as P Q (Answered status note) f g = record { due = g.due; is_so = f g.due g.is_so; gave = g.gave }
 
   reads_none : (P : Answer → Type 0) (e : Ending) → SomeGave P old new e → is_read_fault e ≡ false
   reads_none P WordsRefused g = refl
   reads_none P ReadFault g = absurd g.gave
   reads_none P WriteFault g = refl
-  reads_none P NoMemory g = refl
+  reads_none P (NoMemory _) g = refl
   reads_none P (Answered status note) g = refl
 
 reads_due : (b : Bool) (old new : Option (List ℕ)) (e : Ending) → ReadsAll old new → ReadsDue b old new e
 reads_due true old new WordsRefused h = tt
 reads_due true old new ReadFault h = tt
 reads_due true old new WriteFault h = tt
-reads_due true old new NoMemory h = tt
+reads_due true old new (NoMemory _) h = tt
 reads_due true old new (Answered status note) h = h
 reads_due false old new e h = tt
 
@@ -56,8 +56,8 @@ module _ (words : List (List ℕ)) (c : Command) (accepted : command_of words �
   ended_of bytes i WordsRefused g = absurd g.gave
   ended_of bytes i ReadFault g = absurd g.gave
   ended_of bytes i WriteFault g = record { command = c; accepted = accepted; bytes = bytes; input = i; found = record { due = g.due; told = g.is_so; holds = g.gave } }
-  ended_of bytes i NoMemory (inl kept) = inl kept
-  ended_of bytes i NoMemory (inr g) = inr (record { command = c; accepted = accepted; bytes = bytes; input = i; found = record { due = g.due; told = g.is_so; holds = g.gave } })
+  ended_of bytes i (NoMemory _) (inl kept) = inl kept
+  ended_of bytes i (NoMemory _) (inr g) = inr (record { command = c; accepted = accepted; bytes = bytes; input = i; found = record { due = g.due; told = g.is_so; holds = g.gave } })
   ended_of bytes i (Answered status note) g = record { command = c; accepted = accepted; bytes = bytes; input = i; found = record { due = g.due; told = g.is_so; holds = g.gave } }
 
   -- a command that reads its input has read it, and an answer that is due for it was given

@@ -44,6 +44,7 @@ use Rattle.eventwave.specs.declared.task.Task.{Task}
 use Rattle.eventwave.specs.inner.Parts.{Gave, Gives, SomeGave}
 use Rattle.eventwave.specs.inner.Tasks.{Tells, TellsWith, command_for, command_with, end_text, rest_of, rest_with}
 use Rattle.eventwave.proofs.GivingLemmas.{gives_it}
+use Rattle.wave_base.specs.Memory.{the_refusal}
 
 -- ---- counts and bytes
 
@@ -62,7 +63,7 @@ gave_behind : (old mid new : Option (List ℕ)) (lines : List ℕ) (a : Answer) 
 gave_behind old mid new lines a WordsRefused p g = absurd g
 gave_behind old mid new lines a ReadFault p g = absurd g
 gave_behind old mid new lines a WriteFault p g = front_behind old mid new lines a.text p g
-gave_behind old mid new lines a NoMemory p g = front_behind old mid new lines a.text p g
+gave_behind old mid new lines a (NoMemory _) p g = front_behind old mid new lines a.text p g
 gave_behind old mid new lines a (Answered status note) p g = (g.0, g.1, Appends-trans old mid new lines a.text p g.2)
 
 -- ---- the lines of a run
@@ -155,8 +156,8 @@ module _ (task : Task) (work : Work) (plan : Plan) (p : plan.program ≡ work.pr
   pub run_fails : (old new : Option (List ℕ)) → CanRun work → AppendsFront old new (event_lines plan (first_start plan.program.shape)) → SomeGave (Tells task work) old new WriteFault
   run_fails old new can front = run_breaks old new WriteFault can front (λ a h. h)
 
-  pub run_wants : (old new : Option (List ℕ)) → CanRun work → AppendsFront old new (event_lines plan (first_start plan.program.shape)) → SomeGave (Tells task work) old new NoMemory
-  run_wants old new can front = inr (run_breaks old new NoMemory can front (λ a h. h))
+  pub run_wants : (old new : Option (List ℕ)) → CanRun work → AppendsFront old new (event_lines plan (first_start plan.program.shape)) → SomeGave (Tells task work) old new (NoMemory the_refusal)
+  run_wants old new can front = inr (run_breaks old new (NoMemory the_refusal) can front (λ a h. h))
 
 -- ---- the end of a listing
 

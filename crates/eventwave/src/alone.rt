@@ -22,7 +22,7 @@ enum InputError {
     #[error("a read failed")]
     ReadFault,
     #[error("out of memory")]
-    OutOfMemory,
+    OutOfMemory(OutOfMemory),
 }
 
 /// Finds what is due for a command that reads no input.
@@ -33,7 +33,7 @@ fn judge_alone(alloc: Global, command: Command) -> Result<Answer, InputError>
 {
     match judge(alloc, command, b"") {
         Ok(answer) => Ok(answer),
-        Err(OutOfMemory) => Err(InputError::OutOfMemory),
+        Err(refused) => Err(InputError::OutOfMemory(refused)),
     }
 }
 
@@ -51,14 +51,14 @@ fn judge_input<S: Source>(
     match read_all(alloc, input, INPUT_BYTES) {
         Ok(bytes) => match judge(alloc, command, bytes.as_slice()) {
             Ok(answer) => Ok(answer),
-            Err(OutOfMemory) => Err(InputError::OutOfMemory),
+            Err(refused) => Err(InputError::OutOfMemory(refused)),
         },
         Err(ReadError::ReadFault) => Err(InputError::ReadFault),
         Err(ReadError::TooLarge) => match refused(alloc, 3, b"TooLarge input") {
             Ok(answer) => Ok(answer),
-            Err(OutOfMemory) => Err(InputError::OutOfMemory),
+            Err(refused) => Err(InputError::OutOfMemory(refused)),
         },
-        Err(ReadError::OutOfMemory) => Err(InputError::OutOfMemory),
+        Err(ReadError::OutOfMemory(refused)) => Err(InputError::OutOfMemory(refused)),
     }
 }
 
@@ -94,6 +94,6 @@ pub fn perform<S: Source, K: Sink>(
     match find_due(alloc, command, input) {
         Ok(answer) => give(out, answer),
         Err(InputError::ReadFault) => Ending::ReadFault,
-        Err(InputError::OutOfMemory) => Ending::NoMemory,
+        Err(InputError::OutOfMemory(refused)) => Ending::NoMemory(refused),
     }
 }

@@ -1,4 +1,4 @@
-use wave_base::Seq;
+use wave_base::{OutOfMemory, Seq};
 
 /// How a call ended.
 #[derive(Debug, Drop)]
@@ -10,7 +10,7 @@ pub enum Ending {
     /// The sink failed.
     WriteFault,
     /// Memory was wanting.
-    NoMemory,
+    NoMemory(OutOfMemory),
     /// An answer was given whole: its status and note.
     Answered(u8, Seq<u8>),
 }

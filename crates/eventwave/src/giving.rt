@@ -29,7 +29,7 @@ fn status_of(ending: &Ending) -> u8
         Ending::WordsRefused => 2,
         Ending::ReadFault => 5,
         Ending::WriteFault => 6,
-        Ending::NoMemory => 7,
+        Ending::NoMemory(_) => 7,
         Ending::Answered(status, _) => *status,
     }
 }
@@ -42,7 +42,7 @@ fn note_of(ending: &Ending) -> &[u8]
         Ending::WordsRefused => b"words",
         Ending::ReadFault => b"ReadFault",
         Ending::WriteFault => b"WriteFault",
-        Ending::NoMemory => b"OutOfMemory",
+        Ending::NoMemory(_) => b"OutOfMemory",
         Ending::Answered(_, note) => note.as_slice(),
     }
 }

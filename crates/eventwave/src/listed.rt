@@ -46,7 +46,7 @@ pub fn run_work<R: Threads + Wait + Sync, K: Sink + Send, G: Gate + Sync>(
     match run_plan(team.rt, team.alloc, &plan, team.gate, out) {
         Ok((done, journal)) => write_rest(team.alloc, task, &plan, &done, &journal, out),
         Err(RunError::WriteFault) => Ending::WriteFault,
-        Err(RunError::OutOfMemory) => Ending::NoMemory,
+        Err(RunError::OutOfMemory(refused)) => Ending::NoMemory(refused),
     }
 }
 
@@ -68,7 +68,7 @@ fn write_rest<K: Sink>(
     match write_behind(alloc, task, plan, done, journal, out) {
         Ok(()) => Ending::Answered(status_of(done.results.as_slice()), Seq::new(alloc)),
         Err(ListError::WriteFault) => Ending::WriteFault,
-        Err(ListError::OutOfMemory) => Ending::NoMemory,
+        Err(ListError::OutOfMemory(refused)) => Ending::NoMemory(refused),
     }
 }
 

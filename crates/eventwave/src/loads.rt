@@ -32,7 +32,7 @@ pub fn run_load<R: Threads + Wait + Sync, K: Sink, G: Gate + Sync>(
 {
     match summed(team, n, crew) {
         Ok(answer) => give(out, answer),
-        Err(OutOfMemory) => Ending::NoMemory,
+        Err(refused) => Ending::NoMemory(refused),
     }
 }
 
@@ -64,6 +64,7 @@ fn sum_up<R: Threads + Wait + Sync, G: Gate + Sync>(
     let shape = &plan.program.program().shape;
     match run_plan(team.rt, team.alloc, &plan, team.gate, &mut SureSink::new()) {
         Ok((done, _)) => reported(team.alloc, Report::Summary, shape, &done),
-        Err(RunError::OutOfMemory) | Err(RunError::WriteFault) => Err(OutOfMemory),
+        Err(RunError::OutOfMemory(refused)) => Err(refused),
+        Err(RunError::WriteFault) => unreachable!(),
     }
 }

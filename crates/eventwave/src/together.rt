@@ -75,7 +75,7 @@ fn run_input<R: Threads + Wait + Sync, S: Source, K: Sink + Send, G: Gate + Sync
         Ok(bytes) => run_bytes(team, task, bytes.as_slice(), out),
         Err(ReadError::TooLarge) => refuse(team.alloc, out),
         Err(ReadError::ReadFault) => Ending::ReadFault,
-        Err(ReadError::OutOfMemory) => Ending::NoMemory,
+        Err(ReadError::OutOfMemory(refused)) => Ending::NoMemory(refused),
     }
 }
 
@@ -86,7 +86,7 @@ fn refuse<K: Sink>(alloc: Global, out: &mut K) -> Ending
 {
     match refused(alloc, 3, b"TooLarge input") {
         Ok(answer) => give(out, answer),
-        Err(OutOfMemory) => Ending::NoMemory,
+        Err(refused) => Ending::NoMemory(refused),
     }
 }
 
@@ -104,6 +104,6 @@ fn run_bytes<R: Threads + Wait + Sync, K: Sink + Send, G: Gate + Sync>(
     match accept(team.alloc, bytes) {
         Ok(Accepted::Ready(work)) => run_work(team, task, work, out),
         Ok(Accepted::Refused(answer)) => give(out, answer),
-        Err(OutOfMemory) => Ending::NoMemory,
+        Err(refused) => Ending::NoMemory(refused),
     }
 }

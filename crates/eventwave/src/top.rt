@@ -33,7 +33,7 @@ fn respond<S: Source, K: Sink>(alloc: Global, words: &Words, input: &mut S, out:
             }
         }
         Ok(None) => Response::Done(Ending::WordsRefused),
-        Err(OutOfMemory) => Response::Done(Ending::NoMemory),
+        Err(refused) => Response::Done(Ending::NoMemory(refused)),
     }
 }
 
@@ -112,6 +112,6 @@ pub fn start<R: Threads + Wait + Sync, S: Source, K: Sink + Send, N: Sink, G: Ga
 {
     match words {
         Ok(words) => eventwave(rt, alloc, &words, input, out, notes, gate),
-        Err(OutOfMemory) => finish(notes, &Ending::NoMemory),
+        Err(refused) => finish(notes, &Ending::NoMemory(refused)),
     }
 }

@@ -6,7 +6,6 @@ mod tests;
 
 use eventwave::start;
 use std::env;
-use std::io::ErrorKind;
 use std::process::ExitCode;
 use wave_base::{OutOfMemory, Words};
 use wave_io::{OpenGate, StdSink, StdSource};
@@ -20,8 +19,11 @@ fn words_given(rt: &HostRuntime) -> Result<Words, OutOfMemory> {
                 words.push(arg.as_str())?;
             }
         }
-        Err(error) if error.kind() == ErrorKind::OutOfMemory => return Err(OutOfMemory),
-        Err(_) => {}
+        Err(error) => {
+            if let Some(refused) = OutOfMemory::of_stream(error.kind()) {
+                return Err(refused);
+            }
+        }
     }
     Ok(words)
 }

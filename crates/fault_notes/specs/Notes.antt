@@ -2,6 +2,7 @@
 use Rattle.std.specs.Prelude.{ℕ, List, [], ◌∷◌, ◌++◌, codes}
 use Rattle.std.specs.Fmt.{decimal}
 use Rattle.wave_base.specs.declared.span.Span.{Span}
+use Rattle.wave_text.specs.Places.{place_text}
 use Rattle.mace_lexer.specs.declared.fault.LexError.{LexError}
 use Rattle.mace_lexer.specs.declared.fault.LexError.TheVariants as lex
 use Rattle.mace_parser.specs.declared.fault.ParseError.{ParseError}
@@ -15,7 +16,7 @@ use Rattle.type_rules.specs.declared.error.TypeError.TheVariants as wrong
 
 -- what it is, and line:column
 abbrev pub placed : List ℕ → Span → List ℕ
-placed name at = name ++ (32 ∷ (decimal at.line ++ (58 ∷ decimal at.col)))
+placed name at = name ++ (32 ∷ place_text at)
 
 abbrev pub lex_note : LexError → List ℕ
 lex_note (lex.BadByte at) = placed (codes "L1 BadByte") at
@@ -23,19 +24,19 @@ lex_note (lex.NumberRange at) = placed (codes "L2 NumberRange") at
 lex_note (lex.OpenText at) = placed (codes "L3 OpenText") at
 lex_note (lex.NameLong at) = placed (codes "L4 NameLong") at
 lex_note (lex.TextLong at) = placed (codes "L5 TextLong") at
-lex_note lex.OutOfMemory = []
+lex_note (lex.OutOfMemory _) = []
 
 abbrev pub parse_note : ParseError → List ℕ
 parse_note (parse.Expected token at) = placed (codes "P1 Expected") at
 parse_note (parse.TooDeep token at) = placed (codes "P2 TooDeep") at
-parse_note parse.OutOfMemory = []
+parse_note (parse.OutOfMemory _) = []
 
 -- of a text that is no service
 abbrev pub text_note : TextFault → List ℕ
 text_note fault.TooLarge = codes "TooLarge service"
 text_note (fault.Lex e) = lex_note e
 text_note (fault.Parse e) = parse_note e
-text_note fault.OutOfMemory = []
+text_note (fault.OutOfMemory _) = []
 
 abbrev pub type_note : TypeError → List ℕ
 type_note (wrong.UnknownName at) = placed (codes "Y1 UnknownName") at
@@ -47,7 +48,7 @@ type_note (wrong.CalleeLater at) = placed (codes "Y6 CalleeLater") at
 type_note (wrong.MissingReply at) = placed (codes "Y7 MissingReply") at
 type_note (wrong.Limit which at) = placed (codes "Y8 Limit") at
 type_note (wrong.Unreachable at) = placed (codes "Y10 Unreachable") at
-type_note wrong.OutOfMemory = []
+type_note (wrong.OutOfMemory _) = []
 
 -- what it is, and the line of the script
 abbrev pub on_line : List ℕ → ℕ → List ℕ
@@ -62,4 +63,4 @@ script_note (script.BadPath line) = on_line (codes "S5 BadPath") line
 script_note (script.HostRange line) = on_line (codes "S6 HostRange") line
 script_note (script.HostsLate line) = on_line (codes "S7 HostsLate") line
 script_note (script.TooMany line) = on_line (codes "S8 TooMany") line
-script_note script.OutOfMemory = []
+script_note (script.OutOfMemory _) = []

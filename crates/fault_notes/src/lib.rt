@@ -2,7 +2,5 @@
 #![tactic(auto)]
 
 mod notes;
-#[cfg(test)]
-mod tests;
 
 pub use notes::{lex_note, parse_note, script_note, text_note, type_note};

@@ -5,6 +5,7 @@ ghost use Rattle.script_reader.specs.declared.error.ScriptError.{ScriptError};
 ghost use Rattle.service_reader.specs.declared.fault.TextFault.{TextFault};
 ghost use Rattle.type_rules.specs.declared.error.TypeError.{TypeError};
 ghost use Rattle.fault_notes.specs.Notes.{placed, on_line, lex_note, parse_note, text_note, type_note, script_note};
+ghost use Rattle.wave_base.specs.Memory.{the_refusal};
 
 use mace_lexer::LexError;
 use mace_parser::ParseError;
@@ -13,7 +14,7 @@ use service_reader::TextFault;
 use std::alloc::Global;
 use type_rules::TypeError;
 use wave_base::{OutOfMemory, Span};
-use wave_text::{put_bytes, put_number};
+use wave_text::{put_bytes, put_number, put_place};
 
 /// What it is, and its line and column.
 pub fn placed(alloc: Global, name: &[u8], at: Span) -> Result<Vec<u8>, OutOfMemory>
@@ -22,16 +23,14 @@ pub fn placed(alloc: Global, name: &[u8], at: Span) -> Result<Vec<u8>, OutOfMemo
     let mut note = Vec::new(alloc);
     put_bytes(&mut note, name)?;
     put_bytes(&mut note, b" ")?;
-    put_number(alloc, &mut note, u64::from(at.line))?;
-    put_bytes(&mut note, b":")?;
-    put_number(alloc, &mut note, u64::from(at.col))?;
+    put_place(alloc, &mut note, at)?;
     Ok(note)
 }
 
 /// What is told of a text that can't be cut into tokens.
 pub fn lex_note(alloc: Global, error: &LexError) -> Result<Vec<u8>, OutOfMemory>
     ensures note { IfOk result (λ note. note.items ≡ lex_note error.now) }
-    ensures told { IfOk result (λ _. error.now ≢ LexError.OutOfMemory) }
+    ensures told { IfOk result (λ _. error.now ≢ LexError.OutOfMemory the_refusal) }
 {
     match error {
         LexError::BadByte(at) => placed(alloc, b"L1 BadByte", *at),
@@ -39,39 +38,39 @@ pub fn lex_note(alloc: Global, error: &LexError) -> Result<Vec<u8>, OutOfMemory>
         LexError::OpenText(at) => placed(alloc, b"L3 OpenText", *at),
         LexError::NameLong(at) => placed(alloc, b"L4 NameLong", *at),
         LexError::TextLong(at) => placed(alloc, b"L5 TextLong", *at),
-        LexError::OutOfMemory => Err(OutOfMemory),
+        LexError::OutOfMemory(refused) => Err(*refused),
     }
 }
 
 /// What is told of tokens that are no service.
 pub fn parse_note(alloc: Global, error: &ParseError) -> Result<Vec<u8>, OutOfMemory>
     ensures note { IfOk result (λ note. note.items ≡ parse_note error.now) }
-    ensures told { IfOk result (λ _. error.now ≢ ParseError.OutOfMemory) }
+    ensures told { IfOk result (λ _. error.now ≢ ParseError.OutOfMemory the_refusal) }
 {
     match error {
         ParseError::Expected { at, .. } => placed(alloc, b"P1 Expected", *at),
         ParseError::TooDeep { at, .. } => placed(alloc, b"P2 TooDeep", *at),
-        ParseError::OutOfMemory => Err(OutOfMemory),
+        ParseError::OutOfMemory(refused) => Err(*refused),
     }
 }
 
 /// What is told of a text that is no service.
 pub fn text_note(alloc: Global, fault: &TextFault) -> Result<Vec<u8>, OutOfMemory>
     ensures note { IfOk result (λ note. note.items ≡ text_note fault.now) }
-    ensures told { IfOk result (λ _. fault.now ≢ TextFault.OutOfMemory) }
+    ensures told { IfOk result (λ _. fault.now ≢ TextFault.OutOfMemory the_refusal) }
 {
     match fault {
         TextFault::TooLarge => Ok(Vec::from_slice(alloc, b"TooLarge service")?),
         TextFault::Lex(error) => lex_note(alloc, error),
         TextFault::Parse(error) => parse_note(alloc, error),
-        TextFault::OutOfMemory => Err(OutOfMemory),
+        TextFault::OutOfMemory(refused) => Err(*refused),
     }
 }
 
 /// What is told of a service that isn't typed.
 pub fn type_note(alloc: Global, error: &TypeError) -> Result<Vec<u8>, OutOfMemory>
     ensures note { IfOk result (λ note. note.items ≡ type_note error.now) }
-    ensures told { IfOk result (λ _. error.now ≢ TypeError.OutOfMemory) }
+    ensures told { IfOk result (λ _. error.now ≢ TypeError.OutOfMemory the_refusal) }
 {
     match error {
         TypeError::UnknownName(at) => placed(alloc, b"Y1 UnknownName", *at),
@@ -83,7 +82,7 @@ pub fn type_note(alloc: Global, error: &TypeError) -> Result<Vec<u8>, OutOfMemor
         TypeError::MissingReply(at) => placed(alloc, b"Y7 MissingReply", *at),
         TypeError::Limit(_, at) => placed(alloc, b"Y8 Limit", *at),
         TypeError::Unreachable(at) => placed(alloc, b"Y10 Unreachable", *at),
-        TypeError::OutOfMemory => Err(OutOfMemory),
+        TypeError::OutOfMemory(refused) => Err(*refused),
     }
 }
 
@@ -101,7 +100,7 @@ fn on_line(alloc: Global, name: &[u8], line: u32) -> Result<Vec<u8>, OutOfMemory
 /// What is told of a script line that is refused.
 pub fn script_note(alloc: Global, error: &ScriptError) -> Result<Vec<u8>, OutOfMemory>
     ensures note { IfOk result (λ note. note.items ≡ script_note error.now) }
-    ensures told { IfOk result (λ _. error.now ≢ ScriptError.OutOfMemory) }
+    ensures told { IfOk result (λ _. error.now ≢ ScriptError.OutOfMemory the_refusal) }
 {
     match error {
         ScriptError::UnknownCommand { line } => on_line(alloc, b"S1 UnknownCommand", *line),
@@ -112,6 +111,6 @@ pub fn script_note(alloc: Global, error: &ScriptError) -> Result<Vec<u8>, OutOfM
         ScriptError::HostRange { line } => on_line(alloc, b"S6 HostRange", *line),
         ScriptError::HostsLate { line } => on_line(alloc, b"S7 HostsLate", *line),
         ScriptError::TooMany { line } => on_line(alloc, b"S8 TooMany", *line),
-        ScriptError::OutOfMemory => Err(OutOfMemory),
+        ScriptError::OutOfMemory(refused) => Err(*refused),
     }
 }

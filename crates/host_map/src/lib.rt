@@ -7,6 +7,3 @@ mod store;
 
 pub use laws::stores_stand;
 pub use store::{Found, HostStore, Mark, place_of};
-
-#[cfg(test)]
-mod tests;

@@ -8,7 +8,7 @@ ghost use Rattle.wave_base.specs.Paths.{path_eq};
 
 use context_queue::Entry;
 use indexmap::IndexMap;
-use std::alloc::{AllocError, Global};
+use std::alloc::Global;
 use std::marker::Model;
 use wave_base::{Host, OutOfMemory, Path};
 
@@ -169,11 +169,11 @@ impl HostStore {
 }
 
 // The keys of a table, in its order.
-fn keys_in(alloc: Global, table: &IndexMap<Path, Entry>) -> Result<Vec<Path>, AllocError>
+fn keys_in(alloc: Global, table: &IndexMap<Path, Entry>) -> Result<Vec<Path>, OutOfMemory>
     ensures keys { IfOk result (λ paths. paths.items ≡ keys table.now) }
     ensures once { IfOk result (λ paths. IsDistinct path_eq paths.items) }
 {
-    table.keys().copied().collect(alloc)
+    Ok(table.keys().copied().collect(alloc)?)
 }
 
 /// The first host whose store has the entry of a context.

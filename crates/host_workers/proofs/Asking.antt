@@ -25,7 +25,7 @@ use Rattle.wave_board.specs.declared.trail.Trail.{Trail}
 use Rattle.wave_board.specs.declared.trail.Trail.TheVariants.{Step, Halt}
 use Rattle.wave_board.specs.declared.work.Work.{Work}
 use Rattle.wave_board.specs.declared.work.Work.TheVariants.{Stepped, Segment, Nothing, Finished, Stopped}
-use Rattle.wave_board.specs.Boards.{InEachState, IsAt, StandsFor, StandsStill, history_of, labels_in, labels_of, owner_of}
+use Rattle.wave_board.specs.Boards.{InEachState, IsAt, IsWord, StandsFor, StandsStill, WordStands, history_of, labels_in, labels_of, owner_of}
 use Rattle.wave_board.specs.Taking.{AreEven, IsFinished, Took, begins, ends}
 use Rattle.wave_board.proofs.Staying.{labels_are}
 use Rattle.host_workers.specs.Endings.{IsFinishedRun, IsHaltedBy}
@@ -96,11 +96,14 @@ module _ (o : Origin) (k : Known Trail) (w : Worker) (ready : IsReady o k w) (y 
       by_other : (why : StopCause) → history_of z ≡ history_of y → option_map (λ x. x.why) y.word ≡ Some why → IsHaltedBy k'.number why k'.seen
       by_other why h set =
           let x = word_why y.word why set in
-          let there : Contains (history_of y) (Halt x.0.worker why) = subst (λ c. Contains (history_of y) (Halt x.0.worker c)) x.2 (word_halts y.word x.0 (map Step y.journal.items) x.1) in (
-            x.0.worker,
-            (λ mine. ready.no_halts x.0.worker why (subst (λ ts. Contains ts (Halt x.0.worker why)) meets.agrees.1 (own_contains k.number (history_of y) (Halt x.0.worker why) (mine ∙ (same h).number) there))),
-            subst (λ ts. Contains ts (Halt x.0.worker why)) (sym ((same h).seen ∙ h)) there,
-          )
+          let word : IsWord x.0 (length y.journal.items) = subst (λ w. WordStands w (length y.journal.items)) x.1 meets.stands_for_name.1.word in
+          let there : Contains (history_of y) (Halt x.0.worker why) = subst (λ c. Contains (history_of y) (Halt x.0.worker c)) x.2 (word_halts y.word x.0 (map Step y.journal.items) x.1) in
+          record {
+            who = x.0.worker;
+            other = λ mine. ready.no_halts x.0.worker why (subst (λ ts. Contains ts (Halt x.0.worker why)) meets.agrees.1 (own_contains k.number (history_of y) (Halt x.0.worker why) (mine ∙ (same h).number) there));
+            writer = λ sink. word.writer (x.2 ∙ sink);
+            halted = subst (λ ts. Contains ts (Halt x.0.worker why)) (sym ((same h).seen ∙ h)) there;
+          }
 
       -- a segment is out
       leased : (lease : Lease) (mid : Board) → Walked y w mid → Took mid w z (Segment lease) → HasLease o k' w lease

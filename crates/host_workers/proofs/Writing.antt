@@ -28,6 +28,7 @@ use Rattle.host_workers.specs.Lines.{event_lines}
 use Rattle.host_workers.specs.Passes.{GoesOn, IsReady, OnlyHalts}
 use Rattle.host_workers.specs.inner.Rounds.{Asked}
 use Rattle.host_workers.specs.inner.Writing.{AreCommitted, AreNext, BreaksOff, HasWritten, Offered, WritesUpTo, lines_of, told_of}
+use Rattle.wave_base.specs.Memory.{the_refusal}
 
 abbrev pub all_of : Origin → List ℕ
 all_of o = event_lines o.plan.now o.start.now
@@ -138,13 +139,13 @@ module _ (o : Origin) (k : Known Trail) (w : Worker) (written : ℕ) where
     sink_failed number halted own broke rose = (number, (halted, own), broke, (λ is. absurd cc), (λ is. rose))
 
     -- there was no memory
-    pub no_memory : (e : Ending) → e ≡ ending.OutOfMemory → k.number ≡ w.0 → Ended o k e → BreaksOff o written a b → HasWritten o k w written a b f g (Err e)
+    pub no_memory : (e : Ending) → e ≡ ending.OutOfMemory the_refusal → k.number ≡ w.0 → Ended o k e → BreaksOff o written a b → HasWritten o k w written a b f g (Err e)
     no_memory e memory number ended broke = (number, ended, broke, (λ is. absurd (clash e memory is)), (λ is. absurd (fault e memory is)))
       where
-        clash : (e : Ending) → e ≡ ending.OutOfMemory → e ≡ ending.Finished → ⊥
+        clash : (e : Ending) → e ≡ ending.OutOfMemory the_refusal → e ≡ ending.Finished → ⊥
         clash e p q = cc
 
-        fault : (e : Ending) → e ≡ ending.OutOfMemory → e ≡ ending.WriteFault → ⊥
+        fault : (e : Ending) → e ≡ ending.OutOfMemory the_refusal → e ≡ ending.WriteFault → ⊥
         fault e p q = cc
 
   module _ (a : Option (List ℕ)) (f g : ℕ) where

@@ -1,5 +1,5 @@
 -- What a worker's ending says of what its pass has seen and made.
-use Rattle.std.specs.Prelude.{◌≢◌, ℕ, List, Contains}
+use Rattle.std.specs.Prelude.{◌≡◌, ◌≢◌, ℕ, List, Contains}
 use Rattle.wave_base.specs.declared.numbers.Worker.{Worker}
 use Rattle.kept_lock.specs.declared.view.Known.{Known}
 use Rattle.plan_actors.specs.PlanActors.{plan_actors}
@@ -29,9 +29,12 @@ pub record IsFinishedRun (plan : Plan) (start : Start) (labels : List Label) : T
 abbrev pub IsHalted : List Trail → Type 0
 IsHalted seen = (who : Worker) × (why : StopCause) × Contains seen (Halt who why)
 
--- another worker stopped them for this cause
-abbrev pub IsHaltedBy : ℕ → StopCause → List Trail → Type 0
-IsHaltedBy worker why seen = (who : Worker) × (who.0 ≢ worker) × Contains seen (Halt who why)
+-- another worker stopped them for this cause: worker 0, where that one could not write
+pub record IsHaltedBy (worker : ℕ) (why : StopCause) (seen : List Trail) : Type 0 where
+  pub who : Worker
+  pub other : who.0 ≢ worker
+  pub writer : why ≡ SinkFault → who.0 ≡ 0
+  pub halted : Contains seen (Halt who why)
 
 -- Finished: what was seen is a finished run. Stopped: another worker's Halt of that cause was seen. Else a Halt was seen, and one that the
 -- worker made has the ending's cause; with the other endings it made none.
@@ -39,4 +42,4 @@ abbrev pub Ended : Origin → Known Trail → Ending → Type 0
 Ended origin pass Finished = IsFinishedRun origin.plan.now origin.start.now (labels_in pass.seen) × NoHalts pass.made
 Ended origin pass (Stopped why) = IsHaltedBy pass.number why pass.seen × NoHalts pass.made
 Ended origin pass WriteFault = IsHalted pass.seen × OnlyHalts pass.made SinkFault
-Ended origin pass OutOfMemory = IsHalted pass.seen × OnlyHalts pass.made Memory
+Ended origin pass (OutOfMemory refused) = IsHalted pass.seen × OnlyHalts pass.made (Memory refused)

@@ -12,7 +12,7 @@ pub enum Ending {
     /// It could not write, and stopped the others.
     WriteFault,
     /// It wanted memory, and stopped the others.
-    OutOfMemory,
+    OutOfMemory(OutOfMemory),
 }
 
 /// Why a plan was not run to its end. A front of its lines was written.
@@ -23,16 +23,16 @@ pub enum RunError {
     WriteFault,
     /// There was no memory for the board, its workers, their steps or the lines.
     #[error("out of memory")]
-    OutOfMemory,
+    OutOfMemory(OutOfMemory),
 }
 
 impl From<OutOfMemory> for RunError {
     ghost use Rattle.std.specs.Prelude.{◌≡◌};
     ghost use Rattle.host_workers.specs.declared.ending.RunError.TheVariants as error;
 
-    ghost from_gives = { λ _ e. e ≡ error.OutOfMemory };
+    ghost from_gives = { λ refused e. e ≡ error.OutOfMemory refused };
 
-    fn from(_e: OutOfMemory) -> RunError {
-        RunError::OutOfMemory
+    fn from(refused: OutOfMemory) -> RunError {
+        RunError::OutOfMemory(refused)
     }
 }

@@ -62,10 +62,9 @@ fn find(board: &mut Board, number: Worker, written: u32) -> Attempt<Result<Offer
         Ok(None) => match take(board, number) {
             Attempt::Added(Ok(work)) => Attempt::Added(Ok(Offer::Task(work))),
             Attempt::Nothing(Ok(work)) => Attempt::Nothing(Ok(Offer::Task(work))),
-            Attempt::Added(Err(OutOfMemory)) | Attempt::Nothing(Err(OutOfMemory)) => {
-                Attempt::Nothing(Err(OutOfMemory))
-            }
+            Attempt::Added(Err(refused)) => Attempt::Nothing(Err(refused)),
+            Attempt::Nothing(Err(refused)) => Attempt::Nothing(Err(refused)),
         },
-        Err(OutOfMemory) => Attempt::Nothing(Err(OutOfMemory)),
+        Err(refused) => Attempt::Nothing(Err(refused)),
     }
 }

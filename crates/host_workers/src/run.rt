@@ -21,7 +21,7 @@ use std::alloc::Global;
 use std::sync::Wait;
 use std::thread::Threads;
 use wave_base::{Finished, OutOfMemory, Seq, Start, Ticket, Worker};
-use wave_board::{Board, Origin};
+use wave_board::{Board, Origin, StopCause};
 use wave_io::{Gate, Sink};
 use wave_labels::Label;
 use wave_machine::{Plan, runs_are_measured};
@@ -46,13 +46,14 @@ pub fn run_plan_at<R: Threads + Wait + Sync, G: Gate + Sync, K: Sink + Send>(
     ensures later { K.faults out.old ≤ K.faults out.new }
 {
     let board = Board::new_at(alloc, plan, start)?;
-    let Ok((lock, mut first)) = KeptLock::new(alloc, Origin { plan, start }, board) else {
-        return Err(RunError::OutOfMemory);
+    let (lock, mut first) = match KeptLock::new(alloc, Origin { plan, start }, board) {
+        Ok(made) => made,
+        Err((_, refused)) => return Err(RunError::OutOfMemory(refused)),
     };
     run_workers(rt, alloc, &lock, &mut first, plan, start.next, gate, out)?;
     match parts_of(rt, lock, first) {
         Ok(parts) => Ok(parts),
-        Err(OutOfMemory) => Err(RunError::OutOfMemory),
+        Err(refused) => Err(RunError::OutOfMemory(refused)),
     }
 }
 
@@ -111,7 +112,9 @@ fn run_workers<'p, R: Threads + Wait + Sync, G: Gate + Sync, K: Sink + Send>(
     match run_team(&post, first, helpers, from, out) {
         Ending::Finished => Ok(()),
         Ending::WriteFault => Err(RunError::WriteFault),
-        Ending::Stopped(_) | Ending::OutOfMemory => Err(RunError::OutOfMemory),
+        Ending::Stopped(StopCause::Memory(refused)) => Err(RunError::OutOfMemory(refused)),
+        Ending::Stopped(StopCause::SinkFault) => unreachable!(),
+        Ending::OutOfMemory(refused) => Err(RunError::OutOfMemory(refused)),
     }
 }
 
@@ -128,6 +131,6 @@ fn parts_of<'p, R: Wait>(
     runs_are_measured();
     match lock.close(rt, first).into_parts() {
         Ok(parts) => Ok(parts),
-        Err(_) => Err(OutOfMemory),
+        Err((_, refused)) => Err(refused),
     }
 }

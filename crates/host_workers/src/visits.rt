@@ -60,7 +60,7 @@ pub(crate) fn take(board: &mut Board, number: Worker) -> Attempt<Result<Work, Ou
         Ok(Work::Nothing) => Attempt::Nothing(Ok(Work::Nothing)),
         Ok(Work::Finished) => Attempt::Nothing(Ok(Work::Finished)),
         Ok(Work::Stopped(why)) => Attempt::Nothing(Ok(Work::Stopped(why))),
-        Err(OutOfMemory) => Attempt::Nothing(Err(OutOfMemory)),
+        Err(refused) => Attempt::Nothing(Err(refused)),
     }
 }
 
@@ -79,7 +79,7 @@ fn walk(board: &mut Board, number: Worker, first: Label) -> Work
             Ok(Work::Nothing) => return Work::Stepped(last),
             Ok(Work::Finished) => return Work::Stepped(last),
             Ok(Work::Stopped(_)) => return Work::Stepped(last),
-            Err(OutOfMemory) => return Work::Stepped(last),
+            Err(_) => return Work::Stepped(last),
         }
     }
     Work::Stepped(last)
@@ -117,13 +117,13 @@ pub(crate) fn give_back<'l, 'p, R: Wait, G>(
             let Packet { lease, pause } = packet;
             match board.give(lease, pause) {
                 Ok(()) => Ok(()),
-                Err(_) => Err(OutOfMemory),
+                Err(refused) => Err(refused.error),
             }
         },
     )
 }
 
-/// Stops the workers.
+/// Stops the workers. Worker 0 alone stops them for a sink, since no other writes.
 pub(crate) fn halt<'l, 'p, R: Wait, G>(
     post: &Post<'l, 'p, R, G>,
     pass: &mut Pass<Board<'p>>,
@@ -131,6 +131,7 @@ pub(crate) fn halt<'l, 'p, R: Wait, G>(
 )
     requires of_lock { IsPassOf post.now.lock.now pass.old }
     requires calm { IsCalm (name_of post.now.lock.now) (known pass.old) post.now.number }
+    requires writer { why ≡ StopCause.SinkFault → post.now.number.0 ≡ 0 }
     ensures of_lock { IsPassOf post.now.lock.now pass.new }
     ensures on { GoesOn (known pass.old) (known pass.new) }
     ensures halted { IsHalted (known pass.new).seen }
@@ -141,6 +142,7 @@ pub(crate) fn halt<'l, 'p, R: Wait, G>(
         post.rt,
         pass,
         |board: &mut Board|
+            requires { why ≡ StopCause.SinkFault → number.0 ≡ 0 }
             ensures { HasStopped board.entry.now number why board.exit.now }
         { board.stop(number, why) },
     )

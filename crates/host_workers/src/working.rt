@@ -3,6 +3,7 @@ ghost use Rattle.kept_lock.specs.Locks.{name_of, known, IsPassOf};
 ghost use Rattle.host_workers.specs.Endings.{Ended};
 ghost use Rattle.host_workers.specs.Passes.{GoesOn, IsReady};
 ghost use Rattle.host_workers.specs.inner.Rounds.{Asked, HasLease, HasRun, IsCalm, Rounded};
+ghost use Rattle.wave_base.specs.Memory.{the_refusal};
 
 use crate::ending::Ending;
 use crate::post::Post;
@@ -63,7 +64,7 @@ fn round<'l, 'p, R: Wait, G: Gate>(
 {
     match ask(post, pass) {
         Ok(work) => carry_out(post, pass, work),
-        Err(OutOfMemory) => Some(give_up(post, pass)),
+        Err(refused) => Some(give_up(post, pass, refused)),
     }
 }
 
@@ -85,7 +86,7 @@ pub(crate) fn carry_out<'l, 'p, R: Wait, G: Gate>(
         Work::Stepped(_) => None,
         Work::Segment(lease) => match run_out(post, pass, lease) {
             Ok(()) => None,
-            Err(OutOfMemory) => Some(give_up(post, pass)),
+            Err(refused) => Some(give_up(post, pass, refused)),
         },
         Work::Nothing => {
             post.lock.nap(post.rt, pass);
@@ -118,14 +119,15 @@ fn run_out<'l, 'p, R: Wait, G: Gate>(
 pub(crate) fn give_up<'l, 'p, R: Wait, G>(
     post: &Post<'l, 'p, R, G>,
     pass: &mut Pass<Board<'p>>,
+    refused: OutOfMemory,
 ) -> Ending
     requires of_lock { IsPassOf post.now.lock.now pass.old }
     requires calm { IsCalm (name_of post.now.lock.now) (known pass.old) post.now.number }
     ensures of_lock { IsPassOf post.now.lock.now pass.new }
     ensures on { GoesOn (known pass.old) (known pass.new) }
     ensures ended { Ended (name_of post.now.lock.now) (known pass.new) result }
-    ensures memory { result ≡ Ending.OutOfMemory }
+    ensures memory { result ≡ Ending.OutOfMemory the_refusal }
 {
-    halt(post, pass, StopCause::Memory);
-    Ending::OutOfMemory
+    halt(post, pass, StopCause::Memory(refused));
+    Ending::OutOfMemory(refused)
 }

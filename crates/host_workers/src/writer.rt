@@ -77,6 +77,7 @@ fn writing_round<'l, 'p, R: Wait, G: Gate, K: Sink>(
     requires from { (name_of post.now.lock.now).start.now.next ≡ from }
     requires ready { IsReady (name_of post.now.lock.now) (known pass.old) post.now.number }
     requires committed { AreCommitted (name_of post.now.lock.now) (known pass.old) written }
+    requires writer { post.now.number.0 ≡ 0 }
     ensures of_lock { IsPassOf post.now.lock.now pass.new }
     ensures written { HasWritten (name_of post.now.lock.now) (known pass.new) post.now.number written (K.written out.old) (K.written out.new) (K.faults out.old) (K.faults out.new) result }
     ensures later { K.faults out.old ≤ K.faults out.new }
@@ -87,7 +88,7 @@ fn writing_round<'l, 'p, R: Wait, G: Gate, K: Sink>(
             None => Ok(written),
             Some(ending) => Err(ending),
         },
-        Err(OutOfMemory) => Err(give_up(post, pass)),
+        Err(refused) => Err(give_up(post, pass, refused)),
     }
 }
 
@@ -105,6 +106,7 @@ fn write_part<'l, 'p, R: Wait, G, K: Sink>(
     requires from { (name_of post.now.lock.now).start.now.next ≡ from }
     requires ready { IsReady (name_of post.now.lock.now) (known pass.old) post.now.number }
     requires next { AreNext (name_of post.now.lock.now) (known pass.old) written lines.now }
+    requires writer { post.now.number.0 ≡ 0 }
     ensures of_lock { IsPassOf post.now.lock.now pass.new }
     ensures written { HasWritten (name_of post.now.lock.now) (known pass.new) post.now.number written (K.written out.old) (K.written out.new) (K.faults out.old) (K.faults out.new) result }
     ensures later { K.faults out.old ≤ K.faults out.new }
@@ -118,6 +120,6 @@ fn write_part<'l, 'p, R: Wait, G, K: Sink>(
             halt(post, pass, StopCause::SinkFault);
             Err(Ending::WriteFault)
         }
-        Err(ListError::OutOfMemory) => Err(give_up(post, pass)),
+        Err(ListError::OutOfMemory(refused)) => Err(give_up(post, pass, refused)),
     }
 }

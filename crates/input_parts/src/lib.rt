@@ -3,7 +3,5 @@
 
 mod lines;
 mod parts;
-#[cfg(test)]
-mod tests;
 
 pub use parts::parts_of;

@@ -4,7 +4,6 @@ pub mod LabelLemmas
 pub mod LineLemmas
 pub mod MailLemmas
 pub mod PassLemmas
-pub mod PathLemmas
 pub mod SampleNames
 pub mod SolidLemmas
 pub mod TailLemmas

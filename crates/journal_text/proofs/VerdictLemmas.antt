@@ -48,7 +48,7 @@ module _ (shape : Shape) (names : HasNames shape) (text : List ℕ) (short : len
       only (Ok others) v = ap (λ ls. Ok ls) (p.only others [] (journal_parts tail b others v)).0
       only (Err (Syntax n)) (inl h) = absurd (h.0 tail b.spelled)
       only (Err (Syntax n)) (inr h) = absurd (h.2.some (p.only h.0 h.1 (stop_parts tail b h.0 h.1 h.2)).1)
-      only (Err OutOfMemory) v = absurd v
+      only (Err (OutOfMemory _)) v = absurd v
 
   -- ---- a line behind the head is none
 
@@ -69,7 +69,7 @@ module _ (shape : Shape) (names : HasNames shape) (text : List ℕ) (short : len
       only (Err (Syntax m)) (inr h) =
           let same = p.only h.0 h.1 (stop_parts tail b h.0 h.1 h.2) in
           ap (λ k. Err (Syntax k)) (h.3 ∙ ap (λ ls. length ls + 2) same.0 ∙ sym e)
-      only (Err OutOfMemory) v = absurd v
+      only (Err (OutOfMemory _)) v = absurd v
 
   -- ---- there is no head
 
@@ -82,9 +82,9 @@ module _ (shape : Shape) (names : HasNames shape) (text : List ℕ) (short : len
           absurd (none (labels_text shape 1 others) (v.spelled ∙ ap (λ n. head_text n ++ 10 ∷ labels_text shape 1 others) (sym count)))
       only (Err (Syntax m)) (inl h) = ap (λ k. Err (Syntax k)) h.1
       only (Err (Syntax m)) (inr h) = absurd (none (labels_text shape 1 h.0 ++ h.1) h.2.spelled)
-      only (Err OutOfMemory) v = absurd v
+      only (Err (OutOfMemory _)) v = absurd v
 
   pub read_verdict : (tail : List ℕ) → IsBehindHead (codes "journal ") text tail → (r : Result (List Label) JournalError) → AreRead shape tail r → IsOnlyVerdict shape text r
   read_verdict tail b (Ok labels) h = all_labels tail b labels h
   read_verdict tail b (Err (Syntax n)) h = some_labels tail b h.0 h.1 n h.2 h.3 h.4
-  read_verdict tail b (Err OutOfMemory) h = tt
+  read_verdict tail b (Err (OutOfMemory _)) h = tt

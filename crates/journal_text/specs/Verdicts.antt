@@ -32,9 +32,9 @@ IsRefused shape text n = (HasNoHead text × (n ≡ 1)) ⊎ ((before : List Label
 abbrev pub IsVerdict : Shape → List ℕ → Result (List Label) JournalError → Type 0
 IsVerdict shape text (Ok labels) = IsJournalText shape text labels
 IsVerdict shape text (Err (Syntax n)) = IsRefused shape text n
-IsVerdict shape text (Err OutOfMemory) = ⊥
+IsVerdict shape text (Err (OutOfMemory _)) = ⊥
 
 -- it says so, and nothing else is to be said; want of memory says nothing
 abbrev pub IsOnlyVerdict : Shape → List ℕ → Result (List Label) JournalError → Type 0
-IsOnlyVerdict shape text (Err OutOfMemory) = Unit {0}
+IsOnlyVerdict shape text (Err (OutOfMemory _)) = Unit {0}
 IsOnlyVerdict shape text r = IsVerdict shape text r × ((other : Result (List Label) JournalError) → IsVerdict shape text other → other ≡ r)

@@ -10,16 +10,16 @@ pub enum JournalError {
     Syntax { line: u32 },
     /// Memory was wanting, and nothing is said of the text.
     #[error("out of memory")]
-    OutOfMemory,
+    OutOfMemory(OutOfMemory),
 }
 
 impl From<OutOfMemory> for JournalError {
     ghost use Rattle.std.specs.Prelude.{◌≡◌};
     ghost use Rattle.journal_text.specs.declared.error.JournalError.TheVariants as error;
 
-    ghost from_gives = { λ _ e. e ≡ error.OutOfMemory };
+    ghost from_gives = { λ refused e. e ≡ error.OutOfMemory refused };
 
-    fn from(_: OutOfMemory) -> JournalError {
-        JournalError::OutOfMemory
+    fn from(refused: OutOfMemory) -> JournalError {
+        JournalError::OutOfMemory(refused)
     }
 }

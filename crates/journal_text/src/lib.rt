@@ -8,8 +8,6 @@ mod number;
 mod operands;
 mod put;
 mod read;
-#[cfg(test)]
-mod tests;
 mod verb;
 mod word;
 mod write;

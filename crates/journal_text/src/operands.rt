@@ -3,34 +3,15 @@ ghost use Rattle.wave_base.specs.Names.{HasNames};
 ghost use Rattle.wave_base.specs.Shapes.{IsShape, is_path};
 ghost use Rattle.journal_text.specs.Fits.{HasPath};
 ghost use Rattle.journal_text.specs.declared.verb.Verb.TheVariants.{Pass};
-ghost use Rattle.journal_text.specs.inner.Parts.{IsPathOf, IsTicketAtOf, IsMailAtOf, IsOperandsOf};
+ghost use Rattle.journal_text.specs.inner.Parts.{IsTicketAtOf, IsMailAtOf, IsOperandsOf};
 
 use crate::number::{byte_of, mail_of, ticket_of};
 use crate::verb::Verb;
 use crate::word::word_of;
-use path_text::{ClassNames, PathError, parse_path};
+use path_text::{ClassNames, path_for};
 use std::alloc::Global;
 use wave_base::{Host, OutOfMemory, Path, Ticket};
 use wave_labels::{Act, MailId};
-
-// The path that a text is written for.
-fn path_of(
-    alloc: Global,
-    classes: &ClassNames<'_>,
-    text: &[u8],
-) -> Result<Option<Path>, OutOfMemory>
-    requires shape { IsShape classes.now }
-    requires names { HasNames classes.now }
-    ensures only { IfOk result (IsPathOf classes.now text.now) }
-    ensures of_shape { IfOk result (λ o. IfSome o (λ p. is_path classes.now p ≡ true)) }
-{
-    match parse_path(alloc, classes, text) {
-        Ok(path) => Ok(Some(path)),
-        Err(PathError::Syntax) => Ok(None),
-        Err(PathError::UnknownClass) => Ok(None),
-        Err(PathError::OutOfMemory) => Err(OutOfMemory),
-    }
-}
 
 // A ticket and a path.
 fn ticket_at(
@@ -48,7 +29,7 @@ fn ticket_at(
     let Some(ticket) = ticket_of(ticket) else {
         return Ok(None);
     };
-    match path_of(alloc, classes, path)? {
+    match path_for(alloc, classes, path)? {
         Some(path) => Ok(Some((ticket, path))),
         None => Ok(None),
     }
@@ -70,7 +51,7 @@ fn mail_at(
     let Some(mail) = mail_of(mail) else {
         return Ok(None);
     };
-    match path_of(alloc, classes, path)? {
+    match path_for(alloc, classes, path)? {
         Some(path) => Ok(Some((mail, path))),
         None => Ok(None),
     }
@@ -92,7 +73,7 @@ fn pass_in(alloc: Global, classes: &ClassNames<'_>, text: &[u8]) -> Result<Optio
     let Some(host) = byte_of(host) else {
         return Ok(None);
     };
-    match path_of(alloc, classes, path)? {
+    match path_for(alloc, classes, path)? {
         Some(path) => Ok(Some(Act::Pass(mail, path, Host(host)))),
         None => Ok(None),
     }

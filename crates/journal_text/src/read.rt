@@ -1,4 +1,4 @@
-ghost use Rattle.std.specs.Prelude.{◌≡◌, ◌≤◌, ◌∷◌, ◌++◌, [], length, OnOk};
+ghost use Rattle.std.specs.Prelude.{◌≡◌, ◌≤◌, length};
 ghost use Rattle.wave_base.specs.declared.limits.TheConstants.{PLACED_BYTES};
 ghost use Rattle.wave_base.specs.Names.{HasNames};
 ghost use Rattle.wave_base.specs.Shapes.{IsShape};
@@ -9,20 +9,9 @@ use crate::error::JournalError;
 use crate::line::read_line;
 use path_text::ClassNames;
 use std::alloc::Global;
-use wave_base::{OutOfMemory, Seq, Shape};
+use wave_base::{Seq, Shape};
 use wave_labels::Label;
 use wave_text::{behind_head, split_at};
-
-// Appends a label.
-fn add(labels: &mut Seq<Label>, label: Label) -> Result<(), OutOfMemory>
-    ensures { OnOk result (labels.new ≡ labels.old ++ label ∷ []) }
-{
-    let Label { worker, host, act } = label;
-    match labels.push(Label { worker, host, act }) {
-        Ok(()) => Ok(()),
-        Err(_) => Err(OutOfMemory),
-    }
-}
 
 // The labels of the lines behind a head, or the first of these lines that is none.
 fn read_labels(
@@ -46,7 +35,7 @@ fn read_labels(
         else {
             return Err(JournalError::Syntax { line: number + 1 });
         };
-        add(&mut labels, Label { worker, host, act })?;
+        labels.add(Label { worker, host, act })?;
         rest = after;
         number += 1;
     }

@@ -7,7 +7,7 @@ use crate::bell::Bell;
 use crate::kept::Kept;
 use crate::lock::{KeptLock, Pass};
 use crate::news::News;
-use atomic_table::{Refused, Table};
+use atomic_table::Table;
 use std::alloc::Global;
 use wave_base::OutOfMemory;
 
@@ -25,8 +25,9 @@ impl<V: Kept> KeptLock<V> {
         ensures first { IfOk result (λ r. known r.1 ≡ first) }
         ensures back { IfErr result (λ r. r.0 ≡ value) }
     {
-        let Ok(mut slots) = Vec::with_capacity(alloc, 1) else {
-            return Err((value, OutOfMemory));
+        let mut slots = match Vec::with_capacity(alloc, 1) {
+            Ok(slots) => slots,
+            Err(refused) => return Err((value, OutOfMemory::from(refused))),
         };
         slots.push_reserved(Some(value));
         match Table::new(alloc, &[0], slots, &name) {
@@ -43,10 +44,11 @@ impl<V: Kept> KeptLock<V> {
                 };
                 Ok((lock, pass))
             }
-            Err(Refused { mut slots }) => {
+            Err(refused) => {
+                let (mut slots, refused) = OutOfMemory::of_table(refused);
                 let value = slots.pop().unwrap().unwrap();
                 slots.destroy_empty();
-                Err((value, OutOfMemory))
+                Err((value, refused))
             }
         }
     }

@@ -9,11 +9,11 @@ use Rattle.wave_base.specs.declared.outcome.Outcome.{Outcome}
 use Rattle.wave_base.specs.declared.outcome.Outcome.TheVariants.{Done, Reply, Trapped, Moved, Absent, Shots}
 use Rattle.wave_base.specs.declared.shape.EventInfo.{EventInfo}
 use Rattle.wave_base.specs.declared.shape.Shape.{Shape}
-use Rattle.wave_base.specs.declared.span.Span.{Span}
 use Rattle.wave_base.specs.declared.trap.TrapKind.{TrapKind}
 use Rattle.wave_base.specs.declared.trap.TrapKind.TheVariants.{Overflow, DivZero, Absent as AbsentKey, Full, TooLong, Require, Ticks, Sends, Spawns, Generation, Reach}
+use Rattle.wave_text.specs.Places.{place_text}
 use Rattle.wave_text.specs.ValueTexts.{value_text}
-use Rattle.mace_lexer.specs.Texts.{quoted}
+use Rattle.wave_base.specs.Text.{quoted}
 use Rattle.path_text.specs.PathTexts.{path_text}
 
 abbrev pub trap_name : TrapKind → List ℕ
@@ -29,10 +29,6 @@ trap_name Spawns = codes "Spawns"
 trap_name Generation = codes "Generation"
 trap_name Reach = codes "Reach"
 
--- line:column
-abbrev pub span_text : Span → List ℕ
-span_text at = decimal at.line ++ codes ":" ++ decimal at.col
-
 -- the name of an event by its number
 abbrev pub event_name : Shape → Option ℕ → List ℕ
 event_name shape None = []
@@ -43,7 +39,7 @@ event_name shape (Some e) = option_map_or (λ (info : EventInfo). info.name) (sl
 abbrev pub outcome_text : Shape → Option ℕ → Outcome → List ℕ
 outcome_text shape name (Reply v) = event_name shape name ++ codes " = " ++ value_text v
 outcome_text shape name Done = event_name shape name ++ codes " ok"
-outcome_text shape name (Trapped t) = event_name shape name ++ codes " trap " ++ trap_name t.kind ++ codes " at " ++ span_text t.at
+outcome_text shape name (Trapped t) = event_name shape name ++ codes " trap " ++ trap_name t.kind ++ codes " at " ++ place_text t.at
 outcome_text shape name (Moved p to) = codes "moved " ++ path_text shape p ++ codes " to " ++ decimal to.0
 outcome_text shape name (Absent p) = codes "absent " ++ path_text shape p
 outcome_text shape name (Shots shots) = codes "snapshot " ++ decimal (length shots)

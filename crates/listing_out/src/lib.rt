@@ -4,8 +4,6 @@
 mod law;
 mod line_texts;
 mod lines;
-#[cfg(test)]
-mod tests;
 mod whole;
 mod write;
 

@@ -1,14 +1,13 @@
 ghost use Rattle.std.specs.Prelude.{◌≡◌, ◌++◌, ◌∷◌, [], OnOk, IfOk, codes};
 ghost use Rattle.std.specs.Fmt.{decimal};
+ghost use Rattle.wave_text.specs.Places.{place_text};
 ghost use Rattle.path_text.specs.ShotTexts.{shot_text};
-ghost use Rattle.listing_out.specs.LineTexts.{trap_name, span_text, event_name, outcome_text, message_text, made_text, ticket_line, place_line, done_line};
+ghost use Rattle.listing_out.specs.LineTexts.{trap_name, event_name, outcome_text, message_text, made_text, ticket_line, place_line, done_line};
 
 use path_text::{put_path, put_shot};
 use std::alloc::Global;
-use wave_base::{
-    Message, OutOfMemory, Outcome, Place, Seq, Shape, Shot, Span, Ticket, Trap, TrapKind,
-};
-use wave_text::{put_bytes, put_number, put_quoted, put_value};
+use wave_base::{Message, OutOfMemory, Outcome, Place, Seq, Shape, Shot, Ticket, Trap, TrapKind};
+use wave_text::{put_bytes, put_number, put_place, put_quoted, put_value};
 
 fn trap_name(kind: TrapKind) -> &'static [u8]
     ensures { result.now ≡ trap_name kind }
@@ -40,21 +39,13 @@ fn event_name(shape: &Shape, name: Option<u16>) -> &[u8]
     }
 }
 
-fn put_span(alloc: Global, out: &mut Vec<u8>, at: Span) -> Result<(), OutOfMemory>
-    ensures { OnOk result (out.new.items ≡ out.old.items ++ span_text at) }
-{
-    put_number(alloc, out, u64::from(at.line))?;
-    put_bytes(out, b":")?;
-    put_number(alloc, out, u64::from(at.col))
-}
-
 fn put_trap(alloc: Global, out: &mut Vec<u8>, trap: Trap) -> Result<(), OutOfMemory>
-    ensures { OnOk result (out.new.items ≡ out.old.items ++ (codes " trap " ++ trap_name trap.kind ++ codes " at " ++ span_text trap.at)) }
+    ensures { OnOk result (out.new.items ≡ out.old.items ++ (codes " trap " ++ trap_name trap.kind ++ codes " at " ++ place_text trap.at)) }
 {
     put_bytes(out, b" trap ")?;
     put_bytes(out, trap_name(trap.kind))?;
     put_bytes(out, b" at ")?;
-    put_span(alloc, out, trap.at)
+    put_place(alloc, out, trap.at)
 }
 
 // Appends what became of a ticket.

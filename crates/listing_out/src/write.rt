@@ -20,17 +20,17 @@ pub enum ListError {
     WriteFault,
     /// Memory was wanting.
     #[error("out of memory")]
-    OutOfMemory,
+    OutOfMemory(OutOfMemory),
 }
 
 impl From<OutOfMemory> for ListError {
     ghost use Rattle.std.specs.Prelude.{◌≡◌};
     ghost use Rattle.listing_out.specs.declared.write.ListError.TheVariants as error;
 
-    ghost from_gives = { λ _ e. e ≡ error.OutOfMemory };
+    ghost from_gives = { λ refused e. e ≡ error.OutOfMemory refused };
 
-    fn from(_e: OutOfMemory) -> ListError {
-        ListError::OutOfMemory
+    fn from(refused: OutOfMemory) -> ListError {
+        ListError::OutOfMemory(refused)
     }
 }
 

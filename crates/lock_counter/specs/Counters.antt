@@ -1,6 +1,6 @@
 -- What a counter stands for.
 use Rattle.std.specs.Prelude.{◌≡◌, ℕ, ◌%◌, ◌^◌, ◌++◌, ◌∷◌, [], Result, MatchResult, sum_by}
-use Rattle.std.specs.declared.alloc.AllocError.{AllocError}
+use Rattle.wave_base.specs.declared.memory.OutOfMemory.{OutOfMemory}
 use denote.Bor.{Bor}
 use Rattle.lock_counter.specs.declared.counter.Addition.{Addition}
 use Rattle.lock_counter.specs.declared.counter.Counter.{Counter}
@@ -15,6 +15,6 @@ abbrev pub StandsFor : Counter → Bor Plan → Type 0
 StandsFor counter plan = (counter.plan.now ≡ plan.now) × (counter.total ≡ sum_by (λ e. e.amount) counter.log.items % 2 ^ 64)
 
 -- at `Ok` the counter has one more addition, and else the same ones
-abbrev pub Added : Counter → ℕ → ℕ → Result (Unit {0}) AllocError → Counter → Type 0
+abbrev pub Added : Counter → ℕ → ℕ → Result (Unit {0}) OutOfMemory → Counter → Type 0
 Added before by amount result after =
     StandsFor after before.plan × MatchResult result (λ _. after.log.items ≡ before.log.items ++ addition by amount ∷ []) (λ _. after.log.items ≡ before.log.items)

@@ -1,6 +1,6 @@
 -- A thread's job, and what it gives back.
 use Rattle.std.specs.Prelude.{◌≡◌, Result, OnOk}
-use Rattle.std.specs.declared.alloc.AllocError.{AllocError}
+use Rattle.wave_base.specs.declared.memory.OutOfMemory.{OutOfMemory}
 use denote.Bor.{Bor}
 use Rattle.kept_lock.specs.declared.lock.Pass.{Pass}
 use Rattle.kept_lock.specs.Locks.{known, IsPassOf}
@@ -15,5 +15,5 @@ abbrev pub IsReady : Job → Type 0
 IsReady job = IsPassOf job.lock.now job.pass × IsFresh (known job.pass) job.me
 
 -- the pass is of the job's lock and has its number; at `Ok` it made what the job says, and nothing else
-abbrev pub IsDone : Job → Pass Counter (Bor Plan) Addition × Result (Unit {0}) AllocError → Type 0
+abbrev pub IsDone : Job → Pass Counter (Bor Plan) Addition × Result (Unit {0}) OutOfMemory → Type 0
 IsDone job done = IsPassOf job.lock.now done.0 × ((known done.0).number ≡ job.me) × OnOk done.1 (HasAdded (known done.0) job.me job.amount job.times)

@@ -7,7 +7,6 @@ ghost use Rattle.lock_counter.specs.Passes.{Made};
 
 use crate::counter::{Addition, Counter};
 use kept_lock::{KeptLock, Pass};
-use std::alloc::AllocError;
 use std::sync::Wait;
 
 /// What is lent to a visit, and comes back where it fails.
@@ -42,7 +41,7 @@ pub fn add_again<'p, R: Wait>(
         {
             match counter.add_again(me, order.amount) {
                 Ok(()) => Ok(()),
-                Err(AllocError) => Err(order),
+                Err(_refused) => Err(order),
             }
         },
     )

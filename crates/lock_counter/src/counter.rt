@@ -2,7 +2,8 @@
 ghost use Rattle.std.specs.Prelude.{◌≡◌, ◌++◌, ◌∷◌, [], MatchResult};
 
 use kept_lock::Kept;
-use std::alloc::{AllocError, Global};
+use std::alloc::Global;
+use wave_base::OutOfMemory;
 
 /// What a counter is for. A counter borrows its plan, so that its type names a lifetime.
 #[derive(Drop)]
@@ -63,7 +64,7 @@ impl<'p> Counter<'p> {
     }
 
     /// Adds an amount in the name of one who adds, and writes it down. After want of memory nothing has changed.
-    pub fn add(&mut self, by: u64, amount: u64) -> Result<(), AllocError>
+    pub fn add(&mut self, by: u64, amount: u64) -> Result<(), OutOfMemory>
         requires { StandsFor self.old self.old.plan }
         ensures { Added self.old by amount result self.new }
     {
@@ -73,7 +74,7 @@ impl<'p> Counter<'p> {
     }
 
     /// The same, for whoever has added once before.
-    pub fn add_again(&mut self, by: u64, amount: u64) -> Result<(), AllocError>
+    pub fn add_again(&mut self, by: u64, amount: u64) -> Result<(), OutOfMemory>
         requires stands { StandsFor self.old self.old.plan }
         requires once { length (entries_of (λ e. e.by) by self.old.log.items) ≡ 1 }
         ensures { Added self.old by amount result self.new }

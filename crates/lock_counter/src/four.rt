@@ -8,9 +8,10 @@ use crate::counter::{Counter, Plan};
 use crate::thread::{Done, Job};
 use crate::two::run_two;
 use kept_lock::KeptLock;
-use std::alloc::{AllocError, Global};
+use std::alloc::Global;
 use std::sync::Wait;
 use std::thread::{Threads, join};
+use wave_base::OutOfMemory;
 
 type Pair<'p> = (Done<'p>, Done<'p>);
 
@@ -52,15 +53,16 @@ pub fn add_by_four<'p, R: Threads + Wait + Sync>(
     plan: &'p Plan,
     amounts: (u64, u64, u64, u64),
     times: u64,
-) -> Result<Counter<'p>, AllocError>
+) -> Result<Counter<'p>, OutOfMemory>
     ensures stands { IfOk result (λ c. StandsFor c plan.entry) }
     ensures first { IfOk result (λ c. entries_of (λ e. e.by) 0 c.log.items ≡ replicate times (addition 0 amounts.0)) }
     ensures second { IfOk result (λ c. entries_of (λ e. e.by) 1 c.log.items ≡ replicate times (addition 1 amounts.1)) }
     ensures third { IfOk result (λ c. entries_of (λ e. e.by) 2 c.log.items ≡ replicate times (addition 2 amounts.2)) }
     ensures fourth { IfOk result (λ c. entries_of (λ e. e.by) 3 c.log.items ≡ replicate times (addition 3 amounts.3)) }
 {
-    let Ok((lock, mut first)) = KeptLock::new(alloc, plan, Counter::new(alloc, plan)) else {
-        return Err(AllocError);
+    let (lock, mut first) = match KeptLock::new(alloc, plan, Counter::new(alloc, plan)) {
+        Ok(opened) => opened,
+        Err((_, refused)) => return Err(refused),
     };
     let shared = &lock;
     let second = lock.split(&mut first);

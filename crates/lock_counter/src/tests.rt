@@ -11,11 +11,11 @@ use crate::{
     add_by_two, add_one, run, run_all, total, wait_for,
 };
 use kept_lock::{Attempt, KeptLock, Pass};
-use std::alloc::AllocError;
 use std::hint::spin_loop;
 use std::sync::Wait;
 use std::test::Fail;
 use std::thread::{Threads, join};
+use wave_base::OutOfMemory;
 
 // How many additions of this pass the history has, and what they add up to.
 fn share(log: &[Addition], by: u64) -> (usize, u64) {
@@ -134,7 +134,7 @@ fn one_naps_until_the_other_is_done(rt: HostRuntime) -> Result<(), Fail> {
 }
 
 // Adds one at a time, and takes its time in between.
-fn add_slowly<'l, 'p, R: Wait>(rt: &R, job: Job<'l, 'p>) -> Result<Pass<Counter<'p>>, AllocError>
+fn add_slowly<'l, 'p, R: Wait>(rt: &R, job: Job<'l, 'p>) -> Result<Pass<Counter<'p>>, OutOfMemory>
     requires { IsReady job }
     ensures { IfOk result (λ pass. IsPassOf job.entry.lock.now pass × ((known pass).number ≡ job.entry.me)) }
 {

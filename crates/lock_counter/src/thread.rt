@@ -5,8 +5,8 @@ ghost use Rattle.lock_counter.specs.Jobs.{IsReady, IsDone};
 use crate::counter::Counter;
 use crate::work::add_times;
 use kept_lock::{KeptLock, Pass};
-use std::alloc::AllocError;
 use std::sync::Wait;
+use wave_base::OutOfMemory;
 
 /// What a thread has: its pass, that pass's number, and what it is to add how often.
 #[derive(Drop)]
@@ -45,7 +45,7 @@ impl<'l, 'p> Job<'l, 'p> {
 }
 
 /// What a thread gives back.
-pub type Done<'p> = (Pass<Counter<'p>>, Result<(), AllocError>);
+pub type Done<'p> = (Pass<Counter<'p>>, Result<(), OutOfMemory>);
 
 /// Does the job.
 pub fn run<'l, 'p, R: Wait>(rt: &R, job: Job<'l, 'p>) -> Done<'p>

@@ -7,9 +7,10 @@ ghost use Rattle.lock_counter.specs.Jobs.{IsReady, IsDone};
 use crate::counter::{Counter, Plan};
 use crate::thread::{Done, Job, run};
 use kept_lock::KeptLock;
-use std::alloc::{AllocError, Global};
+use std::alloc::Global;
 use std::sync::Wait;
 use std::thread::{Threads, join};
+use wave_base::OutOfMemory;
 
 /// Each of two jobs in a thread of its own.
 pub fn run_two<'l, 'p, R: Threads + Wait + Sync>(
@@ -42,13 +43,14 @@ pub fn add_by_two<'p, R: Threads + Wait + Sync>(
     plan: &'p Plan,
     amounts: (u64, u64),
     times: u64,
-) -> Result<Counter<'p>, AllocError>
+) -> Result<Counter<'p>, OutOfMemory>
     ensures stands { IfOk result (λ c. StandsFor c plan.entry) }
     ensures first { IfOk result (λ c. entries_of (λ e. e.by) 0 c.log.items ≡ replicate times (addition 0 amounts.0)) }
     ensures second { IfOk result (λ c. entries_of (λ e. e.by) 1 c.log.items ≡ replicate times (addition 1 amounts.1)) }
 {
-    let Ok((lock, mut first)) = KeptLock::new(alloc, plan, Counter::new(alloc, plan)) else {
-        return Err(AllocError);
+    let (lock, mut first) = match KeptLock::new(alloc, plan, Counter::new(alloc, plan)) {
+        Ok(opened) => opened,
+        Err((_, refused)) => return Err(refused),
     };
     let second = lock.split(&mut first);
     let one = Job {

@@ -6,8 +6,8 @@ ghost use Rattle.lock_counter.specs.Passes.{Made, MadeAsTold, AddedAsTold};
 
 use crate::counter::Counter;
 use kept_lock::{Attempt, KeptLock, Pass};
-use std::alloc::AllocError;
 use std::sync::Wait;
+use wave_base::OutOfMemory;
 
 /// Adds under the lock, as the pass's own number.
 pub fn add<'p, R: Wait>(
@@ -16,7 +16,7 @@ pub fn add<'p, R: Wait>(
     pass: &mut Pass<Counter<'p>>,
     me: u64,
     amount: u64,
-) -> Result<(), AllocError>
+) -> Result<(), OutOfMemory>
     requires pass { IsPassOf lock.now pass.old }
     requires number { (known pass.old).number ≡ me }
     ensures pass { IsPassOf lock.now pass.new }
@@ -25,7 +25,7 @@ pub fn add<'p, R: Wait>(
     lock.visit(
         rt,
         pass,
-        |counter: &mut Counter| -> Result<(), AllocError>
+        |counter: &mut Counter| -> Result<(), OutOfMemory>
             requires { StandsFor counter.now counter.now.plan }
             ensures { Added counter.entry.now me amount result counter.exit.now }
         { counter.add(me, amount) },
@@ -40,7 +40,7 @@ pub fn add_times<'p, R: Wait>(
     me: u64,
     amount: u64,
     times: u64,
-) -> Result<(), AllocError>
+) -> Result<(), OutOfMemory>
     requires pass { IsPassOf lock.now pass.old }
     requires number { (known pass.old).number ≡ me }
     ensures pass { IsPassOf lock.now pass.new }
@@ -78,7 +78,7 @@ pub fn add_below<'p, R: Wait>(
     me: u64,
     amount: u64,
     most: u64,
-) -> Attempt<Result<(), AllocError>>
+) -> Attempt<Result<(), OutOfMemory>>
     requires pass { IsPassOf lock.now pass.old }
     requires number { (known pass.old).number ≡ me }
     ensures pass { IsPassOf lock.now pass.new }
@@ -87,7 +87,7 @@ pub fn add_below<'p, R: Wait>(
     lock.attempt(
         rt,
         pass,
-        |counter: &mut Counter| -> Attempt<Result<(), AllocError>>
+        |counter: &mut Counter| -> Attempt<Result<(), OutOfMemory>>
             requires { StandsFor counter.now counter.now.plan }
             ensures { StandsFor counter.exit.now counter.entry.now.plan × AddedAsTold counter.entry.now.log.items (addition me amount) result counter.exit.now.log.items }
         {

@@ -3,6 +3,7 @@ use Rattle.std.specs.Prelude.{◌≡◌, ℕ, List, [], ◌∷◌, map, Option}
 use Rattle.std.specs.Option.{option_map}
 use Rattle.wave_base.specs.declared.span.Span.{Span}
 use Rattle.wave_base.specs.declared.value.Kind.{Kind}
+use Rattle.wave_base.specs.declared.version.Version.{Version}
 use Rattle.mace_ast.specs.declared.name.Name.{Name}
 use Rattle.mace_ast.specs.declared.field.VarDecl.{VarDecl}
 use Rattle.mace_ast.specs.declared.method.Param.{Param}
@@ -57,7 +58,7 @@ contexts_of (c ∷ cs) = context_and c (contexts_of cs)
 pub record ServiceTree : Type 0 where
   pub at : Span
   pub name : Name
-  pub version : ℕ
+  pub version : Version
   pub vars : List VarDecl
   pub contexts : List ContextTree
   pub methods : List MethodTree

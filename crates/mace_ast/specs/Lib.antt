@@ -1,3 +1,4 @@
+pub mod Counts
 pub mod Exprs
 pub mod Stmts
 pub mod Decls

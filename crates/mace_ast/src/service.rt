@@ -3,7 +3,7 @@ use crate::event::EventDecl;
 use crate::field::VarDecl;
 use crate::method::MethodDecl;
 use crate::name::Name;
-use wave_base::{Seq, Span};
+use wave_base::{Seq, Span, Version};
 
 /// A service, with the place of `service`.
 #[derive(Debug, Drop)]
@@ -12,8 +12,8 @@ pub struct Service {
     pub at: Span,
     /// The name of the service.
     pub name: Name,
-    /// The version of the language that it is written in: 2 where the number stands behind the name, else 1.
-    pub version: u8,
+    /// The version of the language that it is written in: the second where its number stands behind the name, else the first.
+    pub version: Version,
     /// The fields of the root.
     pub vars: Seq<VarDecl>,
     /// The classes right below the root.

@@ -6,7 +6,7 @@ use Rattle.mace_lexer.specs.declared.token.Token.{Token}
 use Rattle.mace_grammar.specs.declared.class.Class.{Class}
 use Rattle.mace_grammar.specs.inner.Run.{Reader, Outcome, and_then, give, after, taken, word, sees, choice, each, each_of, some, with_front, deeper}
 use Rattle.mace_grammar.specs.inner.Classes as classes
-use Rattle.mace_grammar.specs.Words.{Version}
+use Rattle.mace_grammar.specs.Words.{Edition}
 use Rattle.mace_grammar.specs.Spelled.{plain}
 
 -- the same words, standing nowhere
@@ -49,9 +49,9 @@ same_length (t ∷ ts) = ap suc (same_length ts)
 pub natural_some : {A B : Type 0} {h : A → B} {run : Reader A} {run' : Reader B} → Natural h run run' → Natural (option_map h) (some run) (some run')
 natural_some {h = h} P = natural_then (λ b. give (Some b)) P (λ a. natural_give (option_map h) (Some a) (Some (h a)) refl)
 
-module _ (version : Version) where
+module _ (edition : Edition) where
   abbrev kind : Token → Class
-  kind = classes.kind version
+  kind = classes.kind edition
 
   same_sight : (set : List Class) (ts : List Token) → sees kind set (erased ts) ≡ sees kind set ts
   same_sight set [] = refl

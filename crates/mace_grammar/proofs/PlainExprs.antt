@@ -17,7 +17,7 @@ use Rattle.mace_ast.specs.Stmts.{bare_name}
 use Rattle.mace_grammar.specs.inner.Run.{Reader}
 use Rattle.mace_grammar.specs.declared.class.TheConstants.{EXPR_STARTS, INITIALS, UNARY_OPS}
 use Rattle.mace_grammar.specs.Words as w
-use Rattle.mace_grammar.specs.Words.{Version, first}
+use Rattle.mace_grammar.specs.Words.{Edition, first}
 use Rattle.mace_grammar.specs.Grammar as g
 use Rattle.mace_grammar.specs.inner.Readers as r
 use Rattle.mace_grammar.proofs.Plain.{Natural, erased, same_length, natural_give, natural_then, natural_word, natural_choice, natural_each, natural_deeper}
@@ -93,84 +93,84 @@ same_turns (suc zero) ts = same_length ts
 same_turns (suc (suc zero)) ts = refl
 same_turns (suc (suc (suc n))) ts = same_length ts
 
-module _ (version : Version) where
+module _ (edition : Edition) where
   module _ (run : Reader ExprTree) (U : Natural bare_expr run run) where
     operand : (n : ℕ) (item : Reader ExprTree) → Natural bare_expr item item → Natural bare_operand (r.operand_at (r.operator_at n) item) (r.operand_at (r.operator_at n) item)
     unfolding r.operand_at
     operand n item I = natural_then _ (operator n) (λ o. natural_then _ I (λ right. natural_give bare_operand (o, right) (o, bare_expr right) refl))
 
-    operands : (n : ℕ) (item : Reader ExprTree) → Natural bare_expr item item → (turns : ℕ) (left : ExprTree) → Natural bare_expr (r.operands_at version n item turns left) (r.operands_at version n item turns (bare_expr left))
+    operands : (n : ℕ) (item : Reader ExprTree) → Natural bare_expr item item → (turns : ℕ) (left : ExprTree) → Natural bare_expr (r.operands_at edition n item turns left) (r.operands_at edition n item turns (bare_expr left))
     unfolding r.operands_at
-    operands n item I turns left = natural_then _ (natural_each version (r.operators_of n) (operand n item I) turns) (λ others. natural_give bare_expr (fold g.joined left others) (fold g.joined (bare_expr left) (map bare_operand others)) (bare_fold left others))
+    operands n item I turns left = natural_then _ (natural_each edition (r.operators_of n) (operand n item I) turns) (λ others. natural_give bare_expr (fold g.joined left others) (fold g.joined (bare_expr left) (map bare_operand others)) (bare_fold left others))
 
-    level : (n : ℕ) → Natural bare_expr (r.level_at version run n) (r.level_at version run n)
+    level : (n : ℕ) → Natural bare_expr (r.level_at edition run n) (r.level_at edition run n)
     level zero = U
-    level (suc n) = let L = level n in natural_then _ L (λ first. record { same = λ ts. ap (λ m. (r.operands_at version) n (r.level_at version run n) m (bare_expr first) (erased ts)) (same_turns n ts) ∙ (operands n (r.level_at version run n) L (r.turns_of n ts) first).same ts })
+    level (suc n) = let L = level n in natural_then _ L (λ first. record { same = λ ts. ap (λ m. (r.operands_at edition) n (r.level_at edition run n) m (bare_expr first) (erased ts)) (same_turns n ts) ∙ (operands n (r.level_at edition run n) L (r.turns_of n ts) first).same ts })
 
-    expr : Natural bare_expr (r.expr_at version run) (r.expr_at version run)
+    expr : Natural bare_expr (r.expr_at edition run) (r.expr_at edition run)
     unfolding r.expr_at
     expr = level 5
 
-    arguments : Natural (map bare_expr) (r.arguments_at version run) (r.arguments_at version run)
+    arguments : Natural (map bare_expr) (r.arguments_at edition run) (r.arguments_at edition run)
     unfolding r.arguments_at
-    arguments = separated version bare_expr (r.expr_at version run) expr EXPR_STARTS
+    arguments = separated edition bare_expr (r.expr_at edition run) expr EXPR_STARTS
 
-    bracketed : Natural bare_expr (r.bracketed_at version run) (r.bracketed_at version run)
+    bracketed : Natural bare_expr (r.bracketed_at edition run) (r.bracketed_at edition run)
     unfolding r.bracketed_at
     bracketed = natural_then _ (sign s.LeftBracket) (λ _. natural_then _ expr (λ key. natural_then _ (sign s.RightBracket) (λ _. natural_give bare_expr key (bare_expr key) refl)))
 
-    parenthesized : Natural bare_expr (r.parenthesized_at version run) (r.parenthesized_at version run)
+    parenthesized : Natural bare_expr (r.parenthesized_at edition run) (r.parenthesized_at edition run)
     unfolding r.parenthesized_at
     parenthesized = natural_then _ (sign s.LeftParen) (λ _. natural_then _ expr (λ inner. natural_then _ (sign s.RightParen) (λ _. natural_give bare_expr inner (bare_expr inner) refl)))
 
-    call : (f : Name) → Natural bare_expr (r.call_at version run f) (r.call_at version run (bare_name f))
+    call : (f : Name) → Natural bare_expr (r.call_at edition run f) (r.call_at edition run (bare_name f))
     unfolding r.call_at
     call f = natural_then _ arguments (λ found. natural_give bare_expr (e.Call f.at f.text (exprs_of found)) (e.Call nowhere f.text (exprs_of (map bare_expr found))) (ap (e.Call nowhere f.text) (bare_exprs_of found)))
 
-    above : (c : Name) → Natural bare_expr (r.above_at version run c) (r.above_at version run (bare_name c))
+    above : (c : Name) → Natural bare_expr (r.above_at edition run c) (r.above_at edition run (bare_name c))
     unfolding r.above_at
     above c =
-        natural_then _ (field version)
-        (λ f. natural_choice version (r.if_sign s.LeftBracket)
+        natural_then _ (field edition)
+        (λ f. natural_choice edition (r.if_sign s.LeftBracket)
         (natural_then _ bracketed (λ key. natural_give bare_expr (e.AboveIndex c.at c.text f.text key) (e.AboveIndex nowhere c.text f.text (bare_expr key)) refl))
         (natural_give bare_expr (e.Above c.at c.text f.text) (e.Above nowhere c.text f.text) refl))
 
-    child_call : (c : Name) (key : ExprTree) → Natural bare_expr (r.child_call_at version run c key) (r.child_call_at version run (bare_name c) (bare_expr key))
+    child_call : (c : Name) (key : ExprTree) → Natural bare_expr (r.child_call_at edition run c key) (r.child_call_at edition run (bare_name c) (bare_expr key))
     unfolding r.child_call_at
-    child_call c key = natural_then _ (field version) (λ f. natural_then _ arguments (λ found. natural_give bare_expr (e.ChildCall c.at c.text key f.text (exprs_of found)) (e.ChildCall nowhere c.text (bare_expr key) f.text (exprs_of (map bare_expr found))) (ap (e.ChildCall nowhere c.text (bare_expr key) f.text) (bare_exprs_of found))))
+    child_call c key = natural_then _ (field edition) (λ f. natural_then _ arguments (λ found. natural_give bare_expr (e.ChildCall c.at c.text key f.text (exprs_of found)) (e.ChildCall nowhere c.text (bare_expr key) f.text (exprs_of (map bare_expr found))) (ap (e.ChildCall nowhere c.text (bare_expr key) f.text) (bare_exprs_of found))))
 
-    index : (x : Name) → Natural bare_expr (r.index_at version run x) (r.index_at version run (bare_name x))
+    index : (x : Name) → Natural bare_expr (r.index_at edition run x) (r.index_at edition run (bare_name x))
     unfolding r.index_at
-    index x = natural_then _ bracketed (λ key. natural_choice version (r.if_sign s.Dot) (child_call x key) (natural_give bare_expr (e.Index x.at x.text key) (e.Index nowhere x.text (bare_expr key)) refl))
+    index x = natural_then _ bracketed (λ key. natural_choice edition (r.if_sign s.Dot) (child_call x key) (natural_give bare_expr (e.Index x.at x.text key) (e.Index nowhere x.text (bare_expr key)) refl))
 
-    named : Natural bare_expr (r.named_at version run) (r.named_at version run)
+    named : Natural bare_expr (r.named_at edition run) (r.named_at edition run)
     unfolding r.named_at
-    named = natural_then _ (name version) (λ n. natural_choice version (r.if_sign s.LeftParen) (call n) (natural_choice version (r.if_sign s.Dot) (above n) (natural_choice version (r.if_sign s.LeftBracket) (index n) (natural_give bare_expr (e.Read n.at n.text) (e.Read nowhere n.text) refl))))
+    named = natural_then _ (name edition) (λ n. natural_choice edition (r.if_sign s.LeftParen) (call n) (natural_choice edition (r.if_sign s.Dot) (above n) (natural_choice edition (r.if_sign s.LeftBracket) (index n) (natural_give bare_expr (e.Read n.at n.text) (e.Read nowhere n.text) refl))))
 
-    primary : Natural bare_expr (r.primary_at version run) (r.primary_at version run)
+    primary : Natural bare_expr (r.primary_at edition run) (r.primary_at edition run)
     unfolding r.primary_at
-    primary = natural_choice version INITIALS literal_node (natural_choice version (r.if_sign s.LeftParen) parenthesized named)
+    primary = natural_choice edition INITIALS literal_node (natural_choice edition (r.if_sign s.LeftParen) parenthesized named)
 
-    signed : Natural bare_expr (r.signed_at version run) (r.signed_at version run)
+    signed : Natural bare_expr (r.signed_at edition run) (r.signed_at edition run)
     unfolding r.signed_at
     signed = natural_then _ unary_op (λ o. natural_then _ U (λ x. natural_give bare_expr (e.Unary o.0 o.1 x) (e.Unary nowhere o.1 (bare_expr x)) refl))
 
-    signed_or_primary : Natural bare_expr (r.signed_or_primary_at version run) (r.signed_or_primary_at version run)
+    signed_or_primary : Natural bare_expr (r.signed_or_primary_at edition run) (r.signed_or_primary_at edition run)
     unfolding r.signed_or_primary_at
-    signed_or_primary = natural_choice version UNARY_OPS signed primary
+    signed_or_primary = natural_choice edition UNARY_OPS signed primary
 
-  unary : (n : ℕ) → Natural bare_expr (r.unary_at version n) (r.unary_at version n)
-  unary = natural_deeper bare_expr (λ _. (r.signed_or_primary_at version)) (λ n. signed_or_primary)
+  unary : (n : ℕ) → Natural bare_expr (r.unary_at edition n) (r.unary_at edition n)
+  unary = natural_deeper bare_expr (λ _. (r.signed_or_primary_at edition)) (λ n. signed_or_primary)
 
   module _ (n : ℕ) where
-    pub any_expr : Natural bare_expr (r.any_expr_at version n) (r.any_expr_at version n)
+    pub any_expr : Natural bare_expr (r.any_expr_at edition n) (r.any_expr_at edition n)
     unfolding r.any_expr_at
-    any_expr = expr (r.unary_at version n) (unary n)
+    any_expr = expr (r.unary_at edition n) (unary n)
 
-    pub any_arguments : Natural (map bare_expr) (r.any_arguments_at version n) (r.any_arguments_at version n)
+    pub any_arguments : Natural (map bare_expr) (r.any_arguments_at edition n) (r.any_arguments_at edition n)
     unfolding r.any_arguments_at
-    any_arguments = arguments (r.unary_at version n) (unary n)
+    any_arguments = arguments (r.unary_at edition n) (unary n)
 
-    pub any_key : Natural bare_expr (r.any_key_at version n) (r.any_key_at version n)
+    pub any_key : Natural bare_expr (r.any_key_at edition n) (r.any_key_at edition n)
     unfolding r.any_key_at
-    any_key = bracketed (r.unary_at version n) (unary n)
+    any_key = bracketed (r.unary_at edition n) (unary n)

@@ -15,7 +15,7 @@ use Rattle.mace_ast.specs.Stmts.{bare_name}
 use Rattle.mace_grammar.specs.inner.Run.{Reader, word as token}
 use Rattle.mace_grammar.specs.declared.class.Class.{Class}
 use Rattle.mace_grammar.specs.Words as w
-use Rattle.mace_grammar.specs.Words.{Version, first}
+use Rattle.mace_grammar.specs.Words.{Edition, first}
 use Rattle.mace_grammar.specs.inner.Readers as r
 use Rattle.mace_grammar.proofs.Plain.{Natural, natural_give, natural_then, natural_word, natural_each_of, natural_maybe}
 
@@ -69,54 +69,54 @@ guarded : {A B : Type 0} (h : A → B) (b : Bool) (o o' : Option A) (p p' : Opti
 guarded h true o o' p p' e e' = e
 guarded h false o o' p p' e e' = e'
 
-module _ (version : Version) where
-  name_place : (at : Span) (v : Word) → w.name_word version nowhere v ≡ option_map bare_name (w.name_word version at v)
-  name_place at (word.Name t) = guarded bare_name (version.is_name t) (Some (record { at = at; text = t })) None _ None refl refl
+module _ (edition : Edition) where
+  name_place : (at : Span) (v : Word) → w.name_word edition nowhere v ≡ option_map bare_name (w.name_word edition at v)
+  name_place at (word.Name t) = guarded bare_name (edition.is_name t) (Some (record { at = at; text = t })) None _ None refl refl
   name_place at (word.Number n) = refl
   name_place at (word.Text t) = refl
   name_place at (word.Key j) = refl
   name_place at (word.Sign j) = refl
 
-  leave_place : (at : Span) (v : Word) → w.leave_word version nowhere v ≡ option_map no_place (w.leave_word version at v)
-  leave_place at v = guarded no_place version.early (w.key_word k.Return at v) None (w.key_word k.Return nowhere v) None (key_place k.Return at v) refl
+  leave_place : (at : Span) (v : Word) → w.leave_word edition nowhere v ≡ option_map no_place (w.leave_word edition at v)
+  leave_place at v = guarded no_place edition.early (w.key_word k.Return at v) None (w.key_word k.Return nowhere v) None (key_place k.Return at v) refl
 
-  finish_place : (at : Span) (v : Word) → w.finish_word version nowhere v ≡ option_map no_place (w.finish_word version at v)
-  finish_place at (word.Name t) = if_place (version.early && w.is_finish t) at
+  finish_place : (at : Span) (v : Word) → w.finish_word edition nowhere v ≡ option_map no_place (w.finish_word edition at v)
+  finish_place at (word.Name t) = if_place (edition.early && w.is_finish t) at
   finish_place at (word.Number n) = refl
   finish_place at (word.Text t) = refl
   finish_place at (word.Key j) = refl
   finish_place at (word.Sign j) = refl
 
-  pub name : Natural bare_name (r.name_at version) (r.name_at version)
+  pub name : Natural bare_name (r.name_at edition) (r.name_at edition)
   name = natural_word bare_name _ _ (λ t. name_place t.span t.word)
 
-  pub leave : Natural no_place (r.leave_at version) (r.leave_at version)
+  pub leave : Natural no_place (r.leave_at edition) (r.leave_at edition)
   leave = natural_word no_place _ _ (λ t. leave_place t.span t.word)
 
-  pub finish : Natural no_place (r.finish_at version) (r.finish_at version)
+  pub finish : Natural no_place (r.finish_at edition) (r.finish_at edition)
   finish = natural_word no_place _ _ (λ t. finish_place t.span t.word)
 
-  pub field : Natural bare_name (r.field_at version) (r.field_at version)
+  pub field : Natural bare_name (r.field_at edition) (r.field_at edition)
   field = natural_then _ (sign s.Dot) (λ _. name)
 
-  pub maybe_field : Natural (option_map bare_name) (r.maybe_field_at version) (r.maybe_field_at version)
-  maybe_field = natural_maybe version (r.if_sign s.Dot) field
+  pub maybe_field : Natural (option_map bare_name) (r.maybe_field_at edition) (r.maybe_field_at edition)
+  maybe_field = natural_maybe edition (r.if_sign s.Dot) field
 
   -- ---- lists with commas
 
   module _ {A : Type 0} (h : A → A) (item : Reader A) (I : Natural h item item) where
-    next : Natural h (r.next_at version item) (r.next_at version item)
+    next : Natural h (r.next_at edition item) (r.next_at edition item)
     unfolding r.next_at
     next = natural_then _ (sign s.Comma) (λ _. I)
 
-    list : Natural (map h) (r.list_at version item) (r.list_at version item)
+    list : Natural (map h) (r.list_at edition item) (r.list_at edition item)
     unfolding r.list_at
-    list = natural_then _ I (λ first. natural_then _ (natural_each_of version (r.if_sign s.Comma) next) (λ others. natural_give (map h) (first ∷ others) (map h (first ∷ others)) refl))
+    list = natural_then _ I (λ first. natural_then _ (natural_each_of edition (r.if_sign s.Comma) next) (λ others. natural_give (map h) (first ∷ others) (map h (first ∷ others)) refl))
 
     unwrapped : (o : Option (List A)) → unwrap_or (option_map (map h) o) [] ≡ map h (unwrap_or o [])
     unwrapped (Some l) = refl
     unwrapped None = refl
 
-    pub separated : (set : List Class) → Natural (map h) (r.separated_at version set item) (r.separated_at version set item)
+    pub separated : (set : List Class) → Natural (map h) (r.separated_at edition set item) (r.separated_at edition set item)
     unfolding r.separated_at
-    separated set = natural_then _ (sign s.LeftParen) (λ _. natural_then _ (natural_maybe version set list) (λ found. natural_then _ (sign s.RightParen) (λ _. natural_give (map h) (unwrap_or found []) (unwrap_or (option_map (map h) found) []) (unwrapped found))))
+    separated set = natural_then _ (sign s.LeftParen) (λ _. natural_then _ (natural_maybe edition set list) (λ found. natural_then _ (sign s.RightParen) (λ _. natural_give (map h) (unwrap_or found []) (unwrap_or (option_map (map h) found) []) (unwrapped found))))

@@ -23,7 +23,7 @@ use Rattle.mace_grammar.specs.Words as w
 use Rattle.mace_grammar.specs.Grammar as g
 use Rattle.mace_grammar.specs.inner.Readers as r
 use Rattle.mace_grammar.proofs.Versions.{IsSound}
-use Rattle.mace_grammar.specs.Words.{Version}
+use Rattle.mace_grammar.specs.Words.{Edition}
 use Rattle.mace_grammar.proofs.Reading.{Reads, wider}
 use Rattle.mace_grammar.proofs.OneToken.{reads_word}
 use Rattle.mace_grammar.proofs.InTurn.{reads_pure, next_part}
@@ -39,25 +39,25 @@ if_some : {A : Type 0} (b : Bool) (a : A) → IsSome (if b then Some a else None
 if_some true a h = refl
 if_some false a h = cc
 
-module _ (version : Version) (sound : IsSound version) where
+module _ (edition : Edition) (sound : IsSound edition) where
   abbrev class_of : Word → Class
-  class_of = classes.class_of version
+  class_of = classes.class_of edition
 
   abbrev kind : Token → Class
-  kind = classes.kind version
+  kind = classes.kind edition
 
   -- a keyword that is not `return` has a class of its own, and so has `return` in version 1
   own_class : (j : Keyword) → (key_code j == key_code k.Return) ≡ false → class_of (word.Key j) ≡ class.Key j
-  own_class j e = ap (λ b. if b && version.early then class.Leave else class.Key j) e
+  own_class j e = ap (λ b. if b && edition.early then class.Leave else class.Key j) e
 
-  late_class : (j : Keyword) → version.early ≡ false → class_of (word.Key j) ≡ class.Key j
+  late_class : (j : Keyword) → edition.early ≡ false → class_of (word.Key j) ≡ class.Key j
   late_class j e = ap (λ b. if (key_code j == key_code k.Return) && b then class.Leave else class.Key j) e ∙ none (key_code j == key_code k.Return)
     where
       none : (b : Bool) → (if b && false then class.Leave else class.Key j) ≡ class.Key j
       none true = refl
       none false = refl
 
-  early_class : (j : Keyword) → version.early ≡ true → key_code k.Return ≡ key_code j → class_of (word.Key j) ≡ class.Leave
+  early_class : (j : Keyword) → edition.early ≡ true → key_code k.Return ≡ key_code j → class_of (word.Key j) ≡ class.Leave
   early_class j e same = ap (λ b. if (key_code j == key_code k.Return) && b then class.Leave else class.Key j) e ∙ ap (λ b. if b && true then class.Leave else class.Key j) (eq-eqb (key_code j) (key_code k.Return) (sym same))
 
   same_key : (want j : Keyword) (at : Span) → IsSome (w.key_word want at (word.Key j)) → key_code want ≡ key_code j
@@ -80,28 +80,28 @@ module _ (version : Version) (sound : IsSound version) where
   guarded true a d h = inl (refl, h)
   guarded false a d h = inr (refl, h)
 
-  end_has : (at : Span) (v : Word) → IsSome (w.end_word version at v) → has (r.if_key k.Return) (class_of v) ≡ true
-  end_has at v h = ⊎_elim (λ l. cc) (λ l. of v l.0 l.1) (guarded version.early None (w.key_word k.Return at v) h)
+  end_has : (at : Span) (v : Word) → IsSome (w.end_word edition at v) → has (r.if_key k.Return) (class_of v) ≡ true
+  end_has at v h = ⊎_elim (λ l. cc) (λ l. of v l.0 l.1) (guarded edition.early None (w.key_word k.Return at v) h)
     where
-      of : (v : Word) → version.early ≡ false → IsSome (w.key_word k.Return at v) → has (r.if_key k.Return) (class_of v) ≡ true
+      of : (v : Word) → edition.early ≡ false → IsSome (w.key_word k.Return at v) → has (r.if_key k.Return) (class_of v) ≡ true
       of (word.Key j) e h = subst (λ n. has (r.if_key k.Return) n ≡ true) (sym (late_class j e)) (key_class_has k.Return j (same_key k.Return j at h))
       of (word.Name t) e h = cc
       of (word.Number n) e h = cc
       of (word.Text t) e h = cc
       of (word.Sign j) e h = cc
 
-  leave_has : (at : Span) (v : Word) → IsSome (w.leave_word version at v) → has (class.Leave ∷ []) (class_of v) ≡ true
-  leave_has at v h = ⊎_elim (λ l. of v l.0 l.1) (λ l. cc) (guarded version.early (w.key_word k.Return at v) None h)
+  leave_has : (at : Span) (v : Word) → IsSome (w.leave_word edition at v) → has (class.Leave ∷ []) (class_of v) ≡ true
+  leave_has at v h = ⊎_elim (λ l. of v l.0 l.1) (λ l. cc) (guarded edition.early (w.key_word k.Return at v) None h)
     where
-      of : (v : Word) → version.early ≡ true → IsSome (w.key_word k.Return at v) → has (class.Leave ∷ []) (class_of v) ≡ true
+      of : (v : Word) → edition.early ≡ true → IsSome (w.key_word k.Return at v) → has (class.Leave ∷ []) (class_of v) ≡ true
       of (word.Key j) e h = subst (λ n. has (class.Leave ∷ []) n ≡ true) (sym (early_class j e (same_key k.Return j at h))) refl
       of (word.Name t) e h = cc
       of (word.Number n) e h = cc
       of (word.Text t) e h = cc
       of (word.Sign j) e h = cc
 
-  finish_has : (at : Span) (v : Word) → IsSome (w.finish_word version at v) → has (class.Finish ∷ []) (class_of v) ≡ true
-  finish_has at (word.Name t) h = subst (λ b. has (class.Finish ∷ []) (if b then class.Name else class.Finish) ≡ true) (sym (sound.apart t (if_some (version.early && w.is_finish t) at h))) refl
+  finish_has : (at : Span) (v : Word) → IsSome (w.finish_word edition at v) → has (class.Finish ∷ []) (class_of v) ≡ true
+  finish_has at (word.Name t) h = subst (λ b. has (class.Finish ∷ []) (if b then class.Name else class.Finish) ≡ true) (sym (sound.apart t (if_some (edition.early && w.is_finish t) at h))) refl
   finish_has at (word.Number n) h = cc
   finish_has at (word.Text t) h = cc
   finish_has at (word.Key j) h = cc
@@ -114,8 +114,8 @@ module _ (version : Version) (sound : IsSound version) where
   sign_has want at (word.Text t) h = cc
   sign_has want at (word.Key j) h = cc
 
-  name_has : (at : Span) (v : Word) → IsSome (w.name_word version at v) → has (class.Name ∷ []) (class_of v) ≡ true
-  name_has at (word.Name t) h = subst (λ b. has (class.Name ∷ []) (if b then class.Name else class.Finish) ≡ true) (sym (if_some (version.is_name t) _ h)) refl
+  name_has : (at : Span) (v : Word) → IsSome (w.name_word edition at v) → has (class.Name ∷ []) (class_of v) ≡ true
+  name_has at (word.Name t) h = subst (λ b. has (class.Name ∷ []) (if b then class.Name else class.Finish) ≡ true) (sym (if_some (edition.is_name t) _ h)) refl
   name_has at (word.Number n) h = cc
   name_has at (word.Text t) h = cc
   name_has at (word.Key j) h = cc
@@ -236,19 +236,19 @@ module _ (version : Version) (sound : IsSound version) where
     pub key : (want : Keyword) → (key_code want == key_code k.Return) ≡ false → Reads kind m (w.key want) (w.key want) (r.key_at want) (r.if_key want) false []
     key want other = reads_word kind m _ _ (λ t. key_has want other t.span t.word)
 
-    pub end : Reads kind m (w.end version) (w.end version) (token (λ t. w.end_word version t.span t.word)) (r.if_key k.Return) false []
+    pub end : Reads kind m (w.end edition) (w.end edition) (token (λ t. w.end_word edition t.span t.word)) (r.if_key k.Return) false []
     end = reads_word kind m _ _ (λ t. end_has t.span t.word)
 
-    pub leave : Reads kind m (w.leave version) (w.leave version) (r.leave_at version) (class.Leave ∷ []) false []
+    pub leave : Reads kind m (w.leave edition) (w.leave edition) (r.leave_at edition) (class.Leave ∷ []) false []
     leave = reads_word kind m _ _ (λ t. leave_has t.span t.word)
 
-    pub finish : Reads kind m (w.finish version) (w.finish version) (r.finish_at version) (class.Finish ∷ []) false []
+    pub finish : Reads kind m (w.finish edition) (w.finish edition) (r.finish_at edition) (class.Finish ∷ []) false []
     finish = reads_word kind m _ _ (λ t. finish_has t.span t.word)
 
     pub sign : (want : Sign) → Reads kind m (w.sign want) (w.sign want) (r.sign_at want) (r.if_sign want) false []
     sign want = reads_word kind m _ _ (λ t. sign_has want t.span t.word)
 
-    pub name : Reads kind m (w.name version) (w.name version) (r.name_at version) (class.Name ∷ []) false []
+    pub name : Reads kind m (w.name edition) (w.name edition) (r.name_at edition) (class.Name ∷ []) false []
     name = reads_word kind m _ _ (λ t. name_has t.span t.word)
 
     pub number : Reads kind m w.number w.number r.number_at (class.Number ∷ []) false []
@@ -272,7 +272,7 @@ module _ (version : Version) (sound : IsSound version) where
     pub operator : (f : Sign → Option BinaryOp) (set : List Class) → ((j : Sign) → IsSome (f j) → has set (class.Sign j) ≡ true) → Reads kind m (w.operator f) (w.operator f) (token (λ t. w.op_word f t.word)) set false []
     operator f set each = reads_word kind m _ _ (λ t. op_has f set each t.word)
 
-    pub field : Reads kind m (g.field version) (g.field version) (r.field_at version) (r.if_sign s.Dot) false []
+    pub field : Reads kind m (g.field edition) (g.field edition) (r.field_at edition) (r.if_sign s.Dot) false []
     field = next_part kind (sign s.Dot) (λ _. name) refl
 
     -- ---- fields
@@ -284,11 +284,11 @@ module _ (version : Version) (sound : IsSound version) where
     initial_node : Reads kind m (one (λ t. w.initial_word t.span t.word)) (one (λ t. w.initial_word t.span t.word)) r.literal_initial_at INITIALS false []
     initial_node = reads_word kind m _ _ (λ t. initial_has t.span t.word)
 
-    pub initial : Reads kind m g.initial g.initial (r.initial_at version) (INITIALS ++ r.if_sign s.Minus) false []
+    pub initial : Reads kind m g.initial g.initial (r.initial_at edition) (INITIALS ++ r.if_sign s.Minus) false []
     unfolding r.initial_at
     initial = either kind initial_node minus_number refl
 
-    pub var : Reads kind m (g.var version) (g.var version) (r.var_at version) (r.if_key k.Var) false []
+    pub var : Reads kind m (g.var edition) (g.var edition) (r.var_at edition) (r.if_key k.Var) false []
     unfolding r.var_at
     var =
         next_part kind (key k.Var refl)
@@ -301,12 +301,12 @@ module _ (version : Version) (sound : IsSound version) where
         (λ _. reads_pure kind m (record { at = at; name = n; kind = t; initial = v }))
         refl) refl) refl) refl) refl) refl) refl
 
-    pub vars : Reads kind m (many (g.var version)) (many (g.var version)) (r.vars_at version) (r.if_key k.Var) true (r.if_key k.Var)
+    pub vars : Reads kind m (many (g.var edition)) (many (g.var edition)) (r.vars_at edition) (r.if_key k.Var) true (r.if_key k.Var)
     unfolding r.vars_at
     vars = wider kind (repeated kind var refl) refl refl
 
 -- a brace is told apart alike in each version
-pub brace_same : (v v' : Version) (t : Token) → has (r.if_sign s.LeftBrace) (classes.kind v t) ≡ has (r.if_sign s.LeftBrace) (classes.kind v' t)
+pub brace_same : (v v' : Edition) (t : Token) → has (r.if_sign s.LeftBrace) (classes.kind v t) ≡ has (r.if_sign s.LeftBrace) (classes.kind v' t)
 brace_same v v' t = of t.word
   where
     name_no : (b : Bool) → has (r.if_sign s.LeftBrace) (if b then class.Name else class.Finish) ≡ false

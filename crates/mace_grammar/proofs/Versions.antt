@@ -1,11 +1,12 @@
--- What is asked of a version, and that each numbered one has it.
-use Rattle.std.proofs.Common.{◌≡◌, ℕ, List, Bool, true, false, ◌&&◌, not, ap}
-use Rattle.std.specs.Prelude.{◌==◌, if◌then◌else◌}
-use Rattle.mace_grammar.specs.Words.{Version, first, second, numbered, is_finish}
+-- What is asked of an edition, and that each version's has it.
+use Rattle.std.proofs.Common.{◌≡◌, ℕ, List, true, false, ◌&&◌, not, ap}
+use Rattle.wave_base.specs.declared.version.Version.{Version}
+use Rattle.wave_base.specs.declared.version.Version.TheVariants.{First, Second}
+use Rattle.mace_grammar.specs.Words.{Edition, first, second, edition_of, is_finish}
 
 -- what is the word `finish` is no name
-pub record IsSound (version : Version) : Type 0 where
-  pub apart : (t : List ℕ) → (version.early && is_finish t) ≡ true → version.is_name t ≡ false
+pub record IsSound (edition : Edition) : Type 0 where
+  pub apart : (t : List ℕ) → (edition.early && is_finish t) ≡ true → edition.is_name t ≡ false
 
 pub first_sound : IsSound first
 first_sound = record { apart = λ t h. cc }
@@ -13,9 +14,6 @@ first_sound = record { apart = λ t h. cc }
 pub second_sound : IsSound second
 second_sound = record { apart = λ t h. ap not h }
 
-pub numbered_sound : (n : ℕ) → IsSound (numbered n)
-numbered_sound n = by (n == 2)
-  where
-    by : (b : Bool) → IsSound (if b then second else first)
-    by true = second_sound
-    by false = first_sound
+pub edition_sound : (version : Version) → IsSound (edition_of version)
+edition_sound First = first_sound
+edition_sound Second = second_sound

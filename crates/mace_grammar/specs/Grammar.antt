@@ -5,9 +5,10 @@ pub mod Stmts
 unfoldable pub use Rattle.mace_grammar.specs.Grammar.Lists.{listed, in_parens}
 unfoldable pub use Rattle.mace_grammar.specs.Grammar.Exprs.{joined, compared, operand, chain, field, product, sum, comparison, conjunction, expr, arguments, bracketed, parenthesized, read, above, call, index, above_index, child_call, primary, signed, signed_or_primary, unary, any_expr, any_arguments, any_key}
 unfoldable pub use Rattle.mace_grammar.specs.Grammar.Stmts.{target, let_stmt, require_stmt, send_stmt, spawn_stmt, drop_stmt, set_stmt, call_stmt, child_call_stmt, return_stmt, finish_stmt, block, if_stmt, while_stmt, for_stmt, any_stmt, stmt, stmts, any_block}
-use Rattle.std.specs.Prelude.{ℕ, List, Option}
+use Rattle.std.specs.Prelude.{List, Option}
 use Rattle.wave_base.specs.declared.span.Span.{Span}
 use Rattle.wave_base.specs.declared.value.Kind.{Kind}
+use Rattle.wave_base.specs.declared.version.Version.{Version}
 use Rattle.mace_lexer.specs.declared.keyword.Keyword.TheVariants as k
 use Rattle.mace_lexer.specs.declared.sign.Sign.TheVariants as s
 use Rattle.mace_ast.specs.declared.name.Name.{Name}
@@ -17,7 +18,7 @@ use Rattle.mace_ast.specs.declared.field.Literal.TheVariants as lit
 use Rattle.mace_ast.specs.declared.method.Param.{Param}
 use Rattle.mace_ast.specs.Decls.{LastTree, MethodTree, PhaseTree, EventTree, ContextTree, Context, contexts_of, ServiceTree}
 use Rattle.mace_grammar.specs.Part.{Part, pure, one, ◌>>=◌, ◌>>◌, ◌or◌, many, maybe, deep}
-use Rattle.mace_grammar.specs.Words.{Version, first, numbered, version_number, key, sign, name, end, number, type, initial_word}
+use Rattle.mace_grammar.specs.Words.{Edition, first, edition_of, version_number, key, sign, name, end, number, type, initial_word}
 
 -- Initial = Number | "-" Number | Text | "true" | "false" | "empty"
 abbrev pub minus_number : Part Initial
@@ -33,14 +34,14 @@ initial = one (λ t. initial_word t.span t.word) or minus_number
 abbrev pub result : Part (Option Kind)
 result = maybe (sign s.Colon >> type)
 
-module _ (version : Version) where
+module _ (edition : Edition) where
   -- ---- fields
 
   -- Var = "var" Name ":" Type "=" Initial ";"
   abbrev pub var : Part VarDecl
   var = do
     at ← key k.Var
-    n ← name version
+    n ← name edition
     sign s.Colon
     kind ← type
     sign s.Equals
@@ -52,7 +53,7 @@ module _ (version : Version) where
 
   abbrev pub param : Part Param
   param = do
-    n ← name version
+    n ← name edition
     sign s.Colon
     kind ← type
     pure (record { name = n; kind = kind })
@@ -65,7 +66,7 @@ module _ (version : Version) where
   abbrev pub last : Part Span → Part LastTree
   last keyword = do
     at ← keyword
-    value ← any_expr version
+    value ← any_expr edition
     sign s.Semicolon
     pure (record { at = at; value = value })
 
@@ -73,12 +74,12 @@ module _ (version : Version) where
   abbrev pub method : Part MethodTree
   method = do
     at ← key k.Method
-    n ← name version
+    n ← name edition
     ps ← params
     kind ← result
     sign s.LeftBrace
-    body ← stmts version
-    end ← maybe (last (end version))
+    body ← stmts edition
+    end ← maybe (last (end edition))
     sign s.RightBrace
     pure (record { at = at; name = n; params = ps; result = kind; body = body; last = end })
 
@@ -86,20 +87,20 @@ module _ (version : Version) where
   abbrev pub down : Part PhaseTree
   down = do
     at ← key k.Down
-    c ← name version
-    place ← any_key version
-    body ← any_block version
+    c ← name edition
+    place ← any_key edition
+    body ← any_block edition
     pure (record { at = at; class = c.text; key = place; body = body })
 
   -- Event = "event" Name "(" Params ")" [":" Type] "{" ["here" Block] Down* ["reply" Expr ";"] "}"
   abbrev pub event : Part EventTree
   event = do
     at ← key k.Event
-    n ← name version
+    n ← name edition
     ps ← params
     kind ← result
     sign s.LeftBrace
-    here ← maybe (key k.Here >> any_block version)
+    here ← maybe (key k.Here >> any_block edition)
     phases ← many down
     end ← maybe (last (key k.Reply))
     sign s.RightBrace
@@ -111,7 +112,7 @@ module _ (version : Version) where
   abbrev pub one_context : Part ContextTree → Part ContextTree
   one_context context = do
     at ← key k.Context
-    n ← name version
+    n ← name edition
     sign s.LeftBracket
     key k.Int
     sign s.RightBracket
@@ -125,21 +126,21 @@ module _ (version : Version) where
   abbrev pub context : Part ContextTree
   context = deep one_context
 
--- "{" Var* Context* Method* Event* "}", in the version of this number
-unfoldable pub members : ℕ → Span → Name → Part ServiceTree
-members number at n = do
+-- "{" Var* Context* Method* Event* "}", in this version
+unfoldable pub members : Version → Span → Name → Part ServiceTree
+members version at n = do
   sign s.LeftBrace
-  vars ← many (var (numbered number))
-  contexts ← many (context (numbered number))
-  methods ← many (method (numbered number))
-  events ← many (event (numbered number))
+  vars ← many (var (edition_of version))
+  contexts ← many (context (edition_of version))
+  methods ← many (method (edition_of version))
+  events ← many (event (edition_of version))
   sign s.RightBrace
-  pure (record { at = at; name = n; version = number; vars = vars; contexts = contexts; methods = methods; events = events })
+  pure (record { at = at; name = n; version = version; vars = vars; contexts = contexts; methods = methods; events = events })
 
 -- Service = "service" Name ["2"] "{" Var* Context* Method* Event* "}" End: what stands behind the number is read by it
 unfoldable pub service : Part ServiceTree
 service = do
   at ← key k.Service
   n ← name first
-  number ← version_number
-  members number at n
+  version ← version_number
+  members version at n

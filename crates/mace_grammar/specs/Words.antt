@@ -4,6 +4,8 @@ use Rattle.std.specs.Option.{option_map}
 use Rattle.std.specs.Ordering.{int_eq}
 use Rattle.wave_base.specs.Names.{same_bytes}
 use Rattle.wave_base.specs.declared.span.Span.{Span}
+use Rattle.wave_base.specs.declared.version.Version.{Version}
+use Rattle.wave_base.specs.declared.version.Version.TheVariants.{First, Second}
 use Rattle.wave_base.specs.declared.value.Kind.{Kind}
 use Rattle.wave_base.specs.declared.value.Kind.TheVariants as kind
 use Rattle.mace_lexer.specs.declared.token.Word.{Word}
@@ -39,39 +41,38 @@ key want = one (λ t. key_word want t.span t.word)
 abbrev pub sign : Sign → Part Span
 sign want = one (λ t. sign_word want t.span t.word)
 
--- ---- what the version of a service changes
+-- ---- what the version of a service changes: which words are names, and whether `return` and `finish` are statements
 
--- which words are names, and whether `return` and `finish` are statements
-pub record Version : Type 0 where
+pub record Edition : Type 0 where
   pub is_name : List ℕ → Bool
   pub early : Bool
 
-abbrev pub first : Version
+abbrev pub first : Edition
 first = record { is_name = λ t. true; early = false }
 
 abbrev pub is_finish : List ℕ → Bool
 is_finish t = same_bytes t (codes "finish")
 
-abbrev pub second : Version
+abbrev pub second : Edition
 second = record { is_name = λ t. not (is_finish t); early = true }
 
--- a version by its number
-abbrev pub numbered : ℕ → Version
-numbered n = if n == 2 then second else first
+abbrev pub edition_of : Version → Edition
+edition_of First = first
+edition_of Second = second
 
-abbrev pub two_word : Word → Option ℕ
-two_word (word.Number n) = if int_eq n (pos 2) then Some 2 else None
+abbrev pub two_word : Word → Option Version
+two_word (word.Number n) = if int_eq n (pos 2) then Some Second else None
 two_word _ = None
 
--- ["2"]: where the number is left out, the version is 1
-unfoldable pub version_number : Part ℕ
+-- ["2"]: where the number is left out, the version is the first
+unfoldable pub version_number : Part Version
 version_number = do
   number ← maybe (one (λ t. two_word t.word))
-  pure (unwrap_or number 1)
+  pure (unwrap_or number First)
 
-module _ (version : Version) where
+module _ (edition : Edition) where
   abbrev pub name_word : Span → Word → Option Name
-  name_word at (word.Name t) = if version.is_name t then Some (record { at = at; text = t }) else None
+  name_word at (word.Name t) = if edition.is_name t then Some (record { at = at; text = t }) else None
   name_word at _ = None
 
   abbrev pub name : Part Name
@@ -79,21 +80,21 @@ module _ (version : Version) where
 
   -- `return` at the end of a method, in version 1
   abbrev pub end_word : Span → Word → Option Span
-  end_word at word = if version.early then None else key_word k.Return at word
+  end_word at word = if edition.early then None else key_word k.Return at word
 
   abbrev pub end : Part Span
   end = one (λ t. end_word t.span t.word)
 
   -- `return` as a statement, in version 2
   abbrev pub leave_word : Span → Word → Option Span
-  leave_word at word = if version.early then key_word k.Return at word else None
+  leave_word at word = if edition.early then key_word k.Return at word else None
 
   abbrev pub leave : Part Span
   leave = one (λ t. leave_word t.span t.word)
 
   -- the word `finish`, in version 2
   abbrev pub finish_word : Span → Word → Option Span
-  finish_word at (word.Name t) = if version.early && is_finish t then Some at else None
+  finish_word at (word.Name t) = if edition.early && is_finish t then Some at else None
   finish_word at _ = None
 
   abbrev pub finish : Part Span

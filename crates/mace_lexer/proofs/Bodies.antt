@@ -6,7 +6,8 @@ use Rattle.std.proofs.lemmas.Bool.Decides.{nat_tests}
 use Rattle.wave_base.specs.Text.{IsPrintable}
 use Rattle.mace_lexer.specs.declared.quoted.Inside.{Inside}
 use Rattle.mace_lexer.specs.declared.quoted.Inside.TheVariants.{Byte, Close, Open, Bad}
-use Rattle.mace_lexer.specs.Texts.{escaped_byte, escaped, escape_of, inside_of, is_byte}
+use Rattle.mace_lexer.specs.Texts.{escape_of, inside_of, is_byte}
+use Rattle.wave_base.specs.Text.{escaped_byte, escaped}
 
 -- ---- what stands first
 

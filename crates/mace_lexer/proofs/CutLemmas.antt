@@ -17,7 +17,8 @@ use Rattle.mace_lexer.specs.declared.fault.LexFault.TheVariants.{BadByte, Number
 use Rattle.mace_lexer.specs.declared.fault.LexError.{LexError}
 use Rattle.mace_lexer.specs.declared.fault.LexError.TheVariants as error
 use Rattle.mace_lexer.specs.Words.{value_of, greatest, keyword}
-use Rattle.mace_lexer.specs.Texts.{escaped, quoted, inside_of, is_byte}
+use Rattle.mace_lexer.specs.Texts.{inside_of, is_byte}
+use Rattle.wave_base.specs.Text.{escaped, quoted}
 use Rattle.mace_lexer.specs.Pieces.{Piece, Gap, Spell, Wrong, IsPiece, IsLongest, HasNone}
 use Rattle.mace_lexer.specs.Cuts.{Cuts, at_end, gap, spelled, Faulty, here, after_gap, after_word, past, Fails, StopsInside, HasNoPiece}
 use Rattle.mace_lexer.specs.Lexed.{AreTokens, LiesIn, AreInOrder, IsFirstFault, TellsFault, Answers, error_of}
@@ -25,6 +26,7 @@ use Rattle.mace_lexer.proofs.Forms.{tag, tagged, keyword_passes}
 use Rattle.mace_lexer.proofs.Bodies.{same_body}
 use Rattle.mace_lexer.proofs.Longest.{no_empty, no_text}
 use Rattle.mace_lexer.proofs.Places.{tokens_lie, tokens_in_order}
+use Rattle.wave_base.specs.Memory.{the_refusal}
 
 -- ---- bytes are one piece
 
@@ -239,13 +241,13 @@ tells text NameLong at e f h = subst (TellsFault text) (sym h) f
 tells text TextLong at e f h = subst (TellsFault text) (sym h) f
 
 -- an error tells a fault, or memory
-told_by : (text : List ℕ) (e : LexError) → TellsFault text e → (e ≡ error.OutOfMemory) ⊎ ((k : LexFault) × (at : Span) × (e ≡ error_of k at) × IsFirstFault text k at)
+told_by : (text : List ℕ) (e : LexError) → TellsFault text e → (e ≡ error.OutOfMemory the_refusal) ⊎ ((k : LexFault) × (at : Span) × (e ≡ error_of k at) × IsFirstFault text k at)
 told_by text (error.BadByte at) h = inr (BadByte, at, refl, h)
 told_by text (error.NumberRange at) h = inr (NumberRange, at, refl, h)
 told_by text (error.OpenText at) h = inr (OpenText, at, refl, h)
 told_by text (error.NameLong at) h = inr (NameLong, at, refl, h)
 told_by text (error.TextLong at) h = inr (TextLong, at, refl, h)
-told_by text error.OutOfMemory h = inl refl
+told_by text (error.OutOfMemory _) h = inl refl
 
 pub answers_tokens : (text : List ℕ) (r : Result (List Token) LexError) → IfOk r (AreTokens text) → IfErr r (TellsFault text) → (tokens : List Token) → AreTokens text tokens → Answers r (Ok tokens)
 answers_tokens text (Ok found) h k tokens c = inr (ap Ok (one_cutting h c))

@@ -16,7 +16,8 @@ use Rattle.mace_lexer.specs.declared.sign.Sign.{Sign}
 use Rattle.mace_lexer.specs.declared.token.Word.TheVariants as word
 use Rattle.mace_lexer.specs.declared.fault.LexFault.TheVariants.{BadByte, NumberRange, NameLong, TextLong}
 use Rattle.mace_lexer.specs.Words.{is_inside_line, value_of, greatest, keyword, sign, form_of}
-use Rattle.mace_lexer.specs.Texts.{escaped_byte, escaped, quoted, inside_of}
+use Rattle.mace_lexer.specs.Texts.{inside_of}
+use Rattle.wave_base.specs.Text.{escaped_byte, escaped, quoted}
 use Rattle.mace_lexer.specs.Pieces.{Piece, Spell, Wrong, IsPiece, IsLongest}
 use Rattle.mace_lexer.specs.Cuts.{IsCut, IsBody}
 use Rattle.mace_lexer.proofs.Bodies.{byte_taken, escaped_push}

@@ -15,7 +15,8 @@ use Rattle.mace_lexer.specs.declared.quoted.Inside.TheVariants.{Close}
 use Rattle.mace_lexer.specs.declared.sign.Sign.{Sign}
 use Rattle.mace_lexer.specs.declared.token.Word.TheVariants as word
 use Rattle.mace_lexer.specs.Words.{is_blank, is_inside_line, is_comment, sign, form_by, form_of}
-use Rattle.mace_lexer.specs.Texts.{escaped, quoted, inside_of, is_byte}
+use Rattle.mace_lexer.specs.Texts.{inside_of, is_byte}
+use Rattle.wave_base.specs.Text.{escaped, quoted}
 use Rattle.mace_lexer.specs.Pieces.{Piece, Gap, Spell, IsPiece, IsLongest, HasNone}
 use Rattle.mace_lexer.specs.Cuts.{IsBody}
 use Rattle.mace_lexer.proofs.Forms.{and_cases, FormAt, formed, sign_passes}

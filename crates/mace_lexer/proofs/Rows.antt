@@ -5,7 +5,8 @@ use Rattle.mace_lexer.specs.declared.keyword.Keyword.TheVariants as k
 use Rattle.mace_lexer.specs.declared.sign.Sign.TheVariants as s
 use Rattle.mace_lexer.specs.declared.quoted.Inside.TheVariants.{Byte, Open, Bad}
 use Rattle.mace_lexer.specs.Words.{is_blank, value_of, keyword, sign}
-use Rattle.mace_lexer.specs.Texts.{quoted, inside_of}
+use Rattle.mace_lexer.specs.Texts.{inside_of}
+use Rattle.wave_base.specs.Text.{quoted}
 use Rattle.mace_lexer.specs.Cuts.{past}
 use Rattle.mace_lexer.specs.Lexed.{start}
 

@@ -10,7 +10,8 @@ use Rattle.mace_lexer.specs.declared.quoted.Inside.TheVariants.{Open, Bad}
 use Rattle.mace_lexer.specs.declared.quoted.Inside.{Inside}
 use Rattle.mace_lexer.specs.declared.cut.Cut.{Cut}
 use Rattle.mace_lexer.specs.declared.cut.Cut.TheVariants as cut
-use Rattle.mace_lexer.specs.Texts.{escaped, inside_of, is_byte}
+use Rattle.mace_lexer.specs.Texts.{inside_of, is_byte}
+use Rattle.wave_base.specs.Text.{escaped}
 use Rattle.mace_lexer.specs.Pieces.{Gap, Spell, Wrong, IsLongest, HasNone}
 
 abbrev pub past_byte : Span → ℕ → Span

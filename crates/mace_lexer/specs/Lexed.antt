@@ -8,6 +8,7 @@ use Rattle.mace_lexer.specs.declared.fault.LexError.{LexError}
 use Rattle.mace_lexer.specs.declared.fault.LexError.TheVariants as error
 use Rattle.mace_lexer.specs.Pieces.{Spell, IsPiece}
 use Rattle.mace_lexer.specs.Cuts.{Cuts, Faulty, past}
+use Rattle.wave_base.specs.Memory.{the_refusal}
 
 -- where a text begins
 abbrev pub start : Span
@@ -47,8 +48,8 @@ TellsFault text (error.NumberRange at) = IsFirstFault text fault.NumberRange at
 TellsFault text (error.OpenText at) = IsFirstFault text fault.OpenText at
 TellsFault text (error.NameLong at) = IsFirstFault text fault.NameLong at
 TellsFault text (error.TextLong at) = IsFirstFault text fault.TextLong at
-TellsFault text error.OutOfMemory = Unit {0}
+TellsFault text (error.OutOfMemory _) = Unit {0}
 
 -- this is the answer, unless memory ran out
 abbrev pub Answers : Result (List Token) LexError → Result (List Token) LexError → Type 0
-Answers result answer = (result ≡ Err error.OutOfMemory) ⊎ (result ≡ answer)
+Answers result answer = (result ≡ Err (error.OutOfMemory the_refusal)) ⊎ (result ≡ answer)

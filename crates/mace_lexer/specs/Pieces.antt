@@ -8,7 +8,7 @@ use Rattle.mace_lexer.specs.declared.token.Word.TheVariants as word
 use Rattle.mace_lexer.specs.declared.fault.LexFault.{LexFault}
 use Rattle.mace_lexer.specs.declared.fault.LexFault.TheVariants.{BadByte, NumberRange, OpenText, NameLong, TextLong}
 use Rattle.mace_lexer.specs.Words.{is_blank, is_comment, value_of, greatest, keyword, sign}
-use Rattle.mace_lexer.specs.Texts.{quoted}
+use Rattle.wave_base.specs.Text.{quoted}
 
 -- a blank or a comment, a word, or what has the form of a word and is too large for one
 pub data Piece : Type 0 where

@@ -1,21 +1,9 @@
--- How a text is written, and what can stand next inside one.
+-- What can stand next inside a text.
 use Rattle.std.specs.Prelude.{ℕ, Bool, true, false, ◌&&◌, ◌||◌, ◌==◌, nat_le, if◌then◌else◌, List, [], ◌∷◌, ◌++◌}
 use Rattle.mace_lexer.specs.declared.quoted.Inside.{Inside}
 use Rattle.mace_lexer.specs.declared.quoted.Inside.TheVariants.{Byte, Close, Open, Bad}
 
--- a quote and a backslash have a backslash before them
-abbrev pub escaped_byte : ℕ → List ℕ
-escaped_byte b = if b == 34 || b == 92 then 92 ∷ b ∷ [] else b ∷ []
-
-abbrev pub escaped : List ℕ → List ℕ
-escaped [] = []
-escaped (b ∷ bs) = escaped_byte b ++ escaped bs
-
--- a text between its quotes
-abbrev pub quoted : List ℕ → List ℕ
-quoted t = 34 ∷ (escaped t ++ 34 ∷ [])
-
--- ---- what stands next inside a text: a byte that is meant, the closing quote, the end of a line or of all, or what may not stand there
+-- ---- a byte that is meant, the closing quote, the end of a line or of all, or what may not stand there
 
 -- behind a backslash
 abbrev pub escape_of : List ℕ → Inside

@@ -1,4 +1,3 @@
-use std::alloc::AllocFailed;
 use thiserror::Error;
 use wave_base::{OutOfMemory, Span};
 
@@ -37,27 +36,16 @@ pub enum LexError {
     TextLong(Span),
     /// Memory was wanting, and nothing is said of the text.
     #[error("out of memory")]
-    OutOfMemory,
+    OutOfMemory(OutOfMemory),
 }
 
 impl From<OutOfMemory> for LexError {
     ghost use Rattle.std.specs.Prelude.{◌≡◌};
     ghost use Rattle.mace_lexer.specs.declared.fault.LexError.TheVariants as error;
 
-    ghost from_gives = { λ _ e. e ≡ error.OutOfMemory };
+    ghost from_gives = { λ refused e. e ≡ error.OutOfMemory refused };
 
-    fn from(_: OutOfMemory) -> LexError {
-        LexError::OutOfMemory
-    }
-}
-
-impl<T: Drop> From<AllocFailed<T>> for LexError {
-    ghost use Rattle.std.specs.Prelude.{◌≡◌};
-    ghost use Rattle.mace_lexer.specs.declared.fault.LexError.TheVariants as error;
-
-    ghost from_gives = { λ _ e. e ≡ error.OutOfMemory };
-
-    fn from(_: AllocFailed<T>) -> LexError {
-        LexError::OutOfMemory
+    fn from(refused: OutOfMemory) -> LexError {
+        LexError::OutOfMemory(refused)
     }
 }

@@ -10,7 +10,7 @@ use crate::fault::{LexError, LexFault};
 use crate::place::past;
 use crate::token::Token;
 use std::alloc::Global;
-use wave_base::{Seq, Span};
+use wave_base::{Seq, Span, push};
 
 fn error(fault: LexFault, at: Span) -> LexError
     ensures { result ≡ error_of fault at }
@@ -43,12 +43,13 @@ fn read(alloc: Global, text: &[u8]) -> Result<Seq<Token>, LexError>
                 rest = back;
             }
             Cut::Spell(n, word) => {
-                tokens.push(Token {
+                let token = Token {
                     word,
                     span: at,
                     from,
                     to: from + n,
-                })?;
+                };
+                push(&mut tokens, token)?;
                 let (front, back) = rest.split_at(n);
                 at = past(at, front);
                 from += n;

@@ -140,7 +140,7 @@ module _ (text : List ℕ) (ts : List Token) (result : Result Service ParseError
   by_tree (Ok x) f s h n = one_tree (words ts) (service_tree x) s f.0 h
   by_tree (Err (Expected m at)) f s h n = absurd (no_fault (words ts) m s h f.2.0)
   by_tree (Err (TooDeep m at)) f s h n = absurd (not_deep (words ts) m n f.2.0)
-  by_tree (Err OutOfMemory) f s h n = refl
+  by_tree (Err (OutOfMemory _)) f s h n = refl
 
   by_expected : (o : Result Service ParseError) → Facts o → (m : ℕ) → IsExpected (words ts) m → AnswersFault o (Expected m (place_in text ts m))
   by_expected (Ok x) f m h = absurd (no_fault (words ts) m (service_tree x) f.0 h)
@@ -148,7 +148,7 @@ module _ (text : List ℕ) (ts : List Token) (result : Result Service ParseError
       let e : n ≡ m = nowhere_else (words ts) n m f.2.0 h in
       inr (ap Err (ap (λ a. Expected n a) f.2.1 ∙ ap (λ i. Expected i (place_in text ts i)) e))
   by_expected (Err (TooDeep n at)) f m h = absurd (not_both (words ts) m n h f.2.0)
-  by_expected (Err OutOfMemory) f m h = inl refl
+  by_expected (Err (OutOfMemory _)) f m h = inl refl
 
   by_deep : (o : Result Service ParseError) → Facts o → (m : ℕ) → IsTooDeep (words ts) m → AnswersFault o (TooDeep m (place_in text ts m))
   by_deep (Ok x) f m h = absurd (not_deep (words ts) m f.1 h)
@@ -156,7 +156,7 @@ module _ (text : List ℕ) (ts : List Token) (result : Result Service ParseError
   by_deep (Err (TooDeep n at)) f m h =
       let e : n ≡ m = one_deep (words ts) n m f.2.0 h in
       inr (ap Err (ap (λ a. TooDeep n a) f.2.1 ∙ ap (λ i. TooDeep i (place_in text ts i)) e))
-  by_deep (Err OutOfMemory) f m h = inl refl
+  by_deep (Err (OutOfMemory _)) f m h = inl refl
 
   pub answers_tree : (s : ServiceTree) → Spelled s (words ts) → IsShallow (words ts) → AnswersTree result s
   answers_tree = by_tree result (spelled, nest, error)

@@ -2,6 +2,7 @@
 use Rattle.std.proofs.Common.{◌≡◌, ℕ, zero, suc, ◌<◌, ◌≤◌, List, [], ◌∷◌, length, Option, Some, None, Ok, Err, Bool, true, false, refl, ap, arith, length-append}
 use Rattle.std.specs.Prelude.{if◌then◌else◌}
 use Rattle.wave_base.specs.declared.span.Span.{Span}
+use Rattle.wave_base.specs.declared.version.Version.{Version}
 use Rattle.mace_lexer.specs.declared.token.Token.{Token}
 use Rattle.mace_lexer.specs.declared.keyword.Keyword.{Keyword}
 use Rattle.mace_lexer.specs.declared.keyword.Keyword.TheVariants as k
@@ -10,7 +11,7 @@ use Rattle.mace_lexer.specs.declared.sign.Sign.TheVariants as s
 use Rattle.mace_ast.specs.Decls.{ContextTree}
 use Rattle.mace_grammar.specs.Part.{Part}
 use Rattle.mace_grammar.specs.Words as w
-use Rattle.mace_grammar.specs.Words.{Version, numbered}
+use Rattle.mace_grammar.specs.Words.{Edition, edition_of}
 use Rattle.mace_grammar.specs.declared.class.Class.{Class}
 use Rattle.mace_grammar.specs.declared.class.Class.TheVariants as class
 use Rattle.mace_grammar.specs.inner.Classes as classes
@@ -18,7 +19,7 @@ use Rattle.mace_grammar.specs.inner.Run.{Outcome, Reader, and_then, give, after,
 use Rattle.mace_grammar.specs.inner.Readers as reader
 use Rattle.mace_grammar.proofs.Outcomes.{left}
 use Rattle.mace_grammar.proofs.Reading.{Reads, Heads, shorter}
-use Rattle.mace_grammar.proofs.Versions.{IsSound, numbered_sound}
+use Rattle.mace_grammar.proofs.Versions.{IsSound, edition_sound}
 use Rattle.mace_grammar.proofs.Productions as plain
 use Rattle.mace_grammar.proofs.ExprReads as exprs
 use Rattle.mace_grammar.proofs.StmtReads as stmts
@@ -143,60 +144,60 @@ sign want = some_left (takes_word (λ t. w.sign_word want t.span t.word))
 kind_word : Leaves reader.type_at
 kind_word = some_left (takes_word (λ t. w.kind_word t.word))
 
-module _ (number : ℕ) where
-  abbrev version : Version
-  version = numbered number
+module _ (version : Version) where
+  abbrev edition : Edition
+  edition = edition_of version
 
   abbrev kind : Token → Class
-  kind = classes.kind version
+  kind = classes.kind edition
 
-  abbrev sound : IsSound version
-  sound = numbered_sound number
+  abbrev sound : IsSound edition
+  sound = edition_sound version
 
-  name : Leaves (reader.name_at version)
-  name = some_left (takes_word (λ t. w.name_word version t.span t.word))
+  name : Leaves (reader.name_at edition)
+  name = some_left (takes_word (λ t. w.name_word edition t.span t.word))
 
-  pub takes_var : Takes (reader.var_at version)
-  takes_var = takes_part (plain.var version sound 0)
+  pub takes_var : Takes (reader.var_at edition)
+  takes_var = takes_part (plain.var edition sound 0)
 
-  pub takes_next : {A : Type 0} {item : Reader A} → Leaves item → Takes (reader.next_at version item)
+  pub takes_next : {A : Type 0} {item : Reader A} → Leaves item → Takes (reader.next_at edition item)
   unfolding reader.next_at
   takes_next I = takes_then (takes_word (λ t. w.sign_word s.Comma t.span t.word)) (λ _. I)
 
-  pub takes_next_expr : (n : ℕ) → Takes (reader.next_at version (reader.expr_at version (reader.unary_at version n)))
-  takes_next_expr n = takes_next (part_left (exprs.expr version sound n _ _ _ (exprs.unary version sound n)))
+  pub takes_next_expr : (n : ℕ) → Takes (reader.next_at edition (reader.expr_at edition (reader.unary_at edition n)))
+  takes_next_expr n = takes_next (part_left (exprs.expr edition sound n _ _ _ (exprs.unary edition sound n)))
 
-  pub takes_stmt : (n : ℕ) → Takes (reader.stmt_at version n)
-  takes_stmt n = takes_part (stmts.stmt version sound n)
+  pub takes_stmt : (n : ℕ) → Takes (reader.stmt_at edition n)
+  takes_stmt n = takes_part (stmts.stmt edition sound n)
 
-  param : Leaves (reader.param_at version)
+  param : Leaves (reader.param_at edition)
   unfolding reader.param_at
   param = then_left name (λ n. then_left (sign s.Colon) (λ _. then_left kind_word (λ t. given)))
 
-  pub takes_next_param : Takes (reader.next_at version (reader.param_at version))
+  pub takes_next_param : Takes (reader.next_at edition (reader.param_at edition))
   takes_next_param = takes_next param
 
-  param_list : Leaves (reader.list_at version (reader.param_at version))
+  param_list : Leaves (reader.list_at edition (reader.param_at edition))
   unfolding reader.list_at
   param_list = then_left param (λ p. then_left (each_of_left kind (reader.if_sign s.Comma) (some_left takes_next_param)) (λ others. given))
 
-  params : Leaves (reader.params_at version)
+  params : Leaves (reader.params_at edition)
   unfolding reader.params_at reader.separated_at
   params = then_left (sign s.LeftParen) (λ _. then_left (maybe_left kind (class.Name ∷ []) param_list) (λ found. then_left (sign s.RightParen) (λ _. given)))
 
-  result : Leaves (reader.result_at version)
+  result : Leaves (reader.result_at edition)
   unfolding reader.result_at
   result = maybe_left kind (reader.if_sign s.Colon) (then_left (sign s.Colon) (λ _. kind_word))
 
-  last : (keyword : Reader Span) (n : ℕ) → Leaves keyword → Leaves (reader.last_at version keyword n)
+  last : (keyword : Reader Span) (n : ℕ) → Leaves keyword → Leaves (reader.last_at edition keyword n)
   unfolding reader.last_at
-  last keyword n K = then_left K (λ at. then_left (part_left (exprs.any_expr version sound n)) (λ value. then_left (sign s.Semicolon) (λ _. given)))
+  last keyword n K = then_left K (λ at. then_left (part_left (exprs.any_expr edition sound n)) (λ value. then_left (sign s.Semicolon) (λ _. given)))
 
-  maybe_last : (want : Keyword) (n : ℕ) → Leaves (reader.maybe_last_at version want n)
+  maybe_last : (want : Keyword) (n : ℕ) → Leaves (reader.maybe_last_at edition want n)
   unfolding reader.maybe_last_at
   maybe_last want n = maybe_left kind (reader.if_key want) (last (reader.key_at want) n (some_left (key want)))
 
-  pub takes_method : (n : ℕ) → Takes (reader.method_at version n)
+  pub takes_method : (n : ℕ) → Takes (reader.method_at edition n)
   unfolding reader.method_at
   takes_method n =
       takes_then (key k.Method)
@@ -204,27 +205,27 @@ module _ (number : ℕ) where
       (λ x. then_left params
       (λ ps. then_left result
       (λ t. then_left (sign s.LeftBrace)
-      (λ _. then_left (part_left (stmts.stmts version sound n))
+      (λ _. then_left (part_left (stmts.stmts edition sound n))
       (λ body. then_left (maybe_last k.Return n)
       (λ last. then_left (sign s.RightBrace) (λ _. given))))))))
 
-  pub takes_phase : (n : ℕ) → Takes (reader.down_at version n)
+  pub takes_phase : (n : ℕ) → Takes (reader.down_at edition n)
   unfolding reader.down_at
   takes_phase n =
       takes_then (key k.Down)
       (λ at. then_left name
-      (λ c. then_left (part_left (exprs.any_key version sound n))
-      (λ place. then_left (part_left (stmts.any_block version sound n)) (λ body. given))))
+      (λ c. then_left (part_left (exprs.any_key edition sound n))
+      (λ place. then_left (part_left (stmts.any_block edition sound n)) (λ body. given))))
 
-  here : (n : ℕ) → Leaves (reader.here_at version n)
+  here : (n : ℕ) → Leaves (reader.here_at edition n)
   unfolding reader.here_at
-  here n = maybe_left kind (reader.if_key k.Here) (then_left (some_left (key k.Here)) (λ _. part_left (stmts.any_block version sound n)))
+  here n = maybe_left kind (reader.if_key k.Here) (then_left (some_left (key k.Here)) (λ _. part_left (stmts.any_block edition sound n)))
 
-  phases : (n : ℕ) → Leaves (reader.phases_at version n)
+  phases : (n : ℕ) → Leaves (reader.phases_at edition n)
   unfolding reader.phases_at
   phases n = each_of_left kind (reader.if_key k.Down) (some_left (takes_phase n))
 
-  pub takes_event : (n : ℕ) → Takes (reader.event_at version n)
+  pub takes_event : (n : ℕ) → Takes (reader.event_at edition n)
   unfolding reader.event_at
   takes_event n =
       takes_then (key k.Event)
@@ -237,15 +238,15 @@ module _ (number : ℕ) where
       (λ below. then_left (maybe_last k.Reply n)
       (λ last. then_left (sign s.RightBrace) (λ _. given)))))))))
 
-  methods : (n : ℕ) → Leaves (reader.methods_at version n)
+  methods : (n : ℕ) → Leaves (reader.methods_at edition n)
   unfolding reader.methods_at
   methods n = each_of_left kind (reader.if_key k.Method) (some_left (takes_method n))
 
-  contexts : {context : Reader ContextTree} → Takes context → Leaves (reader.contexts_in version context)
+  contexts : {context : Reader ContextTree} → Takes context → Leaves (reader.contexts_in edition context)
   unfolding reader.contexts_in
   contexts C = each_of_left kind (reader.if_key k.Context) (some_left C)
 
-  takes_one_context : (n : ℕ) {context : Reader ContextTree} → Takes context → Takes (reader.one_context_at version n context)
+  takes_one_context : (n : ℕ) {context : Reader ContextTree} → Takes context → Takes (reader.one_context_at edition n context)
   unfolding reader.one_context_at
   takes_one_context n C =
       takes_then (key k.Context)
@@ -254,11 +255,11 @@ module _ (number : ℕ) where
       (λ _. then_left (some_left (key k.Int))
       (λ _. then_left (sign s.RightBracket)
       (λ _. then_left (sign s.LeftBrace)
-      (λ _. then_left (part_left (plain.vars version sound 0))
+      (λ _. then_left (part_left (plain.vars edition sound 0))
       (λ vars. then_left (contexts C)
       (λ inner. then_left (methods n)
       (λ own. then_left (sign s.RightBrace) (λ _. given))))))))))
 
-  pub takes_context : (n : ℕ) → Takes (reader.context_at version n)
+  pub takes_context : (n : ℕ) → Takes (reader.context_at edition n)
   takes_context zero = record { fewer = λ ts rest a e. cc; stuck = λ ts rest e. let same : length ts ≡ length rest = ap left e in omega arith }
   takes_context (suc n) = let one = takes_one_context n (takes_context n) in record { fewer = one.fewer; stuck = one.stuck }

@@ -19,7 +19,7 @@ use Rattle.mace_parser.specs.inner.Gives.{Fails}
 use Rattle.mace_grammar.specs.inner.Run.{Reader, Outcome, and_then, give, choice, sees, deeper, ◌>>=◌}
 use Rattle.mace_grammar.specs.declared.class.Class.{Class}
 use Rattle.mace_grammar.specs.inner.Classes as classes
-use Rattle.mace_grammar.specs.Words.{Version}
+use Rattle.mace_grammar.specs.Words.{Edition}
 use Rattle.mace_grammar.specs.inner.Readers.{if_sign, field_at, bracketed_at, above_at, key_at, sign_at, name_at, any_expr_at, block_at, else_at, if_at, while_at, for_at, vars_at, contexts_in, methods_at, one_context_at}
 use Rattle.mace_grammar.specs.Nest.{Pieces, no_pieces, past_word, nest, nest_after, IsShallow, IsFirstDeep}
 use Rattle.mace_grammar.specs.Spelled.{words, place_in}
@@ -40,90 +40,90 @@ pub deeper_pred : {A : Type 0} (body : ℕ → Reader A → Reader A) (depth : �
 deeper_pred body zero ts h = absurd (h refl)
 deeper_pred body (suc n) ts h = let same : n ≡ suc n - 1 = omega arith in ap (λ i. body i (deeper body i) ts) same
 
-module _ (version : Version) where
+module _ (edition : Edition) where
   abbrev kind : Token → Class
-  kind = classes.kind version
+  kind = classes.kind edition
 
   module _ (unary : Reader ExprTree) (c f : Name) where
     keyed : Reader ExprTree
-    keyed = bracketed_at version unary >>= (λ key. give (e.AboveIndex c.at c.text f.text key))
+    keyed = bracketed_at edition unary >>= (λ key. give (e.AboveIndex c.at c.text f.text key))
 
-    goes_on : (ts rest : List Token) → field_at version ts ≡ Ok (f, rest) → sees kind (if_sign sign.LeftBracket) rest ≡ true → above_at version unary c ts ≡ keyed rest
+    goes_on : (ts rest : List Token) → field_at edition ts ≡ Ok (f, rest) → sees kind (if_sign sign.LeftBracket) rest ≡ true → above_at edition unary c ts ≡ keyed rest
     unfolding above_at keyed
     goes_on ts rest h s =
-        ap (λ o. and_then o (λ f. choice kind (if_sign sign.LeftBracket) (bracketed_at version unary >>= (λ key. give (e.AboveIndex c.at c.text f.text key))) (give (e.Above c.at c.text f.text)))) h
+        ap (λ o. and_then o (λ f. choice kind (if_sign sign.LeftBracket) (bracketed_at edition unary >>= (λ key. give (e.AboveIndex c.at c.text f.text key))) (give (e.Above c.at c.text f.text)))) h
         ∙ seen (sees kind (if_sign sign.LeftBracket) rest) _ _ s
 
-    behind : (ts : List Token) (o : Outcome ExprTree) → bracketed_at version unary ts ≡ o → keyed ts ≡ and_then o (λ key. give (e.AboveIndex c.at c.text f.text key))
+    behind : (ts : List Token) (o : Outcome ExprTree) → bracketed_at edition unary ts ≡ o → keyed ts ≡ and_then o (λ key. give (e.AboveIndex c.at c.text f.text key))
     unfolding keyed
     behind ts o h = ap (λ o. and_then o (λ key. give (e.AboveIndex c.at c.text f.text key))) h
 
-    pub keyed_gives : (ts rest last : List Token) (key : ExprTree) → field_at version ts ≡ Ok (f, rest) → sees kind (if_sign sign.LeftBracket) rest ≡ true → bracketed_at version unary rest ≡ Ok (key, last) → above_at version unary c ts ≡ Ok (e.AboveIndex c.at c.text f.text key, last)
+    pub keyed_gives : (ts rest last : List Token) (key : ExprTree) → field_at edition ts ≡ Ok (f, rest) → sees kind (if_sign sign.LeftBracket) rest ≡ true → bracketed_at edition unary rest ≡ Ok (key, last) → above_at edition unary c ts ≡ Ok (e.AboveIndex c.at c.text f.text key, last)
     keyed_gives ts rest last key h s g = goes_on ts rest h s ∙ behind rest (Ok (key, last)) g
 
-    pub keyed_fails : (fault : Fault) (ts rest : List Token) → field_at version ts ≡ Ok (f, rest) → sees kind (if_sign sign.LeftBracket) rest ≡ true → Fails fault (bracketed_at version unary rest) → Fails fault (above_at version unary c ts)
-    keyed_fails Memory ts rest h s g = tt
+    pub keyed_fails : (fault : Fault) (ts rest : List Token) → field_at edition ts ≡ Ok (f, rest) → sees kind (if_sign sign.LeftBracket) rest ≡ true → Fails fault (bracketed_at edition unary rest) → Fails fault (above_at edition unary c ts)
+    keyed_fails (Memory _) ts rest h s g = tt
     keyed_fails (Stuck last) ts rest h s g = goes_on ts rest h s ∙ behind rest (Err last.now) g
 
   -- ---- statements with blocks
 
-  module _ (n : ℕ) (stmt : Reader StmtTree) (ts : List Token) {r0 r1 : List Token} {at : Span} {test : ExprTree} (h0 : key_at k.If ts ≡ Ok (at, r0)) (h1 : any_expr_at version n r0 ≡ Ok (test, r1)) where
-    pub if_fails : (fault : Fault) → Fails fault (block_at version stmt r1) → Fails fault (if_at version n stmt ts)
+  module _ (n : ℕ) (stmt : Reader StmtTree) (ts : List Token) {r0 r1 : List Token} {at : Span} {test : ExprTree} (h0 : key_at k.If ts ≡ Ok (at, r0)) (h1 : any_expr_at edition n r0 ≡ Ok (test, r1)) where
+    pub if_fails : (fault : Fault) → Fails fault (block_at edition stmt r1) → Fails fault (if_at edition n stmt ts)
     unfolding if_at
-    if_fails Memory h = tt
+    if_fails (Memory _) h = tt
     if_fails (Stuck last) h = then_ok _ h0 (then_ok _ h1 (then_err _ h))
 
-    module _ {r2 : List Token} {body : List StmtTree} (h2 : block_at version stmt r1 ≡ Ok (body, r2)) where
-      pub else_fails : (fault : Fault) → Fails fault (else_at version (block_at version stmt) r2) → Fails fault (if_at version n stmt ts)
+    module _ {r2 : List Token} {body : List StmtTree} (h2 : block_at edition stmt r1 ≡ Ok (body, r2)) where
+      pub else_fails : (fault : Fault) → Fails fault (else_at edition (block_at edition stmt) r2) → Fails fault (if_at edition n stmt ts)
       unfolding if_at
-      else_fails Memory h = tt
+      else_fails (Memory _) h = tt
       else_fails (Stuck last) h = then_ok _ h0 (then_ok _ h1 (then_ok _ h2 (then_err _ h)))
 
-      pub if_gives : {r3 : List Token} {other : Option (List StmtTree)} → else_at version (block_at version stmt) r2 ≡ Ok (other, r3) → if_at version n stmt ts ≡ Ok (st.If at test (stmts_of body) (else_of other), r3)
+      pub if_gives : {r3 : List Token} {other : Option (List StmtTree)} → else_at edition (block_at edition stmt) r2 ≡ Ok (other, r3) → if_at edition n stmt ts ≡ Ok (st.If at test (stmts_of body) (else_of other), r3)
       unfolding if_at
       if_gives h3 = then_ok _ h0 (then_ok _ h1 (then_ok _ h2 (then_ok _ h3 refl)))
 
-  module _ (n : ℕ) (stmt : Reader StmtTree) (ts : List Token) {r0 r1 : List Token} {at : Span} {test : ExprTree} (h0 : key_at k.While ts ≡ Ok (at, r0)) (h1 : any_expr_at version n r0 ≡ Ok (test, r1)) where
-    pub while_fails : (fault : Fault) → Fails fault (block_at version stmt r1) → Fails fault (while_at version n stmt ts)
+  module _ (n : ℕ) (stmt : Reader StmtTree) (ts : List Token) {r0 r1 : List Token} {at : Span} {test : ExprTree} (h0 : key_at k.While ts ≡ Ok (at, r0)) (h1 : any_expr_at edition n r0 ≡ Ok (test, r1)) where
+    pub while_fails : (fault : Fault) → Fails fault (block_at edition stmt r1) → Fails fault (while_at edition n stmt ts)
     unfolding while_at
-    while_fails Memory h = tt
+    while_fails (Memory _) h = tt
     while_fails (Stuck last) h = then_ok _ h0 (then_ok _ h1 (then_err _ h))
 
-    pub while_gives : {r2 : List Token} {body : List StmtTree} → block_at version stmt r1 ≡ Ok (body, r2) → while_at version n stmt ts ≡ Ok (st.While at test (stmts_of body), r2)
+    pub while_gives : {r2 : List Token} {body : List StmtTree} → block_at edition stmt r1 ≡ Ok (body, r2) → while_at edition n stmt ts ≡ Ok (st.While at test (stmts_of body), r2)
     unfolding while_at
     while_gives h2 = then_ok _ h0 (then_ok _ h1 (then_ok _ h2 refl))
 
-  module _ (n : ℕ) (stmt : Reader StmtTree) (ts : List Token) {r0 r1 r2 r3 r4 r5 : List Token} {at p q : Span} {x : Name} {low high : ExprTree} (h0 : key_at k.For ts ≡ Ok (at, r0)) (h1 : name_at version r0 ≡ Ok (x, r1)) (h2 : key_at k.In r1 ≡ Ok (p, r2)) (h3 : any_expr_at version n r2 ≡ Ok (low, r3)) (h4 : key_at k.To r3 ≡ Ok (q, r4)) (h5 : any_expr_at version n r4 ≡ Ok (high, r5)) where
-    pub for_fails : (fault : Fault) → Fails fault (block_at version stmt r5) → Fails fault (for_at version n stmt ts)
+  module _ (n : ℕ) (stmt : Reader StmtTree) (ts : List Token) {r0 r1 r2 r3 r4 r5 : List Token} {at p q : Span} {x : Name} {low high : ExprTree} (h0 : key_at k.For ts ≡ Ok (at, r0)) (h1 : name_at edition r0 ≡ Ok (x, r1)) (h2 : key_at k.In r1 ≡ Ok (p, r2)) (h3 : any_expr_at edition n r2 ≡ Ok (low, r3)) (h4 : key_at k.To r3 ≡ Ok (q, r4)) (h5 : any_expr_at edition n r4 ≡ Ok (high, r5)) where
+    pub for_fails : (fault : Fault) → Fails fault (block_at edition stmt r5) → Fails fault (for_at edition n stmt ts)
     unfolding for_at
-    for_fails Memory h = tt
+    for_fails (Memory _) h = tt
     for_fails (Stuck last) h = then_ok _ h0 (then_ok _ h1 (then_ok _ h2 (then_ok _ h3 (then_ok _ h4 (then_ok _ h5 (then_err _ h))))))
 
-    pub for_gives : {r6 : List Token} {body : List StmtTree} → block_at version stmt r5 ≡ Ok (body, r6) → for_at version n stmt ts ≡ Ok (st.For at x low high (stmts_of body), r6)
+    pub for_gives : {r6 : List Token} {body : List StmtTree} → block_at edition stmt r5 ≡ Ok (body, r6) → for_at edition n stmt ts ≡ Ok (st.For at x low high (stmts_of body), r6)
     unfolding for_at
     for_gives h6 = then_ok _ h0 (then_ok _ h1 (then_ok _ h2 (then_ok _ h3 (then_ok _ h4 (then_ok _ h5 (then_ok _ h6 refl))))))
 
   -- ---- contexts
 
-  module _ (n : ℕ) (context : Reader ContextTree) (ts : List Token) {r0 r1 r2 r3 r4 r5 r6 : List Token} {at p2 p3 p4 p5 : Span} {x : Name} {vars : List VarDecl} (h0 : key_at k.Context ts ≡ Ok (at, r0)) (h1 : name_at version r0 ≡ Ok (x, r1)) (h2 : sign_at sign.LeftBracket r1 ≡ Ok (p2, r2)) (h3 : key_at k.Int r2 ≡ Ok (p3, r3)) (h4 : sign_at sign.RightBracket r3 ≡ Ok (p4, r4)) (h5 : sign_at sign.LeftBrace r4 ≡ Ok (p5, r5)) (h6 : vars_at version r5 ≡ Ok (vars, r6)) where
-    pub inner_fails : (fault : Fault) → Fails fault (contexts_in version context r6) → Fails fault (one_context_at version n context ts)
+  module _ (n : ℕ) (context : Reader ContextTree) (ts : List Token) {r0 r1 r2 r3 r4 r5 r6 : List Token} {at p2 p3 p4 p5 : Span} {x : Name} {vars : List VarDecl} (h0 : key_at k.Context ts ≡ Ok (at, r0)) (h1 : name_at edition r0 ≡ Ok (x, r1)) (h2 : sign_at sign.LeftBracket r1 ≡ Ok (p2, r2)) (h3 : key_at k.Int r2 ≡ Ok (p3, r3)) (h4 : sign_at sign.RightBracket r3 ≡ Ok (p4, r4)) (h5 : sign_at sign.LeftBrace r4 ≡ Ok (p5, r5)) (h6 : vars_at edition r5 ≡ Ok (vars, r6)) where
+    pub inner_fails : (fault : Fault) → Fails fault (contexts_in edition context r6) → Fails fault (one_context_at edition n context ts)
     unfolding one_context_at
-    inner_fails Memory h = tt
+    inner_fails (Memory _) h = tt
     inner_fails (Stuck last) h = then_ok _ h0 (then_ok _ h1 (then_ok _ h2 (then_ok _ h3 (then_ok _ h4 (then_ok _ h5 (then_ok _ h6 (then_err _ h)))))))
 
-    module _ {r7 : List Token} {inner : List ContextTree} (h7 : contexts_in version context r6 ≡ Ok (inner, r7)) where
-      pub methods_fail : (fault : Fault) → Fails fault (methods_at version n r7) → Fails fault (one_context_at version n context ts)
+    module _ {r7 : List Token} {inner : List ContextTree} (h7 : contexts_in edition context r6 ≡ Ok (inner, r7)) where
+      pub methods_fail : (fault : Fault) → Fails fault (methods_at edition n r7) → Fails fault (one_context_at edition n context ts)
       unfolding one_context_at
-      methods_fail Memory h = tt
+      methods_fail (Memory _) h = tt
       methods_fail (Stuck last) h = then_ok _ h0 (then_ok _ h1 (then_ok _ h2 (then_ok _ h3 (then_ok _ h4 (then_ok _ h5 (then_ok _ h6 (then_ok _ h7 (then_err _ h))))))))
 
-      module _ {r8 : List Token} {methods : List MethodTree} (h8 : methods_at version n r7 ≡ Ok (methods, r8)) where
-        pub brace_fails : (fault : Fault) → Fails fault (sign_at sign.RightBrace r8) → Fails fault (one_context_at version n context ts)
+      module _ {r8 : List Token} {methods : List MethodTree} (h8 : methods_at edition n r7 ≡ Ok (methods, r8)) where
+        pub brace_fails : (fault : Fault) → Fails fault (sign_at sign.RightBrace r8) → Fails fault (one_context_at edition n context ts)
         unfolding one_context_at
-        brace_fails Memory h = tt
+        brace_fails (Memory _) h = tt
         brace_fails (Stuck last) h = then_ok _ h0 (then_ok _ h1 (then_ok _ h2 (then_ok _ h3 (then_ok _ h4 (then_ok _ h5 (then_ok _ h6 (then_ok _ h7 (then_ok _ h8 (then_err _ h)))))))))
 
-        pub context_gives : {r9 : List Token} {p9 : Span} → sign_at sign.RightBrace r8 ≡ Ok (p9, r9) → one_context_at version n context ts ≡ Ok (Context at x vars (contexts_of inner) methods, r9)
+        pub context_gives : {r9 : List Token} {p9 : Span} → sign_at sign.RightBrace r8 ≡ Ok (p9, r9) → one_context_at edition n context ts ≡ Ok (Context at x vars (contexts_of inner) methods, r9)
         unfolding one_context_at
         context_gives h9 = then_ok _ h0 (then_ok _ h1 (then_ok _ h2 (then_ok _ h3 (then_ok _ h4 (then_ok _ h5 (then_ok _ h6 (then_ok _ h7 (then_ok _ h8 (then_ok _ h9 refl)))))))))
 

@@ -11,7 +11,7 @@ use Rattle.mace_grammar.specs.Grammar.{joined}
 use Rattle.mace_grammar.specs.inner.Run.{Outcome, Reader, and_then, give, after, sees, each, each_of, with_front}
 use Rattle.mace_grammar.specs.declared.class.Class.{Class}
 use Rattle.mace_grammar.specs.inner.Classes as classes
-use Rattle.mace_grammar.specs.Words.{Version}
+use Rattle.mace_grammar.specs.Words.{Edition}
 use Rattle.mace_parser.proofs.Progress.{Takes, enough}
 use Rattle.mace_grammar.specs.inner.Readers.{operators_of, operator_at, operand_at, operands_at, turns_of, level_at}
 
@@ -30,9 +30,9 @@ positive : (level : ℕ) → (level ≡ 0 → ⊥) → suc (level - 1) ≡ level
 positive zero h = absurd (h refl)
 positive (suc m) h = omega arith
 
-module _ (version : Version) where
+module _ (edition : Edition) where
   abbrev kind : Token → Class
-  kind = classes.kind version
+  kind = classes.kind edition
 
   -- the items that are left, at most so many, and what is made of them
   abbrev pub from : {A B : Type 0} → List Class → Reader A → (List A → B) → ℕ → Reader B
@@ -59,7 +59,7 @@ module _ (version : Version) where
     goes_on n k ts rest x h s e = ap (λ i. from set run f i ts) (suc_sub n k h) ∙ turn (n - (k + 1)) ts rest x s e
 
     pub ends : (e : Fault) (n k : ℕ) (ts : List Token) (out : Outcome B) → k < n → sees kind set ts ≡ true → Fails e (run ts) → from set run f (n - k) ts ≡ out → Fails e out
-    ends Memory n k ts out h s g i = tt
+    ends (Memory _) n k ts out h s g i = tt
     ends (Stuck rest) n k ts out h s g i = sym i ∙ ap (λ i. from set run f i ts) (suc_sub n k h) ∙ stops (n - (k + 1)) ts rest.now s g
 
     pub done_at : (n : ℕ) (ts : List Token) (out : Outcome B) → n ≡ 0 → from set run f n ts ≡ out → out ≡ Ok (f [], ts)
@@ -92,7 +92,7 @@ module _ (version : Version) where
 
     pub list_ends : (e : Fault) (found : List A) (ts : List Token) (out : Outcome (List A)) → sees kind set ts ≡ true → Fails e (run ts) → list_from set run found ts ≡ out → Fails e out
     list_ends e found [] out s g i = cc
-    list_ends Memory found (t ∷ ts) out s g i = tt
+    list_ends (Memory _) found (t ∷ ts) out s g i = tt
     list_ends (Stuck rest) found (t ∷ ts) out s g i = sym i ∙ stops set run (λ others. found ++ others) (length ts) (t ∷ ts) rest.now s g
 
     pub list_done : (found : List A) (ts : List Token) (out : Outcome (List A)) → sees kind set ts ≡ false → list_from set run found ts ≡ out → out ≡ Ok (found, ts)
@@ -108,29 +108,29 @@ module _ (version : Version) where
   -- ---- chains of operators
 
   module _ (level : ℕ) (item : Reader ExprTree) where
-    pub chain_goes_on : (n k : ℕ) (left next : ExprTree) (ts rest : List Token) (x : BinaryOp × ExprTree) (out : Outcome ExprTree) → k < n → sees kind (operators_of level) ts ≡ true → operand_at (operator_at level) item ts ≡ Ok (x, rest) → next ≡ joined left x → operands_at version level item (n - k) left ts ≡ out → operands_at version level item (n - (k + 1)) next rest ≡ out
+    pub chain_goes_on : (n k : ℕ) (left next : ExprTree) (ts rest : List Token) (x : BinaryOp × ExprTree) (out : Outcome ExprTree) → k < n → sees kind (operators_of level) ts ≡ true → operand_at (operator_at level) item ts ≡ Ok (x, rest) → next ≡ joined left x → operands_at edition level item (n - k) left ts ≡ out → operands_at edition level item (n - (k + 1)) next rest ≡ out
     unfolding operands_at
     chain_goes_on n k left next ts rest x out h s e m i =
-        ap (λ l. (operands_at version) level item (n - (k + 1)) l rest) m
+        ap (λ l. (operands_at edition) level item (n - (k + 1)) l rest) m
         ∙ sym (goes_on (operators_of level) (operand_at (operator_at level) item) (λ others. fold joined left others) n k ts rest x h s e)
         ∙ i
 
-    pub chain_ends : (e : Fault) (n k : ℕ) (left : ExprTree) (ts : List Token) (out : Outcome ExprTree) → k < n → sees kind (operators_of level) ts ≡ true → Fails e (operand_at (operator_at level) item ts) → operands_at version level item (n - k) left ts ≡ out → Fails e out
+    pub chain_ends : (e : Fault) (n k : ℕ) (left : ExprTree) (ts : List Token) (out : Outcome ExprTree) → k < n → sees kind (operators_of level) ts ≡ true → Fails e (operand_at (operator_at level) item ts) → operands_at edition level item (n - k) left ts ≡ out → Fails e out
     unfolding operands_at
     chain_ends e n k left ts out h s g i = ends (operators_of level) (operand_at (operator_at level) item) (λ others. fold joined left others) e n k ts out h s g i
 
-    pub chain_done_at : (n : ℕ) (left : ExprTree) (ts : List Token) (out : Outcome ExprTree) → n ≡ 0 → operands_at version level item n left ts ≡ out → out ≡ Ok (left, ts)
+    pub chain_done_at : (n : ℕ) (left : ExprTree) (ts : List Token) (out : Outcome ExprTree) → n ≡ 0 → operands_at edition level item n left ts ≡ out → out ≡ Ok (left, ts)
     unfolding operands_at
     chain_done_at n left ts out e i = done_at (operators_of level) (operand_at (operator_at level) item) (λ others. fold joined left others) n ts out e i
 
-    pub chain_done : (n : ℕ) (left : ExprTree) (ts : List Token) (out : Outcome ExprTree) → sees kind (operators_of level) ts ≡ false → operands_at version level item n left ts ≡ out → out ≡ Ok (left, ts)
+    pub chain_done : (n : ℕ) (left : ExprTree) (ts : List Token) (out : Outcome ExprTree) → sees kind (operators_of level) ts ≡ false → operands_at edition level item n left ts ≡ out → out ≡ Ok (left, ts)
     unfolding operands_at
     chain_done n left ts out e i = done (operators_of level) (operand_at (operator_at level) item) (λ others. fold joined left others) n ts out e i
 
-  chain_next : (unary : Reader ExprTree) (m n : ℕ) (first : ExprTree) (ts rest : List Token) → n ≡ turns_of m rest → level_at version unary m ts ≡ Ok (first, rest) → operands_at version m (level_at version unary m) n first rest ≡ level_at version unary (suc m) ts
+  chain_next : (unary : Reader ExprTree) (m n : ℕ) (first : ExprTree) (ts rest : List Token) → n ≡ turns_of m rest → level_at edition unary m ts ≡ Ok (first, rest) → operands_at edition m (level_at edition unary m) n first rest ≡ level_at edition unary (suc m) ts
   chain_next unary m n first ts rest e g =
-      ap (λ i. (operands_at version) m (level_at version unary m) i first rest) e
-      ∙ sym (ap (λ o. and_then o (λ x r. (operands_at version) m (level_at version unary m) (turns_of m r) x r)) g)
+      ap (λ i. (operands_at edition) m (level_at edition unary m) i first rest) e
+      ∙ sym (ap (λ o. and_then o (λ x r. (operands_at edition) m (level_at edition unary m) (turns_of m r) x r)) g)
 
-  pub chain_start : (unary : Reader ExprTree) (level n : ℕ) (first : ExprTree) (ts rest : List Token) → (level ≡ 0 → ⊥) → n ≡ turns_of (level - 1) rest → level_at version unary (level - 1) ts ≡ Ok (first, rest) → operands_at version (level - 1) (level_at version unary (level - 1)) (n - 0) first rest ≡ level_at version unary level ts
-  chain_start unary level n first ts rest h e g = let whole : n - 0 ≡ n = omega arith in ap (λ i. (operands_at version) (level - 1) (level_at version unary (level - 1)) i first rest) whole ∙ chain_next unary (level - 1) n first ts rest e g ∙ ap (λ l. (level_at version) unary l ts) (positive level h)
+  pub chain_start : (unary : Reader ExprTree) (level n : ℕ) (first : ExprTree) (ts rest : List Token) → (level ≡ 0 → ⊥) → n ≡ turns_of (level - 1) rest → level_at edition unary (level - 1) ts ≡ Ok (first, rest) → operands_at edition (level - 1) (level_at edition unary (level - 1)) (n - 0) first rest ≡ level_at edition unary level ts
+  chain_start unary level n first ts rest h e g = let whole : n - 0 ≡ n = omega arith in ap (λ i. (operands_at edition) (level - 1) (level_at edition unary (level - 1)) i first rest) whole ∙ chain_next unary (level - 1) n first ts rest e g ∙ ap (λ l. (level_at edition) unary l ts) (positive level h)

@@ -2,7 +2,7 @@
 
 ghost use Rattle.std.specs.Prelude.{◌≡◌, map};
 ghost use Rattle.mace_ast.specs.Decls.{context_tree, service_tree};
-ghost use Rattle.mace_grammar.specs.Words.{numbered};
+ghost use Rattle.mace_grammar.specs.Words.{edition_of};
 ghost use Rattle.mace_grammar.specs.inner.Readers as reader;
 ghost use Rattle.mace_parser.specs.inner.Gives.{Gives};
 
@@ -16,17 +16,17 @@ use mace_ast::{ContextDecl, Name, Service};
 use mace_grammar::Class;
 use mace_lexer::{Keyword, Sign, Token};
 use std::alloc::Global;
-use wave_base::{Seq, Span};
+use wave_base::{Seq, Span, Version, push};
 
 #[cycle(context)]
 #[tactic(auto, unfolding(mace_grammar::specs::inner::Readers::one_context_at))]
 fn context<'a>(
     alloc: Global,
     depth: usize,
-    version: u8,
+    version: Version,
     tokens: &'a [Token],
 ) -> Read<'a, ContextDecl>
-    ensures { Gives (λ x. (context_tree x.0, x.1.now)) result (reader.context_at (numbered version) depth tokens.now) }
+    ensures { Gives (λ x. (context_tree x.0, x.1.now)) result (reader.context_at (edition_of version) depth tokens.now) }
 {
     if depth == 0 {
         return Err(Fault::Stuck(tokens));
@@ -51,28 +51,28 @@ fn context<'a>(
 fn contexts<'a>(
     alloc: Global,
     depth: usize,
-    version: u8,
+    version: Version,
     tokens: &'a [Token],
 ) -> Read<'a, Vec<ContextDecl>>
-    ensures { Gives (λ x. (map context_tree x.0.items, x.1.now)) result (reader.contexts_in (numbered version) (reader.context_at (numbered version) depth) tokens.now) }
+    ensures { Gives (λ x. (map context_tree x.0.items, x.1.now)) result (reader.contexts_in (edition_of version) (reader.context_at (edition_of version) depth) tokens.now) }
 {
     let mut rest = tokens;
     let mut found = Vec::new(alloc);
     'turns: while sees_key(Keyword::Context, version, rest) {
         let (next, after) = context(alloc, depth, version, rest)?;
-        found.push(next)?;
+        push(&mut found, next)?;
         rest = after;
     }
     Ok((found, rest))
 }
 
-// The number of the version: 2 where it stands there, and else 1.
+// The version: the second where its number stands there, and else the first.
 #[tactic(auto, unfolding(mace_grammar::specs::inner::Readers::version_at))]
-fn version_number(tokens: &[Token]) -> Read<'_, u8>
+fn version_number(tokens: &[Token]) -> Read<'_, Version>
     ensures { Gives (λ x. (x.0, x.1.now)) result (reader.version_at tokens.now) }
 {
-    if !sees_class(Class::Number, 1, tokens) {
-        return Ok((1, tokens));
+    if !sees_class(Class::Number, Version::First, tokens) {
+        return Ok((Version::First, tokens));
     }
     two(tokens)
 }
@@ -82,7 +82,7 @@ fn version_number(tokens: &[Token]) -> Read<'_, u8>
 fn members<'a>(
     alloc: Global,
     depth: usize,
-    version: u8,
+    version: Version,
     at: Span,
     name: Name,
     tokens: &'a [Token],
@@ -113,7 +113,7 @@ pub fn service<'a>(alloc: Global, depth: usize, tokens: &'a [Token]) -> Read<'a,
     ensures { Gives (λ x. (service_tree x.0, x.1.now)) result (reader.service_at depth tokens.now) }
 {
     let (at, rest) = key(Keyword::Service, tokens)?;
-    let (name, rest) = name(alloc, 1, rest)?;
+    let (name, rest) = name(alloc, Version::First, rest)?;
     let (version, rest) = version_number(rest)?;
     members(alloc, depth, version, at, name, rest)
 }

@@ -4,7 +4,7 @@ ghost use Rattle.std.specs.Prelude.{◌≡◌, map};
 ghost use Rattle.std.specs.Option.{option_map};
 ghost use Rattle.mace_ast.specs.Decls.{event_tree, phase_tree};
 ghost use Rattle.mace_ast.specs.Stmts.{stmt_tree};
-ghost use Rattle.mace_grammar.specs.Words.{numbered};
+ghost use Rattle.mace_grammar.specs.Words.{edition_of};
 ghost use Rattle.mace_grammar.specs.inner.Readers as reader;
 ghost use Rattle.mace_parser.specs.inner.Gives.{Gives};
 
@@ -17,19 +17,24 @@ use crate::token::{key, name, sign};
 use mace_ast::{EventDecl, Phase, Stmt};
 use mace_lexer::{Keyword, Sign, Token};
 use std::alloc::Global;
-use wave_base::Seq;
+use wave_base::{Seq, Version, push};
 
 #[tactic(auto, unfolding(mace_grammar::specs::inner::Readers::any_block_at))]
-fn body<'a>(alloc: Global, depth: usize, version: u8, tokens: &'a [Token]) -> Read<'a, Seq<Stmt>>
-    ensures { Gives (λ x. (map stmt_tree x.0, x.1.now)) result (reader.any_block_at (numbered version) depth tokens.now) }
+fn body<'a>(
+    alloc: Global,
+    depth: usize,
+    version: Version,
+    tokens: &'a [Token],
+) -> Read<'a, Seq<Stmt>>
+    ensures { Gives (λ x. (map stmt_tree x.0, x.1.now)) result (reader.any_block_at (edition_of version) depth tokens.now) }
 {
     let (found, rest) = block(alloc, depth, version, tokens)?;
     Ok((Seq::from_vec(found), rest))
 }
 
 #[tactic(auto, unfolding(mace_grammar::specs::inner::Readers::down_at))]
-fn phase<'a>(alloc: Global, depth: usize, version: u8, tokens: &'a [Token]) -> Read<'a, Phase>
-    ensures { Gives (λ x. (phase_tree x.0, x.1.now)) result (reader.down_at (numbered version) depth tokens.now) }
+fn phase<'a>(alloc: Global, depth: usize, version: Version, tokens: &'a [Token]) -> Read<'a, Phase>
+    ensures { Gives (λ x. (phase_tree x.0, x.1.now)) result (reader.down_at (edition_of version) depth tokens.now) }
 {
     let (at, rest) = key(Keyword::Down, tokens)?;
     let (class, rest) = name(alloc, version, rest)?;
@@ -46,14 +51,19 @@ fn phase<'a>(alloc: Global, depth: usize, version: u8, tokens: &'a [Token]) -> R
 
 // Phases, one behind the other.
 #[tactic(auto, unfolding(mace_grammar::specs::inner::Readers::phases_at))]
-fn phases<'a>(alloc: Global, depth: usize, version: u8, tokens: &'a [Token]) -> Read<'a, Seq<Phase>>
-    ensures { Gives (λ x. (map phase_tree x.0, x.1.now)) result (reader.phases_at (numbered version) depth tokens.now) }
+fn phases<'a>(
+    alloc: Global,
+    depth: usize,
+    version: Version,
+    tokens: &'a [Token],
+) -> Read<'a, Seq<Phase>>
+    ensures { Gives (λ x. (map phase_tree x.0, x.1.now)) result (reader.phases_at (edition_of version) depth tokens.now) }
 {
     let mut rest = tokens;
     let mut found = Vec::new(alloc);
     'turns: while sees_key(Keyword::Down, version, rest) {
         let (next, after) = phase(alloc, depth, version, rest)?;
-        found.push(next)?;
+        push(&mut found, next)?;
         rest = after;
     }
     Ok((Seq::from_vec(found), rest))
@@ -64,10 +74,10 @@ fn phases<'a>(alloc: Global, depth: usize, version: u8, tokens: &'a [Token]) -> 
 fn here<'a>(
     alloc: Global,
     depth: usize,
-    version: u8,
+    version: Version,
     tokens: &'a [Token],
 ) -> Read<'a, Option<Seq<Stmt>>>
-    ensures { Gives (λ x. (option_map (map stmt_tree) x.0, x.1.now)) result (reader.here_at (numbered version) depth tokens.now) }
+    ensures { Gives (λ x. (option_map (map stmt_tree) x.0, x.1.now)) result (reader.here_at (edition_of version) depth tokens.now) }
 {
     if !sees_key(Keyword::Here, version, tokens) {
         return Ok((None, tokens));
@@ -78,8 +88,13 @@ fn here<'a>(
 }
 
 #[tactic(auto, unfolding(mace_grammar::specs::inner::Readers::event_at))]
-fn event<'a>(alloc: Global, depth: usize, version: u8, tokens: &'a [Token]) -> Read<'a, EventDecl>
-    ensures { Gives (λ x. (event_tree x.0, x.1.now)) result (reader.event_at (numbered version) depth tokens.now) }
+fn event<'a>(
+    alloc: Global,
+    depth: usize,
+    version: Version,
+    tokens: &'a [Token],
+) -> Read<'a, EventDecl>
+    ensures { Gives (λ x. (event_tree x.0, x.1.now)) result (reader.event_at (edition_of version) depth tokens.now) }
 {
     let (at, rest) = key(Keyword::Event, tokens)?;
     let (name, rest) = name(alloc, version, rest)?;
@@ -107,16 +122,16 @@ fn event<'a>(alloc: Global, depth: usize, version: u8, tokens: &'a [Token]) -> R
 pub fn events<'a>(
     alloc: Global,
     depth: usize,
-    version: u8,
+    version: Version,
     tokens: &'a [Token],
 ) -> Read<'a, Seq<EventDecl>>
-    ensures { Gives (λ x. (map event_tree x.0, x.1.now)) result (reader.events_at (numbered version) depth tokens.now) }
+    ensures { Gives (λ x. (map event_tree x.0, x.1.now)) result (reader.events_at (edition_of version) depth tokens.now) }
 {
     let mut rest = tokens;
     let mut found = Vec::new(alloc);
     'turns: while sees_key(Keyword::Event, version, rest) {
         let (next, after) = event(alloc, depth, version, rest)?;
-        found.push(next)?;
+        push(&mut found, next)?;
         rest = after;
     }
     Ok((Seq::from_vec(found), rest))

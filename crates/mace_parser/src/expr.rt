@@ -4,7 +4,7 @@ ghost use Rattle.std.specs.Prelude.{◌≡◌, ◌<◌, ◌≤◌, map};
 ghost use Rattle.std.specs.Option.{option_map};
 ghost use Rattle.mace_ast.specs.Exprs.{expr_tree};
 ghost use Rattle.mace_grammar.specs.Words as words;
-ghost use Rattle.mace_grammar.specs.Words.{numbered};
+ghost use Rattle.mace_grammar.specs.Words.{edition_of};
 ghost use Rattle.mace_grammar.specs.inner.Readers as reader;
 ghost use Rattle.mace_parser.specs.inner.Gives.{Gives};
 
@@ -16,7 +16,7 @@ use mace_ast::{BinaryOp, Expr, Name};
 use mace_grammar::{EXPR_STARTS, INITIALS, UNARY_OPS};
 use mace_lexer::{Keyword, Sign, Token, Word};
 use std::alloc::Global;
-use wave_base::Span;
+use wave_base::{Span, Version, push};
 
 fn literal_of_key(at: Span, key: Keyword) -> Option<Expr>
     ensures { option_map expr_tree result ≡ words.literal_of_key at key }
@@ -56,8 +56,8 @@ fn most_operands(level: u8, tokens: &[Token]) -> usize
 
 #[cycle(expr)]
 #[tactic(auto, unfolding(mace_grammar::specs::inner::Readers::signed_or_primary_at))]
-fn unary<'a>(alloc: Global, depth: usize, version: u8, tokens: &'a [Token]) -> Read<'a, Expr>
-    ensures { Gives (λ x. (expr_tree x.0, x.1.now)) result (reader.unary_at (numbered version) depth tokens.now) }
+fn unary<'a>(alloc: Global, depth: usize, version: Version, tokens: &'a [Token]) -> Read<'a, Expr>
+    ensures { Gives (λ x. (expr_tree x.0, x.1.now)) result (reader.unary_at (edition_of version) depth tokens.now) }
 {
     if depth == 0 {
         return Err(Fault::Stuck(tokens));
@@ -70,8 +70,8 @@ fn unary<'a>(alloc: Global, depth: usize, version: u8, tokens: &'a [Token]) -> R
 
 #[cycle(expr)]
 #[tactic(auto, unfolding(mace_grammar::specs::inner::Readers::signed_at))]
-fn signed<'a>(alloc: Global, depth: usize, version: u8, tokens: &'a [Token]) -> Read<'a, Expr>
-    ensures { Gives (λ x. (expr_tree x.0, x.1.now)) result (reader.signed_at (numbered version) (reader.unary_at (numbered version) depth) tokens.now) }
+fn signed<'a>(alloc: Global, depth: usize, version: Version, tokens: &'a [Token]) -> Read<'a, Expr>
+    ensures { Gives (λ x. (expr_tree x.0, x.1.now)) result (reader.signed_at (edition_of version) (reader.unary_at (edition_of version) depth) tokens.now) }
 {
     let ((at, op), rest) = unary_op(tokens)?;
     let (operand, rest) = unary(alloc, depth, version, rest)?;
@@ -80,8 +80,8 @@ fn signed<'a>(alloc: Global, depth: usize, version: u8, tokens: &'a [Token]) -> 
 
 #[cycle(expr)]
 #[tactic(auto, unfolding(mace_grammar::specs::inner::Readers::primary_at))]
-fn primary<'a>(alloc: Global, depth: usize, version: u8, tokens: &'a [Token]) -> Read<'a, Expr>
-    ensures { Gives (λ x. (expr_tree x.0, x.1.now)) result (reader.primary_at (numbered version) (reader.unary_at (numbered version) depth) tokens.now) }
+fn primary<'a>(alloc: Global, depth: usize, version: Version, tokens: &'a [Token]) -> Read<'a, Expr>
+    ensures { Gives (λ x. (expr_tree x.0, x.1.now)) result (reader.primary_at (edition_of version) (reader.unary_at (edition_of version) depth) tokens.now) }
 {
     if sees_any(&INITIALS, version, tokens) {
         return literal(alloc, tokens);
@@ -97,10 +97,10 @@ fn primary<'a>(alloc: Global, depth: usize, version: u8, tokens: &'a [Token]) ->
 fn parenthesized<'a>(
     alloc: Global,
     depth: usize,
-    version: u8,
+    version: Version,
     tokens: &'a [Token],
 ) -> Read<'a, Expr>
-    ensures { Gives (λ x. (expr_tree x.0, x.1.now)) result (reader.parenthesized_at (numbered version) (reader.unary_at (numbered version) depth) tokens.now) }
+    ensures { Gives (λ x. (expr_tree x.0, x.1.now)) result (reader.parenthesized_at (edition_of version) (reader.unary_at (edition_of version) depth) tokens.now) }
 {
     let (_, rest) = sign(Sign::LeftParen, tokens)?;
     let (inner, rest) = expr(alloc, depth, version, rest)?;
@@ -114,10 +114,10 @@ fn parenthesized<'a>(
 pub fn bracketed<'a>(
     alloc: Global,
     depth: usize,
-    version: u8,
+    version: Version,
     tokens: &'a [Token],
 ) -> Read<'a, Expr>
-    ensures { Gives (λ x. (expr_tree x.0, x.1.now)) result (reader.bracketed_at (numbered version) (reader.unary_at (numbered version) depth) tokens.now) }
+    ensures { Gives (λ x. (expr_tree x.0, x.1.now)) result (reader.bracketed_at (edition_of version) (reader.unary_at (edition_of version) depth) tokens.now) }
 {
     let (_, rest) = sign(Sign::LeftBracket, tokens)?;
     let (key, rest) = expr(alloc, depth, version, rest)?;
@@ -127,8 +127,8 @@ pub fn bracketed<'a>(
 
 #[cycle(expr)]
 #[tactic(auto, unfolding(mace_grammar::specs::inner::Readers::named_at))]
-fn named<'a>(alloc: Global, depth: usize, version: u8, tokens: &'a [Token]) -> Read<'a, Expr>
-    ensures { Gives (λ x. (expr_tree x.0, x.1.now)) result (reader.named_at (numbered version) (reader.unary_at (numbered version) depth) tokens.now) }
+fn named<'a>(alloc: Global, depth: usize, version: Version, tokens: &'a [Token]) -> Read<'a, Expr>
+    ensures { Gives (λ x. (expr_tree x.0, x.1.now)) result (reader.named_at (edition_of version) (reader.unary_at (edition_of version) depth) tokens.now) }
 {
     let (first, rest) = name(alloc, version, tokens)?;
     if sees_sign(Sign::LeftParen, version, rest) {
@@ -150,10 +150,10 @@ fn call<'a>(
     alloc: Global,
     depth: usize,
     method: Name,
-    version: u8,
+    version: Version,
     tokens: &'a [Token],
 ) -> Read<'a, Expr>
-    ensures { Gives (λ x. (expr_tree x.0, x.1.now)) result (reader.call_at (numbered version) (reader.unary_at (numbered version) depth) method tokens.now) }
+    ensures { Gives (λ x. (expr_tree x.0, x.1.now)) result (reader.call_at (edition_of version) (reader.unary_at (edition_of version) depth) method tokens.now) }
 {
     let (args, rest) = arguments(alloc, depth, version, tokens)?;
     Ok((Expr::call(method, args), rest))
@@ -166,10 +166,10 @@ fn above<'a>(
     alloc: Global,
     depth: usize,
     class: Name,
-    version: u8,
+    version: Version,
     tokens: &'a [Token],
 ) -> Read<'a, Expr>
-    ensures { Gives (λ x. (expr_tree x.0, x.1.now)) result (reader.above_at (numbered version) (reader.unary_at (numbered version) depth) class tokens.now) }
+    ensures { Gives (λ x. (expr_tree x.0, x.1.now)) result (reader.above_at (edition_of version) (reader.unary_at (edition_of version) depth) class tokens.now) }
 {
     let (field, rest) = field(alloc, version, tokens)?;
     if !sees_sign(Sign::LeftBracket, version, rest) {
@@ -186,10 +186,10 @@ fn index<'a>(
     alloc: Global,
     depth: usize,
     first: Name,
-    version: u8,
+    version: Version,
     tokens: &'a [Token],
 ) -> Read<'a, Expr>
-    ensures { Gives (λ x. (expr_tree x.0, x.1.now)) result (reader.index_at (numbered version) (reader.unary_at (numbered version) depth) first tokens.now) }
+    ensures { Gives (λ x. (expr_tree x.0, x.1.now)) result (reader.index_at (edition_of version) (reader.unary_at (edition_of version) depth) first tokens.now) }
 {
     let (key, rest) = bracketed(alloc, depth, version, tokens)?;
     if !sees_sign(Sign::Dot, version, rest) {
@@ -206,10 +206,10 @@ fn index<'a>(
 pub fn arguments<'a>(
     alloc: Global,
     depth: usize,
-    version: u8,
+    version: Version,
     tokens: &'a [Token],
 ) -> Read<'a, Vec<Expr>>
-    ensures { Gives (λ x. (map expr_tree x.0.items, x.1.now)) result (reader.arguments_at (numbered version) (reader.unary_at (numbered version) depth) tokens.now) }
+    ensures { Gives (λ x. (map expr_tree x.0.items, x.1.now)) result (reader.arguments_at (edition_of version) (reader.unary_at (edition_of version) depth) tokens.now) }
 {
     let (_, rest) = sign(Sign::LeftParen, tokens)?;
     if !sees_any(&EXPR_STARTS, version, rest) {
@@ -223,15 +223,20 @@ pub fn arguments<'a>(
 
 #[cycle(expr)]
 #[tactic(auto, unfolding(mace_grammar::specs::inner::Readers::list_at))]
-fn list<'a>(alloc: Global, depth: usize, version: u8, tokens: &'a [Token]) -> Read<'a, Vec<Expr>>
-    ensures { Gives (λ x. (map expr_tree x.0.items, x.1.now)) result (reader.list_at (numbered version) (reader.expr_at (numbered version) (reader.unary_at (numbered version) depth)) tokens.now) }
+fn list<'a>(
+    alloc: Global,
+    depth: usize,
+    version: Version,
+    tokens: &'a [Token],
+) -> Read<'a, Vec<Expr>>
+    ensures { Gives (λ x. (map expr_tree x.0.items, x.1.now)) result (reader.list_at (edition_of version) (reader.expr_at (edition_of version) (reader.unary_at (edition_of version) depth)) tokens.now) }
 {
     let (first, mut rest) = expr(alloc, depth, version, tokens)?;
     let mut found = Vec::new(alloc);
-    found.push(first)?;
+    push(&mut found, first)?;
     'turns: while sees_sign(Sign::Comma, version, rest) {
         let (next, after) = next_expr(alloc, depth, version, rest)?;
-        found.push(next)?;
+        push(&mut found, next)?;
         rest = after;
     }
     Ok((found, rest))
@@ -239,8 +244,13 @@ fn list<'a>(alloc: Global, depth: usize, version: u8, tokens: &'a [Token]) -> Re
 
 #[cycle(expr)]
 #[tactic(auto, unfolding(mace_grammar::specs::inner::Readers::next_at))]
-fn next_expr<'a>(alloc: Global, depth: usize, version: u8, tokens: &'a [Token]) -> Read<'a, Expr>
-    ensures { Gives (λ x. (expr_tree x.0, x.1.now)) result (reader.next_at (numbered version) (reader.expr_at (numbered version) (reader.unary_at (numbered version) depth)) tokens.now) }
+fn next_expr<'a>(
+    alloc: Global,
+    depth: usize,
+    version: Version,
+    tokens: &'a [Token],
+) -> Read<'a, Expr>
+    ensures { Gives (λ x. (expr_tree x.0, x.1.now)) result (reader.next_at (edition_of version) (reader.expr_at (edition_of version) (reader.unary_at (edition_of version) depth)) tokens.now) }
 {
     let (_, rest) = sign(Sign::Comma, tokens)?;
     expr(alloc, depth, version, rest)
@@ -252,12 +262,12 @@ fn operand<'a>(
     alloc: Global,
     depth: usize,
     level: u8,
-    version: u8,
+    version: Version,
     tokens: &'a [Token],
 ) -> Read<'a, (BinaryOp, Expr)>
     requires { level < 5 }
     ensures { Gives (λ x. ((x.0.0, expr_tree x.0.1), x.1.now)) result
-        (reader.operand_at (reader.operator_at level) (reader.level_at (numbered version) (reader.unary_at (numbered version) depth) level) tokens.now) }
+        (reader.operand_at (reader.operator_at level) (reader.level_at (edition_of version) (reader.unary_at (edition_of version) depth) level) tokens.now) }
 {
     let (op, rest) = operator(level, tokens)?;
     let (right, rest) = chain(alloc, depth, level, version, rest)?;
@@ -271,11 +281,11 @@ fn chain<'a>(
     alloc: Global,
     depth: usize,
     level: u8,
-    version: u8,
+    version: Version,
     tokens: &'a [Token],
 ) -> Read<'a, Expr>
     requires { level ≤ 5 }
-    ensures { Gives (λ x. (expr_tree x.0, x.1.now)) result (reader.level_at (numbered version) (reader.unary_at (numbered version) depth) level tokens.now) }
+    ensures { Gives (λ x. (expr_tree x.0, x.1.now)) result (reader.level_at (edition_of version) (reader.unary_at (edition_of version) depth) level tokens.now) }
 {
     if level == 0 {
         return unary(alloc, depth, version, tokens);
@@ -295,8 +305,13 @@ fn chain<'a>(
 /// An expression. `depth` is more than the tokens that are left.
 #[cycle(expr)]
 #[tactic(auto, unfolding(mace_grammar::specs::inner::Readers::expr_at))]
-pub fn expr<'a>(alloc: Global, depth: usize, version: u8, tokens: &'a [Token]) -> Read<'a, Expr>
-    ensures { Gives (λ x. (expr_tree x.0, x.1.now)) result (reader.expr_at (numbered version) (reader.unary_at (numbered version) depth) tokens.now) }
+pub fn expr<'a>(
+    alloc: Global,
+    depth: usize,
+    version: Version,
+    tokens: &'a [Token],
+) -> Read<'a, Expr>
+    ensures { Gives (λ x. (expr_tree x.0, x.1.now)) result (reader.expr_at (edition_of version) (reader.unary_at (edition_of version) depth) tokens.now) }
 {
     chain(alloc, depth, 5, version, tokens)
 }

@@ -1,5 +1,4 @@
 use mace_lexer::Token;
-use std::alloc::{AllocError, AllocFailed};
 use thiserror::Error;
 use wave_base::{OutOfMemory, Span};
 
@@ -14,14 +13,14 @@ pub enum ParseError {
     TooDeep { token: usize, at: Span },
     /// There was no memory for the tree.
     #[error("out of memory")]
-    OutOfMemory,
+    OutOfMemory(OutOfMemory),
 }
 
 /// Why nothing was read: memory, or the tokens at which the reader is stuck.
 #[derive(Drop)]
 pub enum Fault<'a> {
     /// There was no memory.
-    Memory,
+    Memory(OutOfMemory),
     /// No further token fits: these are left.
     Stuck(&'a [Token]),
 }
@@ -33,20 +32,9 @@ impl From<OutOfMemory> for Fault<'_> {
     ghost use Rattle.std.specs.Prelude.{◌≡◌};
     ghost use Rattle.mace_parser.specs.declared.fault.Fault.TheVariants.{Memory};
 
-    ghost from_gives = { λ _ e. e ≡ Memory };
+    ghost from_gives = { λ refused e. e ≡ Memory refused };
 
-    fn from(_: OutOfMemory) -> Self {
-        Fault::Memory
-    }
-}
-
-impl<T: Drop> From<AllocFailed<T>> for Fault<'_> {
-    ghost use Rattle.std.specs.Prelude.{◌≡◌};
-    ghost use Rattle.mace_parser.specs.declared.fault.Fault.TheVariants.{Memory};
-
-    ghost from_gives = { λ _ e. e ≡ Memory };
-
-    fn from(_: AllocFailed<T>) -> Self {
-        Fault::Memory
+    fn from(refused: OutOfMemory) -> Self {
+        Fault::Memory(refused)
     }
 }

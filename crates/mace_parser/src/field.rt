@@ -3,7 +3,7 @@
 ghost use Rattle.std.specs.Prelude.{◌≡◌, ◌+◌, ◌-◌};
 ghost use Rattle.std.specs.Option.{option_map};
 ghost use Rattle.mace_grammar.specs.Words as words;
-ghost use Rattle.mace_grammar.specs.Words.{numbered};
+ghost use Rattle.mace_grammar.specs.Words.{edition_of};
 ghost use Rattle.mace_grammar.specs.inner.Readers as reader;
 ghost use Rattle.mace_parser.specs.inner.Gives.{Gives};
 
@@ -14,7 +14,7 @@ use mace_ast::{Initial, Literal, VarDecl};
 use mace_grammar::INITIALS;
 use mace_lexer::{Keyword, Sign, Token, Word};
 use std::alloc::Global;
-use wave_base::{Seq, Span};
+use wave_base::{Seq, Span, Version, push};
 
 fn initial_of_key(at: Span, key: Keyword) -> Option<Initial>
     ensures { result ≡ words.initial_of_key at key }
@@ -71,8 +71,8 @@ fn minus_number(tokens: &[Token]) -> Read<'_, Initial>
 }
 
 #[tactic(auto, unfolding(mace_grammar::specs::inner::Readers::initial_at))]
-fn initial<'a>(alloc: Global, version: u8, tokens: &'a [Token]) -> Read<'a, Initial>
-    ensures { Gives (λ x. (x.0, x.1.now)) result (reader.initial_at (numbered version) tokens.now) }
+fn initial<'a>(alloc: Global, version: Version, tokens: &'a [Token]) -> Read<'a, Initial>
+    ensures { Gives (λ x. (x.0, x.1.now)) result (reader.initial_at (edition_of version) tokens.now) }
 {
     if sees_any(&INITIALS, version, tokens) {
         return literal(alloc, tokens);
@@ -81,8 +81,8 @@ fn initial<'a>(alloc: Global, version: u8, tokens: &'a [Token]) -> Read<'a, Init
 }
 
 #[tactic(auto, unfolding(mace_grammar::specs::inner::Readers::var_at))]
-fn var<'a>(alloc: Global, version: u8, tokens: &'a [Token]) -> Read<'a, VarDecl>
-    ensures { Gives (λ x. (x.0, x.1.now)) result (reader.var_at (numbered version) tokens.now) }
+fn var<'a>(alloc: Global, version: Version, tokens: &'a [Token]) -> Read<'a, VarDecl>
+    ensures { Gives (λ x. (x.0, x.1.now)) result (reader.var_at (edition_of version) tokens.now) }
 {
     let (at, rest) = key(Keyword::Var, tokens)?;
     let (name, rest) = name(alloc, version, rest)?;
@@ -102,14 +102,14 @@ fn var<'a>(alloc: Global, version: u8, tokens: &'a [Token]) -> Read<'a, VarDecl>
 
 /// Fields, one behind the other.
 #[tactic(auto, unfolding(mace_grammar::specs::inner::Readers::vars_at))]
-pub fn vars<'a>(alloc: Global, version: u8, tokens: &'a [Token]) -> Read<'a, Seq<VarDecl>>
-    ensures { Gives (λ x. (x.0, x.1.now)) result (reader.vars_at (numbered version) tokens.now) }
+pub fn vars<'a>(alloc: Global, version: Version, tokens: &'a [Token]) -> Read<'a, Seq<VarDecl>>
+    ensures { Gives (λ x. (x.0, x.1.now)) result (reader.vars_at (edition_of version) tokens.now) }
 {
     let mut rest = tokens;
     let mut found = Vec::new(alloc);
     'turns: while sees_key(Keyword::Var, version, rest) {
         let (next, after) = var(alloc, version, rest)?;
-        found.push(next)?;
+        push(&mut found, next)?;
         rest = after;
     }
     Ok((Seq::from_vec(found), rest))

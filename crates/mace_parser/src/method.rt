@@ -4,7 +4,7 @@ ghost use Rattle.std.specs.Prelude.{◌≡◌, map};
 ghost use Rattle.std.specs.Option.{option_map};
 ghost use Rattle.mace_ast.specs.Decls.{last_tree, method_tree};
 ghost use Rattle.mace_ast.specs.Stmts.{stmt_tree};
-ghost use Rattle.mace_grammar.specs.Words.{numbered};
+ghost use Rattle.mace_grammar.specs.Words.{edition_of};
 ghost use Rattle.mace_grammar.specs.inner.Readers as reader;
 ghost use Rattle.mace_parser.specs.inner.Gives.{Gives};
 
@@ -17,11 +17,11 @@ use mace_ast::{Last, MethodDecl, Param, Stmt};
 use mace_grammar::Class;
 use mace_lexer::{Keyword, Sign, Token};
 use std::alloc::Global;
-use wave_base::{Kind, Seq};
+use wave_base::{Kind, Seq, Version, push};
 
 #[tactic(auto, unfolding(mace_grammar::specs::inner::Readers::param_at))]
-fn param<'a>(alloc: Global, version: u8, tokens: &'a [Token]) -> Read<'a, Param>
-    ensures { Gives (λ x. (x.0, x.1.now)) result (reader.param_at (numbered version) tokens.now) }
+fn param<'a>(alloc: Global, version: Version, tokens: &'a [Token]) -> Read<'a, Param>
+    ensures { Gives (λ x. (x.0, x.1.now)) result (reader.param_at (edition_of version) tokens.now) }
 {
     let (name, rest) = name(alloc, version, tokens)?;
     let (_, rest) = sign(Sign::Colon, rest)?;
@@ -30,23 +30,23 @@ fn param<'a>(alloc: Global, version: u8, tokens: &'a [Token]) -> Read<'a, Param>
 }
 
 #[tactic(auto, unfolding(mace_grammar::specs::inner::Readers::next_at))]
-fn next_param<'a>(alloc: Global, version: u8, tokens: &'a [Token]) -> Read<'a, Param>
-    ensures { Gives (λ x. (x.0, x.1.now)) result (reader.next_at (numbered version) (reader.param_at (numbered version)) tokens.now) }
+fn next_param<'a>(alloc: Global, version: Version, tokens: &'a [Token]) -> Read<'a, Param>
+    ensures { Gives (λ x. (x.0, x.1.now)) result (reader.next_at (edition_of version) (reader.param_at (edition_of version)) tokens.now) }
 {
     let (_, rest) = sign(Sign::Comma, tokens)?;
     param(alloc, version, rest)
 }
 
 #[tactic(auto, unfolding(mace_grammar::specs::inner::Readers::list_at))]
-fn list<'a>(alloc: Global, version: u8, tokens: &'a [Token]) -> Read<'a, Vec<Param>>
-    ensures { Gives (λ x. (x.0.items, x.1.now)) result (reader.list_at (numbered version) (reader.param_at (numbered version)) tokens.now) }
+fn list<'a>(alloc: Global, version: Version, tokens: &'a [Token]) -> Read<'a, Vec<Param>>
+    ensures { Gives (λ x. (x.0.items, x.1.now)) result (reader.list_at (edition_of version) (reader.param_at (edition_of version)) tokens.now) }
 {
     let (first, mut rest) = param(alloc, version, tokens)?;
     let mut found = Vec::new(alloc);
-    found.push(first)?;
+    push(&mut found, first)?;
     'turns: while sees_sign(Sign::Comma, version, rest) {
         let (next, after) = next_param(alloc, version, rest)?;
-        found.push(next)?;
+        push(&mut found, next)?;
         rest = after;
     }
     Ok((found, rest))
@@ -54,8 +54,8 @@ fn list<'a>(alloc: Global, version: u8, tokens: &'a [Token]) -> Read<'a, Vec<Par
 
 /// Parameters in their parentheses.
 #[tactic(auto, unfolding(mace_grammar::specs::inner::Readers::params_at, mace_grammar::specs::inner::Readers::separated_at))]
-pub fn params<'a>(alloc: Global, version: u8, tokens: &'a [Token]) -> Read<'a, Seq<Param>>
-    ensures { Gives (λ x. (x.0, x.1.now)) result (reader.params_at (numbered version) tokens.now) }
+pub fn params<'a>(alloc: Global, version: Version, tokens: &'a [Token]) -> Read<'a, Seq<Param>>
+    ensures { Gives (λ x. (x.0, x.1.now)) result (reader.params_at (edition_of version) tokens.now) }
 {
     let (_, rest) = sign(Sign::LeftParen, tokens)?;
     if !sees_class(Class::Name, version, rest) {
@@ -69,8 +69,8 @@ pub fn params<'a>(alloc: Global, version: u8, tokens: &'a [Token]) -> Read<'a, S
 
 /// `: T`, where it is there.
 #[tactic(auto, unfolding(mace_grammar::specs::inner::Readers::result_at))]
-pub fn result_kind(version: u8, tokens: &[Token]) -> Read<'_, Option<Kind>>
-    ensures { Gives (λ x. (x.0, x.1.now)) result (reader.result_at (numbered version) tokens.now) }
+pub fn result_kind(version: Version, tokens: &[Token]) -> Read<'_, Option<Kind>>
+    ensures { Gives (λ x. (x.0, x.1.now)) result (reader.result_at (edition_of version) tokens.now) }
 {
     if !sees_sign(Sign::Colon, version, tokens) {
         return Ok((None, tokens));
@@ -86,10 +86,10 @@ pub fn maybe_last<'a>(
     alloc: Global,
     depth: usize,
     want: Keyword,
-    version: u8,
+    version: Version,
     tokens: &'a [Token],
 ) -> Read<'a, Option<Last>>
-    ensures { Gives (λ x. (option_map last_tree x.0, x.1.now)) result (reader.maybe_last_at (numbered version) want depth tokens.now) }
+    ensures { Gives (λ x. (option_map last_tree x.0, x.1.now)) result (reader.maybe_last_at (edition_of version) want depth tokens.now) }
 {
     if !sees_key(want, version, tokens) {
         return Ok((None, tokens));
@@ -101,16 +101,26 @@ pub fn maybe_last<'a>(
 }
 
 #[tactic(auto, unfolding(mace_grammar::specs::inner::Readers::stmts_at))]
-fn body<'a>(alloc: Global, depth: usize, version: u8, tokens: &'a [Token]) -> Read<'a, Seq<Stmt>>
-    ensures { Gives (λ x. (map stmt_tree x.0, x.1.now)) result (reader.stmts_at (numbered version) depth tokens.now) }
+fn body<'a>(
+    alloc: Global,
+    depth: usize,
+    version: Version,
+    tokens: &'a [Token],
+) -> Read<'a, Seq<Stmt>>
+    ensures { Gives (λ x. (map stmt_tree x.0, x.1.now)) result (reader.stmts_at (edition_of version) depth tokens.now) }
 {
     let (found, rest) = stmts(alloc, depth, version, tokens)?;
     Ok((Seq::from_vec(found), rest))
 }
 
 #[tactic(auto, unfolding(mace_grammar::specs::inner::Readers::method_at))]
-fn method<'a>(alloc: Global, depth: usize, version: u8, tokens: &'a [Token]) -> Read<'a, MethodDecl>
-    ensures { Gives (λ x. (method_tree x.0, x.1.now)) result (reader.method_at (numbered version) depth tokens.now) }
+fn method<'a>(
+    alloc: Global,
+    depth: usize,
+    version: Version,
+    tokens: &'a [Token],
+) -> Read<'a, MethodDecl>
+    ensures { Gives (λ x. (method_tree x.0, x.1.now)) result (reader.method_at (edition_of version) depth tokens.now) }
 {
     let (at, rest) = key(Keyword::Method, tokens)?;
     let (name, rest) = name(alloc, version, rest)?;
@@ -136,16 +146,16 @@ fn method<'a>(alloc: Global, depth: usize, version: u8, tokens: &'a [Token]) -> 
 pub fn methods<'a>(
     alloc: Global,
     depth: usize,
-    version: u8,
+    version: Version,
     tokens: &'a [Token],
 ) -> Read<'a, Seq<MethodDecl>>
-    ensures { Gives (λ x. (map method_tree x.0, x.1.now)) result (reader.methods_at (numbered version) depth tokens.now) }
+    ensures { Gives (λ x. (map method_tree x.0, x.1.now)) result (reader.methods_at (edition_of version) depth tokens.now) }
 {
     let mut rest = tokens;
     let mut found = Vec::new(alloc);
     'turns: while sees_key(Keyword::Method, version, rest) {
         let (next, after) = method(alloc, depth, version, rest)?;
-        found.push(next)?;
+        push(&mut found, next)?;
         rest = after;
     }
     Ok((Seq::from_vec(found), rest))

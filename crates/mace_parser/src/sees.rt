@@ -1,7 +1,7 @@
 // What is next.
 
 ghost use Rattle.std.specs.Prelude.{◌≡◌, ◌<◌, [], ◌∷◌};
-ghost use Rattle.mace_grammar.specs.Words.{numbered};
+ghost use Rattle.mace_grammar.specs.Words.{edition_of};
 ghost use Rattle.mace_grammar.specs.inner.Classes.{kind};
 ghost use Rattle.mace_grammar.specs.inner.Run.{sees};
 ghost use Rattle.mace_grammar.specs.inner.Readers as reader;
@@ -9,10 +9,11 @@ ghost use Rattle.mace_grammar.specs.inner.Readers as reader;
 use crate::class::class_of;
 use mace_grammar::{COMPARISON_OPS, Class, PRODUCT_OPS, SUM_OPS};
 use mace_lexer::{Keyword, Sign, Token};
+use wave_base::Version;
 
 /// Whether a word of one of these classes is next.
-pub fn sees_any(set: &[Class], version: u8, tokens: &[Token]) -> bool
-    ensures { result ≡ sees (kind (numbered version)) set.now tokens.now }
+pub fn sees_any(set: &[Class], version: Version, tokens: &[Token]) -> bool
+    ensures { result ≡ sees (kind (edition_of version)) set.now tokens.now }
 {
     match tokens.first() {
         None => false,
@@ -21,30 +22,30 @@ pub fn sees_any(set: &[Class], version: u8, tokens: &[Token]) -> bool
 }
 
 /// Whether a word of this class is next.
-pub fn sees_class(want: Class, version: u8, tokens: &[Token]) -> bool
-    ensures { result ≡ sees (kind (numbered version)) (want ∷ []) tokens.now }
+pub fn sees_class(want: Class, version: Version, tokens: &[Token]) -> bool
+    ensures { result ≡ sees (kind (edition_of version)) (want ∷ []) tokens.now }
 {
     sees_any(&[want], version, tokens)
 }
 
 /// Whether this keyword is next.
-pub fn sees_key(want: Keyword, version: u8, tokens: &[Token]) -> bool
-    ensures { result ≡ sees (kind (numbered version)) (reader.if_key want) tokens.now }
+pub fn sees_key(want: Keyword, version: Version, tokens: &[Token]) -> bool
+    ensures { result ≡ sees (kind (edition_of version)) (reader.if_key want) tokens.now }
 {
     sees_class(Class::Key(want), version, tokens)
 }
 
 /// Whether this sign is next.
-pub fn sees_sign(want: Sign, version: u8, tokens: &[Token]) -> bool
-    ensures { result ≡ sees (kind (numbered version)) (reader.if_sign want) tokens.now }
+pub fn sees_sign(want: Sign, version: Version, tokens: &[Token]) -> bool
+    ensures { result ≡ sees (kind (edition_of version)) (reader.if_sign want) tokens.now }
 {
     sees_class(Class::Sign(want), version, tokens)
 }
 
 /// Whether an operator of this level is next.
-pub fn sees_operator(level: u8, version: u8, tokens: &[Token]) -> bool
+pub fn sees_operator(level: u8, version: Version, tokens: &[Token]) -> bool
     requires { level < 5 }
-    ensures { result ≡ sees (kind (numbered version)) (reader.operators_of level) tokens.now }
+    ensures { result ≡ sees (kind (edition_of version)) (reader.operators_of level) tokens.now }
 {
     match level {
         0 => sees_any(&PRODUCT_OPS, version, tokens),

@@ -5,7 +5,7 @@ ghost use Rattle.std.specs.Option.{option_map};
 ghost use Rattle.mace_ast.specs.Exprs.{expr_tree};
 ghost use Rattle.mace_ast.specs.Stmts.{stmt_tree};
 ghost use Rattle.mace_grammar.specs.Grammar.{target};
-ghost use Rattle.mace_grammar.specs.Words.{numbered};
+ghost use Rattle.mace_grammar.specs.Words.{edition_of};
 ghost use Rattle.mace_grammar.specs.inner.Readers as reader;
 ghost use Rattle.mace_parser.specs.inner.Gives.{Gives};
 
@@ -17,22 +17,32 @@ use mace_ast::{Action, Expr, Name, Stmt, Target};
 use mace_grammar::{Class, EXPR_STARTS};
 use mace_lexer::{Keyword, Sign, Token};
 use std::alloc::Global;
-use wave_base::{Seq, Span};
+use wave_base::{Seq, Span, Version};
 
 // ---- expressions behind which a statement goes on
 
 /// An expression of any level.
 #[tactic(auto, unfolding(mace_grammar::specs::inner::Readers::any_expr_at))]
-pub fn any_expr<'a>(alloc: Global, depth: usize, version: u8, tokens: &'a [Token]) -> Read<'a, Expr>
-    ensures { Gives (λ x. (expr_tree x.0, x.1.now)) result (reader.any_expr_at (numbered version) depth tokens.now) }
+pub fn any_expr<'a>(
+    alloc: Global,
+    depth: usize,
+    version: Version,
+    tokens: &'a [Token],
+) -> Read<'a, Expr>
+    ensures { Gives (λ x. (expr_tree x.0, x.1.now)) result (reader.any_expr_at (edition_of version) depth tokens.now) }
 {
     expr(alloc, depth, version, tokens)
 }
 
 /// A key in brackets.
 #[tactic(auto, unfolding(mace_grammar::specs::inner::Readers::any_key_at))]
-pub fn any_key<'a>(alloc: Global, depth: usize, version: u8, tokens: &'a [Token]) -> Read<'a, Expr>
-    ensures { Gives (λ x. (expr_tree x.0, x.1.now)) result (reader.any_key_at (numbered version) depth tokens.now) }
+pub fn any_key<'a>(
+    alloc: Global,
+    depth: usize,
+    version: Version,
+    tokens: &'a [Token],
+) -> Read<'a, Expr>
+    ensures { Gives (λ x. (expr_tree x.0, x.1.now)) result (reader.any_key_at (edition_of version) depth tokens.now) }
 {
     bracketed(alloc, depth, version, tokens)
 }
@@ -41,10 +51,10 @@ pub fn any_key<'a>(alloc: Global, depth: usize, version: u8, tokens: &'a [Token]
 fn any_arguments<'a>(
     alloc: Global,
     depth: usize,
-    version: u8,
+    version: Version,
     tokens: &'a [Token],
 ) -> Read<'a, Seq<Expr>>
-    ensures { Gives (λ x. (map expr_tree x.0, x.1.now)) result (reader.any_arguments_at (numbered version) depth tokens.now) }
+    ensures { Gives (λ x. (map expr_tree x.0, x.1.now)) result (reader.any_arguments_at (edition_of version) depth tokens.now) }
 {
     let (args, rest) = arguments(alloc, depth, version, tokens)?;
     Ok((Seq::from_vec(args), rest))
@@ -54,8 +64,13 @@ fn any_arguments<'a>(
 
 /// `let x = e;`
 #[tactic(auto, unfolding(mace_grammar::specs::inner::Readers::let_at))]
-pub fn let_stmt<'a>(alloc: Global, depth: usize, version: u8, tokens: &'a [Token]) -> Read<'a, Stmt>
-    ensures { Gives (λ x. (stmt_tree x.0, x.1.now)) result (reader.let_at (numbered version) depth tokens.now) }
+pub fn let_stmt<'a>(
+    alloc: Global,
+    depth: usize,
+    version: Version,
+    tokens: &'a [Token],
+) -> Read<'a, Stmt>
+    ensures { Gives (λ x. (stmt_tree x.0, x.1.now)) result (reader.let_at (edition_of version) depth tokens.now) }
 {
     let (at, rest) = key(Keyword::Let, tokens)?;
     let (x, rest) = name(alloc, version, rest)?;
@@ -67,8 +82,8 @@ pub fn let_stmt<'a>(alloc: Global, depth: usize, version: u8, tokens: &'a [Token
 }
 
 #[tactic(auto, unfolding(mace_grammar::specs::inner::Readers::require_at))]
-fn require<'a>(alloc: Global, depth: usize, version: u8, tokens: &'a [Token]) -> Read<'a, Stmt>
-    ensures { Gives (λ x. (stmt_tree x.0, x.1.now)) result (reader.require_at (numbered version) depth tokens.now) }
+fn require<'a>(alloc: Global, depth: usize, version: Version, tokens: &'a [Token]) -> Read<'a, Stmt>
+    ensures { Gives (λ x. (stmt_tree x.0, x.1.now)) result (reader.require_at (edition_of version) depth tokens.now) }
 {
     let (at, rest) = key(Keyword::Require, tokens)?;
     let (test, rest) = any_expr(alloc, depth, version, rest)?;
@@ -78,8 +93,8 @@ fn require<'a>(alloc: Global, depth: usize, version: u8, tokens: &'a [Token]) ->
 }
 
 #[tactic(auto, unfolding(mace_grammar::specs::inner::Readers::send_at))]
-fn send<'a>(alloc: Global, depth: usize, version: u8, tokens: &'a [Token]) -> Read<'a, Stmt>
-    ensures { Gives (λ x. (stmt_tree x.0, x.1.now)) result (reader.send_at (numbered version) depth tokens.now) }
+fn send<'a>(alloc: Global, depth: usize, version: Version, tokens: &'a [Token]) -> Read<'a, Stmt>
+    ensures { Gives (λ x. (stmt_tree x.0, x.1.now)) result (reader.send_at (edition_of version) depth tokens.now) }
 {
     let (at, rest) = key(Keyword::Send, tokens)?;
     let (label, rest) = text(alloc, rest)?;
@@ -91,8 +106,8 @@ fn send<'a>(alloc: Global, depth: usize, version: u8, tokens: &'a [Token]) -> Re
 }
 
 #[tactic(auto, unfolding(mace_grammar::specs::inner::Readers::spawn_at))]
-fn spawn<'a>(alloc: Global, depth: usize, version: u8, tokens: &'a [Token]) -> Read<'a, Stmt>
-    ensures { Gives (λ x. (stmt_tree x.0, x.1.now)) result (reader.spawn_at (numbered version) depth tokens.now) }
+fn spawn<'a>(alloc: Global, depth: usize, version: Version, tokens: &'a [Token]) -> Read<'a, Stmt>
+    ensures { Gives (λ x. (stmt_tree x.0, x.1.now)) result (reader.spawn_at (edition_of version) depth tokens.now) }
 {
     let (at, rest) = key(Keyword::Spawn, tokens)?;
     let (event, rest) = name(alloc, version, rest)?;
@@ -118,8 +133,8 @@ fn target_of(first: Name, field: Option<Name>) -> Target
     }
 }
 
-fn maybe_field<'a>(alloc: Global, version: u8, tokens: &'a [Token]) -> Read<'a, Option<Name>>
-    ensures { Gives (λ x. (x.0, x.1.now)) result (reader.maybe_field_at (numbered version) tokens.now) }
+fn maybe_field<'a>(alloc: Global, version: Version, tokens: &'a [Token]) -> Read<'a, Option<Name>>
+    ensures { Gives (λ x. (x.0, x.1.now)) result (reader.maybe_field_at (edition_of version) tokens.now) }
 {
     if !sees_sign(Sign::Dot, version, tokens) {
         return Ok((None, tokens));
@@ -129,8 +144,8 @@ fn maybe_field<'a>(alloc: Global, version: u8, tokens: &'a [Token]) -> Read<'a, 
 }
 
 #[tactic(auto, unfolding(mace_grammar::specs::inner::Readers::drop_at))]
-fn cut<'a>(alloc: Global, depth: usize, version: u8, tokens: &'a [Token]) -> Read<'a, Stmt>
-    ensures { Gives (λ x. (stmt_tree x.0, x.1.now)) result (reader.drop_at (numbered version) depth tokens.now) }
+fn cut<'a>(alloc: Global, depth: usize, version: Version, tokens: &'a [Token]) -> Read<'a, Stmt>
+    ensures { Gives (λ x. (stmt_tree x.0, x.1.now)) result (reader.drop_at (edition_of version) depth tokens.now) }
 {
     let (at, rest) = key(Keyword::Drop, tokens)?;
     let (first, rest) = name(alloc, version, rest)?;
@@ -150,10 +165,10 @@ fn set<'a>(
     at: Span,
     target: Target,
     place: Option<Expr>,
-    version: u8,
+    version: Version,
     tokens: &'a [Token],
 ) -> Read<'a, Stmt>
-    ensures { Gives (λ x. (stmt_tree x.0, x.1.now)) result (reader.set_at (numbered version) depth at target (option_map expr_tree place) tokens.now) }
+    ensures { Gives (λ x. (stmt_tree x.0, x.1.now)) result (reader.set_at (edition_of version) depth at target (option_map expr_tree place) tokens.now) }
 {
     let (_, rest) = sign(Sign::Equals, tokens)?;
     let (value, rest) = any_expr(alloc, depth, version, rest)?;
@@ -167,10 +182,10 @@ fn call<'a>(
     alloc: Global,
     depth: usize,
     method: Name,
-    version: u8,
+    version: Version,
     tokens: &'a [Token],
 ) -> Read<'a, Stmt>
-    ensures { Gives (λ x. (stmt_tree x.0, x.1.now)) result (reader.call_stmt_at (numbered version) depth method tokens.now) }
+    ensures { Gives (λ x. (stmt_tree x.0, x.1.now)) result (reader.call_stmt_at (edition_of version) depth method tokens.now) }
 {
     let (args, rest) = any_arguments(alloc, depth, version, tokens)?;
     let (_, rest) = sign(Sign::Semicolon, rest)?;
@@ -185,10 +200,10 @@ fn child_call<'a>(
     depth: usize,
     class: Name,
     place: Expr,
-    version: u8,
+    version: Version,
     tokens: &'a [Token],
 ) -> Read<'a, Stmt>
-    ensures { Gives (λ x. (stmt_tree x.0, x.1.now)) result (reader.child_stmt_at (numbered version) depth class (expr_tree place) tokens.now) }
+    ensures { Gives (λ x. (stmt_tree x.0, x.1.now)) result (reader.child_stmt_at (edition_of version) depth class (expr_tree place) tokens.now) }
 {
     let (method, rest) = field(alloc, version, tokens)?;
     let (args, rest) = any_arguments(alloc, depth, version, rest)?;
@@ -201,10 +216,10 @@ fn child_call<'a>(
 fn maybe_key<'a>(
     alloc: Global,
     depth: usize,
-    version: u8,
+    version: Version,
     tokens: &'a [Token],
 ) -> Read<'a, Option<Expr>>
-    ensures { Gives (λ x. (option_map expr_tree x.0, x.1.now)) result (reader.maybe_key_at (numbered version) depth tokens.now) }
+    ensures { Gives (λ x. (option_map expr_tree x.0, x.1.now)) result (reader.maybe_key_at (edition_of version) depth tokens.now) }
 {
     if !sees_sign(Sign::LeftBracket, version, tokens) {
         return Ok((None, tokens));
@@ -218,10 +233,10 @@ fn above<'a>(
     alloc: Global,
     depth: usize,
     class: Name,
-    version: u8,
+    version: Version,
     tokens: &'a [Token],
 ) -> Read<'a, Stmt>
-    ensures { Gives (λ x. (stmt_tree x.0, x.1.now)) result (reader.above_stmt_at (numbered version) depth class tokens.now) }
+    ensures { Gives (λ x. (stmt_tree x.0, x.1.now)) result (reader.above_stmt_at (edition_of version) depth class tokens.now) }
 {
     let (field, rest) = field(alloc, version, tokens)?;
     let (place, rest) = maybe_key(alloc, depth, version, rest)?;
@@ -242,10 +257,10 @@ fn index<'a>(
     alloc: Global,
     depth: usize,
     first: Name,
-    version: u8,
+    version: Version,
     tokens: &'a [Token],
 ) -> Read<'a, Stmt>
-    ensures { Gives (λ x. (stmt_tree x.0, x.1.now)) result (reader.index_stmt_at (numbered version) depth first tokens.now) }
+    ensures { Gives (λ x. (stmt_tree x.0, x.1.now)) result (reader.index_stmt_at (edition_of version) depth first tokens.now) }
 {
     let (place, rest) = any_key(alloc, depth, version, tokens)?;
     if sees_sign(Sign::Dot, version, rest) {
@@ -264,8 +279,8 @@ fn index<'a>(
 }
 
 #[tactic(auto, unfolding(mace_grammar::specs::inner::Readers::named_stmt_at))]
-fn named<'a>(alloc: Global, depth: usize, version: u8, tokens: &'a [Token]) -> Read<'a, Stmt>
-    ensures { Gives (λ x. (stmt_tree x.0, x.1.now)) result (reader.named_stmt_at (numbered version) depth tokens.now) }
+fn named<'a>(alloc: Global, depth: usize, version: Version, tokens: &'a [Token]) -> Read<'a, Stmt>
+    ensures { Gives (λ x. (stmt_tree x.0, x.1.now)) result (reader.named_stmt_at (edition_of version) depth tokens.now) }
 {
     let (first, rest) = name(alloc, version, tokens)?;
     if sees_sign(Sign::Dot, version, rest) {
@@ -290,8 +305,8 @@ fn named<'a>(alloc: Global, depth: usize, version: u8, tokens: &'a [Token]) -> R
 }
 
 #[tactic(auto, unfolding(mace_grammar::specs::inner::Readers::simple_stmt_at))]
-fn simple<'a>(alloc: Global, depth: usize, version: u8, tokens: &'a [Token]) -> Read<'a, Stmt>
-    ensures { Gives (λ x. (stmt_tree x.0, x.1.now)) result (reader.simple_stmt_at (numbered version) depth tokens.now) }
+fn simple<'a>(alloc: Global, depth: usize, version: Version, tokens: &'a [Token]) -> Read<'a, Stmt>
+    ensures { Gives (λ x. (stmt_tree x.0, x.1.now)) result (reader.simple_stmt_at (edition_of version) depth tokens.now) }
 {
     if sees_key(Keyword::Require, version, tokens) {
         return require(alloc, depth, version, tokens);
@@ -313,10 +328,10 @@ fn simple<'a>(alloc: Global, depth: usize, version: u8, tokens: &'a [Token]) -> 
 fn maybe_expr<'a>(
     alloc: Global,
     depth: usize,
-    version: u8,
+    version: Version,
     tokens: &'a [Token],
 ) -> Read<'a, Option<Expr>>
-    ensures { Gives (λ x. (option_map expr_tree x.0, x.1.now)) result (reader.maybe_expr_at (numbered version) depth tokens.now) }
+    ensures { Gives (λ x. (option_map expr_tree x.0, x.1.now)) result (reader.maybe_expr_at (edition_of version) depth tokens.now) }
 {
     if !sees_any(&EXPR_STARTS, version, tokens) {
         return Ok((None, tokens));
@@ -326,8 +341,13 @@ fn maybe_expr<'a>(
 }
 
 #[tactic(auto, unfolding(mace_grammar::specs::inner::Readers::return_at))]
-fn return_stmt<'a>(alloc: Global, depth: usize, version: u8, tokens: &'a [Token]) -> Read<'a, Stmt>
-    ensures { Gives (λ x. (stmt_tree x.0, x.1.now)) result (reader.return_at (numbered version) depth tokens.now) }
+fn return_stmt<'a>(
+    alloc: Global,
+    depth: usize,
+    version: Version,
+    tokens: &'a [Token],
+) -> Read<'a, Stmt>
+    ensures { Gives (λ x. (stmt_tree x.0, x.1.now)) result (reader.return_at (edition_of version) depth tokens.now) }
 {
     let (at, rest) = leave(version, tokens)?;
     let (value, rest) = maybe_expr(alloc, depth, version, rest)?;
@@ -337,8 +357,13 @@ fn return_stmt<'a>(alloc: Global, depth: usize, version: u8, tokens: &'a [Token]
 }
 
 #[tactic(auto, unfolding(mace_grammar::specs::inner::Readers::finish_stmt_at))]
-fn finish_stmt<'a>(alloc: Global, depth: usize, version: u8, tokens: &'a [Token]) -> Read<'a, Stmt>
-    ensures { Gives (λ x. (stmt_tree x.0, x.1.now)) result (reader.finish_stmt_at (numbered version) depth tokens.now) }
+fn finish_stmt<'a>(
+    alloc: Global,
+    depth: usize,
+    version: Version,
+    tokens: &'a [Token],
+) -> Read<'a, Stmt>
+    ensures { Gives (λ x. (stmt_tree x.0, x.1.now)) result (reader.finish_stmt_at (edition_of version) depth tokens.now) }
 {
     let (at, rest) = finish(version, tokens)?;
     let (value, rest) = maybe_expr(alloc, depth, version, rest)?;
@@ -349,8 +374,13 @@ fn finish_stmt<'a>(alloc: Global, depth: usize, version: u8, tokens: &'a [Token]
 
 /// A statement without a block that is no `let`.
 #[tactic(auto, unfolding(mace_grammar::specs::inner::Readers::ending_at))]
-pub fn ending<'a>(alloc: Global, depth: usize, version: u8, tokens: &'a [Token]) -> Read<'a, Stmt>
-    ensures { Gives (λ x. (stmt_tree x.0, x.1.now)) result (reader.ending_at (numbered version) depth tokens.now) }
+pub fn ending<'a>(
+    alloc: Global,
+    depth: usize,
+    version: Version,
+    tokens: &'a [Token],
+) -> Read<'a, Stmt>
+    ensures { Gives (λ x. (stmt_tree x.0, x.1.now)) result (reader.ending_at (edition_of version) depth tokens.now) }
 {
     if sees_class(Class::Leave, version, tokens) {
         return return_stmt(alloc, depth, version, tokens);

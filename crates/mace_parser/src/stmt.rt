@@ -3,7 +3,7 @@
 ghost use Rattle.std.specs.Prelude.{◌≡◌, map};
 ghost use Rattle.std.specs.Option.{option_map};
 ghost use Rattle.mace_ast.specs.Stmts.{stmt_tree};
-ghost use Rattle.mace_grammar.specs.Words.{numbered};
+ghost use Rattle.mace_grammar.specs.Words.{edition_of};
 ghost use Rattle.mace_grammar.specs.inner.Readers as reader;
 ghost use Rattle.mace_parser.specs.inner.Gives.{Gives};
 
@@ -15,11 +15,12 @@ use mace_ast::Stmt;
 use mace_grammar::STMT_STARTS;
 use mace_lexer::{Keyword, Sign, Token};
 use std::alloc::Global;
+use wave_base::{Version, push};
 
 #[cycle(stmt)]
 #[tactic(auto, unfolding(mace_grammar::specs::inner::Readers::any_stmt_at))]
-fn stmt<'a>(alloc: Global, depth: usize, version: u8, tokens: &'a [Token]) -> Read<'a, Stmt>
-    ensures { Gives (λ x. (stmt_tree x.0, x.1.now)) result (reader.stmt_at (numbered version) depth tokens.now) }
+fn stmt<'a>(alloc: Global, depth: usize, version: Version, tokens: &'a [Token]) -> Read<'a, Stmt>
+    ensures { Gives (λ x. (stmt_tree x.0, x.1.now)) result (reader.stmt_at (edition_of version) depth tokens.now) }
 {
     if depth == 0 {
         return Err(Fault::Stuck(tokens));
@@ -42,8 +43,8 @@ fn stmt<'a>(alloc: Global, depth: usize, version: u8, tokens: &'a [Token]) -> Re
 
 #[cycle(stmt)]
 #[tactic(auto, unfolding(mace_grammar::specs::inner::Readers::if_at))]
-fn if_stmt<'a>(alloc: Global, depth: usize, version: u8, tokens: &'a [Token]) -> Read<'a, Stmt>
-    ensures { Gives (λ x. (stmt_tree x.0, x.1.now)) result (reader.if_at (numbered version) depth (reader.stmt_at (numbered version) depth) tokens.now) }
+fn if_stmt<'a>(alloc: Global, depth: usize, version: Version, tokens: &'a [Token]) -> Read<'a, Stmt>
+    ensures { Gives (λ x. (stmt_tree x.0, x.1.now)) result (reader.if_at (edition_of version) depth (reader.stmt_at (edition_of version) depth) tokens.now) }
 {
     let (at, rest) = key(Keyword::If, tokens)?;
     let (test, rest) = any_expr(alloc, depth, version, rest)?;
@@ -57,10 +58,10 @@ fn if_stmt<'a>(alloc: Global, depth: usize, version: u8, tokens: &'a [Token]) ->
 fn maybe_else<'a>(
     alloc: Global,
     depth: usize,
-    version: u8,
+    version: Version,
     tokens: &'a [Token],
 ) -> Read<'a, Option<Vec<Stmt>>>
-    ensures { Gives (λ x. (option_map (λ b. map stmt_tree b.items) x.0, x.1.now)) result (reader.else_at (numbered version) (reader.block_at (numbered version) (reader.stmt_at (numbered version) depth)) tokens.now) }
+    ensures { Gives (λ x. (option_map (λ b. map stmt_tree b.items) x.0, x.1.now)) result (reader.else_at (edition_of version) (reader.block_at (edition_of version) (reader.stmt_at (edition_of version) depth)) tokens.now) }
 {
     if !sees_key(Keyword::Else, version, tokens) {
         return Ok((None, tokens));
@@ -72,8 +73,13 @@ fn maybe_else<'a>(
 
 #[cycle(stmt)]
 #[tactic(auto, unfolding(mace_grammar::specs::inner::Readers::while_at))]
-fn while_stmt<'a>(alloc: Global, depth: usize, version: u8, tokens: &'a [Token]) -> Read<'a, Stmt>
-    ensures { Gives (λ x. (stmt_tree x.0, x.1.now)) result (reader.while_at (numbered version) depth (reader.stmt_at (numbered version) depth) tokens.now) }
+fn while_stmt<'a>(
+    alloc: Global,
+    depth: usize,
+    version: Version,
+    tokens: &'a [Token],
+) -> Read<'a, Stmt>
+    ensures { Gives (λ x. (stmt_tree x.0, x.1.now)) result (reader.while_at (edition_of version) depth (reader.stmt_at (edition_of version) depth) tokens.now) }
 {
     let (at, rest) = key(Keyword::While, tokens)?;
     let (test, rest) = any_expr(alloc, depth, version, rest)?;
@@ -83,8 +89,13 @@ fn while_stmt<'a>(alloc: Global, depth: usize, version: u8, tokens: &'a [Token])
 
 #[cycle(stmt)]
 #[tactic(auto, unfolding(mace_grammar::specs::inner::Readers::for_at))]
-fn for_stmt<'a>(alloc: Global, depth: usize, version: u8, tokens: &'a [Token]) -> Read<'a, Stmt>
-    ensures { Gives (λ x. (stmt_tree x.0, x.1.now)) result (reader.for_at (numbered version) depth (reader.stmt_at (numbered version) depth) tokens.now) }
+fn for_stmt<'a>(
+    alloc: Global,
+    depth: usize,
+    version: Version,
+    tokens: &'a [Token],
+) -> Read<'a, Stmt>
+    ensures { Gives (λ x. (stmt_tree x.0, x.1.now)) result (reader.for_at (edition_of version) depth (reader.stmt_at (edition_of version) depth) tokens.now) }
 {
     let (at, rest) = key(Keyword::For, tokens)?;
     let (x, rest) = name(alloc, version, rest)?;
@@ -102,10 +113,10 @@ fn for_stmt<'a>(alloc: Global, depth: usize, version: u8, tokens: &'a [Token]) -
 pub fn block<'a>(
     alloc: Global,
     depth: usize,
-    version: u8,
+    version: Version,
     tokens: &'a [Token],
 ) -> Read<'a, Vec<Stmt>>
-    ensures { Gives (λ x. (map stmt_tree x.0.items, x.1.now)) result (reader.block_at (numbered version) (reader.stmt_at (numbered version) depth) tokens.now) }
+    ensures { Gives (λ x. (map stmt_tree x.0.items, x.1.now)) result (reader.block_at (edition_of version) (reader.stmt_at (edition_of version) depth) tokens.now) }
 {
     let (_, rest) = sign(Sign::LeftBrace, tokens)?;
     let (found, rest) = stmts(alloc, depth, version, rest)?;
@@ -119,16 +130,16 @@ pub fn block<'a>(
 pub fn stmts<'a>(
     alloc: Global,
     depth: usize,
-    version: u8,
+    version: Version,
     tokens: &'a [Token],
 ) -> Read<'a, Vec<Stmt>>
-    ensures { Gives (λ x. (map stmt_tree x.0.items, x.1.now)) result (reader.stmts_in (numbered version) (reader.stmt_at (numbered version) depth) tokens.now) }
+    ensures { Gives (λ x. (map stmt_tree x.0.items, x.1.now)) result (reader.stmts_in (edition_of version) (reader.stmt_at (edition_of version) depth) tokens.now) }
 {
     let mut rest = tokens;
     let mut found = Vec::new(alloc);
     'turns: while sees_any(&STMT_STARTS, version, rest) {
         let (next, after) = stmt(alloc, depth, version, rest)?;
-        found.push(next)?;
+        push(&mut found, next)?;
         rest = after;
     }
     Ok((found, rest))

@@ -7,10 +7,10 @@ ghost use Rattle.mace_grammar.specs.inner.Readers as reader;
 ghost use Rattle.mace_parser.specs.inner.Gives.{Gives};
 
 use crate::fault::{Fault, Read};
-use mace_ast::{Expr, Name};
+use mace_ast::Name;
 use mace_lexer::{Keyword, Sign, Token, Word};
 use std::alloc::Global;
-use wave_base::{Kind, Span, Txt};
+use wave_base::{Kind, Span, Txt, Version};
 
 /// This keyword, and its place.
 pub fn key<'a>(want: Keyword, tokens: &'a [Token]) -> Read<'a, Span>
@@ -46,22 +46,28 @@ fn is_finish(text: &Txt) -> bool
 }
 
 /// Whether a word is a name in this version.
-pub fn is_name(version: u8, text: &Txt) -> bool
-    ensures { result ≡ (words.numbered version).is_name text.now }
+pub fn is_name(version: Version, text: &Txt) -> bool
+    ensures { result ≡ (words.edition_of version).is_name text.now }
 {
-    version != 2 || !is_finish(text)
+    match version {
+        Version::First => true,
+        Version::Second => !is_finish(text),
+    }
 }
 
 /// Whether this version has `return` and `finish` as statements.
-pub fn is_early(version: u8) -> bool
-    ensures { result ≡ (words.numbered version).early }
+pub fn is_early(version: Version) -> bool
+    ensures { result ≡ (words.edition_of version).early }
 {
-    version == 2
+    match version {
+        Version::First => false,
+        Version::Second => true,
+    }
 }
 
 /// A name.
-pub fn name<'a>(alloc: Global, version: u8, tokens: &'a [Token]) -> Read<'a, Name>
-    ensures { Gives (λ x. (x.0, x.1.now)) result (reader.name_at (words.numbered version) tokens.now) }
+pub fn name<'a>(alloc: Global, version: Version, tokens: &'a [Token]) -> Read<'a, Name>
+    ensures { Gives (λ x. (x.0, x.1.now)) result (reader.name_at (words.edition_of version) tokens.now) }
 {
     let Some((t, rest)) = tokens.split_first() else {
         return Err(Fault::Stuck(tokens));
@@ -76,8 +82,8 @@ pub fn name<'a>(alloc: Global, version: u8, tokens: &'a [Token]) -> Read<'a, Nam
 }
 
 /// The keyword `return` as a statement.
-pub fn leave(version: u8, tokens: &[Token]) -> Read<'_, Span>
-    ensures { Gives (λ x. (x.0, x.1.now)) result (reader.leave_at (words.numbered version) tokens.now) }
+pub fn leave(version: Version, tokens: &[Token]) -> Read<'_, Span>
+    ensures { Gives (λ x. (x.0, x.1.now)) result (reader.leave_at (words.edition_of version) tokens.now) }
 {
     if !is_early(version) {
         return Err(Fault::Stuck(tokens));
@@ -86,8 +92,8 @@ pub fn leave(version: u8, tokens: &[Token]) -> Read<'_, Span>
 }
 
 /// The word `finish`.
-pub fn finish(version: u8, tokens: &[Token]) -> Read<'_, Span>
-    ensures { Gives (λ x. (x.0, x.1.now)) result (reader.finish_at (words.numbered version) tokens.now) }
+pub fn finish(version: Version, tokens: &[Token]) -> Read<'_, Span>
+    ensures { Gives (λ x. (x.0, x.1.now)) result (reader.finish_at (words.edition_of version) tokens.now) }
 {
     let Some((t, rest)) = tokens.split_first() else {
         return Err(Fault::Stuck(tokens));
@@ -98,15 +104,15 @@ pub fn finish(version: u8, tokens: &[Token]) -> Read<'_, Span>
     }
 }
 
-/// The number of version 2.
-pub fn two(tokens: &[Token]) -> Read<'_, u8>
+/// The number of the second version.
+pub fn two(tokens: &[Token]) -> Read<'_, Version>
     ensures { Gives (λ x. (x.0, x.1.now)) result (reader.two_at tokens.now) }
 {
     let Some((t, rest)) = tokens.split_first() else {
         return Err(Fault::Stuck(tokens));
     };
     match t.word {
-        Word::Number(n) if n == 2 => Ok((2, rest)),
+        Word::Number(n) if n == 2 => Ok((Version::Second, rest)),
         _ => Err(Fault::Stuck(tokens)),
     }
 }
@@ -166,8 +172,8 @@ pub fn kind(tokens: &[Token]) -> Read<'_, Kind>
 }
 
 /// `.f`
-pub fn field<'a>(alloc: Global, version: u8, tokens: &'a [Token]) -> Read<'a, Name>
-    ensures { Gives (λ x. (x.0, x.1.now)) result (reader.field_at (words.numbered version) tokens.now) }
+pub fn field<'a>(alloc: Global, version: Version, tokens: &'a [Token]) -> Read<'a, Name>
+    ensures { Gives (λ x. (x.0, x.1.now)) result (reader.field_at (words.edition_of version) tokens.now) }
 {
     let (_, rest) = sign(Sign::Dot, tokens)?;
     name(alloc, version, rest)

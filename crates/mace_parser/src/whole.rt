@@ -60,7 +60,7 @@ fn shallow(alloc: Global, text: &[u8], tokens: &[Token]) -> Result<Service, Pars
     match all(alloc, tokens) {
         Ok(s) => Ok(s),
         Err(Fault::Stuck(rest)) => Err(expected(text, tokens, tokens.len() - rest.len())),
-        Err(Fault::Memory) => Err(ParseError::OutOfMemory),
+        Err(Fault::Memory(refused)) => Err(ParseError::OutOfMemory(refused)),
     }
 }
 
@@ -95,7 +95,7 @@ fn cut_off(alloc: Global, text: &[u8], tokens: &[Token], deep: usize) -> ParseEr
     match all(alloc, &tokens[..deep + 1]) {
         Ok(_) => too_deep(text, tokens, deep),
         Err(Fault::Stuck(rest)) => stopped(text, tokens, deep, rest.len()),
-        Err(Fault::Memory) => ParseError::OutOfMemory,
+        Err(Fault::Memory(refused)) => ParseError::OutOfMemory(refused),
     }
 }
 
@@ -110,7 +110,7 @@ fn read(alloc: Global, text: &[u8], tokens: &[Token]) -> Result<Service, ParseEr
     match first_deep(alloc, tokens) {
         Ok(None) => shallow(alloc, text, tokens),
         Ok(Some(deep)) => Err(cut_off(alloc, text, tokens, deep)),
-        Err(_) => Err(ParseError::OutOfMemory),
+        Err(refused) => Err(ParseError::OutOfMemory(refused)),
     }
 }
 

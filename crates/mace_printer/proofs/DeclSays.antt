@@ -3,6 +3,8 @@ use Rattle.std.proofs.Common.{◌≡◌, ℕ, zero, suc, ◌+◌, ◌≤◌, ◌
 use Rattle.std.specs.Option.{option_map}
 use Rattle.std.proofs.lemmas.List.{map-append}
 use Rattle.wave_base.specs.declared.span.Span.{Span}
+use Rattle.wave_base.specs.declared.version.Version.{Version}
+use Rattle.wave_base.specs.declared.version.Version.TheVariants.{First, Second}
 use Rattle.mace_lexer.specs.declared.token.Word.{Word}
 use Rattle.mace_lexer.specs.declared.token.Word.TheVariants as word
 use Rattle.mace_lexer.specs.declared.keyword.Keyword.TheVariants as k
@@ -14,7 +16,7 @@ use Rattle.mace_ast.specs.Stmts.{StmtTree, bare_stmt}
 use Rattle.mace_ast.specs.Decls.{LastTree, MethodTree, PhaseTree, EventTree, ContextTree, ContextTrees, Context, no_contexts, context_and, contexts_of, ServiceTree, bare_var, bare_param, bare_last, bare_method, bare_phase, bare_event, bare_context, bare_contexts, bare_service}
 use Rattle.mace_grammar.specs.Part.{Part, ◌>>◌, many, maybe, nested}
 use Rattle.mace_grammar.specs.Words as w
-use Rattle.mace_grammar.specs.Words.{Version, first, numbered}
+use Rattle.mace_grammar.specs.Words.{Edition, first, edition_of}
 use Rattle.mace_grammar.specs.Fits.{Each, IfThere, ExprFits, StmtFits, LastFits, MethodFits, PhaseFits, EventFits, ContextFits, ContextsFit, MembersFit, ServiceFits}
 use Rattle.mace_grammar.specs.Grammar as g
 use Rattle.mace_grammar.specs.Spelled.{plain, Spelled}
@@ -25,9 +27,9 @@ use Rattle.mace_printer.proofs.StmtSays.{stmts_say, any_block_says}
 use Rattle.mace_printer.proofs.FieldSays.{brace, semicolon}
 use Rattle.mace_printer.proofs.FieldSays
 
-module _ (version : Version) where
+module _ (edition : Edition) where
   -- behind its keyword
-  ended_says : (word : Word) (keyword : Part Span) (l : LastTree) → Says keyword nowhere (word ∷ []) → ExprFits version l.value → Says (g.last version keyword) (bare_last l) (word ∷ (whole_words l.value ++ semicolon))
+  ended_says : (word : Word) (keyword : Part Span) (l : LastTree) → Says keyword nowhere (word ∷ []) → ExprFits edition l.value → Says (g.last edition keyword) (bare_last l) (word ∷ (whole_words l.value ++ semicolon))
   ended_says word keyword l h f = (
     nowhere,
     plain word ∷ [],
@@ -39,20 +41,20 @@ module _ (version : Version) where
       map plain (whole_words l.value),
       _,
       map-append plain (whole_words l.value) semicolon,
-      expr_says version l.value f,
+      expr_says edition l.value f,
       (nowhere, map plain semicolon, [], refl, sign_says s.Semicolon, (refl, refl)),
     ),
   )
 
-  returned_says : (o : Option LastTree) → IfThere (LastFits version) o → Says (maybe (g.last version (w.end version))) (option_map bare_last o) (last_words k.Return o)
+  returned_says : (o : Option LastTree) → IfThere (LastFits edition) o → Says (maybe (g.last edition (w.end edition))) (option_map bare_last o) (last_words k.Return o)
   returned_says None f = refl
-  returned_says (Some l) f = ended_says (word.Key k.Return) (w.end version) l (end_says version f.0) f.1
+  returned_says (Some l) f = ended_says (word.Key k.Return) (w.end edition) l (end_says edition f.0) f.1
 
-  replied_says : (o : Option LastTree) → IfThere (λ l. ExprFits version l.value) o → Says (maybe (g.last version (w.key k.Reply))) (option_map bare_last o) (last_words k.Reply o)
+  replied_says : (o : Option LastTree) → IfThere (λ l. ExprFits edition l.value) o → Says (maybe (g.last edition (w.key k.Reply))) (option_map bare_last o) (last_words k.Reply o)
   replied_says None f = refl
   replied_says (Some l) f = ended_says (word.Key k.Reply) (w.key k.Reply) l (key_says k.Reply) f
 
-  method_says : (m : MethodTree) → MethodFits version m → Says (g.method version) (bare_method m) (method_words m)
+  method_says : (m : MethodTree) → MethodFits edition m → Says (g.method edition) (bare_method m) (method_words m)
   method_says m f =
       let ends : List Word = last_words k.Return m.last ++ brace in
       let body : List Word = word.Sign s.LeftBrace ∷ (body_words m.body ++ ends) in (
@@ -66,19 +68,19 @@ module _ (version : Version) where
           plain (word.Name m.name.text) ∷ [],
           _,
           refl,
-          name_says version m.name.text f.0,
+          name_says edition m.name.text f.0,
           (
             map bare_param m.params,
             map plain (params_words m.params),
             map plain (result_words m.result ++ body),
             map-append plain (params_words m.params) (result_words m.result ++ body),
-            FieldSays.params_say version m.params f.1,
+            FieldSays.params_say edition m.params f.1,
             (
               m.result,
               map plain (result_words m.result),
               map plain body,
               map-append plain (result_words m.result) body,
-              FieldSays.result_says version m.result,
+              FieldSays.result_says edition m.result,
               (
                 nowhere,
                 plain (word.Sign s.LeftBrace) ∷ [],
@@ -90,7 +92,7 @@ module _ (version : Version) where
                   map plain (body_words m.body),
                   map plain ends,
                   map-append plain (body_words m.body) ends,
-                  stmts_say version m.body f.2,
+                  stmts_say edition m.body f.2,
                   (
                     option_map bare_last m.last,
                     map plain (last_words k.Return m.last),
@@ -106,10 +108,10 @@ module _ (version : Version) where
         ),
       )
 
-  methods_say : (ms : List MethodTree) → Each (MethodFits version) ms → Says (many (g.method version)) (map bare_method ms) (all_of method_words ms)
-  methods_say ms f = all_say (g.method version) bare_method method_words (MethodFits version) method_says ms f
+  methods_say : (ms : List MethodTree) → Each (MethodFits edition) ms → Says (many (g.method edition)) (map bare_method ms) (all_of method_words ms)
+  methods_say ms f = all_say (g.method edition) bare_method method_words (MethodFits edition) method_says ms f
 
-  phase_says : (p : PhaseTree) → PhaseFits version p → Says (g.down version) (bare_phase p) (phase_words p)
+  phase_says : (p : PhaseTree) → PhaseFits edition p → Says (g.down edition) (bare_phase p) (phase_words p)
   phase_says p f = (
     nowhere,
     plain (word.Key k.Down) ∷ [],
@@ -121,23 +123,23 @@ module _ (version : Version) where
       plain (word.Name p.class) ∷ [],
       _,
       refl,
-      name_says version p.class f.0,
+      name_says edition p.class f.0,
       (
         bare_expr p.key,
         map plain (index_words p.key),
         map plain (braced_words p.body),
         map-append plain (index_words p.key) (braced_words p.body),
-        any_key_says version p.key f.1,
-        (map bare_stmt p.body, map plain (braced_words p.body), [], sym (append-nil (map plain (braced_words p.body))), any_block_says version p.body f.2, (refl, refl)),
+        any_key_says edition p.key f.1,
+        (map bare_stmt p.body, map plain (braced_words p.body), [], sym (append-nil (map plain (braced_words p.body))), any_block_says edition p.body f.2, (refl, refl)),
       ),
     ),
   )
 
-  here_says : (o : Option (List StmtTree)) → IfThere (Each (StmtFits version)) o → Says (maybe (w.key k.Here >> (g.any_block version))) (option_map (map bare_stmt) o) (here_words o)
+  here_says : (o : Option (List StmtTree)) → IfThere (Each (StmtFits edition)) o → Says (maybe (w.key k.Here >> (g.any_block edition))) (option_map (map bare_stmt) o) (here_words o)
   here_says None f = refl
-  here_says (Some body) f = (nowhere, plain (word.Key k.Here) ∷ [], _, refl, key_says k.Here, any_block_says version body f)
+  here_says (Some body) f = (nowhere, plain (word.Key k.Here) ∷ [], _, refl, key_says k.Here, any_block_says edition body f)
 
-  event_says : (v : EventTree) → EventFits version v → Says (g.event version) (bare_event v) (event_words v)
+  event_says : (v : EventTree) → EventFits edition v → Says (g.event edition) (bare_event v) (event_words v)
   event_says v f =
       let ends : List Word = last_words k.Reply v.last ++ brace in
       let phases : List Word = all_of phase_words v.phases ++ ends in
@@ -152,19 +154,19 @@ module _ (version : Version) where
           plain (word.Name v.name.text) ∷ [],
           _,
           refl,
-          name_says version v.name.text f.0,
+          name_says edition v.name.text f.0,
           (
             map bare_param v.params,
             map plain (params_words v.params),
             map plain (result_words v.result ++ body),
             map-append plain (params_words v.params) (result_words v.result ++ body),
-            FieldSays.params_say version v.params f.1,
+            FieldSays.params_say edition v.params f.1,
             (
               v.result,
               map plain (result_words v.result),
               map plain body,
               map-append plain (result_words v.result) body,
-              FieldSays.result_says version v.result,
+              FieldSays.result_says edition v.result,
               (
                 nowhere,
                 plain (word.Sign s.LeftBrace) ∷ [],
@@ -182,7 +184,7 @@ module _ (version : Version) where
                     map plain (all_of phase_words v.phases),
                     map plain ends,
                     map-append plain (all_of phase_words v.phases) ends,
-                    all_say (g.down version) bare_phase phase_words (PhaseFits version) phase_says v.phases f.3,
+                    all_say (g.down edition) bare_phase phase_words (PhaseFits edition) phase_says v.phases f.3,
                     (
                       option_map bare_last v.last,
                       map plain (last_words k.Reply v.last),
@@ -209,7 +211,7 @@ module _ (version : Version) where
   list_back no_contexts = refl
   list_back (context_and x xs) = ap (λ l. context_and x l) (list_back xs)
 
-  one_says : (context : Part ContextTree) (at : Span) (x : Name) (vars : List VarDecl) (inner : ContextTrees) (methods : List MethodTree) → Says (many context) (list_of (bare_contexts inner)) (contexts_words inner) → ContextFits version (Context at x vars inner methods) → Says (g.one_context version context) (bare_context (Context at x vars inner methods)) (context_words (Context at x vars inner methods))
+  one_says : (context : Part ContextTree) (at : Span) (x : Name) (vars : List VarDecl) (inner : ContextTrees) (methods : List MethodTree) → Says (many context) (list_of (bare_contexts inner)) (contexts_words inner) → ContextFits edition (Context at x vars inner methods) → Says (g.one_context edition context) (bare_context (Context at x vars inner methods)) (context_words (Context at x vars inner methods))
   one_says context at x vars inner methods h f =
       let ends : List Word = all_of method_words methods ++ brace in
       let behind : List Word = contexts_words inner ++ ends in (
@@ -223,7 +225,7 @@ module _ (version : Version) where
           plain (word.Name x.text) ∷ [],
           _,
           refl,
-          name_says version x.text f.0,
+          name_says edition x.text f.0,
           (
             nowhere,
             plain (word.Sign s.LeftBracket) ∷ [],
@@ -253,7 +255,7 @@ module _ (version : Version) where
                     map plain (all_of var_words vars),
                     map plain behind,
                     map-append plain (all_of var_words vars) behind,
-                    FieldSays.vars_say version vars f.1,
+                    FieldSays.vars_say edition vars f.1,
                     (
                       list_of (bare_contexts inner),
                       map plain (contexts_words inner),
@@ -286,31 +288,31 @@ module _ (version : Version) where
     all_inside (context_and x xs) = inside x + all_inside xs
 
   mutual
-    said : (x : ContextTree) (n : ℕ) → inside x ≤ n → ContextFits version x → Says (nested (g.one_context version) n) (bare_context x) (context_words x)
+    said : (x : ContextTree) (n : ℕ) → inside x ≤ n → ContextFits edition x → Says (nested (g.one_context edition) n) (bare_context x) (context_words x)
     said (Context at x vars inner methods) zero h f = absurd (omega arith)
-    said (Context at x vars inner methods) (suc m) h f = one_says (nested (g.one_context version) m) at x vars inner methods (all_said inner m (omega arith) f.2) f
+    said (Context at x vars inner methods) (suc m) h f = one_says (nested (g.one_context edition) m) at x vars inner methods (all_said inner m (omega arith) f.2) f
 
-    all_said : (xs : ContextTrees) (n : ℕ) → all_inside xs ≤ n → ContextsFit version xs → Says (many (nested (g.one_context version) n)) (list_of (bare_contexts xs)) (contexts_words xs)
+    all_said : (xs : ContextTrees) (n : ℕ) → all_inside xs ≤ n → ContextsFit edition xs → Says (many (nested (g.one_context edition) n)) (list_of (bare_contexts xs)) (contexts_words xs)
     all_said no_contexts n h f = refl
     all_said (context_and x xs) n h f = (map plain (context_words x), map plain (contexts_words xs), map-append plain (context_words x) (contexts_words xs), said x n (omega arith) f.0, all_said xs n (omega arith) f.1)
 
-  context_says : (x : ContextTree) → ContextFits version x → Says (g.context version) (bare_context x) (context_words x)
+  context_says : (x : ContextTree) → ContextFits edition x → Says (g.context edition) (bare_context x) (context_words x)
   context_says x f = (inside x, said x (inside x) (omega arith) f)
 
--- ---- the service, in the version of its number
+-- ---- the service, in its version
 
-version_says : (n : ℕ) → (n ≡ 1) ⊎ (n ≡ 2) → Says w.version_number n (version_words n)
+version_says : (version : Version) → Says w.version_number version (version_words version)
 unfolding w.version_number
-version_says n (inl h) = subst (λ n. Says w.version_number n (version_words n)) (sym h) (None, [], [], refl, refl, (refl, refl))
-version_says n (inr h) = subst (λ n. Says w.version_number n (version_words n)) (sym h) (Some 2, plain (word.Number (pos 2)) ∷ [], [], refl, (plain (word.Number (pos 2)), refl, refl), (refl, refl))
+version_says First = (None, [], [], refl, refl, (refl, refl))
+version_says Second = (Some Second, plain (word.Number (pos 2)) ∷ [], [], refl, (plain (word.Number (pos 2)), refl, refl), (refl, refl))
 
 abbrev behind_version : ServiceTree → List Word
 behind_version t = word.Sign s.LeftBrace ∷ (all_of var_words t.vars ++ (all_of context_words t.contexts ++ (all_of method_words t.methods ++ (all_of event_words t.events ++ brace))))
 
-members_say : (t : ServiceTree) → MembersFit (numbered t.version) t → Says (g.members t.version nowhere (named t.name.text)) (bare_service t) (behind_version t)
+members_say : (t : ServiceTree) → MembersFit (edition_of t.version) t → Says (g.members t.version nowhere (named t.name.text)) (bare_service t) (behind_version t)
 unfolding g.members
 members_say t f =
-    let own : Version = numbered t.version in
+    let own : Edition = edition_of t.version in
     let events : List Word = all_of event_words t.events ++ brace in
     let methods : List Word = all_of method_words t.methods ++ events in
     let contexts : List Word = all_of context_words t.contexts ++ methods in (
@@ -365,6 +367,6 @@ service_says t f = (
     _,
     refl,
     name_says first t.name.text refl,
-    (t.version, map plain (version_words t.version), map plain (behind_version t), map-append plain (version_words t.version) (behind_version t), version_says t.version f.0, members_say t f.1),
+    (t.version, map plain (version_words t.version), map plain (behind_version t), map-append plain (version_words t.version) (behind_version t), version_says t.version, members_say t f),
   ),
 )

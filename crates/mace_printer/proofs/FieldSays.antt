@@ -15,7 +15,7 @@ use Rattle.mace_ast.specs.Exprs.{nowhere}
 use Rattle.mace_ast.specs.Decls.{bare_var, bare_param}
 use Rattle.mace_grammar.specs.Part.{many}
 use Rattle.mace_grammar.specs.Words as w
-use Rattle.mace_grammar.specs.Words.{Version}
+use Rattle.mace_grammar.specs.Words.{Edition}
 use Rattle.mace_grammar.specs.Fits.{Each, VarFits, ParamFits}
 use Rattle.mace_grammar.specs.Grammar as g
 use Rattle.mace_grammar.specs.Spelled.{plain}
@@ -41,8 +41,8 @@ initial_says (lit.Text bytes) = inl (plain (word.Text bytes), refl, refl)
 initial_says (lit.Bool b) = inl (plain (word.Key (boolean_key b)), refl, boolean_initial b)
 initial_says lit.Empty = inl (plain (word.Key k.Empty), refl, refl)
 
-module _ (version : Version) where
-  var_says : (v : VarDecl) → VarFits version v → Says (g.var version) (bare_var v) (var_words v)
+module _ (edition : Edition) where
+  var_says : (v : VarDecl) → VarFits edition v → Says (g.var edition) (bare_var v) (var_words v)
   var_says v f = (
     nowhere,
     plain (word.Key k.Var) ∷ [],
@@ -54,7 +54,7 @@ module _ (version : Version) where
       plain (word.Name v.name.text) ∷ [],
       _,
       refl,
-      name_says version v.name.text f,
+      name_says edition v.name.text f,
       (
         nowhere,
         plain (word.Sign s.Colon) ∷ [],
@@ -87,18 +87,18 @@ module _ (version : Version) where
     ),
   )
 
-  pub vars_say : (vs : List VarDecl) → Each (VarFits version) vs → Says (many (g.var version)) (map bare_var vs) (all_of var_words vs)
-  vars_say vs f = all_say (g.var version) bare_var var_words (VarFits version) var_says vs f
+  pub vars_say : (vs : List VarDecl) → Each (VarFits edition) vs → Says (many (g.var edition)) (map bare_var vs) (all_of var_words vs)
+  vars_say vs f = all_say (g.var edition) bare_var var_words (VarFits edition) var_says vs f
 
   -- ---- methods and events
 
-  param_says : (p : Param) → ParamFits version p → Says (g.param version) (bare_param p) (param_words p)
+  param_says : (p : Param) → ParamFits edition p → Says (g.param edition) (bare_param p) (param_words p)
   param_says p f = (
     named p.name.text,
     plain (word.Name p.name.text) ∷ [],
     _,
     refl,
-    name_says version p.name.text f,
+    name_says edition p.name.text f,
     (
       nowhere,
       plain (word.Sign s.Colon) ∷ [],
@@ -109,8 +109,8 @@ module _ (version : Version) where
     ),
   )
 
-  pub params_say : (ps : List Param) → Each (ParamFits version) ps → Says (g.params version) (map bare_param ps) (params_words ps)
-  params_say ps f = parens_say (g.param version) bare_param param_words (ParamFits version) param_says ps f
+  pub params_say : (ps : List Param) → Each (ParamFits edition) ps → Says (g.params edition) (map bare_param ps) (params_words ps)
+  params_say ps f = parens_say (g.param edition) bare_param param_words (ParamFits edition) param_says ps f
 
   pub result_says : (o : Option Kind) → Says g.result o (result_words o)
   result_says None = refl

@@ -11,7 +11,7 @@ use Rattle.mace_lexer.specs.Cuts.{Cuts, at_end, gap, spelled}
 use Rattle.mace_ast.specs.declared.name.Name.{Name}
 use Rattle.mace_grammar.specs.Part.{Part, pure, one, ◌>>=◌, ◌or◌, many, maybe, SpellsAll, SpellsMaybe, nested, deep}
 use Rattle.mace_grammar.specs.Words as w
-use Rattle.mace_grammar.specs.Words.{Version}
+use Rattle.mace_grammar.specs.Words.{Edition}
 use Rattle.mace_grammar.specs.Fits.{Each, IfThere, IsName}
 use Rattle.mace_grammar.specs.Grammar as g
 use Rattle.mace_printer.specs.Canon.{all_of, further, listed}
@@ -87,54 +87,54 @@ pub guarded : {A : Type 0} (b : Bool) (a : A) (o : A) → (if b then Some a else
 guarded true a o e = (refl, cc)
 guarded false a o e = cc
 
-module _ (version : Version) where
-  name_stands : (at : Span) (v : Word) (n : Name) → CanStand v → w.name_word version at v ≡ Some n → Named n
-  name_stands at (word.Name t) n h e = subst Named (guarded (version.is_name t) (record { at = at; text = t }) n e).1 h
+module _ (edition : Edition) where
+  name_stands : (at : Span) (v : Word) (n : Name) → CanStand v → w.name_word edition at v ≡ Some n → Named n
+  name_stands at (word.Name t) n h e = subst Named (guarded (edition.is_name t) (record { at = at; text = t }) n e).1 h
   name_stands at (word.Key j) n h e = cc
   name_stands at (word.Number z) n h e = cc
   name_stands at (word.Text t) n h e = cc
   name_stands at (word.Sign j) n h e = cc
 
-  pub name_holds : Holds Named (w.name version)
-  name_holds = word_holds Named (λ t. w.name_word version t.span t.word) (λ t n h e. name_stands t.span t.word n h e)
+  pub name_holds : Holds Named (w.name edition)
+  name_holds = word_holds Named (λ t. w.name_word edition t.span t.word) (λ t n h e. name_stands t.span t.word n h e)
 
-  pub field_holds : Holds Named (g.field version)
+  pub field_holds : Holds Named (g.field edition)
   field_holds = then_holds (any (w.sign s.Dot)) (λ _ _. name_holds)
 
   -- a name is one of the version
   abbrev pub Own : Name → Type 0
-  Own n = IsName version n.text
+  Own n = IsName edition n.text
 
-  name_own : (at : Span) (v : Word) (n : Name) → w.name_word version at v ≡ Some n → Own n
-  name_own at (word.Name t) n e = let both = guarded (version.is_name t) (record { at = at; text = t }) n e in subst Own both.1 both.0
+  name_own : (at : Span) (v : Word) (n : Name) → w.name_word edition at v ≡ Some n → Own n
+  name_own at (word.Name t) n e = let both = guarded (edition.is_name t) (record { at = at; text = t }) n e in subst Own both.1 both.0
   name_own at (word.Key j) n e = cc
   name_own at (word.Number z) n e = cc
   name_own at (word.Text t) n e = cc
   name_own at (word.Sign j) n e = cc
 
-  pub own_name : Holds Own (w.name version)
-  own_name = word_holds Own (λ t. w.name_word version t.span t.word) (λ t n h e. name_own t.span t.word n e)
+  pub own_name : Holds Own (w.name edition)
+  own_name = word_holds Own (λ t. w.name_word edition t.span t.word) (λ t n h e. name_own t.span t.word n e)
 
-  pub own_field : Holds Own (g.field version)
+  pub own_field : Holds Own (g.field edition)
   own_field = then_holds (any (w.sign s.Dot)) (λ _ _. own_name)
 
   -- `return` and `finish` as statements are words of version 2 alone, and `return` at the end of a method of version 1
-  early_if : (o : Option Span) (at : Span) → (if version.early then o else None) ≡ Some at → version.early ≡ true
-  early_if o at e = by version.early e
+  early_if : (o : Option Span) (at : Span) → (if edition.early then o else None) ≡ Some at → edition.early ≡ true
+  early_if o at e = by edition.early e
     where
       by : (b : Bool) → (if b then o else None) ≡ Some at → b ≡ true
       by true e = refl
       by false e = cc
 
-  late_if : (o : Option Span) (at : Span) → (if version.early then None else o) ≡ Some at → version.early ≡ false
-  late_if o at e = by version.early e
+  late_if : (o : Option Span) (at : Span) → (if edition.early then None else o) ≡ Some at → edition.early ≡ false
+  late_if o at e = by edition.early e
     where
       by : (b : Bool) → (if b then None else o) ≡ Some at → b ≡ false
       by true e = cc
       by false e = refl
 
-  finish_early : (at at' : Span) (v : Word) → w.finish_word version at v ≡ Some at' → version.early ≡ true
-  finish_early at at' (word.Name t) e = both version.early (w.is_finish t) (guarded (version.early && w.is_finish t) at at' e).0
+  finish_early : (at at' : Span) (v : Word) → w.finish_word edition at v ≡ Some at' → edition.early ≡ true
+  finish_early at at' (word.Name t) e = both edition.early (w.is_finish t) (guarded (edition.early && w.is_finish t) at at' e).0
     where
       both : (a b : Bool) → (a && b) ≡ true → a ≡ true
       both true b e = refl
@@ -144,14 +144,14 @@ module _ (version : Version) where
   finish_early at at' (word.Text t) e = cc
   finish_early at at' (word.Sign j) e = cc
 
-  pub leave_early : Holds (λ _. version.early ≡ true) (w.leave version)
-  leave_early = word_holds (λ _. version.early ≡ true) (λ t. w.leave_word version t.span t.word) (λ t at h e. early_if (w.key_word k.Return t.span t.word) at e)
+  pub leave_early : Holds (λ _. edition.early ≡ true) (w.leave edition)
+  leave_early = word_holds (λ _. edition.early ≡ true) (λ t. w.leave_word edition t.span t.word) (λ t at h e. early_if (w.key_word k.Return t.span t.word) at e)
 
-  pub finish_holds : Holds (λ _. version.early ≡ true) (w.finish version)
-  finish_holds = word_holds (λ _. version.early ≡ true) (λ t. w.finish_word version t.span t.word) (λ t at h e. finish_early t.span at t.word e)
+  pub finish_holds : Holds (λ _. edition.early ≡ true) (w.finish edition)
+  finish_holds = word_holds (λ _. edition.early ≡ true) (λ t. w.finish_word edition t.span t.word) (λ t at h e. finish_early t.span at t.word e)
 
-  pub end_late : Holds (λ _. version.early ≡ false) (w.end version)
-  end_late = word_holds (λ _. version.early ≡ false) (λ t. w.end_word version t.span t.word) (λ t at h e. late_if (w.key_word k.Return t.span t.word) at e)
+  pub end_late : Holds (λ _. edition.early ≡ false) (w.end edition)
+  end_late = word_holds (λ _. edition.early ≡ false) (λ t. w.end_word edition t.span t.word) (λ t at h e. late_if (w.key_word k.Return t.span t.word) at e)
 
 -- ---- lists
 

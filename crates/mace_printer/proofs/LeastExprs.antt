@@ -15,7 +15,7 @@ use Rattle.mace_ast.specs.Exprs as e
 use Rattle.mace_ast.specs.Exprs.{ExprTree, exprs_of, place_of}
 use Rattle.mace_grammar.specs.Part.{Part, ◌>>◌, SpellsAll, SpellsMaybe, nested}
 use Rattle.mace_grammar.specs.Words as w
-use Rattle.mace_grammar.specs.Words.{Version}
+use Rattle.mace_grammar.specs.Words.{Edition}
 use Rattle.mace_grammar.specs.Grammar as g
 use Rattle.mace_printer.specs.Canon as c
 use Rattle.mace_printer.specs.Canon.{expr_words, args_words, more_words, in_parens, level_of, left_level_of, sign_of, whole_words}
@@ -219,41 +219,41 @@ literal_one at (word.Sign j) a q = cc
 literal_least : Least w.literal (λ a. length (expr_words a 5))
 literal_least a ts h = omega (arith, literal_one h.0.span h.0.word a h.2, ap length h.1)
 
-module _ (version : Version) where
-  pub field_least : (x : Name) (ts : List Token) → (g.field version).Spells x ts → length ts ≡ 2
+module _ (edition : Edition) where
+  pub field_least : (x : Name) (ts : List Token) → (g.field edition).Spells x ts → length ts ≡ 2
   field_least x ts h =
       let (at, f1, b1, e1, k1, r1) = h in
       omega (arith, length-append {A = Token}, ap length e1, ap length k1.1, ap length r1.1)
 
   -- where expressions of the tightest level are so spelled, others are too
   module _ (u : Part ExprTree) (least : Least u (λ a. length (expr_words a 5))) where
-    product_least : Least (g.product version u) (λ a. length (expr_words a 4))
+    product_least : Least (g.product edition u) (λ a. length (expr_words a 4))
     product_least = chain_least u w.product_op 4 product_fits least
 
-    sum_least : Least (g.sum version u) (λ a. length (expr_words a 3))
-    sum_least = chain_least (g.product version u) w.sum_op 3 sum_fits product_least
+    sum_least : Least (g.sum edition u) (λ a. length (expr_words a 3))
+    sum_least = chain_least (g.product edition u) w.sum_op 3 sum_fits product_least
 
-    compared_least : (left : ExprTree) (right : Option (BinaryOp × ExprTree)) (ts : List Token) → SpellsMaybe (g.operand (w.operator w.comparison_op) (g.sum version u)) right ts → length (expr_words (g.compared left right) 2) ≤ length (expr_words left 3) + length ts
+    compared_least : (left : ExprTree) (right : Option (BinaryOp × ExprTree)) (ts : List Token) → SpellsMaybe (g.operand (w.operator w.comparison_op) (g.sum edition u)) right ts → length (expr_words (g.compared left right) 2) ≤ length (expr_words left 3) + length ts
     compared_least left None ts h = omega (arith, looser left 2 3 (omega arith))
-    compared_least left (Some x) ts h = joined_least (g.sum version u) w.comparison_op 2 3 comparison_fits sum_least left x ts h
+    compared_least left (Some x) ts h = joined_least (g.sum edition u) w.comparison_op 2 3 comparison_fits sum_least left x ts h
 
-    comparison_least : Least (g.comparison version u) (λ a. length (expr_words a 2))
+    comparison_least : Least (g.comparison edition u) (λ a. length (expr_words a 2))
     comparison_least a ts h =
         let (left, f1, b1, e1, k1, r1) = h in
         let (right, f2, b2, e2, k2, r2) = r1 in
         subst (λ a. length (expr_words a 2) ≤ length ts) (sym r2.0)
         (omega (arith, sum_least left f1 k1, compared_least left right f2 k2, length-append {A = Token}, ap length e1, ap length e2))
 
-    conjunction_least : Least (g.conjunction version u) (λ a. length (expr_words a 1))
-    conjunction_least = chain_least (g.comparison version u) w.and_op 1 and_fits comparison_least
+    conjunction_least : Least (g.conjunction edition u) (λ a. length (expr_words a 1))
+    conjunction_least = chain_least (g.comparison edition u) w.and_op 1 and_fits comparison_least
 
-    pub expr_least : Least (g.expr version u) (λ a. length (whole_words a))
-    expr_least = chain_least (g.conjunction version u) w.or_op 0 or_fits conjunction_least
+    pub expr_least : Least (g.expr edition u) (λ a. length (whole_words a))
+    expr_least = chain_least (g.conjunction edition u) w.or_op 0 or_fits conjunction_least
 
-    pub arguments_least : Least (g.arguments version u) (λ xs. 2 + length (c.listed whole_words xs))
-    arguments_least = parens_least (g.expr version u) whole_words expr_least
+    pub arguments_least : Least (g.arguments edition u) (λ xs. 2 + length (c.listed whole_words xs))
+    arguments_least = parens_least (g.expr edition u) whole_words expr_least
 
-    pub bracketed_least : Least (g.bracketed version u) (λ a. 2 + length (whole_words a))
+    pub bracketed_least : Least (g.bracketed edition u) (λ a. 2 + length (whole_words a))
     bracketed_least a ts h =
         let (x1, f1, b1, e1, k1, r1) = h in
         let (x2, f2, b2, e2, k2, r2) = r1 in
@@ -261,7 +261,7 @@ module _ (version : Version) where
         subst (λ a. 2 + length (whole_words a) ≤ length ts) (sym r3.0)
         (omega (arith, closed, length-append {A = Word}, length-append {A = Token}, ap length e1, ap length k1.1, ap length e2, expr_least x2 f2 k2, ap length e3, ap length k3.1, ap length r3.1))
 
-    parenthesized_least : Least (g.parenthesized version u) (λ a. length (expr_words a 5))
+    parenthesized_least : Least (g.parenthesized edition u) (λ a. length (expr_words a 5))
     parenthesized_least a ts h =
         let (x1, f1, b1, e1, k1, r1) = h in
         let (x2, f2, b2, e2, k2, r2) = r1 in
@@ -269,34 +269,34 @@ module _ (version : Version) where
         subst (λ a. length (expr_words a 5) ≤ length ts) (sym r3.0)
         (omega (arith, closed, length-append {A = Word}, length-append {A = Token}, ap length e1, ap length k1.1, ap length e2, expr_least x2 f2 k2, ap length e3, ap length k3.1, ap length r3.1, loosened x2))
 
-    read_least : Least (g.read version u) (λ a. length (expr_words a 5))
+    read_least : Least (g.read edition u) (λ a. length (expr_words a 5))
     read_least a ts h =
         let (x1, f1, b1, e1, k1, r1) = h in
         subst (λ a. length (expr_words a 5) ≤ length ts) (sym r1.0)
         (omega (arith, closed, length-append {A = Word}, length-append {A = Token}, ap length e1, ap length k1.1, ap length r1.1))
 
-    above_least : Least (g.above version u) (λ a. length (expr_words a 5))
+    above_least : Least (g.above edition u) (λ a. length (expr_words a 5))
     above_least a ts h =
         let (x1, f1, b1, e1, k1, r1) = h in
         let (x2, f2, b2, e2, k2, r2) = r1 in
         subst (λ a. length (expr_words a 5) ≤ length ts) (sym r2.0)
         (omega (arith, closed, length-append {A = Word}, length-append {A = Token}, ap length e1, ap length k1.1, ap length e2, field_least x2 f2 k2, ap length r2.1))
 
-    call_least : Least (g.call version u) (λ a. length (expr_words a 5))
+    call_least : Least (g.call edition u) (λ a. length (expr_words a 5))
     call_least a ts h =
         let (x1, f1, b1, e1, k1, r1) = h in
         let (x2, f2, b2, e2, k2, r2) = r1 in
         subst (λ a. length (expr_words a 5) ≤ length ts) (sym r2.0)
         (omega (arith, closed, length-append {A = Word}, length-append {A = Token}, ap length e1, ap length k1.1, ap length e2, arguments_least x2 f2 k2, ap length r2.1, ap length (args_same x2)))
 
-    index_least : Least (g.index version u) (λ a. length (expr_words a 5))
+    index_least : Least (g.index edition u) (λ a. length (expr_words a 5))
     index_least a ts h =
         let (x1, f1, b1, e1, k1, r1) = h in
         let (x2, f2, b2, e2, k2, r2) = r1 in
         subst (λ a. length (expr_words a 5) ≤ length ts) (sym r2.0)
         (omega (arith, closed, length-append {A = Word}, length-append {A = Token}, ap length e1, ap length k1.1, ap length e2, bracketed_least x2 f2 k2, ap length r2.1))
 
-    above_index_least : Least (g.above_index version u) (λ a. length (expr_words a 5))
+    above_index_least : Least (g.above_index edition u) (λ a. length (expr_words a 5))
     above_index_least a ts h =
         let (x1, f1, b1, e1, k1, r1) = h in
         let (x2, f2, b2, e2, k2, r2) = r1 in
@@ -304,7 +304,7 @@ module _ (version : Version) where
         subst (λ a. length (expr_words a 5) ≤ length ts) (sym r3.0)
         (omega (arith, closed, length-append {A = Word}, length-append {A = Token}, ap length e1, ap length k1.1, ap length e2, field_least x2 f2 k2, ap length e3, bracketed_least x3 f3 k3, ap length r3.1))
 
-    child_call_least : Least (g.child_call version u) (λ a. length (expr_words a 5))
+    child_call_least : Least (g.child_call edition u) (λ a. length (expr_words a 5))
     child_call_least a ts h =
         let (x1, f1, b1, e1, k1, r1) = h in
         let (x2, f2, b2, e2, k2, r2) = r1 in
@@ -313,14 +313,14 @@ module _ (version : Version) where
         subst (λ a. length (expr_words a 5) ≤ length ts) (sym r4.0)
         (omega (arith, closed, length-append {A = Word}, length-append {A = Token}, ap length e1, ap length k1.1, ap length e2, bracketed_least x2 f2 k2, ap length e3, field_least x3 f3 k3, ap length e4, arguments_least x4 f4 k4, ap length r4.1, ap length (args_same x4)))
 
-    signed_least : Least (g.signed version u) (λ a. length (expr_words a 5))
+    signed_least : Least (g.signed edition u) (λ a. length (expr_words a 5))
     signed_least a ts h =
         let (x1, f1, b1, e1, k1, r1) = h in
         let (x2, f2, b2, e2, k2, r2) = r1 in
         subst (λ a. length (expr_words a 5) ≤ length ts) (sym r2.0)
         (omega (arith, closed, length-append {A = Word}, length-append {A = Token}, ap length e1, ap length k1.1, ap length e2, least x2 f2 k2, ap length r2.1))
 
-    unary_or_primary : Least (g.signed_or_primary version u) (λ a. length (expr_words a 5))
+    unary_or_primary : Least (g.signed_or_primary edition u) (λ a. length (expr_words a 5))
     unary_or_primary a ts (inl h) = signed_least a ts h
     unary_or_primary a ts (inr (inl h)) = literal_least a ts h
     unary_or_primary a ts (inr (inr (inl h))) = parenthesized_least a ts h
@@ -331,21 +331,21 @@ module _ (version : Version) where
     unary_or_primary a ts (inr (inr (inr (inr (inr (inr (inr (inl h)))))))) = above_index_least a ts h
     unary_or_primary a ts (inr (inr (inr (inr (inr (inr (inr (inr h)))))))) = child_call_least a ts h
 
-  nested_least : (n : ℕ) → Least (nested (g.signed_or_primary version) n) (λ a. length (expr_words a 5))
+  nested_least : (n : ℕ) → Least (nested (g.signed_or_primary edition) n) (λ a. length (expr_words a 5))
   nested_least zero a ts h = absurd h
-  nested_least (suc n) a ts h = unary_or_primary (nested (g.signed_or_primary version) n) (nested_least n) a ts h
+  nested_least (suc n) a ts h = unary_or_primary (nested (g.signed_or_primary edition) n) (nested_least n) a ts h
 
-  unary_least : Least (g.unary version) (λ a. length (expr_words a 5))
+  unary_least : Least (g.unary edition) (λ a. length (expr_words a 5))
   unary_least a ts h = nested_least h.0 a ts h.1
 
-  pub any_expr_least : Least (g.any_expr version) (λ a. length (whole_words a))
+  pub any_expr_least : Least (g.any_expr edition) (λ a. length (whole_words a))
   unfolding g.any_expr
-  any_expr_least = expr_least (g.unary version) unary_least
+  any_expr_least = expr_least (g.unary edition) unary_least
 
-  pub any_arguments_least : Least (g.any_arguments version) (λ xs. 2 + length (c.listed whole_words xs))
+  pub any_arguments_least : Least (g.any_arguments edition) (λ xs. 2 + length (c.listed whole_words xs))
   unfolding g.any_arguments
-  any_arguments_least = arguments_least (g.unary version) unary_least
+  any_arguments_least = arguments_least (g.unary edition) unary_least
 
-  pub any_key_least : Least (g.any_key version) (λ a. 2 + length (whole_words a))
+  pub any_key_least : Least (g.any_key edition) (λ a. 2 + length (whole_words a))
   unfolding g.any_key
-  any_key_least = bracketed_least (g.unary version) unary_least
+  any_key_least = bracketed_least (g.unary edition) unary_least

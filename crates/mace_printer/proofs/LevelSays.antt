@@ -13,13 +13,13 @@ use Rattle.mace_ast.specs.Exprs as e
 use Rattle.mace_ast.specs.Exprs.{ExprTree, bare_expr, place_of, nowhere}
 use Rattle.mace_grammar.specs.Part.{Part, SpellsAll}
 use Rattle.mace_grammar.specs.Words as w
-use Rattle.mace_grammar.specs.Words.{Version}
+use Rattle.mace_grammar.specs.Words.{Edition}
 use Rattle.mace_grammar.specs.Grammar as g
 use Rattle.mace_grammar.specs.Spelled.{plain}
 use Rattle.mace_printer.specs.Canon.{expr_words, in_parens, level_of, left_level_of, sign_of}
 use Rattle.mace_printer.proofs.Says.{Says}
 
-module _ (version : Version) where
+module _ (edition : Edition) where
   place_bare : (t : ExprTree) → place_of (bare_expr t) ≡ nowhere
   place_bare (e.Number at n) = refl
   place_bare (e.Text at b) = refl
@@ -84,7 +84,7 @@ module _ (version : Version) where
       (subst (λ at. (g.chain item (w.operator f)).Spells (e.Binary at o (bare_expr a) (bare_expr b)) (x ++ (plain (word.Sign (sign_of o)) ∷ z))) (place_bare a)
       (chain_more item (w.operator f) (bare_expr a) o (bare_expr b) x (plain (word.Sign (sign_of o)) ∷ []) z ha (operator_says f o fits) hb))
 
-  compare : (u : Part ExprTree) (o : BinaryOp) (a b : ExprTree) → w.comparison_op (sign_of o) ≡ Some o → Says (g.sum version u) (bare_expr a) (expr_words a (left_level_of o)) → Says (g.sum version u) (bare_expr b) (expr_words b (level_of o + 1)) → Says (g.comparison version u) (joined o a b) (own_words o a b)
+  compare : (u : Part ExprTree) (o : BinaryOp) (a b : ExprTree) → w.comparison_op (sign_of o) ≡ Some o → Says (g.sum edition u) (bare_expr a) (expr_words a (left_level_of o)) → Says (g.sum edition u) (bare_expr b) (expr_words b (level_of o + 1)) → Says (g.comparison edition u) (joined o a b) (own_words o a b)
   compare u o a b fits ha hb =
       let z = map plain (expr_words b (level_of o + 1)) in (
         bare_expr a,
@@ -102,44 +102,44 @@ module _ (version : Version) where
         ),
       )
 
-  one_sum : (u : Part ExprTree) (t : ExprTree) (ws : List Word) → Says (g.sum version u) t ws → Says (g.comparison version u) t ws
+  one_sum : (u : Part ExprTree) (t : ExprTree) (ws : List Word) → Says (g.sum edition u) t ws → Says (g.comparison edition u) t ws
   one_sum u t ws h = (t, map plain ws, [], sym (append-nil (map plain ws)), h, (None, [], [], refl, refl, (refl, refl)))
 
   -- ---- the levels
 
   pub record Levels (u : Part ExprTree) (t : ExprTree) : Type 0 where
-    pub expr : Says (g.expr version u) (bare_expr t) (expr_words t 0)
-    pub conjunction : Says (g.conjunction version u) (bare_expr t) (expr_words t 1)
-    pub comparison : Says (g.comparison version u) (bare_expr t) (expr_words t 2)
-    pub sum : Says (g.sum version u) (bare_expr t) (expr_words t 3)
-    pub product : Says (g.product version u) (bare_expr t) (expr_words t 4)
+    pub expr : Says (g.expr edition u) (bare_expr t) (expr_words t 0)
+    pub conjunction : Says (g.conjunction edition u) (bare_expr t) (expr_words t 1)
+    pub comparison : Says (g.comparison edition u) (bare_expr t) (expr_words t 2)
+    pub sum : Says (g.sum edition u) (bare_expr t) (expr_words t 3)
+    pub product : Says (g.product edition u) (bare_expr t) (expr_words t 4)
     pub unary : Says u (bare_expr t) (expr_words t 5)
 
   module _ (u : Part ExprTree) (t : ExprTree) (ws : List Word) where
-    up_product : Says u t ws → Says (g.product version u) t ws
+    up_product : Says u t ws → Says (g.product edition u) t ws
     up_product h = chain_one u (w.operator w.product_op) t ws h
 
-    up_sum : Says (g.product version u) t ws → Says (g.sum version u) t ws
-    up_sum h = chain_one (g.product version u) (w.operator w.sum_op) t ws h
+    up_sum : Says (g.product edition u) t ws → Says (g.sum edition u) t ws
+    up_sum h = chain_one (g.product edition u) (w.operator w.sum_op) t ws h
 
-    up_conjunction : Says (g.comparison version u) t ws → Says (g.conjunction version u) t ws
-    up_conjunction h = chain_one (g.comparison version u) (w.operator w.and_op) t ws h
+    up_conjunction : Says (g.comparison edition u) t ws → Says (g.conjunction edition u) t ws
+    up_conjunction h = chain_one (g.comparison edition u) (w.operator w.and_op) t ws h
 
-    up_expr : Says (g.conjunction version u) t ws → Says (g.expr version u) t ws
-    up_expr h = chain_one (g.conjunction version u) (w.operator w.or_op) t ws h
+    up_expr : Says (g.conjunction edition u) t ws → Says (g.expr edition u) t ws
+    up_expr h = chain_one (g.conjunction edition u) (w.operator w.or_op) t ws h
 
   -- what is no binary node has the same words at each level
   module _ (u : Part ExprTree) (t : ExprTree) (ws : List Word) (h : Says u (bare_expr t) ws) where
-    of_sum : Says (g.sum version u) (bare_expr t) ws
+    of_sum : Says (g.sum edition u) (bare_expr t) ws
     of_sum = up_sum u (bare_expr t) ws (up_product u (bare_expr t) ws h)
 
-    of_comparison : Says (g.comparison version u) (bare_expr t) ws
+    of_comparison : Says (g.comparison edition u) (bare_expr t) ws
     of_comparison = one_sum u (bare_expr t) ws of_sum
 
-    of_conjunction : Says (g.conjunction version u) (bare_expr t) ws
+    of_conjunction : Says (g.conjunction edition u) (bare_expr t) ws
     of_conjunction = up_conjunction u (bare_expr t) ws of_comparison
 
-    of_expr : Says (g.expr version u) (bare_expr t) ws
+    of_expr : Says (g.expr edition u) (bare_expr t) ws
     of_expr = up_expr u (bare_expr t) ws of_conjunction
 
     pub atom : ((l : ℕ) → expr_words t l ≡ ws) → Levels u t
@@ -153,49 +153,49 @@ module _ (version : Version) where
     }
 
   abbrev pub level_part : Part ExprTree → BinaryOp → Part ExprTree
-  level_part u op.Or = (g.expr version) u
-  level_part u op.And = (g.conjunction version) u
-  level_part u op.Eq = (g.comparison version) u
-  level_part u op.Ne = (g.comparison version) u
-  level_part u op.Lt = (g.comparison version) u
-  level_part u op.Le = (g.comparison version) u
-  level_part u op.Gt = (g.comparison version) u
-  level_part u op.Ge = (g.comparison version) u
-  level_part u op.Add = (g.sum version) u
-  level_part u op.Sub = (g.sum version) u
-  level_part u op.Mul = (g.product version) u
-  level_part u op.Div = (g.product version) u
-  level_part u op.Rem = (g.product version) u
+  level_part u op.Or = (g.expr edition) u
+  level_part u op.And = (g.conjunction edition) u
+  level_part u op.Eq = (g.comparison edition) u
+  level_part u op.Ne = (g.comparison edition) u
+  level_part u op.Lt = (g.comparison edition) u
+  level_part u op.Le = (g.comparison edition) u
+  level_part u op.Gt = (g.comparison edition) u
+  level_part u op.Ge = (g.comparison edition) u
+  level_part u op.Add = (g.sum edition) u
+  level_part u op.Sub = (g.sum edition) u
+  level_part u op.Mul = (g.product edition) u
+  level_part u op.Div = (g.product edition) u
+  level_part u op.Rem = (g.product edition) u
 
   pub own : (u : Part ExprTree) (o : BinaryOp) (a b : ExprTree) → Levels u a → Levels u b → Says (level_part u o) (joined o a b) (own_words o a b)
-  own u op.Or a b A B = more (g.conjunction version u) w.or_op op.Or a b refl A.expr B.conjunction
-  own u op.And a b A B = more (g.comparison version u) w.and_op op.And a b refl A.conjunction B.comparison
+  own u op.Or a b A B = more (g.conjunction edition u) w.or_op op.Or a b refl A.expr B.conjunction
+  own u op.And a b A B = more (g.comparison edition u) w.and_op op.And a b refl A.conjunction B.comparison
   own u op.Eq a b A B = compare u op.Eq a b refl A.sum B.sum
   own u op.Ne a b A B = compare u op.Ne a b refl A.sum B.sum
   own u op.Lt a b A B = compare u op.Lt a b refl A.sum B.sum
   own u op.Le a b A B = compare u op.Le a b refl A.sum B.sum
   own u op.Gt a b A B = compare u op.Gt a b refl A.sum B.sum
   own u op.Ge a b A B = compare u op.Ge a b refl A.sum B.sum
-  own u op.Add a b A B = more (g.product version u) w.sum_op op.Add a b refl A.sum B.product
-  own u op.Sub a b A B = more (g.product version u) w.sum_op op.Sub a b refl A.sum B.product
+  own u op.Add a b A B = more (g.product edition u) w.sum_op op.Add a b refl A.sum B.product
+  own u op.Sub a b A B = more (g.product edition u) w.sum_op op.Sub a b refl A.sum B.product
   own u op.Mul a b A B = more u w.product_op op.Mul a b refl A.product B.unary
   own u op.Div a b A B = more u w.product_op op.Div a b refl A.product B.unary
   own u op.Rem a b A B = more u w.product_op op.Rem a b refl A.product B.unary
 
   module _ (u : Part ExprTree) (t : ExprTree) (ws : List Word) where
-    from_conjunction : Says (g.conjunction version u) t ws → Says (g.expr version u) t ws
+    from_conjunction : Says (g.conjunction edition u) t ws → Says (g.expr edition u) t ws
     from_conjunction h = up_expr u t ws h
 
-    from_comparison : Says (g.comparison version u) t ws → Says (g.expr version u) t ws
+    from_comparison : Says (g.comparison edition u) t ws → Says (g.expr edition u) t ws
     from_comparison h = from_conjunction (up_conjunction u t ws h)
 
-    from_sum : Says (g.sum version u) t ws → Says (g.expr version u) t ws
+    from_sum : Says (g.sum edition u) t ws → Says (g.expr edition u) t ws
     from_sum h = from_comparison (one_sum u t ws h)
 
-    from_product : Says (g.product version u) t ws → Says (g.expr version u) t ws
+    from_product : Says (g.product edition u) t ws → Says (g.expr edition u) t ws
     from_product h = from_sum (up_sum u t ws h)
 
-  pub as_expr : (u : Part ExprTree) (o : BinaryOp) (t : ExprTree) (ws : List Word) → Says (level_part u o) t ws → Says (g.expr version u) t ws
+  pub as_expr : (u : Part ExprTree) (o : BinaryOp) (t : ExprTree) (ws : List Word) → Says (level_part u o) t ws → Says (g.expr edition u) t ws
   as_expr u op.Or t ws h = h
   as_expr u op.And t ws h = from_conjunction u t ws h
   as_expr u op.Eq t ws h = from_comparison u t ws h
@@ -212,7 +212,7 @@ module _ (version : Version) where
 
   -- a binary node: at and above its own level as it is, below in parentheses
   module _ (u : Part ExprTree) (t : ExprTree) (ws pw : List Word) (p : Says u (bare_expr t) pw) where
-    at_or : (expr_words t 0 ≡ ws) → (expr_words t 1 ≡ pw) → (expr_words t 2 ≡ pw) → (expr_words t 3 ≡ pw) → (expr_words t 4 ≡ pw) → (expr_words t 5 ≡ pw) → Says (g.expr version u) (bare_expr t) ws → Levels u t
+    at_or : (expr_words t 0 ≡ ws) → (expr_words t 1 ≡ pw) → (expr_words t 2 ≡ pw) → (expr_words t 3 ≡ pw) → (expr_words t 4 ≡ pw) → (expr_words t 5 ≡ pw) → Says (g.expr edition u) (bare_expr t) ws → Levels u t
     at_or e0 e1 e2 e3 e4 e5 h = record {
       expr = rw e0 h;
       conjunction = rw e1 (of_conjunction u t pw p);
@@ -222,7 +222,7 @@ module _ (version : Version) where
       unary = rw e5 p;
     }
 
-    at_and : (expr_words t 0 ≡ ws) → (expr_words t 1 ≡ ws) → (expr_words t 2 ≡ pw) → (expr_words t 3 ≡ pw) → (expr_words t 4 ≡ pw) → (expr_words t 5 ≡ pw) → Says (g.conjunction version u) (bare_expr t) ws → Levels u t
+    at_and : (expr_words t 0 ≡ ws) → (expr_words t 1 ≡ ws) → (expr_words t 2 ≡ pw) → (expr_words t 3 ≡ pw) → (expr_words t 4 ≡ pw) → (expr_words t 5 ≡ pw) → Says (g.conjunction edition u) (bare_expr t) ws → Levels u t
     at_and e0 e1 e2 e3 e4 e5 h = record {
       expr = rw e0 (from_conjunction u (bare_expr t) ws h);
       conjunction = rw e1 h;
@@ -232,7 +232,7 @@ module _ (version : Version) where
       unary = rw e5 p;
     }
 
-    at_comparison : (expr_words t 0 ≡ ws) → (expr_words t 1 ≡ ws) → (expr_words t 2 ≡ ws) → (expr_words t 3 ≡ pw) → (expr_words t 4 ≡ pw) → (expr_words t 5 ≡ pw) → Says (g.comparison version u) (bare_expr t) ws → Levels u t
+    at_comparison : (expr_words t 0 ≡ ws) → (expr_words t 1 ≡ ws) → (expr_words t 2 ≡ ws) → (expr_words t 3 ≡ pw) → (expr_words t 4 ≡ pw) → (expr_words t 5 ≡ pw) → Says (g.comparison edition u) (bare_expr t) ws → Levels u t
     at_comparison e0 e1 e2 e3 e4 e5 h = record {
       expr = rw e0 (from_comparison u (bare_expr t) ws h);
       conjunction = rw e1 (up_conjunction u (bare_expr t) ws h);
@@ -242,7 +242,7 @@ module _ (version : Version) where
       unary = rw e5 p;
     }
 
-    at_sum : (expr_words t 0 ≡ ws) → (expr_words t 1 ≡ ws) → (expr_words t 2 ≡ ws) → (expr_words t 3 ≡ ws) → (expr_words t 4 ≡ pw) → (expr_words t 5 ≡ pw) → Says (g.sum version u) (bare_expr t) ws → Levels u t
+    at_sum : (expr_words t 0 ≡ ws) → (expr_words t 1 ≡ ws) → (expr_words t 2 ≡ ws) → (expr_words t 3 ≡ ws) → (expr_words t 4 ≡ pw) → (expr_words t 5 ≡ pw) → Says (g.sum edition u) (bare_expr t) ws → Levels u t
     at_sum e0 e1 e2 e3 e4 e5 h = record {
       expr = rw e0 (from_sum u (bare_expr t) ws h);
       conjunction = rw e1 (up_conjunction u (bare_expr t) ws (one_sum u (bare_expr t) ws h));
@@ -252,7 +252,7 @@ module _ (version : Version) where
       unary = rw e5 p;
     }
 
-    at_product : (expr_words t 0 ≡ ws) → (expr_words t 1 ≡ ws) → (expr_words t 2 ≡ ws) → (expr_words t 3 ≡ ws) → (expr_words t 4 ≡ ws) → (expr_words t 5 ≡ pw) → Says (g.product version u) (bare_expr t) ws → Levels u t
+    at_product : (expr_words t 0 ≡ ws) → (expr_words t 1 ≡ ws) → (expr_words t 2 ≡ ws) → (expr_words t 3 ≡ ws) → (expr_words t 4 ≡ ws) → (expr_words t 5 ≡ pw) → Says (g.product edition u) (bare_expr t) ws → Levels u t
     at_product e0 e1 e2 e3 e4 e5 h = record {
       expr = rw e0 (from_product u (bare_expr t) ws h);
       conjunction = rw e1 (up_conjunction u (bare_expr t) ws (one_sum u (bare_expr t) ws (up_sum u (bare_expr t) ws h)));

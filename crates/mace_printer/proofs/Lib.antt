@@ -1,4 +1,5 @@
 pub mod Arms
+pub mod Counts
 pub mod DeclSays
 pub mod ExprSays
 pub mod FieldSays

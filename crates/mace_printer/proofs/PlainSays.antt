@@ -12,7 +12,7 @@ use Rattle.mace_ast.specs.Stmts as st
 use Rattle.mace_ast.specs.Stmts.{bare_stmt}
 use Rattle.mace_grammar.specs.Part.{maybe}
 use Rattle.mace_grammar.specs.Words as w
-use Rattle.mace_grammar.specs.Words.{Version}
+use Rattle.mace_grammar.specs.Words.{Edition}
 use Rattle.mace_grammar.specs.Fits.{IsName, Each, IfThere, ExprFits, EndFits}
 use Rattle.std.specs.Prelude.{codes}
 use Rattle.std.specs.Option.{option_map}
@@ -39,10 +39,10 @@ semicolon_says = sign_says s.Semicolon
 abbrev paren_words : List ExprTree → List Word
 paren_words args = word.Sign s.LeftParen ∷ (listed whole_words args ++ (word.Sign s.RightParen ∷ []))
 
-module _ (version : Version) where
+module _ (edition : Edition) where
   -- ---- statements without a block
 
-  pub let_says : (at : Span) (x : Name) (value : ExprTree) → IsName version x.text → ExprFits version value → Says (g.let_stmt version) (bare_stmt (st.Let at x value)) (stmt_words (st.Let at x value))
+  pub let_says : (at : Span) (x : Name) (value : ExprTree) → IsName edition x.text → ExprFits edition value → Says (g.let_stmt edition) (bare_stmt (st.Let at x value)) (stmt_words (st.Let at x value))
   let_says at x value i f = (
     nowhere,
     plain (word.Key k.Let) ∷ [],
@@ -54,7 +54,7 @@ module _ (version : Version) where
       plain (word.Name x.text) ∷ [],
       _,
       refl,
-      name_says version x.text i,
+      name_says edition x.text i,
       (
         nowhere,
         plain (word.Sign s.Equals) ∷ [],
@@ -66,14 +66,14 @@ module _ (version : Version) where
           map plain (whole_words value),
           _,
           map-append plain (whole_words value) semicolon,
-          expr_says version value f,
+          expr_says edition value f,
           (nowhere, map plain semicolon, [], refl, semicolon_says, (refl, refl)),
         ),
       ),
     ),
   )
 
-  pub require_says : (at : Span) (test : ExprTree) → ExprFits version test → Says (g.require_stmt version) (bare_stmt (st.Require at test)) (stmt_words (st.Require at test))
+  pub require_says : (at : Span) (test : ExprTree) → ExprFits edition test → Says (g.require_stmt edition) (bare_stmt (st.Require at test)) (stmt_words (st.Require at test))
   require_says at test f = (
     nowhere,
     plain (word.Key k.Require) ∷ [],
@@ -85,12 +85,12 @@ module _ (version : Version) where
       map plain (whole_words test),
       _,
       map-append plain (whole_words test) semicolon,
-      expr_says version test f,
+      expr_says edition test f,
       (nowhere, map plain semicolon, [], refl, semicolon_says, (refl, refl)),
     ),
   )
 
-  pub send_says : (at : Span) (label : List ℕ) (value : ExprTree) → ExprFits version value → Says (g.send_stmt version) (bare_stmt (st.Send at label value)) (stmt_words (st.Send at label value))
+  pub send_says : (at : Span) (label : List ℕ) (value : ExprTree) → ExprFits edition value → Says (g.send_stmt edition) (bare_stmt (st.Send at label value)) (stmt_words (st.Send at label value))
   send_says at label value f = (
     nowhere,
     plain (word.Key k.Send) ∷ [],
@@ -114,14 +114,14 @@ module _ (version : Version) where
           map plain (whole_words value),
           _,
           map-append plain (whole_words value) semicolon,
-          expr_says version value f,
+          expr_says edition value f,
           (nowhere, map plain semicolon, [], refl, semicolon_says, (refl, refl)),
         ),
       ),
     ),
   )
 
-  pub spawn_says : (at : Span) (event : List ℕ) (args : List ExprTree) → IsName version event → Each (ExprFits version) args → Says (g.spawn_stmt version) (bare_stmt (st.Spawn at event args)) (stmt_words (st.Spawn at event args))
+  pub spawn_says : (at : Span) (event : List ℕ) (args : List ExprTree) → IsName edition event → Each (ExprFits edition) args → Says (g.spawn_stmt edition) (bare_stmt (st.Spawn at event args)) (stmt_words (st.Spawn at event args))
   spawn_says at event args i f = (
     nowhere,
     plain (word.Key k.Spawn) ∷ [],
@@ -133,60 +133,60 @@ module _ (version : Version) where
       plain (word.Name event) ∷ [],
       _,
       refl,
-      name_says version event i,
+      name_says edition event i,
       (
         map bare_expr args,
         map plain (paren_words args),
         _,
         map-append plain (paren_words args) semicolon,
-        any_arguments_say version args f,
+        any_arguments_say edition args f,
         (nowhere, map plain semicolon, [], refl, semicolon_says, (refl, refl)),
       ),
     ),
   )
 
-  pub call_says : (at : Span) (f : List ℕ) (args : List ExprTree) → IsName version f → Each (ExprFits version) args → Says (g.call_stmt version) (bare_stmt (st.Call at f args)) (stmt_words (st.Call at f args))
+  pub call_says : (at : Span) (f : List ℕ) (args : List ExprTree) → IsName edition f → Each (ExprFits edition) args → Says (g.call_stmt edition) (bare_stmt (st.Call at f args)) (stmt_words (st.Call at f args))
   call_says at f args i k = (
     named f,
     plain (word.Name f) ∷ [],
     _,
     refl,
-    name_says version f i,
+    name_says edition f i,
     (
       map bare_expr args,
       map plain (paren_words args),
       _,
       map-append plain (paren_words args) semicolon,
-      any_arguments_say version args k,
+      any_arguments_say edition args k,
       (nowhere, map plain semicolon, [], refl, semicolon_says, (refl, refl)),
     ),
   )
 
-  pub child_says : (at : Span) (c : List ℕ) (place : ExprTree) (f : List ℕ) (args : List ExprTree) → IsName version c → ExprFits version place → IsName version f → Each (ExprFits version) args → Says (g.child_call_stmt version) (bare_stmt (st.ChildCall at c place f args)) (stmt_words (st.ChildCall at c place f args))
+  pub child_says : (at : Span) (c : List ℕ) (place : ExprTree) (f : List ℕ) (args : List ExprTree) → IsName edition c → ExprFits edition place → IsName edition f → Each (ExprFits edition) args → Says (g.child_call_stmt edition) (bare_stmt (st.ChildCall at c place f args)) (stmt_words (st.ChildCall at c place f args))
   child_says at c place f args i p j k = (
     named c,
     plain (word.Name c) ∷ [],
     _,
     refl,
-    name_says version c i,
+    name_says edition c i,
     (
       bare_expr place,
       map plain (index_words place),
       _,
       map-append plain (index_words place) (word.Sign s.Dot ∷ (call_words f args ++ semicolon)),
-      any_key_says version place p,
+      any_key_says edition place p,
       (
         named f,
         map plain (word.Sign s.Dot ∷ word.Name f ∷ []),
         _,
         refl,
-        field_says version f j,
+        field_says edition f j,
         (
           map bare_expr args,
           map plain (paren_words args),
           _,
           map-append plain (paren_words args) semicolon,
-          any_arguments_say version args k,
+          any_arguments_say edition args k,
           (nowhere, map plain semicolon, [], refl, semicolon_says, (refl, refl)),
         ),
       ),
@@ -195,17 +195,17 @@ module _ (version : Version) where
 
   -- ---- statements that end a method or an event early
 
-  maybe_says : (value : Option ExprTree) → IfThere (ExprFits version) value → Says (maybe (g.any_expr version)) (option_map bare_expr value) (maybe_words value)
+  maybe_says : (value : Option ExprTree) → IfThere (ExprFits edition) value → Says (maybe (g.any_expr edition)) (option_map bare_expr value) (maybe_words value)
   maybe_says None f = refl
-  maybe_says (Some value) f = expr_says version value f
+  maybe_says (Some value) f = expr_says edition value f
 
-  pub return_says : (at : Span) (value : Option ExprTree) → EndFits version value → Says (g.return_stmt version) (bare_stmt (st.Return at value)) (stmt_words (st.Return at value))
+  pub return_says : (at : Span) (value : Option ExprTree) → EndFits edition value → Says (g.return_stmt edition) (bare_stmt (st.Return at value)) (stmt_words (st.Return at value))
   return_says at value f = (
     nowhere,
     plain (word.Key k.Return) ∷ [],
     _,
     refl,
-    leave_says version f.0,
+    leave_says edition f.0,
     (
       option_map bare_expr value,
       map plain (maybe_words value),
@@ -216,13 +216,13 @@ module _ (version : Version) where
     ),
   )
 
-  pub finish_stmt_says : (at : Span) (value : Option ExprTree) → EndFits version value → Says (g.finish_stmt version) (bare_stmt (st.Finish at value)) (stmt_words (st.Finish at value))
+  pub finish_stmt_says : (at : Span) (value : Option ExprTree) → EndFits edition value → Says (g.finish_stmt edition) (bare_stmt (st.Finish at value)) (stmt_words (st.Finish at value))
   finish_stmt_says at value f = (
     nowhere,
     plain (word.Name (codes "finish")) ∷ [],
     _,
     refl,
-    finish_says version f.0,
+    finish_says edition f.0,
     (
       option_map bare_expr value,
       map plain (maybe_words value),

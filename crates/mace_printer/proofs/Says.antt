@@ -17,7 +17,7 @@ use Rattle.mace_ast.specs.declared.name.Name.{Name}
 use Rattle.mace_ast.specs.Exprs.{nowhere}
 use Rattle.mace_grammar.specs.Part.{Part, ◌>>◌, many}
 use Rattle.mace_grammar.specs.Words as w
-use Rattle.mace_grammar.specs.Words.{Version}
+use Rattle.mace_grammar.specs.Words.{Edition}
 use Rattle.mace_grammar.specs.Fits.{IsName, Each}
 use Rattle.mace_grammar.specs.Grammar as g
 use Rattle.mace_grammar.specs.Spelled.{plain}
@@ -39,8 +39,8 @@ sign_says want = (plain (word.Sign want), refl, chosen (sign_code want) nowhere)
 abbrev pub named : List ℕ → Name
 named t = record { at = nowhere; text = t }
 
-pub name_says : (version : Version) (t : List ℕ) → IsName version t → Says (w.name version) (named t) (word.Name t ∷ [])
-name_says version t h = (plain (word.Name t), refl, ap (λ b. if b then Some (named t) else None) h)
+pub name_says : (edition : Edition) (t : List ℕ) → IsName edition t → Says (w.name edition) (named t) (word.Name t ∷ [])
+name_says edition t h = (plain (word.Name t), refl, ap (λ b. if b then Some (named t) else None) h)
 
 pub number_says : (n : ℤ) → Says w.number n (word.Number n ∷ [])
 number_says n = (plain (word.Number n), refl, refl)
@@ -57,18 +57,18 @@ kind_of_its_key kind.Map = refl
 pub type_says : (j : Kind) → Says w.type j (word.Key (kind_key j) ∷ [])
 type_says j = (plain (word.Key (kind_key j)), refl, kind_of_its_key j)
 
-pub field_says : (version : Version) (t : List ℕ) → IsName version t → Says (g.field version) (named t) (word.Sign s.Dot ∷ word.Name t ∷ [])
-field_says version t h = (nowhere, plain (word.Sign s.Dot) ∷ [], _, refl, sign_says s.Dot, name_says version t h)
+pub field_says : (edition : Edition) (t : List ℕ) → IsName edition t → Says (g.field edition) (named t) (word.Sign s.Dot ∷ word.Name t ∷ [])
+field_says edition t h = (nowhere, plain (word.Sign s.Dot) ∷ [], _, refl, sign_says s.Dot, name_says edition t h)
 
 -- the words that end a method or an event early
-pub end_says : (version : Version) → version.early ≡ false → Says (w.end version) nowhere (word.Key k.Return ∷ [])
-end_says version h = (plain (word.Key k.Return), refl, ap (λ b. if b then None else Some nowhere) h)
+pub end_says : (edition : Edition) → edition.early ≡ false → Says (w.end edition) nowhere (word.Key k.Return ∷ [])
+end_says edition h = (plain (word.Key k.Return), refl, ap (λ b. if b then None else Some nowhere) h)
 
-pub leave_says : (version : Version) → version.early ≡ true → Says (w.leave version) nowhere (word.Key k.Return ∷ [])
-leave_says version h = (plain (word.Key k.Return), refl, ap (λ b. if b then Some nowhere else None) h)
+pub leave_says : (edition : Edition) → edition.early ≡ true → Says (w.leave edition) nowhere (word.Key k.Return ∷ [])
+leave_says edition h = (plain (word.Key k.Return), refl, ap (λ b. if b then Some nowhere else None) h)
 
-pub finish_says : (version : Version) → version.early ≡ true → Says (w.finish version) nowhere (word.Name (codes "finish") ∷ [])
-finish_says version h = (plain (word.Name (codes "finish")), refl, ap (λ b. if b && true then Some nowhere else None) h)
+pub finish_says : (edition : Edition) → edition.early ≡ true → Says (w.finish edition) nowhere (word.Name (codes "finish") ∷ [])
+finish_says edition h = (plain (word.Name (codes "finish")), refl, ap (λ b. if b && true then Some nowhere else None) h)
 
 -- ---- lists
 

@@ -11,7 +11,7 @@ use Rattle.mace_ast.specs.declared.stmt.Target.{Target}
 use Rattle.mace_ast.specs.Exprs.{ExprTree, bare_expr, nowhere}
 use Rattle.mace_ast.specs.Stmts as st
 use Rattle.mace_ast.specs.Stmts.{bare_stmt}
-use Rattle.mace_grammar.specs.Words.{Version}
+use Rattle.mace_grammar.specs.Words.{Edition}
 use Rattle.mace_grammar.specs.Fits.{IsName, IfThere, ExprFits}
 use Rattle.mace_grammar.specs.Grammar as g
 use Rattle.mace_grammar.specs.Spelled.{plain}
@@ -20,11 +20,11 @@ use Rattle.mace_printer.proofs.Says.{Says, key_says, sign_says, named, name_says
 use Rattle.mace_printer.proofs.ExprSays.{expr_says, any_key_says}
 use Rattle.mace_printer.proofs.PlainSays.{semicolon, semicolon_says}
 
-module _ (version : Version) where
+module _ (edition : Edition) where
   abbrev pub target_of : Option (List ℕ) → List ℕ → Target
   target_of above x = record { above = above; name = x }
 
-  pub drop_says : (at : Span) (above : Option (List ℕ)) (x : List ℕ) (place : ExprTree) → IfThere (IsName version) above → IsName version x → ExprFits version place → Says (g.drop_stmt version) (bare_stmt (st.Cut at (target_of above x) place)) (stmt_words (st.Cut at (target_of above x) place))
+  pub drop_says : (at : Span) (above : Option (List ℕ)) (x : List ℕ) (place : ExprTree) → IfThere (IsName edition) above → IsName edition x → ExprFits edition place → Says (g.drop_stmt edition) (bare_stmt (st.Cut at (target_of above x) place)) (stmt_words (st.Cut at (target_of above x) place))
   drop_says at None x place i j f = (
     nowhere,
     plain (word.Key k.Drop) ∷ [],
@@ -36,7 +36,7 @@ module _ (version : Version) where
       plain (word.Name x) ∷ [],
       _,
       refl,
-      name_says version x j,
+      name_says edition x j,
       (
         None,
         [],
@@ -48,7 +48,7 @@ module _ (version : Version) where
           map plain (index_words place),
           _,
           map-append plain (index_words place) semicolon,
-          any_key_says version place f,
+          any_key_says edition place f,
           (nowhere, map plain semicolon, [], refl, semicolon_says, (refl, refl)),
         ),
       ),
@@ -65,19 +65,19 @@ module _ (version : Version) where
       plain (word.Name c) ∷ [],
       _,
       refl,
-      name_says version c i,
+      name_says edition c i,
       (
         Some (named x),
         map plain (word.Sign s.Dot ∷ word.Name x ∷ []),
         _,
         refl,
-        field_says version x j,
+        field_says edition x j,
         (
           bare_expr place,
           map plain (index_words place),
           _,
           map-append plain (index_words place) semicolon,
-          any_key_says version place f,
+          any_key_says edition place f,
           (nowhere, map plain semicolon, [], refl, semicolon_says, (refl, refl)),
         ),
       ),
@@ -89,13 +89,13 @@ module _ (version : Version) where
   abbrev assigned : ExprTree → List Word
   assigned value = word.Sign s.Equals ∷ (whole_words value ++ semicolon)
 
-  pub set_says : (at : Span) (above : Option (List ℕ)) (x : List ℕ) (place : Option ExprTree) (value : ExprTree) → IfThere (IsName version) above → IsName version x → IfThere (ExprFits version) place → ExprFits version value → Says (g.set_stmt version) (bare_stmt (st.Set at (target_of above x) place value)) (stmt_words (st.Set at (target_of above x) place value))
+  pub set_says : (at : Span) (above : Option (List ℕ)) (x : List ℕ) (place : Option ExprTree) (value : ExprTree) → IfThere (IsName edition) above → IsName edition x → IfThere (ExprFits edition) place → ExprFits edition value → Says (g.set_stmt edition) (bare_stmt (st.Set at (target_of above x) place value)) (stmt_words (st.Set at (target_of above x) place value))
   set_says at None x None value i j p f = (
     named x,
     plain (word.Name x) ∷ [],
     _,
     refl,
-    name_says version x j,
+    name_says edition x j,
     (
       None,
       [],
@@ -119,7 +119,7 @@ module _ (version : Version) where
             map plain (whole_words value),
             _,
             map-append plain (whole_words value) semicolon,
-            expr_says version value f,
+            expr_says edition value f,
             (nowhere, map plain semicolon, [], refl, semicolon_says, (refl, refl)),
           ),
         ),
@@ -131,7 +131,7 @@ module _ (version : Version) where
     plain (word.Name x) ∷ [],
     _,
     refl,
-    name_says version x j,
+    name_says edition x j,
     (
       None,
       [],
@@ -143,7 +143,7 @@ module _ (version : Version) where
         map plain (index_words place),
         _,
         map-append plain (index_words place) (assigned value),
-        any_key_says version place p,
+        any_key_says edition place p,
         (
           nowhere,
           plain (word.Sign s.Equals) ∷ [],
@@ -155,7 +155,7 @@ module _ (version : Version) where
             map plain (whole_words value),
             _,
             map-append plain (whole_words value) semicolon,
-            expr_says version value f,
+            expr_says edition value f,
             (nowhere, map plain semicolon, [], refl, semicolon_says, (refl, refl)),
           ),
         ),
@@ -167,13 +167,13 @@ module _ (version : Version) where
     plain (word.Name c) ∷ [],
     _,
     refl,
-    name_says version c i,
+    name_says edition c i,
     (
       Some (named x),
       map plain (word.Sign s.Dot ∷ word.Name x ∷ []),
       _,
       refl,
-      field_says version x j,
+      field_says edition x j,
       (
         None,
         [],
@@ -191,7 +191,7 @@ module _ (version : Version) where
             map plain (whole_words value),
             _,
             map-append plain (whole_words value) semicolon,
-            expr_says version value f,
+            expr_says edition value f,
             (nowhere, map plain semicolon, [], refl, semicolon_says, (refl, refl)),
           ),
         ),
@@ -203,19 +203,19 @@ module _ (version : Version) where
     plain (word.Name c) ∷ [],
     _,
     refl,
-    name_says version c i,
+    name_says edition c i,
     (
       Some (named x),
       map plain (word.Sign s.Dot ∷ word.Name x ∷ []),
       _,
       refl,
-      field_says version x j,
+      field_says edition x j,
       (
         Some (bare_expr place),
         map plain (index_words place),
         _,
         map-append plain (index_words place) (assigned value),
-        any_key_says version place p,
+        any_key_says edition place p,
         (
           nowhere,
           plain (word.Sign s.Equals) ∷ [],
@@ -227,7 +227,7 @@ module _ (version : Version) where
             map plain (whole_words value),
             _,
             map-append plain (whole_words value) semicolon,
-            expr_says version value f,
+            expr_says edition value f,
             (nowhere, map plain semicolon, [], refl, semicolon_says, (refl, refl)),
           ),
         ),

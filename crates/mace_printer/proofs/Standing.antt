@@ -21,7 +21,8 @@ use Rattle.mace_lexer.specs.declared.token.Token.{Token}
 use Rattle.mace_lexer.specs.declared.token.Word.{Word}
 use Rattle.mace_lexer.specs.declared.token.Word.TheVariants as word
 use Rattle.mace_lexer.specs.Words.{with_digit, value_of, greatest, keyword, keyword_bytes, sign, sign_bytes, form_by, form_of}
-use Rattle.mace_lexer.specs.Texts.{escaped, quoted, inside_of, is_byte}
+use Rattle.mace_lexer.specs.Texts.{inside_of, is_byte}
+use Rattle.wave_base.specs.Text.{escaped, quoted}
 use Rattle.mace_lexer.specs.Pieces.{Spell, IsPiece, IsLongest}
 use Rattle.mace_lexer.specs.Cuts.{Cuts, at_end, past, IsBody}
 use Rattle.mace_lexer.specs.Lexed.{start}

@@ -12,7 +12,7 @@ use Rattle.mace_ast.specs.Stmts as st
 use Rattle.mace_ast.specs.Stmts.{StmtTree, StmtTrees, ElseTree, no_stmts, stmt_and, no_else, otherwise, stmts_of, else_of, bare_stmt, bare_stmts, bare_else}
 use Rattle.mace_grammar.specs.Part.{Part, ◌>>◌, many, maybe, nested}
 use Rattle.mace_grammar.specs.Words as w
-use Rattle.mace_grammar.specs.Words.{Version}
+use Rattle.mace_grammar.specs.Words.{Edition}
 use Rattle.mace_grammar.specs.Fits.{IsName, Each, ExprFits, StmtFits, StmtsFit, ElseFits}
 use Rattle.mace_grammar.specs.Grammar as g
 use Rattle.mace_grammar.specs.Spelled.{plain}
@@ -23,7 +23,7 @@ use Rattle.mace_printer.proofs.PlainSays.{bracket_split}
 use Rattle.mace_printer.proofs.PlainSays
 use Rattle.mace_printer.proofs.SetSays
 
-module _ (version : Version) where
+module _ (edition : Edition) where
   -- ---- statements with blocks
 
   abbrev list_of : StmtTrees → List StmtTree
@@ -49,7 +49,7 @@ module _ (version : Version) where
     abbrev all_spell : StmtTrees → Type 0
     all_spell xs = Says (many stmt) (list_of (bare_stmts xs)) (stmts_words xs)
 
-    block_says : (xs : StmtTrees) → all_spell xs → Says (g.block version stmt) (list_of (bare_stmts xs)) (in_braces xs)
+    block_says : (xs : StmtTrees) → all_spell xs → Says (g.block edition stmt) (list_of (bare_stmts xs)) (in_braces xs)
     block_says xs h = (
       nowhere,
       plain (word.Sign s.LeftBrace) ∷ [],
@@ -70,11 +70,11 @@ module _ (version : Version) where
     else_spells no_else = Unit {0}
     else_spells (otherwise xs) = all_spell xs
 
-    else_says : (o : ElseTree) → else_spells o → Says (maybe (w.key k.Else >> (g.block version) stmt)) (else_list (bare_else o)) (else_words o)
+    else_says : (o : ElseTree) → else_spells o → Says (maybe (w.key k.Else >> (g.block edition) stmt)) (else_list (bare_else o)) (else_words o)
     else_says no_else h = refl
     else_says (otherwise xs) h = (nowhere, plain (word.Key k.Else) ∷ [], _, refl, key_says k.Else, block_says xs h)
 
-    if_says : (at : Span) (test : ExprTree) (body : StmtTrees) (other : ElseTree) → all_spell body → else_spells other → ExprFits version test → Says (g.if_stmt version stmt) (bare_stmt (st.If at test body other)) (stmt_words (st.If at test body other))
+    if_says : (at : Span) (test : ExprTree) (body : StmtTrees) (other : ElseTree) → all_spell body → else_spells other → ExprFits edition test → Says (g.if_stmt edition stmt) (bare_stmt (st.If at test body other)) (stmt_words (st.If at test body other))
     if_says at test body other hb ho f = (
       nowhere,
       plain (word.Key k.If) ∷ [],
@@ -86,7 +86,7 @@ module _ (version : Version) where
         map plain (whole_words test),
         _,
         map-append plain (whole_words test) (word.Sign s.LeftBrace ∷ (stmts_words body ++ (word.Sign s.RightBrace ∷ else_words other))),
-        expr_says version test f,
+        expr_says edition test f,
         (
           list_of (bare_stmts body),
           map plain (in_braces body),
@@ -105,7 +105,7 @@ module _ (version : Version) where
       ),
     )
 
-    while_says : (at : Span) (test : ExprTree) (body : StmtTrees) → all_spell body → ExprFits version test → Says (g.while_stmt version stmt) (bare_stmt (st.While at test body)) (stmt_words (st.While at test body))
+    while_says : (at : Span) (test : ExprTree) (body : StmtTrees) → all_spell body → ExprFits edition test → Says (g.while_stmt edition stmt) (bare_stmt (st.While at test body)) (stmt_words (st.While at test body))
     while_says at test body hb f = (
       nowhere,
       plain (word.Key k.While) ∷ [],
@@ -117,7 +117,7 @@ module _ (version : Version) where
         map plain (whole_words test),
         _,
         map-append plain (whole_words test) (in_braces body),
-        expr_says version test f,
+        expr_says edition test f,
         (
           list_of (bare_stmts body),
           map plain (in_braces body),
@@ -129,7 +129,7 @@ module _ (version : Version) where
       ),
     )
 
-    for_says : (at : Span) (x : Name) (low high : ExprTree) (body : StmtTrees) → all_spell body → IsName version x.text → ExprFits version low → ExprFits version high → Says (g.for_stmt version stmt) (bare_stmt (st.For at x low high body)) (stmt_words (st.For at x low high body))
+    for_says : (at : Span) (x : Name) (low high : ExprTree) (body : StmtTrees) → all_spell body → IsName edition x.text → ExprFits edition low → ExprFits edition high → Says (g.for_stmt edition stmt) (bare_stmt (st.For at x low high body)) (stmt_words (st.For at x low high body))
     for_says at x low high body hb i f j = (
       nowhere,
       plain (word.Key k.For) ∷ [],
@@ -141,7 +141,7 @@ module _ (version : Version) where
         plain (word.Name x.text) ∷ [],
         _,
         refl,
-        name_says version x.text i,
+        name_says edition x.text i,
         (
           nowhere,
           plain (word.Key k.In) ∷ [],
@@ -153,7 +153,7 @@ module _ (version : Version) where
             map plain (whole_words low),
             _,
             map-append plain (whole_words low) (word.Key k.To ∷ (whole_words high ++ in_braces body)),
-            expr_says version low f,
+            expr_says edition low f,
             (
               nowhere,
               plain (word.Key k.To) ∷ [],
@@ -165,7 +165,7 @@ module _ (version : Version) where
                 map plain (whole_words high),
                 _,
                 map-append plain (whole_words high) (in_braces body),
-                expr_says version high j,
+                expr_says edition high j,
                 (
                   list_of (bare_stmts body),
                   map plain (in_braces body),
@@ -206,45 +206,45 @@ module _ (version : Version) where
     else_blocks (otherwise xs) = all_blocks xs
 
   abbrev at_depth : ℕ → Part StmtTree
-  at_depth n = nested (g.any_stmt version) n
+  at_depth n = nested (g.any_stmt edition) n
 
   mutual
-    said : (x : StmtTree) (n : ℕ) → blocks x ≤ n → StmtFits version x → Says (at_depth (suc n)) (bare_stmt x) (stmt_words x)
-    said (st.Let at x value) n h f = inl (PlainSays.let_says version at x value f.0 f.1)
+    said : (x : StmtTree) (n : ℕ) → blocks x ≤ n → StmtFits edition x → Says (at_depth (suc n)) (bare_stmt x) (stmt_words x)
+    said (st.Let at x value) n h f = inl (PlainSays.let_says edition at x value f.0 f.1)
     said (st.If at test body other) zero h f = absurd (omega arith)
     said (st.If at test body other) (suc m) h f = inr (inl (if_says (at_depth (suc m)) at test body other (all_said body m (omega arith) f.1) (else_said other m (omega arith) f.2) f.0))
     said (st.While at test body) zero h f = absurd (omega arith)
     said (st.While at test body) (suc m) h f = inr (inr (inl (while_says (at_depth (suc m)) at test body (all_said body m (omega arith) f.1) f.0)))
     said (st.For at x low high body) zero h f = absurd (omega arith)
     said (st.For at x low high body) (suc m) h f = inr (inr (inr (inl (for_says (at_depth (suc m)) at x low high body (all_said body m (omega arith) f.3) f.0 f.1 f.2))))
-    said (st.Return at value) n h f = inr (inr (inr (inr (inl (PlainSays.return_says version at value f)))))
-    said (st.Finish at value) n h f = inr (inr (inr (inr (inr (inl (PlainSays.finish_stmt_says version at value f))))))
-    said (st.Require at test) n h f = inr (inr (inr (inr (inr (inr (inl (PlainSays.require_says version at test f)))))))
-    said (st.Send at label value) n h f = inr (inr (inr (inr (inr (inr (inr (inl (PlainSays.send_says version at label value f))))))))
-    said (st.Spawn at event args) n h f = inr (inr (inr (inr (inr (inr (inr (inr (inl (PlainSays.spawn_says version at event args f.0 f.1)))))))))
-    said (st.Cut at x place) n h f = inr (inr (inr (inr (inr (inr (inr (inr (inr (inl (SetSays.drop_says version at x.above x.name place f.0.0 f.0.1 f.1))))))))))
-    said (st.Set at x place value) n h f = inr (inr (inr (inr (inr (inr (inr (inr (inr (inr (inl (SetSays.set_says version at x.above x.name place value f.0.0 f.0.1 f.1 f.2)))))))))))
-    said (st.Call at x args) n h f = inr (inr (inr (inr (inr (inr (inr (inr (inr (inr (inr (inl (PlainSays.call_says version at x args f.0 f.1))))))))))))
-    said (st.ChildCall at c place x args) n h f = inr (inr (inr (inr (inr (inr (inr (inr (inr (inr (inr (inr (PlainSays.child_says version at c place x args f.0 f.1 f.2 f.3))))))))))))
+    said (st.Return at value) n h f = inr (inr (inr (inr (inl (PlainSays.return_says edition at value f)))))
+    said (st.Finish at value) n h f = inr (inr (inr (inr (inr (inl (PlainSays.finish_stmt_says edition at value f))))))
+    said (st.Require at test) n h f = inr (inr (inr (inr (inr (inr (inl (PlainSays.require_says edition at test f)))))))
+    said (st.Send at label value) n h f = inr (inr (inr (inr (inr (inr (inr (inl (PlainSays.send_says edition at label value f))))))))
+    said (st.Spawn at event args) n h f = inr (inr (inr (inr (inr (inr (inr (inr (inl (PlainSays.spawn_says edition at event args f.0 f.1)))))))))
+    said (st.Cut at x place) n h f = inr (inr (inr (inr (inr (inr (inr (inr (inr (inl (SetSays.drop_says edition at x.above x.name place f.0.0 f.0.1 f.1))))))))))
+    said (st.Set at x place value) n h f = inr (inr (inr (inr (inr (inr (inr (inr (inr (inr (inl (SetSays.set_says edition at x.above x.name place value f.0.0 f.0.1 f.1 f.2)))))))))))
+    said (st.Call at x args) n h f = inr (inr (inr (inr (inr (inr (inr (inr (inr (inr (inr (inl (PlainSays.call_says edition at x args f.0 f.1))))))))))))
+    said (st.ChildCall at c place x args) n h f = inr (inr (inr (inr (inr (inr (inr (inr (inr (inr (inr (inr (PlainSays.child_says edition at c place x args f.0 f.1 f.2 f.3))))))))))))
 
-    all_said : (xs : StmtTrees) (n : ℕ) → all_blocks xs ≤ n → StmtsFit version xs → all_spell (at_depth (suc n)) xs
+    all_said : (xs : StmtTrees) (n : ℕ) → all_blocks xs ≤ n → StmtsFit edition xs → all_spell (at_depth (suc n)) xs
     all_said no_stmts n h f = refl
     all_said (stmt_and x xs) n h f = (map plain (stmt_words x), _, map-append plain (stmt_words x) (stmts_words xs), said x n (omega arith) f.0, all_said xs n (omega arith) f.1)
 
-    else_said : (o : ElseTree) (n : ℕ) → else_blocks o ≤ n → ElseFits version o → else_spells (at_depth (suc n)) o
+    else_said : (o : ElseTree) (n : ℕ) → else_blocks o ≤ n → ElseFits edition o → else_spells (at_depth (suc n)) o
     else_said no_else n h f = tt
     else_said (otherwise xs) n h f = all_said xs n h f
 
   -- ---- however deep
 
-  pub stmt_says : (x : StmtTree) → StmtFits version x → Says (g.stmt version) (bare_stmt x) (stmt_words x)
+  pub stmt_says : (x : StmtTree) → StmtFits edition x → Says (g.stmt edition) (bare_stmt x) (stmt_words x)
   stmt_says x f = (suc (blocks x), said x (blocks x) (omega arith) f)
 
-  pub stmts_say : (xs : List StmtTree) → Each (StmtFits version) xs → Says (g.stmts version) (map bare_stmt xs) (body_words xs)
+  pub stmts_say : (xs : List StmtTree) → Each (StmtFits edition) xs → Says (g.stmts edition) (map bare_stmt xs) (body_words xs)
   unfolding g.stmts
-  stmts_say xs f = all_say (g.stmt version) bare_stmt stmt_words (StmtFits version) stmt_says xs f
+  stmts_say xs f = all_say (g.stmt edition) bare_stmt stmt_words (StmtFits edition) stmt_says xs f
 
-  pub any_block_says : (xs : List StmtTree) → Each (StmtFits version) xs → Says (g.any_block version) (map bare_stmt xs) (braced_words xs)
+  pub any_block_says : (xs : List StmtTree) → Each (StmtFits edition) xs → Says (g.any_block edition) (map bare_stmt xs) (braced_words xs)
   unfolding g.any_block
   any_block_says xs f = (
     nowhere,
@@ -257,7 +257,7 @@ module _ (version : Version) where
       map plain (body_words xs),
       _,
       map-append plain (body_words xs) (word.Sign s.RightBrace ∷ []),
-      all_say (g.stmt version) bare_stmt stmt_words (StmtFits version) stmt_says xs f,
+      all_say (g.stmt edition) bare_stmt stmt_words (StmtFits edition) stmt_says xs f,
       (nowhere, plain (word.Sign s.RightBrace) ∷ [], [], refl, sign_says s.RightBrace, (refl, refl)),
     ),
   )

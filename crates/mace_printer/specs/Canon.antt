@@ -2,6 +2,8 @@
 use Rattle.std.specs.Prelude.{ℕ, ℤ, pos, codes, ◌+◌, Bool, true, false, nat_lt, ◌==◌, if◌then◌else◌, List, [], ◌∷◌, ◌++◌, Option, Some, None}
 use Rattle.wave_base.specs.declared.value.Kind.{Kind}
 use Rattle.wave_base.specs.declared.value.Kind.TheVariants as kind
+use Rattle.wave_base.specs.declared.version.Version.{Version}
+use Rattle.wave_base.specs.declared.version.Version.TheVariants.{First, Second}
 use Rattle.mace_lexer.specs.declared.token.Word.{Word}
 use Rattle.mace_lexer.specs.declared.token.Word.TheVariants as word
 use Rattle.mace_lexer.specs.declared.keyword.Keyword.{Keyword}
@@ -301,9 +303,10 @@ abbrev mutual
   contexts_words no_contexts = []
   contexts_words (context_and c cs) = context_words c ⧺ contexts_words cs
 
--- the number of the version, which version 1 leaves out
-abbrev pub version_words : ℕ → List Word
-version_words n = if n == 2 then number (pos 2) else []
+-- the number of the version, which the first leaves out
+abbrev pub version_words : Version → List Word
+version_words First = []
+version_words Second = number (pos 2)
 
 unfoldable pub service_words : ServiceTree → List Word
 service_words t = key k.Service ⧺ name t.name.text ⧺ version_words t.version ⧺ sign s.LeftBrace ⧺ all_of var_words t.vars ⧺ all_of context_words t.contexts ⧺ all_of method_words t.methods ⧺ all_of event_words t.events ⧺ sign s.RightBrace

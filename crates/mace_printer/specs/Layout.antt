@@ -6,7 +6,7 @@ use Rattle.mace_lexer.specs.declared.token.Word.TheVariants as word
 use Rattle.mace_lexer.specs.declared.sign.Sign.{Sign}
 use Rattle.mace_lexer.specs.declared.sign.Sign.TheVariants as s
 use Rattle.mace_lexer.specs.Words.{keyword_bytes, sign_bytes}
-use Rattle.mace_lexer.specs.Texts.{quoted}
+use Rattle.wave_base.specs.Text.{quoted}
 
 -- a name as it is, a number in decimal, a text in its quotes, with an escape only where it must stand
 abbrev pub spelling : Word → List ℕ

@@ -9,5 +9,5 @@ mod stmt;
 mod whole;
 mod word;
 
-pub use laws::canonical_words_spell;
+pub use laws::{canonical_words_spell, declarations_take_words};
 pub use whole::print;

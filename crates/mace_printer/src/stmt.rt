@@ -10,7 +10,7 @@ ghost use Rattle.mace_printer.specs.Layout.{layout};
 
 use crate::expr::{put_above, put_call, put_child_key, put_expr, put_index};
 use crate::word::{put_finish_word, put_key, put_name, put_sign, put_text};
-use mace_ast::{Action, Expr, Name, Stmt, Target};
+use mace_ast::{Action, Expr, Stmt, Target};
 use mace_lexer::{Keyword, Sign};
 use std::alloc::Global;
 use wave_base::{OutOfMemory, Txt};

@@ -13,7 +13,7 @@ use crate::word::{put_key, put_name, put_number, put_sign};
 use mace_ast::{ContextDecl, Service};
 use mace_lexer::{Keyword, Sign};
 use std::alloc::Global;
-use wave_base::{OutOfMemory, Seq, Txt};
+use wave_base::{OutOfMemory, Seq, Txt, Version};
 
 // What stands before the fields of a context.
 fn put_head(out: &mut Vec<u8>, name: &Txt) -> Result<(), OutOfMemory>
@@ -52,14 +52,14 @@ fn put_contexts(
     Ok(())
 }
 
-// The number of the version, where it is not 1.
-fn put_version(alloc: Global, out: &mut Vec<u8>, version: u8) -> Result<(), OutOfMemory>
+// The number of the version, which the first leaves out.
+fn put_version(alloc: Global, out: &mut Vec<u8>, version: Version) -> Result<(), OutOfMemory>
     ensures { OnOk result (out.new.items ≡ out.old.items ++ layout (words.version_words version)) }
 {
-    if version != 2 {
-        return Ok(());
+    match version {
+        Version::First => Ok(()),
+        Version::Second => put_number(alloc, out, 2),
     }
-    put_number(alloc, out, 2)
 }
 
 #[tactic(auto, unfolding(crate::specs::Canon::service_words))]

@@ -11,6 +11,3 @@ pub use mail::{Letter, Mail, Route};
 pub use mover::{Mover, advance};
 pub use moves::{depart, land};
 pub use ways::{route, route_at};
-
-#[cfg(test)]
-mod tests;

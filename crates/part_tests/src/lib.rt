@@ -1,5 +1,5 @@
-//! The tests of crates that take long to prove, a module a crate: a crate with tests is proved twice, so theirs stand here, above them.
-//! It has no code of its own.
+//! The tests of crates of values, code and the machine's parts, a module a crate: a crate with tests is proved twice, so theirs stand here,
+//! above them. It has no code of its own.
 #![tactic(auto)]
 
 #[cfg(test)]
@@ -7,16 +7,26 @@ mod base;
 #[cfg(test)]
 mod cells;
 #[cfg(test)]
-mod lexer;
+mod commits;
 #[cfg(test)]
-mod listing;
+mod heads;
 #[cfg(test)]
-mod nodes;
+mod hosts;
 #[cfg(test)]
-mod scripts;
+mod labels;
 #[cfg(test)]
-mod tables;
+mod moves;
+#[cfg(test)]
+mod outputs;
+#[cfg(test)]
+mod queues;
+#[cfg(test)]
+mod trees;
 #[cfg(test)]
 mod values;
 #[cfg(test)]
 mod verifier;
+#[cfg(test)]
+mod views;
+#[cfg(test)]
+mod walks;

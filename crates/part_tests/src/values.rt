@@ -30,12 +30,12 @@ fn flag(b: bool) -> Result<Value, OpError> {
     Ok(Value::Bool(b))
 }
 
-// A number as a text.
+// A number as a text. Were it another value, this would be a trap, which no test wants of it.
 #[tactic(auto, unfolding(value_ops::specs::Operators::takes_of, value_ops::specs::Operators::operators))]
 fn digits(alloc: Global, n: i64) -> Result<Txt, OpError> {
     match apply(alloc, STR, &[Value::Int(n)])? {
         Value::Str(text) => Ok(text),
-        _ => Err(OpError::OutOfMemory),
+        _ => Err(OpError::Trap(TrapKind::Absent)),
     }
 }
 
@@ -47,7 +47,7 @@ fn text(alloc: Global, n: i64) -> Result<Value, OpError> {
 fn joined(alloc: Global, s: Txt, t: Txt) -> Result<Txt, OpError> {
     match apply(alloc, CAT, &[Value::Str(s), Value::Str(t)])? {
         Value::Str(text) => Ok(text),
-        _ => Err(OpError::OutOfMemory),
+        _ => Err(OpError::Trap(TrapKind::Absent)),
     }
 }
 

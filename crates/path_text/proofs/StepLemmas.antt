@@ -1,6 +1,6 @@
 -- How far the steps of a text were read.
-use Rattle.std.proofs.Common.{◌≡◌, ◌<◌, ℕ, true, false, List, [], ◌∷◌, ◌++◌, length, refl, sym, ap, subst, ◌∙◌, append_assoc, append-nil, arith}
-use Rattle.std.specs.Prelude.{◌&&◌, ◌==◌}
+use Rattle.std.proofs.Common.{◌≡◌, ◌<◌, ℕ, Bool, true, false, List, [], ◌∷◌, ◌++◌, length, refl, sym, ap, subst, ◌∙◌, append_assoc, append-nil, arith}
+use Rattle.std.specs.Prelude.{◌&&◌, ◌==◌, not}
 use Rattle.std.specs.List.{list_all}
 use Rattle.std.proofs.lemmas.Bool.Decides.{nat_tests}
 use Rattle.path_text.specs.declared.written.Written.{Written}
@@ -69,6 +69,63 @@ none_there text rest front h some none root (t ∷ ts) o = (let w = h.whole (t �
     by_steps [] a = absurd (omega (arith, ap length a.spelled))
     by_steps (u ∷ us) a = none u (steps_text us) (front_of rest u us a)
 
+-- ---- whether there are steps, without what they are
+
+-- some steps were read, and no more are there than those of the text
+pub record AreSomeTo (text rest : List ℕ) : Type 0 where
+  pub front : List Written
+  pub read : AreReadTo text front rest
+  pub begun : front ≡ [] → rest ≡ text
+
+pub none_yet : (text : List ℕ) → AreSomeTo text text
+none_yet text = record { front = []; read = record { sound = λ ss a. a; whole = λ ss a. (ss, refl, a) }; begun = λ e. refl }
+
+pub one_more : (text rest after : List ℕ) (s : Written) → AreSomeTo text rest → IsOnlyFront rest s after → AreSomeTo text after
+one_more text rest after s h f = record {
+  front = h.front ++ s ∷ [];
+  read = step_read text rest after h.front (h.front ++ s ∷ []) s h.read f refl;
+  begun = λ e. absurd (some_there h.front e);
+}
+  where
+    some_there : (front : List Written) → front ++ s ∷ [] ≡ [] → ⊥
+    some_there [] e = cc
+    some_there (t ∷ ts) e = cc
+
+pub some_read : (text : List ℕ) → AreSomeTo text [] → (text ≡ [] → ⊥) → (text ≡ 47 ∷ [] → ⊥) → (steps : List Written) × HasSteps text steps
+some_read text h some root = (h.front, (all_read text h.front h.read (λ e. some (sym (h.begun e))) root).0)
+
+pub no_text : (steps : List Written) → HasSteps [] steps → ⊥
+no_text [] h = cc (h.spelled)
+no_text (s ∷ ss) h = cc (h.spelled)
+
+-- ---- where a step stands no more, all steps of the text were read
+
+pub ended : (text rest : List ℕ) (front steps : List Written) → AreReadTo text front rest → HasNoFront rest → HasSteps text steps → (text ≡ 47 ∷ [] → ⊥) → HasSteps text front × HasOnlySteps text front
+ended text rest front [] h none has root = absurd (root has.spelled)
+ended text rest front (s ∷ ss) h none has root = by_steps w.0 w.1 w.2
+  where
+    w : (us : List Written) × (s ∷ ss ≡ front ++ us) × AreSteps rest us
+    w = h.whole (s ∷ ss) (record { spelled = has.spelled; form = has.form })
+
+    some_there : (xs : List Written) → s ∷ ss ≡ xs ++ [] → xs ≡ [] → ⊥
+    some_there [] q e = cc
+    some_there (x ∷ xs) q e = cc
+
+    by_steps : (us : List Written) → s ∷ ss ≡ front ++ us → AreSteps rest us → HasSteps text front × HasOnlySteps text front
+    by_steps [] q a = all_read text front (subst (AreReadTo text front) a.spelled h) (some_there front q) root
+    by_steps (u ∷ us) q a = absurd (none u (steps_text us) (front_of rest u us a))
+
 pub is_nil : {A : Type 0} (xs : List A) → true ≡ (length xs == 0) → xs ≡ []
 is_nil [] h = refl
 is_nil (x ∷ xs) h = absurd (grind (arith, nat_tests))
+
+-- a text that is not empty
+pub filled : (text : List ℕ) (b : Bool) → b ≡ (length text == 0) → not b ≡ true → text ≡ [] → ⊥
+filled [] b e h n = cc
+filled (x ∷ xs) b e h n = cc
+
+pub is_filled : (text : List ℕ) (b : Bool) → b ≡ (length text == 0) → (text ≡ [] → ⊥) → not b ≡ true
+is_filled [] b e f = absurd (f refl)
+is_filled (x ∷ xs) b e f =
+    let some : (length (x ∷ xs) == 0) ≡ false = grind (arith, nat_tests) in
+    ap not (e ∙ some)

@@ -1,3 +1,4 @@
+pub mod Found
 pub mod PathTexts
 pub mod Paths
 pub mod Sample

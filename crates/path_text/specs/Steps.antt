@@ -30,6 +30,10 @@ pub record HasSteps (text : List ℕ) (steps : List Written) : Type 0 where
   pub spelled : text ≡ written_text steps
   pub form : list_all is_step steps ≡ true
 
+-- the text has a path's form
+abbrev pub HasSomeSteps : List ℕ → Type 0
+HasSomeSteps text = (steps : List Written) × HasSteps text steps
+
 -- nothing else are its steps
 abbrev pub HasOnlySteps : List ℕ → List Written → Type 0
 HasOnlySteps text steps = (others : List Written) → HasSteps text others → others ≡ steps

@@ -12,9 +12,9 @@ abbrev pub IsVerdict : Shape → List ℕ → Result Path PathError → Type 0
 IsVerdict shape text (Ok p) = IsPathText shape text p
 IsVerdict shape text (Err Syntax) = HasNoSteps text
 IsVerdict shape text (Err UnknownClass) = IsUnknownPath shape text
-IsVerdict shape text (Err OutOfMemory) = ⊥
+IsVerdict shape text (Err (OutOfMemory _)) = ⊥
 
 -- it says so, and nothing else is to be said; want of memory says nothing
 abbrev pub IsOnlyVerdict : Shape → List ℕ → Result Path PathError → Type 0
-IsOnlyVerdict shape text (Err OutOfMemory) = Unit {0}
+IsOnlyVerdict shape text (Err (OutOfMemory _)) = Unit {0}
 IsOnlyVerdict shape text r = IsVerdict shape text r × ((other : Result Path PathError) → IsVerdict shape text other → other ≡ r)

@@ -3,15 +3,15 @@
 
 mod classes;
 mod fields;
+mod found;
 mod parse;
 mod put;
 mod resolve;
-#[cfg(test)]
-mod tests;
 mod written;
 
 pub use classes::{ChildClasses, ClassNames};
 pub use fields::fields_at;
+pub use found::path_for;
 pub use parse::{PathError, parse_path};
 pub use put::{put_path, put_shot, write_path};
 pub use resolve::resolve_steps;

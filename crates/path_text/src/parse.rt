@@ -6,7 +6,7 @@ use crate::resolve::resolve_steps;
 use crate::written::written_steps;
 use std::alloc::Global;
 use thiserror::Error;
-use wave_base::Path;
+use wave_base::{OutOfMemory, Path};
 
 /// Why a text is no path of a shape.
 #[derive(Clone, Copy, Debug, PartialEq, Eq, Error)]
@@ -19,7 +19,7 @@ pub enum PathError {
     UnknownClass,
     /// Memory was wanting, and nothing is said of the text.
     #[error("out of memory")]
-    OutOfMemory,
+    OutOfMemory(OutOfMemory),
 }
 
 /// The path that a text stands for.
@@ -34,7 +34,7 @@ pub fn parse_path<C: ChildClasses>(
     let steps = match written_steps(alloc, text) {
         Ok(Some(steps)) => steps,
         Ok(None) => return Err(PathError::Syntax),
-        Err(_) => return Err(PathError::OutOfMemory),
+        Err(refused) => return Err(PathError::OutOfMemory(refused)),
     };
     match resolve_steps(classes, steps.as_slice()) {
         Some(path) => Ok(path),

@@ -1,6 +1,6 @@
 ghost use Rattle.std.specs.Prelude.{◌≡◌, ◌∷◌, ◌&&◌, [], ℕ, List, IsTrue, ◌↔◌, IfOk, IfSome, IfNone};
 ghost use Rattle.wave_base.specs.Names.{is_word};
-ghost use Rattle.path_text.specs.Steps.{is_key, HasSteps, HasOnlySteps, HasNoSteps};
+ghost use Rattle.path_text.specs.Steps.{is_key, HasSteps, HasSomeSteps, HasOnlySteps, HasNoSteps};
 ghost use Rattle.path_text.specs.inner.Fronts.{AreParts, IsOnlyFront, HasNoFront};
 
 use std::alloc::Global;
@@ -53,20 +53,26 @@ fn has_form(name: &[u8], key: &[u8]) -> bool
     is_word(name) && is_key(key)
 }
 
-// The step at the front of a text, and what stands behind it.
-fn first_step(alloc: Global, text: &[u8]) -> Result<Option<(Written, &[u8])>, OutOfMemory>
-    ensures some { IfOk result (λ o. IfSome o (λ x. IsOnlyFront text.now x.0 x.1.now)) }
-    ensures none { IfOk result (λ o. IfNone o (HasNoFront text.now)) }
+// The name and the key of the step at the front of a text, and what stands behind it.
+fn front_of(text: &[u8]) -> Option<(&[u8], &[u8], &[u8])>
+    ensures some { IfSome result (λ x. IsOnlyFront text.now (record { name = x.0.now; key = x.1.now }) x.2.now) }
+    ensures none { IfNone result (HasNoFront text.now) }
 {
-    let Some((name, key, rest)) = parts_of(text) else {
-        return Ok(None);
-    };
-    if !has_form(name, key) {
-        return Ok(None);
+    let (name, key, rest) = parts_of(text)?;
+    if has_form(name, key) {
+        Some((name, key, rest))
+    } else {
+        None
     }
-    let name = Seq::from_vec(Vec::from_slice(alloc, name)?);
-    let key = Seq::from_vec(Vec::from_slice(alloc, key)?);
-    Ok(Some((Written { name, key }, rest)))
+}
+
+fn copied_step(alloc: Global, name: &[u8], key: &[u8]) -> Result<Written, OutOfMemory>
+    ensures { IfOk result (λ step. step ≡ record { name = name.now; key = key.now }) }
+{
+    Ok(Written {
+        name: Seq::from_slice(alloc, name)?,
+        key: Seq::from_slice(alloc, key)?,
+    })
 }
 
 fn is_root(text: &[u8]) -> bool
@@ -78,26 +84,40 @@ fn is_root(text: &[u8]) -> bool
     }
 }
 
-/// The steps of a text that has a path's form.
+// Whether a text has a path's form. Nothing is copied for that.
+fn has_steps(text: &[u8]) -> bool
+    ensures { IsTrue result ↔ HasSomeSteps text.now }
+{
+    if is_root(text) {
+        return true;
+    }
+    let mut rest = text;
+    while !rest.is_empty() {
+        let Some((_, _, after)) = front_of(rest) else {
+            return false;
+        };
+        rest = after;
+    }
+    !text.is_empty()
+}
+
+/// The steps of a text that has a path's form. No memory is asked for where it has none.
 pub fn written_steps(alloc: Global, text: &[u8]) -> Result<Option<Seq<Written>>, OutOfMemory>
     ensures some { IfOk result (λ o. IfSome o (HasSteps text.now)) }
     ensures only { IfOk result (λ o. IfSome o (HasOnlySteps text.now)) }
     ensures none { IfOk result (λ o. IfNone o (HasNoSteps text.now)) }
 {
-    let mut steps = Vec::new(alloc);
-    if is_root(text) {
-        return Ok(Some(Seq::from_vec(steps)));
-    }
-    let mut rest = text;
-    while !rest.is_empty() {
-        let Some((step, after)) = first_step(alloc, rest)? else {
-            return Ok(None);
-        };
-        steps.push(step)?;
-        rest = after;
-    }
-    if steps.is_empty() {
+    if !has_steps(text) {
         return Ok(None);
     }
-    Ok(Some(Seq::from_vec(steps)))
+    let mut steps = Seq::new(alloc);
+    if is_root(text) {
+        return Ok(Some(steps));
+    }
+    let mut rest = text;
+    while let Some((name, key, after)) = front_of(rest) {
+        steps.add(copied_step(alloc, name, key)?)?;
+        rest = after;
+    }
+    Ok(Some(steps))
 }

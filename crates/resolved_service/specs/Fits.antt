@@ -1,7 +1,9 @@
--- What a resolved service is known to have where it was checked: callees and children that are there. Kinds are no matter here.
-use Rattle.std.specs.Prelude.{◌≡◌, ◌<◌, ℕ, zero, suc, true, List, [], ◌∷◌, length, Option, Some, None, slice_get, All}
+-- What a resolved service is known to have where it was checked: callees and children that are there, and few locals. Kinds are no matter
+-- here.
+use Rattle.std.specs.Prelude.{◌≡◌, ◌<◌, ◌≤◌, ℕ, zero, suc, true, List, [], ◌∷◌, length, Option, Some, None, slice_get, All}
+use Rattle.wave_base.specs.declared.limits.TheConstants.{LOCALS}
 use Rattle.wave_base.specs.declared.shape.Shape.{Shape}
-use Rattle.wave_base.specs.Shapes.{is_class, parent_class, declared_fields}
+use Rattle.wave_base.specs.Shapes.{declared_fields, is_child_class}
 use Rattle.resolved_service.specs.declared.service.Event.{Event}
 use Rattle.resolved_service.specs.declared.service.Last.{Last}
 use Rattle.resolved_service.specs.declared.service.Method.{Method}
@@ -23,7 +25,7 @@ pub record IsMethod (methods : List Method) (class number count : ℕ) : Type 0 
 
 -- a class whose contexts are children of this one's
 abbrev pub IsChildClass : Shape → ℕ → ℕ → Type 0
-IsChildClass shape class child = is_class class (parent_class shape child) ≡ true
+IsChildClass shape class child = is_child_class shape class child ≡ true
 
 -- a field of this class
 abbrev pub IsField : Shape → ℕ → ℕ → Type 0
@@ -83,6 +85,7 @@ module _ (shape : Shape) (methods : List Method) where
 
   -- a method fits its class
   pub record FitsMethod (m : Method) : Type 0 where
+    pub few_locals : length m.locals ≤ LOCALS
     pub body : FitsSteps m.class.0 (steps_in m.body)
     pub last : FitsLast m.class.0 m.last
 
@@ -94,6 +97,7 @@ module _ (shape : Shape) (methods : List Method) where
 
   -- an event fits the root
   pub record FitsEvent (e : Event) : Type 0 where
+    pub few_locals : length e.locals ≤ LOCALS
     pub here : FitsSteps 0 (steps_in e.here)
     pub phases : FitsPhases 0 e.phases e.last
 

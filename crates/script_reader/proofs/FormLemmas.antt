@@ -1,8 +1,8 @@
 -- The forms of lines, and what lines say.
-use Rattle.std.proofs.Common.{◌≡◌, ◌-◌, ◌≤◌, ℕ, false, List, [], ◌∷◌, length, take, drop, get_or, refl, sym, ap, subst, ◌∙◌, arith}
+use Rattle.std.proofs.Common.{◌≡◌, ◌-◌, ◌≤◌, ℕ, true, false, List, [], ◌∷◌, length, take, drop, get_or, refl, sym, ap, subst, ◌∙◌, arith}
 use Rattle.std.specs.Prelude.{codes}
 use Rattle.std.specs.List.{list_all}
-use Rattle.std.proofs.lemmas.Bool.{and_parts}
+use Rattle.std.proofs.lemmas.Bool.{and_parts, false≢true}
 use Rattle.std.proofs.lemmas.List.{take_all}
 use Rattle.wave_base.specs.Names.{is_digits}
 use Rattle.path_text.specs.Steps.{is_step, written_text}
@@ -14,8 +14,10 @@ use Rattle.script_reader.specs.declared.said.Said.{Said}
 use Rattle.script_reader.specs.declared.said.Said.TheVariants.{Nothing, Unknown, Says}
 use Rattle.script_reader.specs.Forms.{form_word, form_rest, HasNoFormOf, HasForm, HasNoForm, is_skipped}
 use Rattle.script_reader.specs.inner.Parts.{IsNumber, IsTo, IsNoMove, Spells, SpellsOnly, SpellsNone}
-use Rattle.script_reader.specs.Pieces.{ArePieces, AreOnlyPieces, HasNoPieces}
+use Rattle.script_reader.specs.inner.Begins.{first_run, is_form_word}
+use Rattle.script_reader.specs.Pieces.{without_blanks, ArePieces, AreOnlyPieces, HasNoPieces}
 use Rattle.script_reader.specs.Scripts.{IsSaid, IsOnlySaid}
+use Rattle.script_reader.proofs.FrontLemmas.{front_run}
 
 pub no_move : (rest : List Piece) → IsNoMove rest → HasNoFormOf (codes "move") rest
 no_move rest none (Hosts n) h = cc (h.word_is)
@@ -34,6 +36,21 @@ says_unknown line h none = ((h, none), λ other k. by_said other k)
     by_said Nothing k = absurd (cc (sym h ∙ k))
     by_said Unknown k = refl
     by_said (Says f) k = absurd (none f k.1)
+
+form_words : (f : Form) → is_form_word (form_word f) ≡ true
+form_words (Hosts n) = refl
+form_words (Request name args) = refl
+form_words (Move steps to) = refl
+form_words Snapshot = refl
+form_words Settle = refl
+
+-- it begins with a word of none
+pub says_no_word : (line word : List ℕ) → is_skipped line ≡ false → word ≡ first_run (without_blanks line) → is_form_word word ≡ false → IsOnlySaid line Unknown
+says_no_word line word h at none =
+    says_unknown line h (λ f k.
+    let same : form_word f ≡ word = front_run (without_blanks line) (form_word f) k.cut.0 k.cut.1 ∙ sym at in
+    let is : is_form_word word ≡ true = ap is_form_word (sym same) ∙ form_words f in
+    false≢true (sym none ∙ is))
 
 pub says_no_pieces : (line : List ℕ) → is_skipped line ≡ false → HasNoPieces line → IsOnlySaid line Unknown
 says_no_pieces line h none = says_unknown line h (λ f k. none (Run (form_word f) ∷ form_rest f) k.cut)

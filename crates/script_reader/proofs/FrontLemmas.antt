@@ -7,6 +7,7 @@ use Rattle.std.proofs.lemmas.List.{take_all, take-append-drop}
 use Rattle.wave_text.specs.Words.{is_blank}
 use Rattle.script_reader.specs.declared.piece.Piece.{Piece}
 use Rattle.script_reader.specs.declared.piece.Piece.TheVariants.{Run, Text, Open, Close, Comma}
+use Rattle.script_reader.specs.inner.Begins.{first_run}
 use Rattle.script_reader.specs.Pieces.{is_solid, is_run, begins_solid, piece_text, IsPiece, IsFront, IsOnlyFront, without_blanks}
 
 -- ---- blanks
@@ -104,3 +105,10 @@ some_bytes (Text t) rest h e = cc
 some_bytes Open rest h e = cc
 some_bytes Close rest h e = cc
 some_bytes Comma rest h e = cc
+
+-- ---- the first run
+
+pub front_run : (text w rest : List ℕ) → IsFront text (Run w) rest → w ≡ first_run text
+front_run text w rest f =
+    let n : ℕ = prefix_len is_solid text in
+    (runs_same w (take n text) rest (drop n text) (all_of w f.form) (solid_front text) f.ends (solid_end text) (sym f.spelled ∙ sym (take-append-drop n text))).0

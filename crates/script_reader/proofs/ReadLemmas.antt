@@ -52,7 +52,7 @@ refused_stop shape line before n s fault.TooMany o e = record { said = s; fault 
 
 pub stopped_stop : (shape : Shape) (line : List ℕ) (before : Progress) (n : ℕ) (s : Said) (r : Refusal) → IsOnlySaid line s → Gives (Err r) (judged shape before.hosts before.begun before.events s) → IsStop shape line before n (stopped r n)
 stopped_stop shape line before n s (refusal.Fault f) o e = refused_stop shape line before n s f o e
-stopped_stop shape line before n s refusal.OutOfMemory o e = tt
+stopped_stop shape line before n s (refusal.OutOfMemory _) o e = tt
 
 -- ---- the reader's state is that of the lines so far
 

@@ -2,7 +2,7 @@
 use Rattle.std.specs.Prelude.{◌≡◌, ℕ, Bool, true, false, not, ◌||◌, ◌&&◌, ◌==◌, if◌then◌else◌, List, [], ◌∷◌, ◌++◌, All}
 use Rattle.std.specs.List.{list_all}
 use Rattle.wave_base.specs.Text.{IsPrintable}
-use Rattle.mace_lexer.specs.Texts.{quoted}
+use Rattle.wave_base.specs.Text.{quoted}
 use Rattle.wave_text.specs.Words.{is_blank}
 use Rattle.script_reader.specs.declared.piece.Piece.{Piece}
 use Rattle.script_reader.specs.declared.piece.Piece.TheVariants.{Run, Text, Open, Close, Comma}

@@ -96,5 +96,5 @@ pub record IsScriptOf (shape : Shape) (earlier : Earlier) (text : List ℕ) (r :
 
 -- want of memory says nothing
 abbrev pub IsAnswer : Shape → Earlier → List ℕ → Result Script ScriptError → Type 0
-IsAnswer shape earlier text (Err error.OutOfMemory) = Unit {0}
+IsAnswer shape earlier text (Err (error.OutOfMemory _)) = Unit {0}
 IsAnswer shape earlier text r = IsScriptOf shape earlier text r

@@ -1,3 +1,4 @@
+pub mod Begins
 pub mod Behind
 pub mod Gives
 pub mod Parts

@@ -54,7 +54,7 @@ pub enum ScriptError {
     TooMany { line: u32 },
     /// Memory was wanting, and nothing is said of the text.
     #[error("out of memory")]
-    OutOfMemory,
+    OutOfMemory(OutOfMemory),
 }
 
 /// The error of a fault on a line.
@@ -77,9 +77,9 @@ impl From<OutOfMemory> for ScriptError {
     ghost use Rattle.std.specs.Prelude.{◌≡◌};
     ghost use Rattle.script_reader.specs.declared.error.ScriptError.TheVariants as error;
 
-    ghost from_gives = { λ _ e. e ≡ error.OutOfMemory };
+    ghost from_gives = { λ refused e. e ≡ error.OutOfMemory refused };
 
-    fn from(_: OutOfMemory) -> ScriptError {
-        ScriptError::OutOfMemory
+    fn from(refused: OutOfMemory) -> ScriptError {
+        ScriptError::OutOfMemory(refused)
     }
 }

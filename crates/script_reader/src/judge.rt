@@ -1,4 +1,4 @@
-ghost use Rattle.std.specs.Prelude.{◌≡◌, ◌<◌, ◌≤◌, true, IfOk, IfSome, IfNone};
+ghost use Rattle.std.specs.Prelude.{◌≡◌, ◌<◌, ◌≤◌, true, Some, is_some, IfOk, IfSome, IfNone};
 ghost use Rattle.std.specs.List.{list_all};
 ghost use Rattle.wave_base.specs.Names.{is_digits};
 ghost use Rattle.wave_base.specs.Shapes.{IsShape};
@@ -9,14 +9,11 @@ ghost use Rattle.script_reader.specs.Forms.{is_literal, is_form};
 ghost use Rattle.script_reader.specs.Judged.{value_of, values_of, call_of, requested, move_to, judged_hosts, judged_form};
 ghost use Rattle.script_reader.specs.Scripts.{IsWellFormed, judged};
 ghost use Rattle.script_reader.specs.inner.Gives.{Gives};
-ghost use Rattle.script_reader.specs.declared.form.Literal.TheVariants as literal;
-ghost use Rattle.wave_base.specs.declared.value.Kind.TheVariants as kind;
 
 use crate::error::Fault;
 use crate::form::{Form, Literal};
 use crate::named::NamedShape;
 use crate::progress::Progress;
-use crate::quote::Quote;
 use crate::refusal::Refusal;
 use crate::said::Said;
 use crate::taken::Taken;
@@ -29,54 +26,71 @@ use wave_text::whole_of;
 
 // ---- arguments
 
-fn text_value(alloc: Global, text: &Quote) -> Result<Option<Value>, OutOfMemory>
-    ensures { IfOk result (λ o. o ≡ value_of kind.Text (literal.Text text.now)) }
-{
-    let bytes = text.bytes();
-    if bytes.len() > LITERAL_BYTES {
-        return Ok(None);
-    }
-    Ok(Some(Value::Str(Txt::from_bytes(alloc, bytes)?)))
-}
-
-// The value of an argument for a parameter of this kind.
-fn value_of(alloc: Global, kind: Kind, literal: &Literal) -> Result<Option<Value>, OutOfMemory>
+// Whether an argument fits a parameter of this kind.
+fn fits(kind: Kind, literal: &Literal) -> bool
     requires { is_literal literal.now ≡ true }
-    ensures { IfOk result (λ o. o ≡ value_of kind literal.now) }
+    ensures { result ≡ is_some (value_of kind literal.now) }
 {
     match (kind, literal) {
-        (Kind::Int, Literal::Number(digits)) => match whole_of(digits.as_slice()) {
-            Some(n) => Ok(Some(Value::Int(n))),
-            None => Ok(None),
-        },
-        (Kind::Bool, Literal::Truth(b)) => Ok(Some(Value::Bool(*b))),
-        (Kind::Text, Literal::Text(text)) => text_value(alloc, text),
-        _ => Ok(None),
+        (Kind::Int, Literal::Number(digits)) => whole_of(digits.as_slice()).is_some(),
+        (Kind::Bool, Literal::Truth(_)) => true,
+        (Kind::Text, Literal::Text(text)) => text.bytes().len() <= LITERAL_BYTES,
+        _ => false,
     }
 }
 
-// The values of arguments for as many parameters.
-fn values_of(
-    alloc: Global,
-    params: &[Kind],
-    args: &[Literal],
-) -> Result<Option<Seq<Value>>, OutOfMemory>
+// Whether arguments fit as many parameters. Nothing is copied for that.
+fn all_fit(params: &[Kind], args: &[Literal]) -> bool
     requires { list_all is_literal args.now ≡ true }
-    ensures { IfOk result (λ o. o ≡ values_of params.now args.now) }
+    ensures { result ≡ is_some (values_of params.now args.now) }
 {
-    let mut values = Vec::new(alloc);
     let mut kinds = params;
     for literal in args {
         let [kind, others @ ..] = kinds else {
-            return Ok(Some(Seq::from_vec(values)));
+            return true;
         };
-        let Some(value) = value_of(alloc, *kind, literal)? else {
-            return Ok(None);
-        };
-        values.push(value)?;
+        if !fits(*kind, literal) {
+            return false;
+        }
         kinds = others;
     }
-    Ok(Some(Seq::from_vec(values)))
+    true
+}
+
+// The value of an argument that fits a parameter of this kind.
+fn value_of(alloc: Global, kind: Kind, literal: &Literal) -> Result<Value, OutOfMemory>
+    requires form { is_literal literal.now ≡ true }
+    requires fits { is_some (value_of kind literal.now) ≡ true }
+    ensures { IfOk result (λ v. value_of kind literal.now ≡ Some v) }
+{
+    match (kind, literal) {
+        (Kind::Int, Literal::Number(digits)) => {
+            Ok(Value::Int(whole_of(digits.as_slice()).unwrap()))
+        }
+        (Kind::Bool, Literal::Truth(b)) => Ok(Value::Bool(*b)),
+        (Kind::Text, Literal::Text(text)) => {
+            Ok(Value::Str(Txt::from_bytes(alloc, text.bytes())?))
+        }
+        _ => unreachable!(),
+    }
+}
+
+// The values of arguments that fit as many parameters.
+fn values_of(alloc: Global, params: &[Kind], args: &[Literal]) -> Result<Seq<Value>, OutOfMemory>
+    requires form { list_all is_literal args.now ≡ true }
+    requires fit { is_some (values_of params.now args.now) ≡ true }
+    ensures { IfOk result (λ vs. values_of params.now args.now ≡ Some vs) }
+{
+    let mut values = Seq::new(alloc);
+    let mut kinds = params;
+    for literal in args {
+        let [kind, others @ ..] = kinds else {
+            return Ok(values);
+        };
+        values.add(value_of(alloc, *kind, literal)?)?;
+        kinds = others;
+    }
+    Ok(values)
 }
 
 // The call of an event with these parameters.
@@ -87,14 +101,15 @@ fn call_of(alloc: Global, event: u16, params: &[Kind], args: &[Literal]) -> Resu
     if args.len() != params.len() {
         return Err(Refusal::Fault(Fault::ArgCount));
     }
-    match values_of(alloc, params, args)? {
-        Some(args) => Ok(Line::Request(Call {
-            event,
-            args,
-            generation: 0,
-        })),
-        None => Err(Refusal::Fault(Fault::ArgType)),
+    if !all_fit(params, args) {
+        return Err(Refusal::Fault(Fault::ArgType));
     }
+    let args = values_of(alloc, params, args)?;
+    Ok(Line::Request(Call {
+        event,
+        args,
+        generation: 0,
+    }))
 }
 
 // The call of the event of that name.

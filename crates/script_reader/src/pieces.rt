@@ -2,6 +2,7 @@ ghost use Rattle.std.specs.Prelude.{◌≡◌, ◌<◌, ◌≤◌, ◌∷◌, fa
 ghost use Rattle.std.specs.List.{prefix_len};
 ghost use Rattle.wave_text.specs.Words.{is_blank};
 ghost use Rattle.script_reader.specs.Pieces.{is_sign, is_solid, begins_sign, IsOnlyFront, HasNoFront, without_blanks, AreOnlyPieces, HasNoPieces};
+ghost use Rattle.script_reader.specs.inner.Begins.{first_run};
 
 use crate::piece::Piece;
 use crate::quote::Quote;
@@ -45,6 +46,14 @@ fn run_len(text: &[u8]) -> usize
     text.iter().take_while(|b| is_solid(**b)).count()
 }
 
+/// The run at the front of a line behind its blanks, which may be empty.
+pub(crate) fn first_run(line: &[u8]) -> &[u8]
+    ensures { result.now ≡ first_run (without_blanks line.now) }
+{
+    let text = without_blanks(line);
+    &text[..run_len(text)]
+}
+
 // The run at the front of a text.
 fn run_piece(alloc: Global, text: &[u8]) -> Result<Option<(Piece, &[u8])>, OutOfMemory>
     requires { begins_sign text.now ≡ false }
@@ -56,8 +65,8 @@ fn run_piece(alloc: Global, text: &[u8]) -> Result<Option<(Piece, &[u8])>, OutOf
     if len == 0 {
         return Ok(None);
     }
-    let bytes = Vec::from_slice(alloc, &text[..len])?;
-    Ok(Some((Piece::Run(Seq::from_vec(bytes)), &text[len..])))
+    let bytes = Seq::from_slice(alloc, &text[..len])?;
+    Ok(Some((Piece::Run(bytes), &text[len..])))
 }
 
 // The text in quotes at the front of a text; its opening quote is left out.

@@ -30,10 +30,7 @@ fn close(batches: &mut Seq<Seq<Line>>, batch: Seq<Line>) -> Result<(), OutOfMemo
     if batch.is_empty() {
         return Ok(());
     }
-    match batches.push(batch) {
-        Ok(()) => Ok(()),
-        Err(_) => Err(OutOfMemory),
-    }
+    batches.add(batch)
 }
 
 impl Progress {
@@ -56,10 +53,7 @@ impl Progress {
     {
         self.begun = true;
         self.events += 1;
-        match self.open_lines.push(line) {
-            Ok(()) => Ok(()),
-            Err(_) => Err(OutOfMemory),
-        }
+        self.open_lines.add(line)
     }
 
     fn settle(&mut self, alloc: Global) -> Result<(), OutOfMemory>

@@ -10,7 +10,7 @@ pub enum Refusal {
     /// What is wrong with the line.
     Fault(Fault),
     /// Memory was wanting, and nothing is said of the line.
-    OutOfMemory,
+    OutOfMemory(OutOfMemory),
 }
 
 impl From<Fault> for Refusal {
@@ -28,10 +28,10 @@ impl From<OutOfMemory> for Refusal {
     ghost use Rattle.std.specs.Prelude.{◌≡◌};
     ghost use Rattle.script_reader.specs.declared.refusal.Refusal.TheVariants as refusal;
 
-    ghost from_gives = { λ _ r. r ≡ refusal.OutOfMemory };
+    ghost from_gives = { λ refused r. r ≡ refusal.OutOfMemory refused };
 
-    fn from(_: OutOfMemory) -> Refusal {
-        Refusal::OutOfMemory
+    fn from(refused: OutOfMemory) -> Refusal {
+        Refusal::OutOfMemory(refused)
     }
 }
 
@@ -41,6 +41,6 @@ pub(crate) fn stopped(refusal: Refusal, line: u32) -> ScriptError
 {
     match refusal {
         Refusal::Fault(fault) => refused(fault, line),
-        Refusal::OutOfMemory => ScriptError::OutOfMemory,
+        Refusal::OutOfMemory(refused) => ScriptError::OutOfMemory(refused),
     }
 }

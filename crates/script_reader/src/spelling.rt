@@ -1,7 +1,7 @@
-ghost use Rattle.std.specs.Prelude.{◌≡◌, ◌∷◌, ◌↔◌, [], List, ℕ, IsTrue, codes, IfOk, IfSome, IfNone};
+ghost use Rattle.std.specs.Prelude.{◌≡◌, ◌∷◌, ◌↔◌, [], List, ℕ, true, IsTrue, IsFalse, codes, IfOk, IfSome, IfNone};
 ghost use Rattle.script_reader.specs.inner.Behind.{behind_of};
 ghost use Rattle.script_reader.specs.Forms.{IsOnlyFormOf, HasNoFormOf};
-ghost use Rattle.script_reader.specs.inner.Parts.{IsLiteralPiece, IsNoLiteralPiece, AreOnlyLiterals, AreNoLiterals, IsNumber, IsNoNumber, IsNamed, IsNotNamed, IsTo, IsNotTo, IsMove, IsNoMove, SpellsOnly, SpellsNone, behind_in};
+ghost use Rattle.script_reader.specs.inner.Parts.{is_literal_run, spells_literal, IsLiteralPiece, SpellLiterals, AreOnlyLiterals, AreNoLiterals, IsNumber, IsNoNumber, IsNamed, IsNotNamed, IsTo, IsNotTo, IsMove, IsNoMove, SpellsOnly, SpellsNone, behind_in};
 ghost use Rattle.script_reader.specs.declared.piece.Piece.TheVariants.{Run, Close};
 
 use crate::form::{Form, Literal};
@@ -10,12 +10,6 @@ use path_text::written_steps;
 use std::alloc::Global;
 use wave_base::{OutOfMemory, Seq};
 use wave_text::{is_digits, is_whole, is_word};
-
-fn copied(alloc: Global, bytes: &[u8]) -> Result<Seq<u8>, OutOfMemory>
-    ensures { IfOk result (λ s. s ≡ bytes.now) }
-{
-    Ok(Seq::from_vec(Vec::from_slice(alloc, bytes)?))
-}
 
 // The bytes of a run.
 fn run_in(piece: &Piece) -> Option<&[u8]>
@@ -30,33 +24,46 @@ fn run_in(piece: &Piece) -> Option<&[u8]>
 
 // ---- literals
 
-// The literal that a run spells.
-fn run_literal(alloc: Global, bytes: &Seq<u8>) -> Result<Option<Literal>, OutOfMemory>
-    ensures some { IfOk result (λ o. IfSome o (IsLiteralPiece (Run bytes.now))) }
-    ensures none { IfOk result (λ o. IfNone o (IsNoLiteralPiece (Run bytes.now))) }
+// Whether a piece spells a literal.
+fn spells_literal(piece: &Piece) -> bool
+    ensures { result ≡ spells_literal piece.now }
 {
-    let bytes = bytes.as_slice();
-    if is_whole(bytes) {
-        return Ok(Some(Literal::Number(copied(alloc, bytes)?)));
+    match piece {
+        Piece::Run(bytes) => is_literal_run(bytes.as_slice()),
+        Piece::Text(_) => true,
+        Piece::Open | Piece::Close | Piece::Comma => false,
     }
+}
+
+fn is_literal_run(bytes: &[u8]) -> bool
+    ensures { result ≡ is_literal_run bytes.now }
+{
+    is_whole(bytes) || bytes == b"true".as_slice() || bytes == b"false".as_slice()
+}
+
+// The literal that a run spells.
+fn run_literal(alloc: Global, bytes: &[u8]) -> Result<Literal, OutOfMemory>
+    requires { is_literal_run bytes.now ≡ true }
+    ensures { IfOk result (IsLiteralPiece (Run bytes.now)) }
+{
     if bytes == b"true".as_slice() {
-        return Ok(Some(Literal::Truth(true)));
+        return Ok(Literal::Truth(true));
     }
     if bytes == b"false".as_slice() {
-        return Ok(Some(Literal::Truth(false)));
+        return Ok(Literal::Truth(false));
     }
-    Ok(None)
+    Ok(Literal::Number(Seq::from_slice(alloc, bytes)?))
 }
 
 // The literal that a piece spells.
-fn literal_of(alloc: Global, piece: &Piece) -> Result<Option<Literal>, OutOfMemory>
-    ensures some { IfOk result (λ o. IfSome o (IsLiteralPiece piece.now)) }
-    ensures none { IfOk result (λ o. IfNone o (IsNoLiteralPiece piece.now)) }
+fn literal_of(alloc: Global, piece: &Piece) -> Result<Literal, OutOfMemory>
+    requires { spells_literal piece.now ≡ true }
+    ensures { IfOk result (IsLiteralPiece piece.now) }
 {
     match piece {
-        Piece::Run(bytes) => run_literal(alloc, bytes),
-        Piece::Text(text) => Ok(Some(Literal::Text(text.copy(alloc)?))),
-        Piece::Open | Piece::Close | Piece::Comma => Ok(None),
+        Piece::Run(bytes) => run_literal(alloc, bytes.as_slice()),
+        Piece::Text(text) => Ok(Literal::Text(text.copy(alloc)?)),
+        Piece::Open | Piece::Close | Piece::Comma => unreachable!(),
     }
 }
 
@@ -83,30 +90,42 @@ fn is_close(pieces: &[Piece]) -> bool
     matches!(pieces, [Piece::Close])
 }
 
-// The literals that these pieces spell behind an opening parenthesis.
-fn literals_of(alloc: Global, pieces: &[Piece]) -> Result<Option<Seq<Literal>>, OutOfMemory>
-    ensures some { IfOk result (λ o. IfSome o (AreOnlyLiterals pieces.now)) }
-    ensures none { IfOk result (λ o. IfNone o (AreNoLiterals pieces.now)) }
+// Whether these pieces spell literals behind an opening parenthesis. Nothing is copied for that.
+fn are_literals(pieces: &[Piece]) -> bool
+    ensures some { IsTrue result → SpellLiterals pieces.now }
+    ensures none { IsFalse result → AreNoLiterals pieces.now }
 {
-    let mut literals = Vec::new(alloc);
     if is_close(pieces) {
-        return Ok(Some(Seq::from_vec(literals)));
+        return true;
     }
     let mut rest = pieces;
     loop {
         let [piece, after @ ..] = rest else {
-            return Ok(None);
+            return false;
         };
-        let Some(literal) = literal_of(alloc, piece)? else {
-            return Ok(None);
-        };
-        literals.push(literal)?;
+        if !spells_literal(piece) {
+            return false;
+        }
         match behind_literal(after) {
             Behind::More(more) => rest = more,
-            Behind::End => return Ok(Some(Seq::from_vec(literals))),
-            Behind::Wrong => return Ok(None),
+            Behind::End => return true,
+            Behind::Wrong => return false,
         }
     }
+}
+
+// These literals: behind each of them stands a sign.
+fn literals_of(alloc: Global, pieces: &[Piece]) -> Result<Seq<Literal>, OutOfMemory>
+    requires { SpellLiterals pieces.now }
+    ensures { IfOk result (AreOnlyLiterals pieces.now) }
+{
+    let mut literals = Seq::new(alloc);
+    let mut rest = pieces;
+    while let [piece, _, after @ ..] = rest {
+        literals.add(literal_of(alloc, piece)?)?;
+        rest = after;
+    }
+    Ok(literals)
 }
 
 // ---- lines
@@ -128,7 +147,7 @@ fn hosts_form(alloc: Global, rest: &[Piece]) -> Result<Option<Form>, OutOfMemory
     ensures none { IfOk result (λ o. IfNone o (HasNoFormOf (codes "hosts") rest.now)) }
 {
     match number_alone(rest) {
-        Some(digits) => Ok(Some(Form::Hosts(copied(alloc, digits)?))),
+        Some(digits) => Ok(Some(Form::Hosts(Seq::from_slice(alloc, digits)?))),
         None => Ok(None),
     }
 }
@@ -156,10 +175,11 @@ fn request_form(alloc: Global, rest: &[Piece]) -> Result<Option<Form>, OutOfMemo
     let Some((name, args)) = name_before(rest) else {
         return Ok(None);
     };
-    let Some(args) = literals_of(alloc, args)? else {
+    if !are_literals(args) {
         return Ok(None);
-    };
-    Ok(Some(Form::Request(copied(alloc, name)?, args)))
+    }
+    let args = literals_of(alloc, args)?;
+    Ok(Some(Form::Request(Seq::from_slice(alloc, name)?, args)))
 }
 
 // The digits behind the word `to`.
@@ -202,7 +222,7 @@ fn move_form(alloc: Global, rest: &[Piece]) -> Result<Option<Form>, OutOfMemory>
     let Some(steps) = written_steps(alloc, path)? else {
         return Ok(None);
     };
-    Ok(Some(Form::Move(steps, copied(alloc, digits)?)))
+    Ok(Some(Form::Move(steps, Seq::from_slice(alloc, digits)?)))
 }
 
 fn snapshot_form(rest: &[Piece]) -> Option<Form>

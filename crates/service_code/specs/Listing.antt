@@ -1,9 +1,10 @@
 -- The code listing: a line per function, and then one per instruction.
-use Rattle.std.specs.Prelude.{◌≡◌, ◌<◌, ℕ, suc, if◌then◌else◌, List, [], ◌∷◌, ◌++◌, length, codes, All, Option, Some, None, slice_get}
+use Rattle.std.specs.Prelude.{◌≡◌, ◌<◌, ℕ, suc, if◌then◌else◌, List, [], ◌∷◌, ◌++◌, length, codes, All}
 use Rattle.std.specs.Fmt.{decimal}
 use Rattle.wave_base.specs.Shapes.{class_name}
 use Rattle.wave_base.specs.declared.shape.Shape.{Shape}
 use Rattle.wave_base.specs.declared.span.Span.{Span}
+use Rattle.wave_text.specs.Places.{place_text}
 use Rattle.service_code.specs.declared.instr.Instr.{Instr}
 use Rattle.service_code.specs.declared.program.Function.{Function}
 use Rattle.service_code.specs.declared.program.Program.{Program}
@@ -14,13 +15,9 @@ abbrev pub spaced : List (List ℕ) → List ℕ
 spaced [] = []
 spaced (w ∷ ws) = 32 ∷ (w ++ spaced ws)
 
--- `@line:col`
-abbrev pub place_text : Span → List ℕ
-place_text p = codes "@" ++ decimal p.line ++ codes ":" ++ decimal p.col
-
--- an instruction's number, its name, its operands and its place
+-- an instruction's number, its name, its operands, and `@` before its place
 abbrev pub line_text : ℕ → Instr → Span → List ℕ
-line_text n i p = decimal n ++ spaced (name_of i ∷ operands_of i) ++ spaced (place_text p ∷ []) ++ 10 ∷ []
+line_text n i p = decimal n ++ spaced (name_of i ∷ operands_of i) ++ spaced ((codes "@" ++ place_text p) ∷ []) ++ 10 ∷ []
 
 -- the instructions from number n on
 abbrev pub lines_text : ℕ → List Instr → List Span → List ℕ

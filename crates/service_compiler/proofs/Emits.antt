@@ -1,77 +1,80 @@
--- Lines emitted one after the other.
-use Rattle.std.proofs.Common.{◌≡◌, ℕ, ◌+◌, ◌<◌, List, [], ◌∷◌, ◌++◌, length, map, take, get_or, true, false, refl, sym, ap, ap₂, ◌∙◌, arith, append_assoc, length-append}
-use Rattle.std.specs.Prelude.{slice_set}
-use Rattle.std.proofs.Math.Seq.{set-append_seam}
+-- Trees, statements and phases, one after the other; and what leads a statement's operands to it.
+use Rattle.std.proofs.Common.{◌≡◌, ℕ, ◌+◌, ◌<◌, false, true, List, [], ◌∷◌, ◌++◌, length, map, take, get_or, refl, sym, ap, subst, ◌∙◌, arith, append_assoc, length-append}
 use Rattle.std.proofs.lemmas.List.{append-nil}
 use Rattle.wave_base.specs.declared.span.Span.{Span}
+use Rattle.wave_base.specs.declared.value.Value.{Value}
 use Rattle.resolved_service.specs.declared.expr.Expr.{Expr}
 use Rattle.resolved_service.specs.declared.service.Method.{Method}
-use Rattle.resolved_service.specs.View.{tree_of, trees_of}
+use Rattle.resolved_service.specs.declared.service.Phase.{Phase}
+use Rattle.resolved_service.specs.declared.stmt.Stmt.{Stmt}
+use Rattle.resolved_service.specs.Steps.{Step, PutLocal, PutField, Send, For, Steps, step_of, steps_in}
+use Rattle.resolved_service.specs.View.{Tree, tree_of, trees_of}
 use Rattle.service_code.specs.declared.instr.Instr.TheVariants as i
 use Rattle.code_scheme.specs.declared.line.Line.{Line}
-use Rattle.code_scheme.specs.Scheme.{line, and_code, or_code, else_code, tree_code, trees_code}
-use Rattle.code_scheme.specs.Texts.{Text}
-use Rattle.service_compiler.proofs.Notes.{item_more}
+use Rattle.code_scheme.specs.Scheme.{line, literal_instr, and_code, or_code, else_code, loop_at, tree_code, trees_code, two_code, step_code, steps_code}
+use Rattle.code_scheme.specs.Texts.{Text, place_of_text, value_uses, tree_uses, trees_uses, step_uses, steps_uses, phases_uses}
+use Rattle.service_compiler.specs.inner.Drafts.{Draft, Emits, Puts, EmitsTree, EmitsTrees, EmitsStep, EmitsSteps}
+use Rattle.service_compiler.specs.inner.Fronts.{phase_code, phases_front, loop_code}
+use Rattle.service_compiler.specs.inner.Operands.{both_code, operands_code, operands_uses}
+use Rattle.service_compiler.proofs.Drafts.{emits_then, emits_same, emits_put, none_then}
+use Rattle.service_compiler.proofs.Notes.{item_more, uses_next}
 
-pub long_after : (base c ca : List Line) → c ≡ base ++ ca → length c ≡ length base + length ca
-long_after base c ca e = ap length e ∙ length-append base ca
+-- ---- the same tree, said otherwise
 
--- two pieces
-pub emits_then : (base c1 c2 : List Line) (f g : ℕ → List Line) → c1 ≡ base ++ f (length base) → c2 ≡ c1 ++ g (length c1) → c2 ≡ base ++ (f (length base) ++ g (length base + length (f (length base))))
-emits_then base c1 c2 f g e1 e2 =
-    let a = f (length base) in
-    e2 ∙ ap (λ m. c1 ++ g m) (long_after base c1 a e1)
-    ∙ ap (λ c. c ++ g (length base + length a)) e1
-    ∙ append_assoc base a (g (length base + length a))
+pub tree_is : (methods : List Method) {c0 c1 : Draft} {s t : Tree} → s ≡ t → EmitsTree methods c0 c1 t → EmitsTree methods c0 c1 s
+tree_is methods {c0} {c1} is e = subst (EmitsTree methods c0 c1) (sym is) e
 
--- no piece, and then one
-pub nothing_then : (base c1 c2 a : List Line) (f : ℕ → List Line) → a ≡ [] → c1 ≡ base ++ a → c2 ≡ c1 ++ f (length c1) → c2 ≡ base ++ f (length base)
-nothing_then base c1 c2 a f none e1 e2 =
-    let same : c1 ≡ base = e1 ∙ ap (λ l. base ++ l) none ∙ append-nil base in
-    e2 ∙ ap (λ c. c ++ f (length c)) same
+pub step_is : (methods : List Method) {c0 c1 : Draft} {s t : Step} → s ≡ t → EmitsStep methods c0 c1 t → EmitsStep methods c0 c1 s
+step_is methods {c0} {c1} is e = subst (EmitsStep methods c0 c1) (sym is) e
 
--- a piece, and a line
-pub emits_one : (base c1 c2 : List Line) (f : ℕ → List Line) (l : Line) → c1 ≡ base ++ f (length base) → c2 ≡ c1 ++ l ∷ [] → c2 ≡ base ++ (f (length base) ++ l ∷ [])
-emits_one base c1 c2 f l e1 e2 = emits_then base c1 c2 f (λ n. l ∷ []) e1 e2
+pub literal_is : {c0 c1 : Draft} {v w : Value} (at : Span) → v ≡ w → Emits c0 c1 (value_uses w) (λ all n. line (literal_instr all w) at ∷ []) → Emits c0 c1 (value_uses v) (λ all n. line (literal_instr all v) at ∷ [])
+literal_is {c0} {c1} at is e = subst (λ v. Emits c0 c1 (value_uses v) (λ all n. line (literal_instr all v) at ∷ [])) (sym is) e
 
--- a piece, and two lines
-pub emits_two : (base c1 c2 c3 : List Line) (f : ℕ → List Line) (l m : Line) → c1 ≡ base ++ f (length base) → c2 ≡ c1 ++ l ∷ [] → c3 ≡ c2 ++ m ∷ [] → c3 ≡ base ++ (f (length base) ++ l ∷ m ∷ [])
-emits_two base c1 c2 c3 f l m e1 e2 e3 =
-    emits_one base c2 c3 (λ n. f n ++ l ∷ []) m (emits_one base c1 c2 f l e1 e2) e3
-    ∙ ap (λ x. base ++ x) (append_assoc (f (length base)) (l ∷ []) (m ∷ []))
+-- ---- the code of items, one after the other
 
--- a choice: the test's jump leads behind the first piece and its jump, and that one behind the second piece; both are written last
-pub choice_emitted : (base c1 c2 c3 c4 c5 : List Line) (ct : List Line) (ca cb : ℕ → List Line) (x y : Line) (at : Span) (test skip other end : ℕ) → c1 ≡ base ++ ct → test ≡ length c1 → c2 ≡ c1 ++ x ∷ [] → c3 ≡ c2 ++ ca (length c2) → skip ≡ length c3 → c4 ≡ c3 ++ y ∷ [] → other ≡ length c4 → c5 ≡ c4 ++ cb (length c4) → end ≡ length c5 →
-    slice_set (slice_set c5 test (line (i.JumpFalse other) at)) skip (line (i.Jump end) at) ≡ base ++ else_code (length base) at ct false (ca (length base + length ct + 1)) (cb (length base + length ct + 1 + length (ca (length base + length ct + 1)) + 1))
-choice_emitted base c1 c2 c3 c4 c5 ct ca cb x y at test skip other end e1 m1 e2 e3 m3 e4 m4 e5 m5 =
-    let n = length base in
-    let l1 = long_after base c1 ct e1 in
-    let l2 : length c2 ≡ n + length ct + 1 = omega (arith, ap length e2, length-append c1 (x ∷ []), l1) in
-    let a = ca (n + length ct + 1) in
-    let e3' : c3 ≡ c2 ++ a = e3 ∙ ap (λ k. c2 ++ ca k) l2 in
-    let l3 = long_after c2 c3 a e3' in
-    let l4 : length c4 ≡ n + length ct + 1 + length a + 1 = omega (arith, ap length e4, length-append c3 (y ∷ []), l3, l2) in
-    let b = cb (n + length ct + 1 + length a + 1) in
-    let e5' : c5 ≡ c4 ++ b = e5 ∙ ap (λ k. c4 ++ cb k) l4 in
-    let l5 = long_after c4 c5 b e5' in
-    let j1 = line (i.JumpFalse other) at in
-    let j2 = line (i.Jump end) at in
-    let s1 : other ≡ n + length ct + 1 + length a + 1 = m4 ∙ l4 in
-    let s2 : end ≡ n + length ct + 1 + length a + 1 + length b = omega (arith, m5, l5, l4) in
-    let all : c5 ≡ c1 ++ x ∷ (a ++ y ∷ b) =
-    e5' ∙ ap (λ c. c ++ b) (e4 ∙ ap (λ c. c ++ y ∷ []) (e3' ∙ ap (λ c. c ++ a) e2))
-    ∙ append_assoc ((c1 ++ x ∷ []) ++ a) (y ∷ []) b
-    ∙ append_assoc (c1 ++ x ∷ []) a (y ∷ b)
-    ∙ append_assoc c1 (x ∷ []) (a ++ y ∷ b) in
-    let k : skip ≡ length (c1 ++ j1 ∷ a) = omega (arith, m3, l3, l2, l1, length-append c1 (j1 ∷ a)) in
-    ap (λ c. slice_set c skip j2) (ap₂ (λ c k. slice_set c k j1) all m1 ∙ set-append_seam c1 x (a ++ y ∷ b) j1 ∙ sym (append_assoc c1 (j1 ∷ a) (y ∷ b)))
-    ∙ ap (λ k. slice_set ((c1 ++ j1 ∷ a) ++ y ∷ b) k j2) k
-    ∙ set-append_seam (c1 ++ j1 ∷ a) y b j2
-    ∙ append_assoc c1 (j1 ∷ a) (j2 ∷ b)
-    ∙ (λ j. e1 j ++ line (i.JumpFalse (s1 j)) at ∷ (a ++ line (i.Jump (s2 j)) at ∷ b))
-    ∙ append_assoc base ct _
+module _ {A : Type 0} (one : ℕ → A → List Line) (all : ℕ → List A → List Line) (none : (n : ℕ) → all n [] ≡ []) (more : (n : ℕ) (x : A) (xs : List A) → all n (x ∷ xs) ≡ one n x ++ all (n + length (one n x)) xs) where
+  code_push : (xs : List A) (x : A) (n : ℕ) → all n (xs ++ x ∷ []) ≡ all n xs ++ one (n + length (all n xs)) x
+  code_push [] x n =
+      let e : n ≡ n + length (all n []) = omega (arith, ap length (none n)) in
+      more n x [] ∙ ap (λ l. one n x ++ l) (none (n + length (one n x))) ∙ append-nil (one n x)
+      ∙ ap (λ m. one m x) e ∙ ap (λ l. l ++ one (n + length (all n [])) x) (sym (none n))
+  code_push (y ∷ xs) x n =
+      let cy = one n y in
+      let cs = all (n + length cy) xs in
+      let e : n + length cy + length cs ≡ n + length (all n (y ∷ xs)) = omega (arith, ap length (more n y xs), length-append cy cs) in
+      more n y (xs ++ x ∷ [])
+      ∙ ap (λ l. cy ++ l) (code_push xs x (n + length cy))
+      ∙ sym (append_assoc cy cs (one (n + length cy + length cs) x))
+      ∙ (λ j. sym (more n y xs) j ++ one (e j) x)
 
--- `&&` and `||` are choices
+  pub code_next : (xs : List A) (k : ℕ) (x : A) → k < length xs → x ≡ get_or xs k x → (n : ℕ) → all n (take k xs) ++ one (n + length (all n (take k xs))) x ≡ all n (take (k + 1) xs)
+  code_next xs k x lt at n = sym (code_push (take k xs) x n) ∙ ap (all n) (sym (item_more xs k x lt at))
+
+module _ (methods : List Method) {c0 c1 c2 : Draft} where
+  pub exprs_next : (xs : List Expr) (k : ℕ) (x : Expr) → k < length xs → x ≡ get_or xs k x →
+      EmitsTrees methods c0 c1 (trees_of (map tree_of (take k xs))) → EmitsTree methods c1 c2 (tree_of x) → EmitsTrees methods c0 c2 (trees_of (map tree_of (take (k + 1) xs)))
+  exprs_next xs k x lt at a b =
+      emits_same (uses_next (λ e. tree_uses (tree_of e)) (λ es. trees_uses (trees_of (map tree_of es))) refl (λ y ys. refl) xs k x lt at)
+      (λ all. code_next (λ n e. tree_code methods all n (tree_of e)) (λ n es. trees_code methods all n (trees_of (map tree_of es))) (λ n. refl) (λ n y ys. refl) xs k x lt at)
+      (emits_then a b)
+
+  pub stmts_next : (xs : List Stmt) (k : ℕ) (x : Stmt) → k < length xs → x ≡ get_or xs k x →
+      EmitsSteps methods c0 c1 (steps_in (take k xs)) → EmitsStep methods c1 c2 (step_of x) → EmitsSteps methods c0 c2 (steps_in (take (k + 1) xs))
+  stmts_next xs k x lt at a b =
+      emits_same (uses_next (λ s. step_uses (step_of s)) (λ ss. steps_uses (steps_in ss)) refl (λ y ys. refl) xs k x lt at)
+      (λ all. code_next (λ n s. step_code methods all n (step_of s)) (λ n ss. steps_code methods all n (steps_in ss)) (λ n. refl) (λ n y ys. refl) xs k x lt at)
+      (emits_then a b)
+
+  pub phases_next : (xs : List Phase) (k : ℕ) (x : Phase) → k < length xs → x ≡ get_or xs k x →
+      Emits c0 c1 (phases_uses (take k xs)) (λ all n. phases_front methods all n (take k xs)) → Emits c1 c2 (tree_uses (tree_of x.key) ++ steps_uses (steps_in x.body)) (λ all n. phase_code methods all n x) →
+      Emits c0 c2 (phases_uses (take (k + 1) xs)) (λ all n. phases_front methods all n (take (k + 1) xs))
+  phases_next xs k x lt at a b =
+      emits_same (uses_next (λ (f : Phase). tree_uses (tree_of f.key) ++ steps_uses (steps_in f.body)) phases_uses refl (λ y ys. refl) xs k x lt at)
+      (λ all. code_next (phase_code methods all) (phases_front methods all) (λ n. refl) (λ n y ys. refl) xs k x lt at)
+      (emits_then a b)
+
+-- ---- `&&` and `||` are choices
+
 pub and_choice : (n : ℕ) (at : Span) (ca cb : List Line) → else_code n at ca false cb (line (i.PushBool false) at ∷ []) ≡ and_code n at ca cb
 and_choice n at ca cb = refl
 
@@ -80,24 +83,52 @@ or_choice n at ca cb =
     let e : n + length ca + 1 + 1 + 1 ≡ n + length ca + 3 = omega arith in
     ap (λ k. ca ++ line (i.JumpFalse k) at ∷ line (i.PushBool true) at ∷ line (i.Jump (k + length (cb k))) at ∷ cb k) e
 
--- expressions one after the other
-module _ (methods : List Method) (texts : List Text) where
-  pub exprs_push : (xs : List Expr) (x : Expr) (n : ℕ) → trees_code methods texts n (trees_of (map tree_of (xs ++ x ∷ []))) ≡ trees_code methods texts n (trees_of (map tree_of xs)) ++ tree_code methods texts (n + length (trees_code methods texts n (trees_of (map tree_of xs)))) (tree_of x)
-  exprs_push [] x n = let e : n ≡ n + 0 = omega arith in none (tree_code methods texts n (tree_of x)) ∙ ap (λ m. tree_code methods texts m (tree_of x)) e
-    where
-      none : (l : List Line) → l ++ [] ≡ l
-      none [] = refl
-      none (y ∷ l) = ap (λ m. y ∷ m) (none l)
-  exprs_push (y ∷ xs) x n =
-      let cy = tree_code methods texts n (tree_of y) in
-      let cs = trees_code methods texts (n + length cy) (trees_of (map tree_of xs)) in
-      let e : n + length cy + length cs ≡ n + length (cy ++ cs) = omega (arith, length-append cy cs) in
-      ap (λ l. cy ++ l) (exprs_push xs x (n + length cy))
-      ∙ sym (append_assoc cy cs (tree_code methods texts (n + length cy + length cs) (tree_of x)))
-      ∙ ap (λ m. (cy ++ cs) ++ tree_code methods texts m (tree_of x)) e
+-- ---- a statement behind its operands
 
-  pub exprs_next : (xs : List Expr) (k : ℕ) (x : Expr) → k < length xs → x ≡ get_or xs k x → (base c1 c2 : List Line) → c1 ≡ base ++ trees_code methods texts (length base) (trees_of (map tree_of (take k xs))) → c2 ≡ c1 ++ tree_code methods texts (length c1) (tree_of x) →
-      c2 ≡ base ++ trees_code methods texts (length base) (trees_of (map tree_of (take (k + 1) xs)))
-  exprs_next xs k x lt at base c1 c2 e1 e2 =
-      emits_then base c1 c2 (λ n. trees_code methods texts n (trees_of (map tree_of (take k xs)))) (λ n. tree_code methods texts n (tree_of x)) e1 e2
-      ∙ ap (λ l. base ++ l) (sym (exprs_push (take k xs) x (length base)) ∙ ap (λ ys. trees_code methods texts (length base) (trees_of (map tree_of ys))) (sym (item_more xs k x lt at)))
+module _ (methods : List Method) {c0 c1 c2 : Draft} where
+  -- lines take them
+  pub put_step : {s t : Step} {ls : List Line} → s ≡ t → Emits c0 c1 (operands_uses s) (λ all n. operands_code methods all n s) → Puts c1 c2 ls →
+      operands_uses t ≡ step_uses t → ((all : List Text) (n : ℕ) → operands_code methods all n t ++ ls ≡ step_code methods all n t) → EmitsStep methods c0 c2 s
+  put_step {s} {t} is a b uses code =
+      step_is methods is (emits_same uses code (emits_put (subst (λ x. Emits c0 c1 (operands_uses x) (λ all n. operands_code methods all n x)) is a) b))
+
+  put_two : {s t : Step} {l : Line} (k e : Tree) → s ≡ t → Emits c0 c1 (operands_uses s) (λ all n. operands_code methods all n s) → Puts c1 c2 (l ∷ []) →
+      operands_uses t ≡ step_uses t → ((all : List Text) (n : ℕ) → operands_code methods all n t ≡ both_code methods all n k e) → ((all : List Text) (n : ℕ) → two_code methods all n k e l ≡ step_code methods all n t) → EmitsStep methods c0 c2 s
+  put_two {s} {t} {l} k e is a b uses both two =
+      put_step is a b uses (λ all n.
+      let ck = tree_code methods all n k in
+      ap (λ ls. ls ++ l ∷ []) (both all n) ∙ append_assoc ck (tree_code methods all (n + length ck) e) (l ∷ []) ∙ two all n)
+
+  pub put_local : {s : Step} {at : Span} {slot : ℕ} {k e : Tree} → s ≡ PutLocal at slot k e → Emits c0 c1 (operands_uses s) (λ all n. operands_code methods all n s) → Puts c1 c2 (line (i.PutLocal slot) at ∷ []) → EmitsStep methods c0 c2 s
+  put_local {s} {at} {slot} {k} {e} is a b = put_two k e is a b refl (λ all n. refl) (λ all n. refl)
+
+  pub put_field : {s : Step} {at : Span} {field : ℕ} {k e : Tree} → s ≡ PutField at field k e → Emits c0 c1 (operands_uses s) (λ all n. operands_code methods all n s) → Puts c1 c2 (line (i.PutField field) at ∷ []) → EmitsStep methods c0 c2 s
+  put_field {s} {at} {field} {k} {e} is a b = put_two k e is a b refl (λ all n. refl) (λ all n. refl)
+
+  -- it has them among its jumps
+  pub whole_step : {s t : Step} → s ≡ t → Emits c0 c1 (operands_uses s) (λ all n. operands_code methods all n s) → operands_uses t ≡ [] → ((all : List Text) (n : ℕ) → operands_code methods all n t ≡ []) →
+      EmitsStep methods c1 c2 t → EmitsStep methods c0 c2 s
+  whole_step {s} {t} is a none empty b =
+      step_is methods is (none_then (emits_same none empty (subst (λ x. Emits c0 c1 (operands_uses x) (λ all n. operands_code methods all n x)) is a)) b)
+
+  -- a text is sent
+  pub send_step : {s : Step} {at : Span} {label : Text} {e : Tree} → s ≡ Send at label e → Emits c0 c1 (operands_uses s) (λ all n. operands_code methods all n s) →
+      Emits c1 c2 (label ∷ []) (λ all n. line (i.Send (place_of_text all label)) at ∷ []) → EmitsStep methods c0 c2 s
+  send_step {s} is a b = step_is methods is (emits_then (subst (λ x. Emits c0 c1 (operands_uses x) (λ all n. operands_code methods all n x)) is a) b)
+
+  -- a loop over numbers turns
+  pub for_step : {s : Step} {at : Span} {counter : ℕ} {from to : Tree} {body : Steps} → s ≡ For at counter from to body → Emits c0 c1 (operands_uses s) (λ all n. operands_code methods all n s) →
+      Emits c1 c2 (steps_uses body) (λ all n. loop_code methods all n counter at body) → EmitsStep methods c0 c2 s
+  for_step {s} {at} {counter} {from} {to} {body} is a b =
+      step_is methods is
+      (emits_same refl (λ all n. for_code (tree_code methods all n from) (tree_code methods all (n + length (tree_code methods all n from) + 1) to) (line (i.Store counter) at) (line (i.Store (counter + 1)) at) n (λ k. loop_code methods all k counter at body))
+      (emits_then (subst (λ x. Emits c0 c1 (operands_uses x) (λ all n. operands_code methods all n x)) is a) b))
+    where
+      for_code : (first bound : List Line) (l m : Line) (n : ℕ) (loop : ℕ → List Line) →
+          (first ++ l ∷ (bound ++ m ∷ [])) ++ loop (n + length (first ++ l ∷ (bound ++ m ∷ []))) ≡ first ++ l ∷ (bound ++ m ∷ loop (loop_at n (length first) (length bound)))
+      for_code first bound l m n loop =
+          let k = loop_at n (length first) (length bound) in
+          let e : n + length (first ++ l ∷ (bound ++ m ∷ [])) ≡ k = omega (arith, length-append first (l ∷ (bound ++ m ∷ [])), length-append bound (m ∷ [])) in
+          ap (λ k. (first ++ l ∷ (bound ++ m ∷ [])) ++ loop k) e
+          ∙ append_assoc first (l ∷ (bound ++ m ∷ [])) (loop k)
+          ∙ ap (λ x. first ++ l ∷ x) (append_assoc bound (m ∷ []) (loop k))

@@ -1,10 +1,14 @@
 pub mod TextLemmas
 pub mod TreeRows
 pub mod Notes
+pub mod Drafts
+pub mod SlotLemmas
+pub mod Seams
+pub mod Jumps
 pub mod Emits
-pub mod Patches
+pub mod OperandLemmas
 pub mod Fronting
-pub mod LengthLemmas
 pub mod HeightLemmas
 pub mod FunctionLists
 pub mod Listed
+pub mod TypedSlots

@@ -1,15 +1,17 @@
--- The texts of a set of byte lists.
-use Rattle.std.proofs.Common.{◌≡◌, ℕ, zero, suc, ◌+◌, ◌^◌, ◌<◌, ◌≤◌, ◌||◌, Bool, true, false, cond, not, if◌then◌else◌, nat_eq, nat_lt, List, [], ◌∷◌, ◌++◌, length, get_or, Option, Some, None, Vec, Global, refl, sym, ap, ◌∙◌, subst, arith, length-append}
+-- The texts of a set of byte lists; and a text's number, which stays when more texts come behind.
+use Rattle.std.proofs.Common.{◌≡◌, ℕ, zero, suc, ◌+◌, ◌<◌, ◌≤◌, ◌||◌, Bool, true, false, cond, not, if◌then◌else◌, nat_eq, nat_lt, List, [], ◌∷◌, ◌++◌, length, get_or, Option, Some, None, Vec, Global, refl, sym, ap, ◌∙◌, subst, arith, length-append}
 use Rattle.std.specs.List.{list_any, position_or_len}
 use Rattle.std.specs.Prelude.{All}
 use Rattle.std.specs.Cmp.Lexicographic.{pointwise}
 use Rattle.std.proofs.lemmas.Bool.Decides.{nat_tests}
+use Rattle.std.proofs.lemmas.Cmp.{nat_list_eq_equiv}
 use Rattle.std.proofs.lemmas.List.Elements.{All-push}
 use Rattle.indexmap.specs.IndexSet.{insert_key}
 use Rattle.wave_base.specs.Names.{same_bytes}
 use Rattle.wave_base.specs.Text.{IsText}
-use Rattle.code_scheme.specs.Texts.{with_text, place_of_text}
-use Rattle.service_compiler.specs.Kept.{texts_of, AreTexts, AreKept}
+use Rattle.code_scheme.specs.Texts.{with_text, with_texts, place_of_text}
+use Rattle.service_compiler.specs.Kept.{texts_of, AreTexts}
+use Rattle.service_compiler.specs.inner.Drafts.{GoOn}
 
 abbrev pub same_items : Vec ℕ Global → Vec ℕ Global → Bool
 same_items x y = pointwise nat_eq x.items y.items
@@ -77,12 +79,16 @@ noted_are ts t h k = by (list_any (same_bytes t) ts)
     by false = All-push IsText ts t h k
 
 -- a text more
-pub kept_more : (ks : List (Vec ℕ Global)) (k : Vec ℕ Global) → AreKept ks → IsText k.items → length ks < 4294967295 → AreKept (insert_key same_items ks k)
-kept_more ks k kept h few = record { texts = subst (All IsText) (sym (noted_texts ks k)) (noted_are (texts_of ks) k.items kept.texts h); few = by (list_any (same_items k) ks) }
+pub texts_more : (ks : List (Vec ℕ Global)) (k : Vec ℕ Global) → AreTexts ks → IsText k.items → AreTexts (insert_key same_items ks k)
+texts_more ks k are h = subst (All IsText) (sym (noted_texts ks k)) (noted_are (texts_of ks) k.items are h)
+
+-- there is at most one text more
+pub one_more : (ts : List (List ℕ)) (t : List ℕ) → length (with_text ts t) ≤ length ts + 1
+one_more ts t = by (list_any (same_bytes t) ts)
   where
-    by : (b : Bool) → length (if b then ks else ks ++ k ∷ []) < 2 ^ 32
-    by true = omega (arith, few)
-    by false = omega (arith, few, length-append ks (k ∷ []))
+    by : (b : Bool) → length (if b then ts else ts ++ t ∷ []) ≤ length ts + 1
+    by true = omega arith
+    by false = omega (arith, length-append ts (t ∷ []))
 
 texts_get : (ks : List (Vec ℕ Global)) (i : ℕ) (x : Vec ℕ Global) → get_or (texts_of ks) i x.items ≡ (get_or ks i x).items
 texts_get [] i x = refl
@@ -93,3 +99,71 @@ pub item_text : (ks : List (Vec ℕ Global)) (i : ℕ) (x : Vec ℕ Global) → 
 item_text ks i x h lt at =
     let long : i < length (texts_of ks) = omega (arith, lt, length_texts ks) in
     subst IsText (texts_get ks i x ∙ ap (λ (k : Vec ℕ Global). k.items) (sym at)) (h i x.items long)
+
+-- ---- numbers that stay
+
+number_pushed : (ts : List (List ℕ)) (t : List ℕ) → place_of_text (ts ++ t ∷ []) t ≡ place_of_text ts t
+number_pushed [] t = ap (λ b. if b then zero else suc zero) (nat_list_eq_equiv.refl t)
+number_pushed (u ∷ ts) t = ap (λ n. if same_bytes t u then zero else suc n) (number_pushed ts t)
+
+number_noted : (ts : List (List ℕ)) (t : List ℕ) → place_of_text (with_text ts t) t ≡ place_of_text ts t
+number_noted ts t = by (list_any (same_bytes t) ts)
+  where
+    by : (b : Bool) → place_of_text (if b then ts else ts ++ t ∷ []) t ≡ place_of_text ts t
+    by true = refl
+    by false = number_pushed ts t
+
+-- a text that is among others stays among them, with its number
+module _ (t : List ℕ) where
+  among_front : (ts us : List (List ℕ)) → list_any (same_bytes t) ts ≡ true → list_any (same_bytes t) (ts ++ us) ≡ true
+  among_front [] us h = cc
+  among_front (u ∷ ts) us h = by (same_bytes t u) h (among_front ts us)
+    where
+      by : (b : Bool) → (b || list_any (same_bytes t) ts) ≡ true → (list_any (same_bytes t) ts ≡ true → list_any (same_bytes t) (ts ++ us) ≡ true) → (b || list_any (same_bytes t) (ts ++ us)) ≡ true
+      by true h k = refl
+      by false h k = k h
+
+  number_front : (ts us : List (List ℕ)) → list_any (same_bytes t) ts ≡ true → place_of_text (ts ++ us) t ≡ place_of_text ts t
+  number_front [] us h = cc
+  number_front (u ∷ ts) us h = by (same_bytes t u) h (number_front ts us)
+    where
+      by : (b : Bool) → (b || list_any (same_bytes t) ts) ≡ true → (list_any (same_bytes t) ts ≡ true → place_of_text (ts ++ us) t ≡ place_of_text ts t) → (if b then zero else suc (place_of_text (ts ++ us) t)) ≡ (if b then zero else suc (place_of_text ts t))
+      by true h k = refl
+      by false h k = ap suc (k h)
+
+  among_with : (ts : List (List ℕ)) (u : List ℕ) → list_any (same_bytes t) ts ≡ true → list_any (same_bytes t) (with_text ts u) ≡ true
+  among_with ts u h = by (list_any (same_bytes u) ts)
+    where
+      by : (b : Bool) → list_any (same_bytes t) (if b then ts else ts ++ u ∷ []) ≡ true
+      by true = h
+      by false = among_front ts (u ∷ []) h
+
+  number_with : (ts : List (List ℕ)) (u : List ℕ) → list_any (same_bytes t) ts ≡ true → place_of_text (with_text ts u) t ≡ place_of_text ts t
+  number_with ts u h = by (list_any (same_bytes u) ts)
+    where
+      by : (b : Bool) → place_of_text (if b then ts else ts ++ u ∷ []) t ≡ place_of_text ts t
+      by true = refl
+      by false = number_front ts (u ∷ []) h
+
+  number_kept : (ts us : List (List ℕ)) → list_any (same_bytes t) ts ≡ true → place_of_text (with_texts ts us) t ≡ place_of_text ts t
+  number_kept ts [] h = refl
+  number_kept ts (u ∷ us) h = number_kept (with_text ts u) us (among_with ts u h) ∙ number_with ts u h
+
+  among_pushed : (ts : List (List ℕ)) → list_any (same_bytes t) (ts ++ t ∷ []) ≡ true
+  among_pushed [] = ap (λ b. b || false) (nat_list_eq_equiv.refl t)
+  among_pushed (u ∷ ts) = by (same_bytes t u) (among_pushed ts)
+    where
+      by : (b : Bool) → list_any (same_bytes t) (ts ++ t ∷ []) ≡ true → (b || list_any (same_bytes t) (ts ++ t ∷ [])) ≡ true
+      by true h = refl
+      by false h = h
+
+  among_noted : (ts : List (List ℕ)) → list_any (same_bytes t) (with_text ts t) ≡ true
+  among_noted ts = by (list_any (same_bytes t) ts) refl
+    where
+      by : (b : Bool) → list_any (same_bytes t) ts ≡ b → list_any (same_bytes t) (if b then ts else ts ++ t ∷ []) ≡ true
+      by true h = h
+      by false h = among_pushed ts
+
+  -- the number that a text is given is the one that it has among all
+  pub number_stays : (ts all : List (List ℕ)) → GoOn (with_text ts t) all → place_of_text ts t ≡ place_of_text all t
+  number_stays ts all go = sym (number_noted ts t) ∙ sym (number_kept (with_text ts t) go.more (among_noted ts)) ∙ ap (λ x. place_of_text x t) (sym go.are)

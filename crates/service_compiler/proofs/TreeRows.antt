@@ -1,5 +1,5 @@
 -- Resolved nodes and statements with lists in them, by the items of the lists.
-use Rattle.std.proofs.Common.{◌≡◌, ℕ, map, refl, ap, rules, Vec, Box, Global, Option, Some, None}
+use Rattle.std.proofs.Common.{◌≡◌, ℕ, map, refl, ap, rules, Vec, Box, Global, Some, None}
 use Rattle.wave_base.specs.declared.path.Class.{Class}
 use Rattle.wave_base.specs.declared.span.Span.{Span}
 use Rattle.resolved_service.specs.declared.expr.Expr.{Expr}
@@ -12,7 +12,6 @@ use Rattle.resolved_service.specs.declared.stmt.Action.{Row_of-Stmt, end_of-Stmt
 use Rattle.resolved_service.specs.Steps as s
 use Rattle.resolved_service.specs.Steps.{Steps, step, no_steps, Else, no_else, otherwise, action_step, row_steps, held_else, step_of, steps_of, steps_in}
 use Rattle.resolved_service.specs.View as r
-use Rattle.service_compiler.specs.Kept.{else_in}
 use Rattle.resolved_service.specs.View.{Trees, tree, node_tree, row_trees, tree_of, trees_of}
 
 pub row_trees-items : (n : _) (k : Row_of-Expr n) → row_trees k ≡ trees_of (map tree_of (items-the_row-Expr n k))
@@ -49,7 +48,3 @@ if_action test body at = search (rules, action_data.the_lemmas, row_steps-items)
 
 pub else_action : (test : Expr) (body other : Vec Stmt Global) (at : Span) → action_step (action.If test body (Some other)) at ≡ s.If at (tree_of test) (steps_in body.items) (otherwise (steps_in other.items))
 else_action test body other at = search (rules, action_data.the_lemmas, row_steps-items)
-
-pub any_if_action : (test : Expr) (body : Vec Stmt Global) (other : Option (Vec Stmt Global)) (at : Span) → action_step (action.If test body other) at ≡ s.If at (tree_of test) (steps_in body.items) (else_in other)
-any_if_action test body None at = if_action test body at
-any_if_action test body (Some other) at = else_action test body other at

@@ -1,3 +1,4 @@
 pub mod inner
 pub mod Kept
 pub mod Faults
+pub mod Slots

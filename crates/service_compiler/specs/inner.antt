@@ -1,3 +1,5 @@
+pub mod Drafts
 pub mod Fronts
-pub mod Lengths
+pub mod Functions
 pub mod Operands
+pub mod Sizes

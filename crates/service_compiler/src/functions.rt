@@ -1,51 +1,44 @@
 //! The instructions of methods and events, by the scheme.
 
-ghost use Rattle.std.specs.Prelude.{◌≡◌, ◌++◌, length, IfOk, OnOk};
+ghost use Rattle.std.specs.Prelude.{◌≡◌, ◌++◌, All, OnOk};
+ghost use Rattle.resolved_service.specs.declared.service.Phase.{Phase};
 ghost use Rattle.resolved_service.specs.Steps as steps;
 ghost use Rattle.resolved_service.specs.Steps.{steps_in};
+ghost use Rattle.resolved_service.specs.View.{tree_of};
 ghost use Rattle.code_scheme.specs.Scheme.{return_code, reply_code, method_code, event_code};
+ghost use Rattle.code_scheme.specs.Texts.{tree_uses, steps_uses, last_uses, phases_uses, method_uses, event_uses};
+ghost use Rattle.service_compiler.specs.Slots.{HaveSlots, HasMethodSlots, HasEventSlots};
+ghost use Rattle.service_compiler.specs.inner.Drafts.{Emits};
 ghost use Rattle.service_compiler.specs.inner.Fronts.{phase_code, phases_front, ended_behind};
+ghost use Rattle.service_compiler.specs.inner.Functions.{IsReady, Writes};
 
 use crate::code::Code;
 use crate::emit::emit_expr;
 use crate::statements::emit_stmts;
-use crate::texts::Texts;
 use resolved_service::{Event, Last, Method, Phase, surely_ends};
 use service_code::Instr;
-use std::alloc::Global;
 use wave_base::{OutOfMemory, Span};
 
 /// The code of a method.
-pub fn emit_method(
-    alloc: Global,
-    methods: &[Method],
-    texts: &Texts,
-    method: &Method,
-) -> Result<Code, OutOfMemory>
-    ensures { IfOk result (λ code. code ≡ method_code methods.now texts.now method.now) }
+pub fn emit_method(code: &mut Code, methods: &[Method], method: &Method) -> Result<(), OutOfMemory>
+    requires ready { IsReady code.old }
+    requires slots { HasMethodSlots method.now }
+    ensures { OnOk result (Writes code.old code.new (method_uses method.now) (λ texts. method_code methods.now texts method.now)) }
 {
-    let mut code = Code::new(alloc);
-    emit_stmts(&mut code, methods, texts, method.body.as_slice())?;
+    emit_stmts(code, methods, method.body.as_slice())?;
     let ended = surely_ends(method.body.as_slice());
-    emit_return(&mut code, methods, texts, method.at, ended, &method.last)?;
-    Ok(code)
+    emit_return(code, methods, method.at, ended, &method.last)
 }
 
 /// The code of an event.
-pub fn emit_event(
-    alloc: Global,
-    methods: &[Method],
-    texts: &Texts,
-    event: &Event,
-) -> Result<Code, OutOfMemory>
-    ensures { IfOk result (λ code. code ≡ event_code methods.now texts.now event.now) }
+pub fn emit_event(code: &mut Code, methods: &[Method], event: &Event) -> Result<(), OutOfMemory>
+    requires ready { IsReady code.old }
+    requires slots { HasEventSlots event.now }
+    ensures { OnOk result (Writes code.old code.new (event_uses event.now) (λ texts. event_code methods.now texts event.now)) }
 {
-    let mut code = Code::new(alloc);
-    emit_stmts(&mut code, methods, texts, event.here.as_slice())?;
-    emit_phases(&mut code, methods, texts, event.phases.as_slice())?;
-    let ended = is_past(event);
-    emit_reply(&mut code, methods, texts, event.at, ended, &event.last)?;
-    Ok(code)
+    emit_stmts(code, methods, event.here.as_slice())?;
+    emit_phases(code, methods, event.phases.as_slice())?;
+    emit_reply(code, methods, event.at, is_past(event), &event.last)
 }
 
 /// Whether the last phase of an event surely ends.
@@ -62,16 +55,15 @@ pub fn is_past(event: &Event) -> bool
 fn emit_return(
     code: &mut Code,
     methods: &[Method],
-    texts: &Texts,
     at: Span,
     ended: bool,
     last: &Option<Last>,
 ) -> Result<(), OutOfMemory>
-    ensures { OnOk result (code.new ≡ code.old ++ return_code methods.now texts.now (length code.old) at ended last.now) }
+    ensures { OnOk result (Emits code.old code.new (last_uses last.now) (λ texts n. return_code methods.now texts n at ended last.now)) }
 {
     match last {
         Some(last) => {
-            emit_expr(code, methods, texts, &last.value)?;
+            emit_expr(code, methods, &last.value)?;
             code.put(Instr::Return, last.at)
         }
         None => {
@@ -87,16 +79,15 @@ fn emit_return(
 fn emit_reply(
     code: &mut Code,
     methods: &[Method],
-    texts: &Texts,
     at: Span,
     ended: bool,
     last: &Option<Last>,
 ) -> Result<(), OutOfMemory>
-    ensures { OnOk result (code.new ≡ code.old ++ reply_code methods.now texts.now (length code.old) at ended last.now) }
+    ensures { OnOk result (Emits code.old code.new (last_uses last.now) (λ texts n. reply_code methods.now texts n at ended last.now)) }
 {
     match last {
         Some(last) => {
-            emit_expr(code, methods, texts, &last.value)?;
+            emit_expr(code, methods, &last.value)?;
             code.put(Instr::Reply, last.at)
         }
         None => {
@@ -109,30 +100,22 @@ fn emit_reply(
 }
 
 // The phases of an event.
-fn emit_phases(
-    code: &mut Code,
-    methods: &[Method],
-    texts: &Texts,
-    phases: &[Phase],
-) -> Result<(), OutOfMemory>
-    ensures { OnOk result (code.new ≡ code.old ++ phases_front methods.now texts.now (length code.old) phases.now) }
+fn emit_phases(code: &mut Code, methods: &[Method], phases: &[Phase]) -> Result<(), OutOfMemory>
+    requires { All (λ (f : Phase). HaveSlots (steps_in f.body)) phases.now }
+    ensures { OnOk result (Emits code.old code.new (phases_uses phases.now) (λ texts n. phases_front methods.now texts n phases.now)) }
 {
     for phase in phases {
-        emit_phase(code, methods, texts, phase)?;
+        emit_phase(code, methods, phase)?;
     }
     Ok(())
 }
 
 // A downgrade, and what is done there.
-fn emit_phase(
-    code: &mut Code,
-    methods: &[Method],
-    texts: &Texts,
-    phase: &Phase,
-) -> Result<(), OutOfMemory>
-    ensures { OnOk result (code.new ≡ code.old ++ phase_code methods.now texts.now (length code.old) phase.now) }
+fn emit_phase(code: &mut Code, methods: &[Method], phase: &Phase) -> Result<(), OutOfMemory>
+    requires { HaveSlots (steps_in phase.now.body) }
+    ensures { OnOk result (Emits code.old code.new (tree_uses (tree_of phase.now.key) ++ steps_uses (steps_in phase.now.body)) (λ texts n. phase_code methods.now texts n phase.now)) }
 {
-    emit_expr(code, methods, texts, &phase.key)?;
+    emit_expr(code, methods, &phase.key)?;
     code.put(Instr::Go(phase.class), phase.at)?;
-    emit_stmts(code, methods, texts, phase.body.as_slice())
+    emit_stmts(code, methods, phase.body.as_slice())
 }

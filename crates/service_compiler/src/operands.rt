@@ -1,15 +1,17 @@
 //! What statements work on, and what takes it.
 
-ghost use Rattle.std.specs.Prelude.{◌≡◌, ◌++◌, length, OnOk};
+ghost use Rattle.std.specs.Prelude.{◌≡◌, ◌<◌, ◌+◌, ◌^◌, ◌++◌, OnOk};
 ghost use Rattle.std.specs.Option.{option_map};
 ghost use Rattle.resolved_service.specs.Steps.{step_of};
 ghost use Rattle.resolved_service.specs.View.{tree_of};
 ghost use Rattle.code_scheme.specs.Scheme.{leaves_value, finish_instr, pop_code, maybe_code};
-ghost use Rattle.service_compiler.specs.inner.Operands.{operands_code};
+ghost use Rattle.code_scheme.specs.Texts.{tree_uses, maybe_uses};
+ghost use Rattle.service_compiler.specs.Slots.{HasSlots};
+ghost use Rattle.service_compiler.specs.inner.Drafts.{Emits, Puts};
+ghost use Rattle.service_compiler.specs.inner.Operands.{bounds_code, operands_code, operands_uses};
 
 use crate::code::Code;
 use crate::emit::{emit_expr, emit_exprs};
-use crate::texts::Texts;
 use resolved_service::{Action, Expr, Method, Node, Stmt};
 use service_code::Instr;
 use wave_base::{OutOfMemory, Span};
@@ -29,14 +31,10 @@ pub fn leaves(methods: &[Method], expr: &Expr) -> bool
     }
 }
 
-/// The values that a statement works on. One with a block has its own among its jumps.
-pub fn emit_operands(
-    code: &mut Code,
-    methods: &[Method],
-    texts: &Texts,
-    stmt: &Stmt,
-) -> Result<(), OutOfMemory>
-    ensures { OnOk result (code.new ≡ code.old ++ operands_code methods.now texts.now (length code.old) (step_of stmt.now)) }
+/// The values that a statement works on. One with a test has it among its jumps.
+pub fn emit_operands(code: &mut Code, methods: &[Method], stmt: &Stmt) -> Result<(), OutOfMemory>
+    requires { HasSlots (step_of stmt.now) }
+    ensures { OnOk result (Emits code.old code.new (operands_uses (step_of stmt.now)) (λ texts n. operands_code methods.now texts n (step_of stmt.now))) }
 {
     match &stmt.action {
         Action::SetLocal(_, value)
@@ -45,28 +43,44 @@ pub fn emit_operands(
         | Action::CutField(_, value)
         | Action::Require(value)
         | Action::Send(_, value)
-        | Action::Do(value) => emit_expr(code, methods, texts, value),
+        | Action::Do(value) => emit_expr(code, methods, value),
         Action::PutLocal(_, key, value) | Action::PutField(_, key, value) => {
-            emit_expr(code, methods, texts, key)?;
-            emit_expr(code, methods, texts, value)
+            emit_expr(code, methods, key)?;
+            emit_expr(code, methods, value)
         }
-        Action::Spawn(_, args) => emit_exprs(code, methods, texts, args),
-        Action::Return(value) | Action::Finish(value) => emit_value(code, methods, texts, value),
-        Action::If(_, _, _) | Action::While(_, _) | Action::For(_, _, _, _) => Ok(()),
+        Action::Spawn(_, args) => emit_exprs(code, methods, args),
+        Action::Return(value) | Action::Finish(value) => emit_value(code, methods, value),
+        Action::For(counter, from, to, _) => {
+            emit_bounds(code, methods, *counter, from, to, stmt.at)
+        }
+        Action::If(_, _, _) | Action::While(_, _) => Ok(()),
     }
 }
 
-// A value that may be left out.
-fn emit_value(
+// The bounds of a loop over numbers, which are kept in the slots of the counter and of the bound.
+fn emit_bounds(
     code: &mut Code,
     methods: &[Method],
-    texts: &Texts,
-    value: &Option<Expr>,
+    counter: u16,
+    from: &Expr,
+    to: &Expr,
+    at: Span,
 ) -> Result<(), OutOfMemory>
-    ensures { OnOk result (code.new ≡ code.old ++ maybe_code methods.now texts.now (length code.old) (option_map tree_of value.now)) }
+    requires { counter + 1 < 2 ^ 16 }
+    ensures { OnOk result (Emits code.old code.new (tree_uses (tree_of from.now) ++ tree_uses (tree_of to.now)) (λ texts n. bounds_code methods.now texts n counter at (tree_of from.now) (tree_of to.now))) }
+{
+    emit_expr(code, methods, from)?;
+    code.put(Instr::Store(counter), at)?;
+    emit_expr(code, methods, to)?;
+    code.put(Instr::Store(counter + 1), at)
+}
+
+// A value that may be left out.
+fn emit_value(code: &mut Code, methods: &[Method], value: &Option<Expr>) -> Result<(), OutOfMemory>
+    ensures { OnOk result (Emits code.old code.new (maybe_uses (option_map tree_of value.now)) (λ texts n. maybe_code methods.now texts n (option_map tree_of value.now))) }
 {
     match value {
-        Some(value) => emit_expr(code, methods, texts, value),
+        Some(value) => emit_expr(code, methods, value),
         None => Ok(()),
     }
 }
@@ -83,7 +97,7 @@ pub fn finish(value: &Option<Expr>) -> Instr
 
 /// Takes away a value that nothing takes.
 pub fn emit_pop(code: &mut Code, leaves: bool, at: Span) -> Result<(), OutOfMemory>
-    ensures { OnOk result (code.new ≡ code.old ++ pop_code leaves at) }
+    ensures { OnOk result (Puts code.old code.new (pop_code leaves at)) }
 {
     if leaves {
         code.put(Instr::Pop, at)?;

@@ -1,67 +1,55 @@
 //! The program of a service.
 
-ghost use Rattle.std.specs.Prelude.{◌≡◌, ◌<◌, ◌+◌, ◌^◌, ◌∷◌, ◌++◌, [], length, map, IfOk, IfErr, OnOk};
+ghost use Rattle.std.specs.Prelude.{◌≡◌, ◌<◌, ◌+◌, ◌^◌, length, map, All, IfOk, IfErr, OnOk};
 ghost use Rattle.service_verify.specs.Fit.{IsSmall};
-ghost use Rattle.code_scheme.specs.Programs.{method_function, event_function, event_functions, numbers_from, scheme_program};
-ghost use Rattle.code_scheme.specs.Scheme.{method_code, event_code};
-ghost use Rattle.service_compiler.specs.Faults.{AreShort, Adds, HasLong, IsLong, Refuses};
+ghost use Rattle.code_scheme.specs.Programs.{method_function, event_functions, numbers_from, scheme_program};
+ghost use Rattle.code_scheme.specs.Texts.{methods_uses, events_uses};
+ghost use Rattle.service_compiler.specs.Faults.{Refuses};
+ghost use Rattle.service_compiler.specs.Slots.{HasMethodSlots, HasEventSlots, HasServiceSlots};
+ghost use Rattle.service_compiler.specs.inner.Functions.{IsReady, Adds, IsRefused};
 
-use crate::collect::texts_of_service;
+use crate::code::Code;
 use crate::error::CompileError;
-use crate::texts::Texts;
-use crate::whole::{whole_event, whole_method};
+use crate::whole::{add_event, add_method};
 use resolved_service::{Event, Method, Resolved};
-use service_code::{Function, Program};
+use service_code::Program;
 use std::alloc::Global;
 use wave_base::{EventInfo, OutOfMemory, Seq, Shape};
 
-/// The program of a service, by the scheme. Functions have numbers of 16 bits and texts of 32: a service with more is
-/// refused as if memory were wanting. No service text is long enough for so many.
+/// The program of a service, by the scheme. Functions and slots have numbers of 16 bits.
 pub fn compile(alloc: Global, shape: Shape, service: &Resolved) -> Result<Program, CompileError>
+    requires few { length service.now.methods + length service.now.events < 2 ^ 16 }
+    requires events { length service.now.events ≡ length shape.events }
+    requires slots { HasServiceSlots service.now }
     ensures program { IfOk result (λ p. p ≡ scheme_program shape service.now) }
     ensures small { IfOk result IsSmall }
     ensures refused { IfErr result (Refuses shape service.now) }
 {
-    let texts = texts_of_service(alloc, service)?;
+    let mut code = Code::new(alloc);
     let methods = service.methods.as_slice();
     let events = service.events.as_slice();
-    if methods.len() + events.len() >= 1 << 16 {
-        return Err(CompileError::OutOfMemory);
-    }
-    let mut functions = Vec::new(alloc);
-    add_methods(alloc, &mut functions, methods, &texts)?;
-    add_events(
-        alloc,
-        &mut functions,
-        methods,
-        &texts,
-        shape.events.as_slice(),
-        events,
-    )?;
+    add_methods(alloc, &mut code, methods)?;
+    add_events(alloc, &mut code, methods, shape.events.as_slice(), events)?;
     let numbers = numbers(alloc, methods.len() as u16, events.len() as u16)?;
-    let texts = texts.to_seq(alloc)?;
+    let (functions, texts) = code.into_parts()?;
     Ok(Program {
         shape,
-        functions: Seq::from_vec(functions),
+        functions,
         texts,
         events: numbers,
     })
 }
 
 // The functions of the methods.
-fn add_methods(
-    alloc: Global,
-    functions: &mut Vec<Function>,
-    methods: &[Method],
-    texts: &Texts,
-) -> Result<(), CompileError>
-    requires few { length functions.old.items + length methods.now < 2 ^ 16 }
-    requires short { AreShort functions.old.items }
-    ensures made { OnOk result (Adds functions.old.items (map (method_function methods.now texts.now) methods.now) functions.new.items) }
-    ensures refused { IfErr result (HasLong (functions.old.items ++ map (method_function methods.now texts.now) methods.now)) }
+fn add_methods(alloc: Global, code: &mut Code, methods: &[Method]) -> Result<(), CompileError>
+    requires few { length code.old.functions + length methods.now < 2 ^ 16 }
+    requires ready { IsReady code.old }
+    requires slots { All HasMethodSlots methods.now }
+    ensures made { OnOk result (Adds code.old code.new (methods_uses methods.now) (λ texts. map (method_function methods.now texts) methods.now)) }
+    ensures refused { IfErr result (IsRefused code.old (methods_uses methods.now) (λ texts. map (method_function methods.now texts) methods.now)) }
 {
     for method in methods {
-        add_method(alloc, functions, methods, texts, method)?;
+        add_method(alloc, code, methods, method)?;
     }
     Ok(())
 }
@@ -69,62 +57,22 @@ fn add_methods(
 // The functions of the events.
 fn add_events(
     alloc: Global,
-    functions: &mut Vec<Function>,
+    code: &mut Code,
     methods: &[Method],
-    texts: &Texts,
     infos: &[EventInfo],
     events: &[Event],
 ) -> Result<(), CompileError>
-    requires few { length functions.old.items + length events.now < 2 ^ 16 }
-    requires short { AreShort functions.old.items }
-    ensures made { OnOk result (Adds functions.old.items (event_functions methods.now texts.now infos.now events.now) functions.new.items) }
-    ensures refused { IfErr result (HasLong (functions.old.items ++ event_functions methods.now texts.now infos.now events.now)) }
+    requires few { length code.old.functions + length events.now < 2 ^ 16 }
+    requires ready { IsReady code.old }
+    requires count { length events.now ≡ length infos.now }
+    requires slots { All HasEventSlots events.now }
+    ensures made { OnOk result (Adds code.old code.new (events_uses events.now) (λ texts. event_functions methods.now texts infos.now events.now)) }
+    ensures refused { IfErr result (IsRefused code.old (events_uses events.now) (λ texts. event_functions methods.now texts infos.now events.now)) }
 {
     for (info, event) in infos.iter().zip(events) {
-        add_event(alloc, functions, methods, texts, info, event)?;
+        add_event(alloc, code, methods, info, event)?;
     }
     Ok(())
-}
-
-fn add_method(
-    alloc: Global,
-    functions: &mut Vec<Function>,
-    methods: &[Method],
-    texts: &Texts,
-    method: &Method,
-) -> Result<(), CompileError>
-    requires few { length functions.old.items < 2 ^ 16 }
-    requires short { AreShort functions.old.items }
-    ensures made { OnOk result (Adds functions.old.items (method_function methods.now texts.now method.now ∷ []) functions.new.items) }
-    ensures refused { IfErr result (IsLong (length functions.old.items) (length (method_code methods.now texts.now method.now))) }
-{
-    let number = functions.len() as u16;
-    let function = whole_method(alloc, methods, texts, number, method)?;
-    match functions.push(function) {
-        Ok(()) => Ok(()),
-        Err(_) => Err(CompileError::OutOfMemory),
-    }
-}
-
-fn add_event(
-    alloc: Global,
-    functions: &mut Vec<Function>,
-    methods: &[Method],
-    texts: &Texts,
-    info: &EventInfo,
-    event: &Event,
-) -> Result<(), CompileError>
-    requires few { length functions.old.items < 2 ^ 16 }
-    requires short { AreShort functions.old.items }
-    ensures made { OnOk result (Adds functions.old.items (event_function methods.now texts.now info.now event.now ∷ []) functions.new.items) }
-    ensures refused { IfErr result (IsLong (length functions.old.items) (length (event_code methods.now texts.now event.now))) }
-{
-    let number = functions.len() as u16;
-    let function = whole_event(alloc, methods, texts, number, info, event)?;
-    match functions.push(function) {
-        Ok(()) => Ok(()),
-        Err(_) => Err(CompileError::OutOfMemory),
-    }
 }
 
 // So many numbers from `first` on.

@@ -1,4 +1,4 @@
-ghost use Rattle.std.specs.Prelude.{◌≡◌, [], IfOk, OnOk};
+ghost use Rattle.std.specs.Prelude.{◌≡◌, ◌<◌, ◌^◌, [], length, IfOk, OnOk, OnErr};
 ghost use Rattle.code_scheme.specs.Texts.{with_text, place_of_text};
 
 use indexmap::IndexSet;
@@ -6,7 +6,7 @@ use std::alloc::Global;
 use std::marker::Model;
 use wave_base::{OutOfMemory, Seq, Txt};
 
-/// The texts of a program, each once, in the order of their first uses. Their numbers have 32 bits.
+/// The texts of a program, each once, in the order of their first uses.
 #[derive(Drop)]
 pub struct Texts {
     set: IndexSet<Vec<u8>>,
@@ -14,13 +14,13 @@ pub struct Texts {
 
 impl Model for Texts {
     ghost use Rattle.std.specs.Prelude.{List, ℕ};
-    ghost use Rattle.service_compiler.specs.Kept.{texts_of, AreKept};
+    ghost use Rattle.service_compiler.specs.Kept.{texts_of, AreTexts};
 
     ghost Value = { List (List ℕ) };
 
     ghost view = { λ t. texts_of t.set.keys };
 
-    ghost invariant = { λ t. AreKept t.set.keys };
+    ghost invariant = { λ t. AreTexts t.set.keys };
 }
 
 impl Texts {
@@ -33,13 +33,11 @@ impl Texts {
         }
     }
 
-    /// Notes a use of a text.
+    /// Notes a use of a text. Where memory is wanting the texts stay.
     pub fn note(&mut self, alloc: Global, text: &Txt) -> Result<(), OutOfMemory>
-        ensures { OnOk result (self.new ≡ with_text self.old text.now) }
+        ensures noted { OnOk result (self.new ≡ with_text self.old text.now) }
+        ensures kept { OnErr result (self.new ≡ self.old) }
     {
-        if self.set.len() >= u32::MAX as usize {
-            return Err(OutOfMemory);
-        }
         let bytes = Vec::from_slice(alloc, text.bytes())?;
         self.set.insert(bytes)?;
         Ok(())
@@ -47,6 +45,7 @@ impl Texts {
 
     /// The number of a text, or how many there are where it isn't among them.
     pub fn place(&self, text: &[u8]) -> u32
+        requires { length self.now < 2 ^ 32 }
         ensures { result ≡ place_of_text self.now text.now }
     {
         match self.set.get_index_of(text) {

@@ -1,6 +1,7 @@
 //! The verified program of a service.
 
-ghost use Rattle.std.specs.Prelude.{◌≡◌, All, IfOk, IfErr};
+ghost use Rattle.std.specs.Prelude.{◌≡◌, ◌<◌, ◌+◌, ◌^◌, length, All, IfOk, IfErr};
+ghost use Rattle.resolved_service.specs.Fits.{FitsService};
 ghost use Rattle.service_code.specs.Listing.{CanList};
 ghost use Rattle.service_verify.specs.Fit.{IsFit, IsSmall};
 ghost use Rattle.code_scheme.specs.Programs.{scheme_program};
@@ -22,7 +23,9 @@ pub fn compile_verified(
     shape: Shape,
     service: &Resolved,
 ) -> Result<Verified, CompileError>
-    requires { IsTyped shape service.now }
+    requires typed { IsTyped shape service.now }
+    requires fits { FitsService shape service.now }
+    requires few { length service.now.methods + length service.now.events < 2 ^ 16 }
     ensures program { IfOk result (λ p. p ≡ scheme_program shape service.now) }
     ensures fit { IfOk result IsFit }
     ensures small { IfOk result IsSmall }
@@ -33,7 +36,7 @@ pub fn compile_verified(
     let program = compile(alloc, shape, service)?;
     match verify(alloc, program) {
         Ok(verified) => Ok(verified),
-        Err(VerifyError::OutOfMemory) => Err(CompileError::OutOfMemory),
+        Err(VerifyError::OutOfMemory(refused)) => Err(CompileError::OutOfMemory(refused)),
         Err(_) => unreachable!(),
     }
 }

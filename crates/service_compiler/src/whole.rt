@@ -1,37 +1,39 @@
 //! Functions with all that they have: what they are called with, the height of their stack, their code and its places.
 
-ghost use Rattle.std.specs.Prelude.{◌≡◌, ◌≤◌, length, map, IfOk, IfErr, OnOk};
+ghost use Rattle.std.specs.Prelude.{◌≡◌, ◌<◌, ◌≤◌, ◌+◌, ◌^◌, [], ◌∷◌, length, map, IfOk, IfErr, OnOk};
 ghost use Rattle.wave_base.specs.declared.limits.TheConstants.{INSTRUCTIONS};
 ghost use Rattle.code_scheme.specs.Programs.{method_function, event_function};
 ghost use Rattle.code_scheme.specs.declared.line.Line.{Line};
-ghost use Rattle.code_scheme.specs.Scheme.{method_code, event_code};
-ghost use Rattle.service_compiler.specs.Faults.{IsShort, IsLong};
+ghost use Rattle.code_scheme.specs.Texts.{method_uses, event_uses};
+ghost use Rattle.service_compiler.specs.Slots.{HasMethodSlots, HasEventSlots};
+ghost use Rattle.service_compiler.specs.inner.Functions.{IsReady, Adds, IsRefused, IsLong};
 
+use crate::code::Code;
 use crate::error::CompileError;
 use crate::functions::{emit_event, emit_method};
 use crate::heights::{height_of_event, height_of_method};
-use crate::lengths::{length_of_event, length_of_method};
-use crate::texts::Texts;
 use code_scheme::Line;
 use resolved_service::{Event, Method};
 use service_code::{Function, Instr};
 use std::alloc::Global;
 use wave_base::{Class, EventInfo, INSTRUCTIONS, OutOfMemory, Seq, Span};
 
-/// The function of a method, with its number, by which a refusal names it.
-pub fn whole_method(
+/// Adds the function of a method.
+pub fn add_method(
     alloc: Global,
+    code: &mut Code,
     methods: &[Method],
-    texts: &Texts,
-    number: u16,
     method: &Method,
-) -> Result<Function, CompileError>
-    ensures made { IfOk result (λ f. IsShort f (method_function methods.now texts.now method.now)) }
-    ensures refused { IfErr result (IsLong number (length (method_code methods.now texts.now method.now))) }
+) -> Result<(), CompileError>
+    requires few { length code.old.functions + 1 < 2 ^ 16 }
+    requires ready { IsReady code.old }
+    requires slots { HasMethodSlots method.now }
+    ensures made { OnOk result (Adds code.old code.new (method_uses method.now) (λ texts. method_function methods.now texts method.now ∷ [])) }
+    ensures refused { IfErr result (IsRefused code.old (method_uses method.now) (λ texts. method_function methods.now texts method.now ∷ [])) }
 {
-    check_length(number, length_of_method(methods, method)?)?;
-    let code = emit_method(alloc, methods, texts, method)?;
-    Ok(Function {
+    emit_method(code, methods, method)?;
+    check_length(code)?;
+    let function = Function {
         name: method.name.copy(alloc)?,
         class: method.class,
         is_event: false,
@@ -41,24 +43,28 @@ pub fn whole_method(
         stack: height_of_method(methods, method),
         code: instrs_of(alloc, code.lines())?,
         places: places_of(alloc, code.lines())?,
-    })
+    };
+    code.finish(function)?;
+    Ok(())
 }
 
-/// The function of an event, with its number. It runs from the root.
-pub fn whole_event(
+/// Adds the function of an event. It runs from the root.
+pub fn add_event(
     alloc: Global,
+    code: &mut Code,
     methods: &[Method],
-    texts: &Texts,
-    number: u16,
     info: &EventInfo,
     event: &Event,
-) -> Result<Function, CompileError>
-    ensures made { IfOk result (λ f. IsShort f (event_function methods.now texts.now info.now event.now)) }
-    ensures refused { IfErr result (IsLong number (length (event_code methods.now texts.now event.now))) }
+) -> Result<(), CompileError>
+    requires few { length code.old.functions + 1 < 2 ^ 16 }
+    requires ready { IsReady code.old }
+    requires slots { HasEventSlots event.now }
+    ensures made { OnOk result (Adds code.old code.new (event_uses event.now) (λ texts. event_function methods.now texts info.now event.now ∷ [])) }
+    ensures refused { IfErr result (IsRefused code.old (event_uses event.now) (λ texts. event_function methods.now texts info.now event.now ∷ [])) }
 {
-    check_length(number, length_of_event(methods, event)?)?;
-    let code = emit_event(alloc, methods, texts, event)?;
-    Ok(Function {
+    emit_event(code, methods, event)?;
+    check_length(code)?;
+    let function = Function {
         name: info.name.copy(alloc)?,
         class: Class(0),
         is_event: true,
@@ -68,15 +74,19 @@ pub fn whole_event(
         stack: height_of_event(methods, event),
         code: instrs_of(alloc, code.lines())?,
         places: places_of(alloc, code.lines())?,
-    })
+    };
+    code.finish(function)?;
+    Ok(())
 }
 
 // Refuses what is too long for a function.
-fn check_length(function: u16, length: usize) -> Result<(), CompileError>
-    ensures short { OnOk result (length ≤ INSTRUCTIONS) }
-    ensures long { IfErr result (IsLong function length) }
+fn check_length(code: &Code) -> Result<(), CompileError>
+    ensures short { OnOk result (code.now.count ≤ INSTRUCTIONS) }
+    ensures long { IfErr result (IsLong (length code.now.functions) code.now.count) }
 {
-    if length > INSTRUCTIONS {
+    let length = code.line_count();
+    if length as usize > INSTRUCTIONS {
+        let function = code.function();
         return Err(CompileError::CodeTooLong { function, length });
     }
     Ok(())

@@ -1,16 +1,16 @@
 -- Statements: their expressions first, and then what is done with their values.
-use Rattle.std.proofs.Common.{◌≡◌, ℕ, ◌+◌, Bool, true, false, List, [], ◌∷◌, ◌++◌, length, Option, refl, sym, ap, ◌∙◌, append_assoc}
+use Rattle.std.proofs.Common.{◌≡◌, ℕ, ◌+◌, Bool, true, false, List, [], ◌∷◌, ◌++◌, length, Option, Some, refl, sym, ap, ◌∙◌, append_assoc}
 use Rattle.wave_base.specs.declared.limits.TheConstants.{TICKS}
 use Rattle.wave_base.specs.declared.path.Path.{Path}
 use Rattle.wave_base.specs.declared.span.Span.{Span}
 use Rattle.wave_base.specs.declared.value.Value.{Value}
 use Rattle.resolved_service.specs.declared.service.Method.{Method}
-use Rattle.resolved_service.specs.Meaning.{State, Outcome, Done, Trapped, Left, Act, and_then, ◌>>=◌, ◌>>◌, give, with_world, choose, set_local, put_field, value, values, while_turns, for_test, for_body, effect, effects, else_effect, called}
+use Rattle.resolved_service.specs.Meaning.{State, Returned, Finished, Outcome, Done, Trapped, Left, Act, and_then, ◌>>=◌, ◌>>◌, give, with_world, leave, choose, set_local, put_field, value, values, while_turns, for_test, for_body, effect, effects, else_effect, called}
 use Rattle.resolved_service.specs.Steps as s
 use Rattle.resolved_service.specs.Steps.{Step, Steps, no_steps, step, Else, no_else, otherwise}
 use Rattle.resolved_service.specs.View.{Tree, Trees}
 use Rattle.resolved_service.specs.World.{is_true, spawning}
-use Rattle.service_eval.specs.Items.{End, SetLocal, SetField, PutLocal, PutField, CutLocal, CutField, Branch, Require, Send, Spawn, Drop, Eval, Evals, Block, Begin, Finish, Counts, else_steps}
+use Rattle.service_eval.specs.Items.{End, SetLocal, SetField, PutLocal, PutField, CutLocal, CutField, Branch, Require, Send, Spawn, Drop, Returns, Finishes, Eval, Evals, Block, Begin, Finish, Counts, else_steps}
 use Rattle.service_eval.specs.Machines.{Mach, Rest, on_top, act, finish, come_of, comes_to}
 use Rattle.service_eval.proofs.Outcomes.{assoc, feeds, below, upon}
 
@@ -85,6 +85,12 @@ module _ (methods : List Method) (m : Mach) where
 
   pub do_parts : (at : Span) (e : Tree) → comes_to methods (on_top (Begin (s.Do at e)) m) ≡ comes_to methods (on_top (Eval e) (on_top (Finish at Drop (length m.values)) m))
   do_parts at e = one (s.Do at e) e at Drop (λ v. give tt) refl (λ v st. refl)
+
+  pub return_parts : (at : Span) (e : Tree) → comes_to methods (on_top (Begin (s.Return at (Some e))) m) ≡ comes_to methods (on_top (Eval e) (on_top (Finish at Returns (length m.values)) m))
+  return_parts at e = one (s.Return at (Some e)) e at Returns (λ v. leave Returned (Some v)) (assoc (value k m.path e m.state) (λ v. give (Some v)) (leave Returned)) (λ v st. refl)
+
+  pub finish_parts : (at : Span) (e : Tree) → comes_to methods (on_top (Begin (s.Finish at (Some e))) m) ≡ comes_to methods (on_top (Eval e) (on_top (Finish at Finishes (length m.values)) m))
+  finish_parts at e = one (s.Finish at (Some e)) e at Finishes (λ v. leave Finished (Some v)) (assoc (value k m.path e m.state) (λ v. give (Some v)) (leave Finished)) (λ v st. refl)
 
   else_is : (other : Else) (st : State) → else_effect k TICKS m.path other st ≡ effects k TICKS m.path (else_steps other) st
   else_is no_else st = refl

@@ -91,7 +91,7 @@ module _ (methods : List Method) (m : Mach) (at : Span) (few : m.state.world.tic
 
 -- a change of the world that traps
 pub world_fails : {B : Type 0} (a : Answer World) (at : Span) (st : State) (f : Unit {0} → Act B) (e : Stop) (w : World) → Changes a at st.world (Err e) w → Traps (and_then (with_world a at st) f) e w
-world_fails a at st f stop.OutOfMemory w h = tt
+world_fails a at st f (stop.OutOfMemory _) w h = tt
 world_fails a at st f (stop.Ended r) w h = h
 world_fails a at st f (stop.Trapped t) w h = ap (λ a. and_then (with_world a at st) f) h.0 ∙ (λ i. Trapped t.kind (sym h.1 i) (sym h.2 i))
 

@@ -31,8 +31,10 @@ use Rattle.service_eval.specs.Machines.{Mach, mach_of, on_top, cut_to, in_world,
 use Rattle.service_eval.specs.Ready.{FitsItems, Ready}
 use Rattle.service_eval.specs.Turns.{mach, IsNext, Goes}
 use Rattle.service_eval.specs.Worlds.{Holds}
+use Rattle.service_eval.proofs.LighterTurns.{back_lighter}
 use Rattle.service_eval.proofs.PathLemmas.{class_of-child, parent_of-child, is_path-child, is_path-parent, parent_there, enter_holds, all_there, entered_there, still_there}
 use Rattle.service_eval.proofs.ReadyLemmas.{turned}
+use Rattle.wave_base.specs.Memory.{the_refusal}
 
 -- a tick is taken, and nothing else
 took_one : (n : ℕ) (w v : World) → took n w ≡ Ok v → (n ≡ suc v.ticks) × (v ≡ record w { ticks = v.ticks })
@@ -147,6 +149,6 @@ module _ (shape : Shape) (methods : List Method) (m : Mach) (c : Caller) (v : Va
       }
       by false r = record { items = r.items.1; holds = r.holds; path = r.path; held = r.held; here = r.here; early = r.early; few = r.few }
 
-pub back_turn : (code : Code) (contexts : Contexts) (m m' : Machine) (r : Result (Unit {0}) Stop) (c : Caller) (v : Value) → v ≡ get_or m.values.items 0 nothing → OnOk r ((tree : Tree (List Value)) → mach_of tree m' ≡ back_to c v (mach_of tree m)) → IfErr r (λ e. e ≡ stop.OutOfMemory) → IsNext code contexts m (return_of c) → Goes code contexts m (return_of c) r contexts m'
+pub back_turn : (code : Code) (contexts : Contexts) (m m' : Machine) (r : Result (Unit {0}) Stop) (c : Caller) (v : Value) → v ≡ get_or m.values.items 0 nothing → OnOk r ((tree : Tree (List Value)) → mach_of tree m' ≡ back_to c v (mach_of tree m)) → IfErr r (λ e. e ≡ stop.OutOfMemory the_refusal) → IsNext code contexts m (return_of c) → Goes code contexts m (return_of c) r contexts m'
 back_turn code contexts m m' r c v is ok err next =
-    turned code contexts (return_of c) (back_to c v) m m' r next (ap (λ v. comes_to code.methods.now (back_to c v (mach code contexts m))) (sym is)) (ready_back code.shape.now code.methods.now (mach code contexts m) c v next) ok err
+    turned code contexts (return_of c) (back_to c v) m m' r next (ap (λ v. comes_to code.methods.now (back_to c v (mach code contexts m))) (sym is)) (ready_back code.shape.now code.methods.now (mach code contexts m) c v next) ok err (back_lighter code.methods.now (mach code contexts m) c v)

@@ -1,5 +1,5 @@
 -- Statements that change a variable: what they mean, what of them comes first, and what they come to.
-use Rattle.std.proofs.Common.{◌≡◌, ℕ, List, [], ◌∷◌, ◌++◌, drop, get_or, length, Bor, Option, Result, Ok, Err, refl, sym, ap, subst, ◌∙◌}
+use Rattle.std.proofs.Common.{◌≡◌, ◌≤◌, ◌<◌, ℕ, List, [], ◌∷◌, ◌++◌, drop, get_or, length, Bor, Option, Result, Ok, Err, refl, sym, ap, subst, ◌∙◌}
 use Rattle.wave_base.specs.declared.limits.TheConstants.{TICKS}
 use Rattle.wave_base.specs.declared.path.Path.{Path}
 use Rattle.wave_base.specs.declared.shape.Shape.{Shape}
@@ -13,7 +13,7 @@ use Rattle.resolved_service.specs.declared.stmt.Action.{Action}
 use Rattle.resolved_service.specs.declared.stmt.Action.TheVariants as action
 use Rattle.resolved_service.specs.Fits.{FitsStep}
 use Rattle.resolved_service.specs.Meaning.{State, Act, and_then, ◌>>=◌, value, effect, called}
-use Rattle.resolved_service.specs.Steps.{action_step}
+use Rattle.resolved_service.specs.Steps.{SetLocal, SetField, PutLocal, PutField, CutLocal, CutField, action_step}
 use Rattle.resolved_service.specs.View.{tree_of}
 use Rattle.resolved_service.specs.World.{nothing}
 use Rattle.service_eval.specs.declared.assignments.Assignment.{Assignment}
@@ -26,13 +26,16 @@ use Rattle.service_eval.specs.declared.work.Ending.TheVariants as ending
 use Rattle.service_eval.specs.declared.work.Variable.{Variable}
 use Rattle.service_eval.specs.declared.work.Variable.TheVariants as variable
 use Rattle.service_eval.specs.Changes.{changing, step_in, IsOther}
+use Rattle.service_eval.specs.Items as i
 use Rattle.service_eval.specs.Items.{End, Item, Eval, Begin, Finish, end_of}
 use Rattle.service_eval.specs.Machines.{Mach, finish, on_top, before_all, cut_to, in_state, comes_to}
 use Rattle.service_eval.specs.Ready.{FitsItems}
 use Rattle.service_eval.specs.Turns.{mach, Goes, Does}
 use Rattle.service_eval.specs.Worlds.{Traps}
 use Rattle.service_eval.proofs.BlockLemmas as l
+use Rattle.service_eval.specs.inner.Weight.{load}
 use Rattle.service_eval.proofs.FinishLemmas.{finished, not_finished}
+use Rattle.service_eval.proofs.LighterTurns.{finished_lighter, one_lighter, two_lighter}
 
 -- what a statement means
 module _ (call : ℕ → Path → List Value → Act (Option Value)) (n : ℕ) (p : Path) (at : Span) (st : State) where
@@ -94,6 +97,14 @@ begun_parts methods m at (assignment.Put (variable.Field f) k e) = l.put_field_p
 begun_parts methods m at (assignment.Cut (variable.Local slot) k) = l.cut_local_parts methods m at slot (tree_of k.now)
 begun_parts methods m at (assignment.Cut (variable.Field f) k) = l.cut_field_parts methods m at f (tree_of k.now)
 
+pub begun_lighter : (methods : List Method) (m : Mach) (at : Span) (a : Assignment) (base : ℕ) → load methods (before_all (begun at a base) m) < load methods (on_top (Begin (step_in at a)) m)
+begun_lighter methods m at (assignment.Set (variable.Local slot) e) base = one_lighter methods m (SetLocal at slot (tree_of e.now)) (tree_of e.now) at (i.SetLocal slot) base (λ n. refl) (λ n. refl)
+begun_lighter methods m at (assignment.Set (variable.Field f) e) base = one_lighter methods m (SetField at f (tree_of e.now)) (tree_of e.now) at (i.SetField f) base (λ n. refl) (λ n. refl)
+begun_lighter methods m at (assignment.Put (variable.Local slot) k e) base = two_lighter methods m (PutLocal at slot (tree_of k.now) (tree_of e.now)) (tree_of k.now) (tree_of e.now) at (i.PutLocal slot) base (λ n. refl) (λ n. refl)
+begun_lighter methods m at (assignment.Put (variable.Field f) k e) base = two_lighter methods m (PutField at f (tree_of k.now) (tree_of e.now)) (tree_of k.now) (tree_of e.now) at (i.PutField f) base (λ n. refl) (λ n. refl)
+begun_lighter methods m at (assignment.Cut (variable.Local slot) k) base = one_lighter methods m (CutLocal at slot (tree_of k.now)) (tree_of k.now) at (i.CutLocal slot) base (λ n. refl) (λ n. refl)
+begun_lighter methods m at (assignment.Cut (variable.Field f) k) base = one_lighter methods m (CutField at f (tree_of k.now)) (tree_of k.now) at (i.CutField f) base (λ n. refl) (λ n. refl)
+
 pub begun_fits : (shape : Shape) (methods : List Method) (p : Path) (at : Span) (a : Assignment) (base : ℕ) (items : List Item) → FitsStep shape methods (class_of p) (step_in at a) → FitsItems shape methods items p → FitsItems shape methods (begun at a base ++ items) p
 begun_fits shape methods p at (assignment.Set (variable.Local slot) e) base items h rest = (h, (tt, rest))
 begun_fits shape methods p at (assignment.Set (variable.Field f) e) base items h rest = (h.1, (tt, rest))
@@ -106,8 +117,12 @@ begun_fits shape methods p at (assignment.Cut (variable.Field f) k) base items h
 pub change_turn : (code : Code) (contexts contexts' : Contexts) (m m1 m' : Machine) (at : Span) (base : ℕ) (what : End) (change : Act (Unit {0})) (r : Result (Unit {0}) Stop) → mach code contexts m1 ≡ cut_to base (mach code contexts m) → finish (called code.methods.now TICKS) TICKS m.path at (drop base m.values.items) what (mach code contexts m).state ≡ change (mach code contexts m).state → Does code contexts m1 change r contexts' m' → Goes code contexts m (Finish at what base) r contexts' m'
 change_turn code contexts contexts' m m1 m' at base what change (Ok u) took is h =
     let M = mach code contexts m in
-    let M' = mach code contexts' m' in
-    (finished code.methods.now M at base what M'.state (is ∙ ap (λ (x : Mach). change x.state) (sym took) ∙ h.0) ∙ ap (comes_to code.methods.now) (ap (in_state M'.state) (sym took) ∙ sym h.1), h.2)
+    let M' = mach code contexts' m' in (
+      finished code.methods.now M at base what M'.state (is ∙ ap (λ (x : Mach). change x.state) (sym took) ∙ h.0) ∙ ap (comes_to code.methods.now) (ap (in_state M'.state) (sym took) ∙ sym h.1),
+      h.2,
+      subst (λ (x : Mach). load code.methods.now x < load code.methods.now (on_top (Finish at what base) M)) (sym (h.1 ∙ ap (in_state M'.state) took))
+          (finished_lighter code.methods.now M at what base M'.state (subst (λ (x : Mach). M'.state.world.ticks ≤ x.state.world.ticks) took h.3)),
+    )
 change_turn code contexts contexts' m m1 m' at base what change (Err e) took is h =
     let M = mach code contexts m in
     let M' = mach code contexts' m' in

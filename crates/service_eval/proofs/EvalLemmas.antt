@@ -66,7 +66,7 @@ module _ (methods : List Method) (m : Mach) where
     applied v h = ap (λ a. come_of methods m.items m.path (and_then (answer a at m.state) (λ v. give (take base m.values ++ v ∷ [])))) h
 
     pub not_applied : (e : Stop) → Gives (apply_row row (drop base m.values)) at (Err e) → Fails (comes_to methods (on_top (Apply at row base) m)) e m.state.world
-    not_applied stop.OutOfMemory h = tt
+    not_applied (stop.OutOfMemory _) h = tt
     not_applied (stop.Ended r) h = absurd h
     not_applied (stop.Trapped t) h =
         fails_through methods m.items m.path (and_then (answer (apply_row row (drop base vs)) at m.state) (λ v. give (take base vs ++ v ∷ []))) (stop.Trapped t) m.state.world

@@ -31,7 +31,7 @@ ended p view (Trapped k at w) r st e = absurd cc
 ended p view (Left l s) r st e = absurd cc
 
 failed : {A : Type 0} (p : Path) (view : A → List Value) (o : Outcome A) (e : Stop) (w : World) → Fails (plain (at_end p view o)) e w → Fails (plain o) e w
-failed p view o stop.OutOfMemory w h = tt
+failed p view o (stop.OutOfMemory _) w h = tt
 failed p view (Done a s) (stop.Trapped t) w h = absurd cc
 failed p view (Trapped k at v) (stop.Trapped t) w h =
     let a : k ≡ t.kind = cc in let b : at ≡ t.at = cc in let c : uncounted v ≡ uncounted w = cc in λ i. Trapped (a i) (b i) (c i)

@@ -25,7 +25,7 @@ use Rattle.service_eval.proofs.Outcomes.{assoc, feeds, traps_then, fails_through
 
 -- an answer, and what it gives at a place
 pub gives_fails : {B : Type 0} (a : Answer Value) (at : Span) (st : State) (f : Value → Act B) (e : Stop) → Gives a at (Err e) → Traps (and_then (answer a at st) f) e st.world
-gives_fails a at st f stop.OutOfMemory h = tt
+gives_fails a at st f (stop.OutOfMemory _) h = tt
 gives_fails a at st f (stop.Ended r) h = h
 gives_fails a at st f (stop.Trapped t) h = ap (λ a. and_then (answer a at st) f) h.0 ∙ ap (λ x. Trapped t.kind x st.world) (sym h.1)
 

@@ -1,5 +1,5 @@
 -- A machine stays ready where a statement or a loop did its part.
-use Rattle.std.proofs.Common.{◌≡◌, ℕ, suc, ◌≤◌, true, false, nat_lt, ◌==◌, if◌then◌else◌, List, [], ◌∷◌, ◌++◌, length, Result, Ok, Err, refl, sym, ap, subst, ◌∙◌, arith}
+use Rattle.std.proofs.Common.{◌≡◌, ℕ, suc, ◌≤◌, ◌<◌, true, false, nat_lt, ◌==◌, if◌then◌else◌, List, [], ◌∷◌, ◌++◌, length, Result, Ok, Err, refl, sym, ap, subst, ◌∙◌, arith}
 use Rattle.std.specs.List.{list_any, All}
 use Rattle.wave_base.specs.declared.path.Path.{Path}
 use Rattle.wave_base.specs.declared.shape.Shape.{Shape}
@@ -19,6 +19,7 @@ use Rattle.service_eval.specs.Items.{Item}
 use Rattle.service_eval.specs.Machines.{Mach, on_top, comes_to}
 use Rattle.service_eval.specs.Ready.{FitsItems, Ready, Turned}
 use Rattle.service_eval.specs.Turns.{mach, Goes}
+use Rattle.service_eval.specs.inner.Weight.{load}
 use Rattle.service_eval.proofs.CallTurns.{ticked}
 use Rattle.service_eval.proofs.LeaveTurns.{follows_from}
 use Rattle.service_eval.proofs.PathLemmas.{same_paths}
@@ -65,12 +66,16 @@ ready_in shape methods m item items vs st r fits s = record {
 }
 
 -- what was done comes to a machine like this
-pub did : (code : Code) (contexts contexts' : Contexts) (item : Item) (target : Mach) (m m' : Machine) → comes_to code.methods.now (on_top item (mach code contexts m)) ≡ comes_to code.methods.now target → Ready code.shape.now code.methods.now target → mach code contexts' m' ≡ target → Goes code contexts m item (Ok tt) contexts' m'
-did code contexts contexts' item target m m' same ready is = (same ∙ ap (comes_to code.methods.now) (sym is), subst (Ready code.shape.now code.methods.now) (sym is) ready)
+pub did : (code : Code) (contexts contexts' : Contexts) (item : Item) (target : Mach) (m m' : Machine) → comes_to code.methods.now (on_top item (mach code contexts m)) ≡ comes_to code.methods.now target → Ready code.shape.now code.methods.now target → mach code contexts' m' ≡ target → load code.methods.now target < load code.methods.now (on_top item (mach code contexts m)) → Goes code contexts m item (Ok tt) contexts' m'
+did code contexts contexts' item target m m' same ready is light = (
+  same ∙ ap (comes_to code.methods.now) (sym is),
+  subst (Ready code.shape.now code.methods.now) (sym is) ready,
+  subst (λ x. load code.methods.now x < load code.methods.now (on_top item (mach code contexts m))) (sym is) light,
+)
 
 -- the same, begun with what comes to the same
-pub goes_from : (code : Code) (before before' : Mach) (r : Result (Unit {0}) Stop) (after : Mach) → comes_to code.methods.now before ≡ comes_to code.methods.now before' → Turned code.shape.now code.methods.now before' r after → Turned code.shape.now code.methods.now before r after
-goes_from code before before' r after e h = follows_from code (comes_to code.methods.now before) (comes_to code.methods.now before') r after e h
+pub goes_from : (code : Code) (before before' : Mach) (r : Result (Unit {0}) Stop) (after : Mach) → comes_to code.methods.now before ≡ comes_to code.methods.now before' → Turned code.shape.now code.methods.now before' r after → load code.methods.now before' ≤ load code.methods.now before → Turned code.shape.now code.methods.now before r after
+goes_from code before before' r after e h less = follows_from code (comes_to code.methods.now before) (comes_to code.methods.now before') r after e (load code.methods.now before') (load code.methods.now before) less h
 
 pub same_spawned : (event : ℕ) (args : List Value) (w v : World) → spawning event args w ≡ Ok v → Same w v
 unfolding spawning

@@ -1,5 +1,5 @@
 -- A method that returns early: all up to its return is left out.
-use Rattle.std.proofs.Common.{◌≡◌, List, [], ◌∷◌, Option, Result, Ok, Err, OnOk, IfErr, refl, sym, ap, subst, ◌∙◌}
+use Rattle.std.proofs.Common.{◌≡◌, ◌≤◌, ◌<◌, ℕ, arith, List, [], ◌∷◌, Option, Result, Ok, Err, OnOk, IfErr, refl, sym, ap, subst, ◌∙◌}
 use Rattle.wave_base.specs.declared.path.Path.{Path}
 use Rattle.wave_base.specs.declared.shape.Shape.{Shape}
 use Rattle.wave_base.specs.declared.value.Value.{Value}
@@ -19,13 +19,16 @@ use Rattle.service_eval.specs.Machines.{Mach, Rest, items_of, mach_of, on_top, b
 use Rattle.service_eval.specs.Ready.{FitsItems, Ready, Follows}
 use Rattle.service_eval.specs.Turns.{mach, Leaves}
 use Rattle.service_eval.specs.Worlds.{uncounted, Holds, Ends, Fails}
+use Rattle.service_eval.specs.inner.Weight.{load}
 use Rattle.service_eval.proofs.CallTurns.{ready_back}
+use Rattle.service_eval.proofs.LighterTurns.{left_lighter}
 use Rattle.service_eval.proofs.Outcomes.{return_through}
 use Rattle.service_eval.proofs.ReadyLemmas.{ready_with}
+use Rattle.wave_base.specs.Memory.{the_refusal}
 
-pub follows_from : (code : Code) (o o' : Outcome Rest) (r : Result (Unit {0}) Stop) (after : Mach) → o ≡ o' → Follows code.shape.now code.methods.now o' r after → Follows code.shape.now code.methods.now o r after
-follows_from code o o' (Ok u) after e h = (e ∙ h.0, h.1)
-follows_from code o o' (Err x) after e h = (subst (λ o. Fails o x after.state.world) (sym e) h.0, h.1)
+pub follows_from : (code : Code) (o o' : Outcome Rest) (r : Result (Unit {0}) Stop) (after : Mach) → o ≡ o' → (limit more : ℕ) → limit ≤ more → Follows code.shape.now code.methods.now o' limit r after → Follows code.shape.now code.methods.now o more r after
+follows_from code o o' (Ok u) after e limit more less h = (e ∙ h.0, h.1, omega (arith, h.2, less))
+follows_from code o o' (Err x) after e limit more less h = (subst (λ o. Fails o x after.state.world) (sym e) h.0, h.1)
 
 fits_to_return : (shape : Shape) (methods : List Method) (items : List Item) (p : Path) → FitsItems shape methods items p → FitsItems shape methods (to_return items) p
 fits_to_return shape methods [] p h = h
@@ -58,7 +61,7 @@ module _ (code : Code) (contexts : Contexts) (m m1 : Machine) (ready : Ready cod
         let at : Ready code.shape.now code.methods.now (record M { items = return_of c ∷ items_of m1 }) = subst (λ items. Ready code.shape.now code.methods.now (record M { items = items })) found at_return in
         subst (λ (x : Mach). Ready code.shape.now code.methods.now (on_top (return_of c) x)) (sym (rest (shown code.shape.now contexts))) at
 
-    pub given_back : (r : Option Value) (v : Value) (m2 : Machine) (result : Result (Unit {0}) Stop) → v ≡ worth r → OnOk result ((tree : Tree (List Value)) → mach_of tree m2 ≡ back_to c v (mach_of tree m1)) → IfErr result (λ e. e ≡ stop.OutOfMemory) → Holds code.shape.now (shown code.shape.now contexts) → Leaves code contexts m (Returned r) result contexts m2
+    pub given_back : (r : Option Value) (v : Value) (m2 : Machine) (result : Result (Unit {0}) Stop) → v ≡ worth r → OnOk result ((tree : Tree (List Value)) → mach_of tree m2 ≡ back_to c v (mach_of tree m1)) → IfErr result (λ e. e ≡ stop.OutOfMemory the_refusal) → Holds code.shape.now (shown code.shape.now contexts) → Leaves code contexts m (Returned r) result contexts m2
     given_back r v m2 (Ok u) is ok err holds =
         let target = back_to c v (mach code contexts m1) in
         let same : mach code contexts m2 ≡ target = ok (shown code.shape.now contexts) in
@@ -67,8 +70,9 @@ module _ (code : Code) (contexts : Contexts) (m m1 : Machine) (ready : Ready cod
               ∙ ap (λ items. come_of code.methods.now items M.path (Left (Returned r) M.state)) found
               ∙ ap (comes_to code.methods.now) (sym at ∙ sym same),
           subst (Ready code.shape.now code.methods.now) (sym same) (ready_back code.shape.now code.methods.now (mach code contexts m1) c v ready_at_caller),
+          subst (λ x. load code.methods.now x < load code.methods.now M) (sym (same ∙ at)) (left_lighter code.methods.now M c (worth r) (items_of m1) found),
         )
-    given_back r v m2 (Err stop.OutOfMemory) is ok err holds = (tt, holds)
+    given_back r v m2 (Err (stop.OutOfMemory _)) is ok err holds = (tt, holds)
     given_back r v m2 (Err (stop.Trapped t)) is ok err holds = cc
     given_back r v m2 (Err (stop.Ended t)) is ok err holds = cc
 

@@ -1,5 +1,7 @@
 pub mod FieldLemmas
 pub mod RowLemmas
+pub mod KindLemmas
+pub mod MapRows
 pub mod WorldLemmas
 pub mod TreeRows
 pub mod LeaveTurns
@@ -25,3 +27,5 @@ pub mod SendTurns
 pub mod EventLemmas
 pub mod DownLemmas
 pub mod PhaseLemmas
+pub mod WeightLemmas
+pub mod LighterTurns

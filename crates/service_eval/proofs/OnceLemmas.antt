@@ -1,5 +1,5 @@
 -- Statements that are done at once.
-use Rattle.std.proofs.Common.{◌≡◌, ℕ, true, List, get_or, slice_set, Option, Result, Ok, Err, sym, ap, subst, ◌∙◌, arith}
+use Rattle.std.proofs.Common.{◌≡◌, ◌≤◌, ℕ, true, List, get_or, slice_set, Option, Result, Ok, Err, sym, ap, subst, ◌∙◌, arith}
 use Rattle.std.specs.List.{list_any, All}
 use Rattle.wave_base.specs.declared.limits.TheConstants.{TICKS}
 use Rattle.wave_base.specs.declared.path.Path.{Path}
@@ -79,7 +79,7 @@ module _ (call : ℕ → Path → List Value → Act (Option Value)) (n : ℕ) (
 
 -- a statement that is done by a change is done at once
 pub told_once : (code : Code) (contexts contexts' : Contexts) (m m' : Machine) (s : Step) (change : Act (Unit {0})) (r : Result (Unit {0}) Stop) → effect (called code.methods.now TICKS) TICKS m.path s (mach code contexts m).state ≡ change (mach code contexts m).state → Does code contexts m change r contexts' m' → AtOnce code contexts m s (told r) contexts' m'
-told_once code contexts contexts' m m' s change (Ok u) is h = (is ∙ h.0, h.1, h.2)
+told_once code contexts contexts' m m' s change (Ok u) is h = (is ∙ h.0, h.1, h.2, h.3)
 told_once code contexts contexts' m m' s change (Err e) is h = (subst (λ o. Traps o e (mach code contexts' m').state.world) (sym is) h.0, h.1)
 
 module _ (code : Code) (contexts : Contexts) (m m' : Machine) (change : Act (Unit {0})) (ready : Ready code.shape.now code.methods.now (mach code contexts m)) where
@@ -95,6 +95,7 @@ module _ (code : Code) (contexts : Contexts) (m m' : Machine) (change : Act (Uni
     is ∙ ap (λ (x : Mach). Done tt x.state) (sym to),
     to ∙ ap (λ (x : Mach). in_state x.state M) (sym to),
     subst (Ready code.shape.now code.methods.now) (sym to) (ready_state code.shape.now code.methods.now M st ready same),
+    subst (λ (x : Mach). x.state.world.ticks ≤ M.state.world.ticks) (sym to) same.ticks,
   )
 
   -- a local's value was changed where it stands
@@ -102,7 +103,7 @@ module _ (code : Code) (contexts : Contexts) (m m' : Machine) (change : Act (Uni
   slot_does at a slot is v (Ok u) h same =
       once contexts (record { locals = slice_set M.state.locals slot v; world = M.state.world }) (is ∙ ap (λ a. and_then (answer a at M.state) (set_local slot)) h) (same_world M.state.world) same
   slot_does at a slot is v (Err (stop.Ended e)) h same = absurd h
-  slot_does at a slot is v (Err stop.OutOfMemory) h same = (tt, subst (λ (x : Mach). Holds code.shape.now x.state.world.tree) (sym same) ready.holds)
+  slot_does at a slot is v (Err (stop.OutOfMemory _)) h same = (tt, subst (λ (x : Mach). Holds code.shape.now x.state.world.tree) (sym same) ready.holds)
   slot_does at a slot is v (Err (stop.Trapped t)) h same =
       let traps : Traps does (stop.Trapped t) M.state.world = subst (λ o. Traps o (stop.Trapped t) M.state.world) (sym is) (gives_fails a at M.state (set_local slot) (stop.Trapped t) (h.0, h.1)) in
       (subst (λ (x : Mach). Traps does (stop.Trapped t) x.state.world) (sym same) traps, subst (λ (x : Mach). Holds code.shape.now x.state.world.tree) (sym same) ready.holds)
@@ -121,7 +122,7 @@ module _ (code : Code) (contexts : Contexts) (m m' : Machine) (change : Act (Uni
     field_does (Ok u) h same =
         once contexts' (record { locals = M.state.locals; world = after }) (is ∙ ap (λ a. and_then (answer a at M.state) (put_field f M.path)) h) (same_field f v M.path M.state.world) same
     field_does (Err (stop.Ended e)) h same = absurd h
-    field_does (Err stop.OutOfMemory) h same =
+    field_does (Err (stop.OutOfMemory _)) h same =
         (tt, subst (λ (x : Mach). Holds code.shape.now x.state.world.tree) (sym same) (subst (λ (w : World). Holds code.shape.now w.tree) (sym (kept h)) ready.holds))
     field_does (Err (stop.Trapped t)) h same =
         let traps : Traps does (stop.Trapped t) M.state.world = subst (λ o. Traps o (stop.Trapped t) M.state.world) (sym is) (gives_fails a at M.state (put_field f M.path) (stop.Trapped t) (h.0, h.1)) in

@@ -31,12 +31,12 @@ feeds (Trapped k at w) f view g h = refl
 feeds (Left l st) f view g h = refl
 
 pub traps_then : {A B : Type 0} (o : Outcome A) (f : A → Act B) (e : Stop) (w : World) → Traps o e w → Traps (and_then o f) e w
-traps_then o f stop.OutOfMemory w h = tt
+traps_then o f (stop.OutOfMemory _) w h = tt
 traps_then o f (stop.Trapped t) w h = ap (λ o. and_then o f) h
 traps_then o f (stop.Ended r) w h = h
 
 pub fails_then : {A B : Type 0} (o : Outcome A) (f : A → Act B) (e : Stop) (w : World) → Fails (plain o) e w → Fails (plain (and_then o f)) e w
-fails_then o f stop.OutOfMemory w h = tt
+fails_then o f (stop.OutOfMemory _) w h = tt
 fails_then (Done a st) f (stop.Trapped t) w h = absurd cc
 fails_then (Trapped k at v) f (stop.Trapped t) w h =
     let a : k ≡ t.kind = cc in let b : at ≡ t.at = cc in let c : uncounted v ≡ uncounted w = cc in λ i. Trapped (a i) (b i) (c i)
@@ -50,7 +50,7 @@ fails_then {A} (Left l st) f (stop.Ended r) w h =
     record { why = h.why; state = h.state; is = λ i. Left (a i) (b i); replies = h.replies; leaves = h.leaves }
 
 pub traps_fail : {A : Type 0} (o : Outcome A) (e : Stop) (w : World) → Traps o e w → Fails (plain o) e w
-traps_fail o stop.OutOfMemory w h = tt
+traps_fail o (stop.OutOfMemory _) w h = tt
 traps_fail o (stop.Trapped t) w h = ap plain h
 traps_fail o (stop.Ended r) w h = absurd h
 
@@ -74,7 +74,7 @@ trap_through methods (Counts a counter body ∷ items) p k at w = trap_through m
 trap_through methods (Again a counter body ∷ items) p k at w = trap_through methods items p k at w
 
 pub fails_through : (methods : List Method) (items : List Item) (p : Path) (o : Outcome (List Value)) (e : Stop) (w : World) → Traps o e w → Fails (come_of methods items p o) e w
-fails_through methods items p o stop.OutOfMemory w h = tt
+fails_through methods items p o (stop.OutOfMemory _) w h = tt
 fails_through methods items p o (stop.Trapped t) w h = ap (come_of methods items p) h ∙ ap plain (trap_through methods items p t.kind t.at w)
 fails_through methods items p o (stop.Ended r) w h = absurd h
 

@@ -16,10 +16,11 @@ use Rattle.service_eval.specs.Machines.{mach_of, cut_to, in_world, finish}
 use Rattle.service_eval.specs.Turns.{mach, IsNext, Goes}
 use Rattle.service_eval.specs.Worlds.{world_of, Changes, Traps}
 use Rattle.service_eval.proofs.FinishLemmas.{finished, not_finished}
+use Rattle.service_eval.proofs.LighterTurns.{finished_lighter}
 use Rattle.service_eval.proofs.FinishTurns.{Same, ready_in, did}
 
 refused : (a : Answer World) (at : Span) (st : State) (e : Stop) (w : World) → Changes a at st.world (Err e) w → Traps (with_world a at st) e w
-refused a at st stop.OutOfMemory w h = tt
+refused a at st (stop.OutOfMemory _) w h = tt
 refused a at st (stop.Ended r) w h = h
 refused a at st (stop.Trapped t) w h = ap (λ a. with_world a at st) h.0 ∙ (λ i. Trapped t.kind (sym h.1 i) (sym h.2 i))
 
@@ -30,6 +31,7 @@ module _ (code : Code) (contexts : Contexts) (m m1 : Machine) (tr : Trace) (at :
       did code contexts contexts (Finish at what base) (in_world w (cut_to base (mach code contexts m))) m (record m1 { trace = tr })
       (finished code.methods.now (mach code contexts m) at base what _ (is ∙ ap (λ a. with_world a at (mach code contexts m).state) h))
       (ready_in _ _ (mach code contexts m) _ _ _ _ next next.items.1 (same w h)) (ap (in_world w) cut)
+      (finished_lighter code.methods.now (mach code contexts m) at what base (record { locals = (mach code contexts m).state.locals; world = w }) (same w h).ticks)
   changed_turn (Err e) is cut h same next =
       let w = world_of (shown code.shape.now contexts) tr in
       (not_finished code.methods.now (mach code contexts m) at base what e w (subst (λ o. Traps o e w) (sym is) (refused a at (mach code contexts m).state e w h)), next.holds)

@@ -5,6 +5,7 @@ use Rattle.wave_base.specs.declared.value.Kind.{Kind}
 use Rattle.wave_base.specs.declared.value.Kind.TheVariants as k
 use Rattle.wave_base.specs.declared.value.Value.{Value}
 use Rattle.wave_base.specs.declared.value.Value.TheVariants.{Int, Bool as Truth, Str, Map}
+use Rattle.value_ops.specs.Answers.{MayWantMemory}
 use Rattle.value_ops.specs.Kinds.{Answer}
 use Rattle.resolved_service.specs.Meaning.{Outcome, Done, State, Act, and_then}
 use Rattle.service_eval.specs.declared.operand.Operand.{Operand}
@@ -13,11 +14,11 @@ use Rattle.service_eval.specs.declared.stop.Stop.{Stop}
 use Rattle.service_eval.specs.declared.stop.Stop.TheVariants as stop
 use Rattle.service_eval.specs.Worlds.{Traps}
 
--- the value, or the trap at a place
+-- the value, or the trap at a place, or that memory was wanting, as it may be for a text or a map that is to be given
 abbrev pub Gives : Answer Value → Span → Result Value Stop → Type 0
 Gives answer at (Ok v) = answer ≡ Ok v
 Gives answer at (Err (stop.Trapped t)) = (answer ≡ Err t.kind) × (t.at ≡ at)
-Gives answer at (Err stop.OutOfMemory) = Unit {0}
+Gives answer at (Err (stop.OutOfMemory _)) = MayWantMemory answer
 Gives answer at (Err (stop.Ended _)) = ⊥
 
 abbrev pub is_kind : Option Kind → Value → Bool

@@ -6,3 +6,4 @@ pub mod Answers
 pub mod Turns
 pub mod Changes
 pub mod Events
+pub mod inner

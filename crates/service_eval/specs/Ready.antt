@@ -1,5 +1,5 @@
 -- What a machine is known to have while it runs.
-use Rattle.std.specs.Prelude.{◌≡◌, ◌≤◌, ℕ, true, List, [], ◌∷◌, Result, Ok, Err, All}
+use Rattle.std.specs.Prelude.{◌≡◌, ◌≤◌, ◌<◌, ℕ, true, List, [], ◌∷◌, Result, Ok, Err, All}
 use Rattle.wave_base.specs.declared.limits.TheConstants.{GENERATION, TICKS}
 use Rattle.wave_base.specs.declared.path.Path.{Path}
 use Rattle.wave_base.specs.declared.shape.Shape.{Shape}
@@ -12,6 +12,7 @@ use Rattle.service_eval.specs.declared.stop.Stop.{Stop}
 use Rattle.service_eval.specs.Items.{End, Branch, Item, Eval, Evals, AndThen, OrElse, Invoke, Child, Block, Begin, Finish, Turns, Check, Counts, Again, Return}
 use Rattle.service_eval.specs.Machines.{Mach, Rest, comes_to, path_after}
 use Rattle.service_eval.specs.Worlds.{Holds, Fails}
+use Rattle.service_eval.specs.inner.Weight.{load}
 
 module _ (shape : Shape) (methods : List Method) where
   abbrev pub FitsEnd : ℕ → End → Type 0
@@ -53,11 +54,11 @@ pub record Ready (shape : Shape) (methods : List Method) (m : Mach) : Type 0 whe
   pub early : m.state.world.generation ≤ GENERATION
   pub few : m.state.world.ticks ≤ TICKS
 
--- what comes of it is what the machine comes to
-abbrev pub Follows : Shape → List Method → Outcome Rest → Result (Unit {0}) Stop → Mach → Type 0
-Follows shape methods out (Ok _) after = (out ≡ comes_to methods after) × Ready shape methods after
-Follows shape methods out (Err e) after = Fails out e after.state.world × Holds shape after.state.world.tree
+-- what comes of it is what the machine comes to, and less than this is left to do
+abbrev pub Follows : Shape → List Method → Outcome Rest → ℕ → Result (Unit {0}) Stop → Mach → Type 0
+Follows shape methods out limit (Ok _) after = (out ≡ comes_to methods after) × Ready shape methods after × (load methods after < limit)
+Follows shape methods out limit (Err e) after = Fails out e after.state.world × Holds shape after.state.world.tree
 
--- one item was done: the rest comes to the same
+-- one item was done: the rest comes to the same, and less is left to do
 abbrev pub Turned : Shape → List Method → Mach → Result (Unit {0}) Stop → Mach → Type 0
-Turned shape methods before result after = Follows shape methods (comes_to methods before) result after
+Turned shape methods before result after = Follows shape methods (comes_to methods before) (load methods before) result after

@@ -1,5 +1,5 @@
 -- What a call that does an item asks, and what it does.
-use Rattle.std.specs.Prelude.{◌≡◌, Bool, true, false, List, [], Option, Result, Ok, Err}
+use Rattle.std.specs.Prelude.{◌≡◌, ◌≤◌, suc, Bool, true, false, List, [], Option, Result, Ok, Err}
 use Rattle.wave_base.specs.declared.limits.TheConstants.{TICKS}
 use Rattle.wave_base.specs.declared.span.Span.{Span}
 use Rattle.wave_base.specs.declared.value.Value.{Value}
@@ -19,6 +19,7 @@ use Rattle.resolved_service.specs.Steps.{Step}
 use Rattle.resolved_service.specs.View.{Tree}
 use Rattle.service_eval.specs.Ready.{Ready, Follows, Turned}
 use Rattle.service_eval.specs.Worlds.{plain, Holds, Traps, Fails}
+use Rattle.service_eval.specs.inner.Weight.{load}
 
 abbrev pub mach : Code → Contexts → Machine → Mach
 mach code contexts m = mach_of (shown code.shape.now contexts) m
@@ -41,20 +42,22 @@ Goes code contexts m item result contexts' m' = Turned code.shape.now code.metho
 abbrev pub AreNext : Code → Contexts → Machine → List Item → Type 0
 AreNext code contexts m items = Ready code.shape.now code.methods.now (before_all items (mach code contexts m))
 
--- they were done, or some of them
+-- they were done, or some of them, or none
 abbrev pub GoOn : Code → Contexts → Machine → List Item → Result (Unit {0}) Stop → Contexts → Machine → Type 0
-GoOn code contexts m items result contexts' m' = Turned code.shape.now code.methods.now (before_all items (mach code contexts m)) result (mach code contexts' m')
+GoOn code contexts m items result contexts' m' =
+    let before = before_all items (mach code contexts m) in
+    Follows code.shape.now code.methods.now (comes_to code.methods.now before) (suc (load code.methods.now before)) result (mach code contexts' m')
 
 -- the rest of what is running is left out
 abbrev pub Leaves : Code → Contexts → Machine → Leave → Result (Unit {0}) Stop → Contexts → Machine → Type 0
 Leaves code contexts m why result contexts' m' =
-    Follows code.shape.now code.methods.now (come_of code.methods.now (mach code contexts m).items m.path (Left why (mach code contexts m).state)) result (mach code contexts' m')
+    Follows code.shape.now code.methods.now (come_of code.methods.now (mach code contexts m).items m.path (Left why (mach code contexts m).state)) (load code.methods.now (mach code contexts m)) result (mach code contexts' m')
 
 -- a change of a value in place: the new value; or its trap at a place, which leaves it, as want of memory does
 abbrev pub Alters : Answer Value → Span → Value → Result (Unit {0}) Stop → Value → Type 0
 Alters answer at before (Ok _) after = answer ≡ Ok after
 Alters answer at before (Err (stop.Trapped t)) after = (answer ≡ Err t.kind) × (t.at ≡ at) × (after ≡ before)
-Alters answer at before (Err stop.OutOfMemory) after = after ≡ before
+Alters answer at before (Err (stop.OutOfMemory _)) after = after ≡ before
 Alters answer at before (Err (stop.Ended _)) after = ⊥
 
 -- an act was done, and is all that changed; or it failed
@@ -63,6 +66,7 @@ Does code contexts m act (Ok _) contexts' m' =
     (act (mach code contexts m).state ≡ Done tt (mach code contexts' m').state)
     × (mach code contexts' m' ≡ in_state (mach code contexts' m').state (mach code contexts m))
     × Ready code.shape.now code.methods.now (mach code contexts' m')
+    × (m'.trace.ticks ≤ m.trace.ticks)
 Does code contexts m act (Err e) contexts' m' = Traps (act (mach code contexts m).state) e (mach code contexts' m').state.world × Holds code.shape.now (mach code contexts' m').state.world.tree
 
 -- a statement was done at once; or nothing was done

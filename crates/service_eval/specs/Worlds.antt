@@ -45,7 +45,7 @@ pub record Holds (shape : Shape) (tree : Tree (List Value)) : Type 0 where
 -- why nothing was done: a trap, and the world that it leaves, or want of memory, of which nothing is said
 abbrev pub Traps : {A : Type 0} → Outcome A → Stop → World → Type 0
 Traps out (stop.Trapped t) w = out ≡ Trapped t.kind t.at w
-Traps out stop.OutOfMemory w = Unit {0}
+Traps out (stop.OutOfMemory _) w = Unit {0}
 Traps out (stop.Ended _) w = ⊥
 
 abbrev pub reply_of : Leave → Option Value
@@ -63,14 +63,14 @@ pub record Ends {A : Type 0} (out : Outcome A) (reply : Option Value) (w : World
 -- the same of a plain outcome, or the event was ended early
 abbrev pub Fails : {A : Type 0} → Outcome A → Stop → World → Type 0
 Fails out (stop.Trapped t) w = out ≡ Trapped t.kind t.at (uncounted w)
-Fails out stop.OutOfMemory w = Unit {0}
+Fails out (stop.OutOfMemory _) w = Unit {0}
 Fails out (stop.Ended reply) w = Ends out reply w
 
 -- a change of the world, or its trap at a place, which leaves it
 abbrev pub Changes : Answer World → Span → World → Result (Unit {0}) Stop → World → Type 0
 Changes answer at before (Ok _) after = answer ≡ Ok after
 Changes answer at before (Err (stop.Trapped t)) after = (answer ≡ Err t.kind) × (t.at ≡ at) × (after ≡ before)
-Changes answer at before (Err stop.OutOfMemory) after = Unit {0}
+Changes answer at before (Err (stop.OutOfMemory _)) after = Unit {0}
 Changes answer at before (Err (stop.Ended _)) after = ⊥
 
 -- a context is entered, which is a change of place; or a trap leaves the world

@@ -68,7 +68,7 @@ fn put(map: &mut Value, key: &Value, new: &Value, at: Span) -> Result<(), Stop>
     match put_pair(table, *key, *new) {
         Ok(()) => Ok(()),
         Err(OpError::Trap(kind)) => Err(Stop::Trapped(Trap { kind, at })),
-        Err(OpError::OutOfMemory) => Err(Stop::OutOfMemory),
+        Err(OpError::OutOfMemory(refused)) => Err(Stop::OutOfMemory(refused)),
     }
 }
 

@@ -11,6 +11,7 @@ ghost use Rattle.wave_base.specs.declared.value.Value.{Value};
 ghost use Rattle.resolved_service.specs.View.{Op, tree_of, trees_of};
 ghost use Rattle.service_eval.specs.Items as i;
 ghost use Rattle.service_eval.specs.Turns.{IsNext, Goes};
+ghost use Rattle.wave_base.specs.Memory.{the_refusal};
 
 use crate::code::Code;
 use crate::fields::{field, item};
@@ -74,11 +75,11 @@ pub fn eval<'s>(
 // A value more, where there was memory for it.
 fn give(m: &mut Machine<'_>, value: Result<Value, OutOfMemory>) -> Result<(), Stop>
     ensures ok { (v : Value) → IfOk value (λ x. x ≡ v) → OnOk result ((tree : _) → mach_of tree m.new ≡ with_value v (mach_of tree m.old)) }
-    ensures err { IfErr result (λ e. e ≡ Stop.OutOfMemory) }
+    ensures err { IfErr result (λ e. e ≡ Stop.OutOfMemory the_refusal) }
 {
     match value {
         Ok(value) => m.give(value),
-        Err(_) => Err(Stop::OutOfMemory),
+        Err(refused) => Err(Stop::OutOfMemory(refused)),
     }
 }
 
@@ -116,7 +117,7 @@ pub fn found(
     match look(View { code, contexts, m }, e) {
         Ok(Some(operand)) => match operand.owned(code.alloc) {
             Ok(value) => Ok(Some(value)),
-            Err(_) => Err(Stop::OutOfMemory),
+            Err(refused) => Err(Stop::OutOfMemory(refused)),
         },
         Ok(None) => Ok(None),
         Err(e) => Err(e),
@@ -137,7 +138,7 @@ fn operated(
     match look_row(View { code, contexts, m }, row, args, at) {
         Ok(Some(operand)) => match operand.owned(code.alloc) {
             Ok(value) => Ok(Some(value)),
-            Err(_) => Err(Stop::OutOfMemory),
+            Err(refused) => Err(Stop::OutOfMemory(refused)),
         },
         Ok(None) => Ok(None),
         Err(e) => Err(e),

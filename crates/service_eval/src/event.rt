@@ -100,7 +100,7 @@ fn run_as<'s>(
     match perform(code, contexts, &mut m, event) {
         Ok(reply) => Ok(ended(m, reply)),
         Err(Stop::Trapped(trap)) => Ok(stopped(code.alloc, m, trap)),
-        Err(Stop::OutOfMemory) => Err(OutOfMemory),
+        Err(Stop::OutOfMemory(refused)) => Err(refused),
         Err(Stop::Ended(reply)) => Ok(ended(m, reply)),
     }
 }

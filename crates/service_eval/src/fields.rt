@@ -37,21 +37,11 @@ pub fn item<'v>(values: &'v [Value], at: usize) -> Operand<'v>
 fn initial<'v>(shape: &'v Shape, path: &Path, field: usize) -> Operand<'v>
     ensures { value_in result ≡ get_or (initial_fields shape.now path.now) field nothing }
 {
-    let Some(class) = shape.classes.get(class_of(path)) else {
+    let Some(class) = shape.classes.get(usize::from(path.class().0)) else {
         return Operand::Made(Value::Int(0));
     };
     match class.fields.get(field) {
         Some(info) => Operand::Held(&info.initial),
         None => Operand::Made(Value::Int(0)),
-    }
-}
-
-// The class of the context at a path.
-fn class_of(path: &Path) -> usize
-    ensures { result ≡ class_of path.now }
-{
-    match path.as_slice() {
-        [.., last] => last.class.0 as usize,
-        [] => 0,
     }
 }

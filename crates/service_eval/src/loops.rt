@@ -115,7 +115,7 @@ fn count<'s>(
                 Err(e) => Err(e),
             }
         }
-        Err(_) => Err(Stop::OutOfMemory),
+        Err(refused) => Err(Stop::OutOfMemory(refused)),
     }
 }
 

@@ -3,13 +3,14 @@ ghost use Rattle.resolved_service.specs.World.{nothing, is_true, key_of};
 ghost use Rattle.service_eval.specs.declared.stop.Stop.{Stop};
 ghost use Rattle.service_eval.specs.Items.{item_of, return_of, to_return};
 ghost use Rattle.service_eval.specs.Machines.{items_of, mach_of, on_top, with_value, cut_to, own, risen};
+ghost use Rattle.wave_base.specs.Memory.{the_refusal};
 
 use crate::operand::is_true;
 use crate::stop::Stop;
 use crate::trace::Trace;
 use crate::work::{Caller, Work};
 use std::mem;
-use wave_base::{Path, Value};
+use wave_base::{OutOfMemory, Path, Value, push};
 
 /// An event on its way: what is still to be done, the last first, and the values that it waits for; the locals, the
 /// context of the function that runs; and what the event has done.
@@ -32,16 +33,16 @@ impl<'s> Machine<'s> {
     #[inline(always)]
     pub fn push(&mut self, work: Work<'s>) -> Result<(), Stop>
         ensures ok { OnOk result ((tree : _) → mach_of tree self.new ≡ on_top (item_of work.entry) (mach_of tree self.old)) }
-        ensures err { IfErr result (λ e. e ≡ Stop.OutOfMemory) }
+        ensures err { IfErr result (λ e. e ≡ Stop.OutOfMemory the_refusal) }
     {
-        self.work.push(work)?;
+        push(&mut self.work, work)?;
         Ok(())
     }
 
     /// Two things more are to be done, before all others.
     pub fn push_two(&mut self, first: Work<'s>, second: Work<'s>) -> Result<(), Stop>
         ensures ok { OnOk result ((tree : _) → mach_of tree self.new ≡ on_top (item_of first.entry) (on_top (item_of second.entry) (mach_of tree self.old))) }
-        ensures err { IfErr result (λ e. e ≡ Stop.OutOfMemory) }
+        ensures err { IfErr result (λ e. e ≡ Stop.OutOfMemory the_refusal) }
     {
         self.push(second)?;
         self.push(first)
@@ -55,7 +56,7 @@ impl<'s> Machine<'s> {
         third: Work<'s>,
     ) -> Result<(), Stop>
         ensures ok { OnOk result ((tree : _) → mach_of tree self.new ≡ on_top (item_of first.entry) (on_top (item_of second.entry) (on_top (item_of third.entry) (mach_of tree self.old)))) }
-        ensures err { IfErr result (λ e. e ≡ Stop.OutOfMemory) }
+        ensures err { IfErr result (λ e. e ≡ Stop.OutOfMemory the_refusal) }
     {
         self.push(third)?;
         self.push_two(first, second)
@@ -88,9 +89,9 @@ impl<'s> Machine<'s> {
     /// A value more.
     pub fn give(&mut self, value: Value) -> Result<(), Stop>
         ensures ok { OnOk result ((tree : _) → mach_of tree self.new ≡ with_value value (mach_of tree self.old)) }
-        ensures err { IfErr result (λ e. e ≡ Stop.OutOfMemory) }
+        ensures err { IfErr result (λ e. e ≡ Stop.OutOfMemory the_refusal) }
     {
-        self.values.push(value)?;
+        push(&mut self.values, value)?;
         Ok(())
     }
 
@@ -160,18 +161,20 @@ impl<'s> Machine<'s> {
     pub fn take_all(&mut self, base: usize) -> Result<Vec<Value>, Stop>
         ensures values { IfOk result (λ taken. taken.items ≡ drop base self.old.values.items) }
         ensures rest { OnOk result ((tree : _) → mach_of tree self.new ≡ cut_to base (mach_of tree self.old)) }
-        ensures err { IfErr result (λ e. e ≡ Stop.OutOfMemory) }
+        ensures err { IfErr result (λ e. e ≡ Stop.OutOfMemory the_refusal) }
     {
         let base = base.min(self.values.len());
-        let taken = self.values.split_off(base)?;
-        Ok(taken)
+        match self.values.split_off(base) {
+            Ok(taken) => Ok(taken),
+            Err(refused) => Err(Stop::OutOfMemory(OutOfMemory::from(refused))),
+        }
     }
 
     /// Takes an item's own values but the first.
     pub fn take_others(&mut self, base: usize) -> Result<Vec<Value>, Stop>
         ensures values { IfOk result (λ taken. taken.items ≡ drop (suc base) self.old.values.items) }
         ensures rest { OnOk result ((tree : _) → mach_of tree self.new ≡ cut_to (suc base) (mach_of tree self.old)) }
-        ensures err { IfErr result (λ e. e ≡ Stop.OutOfMemory) }
+        ensures err { IfErr result (λ e. e ≡ Stop.OutOfMemory the_refusal) }
     {
         if base < self.height() {
             self.take_all(base + 1)

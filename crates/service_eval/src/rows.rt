@@ -7,16 +7,17 @@ ghost use Rattle.wave_base.specs.declared.operators.TheConstants.{OPERATORS};
 ghost use Rattle.wave_base.specs.declared.trap.TrapKind.{TrapKind};
 ghost use Rattle.wave_base.specs.declared.value.Kind.{Kind};
 ghost use Rattle.wave_base.specs.declared.value.Value.{Value};
+ghost use Rattle.wave_base.specs.Tables.{is_full};
 ghost use Rattle.wave_base.specs.Values.{kind_of};
 
 use crate::stop::Stop;
 use std::alloc::Global;
-use value_ops::rows::{
-    ADD, AT, BEQ, BNE, CAT, DIV, EQ, GE, GT, HAS, KEY, LE, LT, MUL, NE, PART, REM, SUB, TEQ, TLT,
-    TNE,
+use value_ops::rows::{ADD, CUT, DIV, EQ, GE, GT, LE, LT, MUL, NE, PUT, REM, SUB};
+use value_ops::{
+    OpError, Takes, apply, apply_ints, apply_texts, compare_flags, part, put_pair, read_map,
+    takes_of,
 };
-use value_ops::{OpError, apply, apply_ints, apply_texts, compare_flags, part, read_map, takes_of};
-use wave_base::{Kind, OPERATORS, Span, Trap, TrapKind, Value};
+use wave_base::{Kind, OPERATORS, Span, TABLE_PAIRS, Table, Trap, TrapKind, Value};
 
 /// What a row gives of any values; of others than it takes, it gives nothing.
 pub fn apply_any(alloc: Global, row: usize, args: &[Value], at: Span) -> Result<Value, Stop>
@@ -79,18 +80,34 @@ pub fn apply_two(alloc: Global, row: usize, a: &Value, b: &Value, at: Span) -> R
 fn apply_others(alloc: Global, row: usize, a: &Value, b: &Value, at: Span) -> Result<Value, Stop>
     ensures { Gives (apply_row row (a.now ∷ b.now ∷ [])) at result }
 {
-    match (a, b) {
-        (Value::Map(m), Value::Int(k)) if is_read(row) => trapping(read_map(row, m, *k), at),
-        (Value::Str(s), Value::Str(t)) if is_texts(row) => {
-            placed(apply_texts(alloc, row, s, t), at)
-        }
-        (Value::Bool(x), Value::Bool(y)) if is_flags(row) => {
+    if row >= OPERATORS {
+        return trapping(Err(TrapKind::Absent), at);
+    }
+    match (takes_of(row), a, b) {
+        (Takes::MapInt, Value::Map(m), Value::Int(k)) => at_key(row, m, *k, at),
+        (Takes::Texts, Value::Str(s), Value::Str(t)) => placed(apply_texts(alloc, row, s, t), at),
+        (Takes::Bools, Value::Bool(x), Value::Bool(y)) => {
             Ok(Value::Bool(compare_flags(row, *x, *y)))
         }
-        _ => {
-            let args = [a.copy(alloc)?, b.copy(alloc)?];
-            apply_any(alloc, row, &args, at)
+        (Takes::Ints, Value::Int(x), Value::Int(y)) => trapping(apply_ints(row, *x, *y), at),
+        _ => trapping(Err(TrapKind::Absent), at),
+    }
+}
+
+// What a row gives of a map and an int. Only a map that is to be given takes memory.
+fn at_key(row: usize, map: &Table, key: i64, at: Span) -> Result<Value, Stop>
+    requires { takes_of row ≡ Kind.Map ∷ Kind.Int ∷ [] }
+    ensures { Gives (apply_row row (Value.Map map.now ∷ Value.Int key ∷ [])) at result }
+{
+    if row != CUT {
+        return trapping(read_map(row, map, key), at);
+    }
+    match map.copy() {
+        Ok(mut less) => {
+            less.cut(key);
+            Ok(Value::Map(less))
         }
+        Err(refused) => Err(Stop::OutOfMemory(refused)),
     }
 }
 
@@ -105,15 +122,41 @@ pub fn apply_three(
 ) -> Result<Value, Stop>
     ensures { Gives (apply_row row (a.now ∷ b.now ∷ c.now ∷ [])) at result }
 {
-    match (a, b, c) {
-        (Value::Str(t), Value::Int(x), Value::Int(y)) if row == PART => {
+    if row >= OPERATORS {
+        return trapping(Err(TrapKind::Absent), at);
+    }
+    match (takes_of(row), a, b, c) {
+        (Takes::TextIntInt, Value::Str(t), Value::Int(x), Value::Int(y)) => {
             placed(part(alloc, t, *x, *y), at)
         }
-        _ => {
-            let args = [a.copy(alloc)?, b.copy(alloc)?, c.copy(alloc)?];
-            apply_any(alloc, row, &args, at)
+        (Takes::MapIntInt, Value::Map(m), Value::Int(k), Value::Int(v)) => {
+            with_pair(m, *k, *v, at)
         }
+        _ => trapping(Err(TrapKind::Absent), at),
     }
+}
+
+// A map with the pair, where there is room for it.
+fn with_pair(map: &Table, key: i64, value: i64, at: Span) -> Result<Value, Stop>
+    ensures { Gives (apply_row PUT (Value.Map map.now ∷ Value.Int key ∷ Value.Int value ∷ [])) at result }
+{
+    if is_full(map, key) {
+        return trapping(Err(TrapKind::Full), at);
+    }
+    match map.copy() {
+        Ok(mut more) => match put_pair(&mut more, key, value) {
+            Ok(()) => Ok(Value::Map(more)),
+            Err(e) => placed(Err(e), at),
+        },
+        Err(refused) => Err(Stop::OutOfMemory(refused)),
+    }
+}
+
+// Whether there is no room for the key.
+fn is_full(map: &Table, key: i64) -> bool
+    ensures { result ≡ is_full map.now key }
+{
+    map.len() >= TABLE_PAIRS && map.get(key).is_none()
 }
 
 // Whether a row takes two ints.
@@ -128,40 +171,6 @@ fn is_ints(row: usize) -> bool
     }
 }
 
-// Whether a row reads a map at an int.
-#[tactic(auto, unfolding(value_ops::specs::Operators::takes_of, value_ops::specs::Operators::gives_of, value_ops::specs::Operators::operators))]
-fn is_read(row: usize) -> bool
-    ensures takes { IsTrue result → takes_of row ≡ Kind.Map ∷ Kind.Int ∷ [] }
-    ensures reads { IsTrue result → gives_of row ≡ Kind.Map → ⊥ }
-{
-    match row {
-        AT | HAS | KEY => true,
-        _ => false,
-    }
-}
-
-// Whether a row takes two texts.
-#[tactic(auto, unfolding(value_ops::specs::Operators::takes_of, value_ops::specs::Operators::operators))]
-fn is_texts(row: usize) -> bool
-    ensures { IsTrue result → takes_of row ≡ Kind.Text ∷ Kind.Text ∷ [] }
-{
-    match row {
-        TEQ | TNE | TLT | CAT => true,
-        _ => false,
-    }
-}
-
-// Whether a row takes two truth values.
-#[tactic(auto, unfolding(value_ops::specs::Operators::takes_of, value_ops::specs::Operators::operators))]
-fn is_flags(row: usize) -> bool
-    ensures { IsTrue result → takes_of row ≡ Kind.Bool ∷ Kind.Bool ∷ [] }
-{
-    match row {
-        BEQ | BNE => true,
-        _ => false,
-    }
-}
-
 // The answer of an operator at a place.
 fn placed(answer: Result<Value, OpError>, at: Span) -> Result<Value, Stop>
     ensures { (given : Answer Value) → Answers given answer → Gives given at result }
@@ -169,7 +178,7 @@ fn placed(answer: Result<Value, OpError>, at: Span) -> Result<Value, Stop>
     match answer {
         Ok(value) => Ok(value),
         Err(OpError::Trap(kind)) => Err(Stop::Trapped(Trap { kind, at })),
-        Err(OpError::OutOfMemory) => Err(Stop::OutOfMemory),
+        Err(OpError::OutOfMemory(refused)) => Err(Stop::OutOfMemory(refused)),
     }
 }
 

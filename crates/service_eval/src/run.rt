@@ -19,10 +19,6 @@ use crate::stop::Stop;
 use crate::work::Work;
 use context_tree::Tree;
 
-/// Items of work of one event. None does so many: its ticks are few, and behind each comes but a part of its service. One that did
-/// would be answered as want of memory, after some centuries.
-const WORK: u64 = u64::MAX;
-
 /// Does all that is to be done.
 pub fn run<'s>(code: Code<'s>, contexts: &mut Tree, m: &mut Machine<'s>) -> Result<(), Stop>
     requires ready { Ready code.shape.now code.methods.now (mach code contexts.old m.old) }
@@ -30,16 +26,13 @@ pub fn run<'s>(code: Code<'s>, contexts: &mut Tree, m: &mut Machine<'s>) -> Resu
     requires shape { IsShape code.shape.now }
     ensures { Ran code.entry (mach code.entry contexts.old m.old) result (mach code.entry contexts.new m.new) }
 {
-    'items: for _ in 0..WORK {
-        match m.pop() {
-            Some(work) => match turn(code, contexts, m, work) {
-                Ok(()) => {}
-                Err(e) => return Err(e),
-            },
-            None => return Ok(()),
+    'items: while let Some(work) = m.pop() {
+        match turn(code, contexts, m, work) {
+            Ok(()) => {}
+            Err(e) => return Err(e),
         }
     }
-    Err(Stop::OutOfMemory)
+    Ok(())
 }
 
 // The next thing to be done.

@@ -1,4 +1,3 @@
-use std::alloc::{AllocError, AllocFailed};
 use thiserror::Error;
 use wave_base::{OutOfMemory, Trap, Value};
 
@@ -10,7 +9,7 @@ pub enum Stop {
     Trapped(Trap),
     /// Memory was wanting.
     #[error("out of memory")]
-    OutOfMemory,
+    OutOfMemory(OutOfMemory),
     /// It was ended early, with this reply, if any.
     #[error("ended")]
     Ended(Option<Value>),
@@ -20,31 +19,9 @@ impl From<OutOfMemory> for Stop {
     ghost use Rattle.std.specs.Prelude.{◌≡◌};
     ghost use Rattle.service_eval.specs.declared.stop.Stop.TheVariants.{OutOfMemory};
 
-    ghost from_gives = { λ _ e. e ≡ OutOfMemory };
+    ghost from_gives = { λ refused e. e ≡ OutOfMemory refused };
 
-    fn from(_e: OutOfMemory) -> Stop {
-        Stop::OutOfMemory
-    }
-}
-
-impl From<AllocError> for Stop {
-    ghost use Rattle.std.specs.Prelude.{◌≡◌};
-    ghost use Rattle.service_eval.specs.declared.stop.Stop.TheVariants.{OutOfMemory};
-
-    ghost from_gives = { λ _ e. e ≡ OutOfMemory };
-
-    fn from(_e: AllocError) -> Stop {
-        Stop::OutOfMemory
-    }
-}
-
-impl<T: Drop> From<AllocFailed<T>> for Stop {
-    ghost use Rattle.std.specs.Prelude.{◌≡◌};
-    ghost use Rattle.service_eval.specs.declared.stop.Stop.TheVariants.{OutOfMemory};
-
-    ghost from_gives = { λ _ e. e ≡ OutOfMemory };
-
-    fn from(_e: AllocFailed<T>) -> Stop {
-        Stop::OutOfMemory
+    fn from(refused: OutOfMemory) -> Stop {
+        Stop::OutOfMemory(refused)
     }
 }

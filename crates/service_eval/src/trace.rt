@@ -7,7 +7,7 @@ ghost use Rattle.service_eval.specs.declared.stop.Stop.{Stop};
 use crate::stop::Stop;
 use std::alloc::Global;
 use wave_base::{
-    Call, GENERATION, MESSAGES, Message, Path, SPAWNS, Seq, Span, Trap, TrapKind, Txt, Value,
+    Call, GENERATION, MESSAGES, Message, Path, SPAWNS, Seq, Span, Trap, TrapKind, Txt, Value, push,
 };
 
 /// What an event has done so far, besides its changes of fields.
@@ -67,7 +67,7 @@ impl Trace {
             return trapped(TrapKind::Sends, at);
         }
         let label = label.copy(alloc)?;
-        self.messages.push(Message { label, value })?;
+        push(&mut self.messages, Message { label, value })?;
         Ok(())
     }
 
@@ -82,11 +82,12 @@ impl Trace {
         if self.created.len() >= SPAWNS {
             return trapped(TrapKind::Spawns, at);
         }
-        self.created.push(Call {
+        let call = Call {
             event,
             args: Seq::from_vec(args),
             generation: self.generation + 1,
-        })?;
+        };
+        push(&mut self.created, call)?;
         Ok(())
     }
 }

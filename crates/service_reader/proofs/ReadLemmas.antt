@@ -1,6 +1,5 @@
 -- A text is read in one way.
-use Rattle.std.proofs.Common.{◌≡◌, ◌≢◌, ℕ, suc, ◌+◌, ◌≤◌, inl, inr, List, [], length, Result, Ok, Err, Bool, false, refl, sym, ◌∙◌, subst, ap, arith}
-use mathlib.Core.Bool.{true≢false}
+use Rattle.std.proofs.Common.{◌≡◌, ◌≢◌, ℕ, suc, ◌+◌, ◌≤◌, inl, inr, List, [], length, Result, Ok, Err, false, refl, sym, ◌∙◌, subst, ap, arith}
 use Rattle.wave_base.specs.declared.span.Span.{Span}
 use Rattle.wave_base.specs.declared.limits.TheConstants.{SERVICE_BYTES}
 use Rattle.mace_lexer.specs.declared.fault.LexError.{LexError}
@@ -26,7 +25,9 @@ use Rattle.mace_parser.specs.declared.fault.ParseError.TheVariants as parse
 use Rattle.mace_parser.specs.Parsed as parsed
 use Rattle.service_reader.specs.declared.fault.TextFault.{TextFault}
 use Rattle.service_reader.specs.declared.fault.TextFault.TheVariants as fault
-use Rattle.service_reader.specs.Parsing.{IsService, IsLexFault, IsParseFault, Parses, IsOnlyParse, parser_had_no_memory}
+use Rattle.service_reader.specs.Faults.{of_parser}
+use Rattle.service_reader.specs.Parsing.{IsService, IsLexFault, IsParseFault, Parses, IsOnlyParse, Answers}
+use Rattle.wave_base.specs.Memory.{the_refusal}
 
 -- ---- trees
 
@@ -55,19 +56,16 @@ one_service text s t a b = one_tree a.tokens s t a.spelled (subst (λ ts. g.serv
 
 -- ---- faults of tokens
 
-told_fault : (text : List ℕ) (e : LexError) → e ≢ lex.OutOfMemory → lexed.TellsFault text e → (f : _) × (at : Span) × (lexed.IsFirstFault text f at) × (e ≡ lexed.error_of f at)
+told_fault : (text : List ℕ) (e : LexError) → e ≢ lex.OutOfMemory the_refusal → lexed.TellsFault text e → (f : _) × (at : Span) × (lexed.IsFirstFault text f at) × (e ≡ lexed.error_of f at)
 told_fault text (lex.BadByte at) n h = (_, at, h, refl)
 told_fault text (lex.NumberRange at) n h = (_, at, h, refl)
 told_fault text (lex.OpenText at) n h = (_, at, h, refl)
 told_fault text (lex.NameLong at) n h = (_, at, h, refl)
 told_fault text (lex.TextLong at) n h = (_, at, h, refl)
-told_fault text lex.OutOfMemory n h = absurd (n refl)
+told_fault text (lex.OutOfMemory _) n h = absurd (n refl)
 
 cut_or_fault : (text : List ℕ) (ts : List Token) (e : LexError) → lexed.AreTokens text ts → IsLexFault text e → ⊥
 cut_or_fault text ts e cut f = let told = told_fault text e f.known f.told in no_fault cut told.2
-
-pub parser_told : (e : ParseError) (b : Bool) → b ≡ parser_had_no_memory e → b ≡ false → e ≢ parse.OutOfMemory
-parser_told e b h n same = true≢false (sym (ap parser_had_no_memory same) ∙ sym h ∙ n)
 
 -- ---- what the parser answers
 
@@ -78,17 +76,17 @@ pub record Parsed (text : List ℕ) (tokens : List Token) (result : Result Servi
   pub deep : (k : ℕ) → IsTooDeep (words tokens) k → parsed.AnswersFault result (parse.TooDeep k (place_in text tokens k))
 
 -- a fault of the grammar is what the parser answers
-answered : (text : List ℕ) (tokens : List Token) (result : Result Service ParseError) → Parsed text tokens result → (e : ParseError) → e ≢ parse.OutOfMemory → parsed.TellsFault text tokens e →
+answered : (text : List ℕ) (tokens : List Token) (result : Result Service ParseError) → Parsed text tokens result → (e : ParseError) → e ≢ parse.OutOfMemory the_refusal → parsed.TellsFault text tokens e →
     parsed.AnswersFault result e
 answered text tokens result p (parse.Expected k at) n h = subst (λ x. parsed.AnswersFault result (parse.Expected k x)) (sym h.1) (p.expected k h.0)
 answered text tokens result p (parse.TooDeep k at) n h = subst (λ x. parsed.AnswersFault result (parse.TooDeep k x)) (sym h.1) (p.deep k h.0)
-answered text tokens result p parse.OutOfMemory n h = absurd (n refl)
+answered text tokens result p (parse.OutOfMemory _) n h = absurd (n refl)
 
 ok_no_fault : (s : Service) (e : ParseError) → parsed.AnswersFault (Ok s) e → ⊥
 ok_no_fault s e (inl h) = cc
 ok_no_fault s e (inr h) = cc
 
-err_same : (e k : ParseError) → e ≢ parse.OutOfMemory → parsed.AnswersFault (Err e) k → e ≡ k
+err_same : (e k : ParseError) → e ≢ parse.OutOfMemory the_refusal → parsed.AnswersFault (Err e) k → e ≡ k
 err_same e k n (inl h) = absurd (n (cc))
 err_same e k n (inr h) = cc
 
@@ -107,10 +105,10 @@ read_so text tokens s short cut p spelled shallow = record { is_so = so; only = 
     others (Err fault.TooLarge) h = absurd (omega arith)
     others (Err (fault.Lex e)) h = absurd (cut_or_fault text tokens e cut h)
     others (Err (fault.Parse e)) h = absurd (ok_no_fault s e (answered text tokens (Ok s) p e h.known (of_tokens text tokens e cut h)))
-    others (Err fault.OutOfMemory) h = absurd h
+    others (Err (fault.OutOfMemory _)) h = absurd h
 
 pub refused_so : (text : List ℕ) (tokens : List Token) (e : ParseError) → length text ≤ SERVICE_BYTES → lexed.AreTokens text tokens → Parsed text tokens (Err e) →
-    e ≢ parse.OutOfMemory → parsed.TellsFault text tokens e → IsOnlyParse text (Err (fault.Parse e))
+    e ≢ parse.OutOfMemory the_refusal → parsed.TellsFault text tokens e → IsOnlyParse text (Err (fault.Parse e))
 refused_so text tokens e short cut p known told = record { is_so = so; only = others }
   where
     so : IsParseFault text e
@@ -124,6 +122,11 @@ refused_so text tokens e short cut p known told = record { is_so = so; only = ot
     others (Err fault.TooLarge) h = absurd (omega arith)
     others (Err (fault.Lex k)) h = absurd (cut_or_fault text tokens k cut h)
     others (Err (fault.Parse k)) h = ap (λ x. Err (fault.Parse x)) (sym (err_same e k known (answered text tokens (Err e) p k h.known (of_tokens text tokens k cut h))))
-    others (Err fault.OutOfMemory) h = absurd h
+    others (Err (fault.OutOfMemory _)) h = absurd h
 
--- ---- what the lexer answers, and a text that is too long
+-- what is told of a fault of the parser
+pub refused : (text : List ℕ) (tokens : List Token) (e : ParseError) → length text ≤ SERVICE_BYTES → lexed.AreTokens text tokens → Parsed text tokens (Err e) →
+    parsed.TellsFault text tokens e → Answers text (Err (of_parser e))
+refused text tokens (parse.Expected k at) short cut p told = inr (refused_so text tokens (parse.Expected k at) short cut p (λ h. cc) told)
+refused text tokens (parse.TooDeep k at) short cut p told = inr (refused_so text tokens (parse.TooDeep k at) short cut p (λ h. cc) told)
+refused text tokens (parse.OutOfMemory _) short cut p told = inl refl

@@ -1,5 +1,5 @@
 -- What a text is read as: the tree of a service, or the first of its faults.
-use Rattle.std.specs.Prelude.{◌≡◌, ◌≢◌, ◌⊎◌, ℕ, ◌<◌, ◌≤◌, Bool, true, false, List, length, Result, Ok, Err}
+use Rattle.std.specs.Prelude.{◌≡◌, ◌≢◌, ◌⊎◌, ℕ, ◌<◌, ◌≤◌, List, length, Result, Ok, Err}
 use Rattle.wave_base.specs.declared.limits.TheConstants.{SERVICE_BYTES}
 use Rattle.mace_lexer.specs.declared.fault.LexError.{LexError}
 use Rattle.mace_lexer.specs.declared.fault.LexError.TheVariants as lex
@@ -15,14 +15,7 @@ use Rattle.mace_parser.specs.declared.fault.ParseError.TheVariants as parse
 use Rattle.mace_parser.specs.Parsed as parsed
 use Rattle.service_reader.specs.declared.fault.TextFault.{TextFault}
 use Rattle.service_reader.specs.declared.fault.TextFault.TheVariants as fault
-
-abbrev pub lexer_had_no_memory : LexError → Bool
-lexer_had_no_memory lex.OutOfMemory = true
-lexer_had_no_memory _ = false
-
-abbrev pub parser_had_no_memory : ParseError → Bool
-parser_had_no_memory parse.OutOfMemory = true
-parser_had_no_memory _ = false
+use Rattle.wave_base.specs.Memory.{the_refusal}
 
 -- a text that isn't too long, its tokens, and the tree that they spell, nested no deeper than it may be
 pub record IsService (text : List ℕ) (tree : ServiceTree) : Type 0 where
@@ -35,7 +28,7 @@ pub record IsService (text : List ℕ) (tree : ServiceTree) : Type 0 where
 -- a text that isn't too long, and what keeps it from being cut into tokens
 pub record IsLexFault (text : List ℕ) (e : LexError) : Type 0 where
   pub short : length text ≤ SERVICE_BYTES
-  pub known : e ≢ lex.OutOfMemory
+  pub known : e ≢ lex.OutOfMemory the_refusal
   pub told : lexed.TellsFault text e
 
 -- a text that isn't too long, its tokens, and what keeps them from being a service
@@ -43,7 +36,7 @@ pub record IsParseFault (text : List ℕ) (e : ParseError) : Type 0 where
   pub short : length text ≤ SERVICE_BYTES
   pub tokens : List Token
   pub cut : lexed.AreTokens text tokens
-  pub known : e ≢ parse.OutOfMemory
+  pub known : e ≢ parse.OutOfMemory the_refusal
   pub told : parsed.TellsFault text tokens e
 
 -- the length is judged first, then the tokens, and then the grammar
@@ -51,7 +44,7 @@ abbrev pub IsTextFault : List ℕ → TextFault → Type 0
 IsTextFault text fault.TooLarge = SERVICE_BYTES < length text
 IsTextFault text (fault.Lex e) = IsLexFault text e
 IsTextFault text (fault.Parse e) = IsParseFault text e
-IsTextFault text fault.OutOfMemory = ⊥
+IsTextFault text (fault.OutOfMemory _) = ⊥
 
 abbrev pub Parses : List ℕ → Result ServiceTree TextFault → Type 0
 Parses text (Ok tree) = IsService text tree
@@ -68,4 +61,4 @@ pub record IsOnlyParse (text : List ℕ) (result : Result ServiceTree TextFault)
   pub only : (other : Result ServiceTree TextFault) → Parses text other → other ≡ result
 
 abbrev pub Answers : List ℕ → Result ServiceTree TextFault → Type 0
-Answers text result = (result ≡ Err fault.OutOfMemory) ⊎ IsOnlyParse text result
+Answers text result = (result ≡ Err (fault.OutOfMemory the_refusal)) ⊎ IsOnlyParse text result

@@ -3,8 +3,6 @@
 
 mod fault;
 mod parsing;
-#[cfg(test)]
-mod tests;
 
 pub use fault::TextFault;
 pub use parsing::parse_text;

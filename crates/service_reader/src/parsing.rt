@@ -1,26 +1,17 @@
-ghost use Rattle.std.specs.Prelude.{◌≡◌, ◌≤◌, length};
+ghost use Rattle.std.specs.Prelude.{◌≤◌, length, IfOk};
 ghost use Rattle.wave_base.specs.declared.limits.TheConstants.{SERVICE_BYTES};
 ghost use Rattle.mace_lexer.specs.Lexed.{AreTokens};
-ghost use Rattle.service_reader.specs.Parsing.{looked, lexer_had_no_memory, parser_had_no_memory, Answers};
+ghost use Rattle.mace_ast.specs.Counts.{IsFew};
+ghost use Rattle.mace_ast.specs.Decls.{service_tree};
+ghost use Rattle.service_reader.specs.Parsing.{looked, Answers};
 
 use crate::fault::TextFault;
 use mace_ast::Service;
-use mace_lexer::{LexError, Token, lex};
-use mace_parser::{ParseError, parse};
+use mace_lexer::{Token, lex};
+use mace_parser::parse;
+use mace_printer::declarations_take_words;
 use std::alloc::Global;
 use wave_base::SERVICE_BYTES;
-
-fn lexer_had_no_memory(error: &LexError) -> bool
-    ensures { result ≡ lexer_had_no_memory error.now }
-{
-    matches!(error, LexError::OutOfMemory)
-}
-
-fn parser_had_no_memory(error: &ParseError) -> bool
-    ensures { result ≡ parser_had_no_memory error.now }
-{
-    matches!(error, ParseError::OutOfMemory)
-}
 
 // The service that the tokens of a text spell.
 fn spelled(alloc: Global, text: &[u8], tokens: &[Token]) -> Result<Service, TextFault>
@@ -28,23 +19,26 @@ fn spelled(alloc: Global, text: &[u8], tokens: &[Token]) -> Result<Service, Text
     requires tokens { AreTokens text.now tokens.now }
     ensures { Answers text.now (looked result) }
 {
-    match parse(alloc, text, tokens) {
-        Ok(service) => Ok(service),
-        Err(error) if parser_had_no_memory(&error) => Err(TextFault::OutOfMemory),
-        Err(error) => Err(TextFault::Parse(error)),
-    }
+    Ok(parse(alloc, text, tokens)?)
 }
 
-/// The service that a text spells. Of faults the first decides: the length, then the tokens, then the grammar.
-pub fn parse_text(alloc: Global, text: &[u8]) -> Result<Service, TextFault>
+// The service that a text spells, or the first of its faults.
+fn read(alloc: Global, text: &[u8]) -> Result<Service, TextFault>
     ensures { Answers text.now (looked result) }
 {
     if text.len() > SERVICE_BYTES {
         return Err(TextFault::TooLarge);
     }
-    match lex(alloc, text) {
-        Ok(tokens) => spelled(alloc, text, tokens.as_slice()),
-        Err(error) if lexer_had_no_memory(&error) => Err(TextFault::OutOfMemory),
-        Err(error) => Err(TextFault::Lex(error)),
-    }
+    let tokens = lex(alloc, text)?;
+    spelled(alloc, text, tokens.as_slice())
+}
+
+/// The service that a text spells. Of faults the first decides: the length, then the tokens, then the grammar. A text that
+/// isn't too long has no words for more classes, methods and events than a service may have.
+pub fn parse_text(alloc: Global, text: &[u8]) -> Result<Service, TextFault>
+    ensures answer { Answers text.now (looked result) }
+    ensures few { IfOk result (λ s. IsFew (service_tree s)) }
+{
+    declarations_take_words();
+    read(alloc, text)
 }

@@ -12,8 +12,8 @@ use Rattle.wave_base.specs.declared.path.Step.{Step}
 use Rattle.wave_base.specs.declared.shape.ClassInfo.{ClassInfo}
 use Rattle.wave_base.specs.declared.shape.Shape.{Shape}
 use Rattle.wave_base.specs.Paths.{parent_of}
-use Rattle.wave_base.specs.Shapes.{class_from, class_of, parent_in, parent_class, is_class, is_path_from, is_path, passes_root, IsShape}
-use Rattle.service_verify.specs.Rules.{classes_above, levels_above, is_child_class}
+use Rattle.wave_base.specs.Shapes.{class_from, class_of, parent_in, parent_class, is_class, is_child_class, is_path_from, is_path, passes_root, IsShape}
+use Rattle.service_verify.specs.Rules.{classes_above, levels_above}
 use Rattle.service_verify.proofs.Judged.{some_same}
 
 and_left : {P : Type 0} (a b : Bool) → (a && b) ≡ true → (a ≡ true → b ≡ true → P) → P

@@ -41,7 +41,7 @@ names_as g (e.Kind f i) h = g rule.Kind f i h
 names_as g (e.Jump f i) h = g rule.Jump f i h
 names_as g (e.Call f i) h = g rule.Call f i h
 names_as g (e.Field f i) h = g rule.Field f i h
-names_as g e.OutOfMemory h = tt
+names_as g (e.OutOfMemory _) h = tt
 
 -- the first instruction that breaks a rule, where all before it keep the rules
 pub first_fault : (program : Program) (number : ℕ) (function : Function) (items : List Instr) → items ≡ function.code → (n : ℕ) (i : Instr) (t u : Table) (x : Refusal) (e : VerifyError) → judged_function program number function ≡ judged_from program number function n (drop n function.code) t → n < length items → Judges (visit program number function n (get_or items n i) t) u (Err x) → Refuses x number n e → Names (IsFirst program number function) e
@@ -49,4 +49,4 @@ first_fault program number function items same n i t u (Broken r) x so_far h v n
   number_is = sym is.function_is;
   breaks = so_far ∙ ap (λ code. judged_from program number function n (drop n code) t) (sym same) ∙ step_err program number function items n i t r h v ∙ (λ j. Err (record { rule = is.rule j; instruction = is.instruction_is j }));
 }) x named
-first_fault program number function items same n i t u OutOfMemory x so_far h v named = subst (Names (IsFirst program number function)) (sym named) tt
+first_fault program number function items same n i t u (OutOfMemory _) x so_far h v named = subst (Names (IsFirst program number function)) (sym named) tt

@@ -9,6 +9,7 @@ use Rattle.service_verify.specs.declared.error.Rule.TheVariants as rule
 use Rattle.service_verify.specs.declared.error.VerifyError.{VerifyError}
 use Rattle.service_verify.specs.declared.error.VerifyError.TheVariants as e
 use Rattle.service_verify.specs.Points.{judged_function}
+use Rattle.wave_base.specs.Memory.{the_refusal}
 
 -- P holds of the rule, the function and the instruction that it names
 abbrev pub Names : (Rule → ℕ → ℕ → Type 0) → VerifyError → Type 0
@@ -17,7 +18,7 @@ Names P (e.Kind f i) = P rule.Kind f i
 Names P (e.Jump f i) = P rule.Jump f i
 Names P (e.Call f i) = P rule.Call f i
 Names P (e.Field f i) = P rule.Field f i
-Names P e.OutOfMemory = Unit {0}
+Names P (e.OutOfMemory _) = Unit {0}
 
 -- this rule, this function and this instruction
 pub record IsNamed (r : Rule) (number instruction : ℕ) (s : Rule) (f i : ℕ) : Type 0 where
@@ -28,7 +29,7 @@ pub record IsNamed (r : Rule) (number instruction : ℕ) (s : Rule) (f i : ℕ) 
 -- the refusal of an instruction
 abbrev pub Refuses : Refusal → ℕ → ℕ → VerifyError → Type 0
 Refuses (Broken r) f i x = Names (IsNamed r f i) x
-Refuses OutOfMemory f i x = x ≡ e.OutOfMemory
+Refuses (OutOfMemory _) f i x = x ≡ e.OutOfMemory the_refusal
 
 -- the first instruction of a function that breaks a rule
 pub record IsFirst (program : Program) (number : ℕ) (function : Function) (r : Rule) (f i : ℕ) : Type 0 where

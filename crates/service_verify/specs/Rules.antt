@@ -6,7 +6,7 @@ use Rattle.wave_base.specs.declared.path.Class.{Class}
 use Rattle.wave_base.specs.declared.shape.Shape.{Shape}
 use Rattle.wave_base.specs.declared.value.Kind.{Kind}
 use Rattle.wave_base.specs.declared.value.Kind.TheVariants as k
-use Rattle.wave_base.specs.Shapes.{is_class, parent_class, kinds_of_class}
+use Rattle.wave_base.specs.Shapes.{is_child_class, parent_class, kinds_of_class}
 use Rattle.value_ops.specs.Operators.{takes_of, gives_of}
 use Rattle.service_code.specs.declared.instr.Instr.{Instr}
 use Rattle.service_code.specs.declared.instr.Instr.TheVariants.{PushInt, PushBool, PushText, PushEmpty, Load, Store, Field, SetField, Above, Op, PutLocal, PutField, CutLocal, CutField, Jump, JumpFalse, Tick, Call, CallDown, Return, Pop, Require, Send, Spawn, Go, Reply, End}
@@ -49,9 +49,6 @@ classes_above shape (suc n) (Some c) = c.0 ∷ classes_above shape n (parent_cla
 -- the classes above a class, from the root: at each level one
 unfoldable pub levels_above : Shape → ℕ → List ℕ
 levels_above shape c = reverse (classes_above shape CLASS_DEPTH (parent_class shape c))
-
-abbrev pub is_child_class : Shape → ℕ → ℕ → Bool
-is_child_class shape c child = is_class c (parent_class shape child)
 
 -- what an instruction takes from the stack, the top first, each of a kind or of any; and what it gives
 pub record Effect : Type 0 where

@@ -1,8 +1,8 @@
 ghost use Rattle.std.specs.Prelude.{◌≡◌, ◌≤◌, Some, None, length, slice_get, option_map};
 ghost use Rattle.value_ops.specs.Rows.{wave_rows_2};
-ghost use Rattle.wave_base.specs.Shapes.{kinds_of_class, parent_class};
+ghost use Rattle.wave_base.specs.Shapes.{kinds_of_class};
 ghost use Rattle.service_verify.specs.inner.Asks.{asked, takes_in, Finds, Has};
-ghost use Rattle.service_verify.specs.Rules.{effect_of, is_child_class, classes_above, levels_above, takes_for_map};
+ghost use Rattle.service_verify.specs.Rules.{effect_of, classes_above, levels_above, takes_for_map};
 
 use crate::error::Rule;
 use service_code::{Function, Instr, Program};
@@ -184,7 +184,7 @@ impl<'p> Judge<'p> {
     fn call_down(&self, class: Class, child: Class, g: u16) -> Result<Asks<'p>, Rule>
         ensures { asked result ≡ effect_of self.now.program.now self.now.number self.now.function.now class.0 (Instr.CallDown child g) }
     {
-        if !is_child(&self.program.shape, class, child) {
+        if !self.program.shape.is_child(class, child) {
             return Err(Rule::Call);
         }
         match self.program.functions.get(g as usize) {
@@ -223,7 +223,7 @@ impl<'p> Judge<'p> {
     fn go(&self, class: Class, child: Class) -> Result<Asks<'p>, Rule>
         ensures { asked result ≡ effect_of self.now.program.now self.now.number self.now.function.now class.0 (Instr.Go child) }
     {
-        if self.function.is_event && is_child(&self.program.shape, class, child) {
+        if self.function.is_event && self.program.shape.is_child(class, child) {
             Ok(taking(Takes::One(Kind::Int)))
         } else {
             Err(Rule::Call)
@@ -267,31 +267,12 @@ fn for_map(kind: Kind, takes: Takes<'_>) -> Result<Asks<'_>, Rule>
     }
 }
 
-// The class that a class stands in.
-fn parent(shape: &Shape, class: Class) -> Option<Class>
-    ensures { result ≡ parent_class shape.now class.0 }
-{
-    match shape.classes.get(class.0 as usize) {
-        Some(class) => class.parent,
-        None => None,
-    }
-}
-
-fn is_child(shape: &Shape, class: Class, child: Class) -> bool
-    ensures { result ≡ is_child_class shape.now class.0 child.0 }
-{
-    match parent(shape, child) {
-        Some(parent) => parent.0 == class.0,
-        None => false,
-    }
-}
-
 /// The class above a class that is at this level, the root's being 0.
 #[tactic(auto, unfolding(crate::specs::Rules::levels_above))]
 pub fn ancestor(shape: &Shape, class: Class, level: usize) -> Option<Class>
     ensures { option_map (λ c. c.0) result ≡ slice_get (levels_above shape.now class.0) level }
 {
-    let nearest = parent(shape, class);
+    let nearest = shape.parent(class);
     let levels = count_above(shape, CLASS_DEPTH, nearest);
     if level >= levels {
         return None;
@@ -305,7 +286,7 @@ fn count_above(shape: &Shape, most: usize, class: Option<Class>) -> usize
     ensures few { result ≤ most }
 {
     match class {
-        Some(class) if most > 0 => 1 + count_above(shape, most - 1, parent(shape, class)),
+        Some(class) if most > 0 => 1 + count_above(shape, most - 1, shape.parent(class)),
         _ => 0,
     }
 }
@@ -319,7 +300,7 @@ fn class_above(shape: &Shape, most: usize, class: Option<Class>, steps: usize) -
             if steps == 0 {
                 Some(class)
             } else {
-                class_above(shape, most - 1, parent(shape, class), steps - 1)
+                class_above(shape, most - 1, shape.parent(class), steps - 1)
             }
         }
         _ => None,

@@ -1,4 +1,3 @@
-use std::alloc::AllocError;
 use thiserror::Error;
 use wave_base::OutOfMemory;
 
@@ -39,7 +38,7 @@ pub enum VerifyError {
     Field { function: u16, instruction: u16 },
     /// Memory was wanting, and nothing is said of the program.
     #[error("out of memory")]
-    OutOfMemory,
+    OutOfMemory(OutOfMemory),
 }
 
 impl Rule {
@@ -80,7 +79,7 @@ pub enum Refusal {
     /// The rule that an instruction breaks.
     Broken(Rule),
     /// Memory was wanting.
-    OutOfMemory,
+    OutOfMemory(OutOfMemory),
 }
 
 impl Refusal {
@@ -92,7 +91,7 @@ impl Refusal {
     {
         match self {
             Refusal::Broken(rule) => rule.broken_at(function, instruction),
-            Refusal::OutOfMemory => VerifyError::OutOfMemory,
+            Refusal::OutOfMemory(refused) => VerifyError::OutOfMemory(refused),
         }
     }
 }
@@ -112,10 +111,10 @@ impl From<OutOfMemory> for Refusal {
     ghost use Rattle.std.specs.Prelude.{◌≡◌};
     ghost use Rattle.service_verify.specs.declared.error.Refusal.TheVariants.{OutOfMemory};
 
-    ghost from_gives = { λ _ r. r ≡ OutOfMemory };
+    ghost from_gives = { λ refused r. r ≡ OutOfMemory refused };
 
-    fn from(_e: OutOfMemory) -> Refusal {
-        Refusal::OutOfMemory
+    fn from(refused: OutOfMemory) -> Refusal {
+        Refusal::OutOfMemory(refused)
     }
 }
 
@@ -123,20 +122,9 @@ impl From<OutOfMemory> for VerifyError {
     ghost use Rattle.std.specs.Prelude.{◌≡◌};
     ghost use Rattle.service_verify.specs.declared.error.VerifyError.TheVariants.{OutOfMemory};
 
-    ghost from_gives = { λ _ r. r ≡ OutOfMemory };
+    ghost from_gives = { λ refused r. r ≡ OutOfMemory refused };
 
-    fn from(_e: OutOfMemory) -> VerifyError {
-        VerifyError::OutOfMemory
-    }
-}
-
-impl From<AllocError> for Refusal {
-    ghost use Rattle.std.specs.Prelude.{◌≡◌};
-    ghost use Rattle.service_verify.specs.declared.error.Refusal.TheVariants.{OutOfMemory};
-
-    ghost from_gives = { λ _ r. r ≡ OutOfMemory };
-
-    fn from(_e: AllocError) -> Refusal {
-        Refusal::OutOfMemory
+    fn from(refused: OutOfMemory) -> VerifyError {
+        VerifyError::OutOfMemory(refused)
     }
 }

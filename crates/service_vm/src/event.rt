@@ -2,7 +2,6 @@ ghost use Rattle.std.specs.Prelude.{◌≡◌, ◌<◌, ◌≤◌, ℕ, [], leng
 ghost use Rattle.wave_base.specs.declared.path.Path.{Path};
 ghost use Rattle.wave_base.specs.declared.limits.TheConstants.{GENERATION};
 ghost use Rattle.wave_base.specs.Scripts.{IsCall};
-ghost use Rattle.wave_base.specs.Shapes.{class_of};
 ghost use Rattle.service_verify.specs.Boxes.{first_box, blank_of};
 ghost use Rattle.service_verify.specs.Fit.{IsFit};
 ghost use Rattle.service_verify.specs.Looks.{is_peeking, frames_peek};
@@ -18,7 +17,7 @@ use service_code::{Function, Program};
 use service_verify::Verified;
 use std::alloc::Global;
 use std::marker::Model;
-use wave_base::{Call, Class, OutOfMemory, Path, Pause, Record, Seq, Ticket, Value};
+use wave_base::{Call, OutOfMemory, Path, Pause, Record, Seq, Ticket, Value};
 
 /// An event between its segments. It is of one program, which each of its calls is given.
 #[derive(Debug, Drop)]
@@ -75,7 +74,7 @@ impl EventBox {
             generation,
         } = call;
         let mut locals = args.into_vec();
-        if locals.append(&mut blanks).is_err() {
+        if let Err(refused) = locals.append(&mut blanks) {
             let args = Seq::from_vec(locals);
             return Err((
                 Call {
@@ -83,7 +82,7 @@ impl EventBox {
                     args,
                     generation,
                 },
-                OutOfMemory,
+                OutOfMemory::from(refused),
             ));
         }
         let run = Run::first(alloc, number, locals, held, generation);
@@ -150,7 +149,7 @@ fn run_to_pause(
     ensures children { body.new.children ≡ body.old.children }
     ensures verified { IsVerified program.now }
 {
-    let class = class_of(&event.run.path);
+    let class = event.run.path.class();
     let why = event.run.pause(program.program(), &mut body.fields)?;
     match &why {
         Pause::Go(_) | Pause::Down(_) => event.run.views.leave(body, program.kept(class))?,
@@ -172,17 +171,6 @@ fn is_peeking(program: &Verified, run: &Run, ended: bool) -> bool
         Some(start) => start <= run.frames.place(),
         None => false,
     }
-}
-
-// The class of a context.
-fn class_of(path: &Path) -> Class
-    ensures { result.0 ≡ class_of path.now }
-{
-    let steps = path.as_slice();
-    if steps.is_empty() {
-        return Class(0);
-    }
-    steps[steps.len() - 1].class
 }
 
 // The function of an event.

@@ -32,7 +32,7 @@ impl Run {
                 Ok(Flow::On)
             }
             Err(SendError::Sends(_)) => Ok(Flow::Traps(TrapKind::Sends)),
-            Err(SendError::OutOfMemory(_)) => Err(OutOfMemory),
+            Err(SendError::OutOfMemory(_, refused)) => Err(refused),
         }
     }
 
@@ -59,7 +59,7 @@ impl Run {
             }
             Err(SpawnError::Generation(_)) => Ok(Flow::Traps(TrapKind::Generation)),
             Err(SpawnError::Spawns(_)) => Ok(Flow::Traps(TrapKind::Spawns)),
-            Err(SpawnError::OutOfMemory(_)) => Err(OutOfMemory),
+            Err(SpawnError::OutOfMemory(_, refused)) => Err(refused),
         }
     }
 }

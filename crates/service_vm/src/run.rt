@@ -1,4 +1,4 @@
-ghost use Rattle.std.specs.Prelude.{◌≡◌, ◌<◌, ◌^◌, ◌∷◌, [], List, Some, None, true, false, suc, nat_lt, IfOk, OnOk};
+ghost use Rattle.std.specs.Prelude.{◌≡◌, ◌<◌, ◌^◌, ◌∷◌, [], List, Some, None, true, false, suc, nat_lt, Err, IfOk, IfErr, OnOk};
 ghost use Rattle.std.specs.BTreeSet.{insert_key};
 ghost use Rattle.wave_base.specs.declared.limits.TheConstants.{CONTEXTS, TICKS};
 ghost use Rattle.wave_base.specs.declared.value.Value.{Value};
@@ -92,6 +92,7 @@ impl Run {
     pub fn settle(&mut self, changed: Result<(), OpError>) -> Result<Flow, OutOfMemory>
         requires { self.old.frames.top.place < 2 ^ 63 }
         ensures settled { IfOk result (λ flow. Settled changed self.old flow self.new) }
+        ensures wants { IfErr result (λ refused. changed ≡ Err (OpError.OutOfMemory refused)) }
         ensures stays { Stays self.old self.new }
     {
         match changed {
@@ -100,7 +101,7 @@ impl Run {
                 Ok(Flow::On)
             }
             Err(OpError::Trap(kind)) => Ok(Flow::Traps(kind)),
-            Err(OpError::OutOfMemory) => Err(OutOfMemory),
+            Err(OpError::OutOfMemory(refused)) => Err(refused),
         }
     }
 

@@ -4,6 +4,3 @@
 mod walker;
 
 pub use walker::{Walker, walk};
-
-#[cfg(test)]
-mod tests;

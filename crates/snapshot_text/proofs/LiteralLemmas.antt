@@ -3,7 +3,7 @@ use Rattle.std.proofs.Common.{◌≡◌, ◌⊎◌, inl, inr, ℕ, Bool, true, f
 use Rattle.std.specs.Prelude.{◌||◌, ◌==◌, codes, nat_eq}
 use Rattle.std.proofs.lemmas.Bool.{and_parts, or_cases, false≢true}
 use Rattle.std.proofs.lemmas.Bool.Decides.{nat_tests}
-use Rattle.mace_lexer.specs.Texts.{escaped}
+use Rattle.wave_base.specs.Text.{escaped}
 use Rattle.wave_base.specs.Names.{same_bytes}
 use Rattle.wave_text.specs.Quotes.{Quotes}
 use Rattle.wave_text.specs.Splits.{IsSplit}

@@ -1,11 +1,11 @@
 -- The line of a shot: its parts, and that no line feed stands in it.
-use Rattle.std.proofs.Common.{◌≡◌, ◌<◌, ◌≤◌, ℕ, true, false, cond, List, [], ◌∷◌, ◌++◌, map, Option, Some, None, Ok, Err, All, refl, sym, ap, subst, ◌∙◌, lit<, arith}
+use Rattle.std.proofs.Common.{◌≡◌, ◌<◌, ◌≤◌, ℕ, true, false, cond, List, [], ◌∷◌, ◌++◌, map, Option, Some, None, All, refl, sym, ap, subst, ◌∙◌, lit<, arith}
 use Rattle.std.specs.Prelude.{◌==◌, ◌&&◌, ◌||◌, codes}
 use Rattle.std.specs.List.{list_all}
 use Rattle.std.proofs.lemmas.Bool.{and_parts}
 use Rattle.std.proofs.lemmas.Bool.Decides.{nat_tests}
 use Rattle.std.proofs.lemmas.List.Elements.{All-head, All-tail}
-use Rattle.mace_lexer.specs.Texts.{escaped_byte, escaped}
+use Rattle.wave_base.specs.Text.{escaped_byte, escaped}
 use Rattle.wave_base.specs.declared.path.Path.{Path}
 use Rattle.wave_base.specs.declared.shape.FieldInfo.{FieldInfo}
 use Rattle.wave_base.specs.declared.shape.Shape.{Shape}
@@ -16,19 +16,16 @@ use Rattle.wave_base.specs.Names.{HasNames, is_word}
 use Rattle.wave_base.specs.Shapes.{class_of, declared_fields}
 use Rattle.wave_base.specs.Text.{IsPrintable}
 use Rattle.wave_text.specs.ValueTexts.{value_text, pairs_text}
-use Rattle.path_text.specs.declared.parse.PathError.{PathError}
-use Rattle.path_text.specs.declared.parse.PathError.TheVariants as error
 use Rattle.wave_text.specs.Splits.{is_other, HasNone, IsSplit, ArePartsAt}
+use Rattle.path_text.specs.Found.{IsPath, IsPathOf}
 use Rattle.path_text.specs.PathTexts.{path_text}
 use Rattle.path_text.specs.ShotTexts.{field_text, fields_text, shot_text}
-use Rattle.path_text.specs.Verdicts.{IsOnlyVerdict}
 use Rattle.wave_text.proofs.SplitLemmas.{one_split, none-append}
 use Rattle.journal_text.specs.Fits.{HasKeys}
-use Rattle.journal_text.proofs.PathLemmas.{path_found, path_missed}
 use Rattle.journal_text.proofs.SolidLemmas.{solid_has_none, path_solid, word_solid}
 use Rattle.snapshot_text.specs.Shots.{IsValue, IsShot}
 use Rattle.snapshot_text.specs.Verdicts.{IsLineOf}
-use Rattle.snapshot_text.specs.inner.Guesses.{behind_first, IsPath, IsPathOf, AreGoodFor, AreValuesOf, IsShotOf}
+use Rattle.snapshot_text.specs.inner.Guesses.{behind_first, AreGoodFor, AreValuesOf, IsShotOf}
 use Rattle.snapshot_text.proofs.FieldLemmas.{ends_fields}
 use Rattle.snapshot_text.proofs.FitLemmas.{field_words}
 use Rattle.snapshot_text.proofs.MapLemmas.{fit_of}
@@ -87,14 +84,6 @@ module _ (shape : Shape) (names : HasNames shape) where
   -- the line at the front of a text
   pub front_shot : (text line after : List ℕ) → IsSplit 10 text line after → (s : Shot) (rest : List ℕ) → IsShot shape s → text ≡ shot_text shape s ++ 10 ∷ rest → (line ≡ shot_text shape s) × (after ≡ rest)
   front_shot text line after p s rest h e = one_split 10 line after (shot_text shape s) rest p.first (shot_no_feed s h) (sym p.spelled ∙ e)
-
-  -- ---- a path
-
-  pub path_seen : (text : List ℕ) (q : Path) → IsOnlyVerdict shape text (Ok q) → IsPathOf shape text (Some q)
-  path_seen text q only p h e = path_found shape names text q p only h.path (record { short = h.short; keys = h.keys }) e
-
-  pub path_unseen : (text : List ℕ) (r : PathError) → (r ≡ error.OutOfMemory → ⊥) → IsOnlyVerdict shape text (Err r) → IsPathOf shape text None
-  path_unseen text r not only p h e = path_missed shape names text r not only p h.path (record { short = h.short; keys = h.keys }) e
 
   -- ---- the parts of a line
 

@@ -20,6 +20,7 @@ use Rattle.snapshot_text.specs.inner.Tails.{IsNextLine, IsOnlyFault, IsParted, I
 use Rattle.snapshot_text.proofs.FaultLemmas.{no_fault}
 use Rattle.snapshot_text.proofs.OrderLemmas.{order_more, order_at}
 use Rattle.snapshot_text.proofs.ShotLemmas.{front_shot}
+use Rattle.wave_base.specs.Memory.{the_refusal}
 
 -- the shots that others have behind these
 pub record AreMore (shape : Shape) (before : List Shot) (rest : List ℕ) (others : List Shot) (left : List ℕ) : Type 0 where
@@ -132,7 +133,7 @@ module _ (shape : Shape) where
 
   -- a line was refused
   pub line_refused : HasNames shape → (tail : List ℕ) (before : List Shot) (rest line after : List ℕ) (n : ℕ) (e : ShotError) → AreReadTo shape tail before rest → IsSplit 10 rest line after → n ≡ length before + 2 → IsRefusal shape before line n e
-      → (e ≡ error.OutOfMemory) ⊎ ((xs : List Shot) × (f : Fault) × StopsWith shape tail xs f × (e ≡ refused f (length xs + 2)))
+      → (e ≡ error.OutOfMemory the_refusal) ⊎ ((xs : List Shot) × (f : Fault) × StopsWith shape tail xs f × (e ≡ refused f (length xs + 2)))
   line_refused names tail before rest line after n e h p number (inl m) = inl m
   line_refused names tail before rest line after n e h p number (inr r) = inr (before, r.0, line_stops names tail before rest line after r.0 h p r.1, r.2 ∙ ap (refused r.0) number)
 

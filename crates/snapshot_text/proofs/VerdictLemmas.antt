@@ -43,7 +43,7 @@ module _ (shape : Shape) (names : HasNames shape) (text : List ℕ) where
   other_errors r h (error.Class n) v = h fault.Class n v
   other_errors r h (error.Field n) v = h fault.Field n v
   other_errors r h (error.Order n) v = h fault.Order n v
-  other_errors r h error.OutOfMemory v = absurd v
+  other_errors r h (error.OutOfMemory _) v = absurd v
 
   refused_is : (f : Fault) (n : ℕ) → IsRefused shape text f n → ((other : Result (List Shot) ShotError) → IsVerdict shape text other → other ≡ Err (refused f n)) → IsOnlyVerdict shape text (Err (refused f n))
   refused_is fault.Syntax n h only = (h, only)

@@ -5,7 +5,7 @@ use Rattle.std.specs.Ordering.{nat_cmp}
 use Rattle.std.specs.Cmp.Lexicographic.{slice_cmp}
 use Rattle.std.specs.Char.{is_ascii_digit}
 use Rattle.wave_base.specs.Text.{IsPrintable}
-use Rattle.mace_lexer.specs.Texts.{quoted}
+use Rattle.wave_base.specs.Text.{quoted}
 use Rattle.wave_base.specs.Names.{is_word}
 use Rattle.path_text.specs.declared.written.Written.{Written}
 use Rattle.path_text.specs.Steps.{is_step, written_text}

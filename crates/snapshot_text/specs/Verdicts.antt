@@ -87,9 +87,9 @@ IsVerdict shape text (Err (error.Syntax n)) = IsRefused shape text fault.Syntax 
 IsVerdict shape text (Err (error.Class n)) = IsRefused shape text fault.Class n
 IsVerdict shape text (Err (error.Field n)) = IsRefused shape text fault.Field n
 IsVerdict shape text (Err (error.Order n)) = IsRefused shape text fault.Order n
-IsVerdict shape text (Err error.OutOfMemory) = ⊥
+IsVerdict shape text (Err (error.OutOfMemory _)) = ⊥
 
 -- it says so, and nothing else is to be said; want of memory says nothing
 abbrev pub IsOnlyVerdict : Shape → List ℕ → Result (List Shot) ShotError → Type 0
-IsOnlyVerdict shape text (Err error.OutOfMemory) = Unit {0}
+IsOnlyVerdict shape text (Err (error.OutOfMemory _)) = Unit {0}
 IsOnlyVerdict shape text r = IsVerdict shape text r × ((other : Result (List Shot) ShotError) → IsVerdict shape text other → other ≡ r)

@@ -35,7 +35,7 @@ pub enum ShotError {
     Order { line: u32 },
     /// Memory was wanting, and nothing is said of the text.
     #[error("out of memory")]
-    OutOfMemory,
+    OutOfMemory(OutOfMemory),
 }
 
 /// The error of a fault on a line.
@@ -54,9 +54,9 @@ impl From<OutOfMemory> for ShotError {
     ghost use Rattle.std.specs.Prelude.{◌≡◌};
     ghost use Rattle.snapshot_text.specs.declared.error.ShotError.TheVariants as error;
 
-    ghost from_gives = { λ _ e. e ≡ error.OutOfMemory };
+    ghost from_gives = { λ refused e. e ≡ error.OutOfMemory refused };
 
-    fn from(_: OutOfMemory) -> ShotError {
-        ShotError::OutOfMemory
+    fn from(refused: OutOfMemory) -> ShotError {
+        ShotError::OutOfMemory(refused)
     }
 }

@@ -11,8 +11,6 @@ mod order;
 mod pairs;
 mod read;
 mod shot;
-#[cfg(test)]
-mod tests;
 mod value;
 mod write;
 

@@ -34,7 +34,7 @@ pub(crate) fn table_of(alloc: Global, text: &[u8]) -> Result<Option<Table>, OutO
         match table.put(key, value) {
             Ok(()) => rest = behind_first(after),
             Err(PutError::Full) => return Ok(None),
-            Err(PutError::OutOfMemory) => return Err(OutOfMemory),
+            Err(PutError::OutOfMemory(refused)) => return Err(refused),
         }
     }
     Ok(Some(table))

@@ -1,4 +1,4 @@
-ghost use Rattle.std.specs.Prelude.{◌≡◌, ◌≤◌, ◌++◌, ◌∷◌, [], length, OnOk, IfOk, IfSome, IfNone};
+ghost use Rattle.std.specs.Prelude.{◌≡◌, ◌≤◌, length};
 ghost use Rattle.wave_base.specs.declared.limits.TheConstants.{PLACED_BYTES};
 ghost use Rattle.wave_base.specs.Names.{HasNames};
 ghost use Rattle.wave_base.specs.Shapes.{IsShape};
@@ -9,18 +9,8 @@ use crate::error::ShotError;
 use crate::line::read_line;
 use path_text::ClassNames;
 use std::alloc::Global;
-use wave_base::{OutOfMemory, Seq, Shape, Shot};
+use wave_base::{Seq, Shape, Shot};
 use wave_text::{behind_head, split_at};
-
-// Appends a shot.
-fn add(shots: &mut Seq<Shot>, shot: Shot) -> Result<(), OutOfMemory>
-    ensures { OnOk result (shots.new ≡ shots.old ++ shot ∷ []) }
-{
-    match shots.push(shot) {
-        Ok(()) => Ok(()),
-        Err(_) => Err(OutOfMemory),
-    }
-}
 
 // The shots of the lines behind a head, or the first of these lines that has a fault.
 fn read_shots(alloc: Global, classes: &ClassNames<'_>, tail: &[u8]) -> Result<Seq<Shot>, ShotError>
@@ -37,7 +27,7 @@ fn read_shots(alloc: Global, classes: &ClassNames<'_>, tail: &[u8]) -> Result<Se
             return Err(ShotError::Syntax { line: number + 1 });
         };
         match read_line(alloc, classes, shots.as_slice(), number + 1, line) {
-            Ok(shot) => add(&mut shots, shot)?,
+            Ok(shot) => shots.add(shot)?,
             Err(error) => return Err(error),
         }
         rest = after;

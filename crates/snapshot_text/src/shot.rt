@@ -5,13 +5,13 @@ ghost use Rattle.wave_base.specs.Shapes.{IsShape};
 ghost use Rattle.wave_base.specs.Values.{kind_of};
 ghost use Rattle.snapshot_text.specs.Shots.{IsValue};
 ghost use Rattle.snapshot_text.specs.Verdicts.{IsLineOfNone};
-ghost use Rattle.snapshot_text.specs.inner.Guesses.{AreGoodFor, AreValuesOf, IsPathOf, IsPath, IsShotOf, IsOnlyLineOf};
+ghost use Rattle.snapshot_text.specs.inner.Guesses.{AreGoodFor, AreValuesOf, IsShotOf, IsOnlyLineOf};
 ghost use Rattle.snapshot_text.specs.Shots.{IsShot};
 
 use crate::value::value_of;
-use path_text::{ClassNames, PathError, fields_at, parse_path, put_shot};
+use path_text::{ClassNames, fields_at, path_for, put_shot};
 use std::alloc::Global;
-use wave_base::{FieldInfo, OutOfMemory, Path, Seq, Shot, Value};
+use wave_base::{FieldInfo, OutOfMemory, Seq, Shot, Value};
 use wave_text::parts_at;
 
 // The values that fields are written with.
@@ -24,39 +24,17 @@ fn values_of(
     ensures only { IfOk result (AreValuesOf fields.now text.now) }
     ensures good { IfOk result (λ o. IfSome o (AreGoodFor fields.now)) }
 {
-    let mut values = Vec::new(alloc);
+    let mut values = Seq::new(alloc);
     let mut rest = text;
     for field in fields {
         let (_, value) = parts_at(rest, b'=');
-        match value_of(alloc, field.kind, value) {
-            Ok(Some((value, after))) => {
-                values.push(value)?;
-                rest = after;
-            }
-            Ok(None) => return Ok(None),
-            Err(_) => return Err(OutOfMemory),
-        }
+        let Some((value, after)) = value_of(alloc, field.kind, value)? else {
+            return Ok(None);
+        };
+        values.add(value)?;
+        rest = after;
     }
-    Ok(Some(Seq::from_vec(values)))
-}
-
-// The path that a text is written for.
-fn path_of(
-    alloc: Global,
-    classes: &ClassNames<'_>,
-    text: &[u8],
-) -> Result<Option<Path>, OutOfMemory>
-    requires shape { IsShape classes.now }
-    requires names { HasNames classes.now }
-    ensures only { IfOk result (IsPathOf classes.now text.now) }
-    ensures path { IfOk result (λ o. IfSome o (IsPath classes.now)) }
-{
-    match parse_path(alloc, classes, text) {
-        Ok(path) => Ok(Some(path)),
-        Err(PathError::Syntax) => Ok(None),
-        Err(PathError::UnknownClass) => Ok(None),
-        Err(PathError::OutOfMemory) => Err(OutOfMemory),
-    }
+    Ok(Some(values))
 }
 
 // The one shot that a line can be written for.
@@ -72,7 +50,7 @@ fn shot_in(
 {
     let (_, rest) = parts_at(line, b' ');
     let (path, rest) = parts_at(rest, b' ');
-    let Some(path) = path_of(alloc, classes, path)? else {
+    let Some(path) = path_for(alloc, classes, path)? else {
         return Ok(None);
     };
     let fields = fields_at(classes.shape(), &path);

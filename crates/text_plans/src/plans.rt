@@ -1,7 +1,8 @@
-ghost use Rattle.std.specs.Prelude.{◌≡◌, ◌≤◌, IfSome};
+ghost use Rattle.std.specs.Prelude.{◌≡◌, ◌≤◌, ◌<◌, ◌+◌, ◌^◌, length, IfSome};
 ghost use Rattle.wave_base.specs.declared.limits.TheConstants.{WORKERS};
 ghost use Rattle.wave_base.specs.Scripts.{IsScript};
 ghost use Rattle.wave_base.specs.Shapes.{IsShape};
+ghost use Rattle.resolved_service.specs.Fits.{FitsService};
 ghost use Rattle.code_scheme.specs.Typed.{IsTyped};
 ghost use Rattle.service_verify.specs.Fit.{IsFit};
 ghost use Rattle.service_verify.specs.Points.{IsVerified};
@@ -20,7 +21,9 @@ use wave_machine::Plan;
 
 // A text as a typed service, if it is one.
 fn typed_service(alloc: Global, text: &[u8]) -> Option<Typed>
-    ensures { IfSome result (λ t. IsTyped t.shape t.resolved) }
+    ensures typed { IfSome result (λ t. IsTyped t.shape t.resolved) }
+    ensures fits { IfSome result (λ t. FitsService t.shape t.resolved) }
+    ensures few { IfSome result (λ t. length t.resolved.methods + length t.resolved.events < 2 ^ 16) }
 {
     typed_services_have_code();
     let Ok(service) = parse_text(alloc, text) else {
@@ -34,7 +37,9 @@ fn typed_service(alloc: Global, text: &[u8]) -> Option<Typed>
 
 // The code of a typed service.
 fn code_of(alloc: Global, typed: &Typed) -> Option<Verified>
-    requires { IsTyped typed.now.shape typed.now.resolved }
+    requires typed { IsTyped typed.now.shape typed.now.resolved }
+    requires fits { FitsService typed.now.shape typed.now.resolved }
+    requires few { length typed.now.resolved.methods + length typed.now.resolved.events < 2 ^ 16 }
     ensures { IfSome result IsFit }
 {
     let Ok(shape) = typed.shape.copy(alloc) else {

@@ -15,12 +15,14 @@ use Rattle.wave_base.specs.Names.{all_differ, same_bytes}
 use Rattle.wave_base.specs.Shapes.{parent_in, parent_class, passes_root, fields_in, declared_fields, HasInitials, IsShape}
 use Rattle.mace_ast.specs.Decls.{EventTree, ContextTree, ContextTrees, Context, no_contexts, context_and, contexts_of, ServiceTree}
 use Rattle.type_rules.specs.Kinds.{same_kind}
-use Rattle.type_rules.specs.Known.{Entry, entry, event_info, above_of, none_before, class_count, classes_of, classes_in, service_classes, shape_of, known_of}
+use Rattle.type_rules.specs.Known.{Entry, entry, event_info, above_of, none_before, classes_of, classes_in, service_classes, shape_of, known_of}
+use Rattle.mace_ast.specs.Counts.{class_count}
 use Rattle.type_rules.specs.Services.{IsTyped}
+use Rattle.type_rules.proofs.Counts.{length-classes_of}
 use Rattle.type_laws.specs.Differ.{NamesDiffer}
 use Rattle.type_laws.proofs.Each.{Each, each_none, each_first, each_rest, each_cons, each_front, each_back, each_both, each_self, all_of_each}
 use Rattle.type_laws.proofs.Names.{names_of_first}
-use Rattle.type_laws.proofs.Sound.{Sound, events_sound, count_of, parts, classes_sound}
+use Rattle.type_laws.proofs.Sound.{Sound, events_sound, parts, classes_sound}
 
 pub blank : Entry
 blank = record { info = record { name = []; parent = None; fields = [] }; above = [] }
@@ -51,7 +53,7 @@ module _ (all : List Entry) where
     contexts_under above parent n (context_and c cs) agrees earlier is =
         let front = classes_of above parent n c in
         let back = classes_in above parent (n + class_count c) cs in
-        let count : n + length front ≡ n + class_count c = ap (λ m. n + m) (count_of above parent n c) in
+        let count : n + length front ≡ n + class_count c = ap (λ m. n + m) (length-classes_of above parent n c) in
         each_both (Under all) n front back
         (context_under above parent n c (each_front Agrees n front back agrees) earlier is)
         (subst (λ m. Each (Under all) m back) (sym count) (contexts_under above parent (n + class_count c) cs (subst (λ m. Each Agrees m back) count (each_back Agrees n front back agrees)) (omega arith) is))

@@ -1,8 +1,9 @@
 -- Methods and events of a typed service, with their names resolved, fit.
-use Rattle.std.proofs.Common.{◌≡◌, ℕ, zero, suc, ◌+◌, ◌<◌, Bool, false, not, List, [], ◌∷◌, ◌++◌, length, map, slice_get, unwrap_or, All, Option, Some, None, is_some, refl, sym, ap, subst, ◌∙◌, arith}
+use Rattle.std.proofs.Common.{◌≡◌, ℕ, zero, suc, ◌+◌, ◌<◌, ◌≤◌, Bool, false, not, List, [], ◌∷◌, ◌++◌, length, map, slice_get, unwrap_or, All, Option, Some, None, is_some, refl, sym, ap, subst, ◌∙◌, arith}
 use Rattle.std.specs.Option.{option_map, option_map_or}
 use Rattle.std.proofs.lemmas.List.{map-append}
 use Rattle.std.proofs.lemmas.Option.{slice_get-get_or, slice_get-map}
+use Rattle.wave_base.specs.declared.limits.TheConstants.{LOCALS}
 use Rattle.wave_base.specs.declared.value.Kind.{Kind}
 use Rattle.wave_base.specs.declared.value.Kind.TheVariants as k
 use Rattle.wave_base.specs.declared.span.Span.{Span}
@@ -21,7 +22,8 @@ use Rattle.type_rules.specs.declared.known.Known.{Known}
 use Rattle.type_rules.specs.declared.known.Signature.{Signature}
 use Rattle.type_rules.specs.declared.error.TypeError.TheVariants.{UnknownName, Mismatch, NotDownward, Unreachable}
 use Rattle.type_rules.specs.Demands.{ask, first_wrong}
-use Rattle.type_rules.specs.Known.{class_named, class_count, signature, signature_at, no_signature, methods_of, methods_in, service_methods, shape_of, known_of}
+use Rattle.type_rules.specs.Known.{class_named, signature, signature_at, no_signature, methods_of, methods_in, service_methods, shape_of, known_of}
+use Rattle.mace_ast.specs.Counts.{class_count}
 use Rattle.type_rules.specs.Here.{Here, OfMethod, OfEvent, start, declared, is_child}
 use Rattle.type_rules.specs.Exprs.{or_zero, class_asks, demands_as}
 use Rattle.type_rules.specs.Stmts.{stmts_demands, reach_asks}
@@ -29,6 +31,7 @@ use Rattle.type_rules.specs.Functions.{LastView, MethodView, PhaseView, EventVie
 use Rattle.type_rules.specs.Services.{ResolvedView, name_asks, fields_demands, methods_demands, context_demands, contexts_demands, events_demands, resolve_methods, resolve_context, resolve_contexts, resolve_with, resolve_service, IsTyped}
 use Rattle.type_rules.specs.Views.{last_view, method_view, phase_view, event_view, resolved_view}
 use Rattle.type_rules.proofs.First.{first_wrong_parts}
+use Rattle.type_laws.proofs.Slots.{params_within, method_params_few, event_params_few, all_few, phases_few}
 use Rattle.type_laws.proofs.Sound.{AllHold, all_hold, none_wrong, Parts, parts}
 use Rattle.type_laws.proofs.Steps.{At, after_all_at, tree_as, stmts_fit}
 use Rattle.type_laws.proofs.Trees.{There, absent}
@@ -103,9 +106,10 @@ module _ (known : Known) (methods : List Method) (there : There known methods) w
   record MethodFits (v : MethodView) : Type 0 where
     body : FitsSteps known.shape methods v.class v.body
     last : FitsLastView v.class v.last
+    few_locals : length v.locals ≤ LOCALS
 
   method_back : (m : Method) → MethodFits (method_view m) → FitsMethod known.shape methods m
-  method_back m f = record { body = f.body; last = last_back m.class.0 m.last f.last }
+  method_back m f = record { body = f.body; last = last_back m.class.0 m.last f.last; few_locals = f.few_locals }
 
   method_fits : (class n : ℕ) (m : MethodTree) → first_wrong (method_demands known class n m) ≡ None → MethodFits (resolve_method known class n m)
   method_fits class n m d =
@@ -121,6 +125,7 @@ module _ (known : Known) (methods : List Method) (there : There known methods) w
       record {
         body = stmts_fit known class methods there h at (stmts_of m.body) c.0;
         last = last_fits class (method_end known class n m) (after_all_at known class h at (stmts_of m.body)) m.name ended m.result m.last c.1;
+        few_locals = all_few h (stmts_of m.body) c.0 (params_within (length h.slots) (method_params_few begins m.params b.0 (omega arith)));
       }
 
   abbrev AllFit : List MethodView → Type 0
@@ -209,6 +214,8 @@ module _ (known : Known) (methods : List Method) (there : There known methods) w
         here = subst (FitsSteps known.shape methods 0) (sym (ap (λ (v : EventView). v.here) is)) (stmts_fit known 0 methods there h at (here_stmts e) c.0);
         phases = phases_fit 0 (here_end known e) (after_all_at known 0 h at (here_stmts e)) ended past e.phases e.name e.result e.last made.phases made.last
             (ap (λ (v : EventView). v.phases) is) (ap (λ (v : EventView). v.last) is) f.0 f.1;
+        few_locals = subst (λ (locals : List Kind). length locals ≤ LOCALS) (sym (ap (λ (v : EventView). v.locals) is))
+            (phases_few (here_end known e) ended e.phases f.0 (all_few h (here_stmts e) c.0 (params_within (length h.slots) (event_params_few begins e.params b.0 (omega arith)))));
       }
 
   all_events : (n : ℕ) (es : List EventTree) (made : List Event) → map event_view made ≡ map (resolve_event known) es → first_wrong (events_demands known n es) ≡ None → All (FitsEvent known.shape methods) made

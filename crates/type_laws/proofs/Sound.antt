@@ -1,8 +1,8 @@
 -- What is known of each class of a typed service.
-use Rattle.std.proofs.Common.{◌≡◌, ℕ, ◌+◌, Bool, true, false, nat_le, List, [], ◌∷◌, ◌++◌, length, map, Some, None, refl, sym, ap, subst, ◌∙◌, arith}
+use Rattle.std.proofs.Common.{◌≡◌, ℕ, ◌+◌, ◌≤◌, ◌<◌, Bool, true, false, nat_le, nat_lt, List, [], ◌∷◌, ◌++◌, length, map, Some, None, refl, sym, ap, subst, ◌∙◌, arith}
 use Rattle.std.specs.Prelude.{if◌then◌else◌}
-use Rattle.std.proofs.lemmas.List.{length-append}
-use Rattle.wave_base.specs.declared.limits.TheConstants.{CLASS_DEPTH}
+use Rattle.std.proofs.lemmas.Bool.{ltb-true}
+use Rattle.wave_base.specs.declared.limits.TheConstants.{CLASS_DEPTH, FIELDS}
 use Rattle.wave_base.specs.declared.shape.FieldInfo.{FieldInfo}
 use Rattle.wave_base.specs.Values.{kind_of}
 use Rattle.mace_ast.specs.declared.field.VarDecl.{VarDecl}
@@ -10,9 +10,11 @@ use Rattle.mace_ast.specs.Decls.{EventTree, ContextTree, ContextTrees, Context, 
 use Rattle.type_rules.specs.declared.known.Known.{Known}
 use Rattle.type_rules.specs.Demands.{Demand, first_wrong}
 use Rattle.type_rules.specs.Kinds.{same_kind}
-use Rattle.type_rules.specs.Known.{Entry, field_info, class_named, event_named, field_named, above_of, none_before, class_count, classes_count, classes_of, classes_in, service_classes, methods_of, methods_in, known_of}
+use Rattle.type_rules.specs.Known.{Entry, field_info, class_named, event_named, field_named, above_of, none_before, classes_of, classes_in, service_classes, methods_of, methods_in, known_of}
+use Rattle.mace_ast.specs.Counts.{class_count}
 use Rattle.type_rules.specs.Functions.{event_demands}
 use Rattle.type_rules.specs.Services.{name_asks, field_asks, fields_demands, methods_demands, context_demands, contexts_demands, events_demands, service_demands, IsTyped}
+use Rattle.type_rules.proofs.Counts.{length-classes_of}
 use Rattle.type_rules.proofs.First.{first_wrong_parts}
 use Rattle.type_laws.proofs.Each.{Each, each_none, each_cons, each_both}
 
@@ -55,15 +57,14 @@ module _ (known : Known) where
       let p = first_wrong_parts (field_asks known class n f) (fields_demands known class (n + 1) fs) h in
       each_cons (FieldSound known class) n (field_info f) (map field_info fs) (field_sound class n f p.0) (fields_sound class (n + 1) fs p.1)
 
--- how many classes
-mutual
-  pub count_of : (above : List ℕ) (parent n : ℕ) (c : ContextTree) → length (classes_of above parent n c) ≡ class_count c
-  count_of above parent n (Context at name vars contexts methods) = let e = count_in (above ++ n ∷ []) n (n + 1) contexts in omega arith
-
-  pub count_in : (above : List ℕ) (parent n : ℕ) (cs : ContextTrees) → length (classes_in above parent n cs) ≡ classes_count cs
-  count_in above parent n no_contexts = refl
-  count_in above parent n (context_and c cs) =
-      length-append (classes_of above parent n c) (classes_in above parent (n + class_count c) cs) ∙ (λ i. count_of above parent n c i + count_in above parent (n + class_count c) cs i)
+  -- the number of each field is below their limit
+  pub fields_few : (class n : ℕ) (fs : List VarDecl) → first_wrong (fields_demands known class n fs) ≡ None → n ≤ FIELDS → n + length fs ≤ FIELDS
+  fields_few class n [] h few = omega arith
+  fields_few class n (f ∷ fs) h few =
+      let p = first_wrong_parts (field_asks known class n f) (fields_demands known class (n + 1) fs) h in
+      let l = ltb-true n FIELDS (all_hold (field_asks known class n f) p.0).1.0 in
+      let rest = fields_few class (n + 1) fs p.1 (omega arith) in
+      omega arith
 
 module _ (known : Known) where
   mutual
@@ -84,7 +85,7 @@ module _ (known : Known) where
         let a = first_wrong_parts (context_demands known class method c) (contexts_demands known (class + class_count c) (method + length (methods_of class c)) cs) h in
         each_both (Sound known) class (classes_of above parent class c) (classes_in above parent (class + class_count c) cs)
         (context_sound above parent class method c a.0)
-        (subst (λ n. Each (Sound known) n (classes_in above parent (class + class_count c) cs)) (ap (λ n. class + n) (sym (count_of above parent class c)))
+        (subst (λ n. Each (Sound known) n (classes_in above parent (class + class_count c) cs)) (ap (λ n. class + n) (sym (length-classes_of above parent class c)))
         (contexts_sound above parent (class + class_count c) _ cs a.1))
 
   -- an event with a number

@@ -3,6 +3,7 @@ use Rattle.std.proofs.Common.{◌≡◌, ℕ, ◌+◌, pos, true, List, [], ◌�
 use Rattle.wave_base.specs.declared.span.Span.{Span}
 use Rattle.wave_base.specs.declared.value.Kind.{Kind}
 use Rattle.wave_base.specs.declared.value.Kind.TheVariants as k
+use Rattle.wave_base.specs.declared.version.Version.TheVariants as version
 use Rattle.value_ops.specs.Operators.{operators, takes_of, gives_of}
 use Rattle.value_ops.specs.Rows.{wave_rows, wave_rows_2}
 use Rattle.mace_ast.specs.declared.name.Name.{Name}
@@ -66,7 +67,7 @@ abbrev service : List StmtTree → ExprTree → ServiceTree
 service body given = record {
   at = at 1;
   name = name 2 S;
-  version = 1;
+  version = version.First;
   vars = int_field 3 f ∷ [];
   contexts = Context (at 4) (name 5 A) (int_field 6 g ∷ []) no_contexts (record {
     at = at 7;
@@ -156,7 +157,7 @@ abbrev second : Option Kind → List StmtTree → Option Kind → List StmtTree 
 second gives body replies here last = record {
   at = at 1;
   name = name 2 S;
-  version = 2;
+  version = version.Second;
   vars = [];
   contexts = [];
   methods = record { at = at 7; name = name 8 m; params = []; result = gives; body = body; last = None } ∷ [];

@@ -1,9 +1,11 @@
 -- What a name stands for at a place of the text.
-use Rattle.std.specs.Prelude.{ℕ, ◌==◌, if◌then◌else◌, Bool, true, nat_lt, List, [], ◌∷◌, ◌++◌, length, find, Option, Some, None, option_map, option_and_then}
+use Rattle.std.specs.Prelude.{ℕ, Bool, true, nat_lt, List, [], ◌∷◌, ◌++◌, length, find, Option, Some, None, option_map, option_and_then}
 use Rattle.wave_base.specs.declared.value.Kind.{Kind}
 use Rattle.wave_base.specs.declared.value.Kind.TheVariants as k
+use Rattle.wave_base.specs.declared.version.Version.{Version}
+use Rattle.wave_base.specs.declared.version.Version.TheVariants.{First, Second}
 use Rattle.wave_base.specs.Names.{same_bytes}
-use Rattle.wave_base.specs.Shapes.{is_class, parent_class}
+use Rattle.wave_base.specs.Shapes.{is_child_class}
 use Rattle.value_ops.specs.Operators.{takes_of, gives_of}
 use Rattle.value_ops.specs.Rows.{Row, wave_rows, wave_rows_2, first_builtin}
 use Rattle.type_rules.specs.declared.known.Known.{Known}
@@ -73,9 +75,13 @@ abbrev pub variable_kind : Variable → Kind
 variable_kind (var.Local slot kind) = kind
 variable_kind (var.Field field kind) = kind
 
--- the operator table of the version
+-- the operator table of a version
+abbrev pub version_rows : Version → List Row
+version_rows First = wave_rows
+version_rows Second = wave_rows_2
+
 abbrev pub rows_of : Known → List Row
-rows_of known = if known.version == 2 then wave_rows_2 else wave_rows
+rows_of known = version_rows known.version
 
 -- a builtin, else a method of the context here
 abbrev pub called : Here → List ℕ → Option Callee
@@ -98,7 +104,7 @@ is_earlier h (callee.Method m) = nat_lt m h.function
 
 -- a class that is a child of the class here
 abbrev pub is_child : Here → ℕ → Bool
-is_child h class = is_class h.class (parent_class h.known.shape class)
+is_child h class = is_child_class h.known.shape h.class class
 
 -- the level of a class, where it is an ancestor of the class here
 abbrev pub level_above : Here → List ℕ → Option ℕ

@@ -21,6 +21,7 @@ use Rattle.mace_ast.specs.declared.method.Param.{Param}
 use Rattle.mace_ast.specs.Decls.{MethodTree, EventTree, ContextTree, ContextTrees, Context, no_contexts, context_and, contexts_of, ServiceTree}
 use Rattle.type_rules.specs.declared.known.Known.{Known}
 use Rattle.type_rules.specs.declared.known.Signature.{Signature}
+use Rattle.mace_ast.specs.Counts.{class_count}
 
 -- ---- fields, methods and events
 
@@ -45,15 +46,6 @@ abbrev pub event_info : EventTree → EventInfo
 event_info e = record { name = e.name.text; params = kinds_of e.params; reply = e.result }
 
 -- ---- classes, numbered in text order
-
-abbrev mutual
-  -- how many classes a context makes, itself and those inside it
-  pub class_count : ContextTree → ℕ
-  class_count (Context at name vars contexts methods) = 1 + classes_count contexts
-
-  pub classes_count : ContextTrees → ℕ
-  classes_count no_contexts = 0
-  classes_count (context_and c cs) = class_count c + classes_count cs
 
 -- a class, and those that it lies in, the root first
 pub record Entry : Type 0 where

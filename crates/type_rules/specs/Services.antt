@@ -10,7 +10,8 @@ use Rattle.type_rules.specs.declared.error.Which.TheVariants.{Nesting, Fields}
 use Rattle.type_rules.specs.declared.known.Known.{Known}
 use Rattle.type_rules.specs.Demands.{Demand, ask, first_wrong}
 use Rattle.type_rules.specs.Kinds.{same_kind}
-use Rattle.type_rules.specs.Known.{value_of, class_named, field_named, above_of, none_before, class_count, methods_of, methods_in, known_of}
+use Rattle.type_rules.specs.Known.{value_of, class_named, field_named, above_of, none_before, methods_of, methods_in, known_of}
+use Rattle.mace_ast.specs.Counts.{class_count}
 use Rattle.type_rules.specs.Functions.{MethodView, EventView, method_demands, resolve_method, event_demands, resolve_event}
 
 -- ---- demands

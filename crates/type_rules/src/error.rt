@@ -1,4 +1,3 @@
-use std::alloc::{AllocError, AllocFailed};
 use thiserror::Error;
 use wave_base::{OutOfMemory, Span};
 
@@ -47,38 +46,16 @@ pub enum TypeError {
     Unreachable(Span),
     /// Memory was wanting, and nothing is said of the service.
     #[error("out of memory")]
-    OutOfMemory,
+    OutOfMemory(OutOfMemory),
 }
 
 impl From<OutOfMemory> for TypeError {
     ghost use Rattle.std.specs.Prelude.{◌≡◌};
     ghost use Rattle.type_rules.specs.declared.error.TypeError.TheVariants as error;
 
-    ghost from_gives = { λ _ e. e ≡ error.OutOfMemory };
+    ghost from_gives = { λ refused e. e ≡ error.OutOfMemory refused };
 
-    fn from(_: OutOfMemory) -> TypeError {
-        TypeError::OutOfMemory
-    }
-}
-
-impl From<AllocError> for TypeError {
-    ghost use Rattle.std.specs.Prelude.{◌≡◌};
-    ghost use Rattle.type_rules.specs.declared.error.TypeError.TheVariants as error;
-
-    ghost from_gives = { λ _ e. e ≡ error.OutOfMemory };
-
-    fn from(_: AllocError) -> TypeError {
-        TypeError::OutOfMemory
-    }
-}
-
-impl<T: Drop> From<AllocFailed<T>> for TypeError {
-    ghost use Rattle.std.specs.Prelude.{◌≡◌};
-    ghost use Rattle.type_rules.specs.declared.error.TypeError.TheVariants as error;
-
-    ghost from_gives = { λ _ e. e ≡ error.OutOfMemory };
-
-    fn from(_: AllocFailed<T>) -> TypeError {
-        TypeError::OutOfMemory
+    fn from(refused: OutOfMemory) -> TypeError {
+        TypeError::OutOfMemory(refused)
     }
 }

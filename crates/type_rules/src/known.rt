@@ -1,4 +1,4 @@
-use wave_base::{Kind, Seq, Shape, Txt};
+use wave_base::{Kind, Seq, Shape, Txt, Version};
 
 /// What a call of a method has to know: the class it belongs to, and the kinds that it takes and gives.
 #[derive(Debug, Drop, PartialEq, Eq)]
@@ -17,8 +17,8 @@ pub struct Signature {
 /// it lies in, the root first; and the methods. And the version of the language that it is written in.
 #[derive(Debug, Drop, PartialEq, Eq)]
 pub struct Known {
-    /// The version of the language, 1 or 2.
-    pub version: u8,
+    /// The version of the language.
+    pub version: Version,
     /// The classes and the events.
     pub shape: Shape,
     /// For each class the numbers of those that it lies in, the root's first.

@@ -4,6 +4,7 @@ use Rattle.std.proofs.lemmas.List.{append-nil, map-append, length-append, length
 use Rattle.wave_base.specs.declared.shape.ClassInfo.{ClassInfo}
 use Rattle.wave_base.specs.declared.shape.EventInfo.{EventInfo}
 use Rattle.wave_base.specs.declared.span.Span.{Span}
+use Rattle.wave_base.specs.declared.version.Version.{Version}
 use Rattle.mace_ast.specs.declared.name.Name.{Name}
 use Rattle.mace_ast.specs.declared.field.VarDecl.{VarDecl}
 use Rattle.mace_ast.specs.declared.context.ContextDecl.{ContextDecl, ContextDecl', out-ContextDecl, the_lemmas}
@@ -11,7 +12,10 @@ use Rattle.mace_ast.proofs.Rows.{row_contexts-items}
 use Rattle.mace_ast.specs.Decls.{method_tree, context_tree, MethodTree, ContextTree, ContextTrees, Context, no_contexts, context_and, contexts_of, ServiceTree}
 use Rattle.type_rules.specs.declared.known.Known.{Known}
 use Rattle.type_rules.specs.declared.known.Signature.{Signature}
-use Rattle.type_rules.specs.Known.{Entry, class_count, classes_count, classes_of, classes_in, entry, methods_of, methods_in, signature, event_info, shape_of, known_of}
+use Rattle.type_rules.specs.Known.{Entry, classes_of, classes_in, entry, methods_of, methods_in, signature, event_info, shape_of, known_of}
+use Rattle.mace_ast.specs.Counts.{class_count, classes_count}
+use Rattle.type_rules.proofs.Counts.{length-classes_in}
+use Rattle.type_tables.specs.Indexed.{AreAbove}
 use Rattle.type_tables.specs.declared.gather.Gathered.{Gathered}
 use Rattle.type_tables.specs.inner.Gathering.{known_in, IsGathered, grown, Gains}
 use Rattle.name_table.specs.Numbers.{noted}
@@ -47,16 +51,15 @@ pub gains_classes : (g h : Gathered) (a : List Entry) (c : List Signature) (e : 
 gains_classes g h a c e t =
     ap (λ (k : Known). length k.shape.classes) t.known ∙ length-append g.classes.items (map (λ (c : Entry). c.info) a) ∙ ap (λ n. length g.classes.items + n) (length-map a (λ (c : Entry). c.info))
 
--- ---- classes of contexts, and their number
+-- and how many methods
+pub gains_methods : (g h : Gathered) (a : List Entry) (c : List Signature) (e : List EventInfo) → Gains g h a c e → length h.methods.items ≡ length g.methods.items + length c
+gains_methods g h a c e t = ap (λ (k : Known). length k.methods) t.known ∙ length-append g.methods.items c
 
-mutual
-  pub count_of : (above : List ℕ) (parent n : ℕ) (c : ContextTree) → length (classes_of above parent n c) ≡ class_count c
-  count_of above parent n (Context at name vars contexts methods) = let e = count_in (above ++ n ∷ []) n (n + 1) contexts in omega arith
+-- and how many events
+pub gains_events : (g h : Gathered) (a : List Entry) (c : List Signature) (e : List EventInfo) → Gains g h a c e → length h.events.items ≡ length g.events.items + length e
+gains_events g h a c e t = ap (λ (k : Known). length k.shape.events) t.known ∙ length-append g.events.items e
 
-  pub count_in : (above : List ℕ) (parent n : ℕ) (cs : ContextTrees) → length (classes_in above parent n cs) ≡ classes_count cs
-  count_in above parent n no_contexts = refl
-  count_in above parent n (context_and c cs) =
-      length-append (classes_of above parent n c) (classes_in above parent (n + class_count c) cs) ∙ (λ i. count_of above parent n c i + count_in above parent (n + class_count c) cs i)
+-- ---- classes of contexts
 
 add3 : (n a b : ℕ) → n + a + b ≡ n + (a + b)
 add3 n a b = omega arith
@@ -93,7 +96,7 @@ pub gains_context : (g h j : Gathered) (above : List ℕ) (parent n : ℕ) (cs d
     → Gains g j (classes_in above parent n (contexts_of ds)) (methods_in n (contexts_of ds)) []
 gains_context g h j above parent n cs ds c start more first second =
     let number : length h.classes.items ≡ n + classes_count (contexts_of cs) =
-    gains_classes g h _ _ _ first ∙ (λ i. sym start i + count_in above parent n (contexts_of cs) i) in
+    gains_classes g h _ _ _ first ∙ (λ i. sym start i + length-classes_in above parent n (contexts_of cs) i) in
     let both = gains_twice g h j _ _ _ _ _ _ first second in
     gains_as g j _ _ _ _ _ _
     (ap (λ m. classes_in above parent n (contexts_of cs) ++ classes_of above parent m c) number ∙ sym (classes_push above parent n cs c) ∙ ap (λ l. classes_in above parent n (contexts_of l)) (sym more))
@@ -133,18 +136,19 @@ blank_more : {X : Type 0} (xs : List X) → xs ≡ xs ++ []
 blank_more xs = sym (append-nil xs)
 
 module _ (g h : Gathered) (is : IsGathered g) where
-  pub class_gained : (info made : ClassInfo) (above : List ℕ) (name : List ℕ) → info ≡ made → info.name ≡ name → length info.fields < 2 ^ 16 → length above < 2 ^ 16 → length g.classes.items + 1 < 2 ^ 16
+  pub class_gained : (info made : ClassInfo) (above : List ℕ) (name : List ℕ) → info ≡ made → info.name ≡ name → AreAbove (length g.classes.items) above → length g.classes.items + 1 < 2 ^ 16
       → h.version ≡ g.version → h.classes.items ≡ g.classes.items ++ info ∷ [] → h.above.items ≡ g.above.items ++ above ∷ [] → h.methods ≡ g.methods → h.events ≡ g.events
       → h.class_names ≡ noted g.class_names name (length g.classes.items) → h.event_names ≡ g.event_names → h.method_names.items ≡ g.method_names.items ++ [] ∷ []
       → Gains g h (record { info = made; above = above } ∷ []) [] []
-  class_gained info made above name same named fields short room version classes aboves methods events cn en mn =
+  class_gained info made above name same named earlier room version classes aboves methods events cn en mn =
       let known : known_in h ≡ record { version = g.version; shape = record { classes = g.classes.items ++ info ∷ []; events = g.events.items }; above = g.above.items ++ above ∷ []; methods = g.methods.items } =
       (λ i. record { version = version i; shape = record { classes = classes i; events = (events i).items }; above = aboves i; methods = (methods i).items }) in
-      let base = indexed_class (known_in g) g.class_names g.event_names g.method_names.items is.indexed info above name named fields short room in
+      let base = indexed_class (known_in g) g.class_names g.event_names g.method_names.items is.indexed info above name named earlier is.aboves room in
       record {
         gathered = record {
           indexed = indexed_as _ _ _ _ _ _ _ _ (sym known) (sym cn) (sym en) (sym mn) base;
           tables = ap length mn ∙ length-append g.method_names.items ([] ∷ []) ∙ ap (λ n. n + 1) is.tables ∙ sym (ap length classes ∙ length-append g.classes.items (info ∷ []));
+          aboves = ap length aboves ∙ length-append g.above.items (above ∷ []) ∙ ap (λ n. n + 1) is.aboves ∙ sym (ap length classes ∙ length-append g.classes.items (info ∷ []));
         };
         known = known ∙ (λ i. record { version = g.version; shape = record { classes = g.classes.items ++ same i ∷ []; events = blank_more g.events.items i }; above = g.above.items ++ above ∷ []; methods = blank_more g.methods.items i });
       }
@@ -161,6 +165,7 @@ module _ (g h : Gathered) (is : IsGathered g) where
         gathered = record {
           indexed = indexed_as _ _ _ _ _ _ _ _ (sym known) (sym cn) (sym en) (sym (ap (λ v. v.items) mn)) base;
           tables = ap (λ v. length v.items) mn ∙ is.tables ∙ sym (ap (λ v. length v.items) classes);
+          aboves = ap (λ v. length v.items) aboves ∙ is.aboves ∙ sym (ap (λ v. length v.items) classes);
         };
         known = known ∙ (λ i. record { version = g.version; shape = record { classes = blank_more g.classes.items i; events = g.events.items ++ same i ∷ [] }; above = blank_more g.above.items i; methods = blank_more g.methods.items i });
       }
@@ -177,13 +182,14 @@ module _ (g h : Gathered) (is : IsGathered g) where
         gathered = record {
           indexed = indexed_as _ _ _ _ _ _ _ _ (sym known) (sym cn) (sym en) (sym mn) base;
           tables = ap length mn ∙ length-set g.method_names.items class _ ∙ is.tables ∙ sym (ap (λ v. length v.items) classes);
+          aboves = ap (λ v. length v.items) aboves ∙ is.aboves ∙ sym (ap (λ v. length v.items) classes);
         };
         known = known ∙ (λ i. record { version = g.version; shape = record { classes = blank_more g.classes.items i; events = blank_more g.events.items i }; above = blank_more g.above.items i; methods = g.methods.items ++ same i ∷ [] });
       }
 
 -- ---- all of a service
 
-abbrev pub nothing : ℕ → Known
+abbrev pub nothing : Version → Known
 nothing version = record { version = version; shape = record { classes = []; events = [] }; above = []; methods = [] }
 
 pub service_gathered : (g h j k l : Gathered) (s : ServiceTree) → known_in g ≡ nothing s.version

@@ -1,20 +1,22 @@
 ghost use Rattle.std.specs.Prelude.{◌≡◌, ◌+◌, ◌<◌, ◌^◌, ◌∷◌, ◌++◌, [], length, map, OnOk, IfOk};
+ghost use Rattle.mace_ast.specs.Counts.{class_count, classes_count, method_count, methods_count, IsFew};
 ghost use Rattle.mace_ast.specs.Decls.{method_tree, event_tree, context_tree, contexts_of, service_tree};
 ghost use Rattle.type_rules.specs.Known as rules;
-ghost use Rattle.type_tables.specs.inner.Gathering.{IsGathered, Gains, known_in};
+ghost use Rattle.type_tables.specs.Indexed.{AreAbove};
+ghost use Rattle.type_tables.specs.inner.Gathering.{IsGathered, Gains, HasRoom, known_in};
 
 use crate::params::kinds_of;
 use mace_ast::{ContextDecl, EventDecl, Literal, MethodDecl, Name, Service, VarDecl};
 use name_table::Names;
 use std::alloc::Global;
 use type_rules::Signature;
-use wave_base::{Class, ClassInfo, EventInfo, FieldInfo, OutOfMemory, Seq, Table, Value};
+use wave_base::{Class, ClassInfo, EventInfo, FieldInfo, OutOfMemory, Seq, Table, Value, Version};
 
 /// What was read so far of the declarations, with tables of their names.
 #[derive(Drop)]
 pub struct Gathered {
     /// The version of the language.
-    pub version: u8,
+    pub version: Version,
     /// The classes, the root's first.
     pub classes: Vec<ClassInfo>,
     /// For each class the numbers of those that it lies in, the root's first.
@@ -34,6 +36,7 @@ pub struct Gathered {
 impl Gathered {
     /// All that a service declares.
     pub fn of(alloc: Global, service: &Service) -> Result<Gathered, OutOfMemory>
+        requires { IsFew (service_tree service.now) }
         ensures { IfOk result (λ g. IsGathered g × (known_in g ≡ rules.known_of (service_tree service.now))) }
     {
         let mut gathered = Gathered::new(alloc, service.version);
@@ -44,7 +47,7 @@ impl Gathered {
         Ok(gathered)
     }
 
-    fn new(alloc: Global, version: u8) -> Gathered
+    fn new(alloc: Global, version: Version) -> Gathered
         ensures gathered { IsGathered result }
         ensures known { known_in result ≡ record { version = version; shape = record { classes = []; events = [] }; above = []; methods = [] } }
     {
@@ -69,7 +72,9 @@ impl Gathered {
         parent: u16,
         decls: &[ContextDecl],
     ) -> Result<(), OutOfMemory>
-        requires { IsGathered self.old }
+        requires gathered { IsGathered self.old }
+        requires room { let cs = contexts_of (map context_tree decls.now) in HasRoom self.old (classes_count cs) (methods_count cs) }
+        requires above { AreAbove (length self.old.classes.items) above.now }
         ensures { let cs = contexts_of (map context_tree decls.now) in let n = length self.old.classes.items in
             OnOk result (Gains self.old self.new (rules.classes_in above.now parent n cs) (rules.methods_in n cs) []) }
     {
@@ -88,11 +93,13 @@ impl Gathered {
         parent: u16,
         c: &ContextDecl,
     ) -> Result<(), OutOfMemory>
-        requires { IsGathered self.old }
+        requires gathered { IsGathered self.old }
+        requires room { HasRoom self.old (class_count (context_tree c.now)) (method_count (context_tree c.now)) }
+        requires above { AreAbove (length self.old.classes.items) above.now }
         ensures { let n = length self.old.classes.items in
             OnOk result (Gains self.old self.new (rules.classes_of above.now parent n (context_tree c.now)) (rules.methods_of n (context_tree c.now)) []) }
     {
-        let class = number(self.classes.len())?;
+        let class = number(self.classes.len());
         self.class(alloc, above, Some(Class(parent)), &c.name, &c.vars)?;
         let inner = behind(alloc, above, class)?;
         self.contexts(alloc, inner.as_slice(), class, &c.contexts)?;
@@ -108,11 +115,12 @@ impl Gathered {
         name: &Name,
         vars: &Seq<VarDecl>,
     ) -> Result<(), OutOfMemory>
-        requires { IsGathered self.old }
+        requires gathered { IsGathered self.old }
+        requires room { length self.old.classes.items + 1 < 2 ^ 16 }
+        requires above { AreAbove (length self.old.classes.items) above.now }
         ensures { OnOk result (Gains self.old self.new (rules.entry above.now (parent) name.now vars.now ∷ []) [] []) }
     {
-        let class = number(self.classes.len())?;
-        number(above.len())?;
+        let class = number(self.classes.len());
         let info = class_info(alloc, parent, name, vars)?;
         let above = Vec::from_slice(alloc, above)?;
         self.class_names.note(alloc, name.text.bytes(), class)?;
@@ -130,6 +138,7 @@ impl Gathered {
     ) -> Result<(), OutOfMemory>
         requires gathered { IsGathered self.old }
         requires there { class < length self.old.classes.items }
+        requires room { length self.old.methods.items + length decls.now < 2 ^ 16 }
         ensures { OnOk result (Gains self.old self.new [] (map (rules.signature class) (map method_tree decls.now)) []) }
     {
         for m in decls {
@@ -141,9 +150,10 @@ impl Gathered {
     fn method(&mut self, alloc: Global, class: u16, m: &MethodDecl) -> Result<(), OutOfMemory>
         requires gathered { IsGathered self.old }
         requires there { class < length self.old.classes.items }
+        requires room { length self.old.methods.items + 1 < 2 ^ 16 }
         ensures { OnOk result (Gains self.old self.new [] (rules.signature class (method_tree m.now) ∷ []) []) }
     {
-        let method = number(self.methods.len())?;
+        let method = number(self.methods.len());
         let signature = signature_of(alloc, class, m)?;
         let names = &mut self.method_names[class as usize];
         names.note(alloc, m.name.text.bytes(), method)?;
@@ -152,7 +162,8 @@ impl Gathered {
     }
 
     fn events(&mut self, alloc: Global, decls: &[EventDecl]) -> Result<(), OutOfMemory>
-        requires { IsGathered self.old }
+        requires gathered { IsGathered self.old }
+        requires room { length self.old.events.items + length decls.now < 2 ^ 16 }
         ensures { OnOk result (Gains self.old self.new [] [] (map rules.event_info (map event_tree decls.now))) }
     {
         for e in decls {
@@ -162,10 +173,11 @@ impl Gathered {
     }
 
     fn event(&mut self, alloc: Global, e: &EventDecl) -> Result<(), OutOfMemory>
-        requires { IsGathered self.old }
+        requires gathered { IsGathered self.old }
+        requires room { length self.old.events.items + 1 < 2 ^ 16 }
         ensures { OnOk result (Gains self.old self.new [] [] (rules.event_info (event_tree e.now) ∷ [])) }
     {
-        let event = number(self.events.len())?;
+        let event = number(self.events.len());
         let info = event_info(alloc, e)?;
         self.event_names.note(alloc, e.name.text.bytes(), event)?;
         self.events.push(info)?;
@@ -173,20 +185,12 @@ impl Gathered {
     }
 }
 
-/// So many classes, methods, events or fields of a class have numbers. More are refused as want of memory: each takes five
-/// bytes of text and more, so that no text of at most `SERVICE_BYTES` has as many.
-pub const DECLARATIONS: usize = 65_535;
-
 // A number as it is kept.
-fn number(n: usize) -> Result<u16, OutOfMemory>
-    ensures same { IfOk result (λ m. m ≡ n) }
-    ensures room { IfOk result (λ m. m + 1 < 2 ^ 16) }
+fn number(n: usize) -> u16
+    requires { n < 2 ^ 16 }
+    ensures { result ≡ n }
 {
-    if n < DECLARATIONS {
-        Ok(n as u16)
-    } else {
-        Err(OutOfMemory)
-    }
+    n as u16
 }
 
 // The classes that those inside a class lie in.
@@ -204,8 +208,7 @@ fn class_info(
     name: &Name,
     vars: &Seq<VarDecl>,
 ) -> Result<ClassInfo, OutOfMemory>
-    ensures info { IfOk result (λ c. c ≡ record { name = name.now.text; parent = parent; fields = map rules.field_info vars.now }) }
-    ensures few { IfOk result (λ c. length c.fields < 2 ^ 16) }
+    ensures { IfOk result (λ c. c ≡ record { name = name.now.text; parent = parent; fields = map rules.field_info vars.now }) }
 {
     Ok(ClassInfo {
         name: name.text.copy(alloc)?,
@@ -236,10 +239,8 @@ fn event_info(alloc: Global, e: &EventDecl) -> Result<EventInfo, OutOfMemory>
 }
 
 fn fields(alloc: Global, vars: &[VarDecl]) -> Result<Seq<FieldInfo>, OutOfMemory>
-    ensures fields { IfOk result (λ fs. fs ≡ map rules.field_info vars.now) }
-    ensures few { IfOk result (λ fs. length fs < 2 ^ 16) }
+    ensures { IfOk result (λ fs. fs ≡ map rules.field_info vars.now) }
 {
-    number(vars.len())?;
     let mut fields = Vec::new(alloc);
     for f in vars {
         let field = FieldInfo {

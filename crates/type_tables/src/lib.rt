@@ -7,7 +7,6 @@ mod operators;
 mod params;
 mod tables;
 
-pub use gather::DECLARATIONS;
 pub use kinds::{rows_before, rows_of_index, rows_of_sign, same_kind};
 pub use operators::Operators;
 pub use params::kinds_of;

@@ -1,10 +1,12 @@
 ghost use Rattle.std.specs.Prelude.{◌≡◌, ◌<◌, ◌^◌, IfOk, IfSome, length};
 ghost use Rattle.std.specs.Option.{option_map};
-ghost use Rattle.wave_base.specs.Shapes.{declared_fields, parent_class, is_class};
+ghost use Rattle.wave_base.specs.Shapes.{declared_fields, is_child_class};
+ghost use Rattle.mace_ast.specs.Counts.{IsFew};
 ghost use Rattle.mace_ast.specs.Decls.{service_tree};
 ghost use Rattle.value_ops.specs.Rows.{first_builtin};
 ghost use Rattle.type_rules.specs.Here.{rows_of};
 ghost use Rattle.type_rules.specs.Known as known;
+ghost use Rattle.type_tables.specs.Indexed.{AreAbove};
 ghost use Rattle.type_tables.specs.Rows.{IsRow};
 ghost use Rattle.type_tables.specs.inner.Gathering.{IsGathered, known_in};
 
@@ -15,7 +17,7 @@ use name_table::Names;
 use std::alloc::Global;
 use std::marker::Model;
 use type_rules::{Known, Signature};
-use wave_base::{FieldInfo, Kind, OutOfMemory, Seq, Shape, Txt};
+use wave_base::{Class, FieldInfo, Kind, OutOfMemory, Seq, Shape, Txt, Version};
 
 /// What a service declares, with tables by which names are found.
 #[derive(Drop)]
@@ -42,6 +44,7 @@ impl Model for Tables {
 impl Tables {
     /// The tables of all that a service declares.
     pub fn of(alloc: Global, service: &Service) -> Result<Tables, OutOfMemory>
+        requires { IsFew (service_tree service.now) }
         ensures known { IfOk result (λ t. t ≡ known.known_of (service_tree service.now)) }
         ensures few_classes { IfOk result (λ t. length t.shape.classes < 2 ^ 16) }
         ensures few_events { IfOk result (λ t. length t.shape.events < 2 ^ 16) }
@@ -113,10 +116,9 @@ impl Tables {
         ensures found { result ≡ first_builtin (rows_of self.now) name.now }
         ensures within { IfSome result IsRow }
     {
-        if self.known.version == 2 {
-            self.operators.builtin_2(name.bytes())
-        } else {
-            self.operators.builtin(name.bytes())
+        match self.known.version {
+            Version::First => self.operators.builtin(name.bytes()),
+            Version::Second => self.operators.builtin_2(name.bytes()),
         }
     }
 
@@ -145,21 +147,21 @@ impl Tables {
         }
     }
 
-    /// The number of a class's field of a name, and its kind.
-    pub fn field(&self, class: u16, name: &Txt) -> Option<(u16, Kind)>
-        ensures { result ≡ option_map (λ f. (f, known.field_kind self.now class f)) (known.field_named self.now class name.now) }
+    /// The number of a class's field of a name, and its kind. A class may have any number of fields before it is judged.
+    pub fn field(&self, class: u16, name: &Txt) -> Option<(usize, Kind)>
+        ensures found { result ≡ option_map (λ f. (f, known.field_kind self.now class f)) (known.field_named self.now class name.now) }
+        ensures within { IfSome result (λ f. f.0 < length (declared_fields self.now.shape class)) }
     {
         for (i, field) in self.fields(class).iter().enumerate() {
             if field.name == *name {
-                return Some((i as u16, field.kind));
+                return Some((i, field.kind));
             }
         }
         None
     }
 
     fn fields(&self, class: u16) -> &[FieldInfo]
-        ensures fields { result.now ≡ declared_fields self.now.shape class }
-        ensures few { length result.now < 2 ^ 16 }
+        ensures { result.now ≡ declared_fields self.now.shape class }
     {
         match self.known.shape.classes.get(class as usize) {
             None => &[],
@@ -167,9 +169,10 @@ impl Tables {
         }
     }
 
-    /// The level of a class above another, the root's being 0.
+    /// The level of a class above another, the root's being 0. A class that lies in another comes behind it.
     pub fn level(&self, class: u16, ancestor: u16) -> Option<u16>
-        ensures { result ≡ known.level_of self.now class ancestor }
+        ensures found { result ≡ known.level_of self.now class ancestor }
+        ensures behind { IfSome result (λ l. ancestor < class) }
     {
         for (i, above) in self.above(class).iter().enumerate() {
             if *above == ancestor {
@@ -182,7 +185,7 @@ impl Tables {
     /// The classes that a class lies in, the root first.
     pub fn above(&self, class: u16) -> &[u16]
         ensures above { result.now ≡ known.above_of self.now class }
-        ensures few { length result.now < 2 ^ 16 }
+        ensures earlier { AreAbove class result.now }
     {
         match self.known.above.get(class as usize) {
             None => &[],
@@ -192,15 +195,9 @@ impl Tables {
 
     /// Whether a class is a child class of another.
     pub fn is_child(&self, class: u16, child: u16) -> bool
-        ensures { result ≡ is_class class (parent_class self.now.shape child) }
+        ensures { result ≡ is_child_class self.now.shape class child }
     {
-        match self.known.shape.classes.get(child as usize) {
-            None => false,
-            Some(child) => match child.parent {
-                None => false,
-                Some(parent) => parent.0 == class,
-            },
-        }
+        self.known.shape.is_child(Class(class), Class(child))
     }
 
     /// The number of methods.

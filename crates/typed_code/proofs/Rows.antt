@@ -1,17 +1,18 @@
 -- Kinds that are the same, and the rows of the operator table that take given kinds.
-use Rattle.std.proofs.Common.{◌≡◌, ◌==◌, if◌then◌else◌, ℕ, ◌<◌, ◌≤◌, Bool, true, false, cond, ◌⊎◌, inl, inr, List, [], ◌∷◌, length, find, Option, Some, None, refl, sym, ap, ◌∙◌, arith}
+use Rattle.std.proofs.Common.{◌≡◌, ℕ, ◌<◌, ◌≤◌, Bool, true, false, cond, ◌⊎◌, inl, inr, List, [], ◌∷◌, length, find, Option, Some, None, refl, sym, ap, ◌∙◌, arith}
 use Rattle.std.specs.Cmp.Lexicographic.{pointwise}
 use Rattle.std.proofs.lemmas.Bool.{and_parts, cases_lt}
 use Rattle.std.proofs.lemmas.List.{get_or_past}
 use Rattle.std.proofs.lemmas.List.Quantifiers.{position-Some}
 use Rattle.wave_base.specs.declared.operators.TheConstants.{OPERATORS}
+use Rattle.wave_base.specs.declared.version.Version.TheVariants.{First, Second}
 use Rattle.wave_base.specs.declared.value.Kind.{Kind}
 use Rattle.wave_base.specs.declared.value.Kind.TheVariants as k
 use Rattle.value_ops.specs.Operators.{Operator, operators, no_operator, takes_of}
 use Rattle.value_ops.specs.Rows.{Row, wave_rows, wave_rows_2, named, first_builtin, is_builtin}
 use Rattle.wave_base.specs.Operators.{first_names, operator_names}
 use Rattle.type_rules.specs.declared.known.Known.{Known}
-use Rattle.type_rules.specs.Here.{rows_of}
+use Rattle.type_rules.specs.Here.{version_rows, rows_of}
 use Rattle.type_rules.specs.Kinds.{same_kind, has_kind, takes_kinds, row_of_one, row_of_two}
 
 pub kinds_same : (a b : Kind) → same_kind a b ≡ true → a ≡ b
@@ -108,7 +109,7 @@ unfolding wave_rows_2 operators
 rows_short_2 = named_short operator_names operators
 
 short_of : (known : Known) → length (rows_of known) ≤ OPERATORS
-short_of known = elim (known.version == 2) as (λ b. length (if b then wave_rows_2 else wave_rows) ≤ OPERATORS) [ true ↦ rows_short_2 | false ↦ rows_short ]
+short_of known = elim known.version as (λ v. length (version_rows v) ≤ OPERATORS) [ First ↦ rows_short | Second ↦ rows_short_2 ]
 
 pub builtin_within : (known : Known) (name : List ℕ) (row : ℕ) → first_builtin (rows_of known) name ≡ Some row → row < OPERATORS
 builtin_within known name row h =

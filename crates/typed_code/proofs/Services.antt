@@ -13,14 +13,16 @@ use Rattle.code_scheme.specs.Typed as code
 use Rattle.type_rules.specs.declared.known.Known.{Known}
 use Rattle.type_rules.specs.declared.known.Signature.{Signature}
 use Rattle.type_rules.specs.Demands.{first_wrong}
-use Rattle.type_rules.specs.Known.{Entry, event_info, class_count, classes_count, signature, signature_at, no_signature, methods_of, methods_in, service_methods, service_classes, shape_of, known_of}
+use Rattle.type_rules.specs.Known.{Entry, event_info, signature, signature_at, no_signature, methods_of, methods_in, service_methods, service_classes, shape_of, known_of}
+use Rattle.mace_ast.specs.Counts.{class_count, classes_count}
 use Rattle.type_rules.specs.Functions.{MethodView, method_demands, resolve_method, event_demands, resolve_event}
 use Rattle.type_rules.specs.Services.{ResolvedView, name_asks, fields_demands, methods_demands, context_demands, contexts_demands, events_demands, resolve_methods, resolve_context, resolve_contexts, resolve_with, resolve_service, IsTyped}
 use Rattle.type_rules.specs.Views.{method_view, event_view, resolved_view}
 use Rattle.type_rules.proofs.First.{first_wrong_parts}
 use Rattle.type_laws.proofs.Each.{Each, each_none, each_cons, each_both}
 use Rattle.type_laws.proofs.Services.{context_signed, contexts_signed}
-use Rattle.type_laws.proofs.Sound.{Parts, parts, count_in}
+use Rattle.type_rules.proofs.Counts.{length-classes_in}
+use Rattle.type_laws.proofs.Sound.{Parts, parts}
 use Rattle.typed_code.proofs.Exprs.{Declared}
 use Rattle.typed_code.proofs.Functions.{MethodIs, method_back, method_is, event_is}
 use Rattle.typed_code.proofs.Levels.{LevelsAre, levels_known}
@@ -145,5 +147,5 @@ pub typed_code : (s : ServiceTree) (r : Resolved) → IsTyped s → IsShape (sha
 unfolding shape_of known_of resolve_service
 typed_code s r typed shape is =
     let contexts = contexts_of s.contexts in
-    let classes : length (shape_of s).classes ≡ 1 + classes_count contexts = omega (arith, length-map (service_classes s) (λ (e : Entry). e.info), count_in (0 ∷ []) 0 1 contexts) in
+    let classes : length (shape_of s).classes ≡ 1 + classes_count contexts = omega (arith, length-map (service_classes s) (λ (e : Entry). e.info), length-classes_in (0 ∷ []) 0 1 contexts) in
     typed_with (known_of s) s r refl refl classes (levels_known s typed) shape (parts s typed) is

@@ -9,8 +9,9 @@ use Rattle.value_ops.specs.declared.error.OpError.{OpError}
 use Rattle.value_ops.specs.declared.error.OpError.TheVariants.{Trap, OutOfMemory}
 use Rattle.value_ops.specs.Answers.{Answers, MayWantMemory}
 use Rattle.value_ops.specs.Kinds.{Answer}
+use Rattle.wave_base.specs.Memory.{the_refusal}
 
-pub wants_memory : (answer : Answer Value) (r : Result Value OpError) → IsErrAnd r (λ e. e ≡ OutOfMemory) → MayWantMemory answer → Answers answer r
+pub wants_memory : (answer : Answer Value) (r : Result Value OpError) → IsErrAnd r (λ e. e ≡ OutOfMemory the_refusal) → MayWantMemory answer → Answers answer r
 wants_memory answer r h may = let p = err_from_is_err_and r h in rw (p.1, p.2) may
 
 pub traps : (answer : Answer Value) (trap : TrapKind) (r : Result Value OpError) → IsErrAnd r (λ e. e ≡ Trap trap) → answer ≡ Err trap → Answers answer r
@@ -27,7 +28,7 @@ module _ {X : Type 0} (answer : Answer Value) (trap : TrapKind) where
   pub value_no_trap : (value : Value) (x : X) → answer ≡ Ok value → ◌↔◌ (◌≡◌ {A = Result X OpError} (Ok x) (Err (Trap trap))) (answer ≡ Err trap)
   value_no_trap value x e = (λ h. cc, λ h. cc)
 
-  pub memory_no_trap : (value : Value) → answer ≡ Ok value → ◌↔◌ (◌≡◌ {A = Result X OpError} (Err OutOfMemory) (Err (Trap trap))) (answer ≡ Err trap)
+  pub memory_no_trap : (value : Value) → answer ≡ Ok value → ◌↔◌ (◌≡◌ {A = Result X OpError} (Err (OutOfMemory the_refusal)) (Err (Trap trap))) (answer ≡ Err trap)
   memory_no_trap value e = (λ h. cc, λ h. cc)
 
   pub same_trap : (k : TrapKind) → answer ≡ Err k → ◌↔◌ (◌≡◌ {A = Result X OpError} (Err (Trap k)) (Err (Trap trap))) (answer ≡ Err trap)
@@ -37,5 +38,5 @@ module _ {X : Type 0} (answer : Answer Value) (trap : TrapKind) where
 pub exactly_traps : (answer : Answer Value) (r : Result Value OpError) → Answers answer r → (trap : TrapKind) → ◌↔◌ (r ≡ Err (Trap trap)) (answer ≡ Err trap)
 exactly_traps answer (Ok value) h trap = value_no_trap answer trap value value h
 exactly_traps answer (Err (Trap k)) h trap = same_trap answer trap k h
-exactly_traps (Ok value) (Err OutOfMemory) h trap = memory_no_trap (Ok value) trap value refl
-exactly_traps (Err k) (Err OutOfMemory) h trap = absurd h
+exactly_traps (Ok value) (Err (OutOfMemory _)) h trap = memory_no_trap (Ok value) trap value refl
+exactly_traps (Err k) (Err (OutOfMemory _)) h trap = absurd h

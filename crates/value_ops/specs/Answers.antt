@@ -16,4 +16,4 @@ MayWantMemory _ = ⊥
 abbrev pub Answers : Answer Value → Result Value OpError → Type 0
 Answers answer (Ok value) = answer ≡ Ok value
 Answers answer (Err (Trap trap)) = answer ≡ Err trap
-Answers answer (Err OutOfMemory) = MayWantMemory answer
+Answers answer (Err (OutOfMemory _)) = MayWantMemory answer

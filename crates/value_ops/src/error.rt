@@ -9,7 +9,7 @@ pub enum OpError {
     Trap(TrapKind),
     /// Memory was wanting for the value.
     #[error("out of memory")]
-    OutOfMemory,
+    OutOfMemory(OutOfMemory),
 }
 
 impl From<TrapKind> for OpError {
@@ -27,9 +27,9 @@ impl From<OutOfMemory> for OpError {
     ghost use Rattle.std.specs.Prelude.{◌≡◌};
     ghost use Rattle.value_ops.specs.declared.error.OpError.TheVariants.{OutOfMemory};
 
-    ghost from_gives = { λ _ e. e ≡ OutOfMemory };
+    ghost from_gives = { λ refused e. e ≡ OutOfMemory refused };
 
-    fn from(_e: OutOfMemory) -> OpError {
-        OpError::OutOfMemory
+    fn from(refused: OutOfMemory) -> OpError {
+        OpError::OutOfMemory(refused)
     }
 }

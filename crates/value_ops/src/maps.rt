@@ -8,6 +8,7 @@ ghost use Rattle.wave_base.specs.declared.trap.TrapKind.{TrapKind};
 ghost use Rattle.wave_base.specs.Tables.{value_at, is_full};
 ghost use Rattle.wave_base.specs.declared.value.Kind.{Kind};
 ghost use Rattle.wave_base.specs.declared.value.Value.{Value};
+ghost use Rattle.wave_base.specs.Memory.{the_refusal};
 
 use crate::error::OpError;
 use crate::rows::{AT, CUT, HAS, PUT};
@@ -77,7 +78,8 @@ pub fn put(map: &Table, key: i64, value: i64) -> Result<Value, OpError>
     let mut copy = map.copy()?;
     match copy.put(key, value) {
         Ok(()) => Ok(Value::Map(copy)),
-        Err(_) => Err(OpError::OutOfMemory),
+        Err(PutError::OutOfMemory(refused)) => Err(OpError::OutOfMemory(refused)),
+        Err(PutError::Full) => unreachable!(),
     }
 }
 
@@ -93,11 +95,11 @@ pub fn put_pair(map: &mut Table, key: i64, value: i64) -> Result<(), OpError>
     ensures ok { OnOk result (apply_row PUT (Value.Map map.old ∷ Value.Int key ∷ Value.Int value ∷ []) ≡ Ok (Value.Map map.new)) }
     ensures trap { (trap : TrapKind) → (result ≡ Err (OpError.Trap trap)) ↔ (apply_row PUT (Value.Map map.old ∷ Value.Int key ∷ Value.Int value ∷ []) ≡ Err trap) }
     ensures err { OnErr result (map.new ≡ map.old) }
-    ensures memory { result ≡ Err OpError.OutOfMemory → value_at map.old key ≡ None }
+    ensures memory { result ≡ Err (OpError.OutOfMemory the_refusal) → value_at map.old key ≡ None }
 {
     match map.put(key, value) {
         Ok(()) => Ok(()),
         Err(PutError::Full) => Err(OpError::Trap(TrapKind::Full)),
-        Err(PutError::OutOfMemory) => Err(OpError::OutOfMemory),
+        Err(PutError::OutOfMemory(refused)) => Err(OpError::OutOfMemory(refused)),
     }
 }

@@ -1,7 +1,9 @@
 -- What it is for a call and a script to fit a shape.
-use Rattle.std.specs.Prelude.{◌≡◌, ◌≤◌, ◌<◌, ℕ, true, map, length, sum_by, Some, slice_get, All}
+use Rattle.std.specs.Prelude.{◌≡◌, ◌≢◌, ◌≤◌, ◌<◌, ℕ, true, map, length, sum_by, Some, slice_get, All}
 use Rattle.wave_base.specs.declared.limits.TheConstants.{EVENT_LINES, HOSTS}
 use Rattle.wave_base.specs.declared.call.Call.{Call}
+use Rattle.wave_base.specs.declared.policy.Policy.{Policy}
+use Rattle.wave_base.specs.declared.policy.Policy.TheVariants.{Balance, Drain}
 use Rattle.wave_base.specs.declared.script.Line.{Line}
 use Rattle.wave_base.specs.declared.script.Line.TheVariants.{Request, Move, Snapshot}
 use Rattle.wave_base.specs.declared.script.Script.{Script}
@@ -28,3 +30,8 @@ pub record IsScript (shape : Shape) (script : Script) : Type 0 where
   pub lines : All (All (FitsLine shape script.hosts)) script.batches
   pub full : All (λ b. 0 < length b) script.batches
   pub few_lines : sum_by length script.batches ≤ EVENT_LINES
+
+-- what a policy may ask for, of so many hosts
+abbrev pub IsPolicy : ℕ → Policy → Type 0
+IsPolicy hosts (Balance most) = (1 ≤ most) × (most ≤ EVENT_LINES)
+IsPolicy hosts (Drain from to) = (from.0 < hosts) × (to.0 < hosts) × (from.0 ≢ to.0)

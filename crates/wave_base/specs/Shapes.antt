@@ -39,10 +39,14 @@ abbrev pub is_class : ℕ → Option Class → Bool
 is_class c None = false
 is_class c (Some d) = d.0 == c
 
+-- the class that the child stands in is this one
+abbrev pub is_child_class : Shape → ℕ → ℕ → Bool
+is_child_class shape c child = is_class c (parent_class shape child)
+
 -- each step's class is a child class of the class before it
 abbrev pub is_path_from : Shape → ℕ → List Step → Bool
 is_path_from shape c [] = true
-is_path_from shape c (s ∷ p) = is_class c (parent_class shape s.class.0) && is_path_from shape s.class.0 p
+is_path_from shape c (s ∷ p) = is_child_class shape c s.class.0 && is_path_from shape s.class.0 p
 
 abbrev pub is_path : Shape → List Step → Bool
 is_path shape p = is_path_from shape 0 p

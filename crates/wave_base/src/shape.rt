@@ -90,7 +90,7 @@ impl EventInfo {
 }
 
 impl Shape {
-    ghost use Rattle.wave_base.specs.Shapes.{class_name};
+    ghost use Rattle.wave_base.specs.Shapes.{class_name, is_child_class, parent_class};
 
     /// The name of a class, or no bytes where the shape has no such class.
     pub fn class_name(&self, class: Class) -> &[u8]
@@ -99,6 +99,26 @@ impl Shape {
         match self.classes.as_slice().get(usize::from(class.0)) {
             Some(info) => info.name.bytes(),
             None => &[],
+        }
+    }
+
+    /// The class that a class stands in; none for the root's, and where the shape has no such class.
+    pub fn parent(&self, class: Class) -> Option<Class>
+        ensures { result ≡ parent_class self.now class.0 }
+    {
+        match self.classes.as_slice().get(usize::from(class.0)) {
+            Some(info) => info.parent,
+            None => None,
+        }
+    }
+
+    /// Whether a class stands in this class.
+    pub fn is_child(&self, class: Class, child: Class) -> bool
+        ensures { result ≡ is_child_class self.now class.0 child.0 }
+    {
+        match self.parent(child) {
+            Some(parent) => parent.0 == class.0,
+            None => false,
         }
     }
 

@@ -27,7 +27,7 @@ use Rattle.wave_board.specs.declared.board.StopWord.{StopWord}
 use Rattle.wave_board.specs.declared.origin.Origin.{Origin}
 use Rattle.wave_board.specs.declared.trail.Trail.{Trail}
 use Rattle.wave_board.specs.declared.trail.Trail.TheVariants.{Step, Halt}
-use Rattle.wave_board.specs.Boards.{InEachState, IsAt, IsPlaced, StandsFor, StandsStill, history_of, labels_of, with_halt}
+use Rattle.wave_board.specs.Boards.{InEachState, IsAt, StandsFor, StandsStill, WordStands, history_of, labels_of, with_halt}
 use Rattle.wave_board.specs.Giving.{CanGive, Gives}
 use Rattle.wave_board.specs.inner.Doing.{CanAppend, IsEnabled}
 use Rattle.wave_board.proofs.Leased.{start_is}
@@ -52,26 +52,26 @@ opens b p start plan empty unset h o same begins = (
     begins = subst (FitsStart b.machine.kept.plan) (sym begins) h.begins;
     reached = subst (λ x. IsReached b.machine.kept.plan x (labels_of b) (start_state (begin_in (plan_of p) start) p.script.batches)) (sym begins) from_start;
     shows = h.shows;
-    placed = subst (λ w. IsPlaced w (length b.journal.items)) (sym unset) tt;
+    word = subst (λ w. WordStands w (length b.journal.items)) (sym unset) tt;
   },
 )
   where
     from_start : IsReached b.machine.kept.plan start (labels_of b) (start_state (begin_in (plan_of p) start) p.script.batches)
     from_start = subst (λ x. IsReached x start (labels_of b) (start_state (begin_in (plan_of p) start) p.script.batches)) (sym plan) (subst (λ js. IsReached (plan_of p) start (map label_of js) (start_state (begin_in (plan_of p) start) p.script.batches)) (sym empty) (at_start (plan_of p) start))
 
-placed_on : (w : Option StopWord) (m n : ℕ) → m ≤ n → IsPlaced w m → IsPlaced w n
-placed_on None m n less h = tt
-placed_on (Some x) m n less h = omega (arith, less, h)
+word_on : (w : Option StopWord) (m n : ℕ) → m ≤ n → WordStands w m → WordStands w n
+word_on None m n less h = tt
+word_on (Some x) m n less h = record { place = (let there = h.place in omega (arith, less, there)); writer = h.writer }
 
 -- one entry more
-history_on : (w : Option StopWord) (ts : List Trail) (t : Trail) → IsPlaced w (length ts) → with_halt w (ts ++ t ∷ []) ≡ with_halt w ts ++ t ∷ []
+history_on : (w : Option StopWord) (ts : List Trail) (t : Trail) → WordStands w (length ts) → with_halt w (ts ++ t ∷ []) ≡ with_halt w ts ++ t ∷ []
 history_on None ts t h = refl
 history_on (Some x) ts t h =
-    ap (λ z. z ++ Halt x.worker x.why ∷ drop x.place (ts ++ t ∷ [])) (take-append-le x.place ts (t ∷ []) h)
-    ∙ ap (λ z. take x.place ts ++ Halt x.worker x.why ∷ z) (drop-append-le x.place ts (t ∷ []) h)
+    ap (λ z. z ++ Halt x.worker x.why ∷ drop x.place (ts ++ t ∷ [])) (take-append-le x.place ts (t ∷ []) h.place)
+    ∙ ap (λ z. take x.place ts ++ Halt x.worker x.why ∷ z) (drop-append-le x.place ts (t ∷ []) h.place)
     ∙ sym (append_assoc (take x.place ts) (Halt x.worker x.why ∷ drop x.place ts) (t ∷ []))
 
-module _ (b b' : Board) (journal : b'.journal.items ≡ b.journal.items) (plan : b'.machine.kept.plan ≡ b.machine.kept.plan) (placed : IsPlaced b.word (length b.journal.items) → IsPlaced b'.word (length b.journal.items)) where
+module _ (b b' : Board) (journal : b'.journal.items ≡ b.journal.items) (plan : b'.machine.kept.plan ≡ b.machine.kept.plan) (word : WordStands b.word (length b.journal.items) → WordStands b'.word (length b.journal.items)) where
   -- nothing was taken
   pub still : Keeps b.machine.kept b'.machine.kept → StandsStill b b'
   still keeps o at =
@@ -83,7 +83,7 @@ module _ (b b' : Board) (journal : b'.journal.items ≡ b.journal.items) (plan :
           begins = subst (λ p. FitsStart p o.start.now) (sym plan) h.begins;
           reached = subst (λ p. IsReached p o.start.now (labels_of b') s) (sym plan) (subst (λ js. IsReached b.machine.kept.plan o.start.now (map label_of js) s) (sym journal) h.reached);
           shows = (keeps o.start.now s (stands_of b o s h)).shows;
-          placed = subst (λ js. IsPlaced b'.word (length js)) (sym journal) (placed h.placed);
+          word = subst (λ js. WordStands b'.word (length js)) (sym journal) (word h.word);
         },
       )
 
@@ -94,12 +94,12 @@ module _ (b b' : Board) (l : Label) (journal : b'.journal.items ≡ b.journal.it
   longer : length b.journal.items ≤ length b'.journal.items
   longer = (let e : length b'.journal.items ≡ length b.journal.items + 1 = ap length journal ∙ length-append b.journal.items (l ∷ []) in omega (arith, e))
 
-  pub history_more : IsPlaced b.word (length b.journal.items) → history_of b' ≡ history_of b ++ Step l ∷ []
+  pub history_more : WordStands b.word (length b.journal.items) → history_of b' ≡ history_of b ++ Step l ∷ []
   history_more h =
       ap (λ w. with_halt w (map Step b'.journal.items)) word
       ∙ ap (λ js. with_halt b.word (map Step js)) journal
       ∙ ap (with_halt b.word) (map-append Step b.journal.items (l ∷ []))
-      ∙ history_on b.word (map Step b.journal.items) (Step l) (subst (IsPlaced b.word) (sym (length-map b.journal.items Step)) h)
+      ∙ history_on b.word (map Step b.journal.items) (Step l) (subst (WordStands b.word) (sym (length-map b.journal.items Step)) h)
 
   -- the label leads there
   leads : (o : Origin) (s s' : TheState) → IsAt b o s → step (plan_actors b.machine.kept.plan.program) b.machine.kept.plan.workers s (label_of l) ≡ Some s' → IsReached b'.machine.kept.plan o.start.now (labels_of b') s'
@@ -118,7 +118,7 @@ module _ (b b' : Board) (l : Label) (journal : b'.journal.items ≡ b.journal.it
       begins = subst (λ p. FitsStart p o.start.now) (sym plan) h.begins;
       reached = leads o s s' h e;
       shows = after.shows;
-      placed = subst (λ w. IsPlaced w (length b'.journal.items)) (sym word) (placed_on b.word (length b.journal.items) (length b'.journal.items) longer h.placed);
+      word = subst (λ w. WordStands w (length b'.journal.items)) (sym word) (word_on b.word (length b.journal.items) (length b'.journal.items) longer h.word);
     },
   )
 

@@ -8,6 +8,7 @@ use Rattle.wave_machine.specs.Plans.{plan_of}
 use Rattle.wave_board.specs.declared.board.Board.{Board}
 use Rattle.wave_board.specs.declared.board.StopWord.{StopWord}
 use Rattle.wave_board.specs.declared.origin.Origin.{Origin}
+use Rattle.wave_board.specs.declared.trail.StopCause.TheVariants.{SinkFault}
 use Rattle.wave_board.specs.declared.trail.Trail.{Trail}
 use Rattle.wave_board.specs.declared.trail.Trail.TheVariants.{Step, Halt}
 
@@ -35,19 +36,25 @@ labels_in (Halt worker why ∷ ts) = labels_in ts
 abbrev pub labels_of : Board → List Label
 labels_of b = map label_of b.journal.items
 
--- a stop word's place is in the journal, or at its end
-abbrev pub IsPlaced : Option StopWord → ℕ → Type 0
-IsPlaced None n = Unit {0}
-IsPlaced (Some x) n = x.place ≤ n
+-- A stop word's place is in a journal of so many labels, or at its end. It is worker 0 that could not write: no other writes.
+pub record IsWord (x : StopWord) (n : ℕ) : Type 0 where
+  pub place : x.place ≤ n
+  pub writer : x.why ≡ SinkFault → x.worker.0 ≡ 0
 
--- The board's plan is this one, and its machine stands for the state to which its journal leads; plan and Start fit.
+-- where the workers were stopped
+abbrev pub WordStands : Option StopWord → ℕ → Type 0
+WordStands None n = Unit {0}
+WordStands (Some x) n = IsWord x n
+
+-- The board's plan is this one, and its machine stands for the state to which its journal leads; plan and Start fit, and so does
+-- the stop word.
 pub record IsAt (b : Board) (o : Origin) (s : TheState) : Type 0 where
   pub plan : b.machine.kept.plan ≡ plan_of o.plan.now
   pub fits : Fits b.machine.kept.plan
   pub begins : FitsStart b.machine.kept.plan o.start.now
   pub reached : IsReached b.machine.kept.plan o.start.now (labels_of b) s
   pub shows : Shows b.machine.kept s
-  pub placed : IsPlaced b.word (length b.journal.items)
+  pub word : WordStands b.word (length b.journal.items)
 
 -- what the board stands for
 abbrev pub StandsFor : Board → Origin → Type 0

@@ -80,8 +80,9 @@ impl<'p> Board<'p> {
         })
     }
 
-    /// Stops the workers, where they were not stopped before; else nothing changes.
+    /// Stops the workers, where they were not stopped before; else nothing changes. Worker 0 alone writes, so no other can fail to.
     pub fn stop(&mut self, worker: Worker, why: StopCause)
+        requires { why ≡ StopCause.SinkFault → worker.0 ≡ 0 }
         ensures stands { StandsStill self.old self.new }
         ensures first { self.old.word ≡ None → history_of self.new ≡ history_of self.old ++ Halt worker why ∷ [] }
         ensures again { IsSome self.old.word → self.new ≡ self.old }

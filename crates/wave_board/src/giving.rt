@@ -19,11 +19,11 @@ impl<'p> Board<'p> {
         ensures still { OnErr result (StandsStill self.old self.new) }
         ensures same { OnErr result (history_of self.new ≡ history_of self.old) }
     {
-        if self.journal.reserve(1).is_err() {
+        if let Err(refused) = self.journal.reserve(1) {
             return Err(Refused {
                 lease,
                 pause,
-                error: OutOfMemory,
+                error: OutOfMemory::from(refused),
             });
         }
         match self.machine.stop(lease, pause) {

@@ -1,11 +1,11 @@
-use wave_base::Worker;
+use wave_base::{OutOfMemory, Worker};
 use wave_labels::Label;
 
 /// Why the workers are to stop.
 #[derive(Clone, Copy, PartialEq, Eq, Debug)]
 pub enum StopCause {
     /// A worker wanted memory.
-    Memory,
+    Memory(OutOfMemory),
     /// A worker could not write.
     SinkFault,
 }

@@ -1,14 +1,8 @@
 -- What is drawn from 7, computed.
 use Rattle.std.proofs.Common.{◌≡◌, refl}
 use Rattle.wave_gen.specs.declared.line.Line.TheVariants.{Buy}
-use Rattle.wave_gen.specs.Draws.{next, drawn, after}
+use Rattle.wave_base.specs.Draws.{after}
 use Rattle.wave_gen.specs.Lines.{choice, line_from}
-
-behind_seven : next 7 ≡ 9098160460397411210
-behind_seven = refl
-
-first_draw : drawn 7 ≡ 1059165278
-first_draw = refl
 
 first_choice : choice 7 ≡ 18
 first_choice = refl

@@ -1,7 +1,7 @@
 -- What was appended, put together; and one line more.
 use Rattle.std.proofs.Common.{◌≡◌, ℕ, ◌+◌, ◌-◌, ◌<◌, ◌≤◌, ◌∙◌, sym, ap, arith, List, [], ◌++◌, append_assoc, append-nil, codes, suc, Result, Ok, Err, OnOk}
 use Rattle.std.specs.Fmt.{decimal}
-use Rattle.wave_gen.specs.Draws.{after}
+use Rattle.wave_base.specs.Draws.{after}
 use Rattle.wave_gen.specs.Lines.{choice, draws_for, line_from, line_text}
 use Rattle.wave_gen.specs.Load.{drawn_text, load_text, market}
 use Rattle.wave_gen.specs.declared.line.Line.{Line}

@@ -1,4 +1,3 @@
-pub mod Draws
 pub mod Lines
 pub mod Load
 pub mod Summary

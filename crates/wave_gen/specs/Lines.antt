@@ -3,7 +3,7 @@ use Rattle.std.specs.Prelude.{ℕ, ◌+◌, ◌%◌, ◌==◌, nat_lt, if◌then
 use Rattle.std.specs.Fmt.{decimal}
 use Rattle.wave_gen.specs.declared.line.Line.{Line}
 use Rattle.wave_gen.specs.declared.line.Line.TheVariants.{Move, Pair, Settle, Buy}
-use Rattle.wave_gen.specs.Draws.{after, drawn}
+use Rattle.wave_base.specs.Draws.{after, drawn}
 
 -- the first draw, of 20, chooses what line it is
 abbrev pub choice : ℕ → ℕ

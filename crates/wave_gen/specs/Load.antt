@@ -1,7 +1,7 @@
 -- The generated load of a number: a service, and a script whose lines are drawn one after the other.
 use Rattle.std.specs.Prelude.{ℕ, zero, suc, List, [], ◌∷◌, ◌++◌, map, codes}
 use Rattle.std.specs.List.{concat}
-use Rattle.wave_gen.specs.Draws.{after}
+use Rattle.wave_base.specs.Draws.{after}
 use Rattle.wave_gen.specs.Lines.{choice, draws_for, line_from, line_text}
 
 -- a line of the service

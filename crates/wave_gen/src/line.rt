@@ -1,11 +1,10 @@
 ghost use Rattle.std.specs.Prelude.{◌≡◌, ◌++◌, ◌<◌, ◌≤◌, OnOk};
 ghost use Rattle.std.specs.Fmt.{decimal};
-ghost use Rattle.wave_gen.specs.Draws.{after};
+ghost use Rattle.wave_base.specs.Draws.{after};
 ghost use Rattle.wave_gen.specs.Lines.{choice, draws_for, line_from, line_text};
 
-use crate::draws::Draws;
 use std::alloc::Global;
-use wave_base::OutOfMemory;
+use wave_base::{Draws, OutOfMemory};
 use wave_text::{put_bytes, put_number};
 
 // How many halls a load speaks of, and how many stalls of one.

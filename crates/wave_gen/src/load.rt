@@ -1,10 +1,9 @@
 ghost use Rattle.std.specs.Prelude.{◌≡◌, ◌++◌, IfOk, OnOk};
 ghost use Rattle.wave_gen.specs.Load.{drawn_text, load_text, market};
 
-use crate::draws::Draws;
 use crate::line::Line;
 use std::alloc::Global;
-use wave_base::{OutOfMemory, Seq};
+use wave_base::{Draws, OutOfMemory, Seq};
 use wave_text::put_bytes;
 
 /// How many lines are drawn.

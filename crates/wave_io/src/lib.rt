@@ -6,8 +6,6 @@ mod gate;
 mod memory;
 mod standard;
 mod sure;
-#[cfg(test)]
-mod tests;
 mod whole;
 
 pub use ends::{Failed, Sink, Source};

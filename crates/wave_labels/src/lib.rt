@@ -6,6 +6,3 @@ mod laws;
 
 pub use label::{Act, Label, MailId};
 pub use laws::{equal_is_same, labels_tell};
-
-#[cfg(test)]
-mod tests;

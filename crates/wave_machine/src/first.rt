@@ -1,7 +1,7 @@
 //! How a context begins.
 
 ghost use Rattle.std.specs.Prelude.{◌≡◌, ◌≤◌, [], IfOk};
-ghost use Rattle.wave_base.specs.Shapes.{class_of, initial_fields};
+ghost use Rattle.wave_base.specs.Shapes.{initial_fields};
 ghost use Rattle.wave_states.specs.Steps.{new_entry};
 ghost use Rattle.context_queue.specs.Entries.{StandsFor};
 ghost use Rattle.plan_actors.specs.PlanActors.{plan_actors};
@@ -9,7 +9,7 @@ ghost use Rattle.service_code.specs.declared.program.Program.{Program};
 
 use context_queue::Entry;
 use std::alloc::Global;
-use wave_base::{Children, Class, OutOfMemory, Path, Record, Seq, Shape};
+use wave_base::{Children, OutOfMemory, Path, Record, Seq, Shape};
 
 // The entry of a context that is born, with room in its line for one.
 pub(crate) fn first_entry(alloc: Global, shape: &Shape, path: &Path) -> Result<Entry, OutOfMemory>
@@ -26,7 +26,7 @@ fn first_record(alloc: Global, shape: &Shape, path: &Path) -> Result<Record, Out
     ensures fields { IfOk result (λ r. r.fields ≡ initial_fields shape.now path.now) }
     ensures children { IfOk result (λ r. r.children ≡ []) }
 {
-    let class = class_of(path);
+    let class = path.class();
     if (class.0 as usize) < shape.classes.len() {
         return Record::initial(alloc, shape, class);
     }
@@ -34,14 +34,4 @@ fn first_record(alloc: Global, shape: &Shape, path: &Path) -> Result<Record, Out
         fields: Seq::new(alloc),
         children: Children::new(alloc),
     })
-}
-
-// The class of the context at a path.
-fn class_of(path: &Path) -> Class
-    ensures { result.0 ≡ class_of path.now }
-{
-    match path.as_slice() {
-        [.., last] => last.class,
-        [] => Class(0),
-    }
 }

@@ -132,8 +132,8 @@ impl<'p> Listed<'p> {
         ensures room { OnOk result (HasRoom self.new more) }
         ensures same { SameList self.old self.new }
     {
-        let room = self.weight.checked_add(more).ok_or(OutOfMemory)?;
-        let room = room.checked_add(8).ok_or(OutOfMemory)?;
+        // a sum that does not fit is more than any memory holds, so that its request is refused
+        let room = self.weight.saturating_add(more).saturating_add(8);
         self.index.reserve(room)?;
         Ok(())
     }

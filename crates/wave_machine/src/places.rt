@@ -13,7 +13,7 @@ ghost use Rattle.wave_machine.specs.inner.Endings.{AllThere, AreHome, AreServed,
 use crate::begin::served_before;
 use context_queue::Entry;
 use host_map::HostStore;
-use std::alloc::{AllocError, Global};
+use std::alloc::Global;
 use std::collections::BTreeMap;
 use wave_base::{Host, OutOfMemory, Path, Place, Shot, Ticket};
 
@@ -52,17 +52,19 @@ fn add_all(
 }
 
 // The places in order.
-fn listed(alloc: Global, hosts: &BTreeMap<Path, Host>) -> Result<Vec<Place>, AllocError>
+fn listed(alloc: Global, hosts: &BTreeMap<Path, Host>) -> Result<Vec<Place>, OutOfMemory>
     ensures places { IfOk result (λ places. places.items ≡ map placed_at hosts.now.entries) }
     ensures ordered { IsStrictlySortedBy path_cmp (keys hosts.now) }
 {
-    hosts
-        .iter()
-        .map(|(path, host)| Place {
-            path: *path,
-            host: *host,
-        })
-        .collect(alloc)
+    Ok(
+        hosts
+            .iter()
+            .map(|(path, host)| Place {
+                path: *path,
+                host: *host,
+            })
+            .collect(alloc)?,
+    )
 }
 
 // The entry of a context.

@@ -1,11 +1,12 @@
 //! How a drive picks from what can be done.
 
-ghost use Rattle.std.specs.Prelude.{◌≡◌, ℕ, ◌<◌, ◌/◌, ◌%◌, ◌^◌, nat_lt, nat_le, if◌then◌else◌, map, option_map, length};
+ghost use Rattle.std.specs.Prelude.{◌≡◌, ℕ, nat_lt, nat_le, if◌then◌else◌, map, option_map};
 ghost use Rattle.wave_labels.specs.Labels.{act_of, label_of};
 ghost use Rattle.wave_states.specs.Labels.{takes_mail, ticket_of};
-ghost use Rattle.wave_states.specs.Runs.{next_draw, seed, oldest, newest, mail_last, last_of};
+ghost use Rattle.wave_states.specs.Runs.{seed, oldest, newest, mail_last, last_of};
 ghost use Rattle.wave_machine.specs.Machines.{TheState};
 
+use wave_base::Draws;
 use wave_labels::{Act, Label};
 
 /// How a drive picks from what can be done, which is in the canonical order. A label's ticket is that of its act, or of its mail.
@@ -23,17 +24,6 @@ pub enum PickRule {
     MailLast,
 }
 
-// The generator's multiplier and increment, modulo 2^64.
-const MULTIPLIER: u64 = 6_364_136_223_846_793_005;
-
-const INCREMENT: u64 = 1_442_695_040_888_963_407;
-
-fn next_draw(draw: u64) -> u64
-    ensures { result ≡ next_draw draw }
-{
-    MULTIPLIER.wrapping_mul(draw).wrapping_add(INCREMENT)
-}
-
 // By a draw, where there are two labels and more.
 pub(crate) fn by_seed(draw: &mut u64, labels: &[Label]) -> Option<Label>
     ensures { (s : TheState) → seed draw.old s (map label_of labels.now) ≡ (draw.new, option_map label_of result) }
@@ -41,16 +31,10 @@ pub(crate) fn by_seed(draw: &mut u64, labels: &[Label]) -> Option<Label>
     if labels.len() < 2 {
         return labels.first().copied();
     }
-    *draw = next_draw(*draw);
-    Some(labels[place_below(*draw, labels.len())])
-}
-
-fn place_below(draw: u64, many: usize) -> usize
-    requires { 0 < many }
-    ensures below { result < many }
-    ensures drawn { result ≡ (draw / 2 ^ 33) % many }
-{
-    (draw / (1 << 33)) as usize % many
+    let mut draws = Draws { state: *draw };
+    let place = draws.draw_below(labels.len() as u64);
+    *draw = draws.state;
+    Some(labels[place as usize])
 }
 
 // The first label of the least ticket.

@@ -6,6 +6,7 @@ use Rattle.wave_states.specs.States.{State}
 use Rattle.wave_states.specs.Labels.{Label, ticket_of, takes_mail}
 use Rattle.wave_states.specs.Steps.{step}
 use Rattle.wave_states.specs.Canonical.{enabled}
+use Rattle.wave_base.specs.Draws.{next_draw, drawn}
 
 module _ {A F R J : Type 0} (sys : Actors A F R J) (workers : ℕ) where
   -- the state that a list of labels leads to, where each is enabled
@@ -35,15 +36,11 @@ abbrev pub or_else : Option Label → Option Label → Option Label
 or_else None other = other
 or_else (Some l) other = Some l
 
--- one step of the generator
-abbrev pub next_draw : ℕ → ℕ
-next_draw x = (6364136223846793005 * x + 1442695040888963407) % 2 ^ 64
-
 -- of two labels and more, by a draw; with one there is no draw
 abbrev pub seed : {A F R J : Type 0} → Rule A F R J
 seed x s [] = (x, None)
 seed x s (l ∷ []) = (x, Some l)
-seed x s (l ∷ m ∷ ls) = (next_draw x, slice_get (l ∷ m ∷ ls) ((next_draw x / 2 ^ 33) % length (l ∷ m ∷ ls)))
+seed x s (l ∷ m ∷ ls) = (next_draw x, slice_get (l ∷ m ∷ ls) (drawn x % length (l ∷ m ∷ ls)))
 
 abbrev pub least : Label → List Label → Label
 least l [] = l

@@ -4,7 +4,7 @@ use Rattle.std.specs.Prelude.{◌==◌, ◌&&◌, ◌||◌, nat_le, nat_lt}
 use Rattle.std.proofs.lemmas.Bool.Decides.{nat_tests}
 use Rattle.std.proofs.lemmas.List.Elements.{All-nil, All-cons, All-head, All-tail}
 use Rattle.wave_base.specs.Text.{IsPrintable}
-use Rattle.mace_lexer.specs.Texts.{escaped, escaped_byte}
+use Rattle.wave_base.specs.Text.{escaped, escaped_byte}
 use Rattle.wave_text.specs.Quotes.{Quotes, QuotesNone, QuotesOnly, Byte, Close, Wrong, next_in, next_escaped}
 
 -- ---- what stands next

@@ -2,6 +2,7 @@ pub mod Counted
 pub mod Lines
 pub mod NextSeen
 pub mod Numbers
+pub mod Places
 pub mod Quotes
 pub mod Splits
 pub mod ValueTexts

@@ -1,7 +1,7 @@
 -- Texts between quotes, as a service and a script have them.
 use Rattle.std.specs.Prelude.{◌≡◌, ℕ, ◌==◌, ◌&&◌, ◌||◌, nat_le, nat_lt, if◌then◌else◌, List, [], ◌∷◌, ◌++◌, All}
 use Rattle.wave_base.specs.Text.{IsPrintable}
-use Rattle.mace_lexer.specs.Texts.{escaped}
+use Rattle.wave_base.specs.Text.{escaped}
 
 -- behind an opening quote stands this text, its closing quote, and then the rest
 pub record Quotes (bytes text rest : List ℕ) : Type 0 where

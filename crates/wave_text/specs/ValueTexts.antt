@@ -3,7 +3,7 @@ use Rattle.std.specs.Prelude.{ℕ, ◌+◌, ◌==◌, ℤ, if◌then◌else◌, 
 use Rattle.std.specs.Fmt.{signed_decimal}
 use Rattle.wave_base.specs.declared.value.Value.{Value}
 use Rattle.wave_base.specs.declared.value.Value.TheVariants.{Int, Bool, Str, Map}
-use Rattle.mace_lexer.specs.Texts.{quoted}
+use Rattle.wave_base.specs.Text.{quoted}
 
 -- 1: 5
 abbrev pub pair_text : ℤ × ℤ → List ℕ

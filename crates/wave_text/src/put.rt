@@ -1,11 +1,12 @@
 ghost use Rattle.std.specs.Prelude.{◌≡◌, ◌++◌, OnOk};
 ghost use Rattle.std.specs.Fmt.{decimal, signed_decimal};
-ghost use Rattle.mace_lexer.specs.Texts.{escaped, quoted};
+ghost use Rattle.wave_base.specs.Text.{escaped, quoted};
+ghost use Rattle.wave_text.specs.Places.{place_text};
 ghost use Rattle.wave_text.specs.ValueTexts.{pair_text, comma_before, pairs_text, value_text};
 
 use itoa::Buffer;
 use std::alloc::Global;
-use wave_base::{OutOfMemory, Value};
+use wave_base::{OutOfMemory, Span, Value};
 
 /// Appends bytes.
 pub fn put_bytes(out: &mut Vec<u8>, bytes: &[u8]) -> Result<(), OutOfMemory>
@@ -29,6 +30,15 @@ pub fn put_whole(_alloc: Global, out: &mut Vec<u8>, n: i64) -> Result<(), OutOfM
 {
     let mut buffer = Buffer::new();
     put_bytes(out, buffer.format(n).as_bytes())
+}
+
+/// Appends a place in a text.
+pub fn put_place(alloc: Global, out: &mut Vec<u8>, at: Span) -> Result<(), OutOfMemory>
+    ensures { OnOk result (out.new.items ≡ out.old.items ++ place_text at) }
+{
+    put_number(alloc, out, u64::from(at.line))?;
+    put_bytes(out, b":")?;
+    put_number(alloc, out, u64::from(at.col))
 }
 
 // Appends a text, with a backslash before each quote and backslash.

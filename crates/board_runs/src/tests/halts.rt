@@ -17,7 +17,8 @@ use wave_board::{Board, StopCause, Work};
 use wave_machine::Plan;
 
 fn stop(plan: &Plan, board: &mut Board, worker: Worker, why: StopCause)
-    requires { IsReady plan.now board.old }
+    requires ready { IsReady plan.now board.old }
+    requires writer { why ≡ StopCause.SinkFault → worker.0 ≡ 0 }
     ensures { IsReady plan.now board.new }
 {
     board.stop(worker, why);
@@ -30,7 +31,7 @@ fn is_stopped(rt: &impl Abort, plan: &Plan, board: &mut Board) -> Result<(), Out
     let work = board.take(Worker(0))?;
     match work {
         Work::Stopped(StopCause::SinkFault) => Ok(()),
-        Work::Stopped(StopCause::Memory)
+        Work::Stopped(StopCause::Memory(_))
         | Work::Stepped(_)
         | Work::Segment(_)
         | Work::Nothing
@@ -43,13 +44,26 @@ fn sent<'p, R: Threads>(rt: &R, board: Board<'p>) -> Board<'p> {
     join(rt, move || board, || ()).0
 }
 
+// A refusal: no block is as large as this.
+fn refusal(rt: &impl Abort, alloc: Global) -> OutOfMemory {
+    match Vec::<u64>::with_capacity(alloc, usize::MAX) {
+        Ok(_) => panic!(rt; "so much memory"),
+        Err(refused) => OutOfMemory::from(refused),
+    }
+}
+
 // The first Halt counts.
-fn halt(rt: &impl Abort, plan: &Plan, board: &mut Board) -> Result<(), OutOfMemory>
+fn halt(rt: &impl Abort, alloc: Global, plan: &Plan, board: &mut Board) -> Result<(), OutOfMemory>
     requires { IsReady plan.now board.old }
 {
     take_step(rt, plan, board, Worker(1))?;
-    stop(plan, board, Worker(1), StopCause::SinkFault);
-    stop(plan, board, Worker(0), StopCause::Memory);
+    stop(plan, board, Worker(0), StopCause::SinkFault);
+    stop(
+        plan,
+        board,
+        Worker(1),
+        StopCause::Memory(refusal(rt, alloc)),
+    );
     is_stopped(rt, plan, board)
 }
 
@@ -64,7 +78,7 @@ fn halted<'p>(
     requires first { start.now ≡ first_start plan.now.program.shape }
 {
     let mut board = opened(alloc, plan, start)?;
-    halt(rt, plan, &mut board)?;
+    halt(rt, alloc, plan, &mut board)?;
     Ok(board)
 }
 

@@ -13,6 +13,7 @@ use Rattle.eventwave.specs.declared.ending.Ending.TheVariants.{WordsRefused, Rea
 use Rattle.eventwave.specs.declared.response.Response.{Response}
 use Rattle.eventwave.specs.declared.response.Response.TheVariants.{Done, Crewed}
 use Rattle.eventwave.specs.Ends.{note_for, Change, IsInput, SomeDue, ReadsAll, IsUntouched, WritesFront, read_by}
+use Rattle.wave_base.specs.Memory.{the_refusal}
 
 -- there are bytes of a command's input for which this answer is due, and with all commands but `trace` no other
 pub record SomeInputDue (c : Command) (left : Option (List ℕ)) (due : Answer) : Type 0 where
@@ -24,7 +25,7 @@ abbrev pub status_of : Ending → ℕ
 status_of WordsRefused = 2
 status_of ReadFault = 5
 status_of WriteFault = 6
-status_of NoMemory = 7
+status_of (NoMemory _) = 7
 status_of (Answered status note) = status
 
 -- the note of an answer is its own
@@ -36,7 +37,7 @@ note_of e = unwrap_or (note_for (status_of e)) []
 abbrev pub Gave : Answer → Option (List ℕ) → Option (List ℕ) → Ending → Type 0
 Gave due old new WriteFault = AppendsFront old new due.text
 Gave due old new (Answered status note) = (status ≡ due.status) × (note ≡ due.note) × Appends old new due.text
-Gave due old new NoMemory = AppendsFront old new due.text
+Gave due old new (NoMemory _) = AppendsFront old new due.text
 Gave due old new WordsRefused = ⊥
 Gave due old new ReadFault = ⊥
 
@@ -48,14 +49,14 @@ pub record Gives (P : Answer → Type 0) (old new : Option (List ℕ)) (e : Endi
 
 -- the same, where memory may have been wanted before there was an answer
 abbrev pub SomeGave : (Answer → Type 0) → Option (List ℕ) → Option (List ℕ) → Ending → Type 0
-SomeGave P old new NoMemory = Keeps old new ⊎ Gives P old new NoMemory
+SomeGave P old new (NoMemory refused) = Keeps old new ⊎ Gives P old new (NoMemory refused)
 SomeGave P old new e = Gives P old new e
 
 -- how a call may end
 abbrev pub Ended : List (List ℕ) → Option (List ℕ) → Option (List ℕ) → Option (List ℕ) → Ending → Type 0
 Ended words left old new WordsRefused = (command_of words ≡ None) × Keeps old new
 Ended words left old new ReadFault = ((c : Command) × (command_of words ≡ Some c)) × Keeps old new
-Ended words left old new NoMemory = WritesFront words left old new
+Ended words left old new (NoMemory _) = WritesFront words left old new
 Ended words left old new WriteFault = SomeDue words left (λ due. Gave due old new WriteFault)
 Ended words left old new (Answered status note) = SomeDue words left (λ due. Gave due old new (Answered status note))
 
@@ -85,5 +86,5 @@ Responded words input out (Crewed c) = (command_of words ≡ Some c) × (runs_wo
 
 -- it was left to workers, or there was no memory
 abbrev pub IsUndone : Response → Type 0
-IsUndone (Done e) = e ≡ NoMemory
+IsUndone (Done e) = e ≡ NoMemory the_refusal
 IsUndone (Crewed c) = Unit {0}

@@ -264,10 +264,13 @@ fn runs_by_the_top_call(rt: HostRuntime) -> Result<(), Fail> {
     );
     assert_eq!(rt; status, 0);
     assert_eq!(rt; out.bytes(), b"#1 hit = 1\ndone 1\n".as_slice());
+    let Err(refused) = Vec::<u64>::with_capacity(alloc, usize::MAX) else {
+        return Err("so much memory".into());
+    };
     let status = start(
         &rt,
         alloc,
-        Err(OutOfMemory),
+        Err(OutOfMemory::from(refused)),
         &mut source,
         &mut out,
         &mut notes,

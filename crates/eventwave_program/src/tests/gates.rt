@@ -3,11 +3,11 @@
 use super::crews::{MOVED, MOVES};
 use super::rows::{joined, ran_on};
 use super::services::MARKET;
-use std::alloc::{AllocError, Global};
+use std::alloc::Global;
 use std::hint::spin_loop;
 use std::sync::atomic::{AtomicU64, Ordering};
 use std::test::Fail;
-use wave_base::{Class, Path, Step, Ticket};
+use wave_base::{Class, OutOfMemory, Path, Step, Ticket};
 use wave_io::Gate;
 
 const HALL: Step = Step {
@@ -136,7 +136,7 @@ struct Counting {
 }
 
 impl Counting {
-    fn new(alloc: Global) -> Result<Counting, AllocError> {
+    fn new(alloc: Global) -> Result<Counting, OutOfMemory> {
         let root = Path::root();
         let each = vec![in alloc;
             stop_at(1, root, b"Start #1 /\n", 1),

@@ -6,14 +6,14 @@ ghost use Rattle.wave_io.specs.Causes.{HasCause};
 
 use super::cases::{Case, plan_for};
 use host_workers::run_plan;
-use std::alloc::{AllocError, Global};
+use std::alloc::Global;
 use std::process::Abort;
 use std::sync::Wait;
 use std::sync::atomic::{AtomicU64, Ordering};
 use std::test::Fail;
 use std::thread::Threads;
 use text_plans::MARKET;
-use wave_base::{Path, Ticket};
+use wave_base::{OutOfMemory, Path, Ticket};
 use wave_io::{Failed, Gate, Sink};
 
 // A sink that takes everything, and counts its calls where a gate sees the count.
@@ -49,7 +49,7 @@ impl<'a> Gate for Looking<'a> {
 }
 
 // Forty sales, and one more after them.
-fn sales(alloc: Global) -> Result<String, AllocError> {
+fn sales(alloc: Global) -> Result<String, OutOfMemory> {
     let mut script = String::new(alloc);
     for _ in 0..40u8 {
         script.push_str("request buy(1,1,1)\n")?;

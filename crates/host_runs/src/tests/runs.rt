@@ -152,7 +152,7 @@ fn one_worker_writes_a_front(rt: HostRuntime) -> Result<(), Fail> {
     let mut sink = MemSink::new(alloc, 1000, 100, Seq::new(alloc))?;
     match run_plan(&rt, alloc, &plan, &OpenGate, &mut sink) {
         Ok(_) => has_written(&rt, &sink, MOVED_LINES),
-        Err(RunError::OutOfMemory) => has_a_front(&rt, &sink, MOVED_LINES),
+        Err(RunError::OutOfMemory(_)) => has_a_front(&rt, &sink, MOVED_LINES),
         Err(RunError::WriteFault) => panic!(rt; "a fault"),
     }
     Ok(())

@@ -26,6 +26,7 @@ pub record IsSeated (lock : KeptLock Board Origin Trail) (pass : Pass Board Orig
 
 -- how worker 0 ended, and what was written of the lines of the plan's events
 pub record HasEnded (origin : Origin) (plan : Plan) (pass : Known Trail) (old new : Option (List ℕ)) (faults faults' : ℕ) (e : Ending) : Type 0 where
+  pub number : pass.number ≡ 0
   pub ended : Ended origin pass e
   pub whole : e ≡ ending.Finished → Appends old new (event_lines plan origin.start.now)
   pub front : AppendsFront old new (event_lines plan origin.start.now)

@@ -32,9 +32,6 @@ IsTicketOf text o = (t : Ticket) → IsTicket t → text ≡ ticket_text t → o
 abbrev pub IsMailOf : List ℕ → Option MailId → Type 0
 IsMailOf text o = (m : MailId) → IsMail m → text ≡ mail_text m → o ≡ Some m
 
-abbrev pub IsPathOf : Shape → List ℕ → Option Path → Type 0
-IsPathOf shape text o = (p : Path) → is_path shape p ≡ true → HasKeys p → text ≡ path_text shape p → o ≡ Some p
-
 -- #t path
 abbrev pub IsTicketAtOf : Shape → List ℕ → Option (Ticket × Path) → Type 0
 IsTicketAtOf shape text o = (t : Ticket) (p : Path) → IsTicket t → is_path shape p ≡ true → HasKeys p → text ≡ spaced (ticket_text t ∷ path_text shape p ∷ []) → o ≡ Some (t, p)

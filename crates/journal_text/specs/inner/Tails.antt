@@ -23,4 +23,4 @@ pub record IsOnlyParted (shape : Shape) (tail : List ℕ) (before : List Label) 
 abbrev pub AreRead : Shape → List ℕ → Result (List Label) JournalError → Type 0
 AreRead shape tail (Ok labels) = IsOnlyParted shape tail labels []
 AreRead shape tail (Err (Syntax n)) = (before : List Label) × (rest : List ℕ) × IsOnlyParted shape tail before rest × (rest ≡ [] → ⊥) × (n ≡ length before + 2)
-AreRead shape tail (Err OutOfMemory) = Unit {0}
+AreRead shape tail (Err (OutOfMemory _)) = Unit {0}

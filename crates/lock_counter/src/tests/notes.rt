@@ -5,10 +5,11 @@ ghost use Rattle.kept_lock.specs.Locks.{known, IsPassOf};
 
 use super::cross::{sent_lock, sent_pass, shared_lock};
 use kept_lock::{Attempt, Kept, KeptLock, Pass, passes_share_one_history};
-use std::alloc::{AllocError, Global};
+use std::alloc::Global;
 use std::sync::Wait;
 use std::test::Fail;
 use std::thread::{Threads, join};
+use wave_base::OutOfMemory;
 
 // Notes, each with the number of the pass that made it, under a title.
 #[derive(Drop)]
@@ -39,7 +40,7 @@ impl Notes {
         }
     }
 
-    fn add(&mut self, by: u64, note: u64) -> Result<(), AllocError>
+    fn add(&mut self, by: u64, note: u64) -> Result<(), OutOfMemory>
         ensures title { self.new.title ≡ self.old.title }
         ensures notes { MatchResult result (λ _. self.new.notes.items ≡ self.old.notes.items ++ (by, note) ∷ []) (λ _. self.new.notes.items ≡ self.old.notes.items) }
     {
@@ -54,7 +55,7 @@ fn add<R: Wait>(
     pass: &mut Pass<Notes>,
     me: u64,
     note: u64,
-) -> Result<(), AllocError>
+) -> Result<(), OutOfMemory>
     requires pass { IsPassOf lock.now pass.old }
     requires number { (known pass.old).number ≡ me }
     ensures pass { IsPassOf lock.now pass.new }

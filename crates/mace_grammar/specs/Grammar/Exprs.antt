@@ -6,7 +6,7 @@ use Rattle.mace_ast.specs.declared.expr.BinaryOp.{BinaryOp}
 use Rattle.mace_ast.specs.Exprs as e
 use Rattle.mace_ast.specs.Exprs.{ExprTree, exprs_of, place_of}
 use Rattle.mace_grammar.specs.Part.{Part, pure, ◌>>=◌, ◌>>◌, ◌or◌, many, maybe, deep}
-use Rattle.mace_grammar.specs.Words.{Version, sign, name, literal, or_op, and_op, comparison_op, sum_op, product_op, operator, unary_op}
+use Rattle.mace_grammar.specs.Words.{Edition, sign, name, literal, or_op, and_op, comparison_op, sum_op, product_op, operator, unary_op}
 use Rattle.mace_grammar.specs.Grammar.Lists.{in_parens}
 
 -- a left operand with an operator and a right one
@@ -33,10 +33,10 @@ chain item operator = do
 
 -- ---- what a version changes, and what is made of it
 
-module _ (version : Version) where
+module _ (edition : Edition) where
   -- "." Name
   abbrev pub field : Part Name
-  field = sign s.Dot >> name version
+  field = sign s.Dot >> name edition
 
   module _ (unary : Part ExprTree) where
     -- Prod = Unary (("*" | "/" | "%") Unary)*
@@ -85,34 +85,34 @@ module _ (version : Version) where
     -- Name
     abbrev pub read : Part ExprTree
     read = do
-      n ← name version
+      n ← name edition
       pure (e.Read n.at n.text)
 
     -- Name "." Name
     abbrev pub above : Part ExprTree
     above = do
-      c ← name version
+      c ← name edition
       f ← field
       pure (e.Above c.at c.text f.text)
 
     -- Name "(" Args ")"
     abbrev pub call : Part ExprTree
     call = do
-      f ← name version
+      f ← name edition
       found ← arguments
       pure (e.Call f.at f.text (exprs_of found))
 
     -- Name "[" Expr "]"
     abbrev pub index : Part ExprTree
     index = do
-      m ← name version
+      m ← name edition
       key ← bracketed
       pure (e.Index m.at m.text key)
 
     -- Name "." Name "[" Expr "]"
     abbrev pub above_index : Part ExprTree
     above_index = do
-      c ← name version
+      c ← name edition
       f ← field
       key ← bracketed
       pure (e.AboveIndex c.at c.text f.text key)
@@ -120,7 +120,7 @@ module _ (version : Version) where
     -- Name "[" Expr "]" "." Name "(" Args ")"
     abbrev pub child_call : Part ExprTree
     child_call = do
-      c ← name version
+      c ← name edition
       key ← bracketed
       f ← field
       found ← arguments

@@ -7,7 +7,7 @@ use Rattle.mace_ast.specs.declared.stmt.Target.{Target}
 use Rattle.mace_ast.specs.Stmts as st
 use Rattle.mace_ast.specs.Stmts.{StmtTree, stmts_of, else_of}
 use Rattle.mace_grammar.specs.Part.{Part, pure, ◌>>=◌, ◌>>◌, ◌or◌, many, maybe, deep}
-use Rattle.mace_grammar.specs.Words.{Version, key, sign, name, leave, finish, text}
+use Rattle.mace_grammar.specs.Words.{Edition, key, sign, name, leave, finish, text}
 use Rattle.mace_grammar.specs.Grammar.Exprs.{any_expr, any_arguments, any_key, field}
 
 -- x, or C.f with its class above
@@ -15,14 +15,14 @@ abbrev pub target : Name → Option Name → Target
 target x None = record { above = None; name = x.text }
 target c (Some f) = record { above = Some c.text; name = f.text }
 
-module _ (version : Version) where
+module _ (edition : Edition) where
   -- "let" Name "=" Expr ";"
   abbrev pub let_stmt : Part StmtTree
   let_stmt = do
     at ← key k.Let
-    n ← name version
+    n ← name edition
     sign s.Equals
-    value ← any_expr version
+    value ← any_expr edition
     sign s.Semicolon
     pure (st.Let at n value)
 
@@ -30,7 +30,7 @@ module _ (version : Version) where
   abbrev pub require_stmt : Part StmtTree
   require_stmt = do
     at ← key k.Require
-    test ← any_expr version
+    test ← any_expr edition
     sign s.Semicolon
     pure (st.Require at test)
 
@@ -40,7 +40,7 @@ module _ (version : Version) where
     at ← key k.Send
     label ← text
     sign s.Comma
-    value ← any_expr version
+    value ← any_expr edition
     sign s.Semicolon
     pure (st.Send at label value)
 
@@ -48,8 +48,8 @@ module _ (version : Version) where
   abbrev pub spawn_stmt : Part StmtTree
   spawn_stmt = do
     at ← key k.Spawn
-    n ← name version
-    found ← any_arguments version
+    n ← name edition
+    found ← any_arguments edition
     sign s.Semicolon
     pure (st.Spawn at n.text found)
 
@@ -57,54 +57,54 @@ module _ (version : Version) where
   abbrev pub drop_stmt : Part StmtTree
   drop_stmt = do
     at ← key k.Drop
-    n ← name version
-    inner ← maybe (field version)
-    place ← any_key version
+    n ← name edition
+    inner ← maybe (field edition)
+    place ← any_key edition
     sign s.Semicolon
     pure (st.Cut at (target n inner) place)
 
   -- Name ["." Name] ["[" Expr "]"] "=" Expr ";"
   abbrev pub set_stmt : Part StmtTree
   set_stmt = do
-    n ← name version
-    inner ← maybe (field version)
-    place ← maybe (any_key version)
+    n ← name edition
+    inner ← maybe (field edition)
+    place ← maybe (any_key edition)
     sign s.Equals
-    value ← any_expr version
+    value ← any_expr edition
     sign s.Semicolon
     pure (st.Set n.at (target n inner) place value)
 
   -- Name "(" Args ")" ";"
   abbrev pub call_stmt : Part StmtTree
   call_stmt = do
-    f ← name version
-    found ← any_arguments version
+    f ← name edition
+    found ← any_arguments edition
     sign s.Semicolon
     pure (st.Call f.at f.text found)
 
   -- Name "[" Expr "]" "." Name "(" Args ")" ";"
   abbrev pub child_call_stmt : Part StmtTree
   child_call_stmt = do
-    c ← name version
-    place ← any_key version
-    f ← field version
-    found ← any_arguments version
+    c ← name edition
+    place ← any_key edition
+    f ← field edition
+    found ← any_arguments edition
     sign s.Semicolon
     pure (st.ChildCall c.at c.text place f.text found)
 
   -- "return" [Expr] ";"
   abbrev pub return_stmt : Part StmtTree
   return_stmt = do
-    at ← leave version
-    value ← maybe (any_expr version)
+    at ← leave edition
+    value ← maybe (any_expr edition)
     sign s.Semicolon
     pure (st.Return at value)
 
   -- "finish" [Expr] ";"
   abbrev pub finish_stmt : Part StmtTree
   finish_stmt = do
-    at ← finish version
-    value ← maybe (any_expr version)
+    at ← finish edition
+    value ← maybe (any_expr edition)
     sign s.Semicolon
     pure (st.Finish at value)
 
@@ -121,7 +121,7 @@ module _ (version : Version) where
     abbrev pub if_stmt : Part StmtTree
     if_stmt = do
       at ← key k.If
-      test ← any_expr version
+      test ← any_expr edition
       body ← block
       other ← maybe (key k.Else >> block)
       pure (st.If at test (stmts_of body) (else_of other))
@@ -130,7 +130,7 @@ module _ (version : Version) where
     abbrev pub while_stmt : Part StmtTree
     while_stmt = do
       at ← key k.While
-      test ← any_expr version
+      test ← any_expr edition
       body ← block
       pure (st.While at test (stmts_of body))
 
@@ -138,11 +138,11 @@ module _ (version : Version) where
     abbrev pub for_stmt : Part StmtTree
     for_stmt = do
       at ← key k.For
-      n ← name version
+      n ← name edition
       key k.In
-      low ← any_expr version
+      low ← any_expr edition
       key k.To
-      high ← any_expr version
+      high ← any_expr edition
       body ← block
       pure (st.For at n low high (stmts_of body))
 

@@ -8,6 +8,8 @@ unfoldable pub use Rattle.mace_grammar.specs.inner.Readers.Stmts.{stmts_in, bloc
 use Rattle.std.specs.Prelude.{ℕ, List, [], ◌∷◌, unwrap_or, Option, None}
 use Rattle.wave_base.specs.declared.span.Span.{Span}
 use Rattle.wave_base.specs.declared.value.Kind.{Kind}
+use Rattle.wave_base.specs.declared.version.Version.{Version}
+use Rattle.wave_base.specs.declared.version.Version.TheVariants.{First}
 use Rattle.mace_lexer.specs.declared.token.Token.{Token}
 use Rattle.mace_lexer.specs.declared.keyword.Keyword.{Keyword}
 use Rattle.mace_lexer.specs.declared.keyword.Keyword.TheVariants as k
@@ -23,7 +25,7 @@ use Rattle.mace_grammar.specs.declared.class.TheConstants.{INITIALS}
 use Rattle.mace_grammar.specs.declared.class.Class.{Class}
 use Rattle.mace_grammar.specs.declared.class.Class.TheVariants as class
 use Rattle.mace_grammar.specs.inner.Classes as classes
-use Rattle.mace_grammar.specs.Words.{Version, first, numbered, two_word, initial_word}
+use Rattle.mace_grammar.specs.Words.{Edition, first, edition_of, two_word, initial_word}
 use Rattle.mace_grammar.specs.inner.Run.{Reader, ◌>>=◌, ◌>>◌, give, word, choice, each_of, some, deeper}
 
 unfoldable pub minus_number_at : Reader Initial
@@ -35,9 +37,9 @@ minus_number_at = do
 abbrev pub literal_initial_at : Reader Initial
 literal_initial_at = word (λ t. initial_word t.span t.word)
 
-module _ (version : Version) where
+module _ (edition : Edition) where
   abbrev kind : Token → Class
-  kind = classes.kind version
+  kind = classes.kind edition
 
   -- ---- fields
 
@@ -47,7 +49,7 @@ module _ (version : Version) where
   unfoldable pub var_at : Reader VarDecl
   var_at = do
     at ← key_at k.Var
-    n ← name_at version
+    n ← name_at edition
     sign_at s.Colon
     kind' ← type_at
     sign_at s.Equals
@@ -59,13 +61,13 @@ module _ (version : Version) where
 
   unfoldable pub param_at : Reader Param
   param_at = do
-    n ← name_at version
+    n ← name_at edition
     sign_at s.Colon
     kind' ← type_at
     give (record { name = n; kind = kind' })
 
   unfoldable pub params_at : Reader (List Param)
-  params_at = separated_at version (class.Name ∷ []) param_at
+  params_at = separated_at edition (class.Name ∷ []) param_at
 
   unfoldable pub result_at : Reader (Option Kind)
   result_at = choice kind (if_sign s.Colon) (some (sign_at s.Colon >> type_at)) (give None)
@@ -73,7 +75,7 @@ module _ (version : Version) where
   unfoldable pub last_at : Reader Span → ℕ → Reader LastTree
   last_at keyword n = do
     at ← keyword
-    value ← any_expr_at version n
+    value ← any_expr_at edition n
     sign_at s.Semicolon
     give (record { at = at; value = value })
 
@@ -84,11 +86,11 @@ module _ (version : Version) where
   unfoldable pub method_at : ℕ → Reader MethodTree
   method_at n = do
     at ← key_at k.Method
-    x ← name_at version
+    x ← name_at edition
     ps ← params_at
     kind' ← result_at
     sign_at s.LeftBrace
-    body ← stmts_at version n
+    body ← stmts_at edition n
     end ← maybe_last_at k.Return n
     sign_at s.RightBrace
     give (record { at = at; name = x; params = ps; result = kind'; body = body; last = end })
@@ -96,13 +98,13 @@ module _ (version : Version) where
   unfoldable pub down_at : ℕ → Reader PhaseTree
   down_at n = do
     at ← key_at k.Down
-    c ← name_at version
-    place ← any_key_at version n
-    body ← any_block_at version n
+    c ← name_at edition
+    place ← any_key_at edition n
+    body ← any_block_at edition n
     give (record { at = at; class = c.text; key = place; body = body })
 
   unfoldable pub here_at : ℕ → Reader (Option (List StmtTree))
-  here_at n = choice kind (if_key k.Here) (some (key_at k.Here >> any_block_at version n)) (give None)
+  here_at n = choice kind (if_key k.Here) (some (key_at k.Here >> any_block_at edition n)) (give None)
 
   unfoldable pub phases_at : ℕ → Reader (List PhaseTree)
   phases_at n = each_of kind (if_key k.Down) (down_at n)
@@ -110,7 +112,7 @@ module _ (version : Version) where
   unfoldable pub event_at : ℕ → Reader EventTree
   event_at n = do
     at ← key_at k.Event
-    x ← name_at version
+    x ← name_at edition
     ps ← params_at
     kind' ← result_at
     sign_at s.LeftBrace
@@ -137,7 +139,7 @@ module _ (version : Version) where
   unfoldable pub one_context_at : ℕ → Reader ContextTree → Reader ContextTree
   one_context_at n context = do
     at ← key_at k.Context
-    x ← name_at version
+    x ← name_at edition
     sign_at s.LeftBracket
     key_at k.Int
     sign_at s.RightBracket
@@ -152,25 +154,25 @@ module _ (version : Version) where
   context_at = deeper one_context_at
 
 -- the number of the version
-abbrev pub two_at : Reader ℕ
+abbrev pub two_at : Reader Version
 two_at = word (λ t. two_word t.word)
 
-unfoldable pub version_at : Reader ℕ
-version_at = choice (classes.kind first) (class.Number ∷ []) (some two_at) (give None) >>= (λ number. give (unwrap_or number 1))
+unfoldable pub version_at : Reader Version
+version_at = choice (classes.kind first) (class.Number ∷ []) (some two_at) (give None) >>= (λ number. give (unwrap_or number First))
 
-unfoldable pub members_at : ℕ → ℕ → Span → Name → Reader ServiceTree
-members_at n number at x = do
+unfoldable pub members_at : ℕ → Version → Span → Name → Reader ServiceTree
+members_at n version at x = do
   sign_at s.LeftBrace
-  vars ← vars_at (numbered number)
-  contexts ← contexts_in (numbered number) (context_at (numbered number) n)
-  methods ← methods_at (numbered number) n
-  events ← events_at (numbered number) n
+  vars ← vars_at (edition_of version)
+  contexts ← contexts_in (edition_of version) (context_at (edition_of version) n)
+  methods ← methods_at (edition_of version) n
+  events ← events_at (edition_of version) n
   sign_at s.RightBrace
-  give (record { at = at; name = x; version = number; vars = vars; contexts = contexts; methods = methods; events = events })
+  give (record { at = at; name = x; version = version; vars = vars; contexts = contexts; methods = methods; events = events })
 
 unfoldable pub service_at : ℕ → Reader ServiceTree
 service_at n = do
   at ← key_at k.Service
   x ← name_at first
-  number ← version_at
-  members_at n number at x
+  version ← version_at
+  members_at n version at x

@@ -9,4 +9,4 @@ module _ {A : Type 0} where
   abbrev pub Gives : Result A Refusal → Result A Fault → Type 0
   Gives (Ok x) r = r ≡ Ok x
   Gives (Err (refusal.Fault f)) r = r ≡ Err f
-  Gives (Err refusal.OutOfMemory) r = Unit {0}
+  Gives (Err (refusal.OutOfMemory _)) r = Unit {0}

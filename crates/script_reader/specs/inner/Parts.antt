@@ -1,24 +1,34 @@
 -- The parts of a script line, as its reader finds them.
-use Rattle.std.specs.Prelude.{◌≡◌, ℕ, true, List, [], ◌∷◌, codes}
+use Rattle.std.specs.Prelude.{◌≡◌, ℕ, Bool, true, false, ◌||◌, List, [], ◌∷◌, codes}
 use Rattle.std.specs.List.{list_all}
-use Rattle.wave_base.specs.Names.{is_digits, is_word}
+use Rattle.wave_base.specs.Names.{is_digits, is_word, same_bytes}
+use Rattle.wave_text.specs.Words.{is_whole}
 use Rattle.script_reader.specs.declared.form.Form.{Form}
 use Rattle.script_reader.specs.declared.form.Literal.{Literal}
 use Rattle.script_reader.specs.declared.piece.Piece.{Piece}
-use Rattle.script_reader.specs.declared.piece.Piece.TheVariants.{Run, Open, Close, Comma}
+use Rattle.script_reader.specs.declared.piece.Piece.TheVariants.{Run, Text, Open, Close, Comma}
 use Rattle.script_reader.specs.Forms.{literal_piece, is_literal, literal_pieces, form_word, form_rest, is_form}
 
 pub record IsLiteralPiece (piece : Piece) (literal : Literal) : Type 0 where
   pub piece_is : literal_piece literal ≡ piece
   pub form_is : is_literal literal ≡ true
 
-abbrev pub IsNoLiteralPiece : Piece → Type 0
-IsNoLiteralPiece piece = (literal : Literal) → IsLiteralPiece piece literal → ⊥
+-- a number or a truth value
+abbrev pub is_literal_run : List ℕ → Bool
+is_literal_run bs = is_whole bs || (same_bytes bs (codes "true") || same_bytes bs (codes "false"))
+
+abbrev pub spells_literal : Piece → Bool
+spells_literal (Run bs) = is_literal_run bs
+spells_literal (Text t) = true
+spells_literal _ = false
 
 -- behind an opening parenthesis these pieces are the literals and their end
 pub record AreLiterals (pieces : List Piece) (literals : List Literal) : Type 0 where
   pub pieces_are : literal_pieces literals ≡ pieces
   pub form_is : list_all is_literal literals ≡ true
+
+abbrev pub SpellLiterals : List Piece → Type 0
+SpellLiterals pieces = (literals : List Literal) × AreLiterals pieces literals
 
 abbrev pub AreOnlyLiterals : List Piece → List Literal → Type 0
 AreOnlyLiterals pieces literals = AreLiterals pieces literals × ((others : List Literal) → AreLiterals pieces others → others ≡ literals)

@@ -33,7 +33,7 @@ pub record IsStep (shape : Shape) (line : List ℕ) (before after : Progress) : 
 
 abbrev pub stopped : Refusal → ℕ → ScriptError
 stopped (refusal.Fault f) number = refused f number
-stopped refusal.OutOfMemory number = OutOfMemory
+stopped (refusal.OutOfMemory refused) number = OutOfMemory refused
 
 pub record IsRefused (shape : Shape) (line : List ℕ) (before : Progress) (number : ℕ) (error : ScriptError) : Type 0 where
   pub said : Said
@@ -44,5 +44,5 @@ pub record IsRefused (shape : Shape) (line : List ℕ) (before : Progress) (numb
 
 -- the line is refused; want of memory says nothing
 abbrev pub IsStop : Shape → List ℕ → Progress → ℕ → ScriptError → Type 0
-IsStop shape line before number OutOfMemory = Unit {0}
+IsStop shape line before number (OutOfMemory _) = Unit {0}
 IsStop shape line before number error = IsRefused shape line before number error

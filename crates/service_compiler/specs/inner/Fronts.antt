@@ -1,13 +1,14 @@
--- The code of an event's phases, without what ends it; and of a loop, the way back.
-use Rattle.std.specs.Prelude.{ℕ, ◌+◌, Bool, true, false, List, [], ◌∷◌, ◌++◌, length}
+-- The code of an event's phases, without what ends it; and of loops, the way back, the count and the turns.
+use Rattle.std.specs.Prelude.{ℕ, ◌+◌, Bool, true, false, pos, List, [], ◌∷◌, ◌++◌, length}
 use Rattle.resolved_service.specs.declared.service.Method.{Method}
 use Rattle.resolved_service.specs.declared.service.Phase.{Phase}
-use Rattle.resolved_service.specs.Steps.{steps_in, surely_ends}
+use Rattle.resolved_service.specs.Meaning.{row_add}
+use Rattle.resolved_service.specs.Steps.{Steps, steps_in, surely_ends}
 use Rattle.resolved_service.specs.View.{tree_of}
 use Rattle.wave_base.specs.declared.span.Span.{Span}
 use Rattle.service_code.specs.declared.instr.Instr.TheVariants as i
 use Rattle.code_scheme.specs.declared.line.Line.{Line}
-use Rattle.code_scheme.specs.Scheme.{line, tree_code, steps_code}
+use Rattle.code_scheme.specs.Scheme.{line, test_code, turn_code, while_code, block_at, tree_code, steps_code}
 use Rattle.code_scheme.specs.Texts.{Text}
 
 module _ (methods : List Method) (texts : List Text) where
@@ -20,6 +21,12 @@ module _ (methods : List Method) (texts : List Text) where
   phases_front n [] = []
   phases_front n (f ∷ fs) = phase_code n f ++ phases_front (n + length (phase_code n f)) fs
 
+  -- a loop over numbers, behind its bounds
+  abbrev pub loop_code : ℕ → ℕ → Span → Steps → List Line
+  loop_code n counter at body =
+      let ended = surely_ends body in
+      while_code n at (test_code counter at) ended (turn_code counter at ended (steps_code methods texts (block_at n) body))
+
 -- whether the last phase surely ends
 abbrev pub ended_behind : Bool → List Phase → Bool
 ended_behind ended [] = ended
@@ -29,3 +36,7 @@ ended_behind ended (f ∷ fs) = ended_behind (surely_ends (steps_in f.body)) fs
 abbrev pub back_code : Bool → ℕ → Span → List Line
 back_code true n at = []
 back_code false n at = line (i.Jump n) at ∷ []
+
+-- how a loop over numbers counts on
+abbrev pub next_code : ℕ → Span → List Line
+next_code counter at = line (i.Load counter) at ∷ line (i.PushInt (pos 1)) at ∷ line (i.Op row_add) at ∷ line (i.Store counter) at ∷ []

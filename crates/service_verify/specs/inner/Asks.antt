@@ -43,7 +43,7 @@ Has o r result = MatchResult result (λ u. IsSome o) (λ e. (e ≡ r) × (o ≡ 
 abbrev pub Judges : {A : Type 0} → Judged A → A → Result (Unit {0}) Refusal → Type 0
 Judges judged new (Ok u) = judged ≡ Ok new
 Judges judged new (Err (Broken r)) = judged ≡ Err r
-Judges judged new (Err OutOfMemory) = Unit {0}
+Judges judged new (Err (OutOfMemory _)) = Unit {0}
 
 -- the same, where no memory is taken
 abbrev pub Leaves : {A : Type 0} → Judged A → A → Result (Unit {0}) Rule → Type 0
@@ -53,4 +53,4 @@ Leaves judged new (Err r) = judged ≡ Err r
 -- no earlier instruction reached this one, or memory was wanting
 abbrev pub IsUnreached : {A : Type 0} → List (Option A) → ℕ → Refusal → Type 0
 IsUnreached {A} table n (Broken r) = (r ≡ rule.Jump) × ((p : A) → slice_get table n ≡ Some (Some p) → ⊥)
-IsUnreached table n OutOfMemory = Unit {0}
+IsUnreached table n (OutOfMemory _) = Unit {0}

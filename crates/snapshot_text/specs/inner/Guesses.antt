@@ -1,10 +1,7 @@
 -- What a reader takes a part of a line for: where the part is written so, it can be nothing else.
-use Rattle.std.specs.Prelude.{◌≡◌, ◌≤◌, ℕ, ℤ, Bool, true, false, if◌then◌else◌, List, [], ◌∷◌, ◌++◌, length, map, Option, Some, None, FitsSigned, All, codes}
+use Rattle.std.specs.Prelude.{◌≡◌, ℕ, ℤ, Bool, true, false, if◌then◌else◌, List, [], ◌∷◌, ◌++◌, length, map, Option, Some, None, FitsSigned, All, codes}
 use Rattle.std.specs.Int.{w64}
 use Rattle.std.specs.Fmt.{signed_decimal}
-use Rattle.wave_base.specs.declared.limits.TheConstants.{CLASS_DEPTH}
-use Rattle.wave_base.specs.declared.path.Path.{Path}
-use Rattle.wave_base.specs.declared.path.Step.{Step}
 use Rattle.wave_base.specs.declared.shape.FieldInfo.{FieldInfo}
 use Rattle.wave_base.specs.declared.shape.Shape.{Shape}
 use Rattle.wave_base.specs.declared.shot.Shot.{Shot}
@@ -12,10 +9,8 @@ use Rattle.wave_base.specs.declared.value.Kind.{Kind}
 use Rattle.wave_base.specs.declared.value.Value.{Value}
 use Rattle.wave_base.specs.declared.value.Value.TheVariants as value
 use Rattle.wave_base.specs.Names.{same_bytes}
-use Rattle.wave_base.specs.Shapes.{is_path}
 use Rattle.wave_base.specs.Values.{kind_of}
 use Rattle.wave_text.specs.ValueTexts.{value_text, pair_text, pairs_text}
-use Rattle.path_text.specs.PathTexts.{path_text}
 use Rattle.path_text.specs.ShotTexts.{fields_text}
 use Rattle.snapshot_text.specs.Shots.{IsValue}
 use Rattle.snapshot_text.specs.Verdicts.{IsLineOf}
@@ -74,14 +69,6 @@ abbrev pub AreValuesOf : List FieldInfo → List ℕ → Option (List Value) →
 AreValuesOf fields text o = (vs : List Value) → AreGoodFor fields vs → text ≡ behind_first (fields_text fields vs) → o ≡ Some vs
 
 -- ---- shots
-
-pub record IsPath (shape : Shape) (p : Path) : Type 0 where
-  pub path : is_path shape p ≡ true
-  pub short : length p ≤ CLASS_DEPTH
-  pub keys : All (λ (t : Step). FitsSigned w64 t.key) p
-
-abbrev pub IsPathOf : Shape → List ℕ → Option Path → Type 0
-IsPathOf shape text o = (p : Path) → IsPath shape p → text ≡ path_text shape p → o ≡ Some p
 
 abbrev pub IsShotOf : Shape → List ℕ → Option Shot → Type 0
 IsShotOf shape line o = (s : Shot) → IsLineOf shape line s → o ≡ Some s

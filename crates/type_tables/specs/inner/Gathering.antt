@@ -1,5 +1,5 @@
 -- What was gathered so far, and what more declarations add.
-use Rattle.std.specs.Prelude.{◌≡◌, ◌++◌, List, map, length}
+use Rattle.std.specs.Prelude.{◌≡◌, ◌++◌, ◌+◌, ◌<◌, ◌^◌, ℕ, List, map, length}
 use Rattle.wave_base.specs.declared.shape.EventInfo.{EventInfo}
 use Rattle.type_rules.specs.declared.known.Known.{Known}
 use Rattle.type_rules.specs.declared.known.Signature.{Signature}
@@ -14,6 +14,12 @@ known_in g = record { version = g.version; shape = record { classes = g.classes.
 pub record IsGathered (g : Gathered) : Type 0 where
   pub indexed : IsIndexed (known_in g) g.class_names g.event_names g.method_names.items
   pub tables : length g.method_names.items ≡ length g.classes.items
+  pub aboves : length g.above.items ≡ length g.classes.items
+
+-- there are numbers of 16 bits for so many more classes and methods
+pub record HasRoom (g : Gathered) (more_classes more_methods : ℕ) : Type 0 where
+  pub classes : length g.classes.items + more_classes < 2 ^ 16
+  pub methods : length g.methods.items + more_methods < 2 ^ 16
 
 -- so many more classes, methods and events
 abbrev pub grown : Known → List Entry → List Signature → List EventInfo → Known

@@ -1,4 +1,4 @@
-use Rattle.std.proofs.Common.{◌≡◌, ◌≢◌, ◌∙◌, map, true, false}
+use Rattle.std.proofs.Common.{◌≢◌, ◌∙◌, map}
 use Rattle.clap.specs.Words.{app_of, found_of, kind_of, rows_of}
 use Rattle.clap.specs.declared.error.kind.ErrorKind.TheVariants.{OutOfMemory}
 use Rattle.command_words.proofs.ReadingLemmas.{read_ok, read_err}
@@ -9,12 +9,7 @@ returns-in-Ok c =
     c.asked_by.ensures ∙ read_ok (app_of c.in_ok-command_line.field-0) (map (λ w. w.now) c.args.words.now) (rows_of (found_of c.in-Ok.matches)) c.in_ok-command_line.ensures
     c.in-Ok.ensures.kinds (λ s. (c.in-Ok.ensures.matches s).0)
 
-pub returns-in-Err-2 : goal.returns-in-Err-2
-returns-in-Err-2 c =
-    let h = c.eq.ensures in
-    let other : kind_of c.in-Err.error ≢ OutOfMemory = λ e.
-    let here : c.kind.result ≡ OutOfMemory = c.kind.ensures ∙ e in
-    let hit : c.eq.result ≡ true = rw here at h in
-    let missed : c.eq.result ≡ false = c.if-eq.false in
-    cc in
+pub returns : goal.returns
+returns c =
+    let other : kind_of c.in-Err.error ≢ OutOfMemory = λ e. cc (c.in-None.ensures.1 (c.kind.ensures ∙ e)) in
     read_err (app_of c.in_ok-command_line.field-0) (map (λ w. w.now) c.args.words.now) (kind_of c.in-Err.error) c.in_ok-command_line.ensures other c.in-Err.ensures.kinds

@@ -1,17 +1,30 @@
-use Rattle.std.proofs.Common.{map, sym, ap, subst, ◌∙◌}
-use Rattle.std.specs.Option.{option_map}
+use Rattle.std.proofs.Common.{◌≡◌, map, sym, ap, subst, ◌∙◌}
+use Rattle.std.specs.Option.{option_map, option_map_or}
 use Rattle.std.proofs.lemmas.Result.{err_from_is_err_and}
 use Rattle.mace_ast.specs.Decls.{event_tree, phase_tree}
+use Rattle.mace_ast.specs.Stmts.{stmt_tree, stmts_of, no_stmts}
 use Rattle.resolved_service.specs.Steps.{steps_in, surely_ends}
 use Rattle.type_rules.specs.Demands.{first_wrong, Fails}
 use Rattle.type_rules.specs.Known.{none_before}
-use Rattle.type_rules.specs.Here.{OfEvent, start}
+use Rattle.type_rules.specs.Here.{Here, OfEvent, start}
 use Rattle.type_rules.specs.Functions.{after_params, event_params_demands, phases_demands, event_end, ended_behind, resolve_phases, event_demands}
 use Rattle.type_rules.specs.Views.{last_view, phase_view}
+use Rattle.context_types.specs.inner.Judged.{AllFew}
 use Rattle.context_types.specs.inner.Places.{here_of}
 use Rattle.context_types.proofs.Exits.{exit}
 use Rattle.context_types.proofs.FunctionArms.{event_taken, event_params_fail, first_fails, phases_fail, reply_fails, event_holds, event_made}
+use Rattle.context_types.proofs.Staying.{params_stay, stmts_stay}
 use Rattle.context_types.proofs.functions.event.Goals as goal
+
+pub phases-requires : goal.phases-requires
+phases-requires c =
+    let begins = here_of c.start-here.result in
+    let h = here_of c.event_params.new.self in
+    let ss = option_map_or stmts_of (option_map (map stmt_tree) c.args.e.now.here) no_stmts in
+    let begun : h.known ≡ c.args.tables.now =
+    ap (λ (g : Here). g.known) (sym c.in_ok-event_params.ensures.1) ∙ params_stay begins c.as_slice.result.now ∙ ap (λ (g : Here). g.known) c.start-here.ensures in
+    let first = ap (λ (g : Here). g.known) (sym c.in_ok-first.ensures.1.here) ∙ stmts_stay h ss ∙ begun in
+    subst AllFew (sym first) c.requires
 
 pub returns-then-not-none_before : goal.returns-then-not-none_before
 returns-then-not-none_before c =

@@ -1,20 +1,52 @@
-use Rattle.std.proofs.Common.{ℕ, ◌≡◌, ◌+◌, ◌++◌, length, map, take, sym, ap, subst, ◌∙◌, append_assoc, arith}
+use Rattle.std.proofs.Common.{ℕ, ◌≡◌, ◌+◌, ◌<◌, ◌++◌, length, map, take, sym, ap, subst, ◌∙◌, append_assoc, arith, rules}
 use Rattle.std.proofs.lemmas.List.{take_all}
 use Rattle.std.proofs.lemmas.Result.{err_from_is_err_and}
-use Rattle.mace_ast.specs.declared.context.ContextDecl.{out-ContextDecl}
-use Rattle.mace_ast.specs.Decls.{context_tree, contexts_of, method_tree}
+use Rattle.mace_ast.specs.declared.context.ContextDecl.{out-ContextDecl, the_lemmas}
+use Rattle.mace_ast.specs.Decls.{Context, context_tree, contexts_of, method_tree}
 use Rattle.type_rules.specs.Demands.{first_wrong, Fails}
-use Rattle.type_rules.specs.Known.{class_count, classes_count, methods_in}
+use Rattle.type_rules.specs.Known.{methods_in}
+use Rattle.mace_ast.specs.Counts.{class_count, classes_count}
 use Rattle.type_rules.specs.Services.{context_demands, contexts_demands, methods_demands, fields_demands, resolve_context, resolve_contexts, resolve_methods}
 use Rattle.type_rules.specs.Views.{method_view}
 use Rattle.type_rules.proofs.First.{fails_same}
 use Rattle.type_tables.proofs.Gathers.{tree_parts}
+use Rattle.type_tables.proofs.Rooms.{some_class}
+use Rattle.context_types.specs.inner.Judged.{FewFields, StandsAt}
 use Rattle.context_types.proofs.Exits.{exit}
+use Rattle.context_types.proofs.Judged.{class_judged, context_judged, stands_next, room_next}
 use Rattle.context_types.proofs.ServiceArms.{next_context, context_asks, context_made, joined, contexts_walk, contexts_made, contexts_made_more, count_context, count_contexts, class_at, name_fails, fields_fail, inside_fails, own_fails, parts_hold}
 use Rattle.context_types.proofs.Walking.{walk, ends_more, walk_more, walk_fails, walk_whole, makes}
 use Rattle.context_types.proofs.service.+context.Goals as goal
 
 -- ---- a context
+
+pub context-overflow_add-class : goal.context-overflow_add-class
+context-overflow_add-class t c =
+    let some = some_class (context_tree c.args.c.now) in
+    let room = c.requires.room in
+    omega arith
+
+pub context-contexts-requires : goal.context-contexts-requires
+context-contexts-requires t c =
+    let known = c.args.tables.now in
+    let class = c.args.class in
+    let d = out-ContextDecl c.args.c.now in
+    let given = c.deref.result.now in
+    let parts = tree_parts c.args.c.now ∙ ap (λ ds. Context d.at d.name d.vars (contexts_of (map context_tree ds)) (map method_tree d.methods)) (sym c.deref.ensures.value) in
+    let there = subst (StandsAt known.shape class) parts c.requires.there in
+    let fields = ap (λ fs. first_wrong (fields_demands known class 0 fs)) (sym c.as_slice.ensures) ∙ c.in_ok-fields.ensures.0 in
+    let count = ap class_count parts in
+    let few = c.requires.room in
+    let room : class + 1 + classes_count (contexts_of (map context_tree given)) < 65536 = omega arith in
+    (search (rules, the_lemmas), (room, (there.1, class_judged known class d.vars there.0 fields c.requires.few)))
+
+pub context-methods-requires : goal.context-methods-requires
+context-methods-requires t c =
+    let known = c.args.tables.now in
+    let class = c.args.class in
+    let there = subst (StandsAt known.shape class) (tree_parts c.args.c.now) c.requires.there in
+    let fields = ap (λ fs. first_wrong (fields_demands known class 0 fs)) (sym c.as_slice.ensures) ∙ c.in_ok-fields.ensures.0 in
+    class_judged known class (out-ContextDecl c.args.c.now).vars there.0 fields c.requires.few
 
 pub context-returns-in_err-class_name : goal.context-returns-in_err-class_name
 context-returns-in_err-class_name t c =
@@ -111,6 +143,21 @@ context-returns t c =
 
 -- ---- contexts one after the other
 
+pub contexts-context-requires : goal.contexts-context-requires
+contexts-context-requires t c =
+    let known = c.args.tables.now in
+    let at : ℕ × ℕ = (c.args.first, length c.args.made.now.items) in
+    let cs = c.args.decls.now in
+    let i = c.each.c-index in
+    let is = c.each.invariant in
+    let x = c.c-item.result in
+    let number = ap (λ p. p.0) is.place in
+    let next = room_next at cs i x c.each-test.true c.c-item.is in
+    let few = c.requires.room in
+    let room : c.each.next + class_count (context_tree x) < 65536 = omega arith in
+    let there = subst (λ n. StandsAt known.shape n (context_tree x)) number (stands_next known.shape at cs i x c.each-test.true c.c-item.is c.requires.there) in
+    (search (rules, the_lemmas), (room, (there, is.few)))
+
 pub contexts-returns-in_err-next : goal.contexts-returns-in_err-next
 contexts-returns-in_err-next t c =
     let known = c.args.tables.now in
@@ -137,11 +184,13 @@ contexts-each-preserved t c =
     let x = c.c-item.result in
     let ok = c.in_ok-next.ensures in
     let count = count_context known c.each.next (length c.each.made.items) (context_tree x) c.each.made.items c.context.new.made.items ok.1.1 in
+    let there = subst (λ n. StandsAt known.shape n (context_tree x)) (ap (λ p. p.0) is.place) (stands_next known.shape at cs i x c.each-test.true c.c-item.is c.requires.there) in
     record {
       holds = walk_more next_context (context_asks known) at cs i x c.each-test.true c.c-item.is is.holds (ap (λ p. first_wrong (context_asks known p x)) is.place ∙ ok.0);
       place = ends_more next_context at cs i x c.each-test.true c.c-item.is ∙ ap (λ p. next_context p x) is.place ∙ (λ j. (sym ok.1.0 j, sym count j));
       made = contexts_made_more known at cs i x (map method_view c.args.made.now.items) (map method_view c.each.made.items) (map method_view c.context.new.made.items) c.each-test.true c.c-item.is is.made
           (ok.1.1 ∙ ap (λ p. map method_view c.each.made.items ++ context_made known p x) (sym is.place));
+      few = subst (FewFields known) (sym ok.1.0) (context_judged known c.each.next (length c.each.made.items) (context_tree x) there ok.0 is.few);
     }
 
 pub contexts-returns : goal.contexts-returns

@@ -1,15 +1,49 @@
-use Rattle.std.proofs.Common.{◌≡◌, ◌++◌, [], length, map, sym, ap, subst, ◌∙◌, arith}
+use Rattle.std.proofs.Common.{◌≡◌, ◌+◌, ◌<◌, ◌++◌, [], length, map, sym, ap, subst, ◌∙◌, arith}
 use Rattle.std.proofs.lemmas.Result.{err_from_is_err_and}
+use Rattle.mace_ast.specs.Counts.{classes_count}
 use Rattle.mace_ast.specs.Decls.{context_tree, contexts_of, method_tree, event_tree, service_tree}
 use Rattle.type_rules.specs.Demands.{first_wrong, Fails}
 use Rattle.type_rules.specs.Known.{methods_in}
 use Rattle.type_rules.specs.Functions.{resolve_event}
 use Rattle.type_rules.specs.Services.{name_asks, fields_demands, contexts_demands, methods_demands, events_demands, demands_with, resolve_contexts, resolve_methods}
 use Rattle.type_rules.specs.Views.{method_view, event_view}
+use Rattle.context_types.specs.inner.Judged.{StandAt}
 use Rattle.context_types.proofs.Exits.{exit}
+use Rattle.context_types.proofs.Judged.{class_judged, contexts_judged, service_stands, root_stands, all_judged}
 use Rattle.context_types.proofs.ServiceArms.{count_contexts}
 use Rattle.context_types.proofs.Whole.{second_fails, third_fails, fourth_fails, fifth_fails, five_hold}
 use Rattle.context_types.proofs.service.all.Goals as goal
+
+pub contexts-requires-clause-room : goal.contexts-requires-clause-room
+contexts-requires-clause-room c = subst (λ cs. 1 + classes_count (contexts_of (map context_tree cs)) < 65536) (sym c.as_slice-2.ensures) c.requires.few.classes
+
+pub contexts-requires-clause-there : goal.contexts-requires-clause-there
+contexts-requires-clause-there c =
+    let s = service_tree c.args.service.now in
+    subst (λ cs. StandAt c.args.tables.now.shape 1 (contexts_of (map context_tree cs))) (sym c.as_slice-2.ensures) (service_stands s c.args.tables.now c.requires.known)
+
+pub contexts-requires-clause-few : goal.contexts-requires-clause-few
+contexts-requires-clause-few c =
+    let known = c.args.tables.now in
+    let s = service_tree c.args.service.now in
+    let fields = ap (λ fs. first_wrong (fields_demands known 0 0 fs)) (sym c.as_slice.ensures) ∙ c.in_ok-fields.ensures.0 in
+    class_judged known 0 s.vars (root_stands s known c.requires.known) fields (λ n l. absurd (omega arith))
+
+pub methods-requires : goal.methods-requires
+methods-requires c =
+    let known = c.args.tables.now in
+    let s = service_tree c.args.service.now in
+    let fields = ap (λ fs. first_wrong (fields_demands known 0 0 fs)) (sym c.as_slice.ensures) ∙ c.in_ok-fields.ensures.0 in
+    class_judged known 0 s.vars (root_stands s known c.requires.known) fields (λ n l. absurd (omega arith))
+
+pub events-requires : goal.events-requires
+events-requires c =
+    let known = c.args.tables.now in
+    let s = service_tree c.args.service.now in
+    let fields = ap (λ fs. first_wrong (fields_demands known 0 0 fs)) (sym c.as_slice.ensures) ∙ c.in_ok-fields.ensures.0 in
+    let root = class_judged known 0 s.vars (root_stands s known c.requires.known) fields (λ n l. absurd (omega arith)) in
+    let inner = (λ i. first_wrong (contexts_demands known 1 (length c.new-made.result.items) (contexts_of (map context_tree (sym c.as_slice-2.ensures i))))) ∙ c.in_ok-contexts.ensures.0 in
+    all_judged s known c.requires.known (contexts_judged known 1 (length c.new-made.result.items) (contexts_of s.contexts) (service_stands s known c.requires.known) inner root)
 
 pub returns-in_err-fields : goal.returns-in_err-fields
 returns-in_err-fields c =

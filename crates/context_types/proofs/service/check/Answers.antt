@@ -3,7 +3,7 @@ use Rattle.std.proofs.lemmas.Result.{err_from_is_err_and}
 use Rattle.mace_ast.specs.Decls.{service_tree}
 use Rattle.type_rules.specs.Services.{service_demands}
 use Rattle.type_rules.specs.Views.{resolved_view}
-use Rattle.context_types.proofs.Checked.{told, fails_alike, shape_is, resolved_is, is_typed, is_shape, differs, service_fits}
+use Rattle.context_types.proofs.Checked.{told, fails_alike, shape_is, resolved_is, is_typed, is_shape, differs, service_fits, few_functions}
 use Rattle.context_types.proofs.service.check.Goals as goal
 
 pub returns-in_err-resolved-clause-err : goal.returns-in_err-resolved-clause-err
@@ -59,3 +59,6 @@ returns-clause-fits c =
     let is = c.in_ok-tables.ensures.known in
     let made = c.in_ok-resolved.ensures in
     service_fits s known is made.0 c.into_shape-shape.result c.in_ok-resolved.resolved c.into_shape-shape.ensures made.1
+
+pub returns-clause-few : goal.returns-clause-few
+returns-clause-few c = few_functions (service_tree c.args.service) c.in_ok-tables.tables c.in_ok-resolved.resolved c.requires.few c.in_ok-resolved.ensures.1

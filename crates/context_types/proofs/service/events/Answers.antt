@@ -31,7 +31,7 @@ loop-i-preserved c =
     let is = c.loop-i.invariant in
     record {
       holds = walk_more next_number (event_asks known) 0 es i e c.loop-i-test.true c.index-decls-i.is is.holds (ap (λ k. first_wrong (event_asks known k e)) (at_number es i c.loop-i-test.true) ∙ c.in_ok-e.ensures.0);
-      made = made_more next_number (event_made known) event_view 0 es i e c.loop-i.made.items c.push.new.self.items c.in_ok-e.e c.loop-i-test.true c.index-decls-i.is is.made c.in_ok-e.ensures.1 c.in_ok-push.ensures.items;
+      made = made_more next_number (event_made known) event_view 0 es i e c.loop-i.made.items c.push.new.items.items c.in_ok-e.e c.loop-i-test.true c.index-decls-i.is is.made c.in_ok-e.ensures.1 c.in_ok-push.ensures.items;
     }
 
 pub returns : goal.returns

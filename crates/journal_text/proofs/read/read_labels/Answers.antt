@@ -39,7 +39,7 @@ loop-rest-preserved c =
     let below : length c.loop-rest.labels + 1 < 2 ^ 64 = omega (arith, c.loop-rest.invariant.number) in
     let only : IsOnlyLine c.args.classes.now (length c.loop-rest.labels + 1) c.in-Some.line.now c.in-Some-2.field-0 =
     subst (λ n. IsOnlyLine c.args.classes.now n c.in-Some.line.now c.in-Some-2.field-0) at (subst (λ o. IfSome o (IsOnlyLine c.args.classes.now c.from.result c.in-Some.line.now)) c.in-Some-2.is c.in_ok-worker.ensures.some) in
-    let added : c.loop-rest.labels ++ c.in-Some-2.field-0 ∷ [] ≡ c.add.new.labels = ap (λ x. c.loop-rest.labels ++ x ∷ []) c.in-Some-2.field-0-is ∙ sym c.in_ok-add.ensures in
+    let added : c.loop-rest.labels ++ c.in-Some-2.field-0 ∷ [] ≡ c.add.new.self = ap (λ x. c.loop-rest.labels ++ x ∷ []) c.in-Some-2.field-0-is ∙ sym c.in_ok-add.ensures.ok in
     let read = line_read c.args.classes.now c.args.tail.now c.loop-rest.labels c.loop-rest.rest.now c.requires.names c.loop-rest.invariant.read c.in-Some.line.now c.in-Some.after.now c.in-Some-2.field-0 below c.in-Some.ensures.some only in
     record {
       read = subst (λ (ls : List Label). AreReadTo c.args.classes.now c.args.tail.now ls c.in-Some.after.now) added read;

@@ -1,5 +1,4 @@
-use Rattle.std.proofs.Common.{◌≡◌, ◌∙◌, ℕ, suc, ◌<◌, Result, Ok, Err, List, [], ◌∷◌, length, slice_index_or, refl, sym, subst, rules, arith}
-use Rattle.std.specs.Prelude.{IfOk}
+use Rattle.std.proofs.Common.{◌≡◌, ◌∙◌, ℕ, suc, ◌<◌, List, [], ◌∷◌, length, slice_index_or, refl, sym, subst, rules, arith}
 use Rattle.std.specs.List.{AllZip}
 use Rattle.lock_counter.specs.Jobs.{IsDone}
 use Rattle.lock_counter.proofs.many.run_all.Goals as goal
@@ -11,13 +10,10 @@ each_zip R [] (y ∷ ys) same each = absurd (omega arith)
 each_zip R (x ∷ xs) [] same each = absurd (omega arith)
 each_zip R (x ∷ xs) (y ∷ ys) same each = (each 0 x y (omega arith) refl, each_zip R xs ys (omega arith) (λ i z d lt is. each (suc i) z d (omega arith) is))
 
-both_ok : {T E : Type 0} → (r : Result T E) (P Q R : T → Type 0) → IfOk r P → IfOk r Q → ((v : T) → P v → Q v → R v) → IfOk r R
-both_ok (Ok v) P Q R p q f = f v p q
-both_ok (Err e) P Q R p q f = tt
-
 pub returns : goal.returns
-returns g c = both_ok c.map_vec.result _ _ _ c.map_vec.ensures.len c.map_vec.ensures.each (λ v len each.
+returns g c =
+    let v = c.in_ok-map_vec.field-0 in
     let same : length v.items ≡ length c.args.turns.items = search rules in
     each_zip (λ turn done. IsDone turn.job done) c.args.turns.items v.items same (λ i x d lt is.
-    let e = (each i d lt).1 in
-    subst (λ t. IsDone t.job (slice_index_or v.items i d)) (sym (is ∙ e.job_is x)) e.call.met))
+    let e = (c.in_ok-map_vec.ensures.each i d lt).1 in
+    subst (λ t. IsDone t.job (slice_index_or v.items i d)) (sym (is ∙ e.job_is x)) e.call.met)

@@ -12,7 +12,7 @@ use Rattle.mace_ast.specs.Exprs.{ExprTree, exprs_of}
 use Rattle.mace_grammar.specs.declared.class.TheConstants.{COMPARISON_OPS, EXPR_STARTS, INITIALS, PRODUCT_OPS, SUM_OPS, UNARY_OPS}
 use Rattle.mace_grammar.specs.declared.class.Class.{Class}
 use Rattle.mace_grammar.specs.inner.Classes as classes
-use Rattle.mace_grammar.specs.Words.{Version, literal_word, or_op, and_op, comparison_op, sum_op, product_op, op_word, unary_word}
+use Rattle.mace_grammar.specs.Words.{Edition, literal_word, or_op, and_op, comparison_op, sum_op, product_op, op_word, unary_word}
 use Rattle.mace_grammar.specs.Grammar.{joined}
 use Rattle.mace_grammar.specs.inner.Run.{Reader, ◌>>=◌, ◌>>◌, give, word, choice, each, deeper}
 use Rattle.mace_grammar.specs.inner.Readers.Tokens.{sign_at, if_sign, name_at, field_at, separated_at}
@@ -56,9 +56,9 @@ operand_at operator item = do
 
 -- ---- what a version changes, and what is made of it
 
-module _ (version : Version) where
+module _ (edition : Edition) where
   abbrev kind : Token → Class
-  kind = classes.kind version
+  kind = classes.kind edition
 
   -- at most so many operands more
   unfoldable pub operands_at : ℕ → Reader ExprTree → ℕ → ExprTree → Reader ExprTree
@@ -73,7 +73,7 @@ module _ (version : Version) where
     expr_at = level_at 5
 
     unfoldable pub arguments_at : Reader (List ExprTree)
-    arguments_at = separated_at version EXPR_STARTS expr_at
+    arguments_at = separated_at edition EXPR_STARTS expr_at
 
     unfoldable pub bracketed_at : Reader ExprTree
     bracketed_at = do
@@ -97,12 +97,12 @@ module _ (version : Version) where
 
     unfoldable pub above_at : Name → Reader ExprTree
     above_at c = do
-      f ← field_at version
+      f ← field_at edition
       choice kind (if_sign s.LeftBracket) (do key ← bracketed_at; give (e.AboveIndex c.at c.text f.text key)) (give (e.Above c.at c.text f.text))
 
     unfoldable pub child_call_at : Name → ExprTree → Reader ExprTree
     child_call_at c key = do
-      f ← field_at version
+      f ← field_at edition
       found ← arguments_at
       give (e.ChildCall c.at c.text key f.text (exprs_of found))
 
@@ -113,7 +113,7 @@ module _ (version : Version) where
 
     unfoldable pub named_at : Reader ExprTree
     named_at = do
-      n ← name_at version
+      n ← name_at edition
       choice kind (if_sign s.LeftParen) (call_at n) (choice kind (if_sign s.Dot) (above_at n) (choice kind (if_sign s.LeftBracket) (index_at n) (give (e.Read n.at n.text))))
 
     unfoldable pub primary_at : Reader ExprTree

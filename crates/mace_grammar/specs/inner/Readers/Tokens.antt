@@ -10,7 +10,7 @@ use Rattle.mace_ast.specs.declared.name.Name.{Name}
 use Rattle.mace_grammar.specs.declared.class.Class.{Class}
 use Rattle.mace_grammar.specs.declared.class.Class.TheVariants as class
 use Rattle.mace_grammar.specs.inner.Classes as classes
-use Rattle.mace_grammar.specs.Words.{Version, key_word, sign_word, name_word, leave_word, finish_word, number_word, text_word, kind_word}
+use Rattle.mace_grammar.specs.Words.{Edition, key_word, sign_word, name_word, leave_word, finish_word, number_word, text_word, kind_word}
 use Rattle.mace_grammar.specs.inner.Run.{Reader, ◌>>=◌, ◌>>◌, give, word, choice, each_of, some}
 
 abbrev pub key_at : Keyword → Reader Span
@@ -37,20 +37,20 @@ if_key want = class.Key want ∷ []
 
 -- ---- what a version changes
 
-module _ (version : Version) where
+module _ (edition : Edition) where
   abbrev kind : Token → Class
-  kind = classes.kind version
+  kind = classes.kind edition
 
   abbrev pub name_at : Reader Name
-  name_at = word (λ t. name_word version t.span t.word)
+  name_at = word (λ t. name_word edition t.span t.word)
 
   -- the keyword `return` as a statement
   abbrev pub leave_at : Reader Span
-  leave_at = word (λ t. leave_word version t.span t.word)
+  leave_at = word (λ t. leave_word edition t.span t.word)
 
   -- the word `finish`
   abbrev pub finish_at : Reader Span
-  finish_at = word (λ t. finish_word version t.span t.word)
+  finish_at = word (λ t. finish_word edition t.span t.word)
 
   -- ---- lists with commas
 

@@ -1,6 +1,6 @@
 use Rattle.std.proofs.Common.{◌≡◌, suc, ◌-◌, ◌≤◌, All, ◌∷◌, ◌++◌, length, drop}
 use Rattle.wave_base.specs.Text.{IsPrintable}
-use Rattle.mace_lexer.specs.Texts.{escaped}
+use Rattle.wave_base.specs.Text.{escaped}
 use Rattle.mace_lexer.proofs.quoted.body.Given as goal
 
 abbrev pub invariant-loop-b : goal.invariant-loop-b

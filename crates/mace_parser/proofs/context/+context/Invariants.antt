@@ -1,7 +1,7 @@
 use Rattle.std.proofs.Common.{◌≡◌, ◌+◌, ◌*◌, map, length}
 use Rattle.mace_lexer.specs.declared.keyword.Keyword.TheVariants as k
 use Rattle.mace_ast.specs.Decls.{context_tree}
-use Rattle.mace_grammar.specs.Words.{numbered}
+use Rattle.mace_grammar.specs.Words.{edition_of}
 use Rattle.mace_grammar.specs.inner.Readers as reader
 use Rattle.mace_parser.proofs.Turns.{list_from}
 use Rattle.mace_parser.proofs.context.+context.Given as goal
@@ -13,7 +13,7 @@ abbrev pub decreases-contexts : goal.decreases-contexts
 decreases-contexts l = 2 * l.depth + 1
 
 abbrev pub invariant-contexts-turns : goal.invariant-contexts-turns
-invariant-contexts-turns l = list_from (numbered l.version) (reader.if_key k.Context) (reader.context_at (numbered l.version) l.depth) (map context_tree l.found.items) l.rest ≡ reader.contexts_in (numbered l.version) (reader.context_at (numbered l.version) l.depth) l.tokens
+invariant-contexts-turns l = list_from (edition_of l.version) (reader.if_key k.Context) (reader.context_at (edition_of l.version) l.depth) (map context_tree l.found.items) l.rest ≡ reader.contexts_in (edition_of l.version) (reader.context_at (edition_of l.version) l.depth) l.tokens
 
 abbrev pub decreases-contexts-turns : goal.decreases-contexts-turns
 decreases-contexts-turns l = length l.rest

@@ -1,7 +1,7 @@
 use Rattle.std.proofs.Common.{◌≡◌, ◌+◌, ◌*◌, ◌-◌, map, length}
 use Rattle.mace_lexer.specs.declared.sign.Sign.TheVariants as s
 use Rattle.mace_ast.specs.Exprs.{expr_tree}
-use Rattle.mace_grammar.specs.Words.{numbered}
+use Rattle.mace_grammar.specs.Words.{edition_of}
 use Rattle.mace_grammar.specs.inner.Readers as reader
 use Rattle.mace_parser.proofs.Turns.{list_from}
 use Rattle.mace_parser.proofs.expr.+expr.Given as goal
@@ -52,10 +52,10 @@ abbrev pub decreases-operand : goal.decreases-operand
 decreases-operand l = 40 * l.depth + 10 + 2 * l.level
 
 abbrev pub invariant-list-turns : goal.invariant-list-turns
-invariant-list-turns l = list_from (numbered l.version) (reader.if_sign s.Comma) (reader.next_at (numbered l.version) (reader.expr_at (numbered l.version) (reader.unary_at (numbered l.version) l.depth))) (map expr_tree l.found.items) l.rest ≡ reader.list_at (numbered l.version) (reader.expr_at (numbered l.version) (reader.unary_at (numbered l.version) l.depth)) l.tokens
+invariant-list-turns l = list_from (edition_of l.version) (reader.if_sign s.Comma) (reader.next_at (edition_of l.version) (reader.expr_at (edition_of l.version) (reader.unary_at (edition_of l.version) l.depth))) (map expr_tree l.found.items) l.rest ≡ reader.list_at (edition_of l.version) (reader.expr_at (edition_of l.version) (reader.unary_at (edition_of l.version) l.depth)) l.tokens
 
 abbrev pub invariant-chain-turns : goal.invariant-chain-turns
-invariant-chain-turns l = reader.operands_at (numbered l.version) (l.level - 1) (reader.level_at (numbered l.version) (reader.unary_at (numbered l.version) l.depth) (l.level - 1)) (l.end - l.counter) (expr_tree l.left) l.rest ≡ reader.level_at (numbered l.version) (reader.unary_at (numbered l.version) l.depth) l.level l.tokens
+invariant-chain-turns l = reader.operands_at (edition_of l.version) (l.level - 1) (reader.level_at (edition_of l.version) (reader.unary_at (edition_of l.version) l.depth) (l.level - 1)) (l.end - l.counter) (expr_tree l.left) l.rest ≡ reader.level_at (edition_of l.version) (reader.unary_at (edition_of l.version) l.depth) l.level l.tokens
 
 abbrev pub decreases-list-turns : goal.decreases-list-turns
 decreases-list-turns l = length l.rest

@@ -2,7 +2,7 @@ use Rattle.std.proofs.Common.{◌≡◌, List, [], ◌∷◌, Some, ap, ◌∙�
 use Rattle.std.specs.Prelude.{slice_get}
 use Rattle.mace_lexer.specs.declared.token.Token.{Token}
 use Rattle.mace_grammar.specs.declared.class.Class.{Class}
-use Rattle.mace_grammar.specs.Words.{numbered}
+use Rattle.mace_grammar.specs.Words.{edition_of}
 use Rattle.mace_grammar.specs.inner.Classes.{kind}
 use Rattle.mace_grammar.specs.inner.Run.{has, sees}
 use Rattle.mace_grammar.proofs.Classes.{contains_is}
@@ -18,4 +18,4 @@ returns-in-Some c =
     c.contains.ensures.value
     ∙ contains_is c.args.set.now c.class_of.result
     ∙ ap (has c.args.set.now) c.class_of.ensures
-    ∙ of_first (kind (numbered c.args.version)) c.args.set.now c.args.tokens.now c.in-Some.t.now c.in-Some.ensures.value
+    ∙ of_first (kind (edition_of c.args.version)) c.args.set.now c.args.tokens.now c.in-Some.t.now c.in-Some.ensures.value

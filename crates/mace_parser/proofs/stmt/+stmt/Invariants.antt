@@ -1,6 +1,6 @@
 use Rattle.std.proofs.Common.{◌≡◌, ◌+◌, ◌*◌, map, length}
 use Rattle.mace_ast.specs.Stmts.{stmt_tree}
-use Rattle.mace_grammar.specs.Words.{numbered}
+use Rattle.mace_grammar.specs.Words.{edition_of}
 use Rattle.mace_grammar.specs.declared.class.TheConstants.{STMT_STARTS}
 use Rattle.mace_grammar.specs.inner.Readers as reader
 use Rattle.mace_parser.proofs.Turns.{list_from}
@@ -28,7 +28,7 @@ abbrev pub decreases-for_stmt : goal.decreases-for_stmt
 decreases-for_stmt l = 6 * l.depth + 4
 
 abbrev pub invariant-stmts-turns : goal.invariant-stmts-turns
-invariant-stmts-turns l = list_from (numbered l.version) STMT_STARTS (reader.stmt_at (numbered l.version) l.depth) (map stmt_tree l.found.items) l.rest ≡ reader.stmts_in (numbered l.version) (reader.stmt_at (numbered l.version) l.depth) l.tokens
+invariant-stmts-turns l = list_from (edition_of l.version) STMT_STARTS (reader.stmt_at (edition_of l.version) l.depth) (map stmt_tree l.found.items) l.rest ≡ reader.stmts_in (edition_of l.version) (reader.stmt_at (edition_of l.version) l.depth) l.tokens
 
 abbrev pub decreases-stmts-turns : goal.decreases-stmts-turns
 decreases-stmts-turns l = length l.rest

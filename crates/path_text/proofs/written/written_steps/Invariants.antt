@@ -2,8 +2,8 @@ use Rattle.std.proofs.Common.{length}
 use Rattle.path_text.proofs.StepLemmas.{AreReadTo}
 use Rattle.path_text.proofs.written.written_steps.Given as goal
 
-abbrev pub invariant-loop-rest : goal.invariant-loop-rest
-invariant-loop-rest l = AreReadTo l.fn.text l.steps.items l.rest
+abbrev pub invariant-loop-name : goal.invariant-loop-name
+invariant-loop-name l = AreReadTo l.fn.text l.steps l.rest
 
-abbrev pub decreases-loop-rest : goal.decreases-loop-rest
-decreases-loop-rest l = length l.rest
+abbrev pub decreases-loop-name : goal.decreases-loop-name
+decreases-loop-name l = length l.rest

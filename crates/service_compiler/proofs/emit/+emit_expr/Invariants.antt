@@ -1,11 +1,11 @@
-use Rattle.std.proofs.Common.{◌≡◌, ◌+◌, ◌*◌, ◌++◌, length, map, take, max}
+use Rattle.std.proofs.Common.{◌+◌, ◌*◌, map, take, max}
 use Rattle.resolved_service.specs.declared.expr.Expr.{size-Expr}
 use Rattle.resolved_service.specs.View.{tree_of, trees_of}
-use Rattle.code_scheme.specs.Scheme.{trees_code}
+use Rattle.service_compiler.specs.inner.Drafts.{EmitsTrees}
 use Rattle.service_compiler.proofs.emit.+emit_expr.Given as goal
 
 abbrev pub invariant-emit_exprs-exprs : goal.invariant-emit_exprs-exprs
-invariant-emit_exprs-exprs l = l.code ≡ l.initial.code ++ trees_code l.methods l.texts (length l.initial.code) (trees_of (map tree_of (take l.expr-index l.exprs)))
+invariant-emit_exprs-exprs l = EmitsTrees l.methods l.initial.code l.code (trees_of (map tree_of (take l.expr-index l.exprs)))
 
 abbrev pub decreases-emit_expr : goal.decreases-emit_expr
 decreases-emit_expr l = 4 * goal.size-emit_expr l

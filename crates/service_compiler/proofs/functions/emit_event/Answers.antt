@@ -1,19 +1,22 @@
-use Rattle.std.proofs.Common.{◌++◌, length, ap, ◌∙◌}
+use Rattle.std.proofs.Common.{subst}
 use Rattle.resolved_service.specs.Steps.{steps_in}
-use Rattle.code_scheme.specs.Scheme.{steps_code, reply_code}
+use Rattle.code_scheme.specs.Scheme.{reply_code}
+use Rattle.code_scheme.specs.Texts.{last_uses, phases_uses}
+use Rattle.service_compiler.specs.inner.Drafts.{Emits, EmitsSteps}
 use Rattle.service_compiler.specs.inner.Fronts.{phases_front}
-use Rattle.service_compiler.proofs.Fronting.{event_emitted}
+use Rattle.service_compiler.proofs.Fronting.{event_written}
+use Rattle.service_compiler.proofs.Notes.{on_ok}
 use Rattle.service_compiler.proofs.functions.emit_event.Goals as goal
 
 pub returns : goal.returns
 returns c =
     let m = c.args.methods.now in
-    let x = c.args.texts.now in
-    let c0 = c.new-code.result in
+    let e = c.args.event.now in
     let c1 = c.emit_stmts.new.code in
     let c2 = c.emit_phases.new.code in
-    let e = c.args.event.now in
-    event_emitted m x c0 c1 c2 c.emit_reply.new.code e c.new-code.ensures
-    (c.in_ok-emit_stmts.ensures ∙ ap (λ ss. c0 ++ steps_code m x (length c0) (steps_in ss)) c.as_slice.ensures)
-    (c.in_ok-emit_phases.ensures ∙ ap (λ fs. c1 ++ phases_front m x (length c1) fs) c.as_slice-2.ensures)
-    (c.in_ok-emit_reply.ensures ∙ ap (λ b. c2 ++ reply_code m x (length c2) e.at b e.last) c.is_past-ended.ensures)
+    on_ok _ _ c.emit_reply.result (λ g.
+    event_written m e c.requires.ready
+    (subst (λ ss. EmitsSteps m c.args.code.now c1 (steps_in ss)) c.as_slice.ensures c.in_ok-emit_stmts.ensures)
+    (subst (λ fs. Emits c1 c2 (phases_uses fs) (λ all n. phases_front m all n fs)) c.as_slice-2.ensures c.in_ok-emit_phases.ensures)
+    (subst (λ b. Emits c2 c.emit_reply.new.code (last_uses e.last) (λ all n. reply_code m all n e.at b e.last)) c.is_past.ensures g))
+    c.emit_reply.ensures

@@ -4,7 +4,7 @@ use Rattle.service_eval.specs.Changes.{step_in}
 use Rattle.service_eval.specs.Machines.{Mach, before_all}
 use Rattle.service_eval.specs.Turns.{mach}
 use Rattle.service_eval.proofs.BlockTurns.{step_turn, at_step}
-use Rattle.service_eval.proofs.ChangeLemmas.{begun, begun_parts, begun_fits}
+use Rattle.service_eval.proofs.ChangeLemmas.{begun_lighter, begun, begun_parts, begun_fits}
 use Rattle.service_eval.proofs.ReadyLemmas.{ready_with}
 use Rattle.service_eval.proofs.assignments.begin_assignment.Goals as goal
 
@@ -16,7 +16,7 @@ returns-in-Set c =
     at_step c.args.code c.args.contexts.now c.args.m.now c.push_two.new.self c.push_two.result (step_in at c.args.change) (step_in at change) (ap (step_in at) c.in-Set.is)
     (λ next. step_turn c.args.code c.args.contexts.now c.args.m.now c.push_two.new.self c.push_two.result c.height-base.result (step_in at change) (λ h x. before_all (begun at change h) x) c.height-base.ensures
     (begun_parts c.args.code.methods.now M at change)
-    (ready_with _ _ _ _ _ next (begun_fits c.args.code.shape.now c.args.code.methods.now M.path at change (length M.values) M.items next.items.0 next.items.1)) c.push_two.ensures.ok c.push_two.ensures.err next) c.requires
+    (ready_with _ _ _ _ _ next (begun_fits c.args.code.shape.now c.args.code.methods.now M.path at change (length M.values) M.items next.items.0 next.items.1)) c.push_two.ensures.ok c.push_two.ensures.err (begun_lighter c.args.code.methods.now M at change (length M.values)) next) c.requires
 
 pub returns-in-Put : goal.returns-in-Put
 returns-in-Put c =
@@ -26,7 +26,7 @@ returns-in-Put c =
     at_step c.args.code c.args.contexts.now c.args.m.now c.push_three.new.self c.push_three.result (step_in at c.args.change) (step_in at change) (ap (step_in at) c.in-Put.is)
     (λ next. step_turn c.args.code c.args.contexts.now c.args.m.now c.push_three.new.self c.push_three.result c.height-base.result (step_in at change) (λ h x. before_all (begun at change h) x) c.height-base.ensures
     (begun_parts c.args.code.methods.now M at change)
-    (ready_with _ _ _ _ _ next (begun_fits c.args.code.shape.now c.args.code.methods.now M.path at change (length M.values) M.items next.items.0 next.items.1)) c.push_three.ensures.ok c.push_three.ensures.err next) c.requires
+    (ready_with _ _ _ _ _ next (begun_fits c.args.code.shape.now c.args.code.methods.now M.path at change (length M.values) M.items next.items.0 next.items.1)) c.push_three.ensures.ok c.push_three.ensures.err (begun_lighter c.args.code.methods.now M at change (length M.values)) next) c.requires
 
 pub returns-in-Cut : goal.returns-in-Cut
 returns-in-Cut c =
@@ -36,4 +36,4 @@ returns-in-Cut c =
     at_step c.args.code c.args.contexts.now c.args.m.now c.push_two-in-Cut.new.self c.push_two-in-Cut.result (step_in at c.args.change) (step_in at change) (ap (step_in at) c.in-Cut.is)
     (λ next. step_turn c.args.code c.args.contexts.now c.args.m.now c.push_two-in-Cut.new.self c.push_two-in-Cut.result c.height-base.result (step_in at change) (λ h x. before_all (begun at change h) x) c.height-base.ensures
     (begun_parts c.args.code.methods.now M at change)
-    (ready_with _ _ _ _ _ next (begun_fits c.args.code.shape.now c.args.code.methods.now M.path at change (length M.values) M.items next.items.0 next.items.1)) c.push_two-in-Cut.ensures.ok c.push_two-in-Cut.ensures.err next) c.requires
+    (ready_with _ _ _ _ _ next (begun_fits c.args.code.shape.now c.args.code.methods.now M.path at change (length M.values) M.items next.items.0 next.items.1)) c.push_two-in-Cut.ensures.ok c.push_two-in-Cut.ensures.err (begun_lighter c.args.code.methods.now M at change (length M.values)) next) c.requires

@@ -1,10 +1,12 @@
-use Rattle.std.proofs.Common.{refl, sym, ap, subst, ◌∙◌}
+use Rattle.std.proofs.Common.{refl, sym, ap, subst, ◌∙◌, ◌≤◌, arith}
 use Rattle.context_tree.specs.Contexts.{tree_of as shown}
 use Rattle.resolved_service.specs.Steps.{step, step_of, steps_in}
 use Rattle.service_eval.specs.Items.{Block, Begin}
 use Rattle.service_eval.specs.Machines.{Mach, on_top, comes_to}
 use Rattle.service_eval.specs.Ready.{Ready}
 use Rattle.service_eval.specs.Turns.{mach}
+use Rattle.service_eval.specs.inner.Weight.{load}
+use Rattle.service_eval.proofs.LighterTurns.{last_lighter, parts_lighter}
 use Rattle.service_eval.proofs.BlockLemmas as l
 use Rattle.service_eval.proofs.FinishTurns.{goes_from}
 use Rattle.service_eval.proofs.ReadyLemmas.{ready_with}
@@ -19,6 +21,7 @@ returns-in-None c =
     goes_from c.args.code (on_top (Block (step (step_of c.args.first.now) (steps_in c.args.others.now))) m) (on_top (Begin (step_of c.args.first.now)) m) c.begin.result (mach c.args.code c.begin.new.contexts c.begin.new.m)
     (ap (λ ss. comes_to c.args.code.methods.now (on_top (Block (step (step_of c.args.first.now) (steps_in ss))) m)) (c.in-None.ensures.none refl) ∙ l.block_last c.args.code.methods.now m (step_of c.args.first.now))
     c.begin.ensures
+    (let light = last_lighter c.args.code.methods.now m (step_of c.args.first.now) (steps_in c.args.others.now) in omega (arith, light))
 
 pub begin-requires-in-Ok : goal.begin-requires-in-Ok
 begin-requires-in-Ok c =
@@ -32,3 +35,5 @@ returns-in-Ok c =
     (l.block_parts c.args.code.methods.now m (step_of c.args.first.now) (steps_in c.args.others.now)
     ∙ ap (λ (x : Mach). comes_to c.args.code.methods.now (on_top (Begin (step_of c.args.first.now)) x)) (sym (c.in-Ok.ensures.ok (shown c.args.code.shape.now c.args.contexts.now))))
     c.begin-in-Ok.ensures
+    (subst (λ (x : Mach). load c.args.code.methods.now (on_top (Begin (step_of c.args.first.now)) x) ≤ load c.args.code.methods.now (on_top (Block (step (step_of c.args.first.now) (steps_in c.args.others.now))) m)) (sym (c.in-Ok.ensures.ok (shown c.args.code.shape.now c.args.contexts.now)))
+    (parts_lighter c.args.code.methods.now m (step_of c.args.first.now) (steps_in c.args.others.now)))

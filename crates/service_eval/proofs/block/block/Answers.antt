@@ -1,10 +1,12 @@
-use Rattle.std.proofs.Common.{◌≡◌, refl, sym, ap, subst, ◌∙◌}
+use Rattle.std.proofs.Common.{◌≡◌, refl, sym, ap, subst, ◌∙◌, ◌≤◌, arith}
 use Rattle.resolved_service.specs.Steps.{step, step_of, steps_in}
 use Rattle.service_eval.specs.Items.{Block}
 use Rattle.service_eval.specs.Machines.{Mach, on_top, in_state, comes_to}
 use Rattle.service_eval.specs.Ready.{Ready}
 use Rattle.service_eval.specs.Turns.{mach}
 use Rattle.service_eval.specs.Worlds.{Fails}
+use Rattle.service_eval.specs.inner.Weight.{load}
+use Rattle.service_eval.proofs.LighterTurns.{block_done, once_lighter}
 use Rattle.service_eval.proofs.FinishTurns.{goes_from}
 use Rattle.service_eval.proofs.OnceLemmas.{block_goes, block_fails}
 use Rattle.service_eval.proofs.ReadyLemmas.{ready_with}
@@ -15,6 +17,7 @@ returns-in-None c =
     let M : Mach = mach c.args.code c.statements.contexts c.statements.m in (
       c.statements.invariant.same ∙ ap (λ ss. comes_to c.args.code.methods.now (on_top (Block (steps_in ss)) M)) (c.in-None.ensures.none refl),
       ready_with _ _ _ _ _ c.statements.invariant.ready c.statements.invariant.ready.items.1,
+      (let done = block_done c.args.code.methods.now M (steps_in c.statements.rest.now) in omega (arith, done, c.statements.invariant.less)),
     )
 
 pub at_once-requires : goal.at_once-requires
@@ -33,6 +36,10 @@ statements-preserved c =
           ∙ block_goes code.methods.now M (step_of c.in-Some.first.now) ss M'.state done.0 ∙ ap (λ (x : Mach). comes_to code.methods.now (on_top (Block ss) x)) (sym done.1);
       ready = subst (λ (x : Mach). Ready code.shape.now code.methods.now (on_top (Block ss) x)) (sym done.1)
           (ready_with code.shape.now code.methods.now (in_state M'.state M) _ M.values (subst (Ready code.shape.now code.methods.now) done.1 done.2) (next.items.0.1, next.items.1));
+      less =
+          let before = subst (λ stmts. load code.methods.now (on_top (Block (steps_in stmts)) M) ≤ load code.methods.now (on_top (Block (steps_in c.args.stmts.now)) (mach code c.args.contexts.now c.args.m.now))) c.in-Some.ensures.some c.statements.invariant.less in
+          let once = once_lighter code.methods.now M (step_of c.in-Some.first.now) ss M'.state done.3 in
+          subst (λ (x : Mach). load code.methods.now (on_top (Block ss) x) ≤ load code.methods.now (on_top (Block (steps_in c.args.stmts.now)) (mach code c.args.contexts.now c.args.m.now))) (sym done.1) (omega (arith, before, once));
     }
 
 pub begin_first-requires : goal.begin_first-requires
@@ -52,6 +59,8 @@ returns-else-done c =
     goes_from code (on_top (Block (steps_in c.args.stmts.now)) (mach code c.args.contexts.now c.args.m.now)) (on_top all (mach code c.at_once.new.contexts c.at_once.new.m)) c.begin_first.result (mach code c.begin_first.new.contexts c.begin_first.new.m)
     (c.statements.invariant.same ∙ ap (λ ss. comes_to code.methods.now (on_top (Block (steps_in ss)) M)) c.in-Some.ensures.some ∙ ap (λ (x : Mach). comes_to code.methods.now (on_top all x)) (sym same))
     c.begin_first.ensures
+    (subst (λ (x : Mach). load code.methods.now (on_top all x) ≤ load code.methods.now (on_top (Block (steps_in c.args.stmts.now)) (mach code c.args.contexts.now c.args.m.now))) (sym same)
+    (subst (λ stmts. load code.methods.now (on_top (Block (steps_in stmts)) M) ≤ load code.methods.now (on_top (Block (steps_in c.args.stmts.now)) (mach code c.args.contexts.now c.args.m.now))) c.in-Some.ensures.some c.statements.invariant.less))
 
 pub returns-in-Err : goal.returns-in-Err
 returns-in-Err c =

@@ -1,12 +1,14 @@
-use Rattle.std.proofs.Common.{false, drop, ◌∙◌}
+use Rattle.std.proofs.Common.{false, drop, ◌∙◌, take}
 use Rattle.std.proofs.lemmas.Result.{on_ok_weaker}
 use Rattle.context_tree.specs.Contexts.{tree_of as shown}
 use Rattle.service_eval.specs.Items.{Invoke}
 use Rattle.service_eval.specs.Machines.{on_top, cut_to, in_world, started}
 use Rattle.service_eval.specs.Turns.{mach}
 use Rattle.service_eval.specs.Worlds.{world_of}
+use Rattle.service_eval.specs.inner.Weight.{load}
+use Rattle.service_eval.proofs.LighterTurns.{invoke_ticked}
 use Rattle.service_eval.proofs.CallLemmas as l
-use Rattle.service_eval.proofs.CallTurns.{ready_invoked}
+use Rattle.service_eval.proofs.CallTurns.{ticked, ready_invoked}
 use Rattle.service_eval.proofs.ReadyLemmas.{turned_to}
 use Rattle.service_eval.proofs.calls.invoke.Goals as goal
 
@@ -24,3 +26,5 @@ returns-in-Ok-take_all c =
     (ready_invoked c.args.code.shape.now c.args.code.methods.now c.requires.methods m c.args.method c.method_at.result.now c.method_at.ensures c.args.at c.args.base w c.requires.next (c.in-Ok.ensures T))
     c.requires.next.holds
     (on_ok_weaker c.start.result (λ h. h T ∙ (λ i. started c.method_at.result.now (c.in-Ok-take_all.ensures.values i) false (c.in-Ok-take_all.ensures.rest T i))) c.start.ensures.ok) c.start.ensures.err
+    (load c.args.code.methods.now (on_top (Invoke c.args.at c.args.method c.args.base) m))
+    (invoke_ticked c.args.code.methods.now m (record { locals = m.state.locals; world = w }) (take c.args.base m.values) (ticked m.state.world w (c.in-Ok.ensures T)).0 m.path c.args.method c.method_at.result.now (drop c.args.base m.values) false c.method_at.ensures c.args.at c.args.base)

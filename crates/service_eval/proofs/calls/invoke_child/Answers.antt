@@ -18,6 +18,8 @@ use Rattle.service_eval.specs.Items.{Child}
 use Rattle.service_eval.specs.Machines.{Mach, mach_of, on_top, cut_to, in_world, started, own, comes_to}
 use Rattle.service_eval.specs.Turns.{mach}
 use Rattle.service_eval.specs.Worlds.{world_of, Holds, Changes, Fails}
+use Rattle.service_eval.specs.inner.Weight.{load}
+use Rattle.service_eval.proofs.LighterTurns.{child_ticked}
 use Rattle.service_eval.proofs.CallLemmas as l
 use Rattle.service_eval.proofs.CallTurns.{Entered, ready_child, entered, ticked}
 use Rattle.service_eval.proofs.PathLemmas.{short_path, is_path-child, parent_of-child}
@@ -99,6 +101,8 @@ returns-in-Ok-take_others c =
     (ready_child c.args.code.shape.now c.args.code.methods.now c.requires.methods m c.args.callee.method c.method_at.result.now c.method_at.ensures c.args.at c.args.callee.class.0 c.args.base w v c.requires.shape c.requires.next (c.in-Ok.ensures T) fact)
     fact.holds
     (on_ok_weaker c.start.result (λ h. h U ∙ (λ i. started c.method_at.result.now (c.in-Ok-take_others.ensures.values i) true (record (rest i) { path = p i }))) c.start.ensures.ok) c.start.ensures.err
+    (load c.args.code.methods.now (on_top (Child c.args.at c.args.callee.class.0 c.args.callee.method c.args.base) m))
+    (child_ticked c.args.code.methods.now m (record { locals = m.state.locals; world = v }) (take c.args.base m.values) ((ticked m.state.world w (c.in-Ok.ensures T)).0 ∙ ap suc (sym fact.ticks)) q c.args.callee.method c.method_at.result.now (drop (suc c.args.base) m.values) true c.method_at.ensures c.args.at c.args.callee.class.0 c.args.base)
 
 pub returns-in-Err-take_others : goal.returns-in-Err-take_others
 returns-in-Err-take_others c =

@@ -1,4 +1,4 @@
-use Rattle.std.proofs.Common.{sym, ap, subst, ◌∙◌}
+use Rattle.std.proofs.Common.{sym, ap, subst, ◌∙◌, arith}
 use Rattle.wave_base.specs.declared.trap.TrapKind.TheVariants.{Require as Requires}
 use Rattle.context_tree.specs.Contexts.{tree_of as shown}
 use Rattle.resolved_service.specs.Meaning.{demand}
@@ -7,6 +7,7 @@ use Rattle.service_eval.specs.Items as i
 use Rattle.service_eval.specs.Items.{Finish, Block}
 use Rattle.service_eval.specs.Machines.{cut_to, in_state}
 use Rattle.service_eval.specs.Turns.{mach, Goes}
+use Rattle.service_eval.proofs.LighterTurns.{finished_lighter}
 use Rattle.service_eval.proofs.FinishLemmas as l
 use Rattle.service_eval.proofs.FinishTurns.{same_world, ready_in, did}
 use Rattle.service_eval.proofs.finish.demand.Goals as goal
@@ -18,6 +19,7 @@ returns-then-holds c =
     did c.args.code c.args.contexts.now c.args.contexts.now (Finish c.args.at i.Require c.args.base) (in_state m.state (cut_to c.args.base m)) c.args.m.now c.cut.new.self
     (l.finished c.args.code.methods.now m c.args.at c.args.base i.Require m.state (ap (λ b. demand b c.args.at m.state) (sym c.is_true-holds.ensures ∙ c.if-holds.true)))
     (ready_in _ _ m _ _ _ _ c.requires c.requires.items.1 (same_world m.state.world)) (c.cut.ensures T)
+    (finished_lighter c.args.code.methods.now m c.args.at i.Require c.args.base m.state (omega arith))
 
 pub returns-else-holds : goal.returns-else-holds
 returns-else-holds c =

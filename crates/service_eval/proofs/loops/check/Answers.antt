@@ -1,4 +1,4 @@
-use Rattle.std.proofs.Common.{◌≡◌, Ok, Err, sym, ap, subst, ◌∙◌}
+use Rattle.std.proofs.Common.{◌≡◌, Ok, Err, sym, ap, subst, ◌∙◌, take}
 use Rattle.std.proofs.lemmas.Result.{on_ok_weaker}
 use Rattle.service_eval.specs.Worlds.{Changes}
 use Rattle.resolved_service.specs.World.{ticking}
@@ -9,6 +9,9 @@ use Rattle.service_eval.specs.Items.{Block, Turns, Check}
 use Rattle.service_eval.specs.Machines.{Mach, on_top, cut_to, in_world}
 use Rattle.service_eval.specs.Turns.{mach}
 use Rattle.service_eval.specs.Worlds.{world_of}
+use Rattle.service_eval.specs.inner.Weight.{load}
+use Rattle.service_eval.proofs.CallTurns.{ticked}
+use Rattle.service_eval.proofs.LighterTurns.{check_lighter, check_ticked}
 use Rattle.service_eval.proofs.FinishLemmas as l
 use Rattle.service_eval.proofs.FinishTurns.{same_ticked, ready_in, did}
 use Rattle.service_eval.proofs.ReadyLemmas.{ready_with, turned_to}
@@ -20,6 +23,7 @@ returns-else-holds c =
     did c.args.code c.args.contexts.now c.args.contexts.now (Check c.args.cycle.at (tree_of c.args.cycle.test.now) (steps_in c.args.cycle.body.now) c.args.base) (cut_to c.args.base (mach c.args.code c.args.contexts.now c.args.m.now)) c.args.m.now c.cut.new.self
     (l.check_false c.args.code.methods.now (mach c.args.code c.args.contexts.now c.args.m.now) c.args.cycle.at (steps_in c.args.cycle.body.now) (tree_of c.args.cycle.test.now) c.args.base (sym c.is_true-holds.ensures ∙ c.if-holds.false))
     (ready_with _ _ _ _ _ c.requires c.requires.items.1) (c.cut.ensures T)
+    (check_lighter c.args.code.methods.now (mach c.args.code c.args.contexts.now c.args.m.now) c.args.cycle.at (tree_of c.args.cycle.test.now) (steps_in c.args.cycle.body.now) c.args.base)
 
 pub returns-in-Err : goal.returns-in-Err
 returns-in-Err c =
@@ -41,3 +45,5 @@ returns-in-Ok c =
     (l.check_more c.args.code.methods.now m c.args.cycle.at body test c.args.base w (sym c.is_true-holds.ensures ∙ c.if-holds.true) t)
     (ready_in _ _ m _ _ _ _ c.requires (c.requires.items.0.1, (c.requires.items.0, c.requires.items.1)) (same_ticked m.state.world w t)) c.requires.holds
     (on_ok_weaker c.push_two.result (λ h. h T ∙ ap (λ (m : Mach). on_top (Block body) (on_top (Turns c.args.cycle.at test body) (in_world w m))) (c.cut.ensures T)) c.push_two.ensures.ok) c.push_two.ensures.err
+    (load c.args.code.methods.now (on_top (Check c.args.cycle.at test body c.args.base) m))
+    (check_ticked c.args.code.methods.now m (record { locals = m.state.locals; world = w }) (take c.args.base m.values) (ticked m.state.world w t).0 c.args.cycle.at test body c.args.base)

@@ -1,4 +1,4 @@
-use Rattle.std.proofs.Common.{◌≡◌, ◌+◌, get_or, slice_set, sym, ap, subst, ◌∙◌}
+use Rattle.std.proofs.Common.{◌≡◌, ◌+◌, get_or, slice_set, sym, ap, subst, ◌∙◌, ◌≤◌, arith}
 use Rattle.context_tree.specs.Contexts.{tree_of as shown}
 use Rattle.wave_base.specs.declared.value.Value.{Value}
 use Rattle.resolved_service.specs.Steps.{steps_in}
@@ -9,6 +9,9 @@ use Rattle.service_eval.specs.Ready.{Ready}
 use Rattle.service_eval.specs.Turns.{mach}
 use Rattle.service_eval.specs.Worlds.{world_of}
 use Rattle.resolved_service.specs.Meaning.{State}
+use Rattle.service_eval.specs.inner.Weight.{load}
+use Rattle.service_eval.proofs.CallTurns.{ticked}
+use Rattle.service_eval.proofs.LighterTurns.{counts_ticked}
 use Rattle.service_eval.proofs.FinishLemmas as l
 use Rattle.service_eval.proofs.FinishTurns.{same_ticked, ready_in, goes_from}
 use Rattle.service_eval.proofs.loops.count.Goals as goal
@@ -42,3 +45,5 @@ returns-in-Ok-push c =
     (l.counts_more c.args.code.methods.now m c.args.cycle.at c.args.cycle.counter body c.requires.next.few c.args.value c.requires.test w c.requires.holds (c.in-Ok.ensures T)
     ∙ ap (λ (x : Mach). comes_to c.args.code.methods.now (on_top (Block body) x)) (sym is))
     c.block.ensures
+    (let light = counts_ticked c.args.code.methods.now m st m.values (ticked m.state.world w (c.in-Ok.ensures T)).0 c.args.cycle.at c.args.cycle.counter body in
+    subst (λ (x : Mach). load c.args.code.methods.now (on_top (Block body) x) ≤ load c.args.code.methods.now (on_top (Counts c.args.cycle.at c.args.cycle.counter body) m)) (sym is) (omega (arith, light)))

@@ -1,4 +1,4 @@
-use Rattle.std.proofs.Common.{◌≡◌, [], ◌∷◌, length, sym, ap, subst, ◌∙◌}
+use Rattle.std.proofs.Common.{◌≡◌, [], ◌∷◌, length, sym, ap, subst, ◌∙◌, arith}
 use Rattle.std.proofs.lemmas.Result.{on_ok_weaker}
 use Rattle.context_tree.specs.Contexts.{tree_of as shown}
 use Rattle.resolved_service.specs.Steps.{Steps, steps_in}
@@ -14,6 +14,7 @@ use Rattle.service_eval.specs.Machines.{mach_of, on_top, before_all, comes_to}
 use Rattle.service_eval.specs.Ready.{Ready}
 use Rattle.service_eval.specs.Turns.{mach, IsNext}
 use Rattle.service_eval.specs.Worlds.{Fails}
+use Rattle.service_eval.proofs.LighterTurns.{turns_lighter}
 use Rattle.service_eval.proofs.BlockTurns.{then_next, then_goes}
 use Rattle.service_eval.proofs.EvalLemmas.{found_fails}
 use Rattle.service_eval.proofs.FinishLemmas as l
@@ -43,6 +44,7 @@ returns-in-Ok c =
     goes_from c.args.code (on_top (Turns c.args.cycle.at t b) (mach c.args.code c.args.contexts.now c.args.m.now)) (on_top (Eval t) (before_all (Check c.args.cycle.at t b n ∷ []) (mach c.args.code c.args.contexts.now c.args.m.now))) c.check.result (mach c.args.code c.args.contexts.now c.check.new.m)
     (test_first c.args.code c.args.contexts.now c.args.m.now c.args.cycle.at t b n c.requires.few c.height-base.ensures)
     (then_goes c.args.code c.args.contexts.now c.args.m.now c.give.new.self t (Check c.args.cycle.at t b n ∷ []) (test_next c.args.code c.args.contexts.now c.args.m.now c.args.cycle.at t b n c.requires) c.in-Ok-Some.value (c.in-Ok.ensures.ok (shown c.args.code.shape.now c.args.contexts.now)) found c.args.contexts.now c.check.new.m c.check.result c.check.ensures)
+    (let light = turns_lighter c.args.code.methods.now (mach c.args.code c.args.contexts.now c.args.m.now) c.args.cycle.at t b n in omega (arith, light))
 
 pub returns-in-Ok-None : goal.returns-in-Ok-None
 returns-in-Ok-None c =
@@ -51,7 +53,7 @@ returns-in-Ok-None c =
     turned c.args.code c.args.contexts.now (Turns c.args.cycle.at t b) (λ m. on_top (Eval t) (on_top (Check c.args.cycle.at t b (length m.values)) m)) c.args.m.now c.push_two.new.self c.push_two.result c.requires
     (l.turns_parts c.args.code.methods.now (mach c.args.code c.args.contexts.now c.args.m.now) c.args.cycle.at b t c.requires.few)
     (ready_with _ _ _ _ _ c.requires (c.requires.items.0.0, (c.requires.items.0, c.requires.items.1)))
-    (on_ok_weaker c.push_two.result (λ h tree. h tree ∙ ap (λ n. on_top (Eval t) (on_top (Check c.args.cycle.at t b n) (mach_of tree c.args.m.now))) c.height-base.ensures) c.push_two.ensures.ok) c.push_two.ensures.err
+    (on_ok_weaker c.push_two.result (λ h tree. h tree ∙ ap (λ n. on_top (Eval t) (on_top (Check c.args.cycle.at t b n) (mach_of tree c.args.m.now))) c.height-base.ensures) c.push_two.ensures.ok) c.push_two.ensures.err (turns_lighter c.args.code.methods.now (mach c.args.code c.args.contexts.now c.args.m.now) c.args.cycle.at t b (length c.args.m.now.values.items))
 
 pub returns-in-Err : goal.returns-in-Err
 returns-in-Err c =

@@ -2,6 +2,7 @@ use Rattle.std.proofs.Common.{◌≡◌}
 use Rattle.service_eval.specs.Machines.{comes_to}
 use Rattle.service_eval.specs.Ready.{Ready}
 use Rattle.service_eval.specs.Turns.{mach}
+use Rattle.service_eval.specs.inner.Weight.{load}
 use Rattle.service_eval.proofs.run.run.Given as goal
 
 abbrev pub invariant-items : goal.invariant-items
@@ -9,3 +10,6 @@ invariant-items l = record {
   same : comes_to l.code.methods.now (mach l.code l.fn.contexts l.fn.m) ≡ comes_to l.code.methods.now (mach l.code l.contexts l.m);
   ready : Ready l.code.shape.now l.code.methods.now (mach l.code l.contexts l.m);
 }
+
+abbrev pub decreases-items : goal.decreases-items
+decreases-items l = load l.code.methods.now (mach l.code l.contexts l.m)

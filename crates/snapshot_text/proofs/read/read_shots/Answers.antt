@@ -29,7 +29,7 @@ pub loop-rest-preserved : goal.loop-rest-preserved
 loop-rest-preserved c =
     let next = subst (λ (ss : List Shot). IsNextLine c.args.classes.now ss c.in-Some.line.now c.in-Ok.shot) c.as_slice.ensures c.in-Ok.ensures.ok in
     let read = line_read c.args.classes.now c.requires.names c.args.tail.now c.loop-rest.shots c.loop-rest.rest.now c.in-Some.line.now c.in-Some.after.now c.in-Ok.shot c.loop-rest.invariant.read c.in-Some.ensures.some next in
-    let added : c.add.new.shots ≡ c.loop-rest.shots ++ c.in-Ok.shot ∷ [] = c.in_ok-add-in-Ok.ensures in
+    let added : c.add.new.self ≡ c.loop-rest.shots ++ c.in-Ok.shot ∷ [] = c.in_ok-add-in-Ok.ensures.ok in
     record {
       read = subst (λ (ss : List Shot). AreReadTo c.args.classes.now c.args.tail.now ss c.in-Some.after.now) (sym added) read;
       number = omega (arith, c.loop-rest.invariant.number, ap length added, length-append c.loop-rest.shots (c.in-Ok.shot ∷ []));

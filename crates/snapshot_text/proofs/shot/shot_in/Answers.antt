@@ -3,7 +3,8 @@ use Rattle.std.specs.List.{list_all}
 use Rattle.wave_base.specs.declared.shape.FieldInfo.{FieldInfo}
 use Rattle.wave_base.specs.Names.{is_word}
 use Rattle.wave_base.specs.Shapes.{class_of, declared_fields}
-use Rattle.snapshot_text.specs.inner.Guesses.{IsPathOf, AreValuesOf}
+use Rattle.path_text.specs.Found.{IsPathOf}
+use Rattle.snapshot_text.specs.inner.Guesses.{AreValuesOf}
 use Rattle.snapshot_text.proofs.FitLemmas.{field_words}
 use Rattle.snapshot_text.proofs.ShotLemmas.{no_path, no_values, shot_seen}
 use Rattle.snapshot_text.proofs.shot.shot_in.Goals as goal

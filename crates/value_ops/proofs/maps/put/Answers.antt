@@ -24,7 +24,7 @@ returns-in-Ok c =
     ap (answer_of Map) (put_room c.args.map.now c.args.key c.args.value c.ranges.key c.ranges.value (λ h. true≢false (sym h ∙ sym c.is_full.ensures ∙ c.if-is_full.false)))
     ∙ ap (λ m. Ok (value.Map m)) (sym (c.in-Ok.ensures.ok ∙ (λ i. with_pair (c.in_ok-copy.ensures i) (to_z w64 (of_z w64 c.args.key)) (to_z w64 (of_z w64 c.args.value)))))
 
-pub returns-in-Err : goal.returns-in-Err
+pub returns-in-Err-OutOfMemory : goal.returns-in-Err-OutOfMemory
 unfolding apply_row operators
-returns-in-Err c =
+returns-in-Err-OutOfMemory c =
     may_want_map _ _ (ap (answer_of Map) (put_room c.args.map.now c.args.key c.args.value c.ranges.key c.ranges.value (λ h. true≢false (sym h ∙ sym c.is_full.ensures ∙ c.if-is_full.false))))

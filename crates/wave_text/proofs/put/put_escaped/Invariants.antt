@@ -1,5 +1,5 @@
 use Rattle.std.proofs.Common.{◌≡◌, ◌++◌, drop}
-use Rattle.mace_lexer.specs.Texts.{escaped}
+use Rattle.wave_base.specs.Text.{escaped}
 use Rattle.wave_text.proofs.put.put_escaped.Given as goal
 
 abbrev pub invariant-loop-b : goal.invariant-loop-b

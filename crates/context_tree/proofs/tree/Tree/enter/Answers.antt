@@ -26,7 +26,7 @@ returns-then-contains_key-clause-joined c =
 pub initial-requires : goal.initial-requires
 initial-requires c =
     let absent = there_by c.self.inside.contexts.entries c.args.path.now c.args.self.now false c.self.view_is c.if-contains_key.ensures in
-    subst (λ n. n < length c.args.shape.now.classes) (sym c.class_of.ensures) (class_below c.args.shape.now 0 c.args.path.now c.requires.path (not_root c.args.self.now c.args.path.now c.requires.parent absent))
+    subst (λ n. n < length c.args.shape.now.classes) (sym c.class.ensures) (class_below c.args.shape.now 0 c.args.path.now c.requires.path (not_root c.args.self.now c.args.path.now c.requires.parent absent))
 
 pub returns-in_err-record-clause-there : goal.returns-in_err-record-clause-there
 returns-in_err-record-clause-there c =
@@ -40,7 +40,7 @@ pub returns-clause-ok : goal.returns-clause-ok
 returns-clause-ok c =
     let es = c.self.inside.contexts.entries in
     let none : lookup (path_eq c.args.path.now) es ≡ None = no_value _ c.if-contains_key.ensures in
-    let initial = c.in_ok-record.ensures.fields ∙ ap (fields_of_class c.args.shape.now) c.class_of.ensures in
+    let initial = c.in_ok-record.ensures.fields ∙ ap (fields_of_class c.args.shape.now) c.class.ensures in
     tree_joined c.args.shape.now es c.insert.new.self.entries c.args.path.now c.in_ok-record.record c.in_ok-insert.ensures.updates.0 initial none
     ∙ ap (λ (t : Contexts). enter (tree_of c.args.shape.now t) c.args.path.now) c.self.view_is
 

@@ -54,7 +54,7 @@ args-each-preserved t c =
     record {
       holds = walk_more next_number (arg_asks h kinds) 0 es i a c.each-test.true c.index-args-i.is c.each.invariant.holds
           (ap (λ n. first_wrong (arg_asks h kinds n a)) (at_number es i c.each-test.true) ∙ c.in_ok-tree.ensures.0);
-      made = made_more next_number (arg_made h kinds) tree_of 0 es i a c.each.trees.items c.push.new.self.items c.in_ok-tree.tree c.each-test.true c.index-args-i.is c.each.invariant.made c.in_ok-tree.ensures.1 c.in_ok-push.ensures.items;
+      made = made_more next_number (arg_made h kinds) tree_of 0 es i a c.each.trees.items c.push.new.items.items c.in_ok-tree.tree c.each-test.true c.index-args-i.is c.each.invariant.made c.in_ok-tree.ensures.1 c.in_ok-push.ensures.items;
     }
 
 pub args-returns : goal.args-returns
@@ -103,8 +103,8 @@ child_call-returns t c =
     let method = method_named c.args.self.now.known.now c.args.class c.args.name.now in
     let params = c.as_slice.ensures ∙ ap (λ s. s.params) c.signature-signature.ensures in (
       child_same h c.args.at method given c.in-Some.method found ∙ ap (λ ks. first_wrong (args_asks h c.args.at ks given)) (sym params) ∙ made.0,
-      child_called h c.args.at method given c.args.class c.in-Some.method (record { 0 = c.args.class }) c.in_ok-key.key c.args.key c.in_ok-args.args c.new-2.result found refl c.in_ok-key.ensures.ok made.1
-          (c.new-2.ensures.gives ∙ ap (λ s. s.result) c.signature-signature.ensures) c.new-2.ensures.tree,
+      child_called h c.args.at method given c.args.class c.in-Some.method (record { 0 = c.args.class }) c.in_ok-key.key c.args.key c.in_ok-args.args c.new.result found refl c.in_ok-key.ensures made.1
+          (c.new.ensures.gives ∙ ap (λ s. s.result) c.signature-signature.ensures) c.new.ensures.tree,
     )
 
 -- ---- expressions

@@ -61,7 +61,7 @@ stmts-each-preserved t c =
           ∙ told_past (not c.each.ended) (Unreachable (start_of (stmt_tree a))) (stmt_demands (here_of c.each.self) (stmt_tree a)) (ap not c.if-ended.false)
           ∙ c.in_ok-step.ensures.0);
       place = ends_more next_stmt (h, false) ss i a c.each-test.true c.s-item.is ∙ ap (λ g. next_stmt g a) is.place ∙ (λ i. (step.here i, (ap is_end step.step ∙ sym c.is_end-ended.ensures) i));
-      made = made_more next_stmt stmt_made step_of (h, false) ss i a c.each.steps.items c.push.new.self.items c.in_ok-step.step c.each-test.true c.s-item.is is.made
+      made = made_more next_stmt stmt_made step_of (h, false) ss i a c.each.steps.items c.push.new.items.items c.in_ok-step.step c.each-test.true c.s-item.is is.made
           (ap (λ g. stmt_made g a) is.place ∙ step.step) c.in_ok-push.ensures.items;
     }
 

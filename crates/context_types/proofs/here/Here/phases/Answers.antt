@@ -4,14 +4,20 @@ use Rattle.std.proofs.lemmas.Result.{err_from_is_err_and}
 use Rattle.mace_ast.specs.Decls.{phase_tree}
 use Rattle.resolved_service.specs.Steps.{steps_in, surely_ends}
 use Rattle.type_rules.specs.Demands.{first_wrong, Fails}
+use Rattle.type_rules.specs.Here.{Here}
 use Rattle.type_rules.specs.Functions.{phases_demands}
 use Rattle.type_rules.specs.Views.{phase_view}
 use Rattle.type_rules.proofs.First.{fails_same}
+use Rattle.context_types.specs.inner.Judged.{AllFew}
 use Rattle.context_types.specs.inner.Places.{here_of}
 use Rattle.context_types.proofs.Exits.{exit}
 use Rattle.context_types.proofs.Lists.{next_phase, phase_asks, phase_made, phases_walk, phases_ends, phases_ended, phases_made}
+use Rattle.context_types.proofs.Staying.{phase_stays}
 use Rattle.context_types.proofs.Walking.{walk, ends, ends_more, walk_more, walk_fails, walk_whole, makes, made_more}
 use Rattle.context_types.proofs.here.Here.phases.Goals as goal
+
+pub phase-requires : goal.phase-requires
+phase-requires c = c.loop-phase.invariant.few
 
 pub returns-in_err-phase : goal.returns-in_err-phase
 returns-in_err-phase c =
@@ -37,8 +43,9 @@ loop-phase-preserved c =
       holds = walk_more next_phase phase_asks (h, b) ps i p c.loop-phase-test.true c.phase-item.is is.holds (ap (λ g. first_wrong (phase_asks g p)) is.place ∙ c.in_ok-phase.ensures.0);
       place = ends_more next_phase (h, b) ps i p c.loop-phase-test.true c.phase-item.is ∙ ap (λ g. next_phase g p) is.place
           ∙ (λ i. (made.0 i, (ap (λ v. surely_ends v.body) made.1 ∙ ap (λ l. surely_ends (steps_in l)) (sym c.as_slice.ensures) ∙ sym c.surely_ends-past.ensures) i));
-      made = made_more next_phase phase_made phase_view (h, b) ps i p c.loop-phase.made.items c.push.new.self.items c.in_ok-phase.phase c.loop-phase-test.true c.phase-item.is is.made
+      made = made_more next_phase phase_made phase_view (h, b) ps i p c.loop-phase.made.items c.push.new.items.items c.in_ok-phase.phase c.loop-phase-test.true c.phase-item.is is.made
           (ap (λ g. phase_made g p) is.place ∙ made.1) c.in_ok-push.ensures.items;
+      few = subst AllFew (sym (phase_stays (here_of c.loop-phase.self) (phase_tree p)) ∙ ap (λ (g : Here). g.known) made.0) is.few;
     }
 
 pub returns : goal.returns

@@ -1,5 +1,5 @@
-use Rattle.std.proofs.Common.{◌≡◌, ◌++◌, [], ap, sym, ◌∙◌, subst, drop, map, if◌then◌else◌, arith, false, refl}
-use Rattle.std.specs.Prelude.{is_some, slice_get}
+use Rattle.std.proofs.Common.{◌≡◌, ◌++◌, [], ap, sym, ◌∙◌, subst, drop, map, if◌then◌else◌, arith, false, true, refl}
+use Rattle.std.specs.Prelude.{Result, Ok, Err, is_ok, is_some, slice_get}
 use Rattle.deferred_out.specs.Kept.{nothing}
 use Rattle.service_code.specs.declared.program.Program.{Program}
 use Rattle.service_verify.specs.Boxes.{Frame, blank_of, first_locals, first_frame, first_box}
@@ -21,6 +21,11 @@ blanks-requires c =
     let few = args_few c.args.program.now c.requires.fit c.args.call c.requires.call c.event_function-number.result (ap (λ (q : Program). slice_get q.events c.args.call.event) (sym e) ∙ c.event_function-number.ensures) c.function-function.result.now (ap (λ (q : Program). slice_get q.functions c.event_function-number.result) (sym e) ∙ c.function-function.ensures) in
     omega (arith, few, c.len.ensures)
 
+-- what was not refused
+went_well : {E : Type 0} (r : Result (Unit {0}) E) → ((e : E) → r ≡ Err e → ⊥) → is_ok r ≡ true
+went_well (Ok u) h = refl
+went_well (Err e) h = absurd (h e refl)
+
 -- the event that comes out
 event_is : (c : goal.After-drop-blanks-2) → event_in false c.first-run.result ≡ record { box = first_box c.args.program.now c.args.call; levels = [] }
 event_is c =
@@ -30,7 +35,7 @@ event_is c =
     let there = ap (λ (q : Program). slice_get q.functions c.event_function-number.result) (sym e) ∙ c.function-function.ensures in
     let locals : c.append.new.self.items ≡ first_locals function c.args.call.args =
     c.append.ensures.items
-    ∙ ap (λ b. if b then c.into_vec-locals.result.items ++ c.in-Ok.blanks.items else c.into_vec-locals.result.items) c.if-is_err.ensures.negation
+    ∙ ap (λ b. if b then c.into_vec-locals.result.items ++ c.in-Ok.blanks.items else c.into_vec-locals.result.items) (went_well c.append.result c.in_default.not-Err)
     ∙ (λ i. c.into_vec-locals.ensures i ++ c.in-Ok.ensures i)
     ∙ ap (λ n. c.args.call.args ++ map blank_of (drop n function.locals)) c.len.ensures in
     let first : Frame = record { function = c.event_function-number.result; place = 0; stack = []; locals = c.append.new.self.items; down = false } in

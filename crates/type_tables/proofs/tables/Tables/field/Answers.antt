@@ -9,9 +9,9 @@ use Rattle.type_rules.specs.Known.{field_kind}
 use Rattle.type_tables.proofs.Walks.{found_at, on_at, not_found_at, value_at}
 use Rattle.type_tables.proofs.tables.Tables.field.Goals as goal
 
-pub returns-then-eq : goal.returns-then-eq
-returns-then-eq c =
-    let fields = c.fields-field-items.ensures.fields in
+pub returns-then-eq-clause-found : goal.returns-then-eq-clause-found
+returns-then-eq-clause-found c =
+    let fields = c.fields-field-items.ensures in
     let at = found_at (λ f. same_bytes f.name c.args.name.now) _ (declared_fields c.args.self.now.shape c.args.class) c.loop-i.i c.field-item.result fields c.loop-i.invariant c.loop-i-test.true c.field-item.is (sym c.eq.ensures ∙ c.if-eq.true) in
     let kind : field_kind c.args.self.now c.args.class c.loop-i.i ≡ c.field-item.result.kind = ap (λ fs. field_at fs c.loop-i.i) (sym fields) ∙ value_at (λ f. f.kind) _ c.loop-i.i c.field-item.result Int c.loop-i-test.true c.field-item.is in
     ap (λ k. Some (c.loop-i.i, k)) (sym kind) ∙ ap (option_map (λ f. (f, field_kind c.args.self.now c.args.class f))) at
@@ -22,7 +22,7 @@ returns-then-eq c =
 pub loop-i-preserved : goal.loop-i-preserved
 loop-i-preserved c = on_at (λ f. same_bytes f.name c.args.name.now) _ c.loop-i.i c.field-item.result c.loop-i.invariant c.loop-i-test.true c.field-item.is (sym c.eq.ensures ∙ c.if-eq.false)
 
-pub returns : goal.returns
-returns c =
+pub returns-clause-found : goal.returns-clause-found
+returns-clause-found c =
     ap (option_map (λ f. (f, field_kind c.args.self.now c.args.class f)))
-    (not_found_at (λ f. same_bytes f.name c.args.name.now) _ _ c.loop-i.i c.fields-field-items.ensures.fields c.loop-i.invariant c.loop-i-test.false)
+    (not_found_at (λ f. same_bytes f.name c.args.name.now) _ _ c.loop-i.i c.fields-field-items.ensures c.loop-i.invariant c.loop-i-test.false)

@@ -45,7 +45,7 @@ returns-then-is_start-clause-took c =
     let leases = leases_still b.machine.kept c.reserve-2.new.self.kept c.reserve-2.ensures.keeps c.reserve-2.ensures.plan (label_of c.args.label) lease c.start-lease.ensures.leases in (
       record {
         goes_on = c.requires.can.goes_on;
-        history = history_more b after c.args.label items refl plan c.requires.can.standing.at.placed;
+        history = history_more b after c.args.label items refl plan c.requires.can.standing.at.word;
       },
       record {
         act = leased_start b c.args.label c.requires.can lease kind leases;
@@ -69,7 +69,7 @@ returns-clause-took c =
     let items = c.push_reserved-2.ensures.items ∙ ap₂ (λ xs l. xs ++ l ∷ []) c.reserve.ensures.items c.in_ok-written.ensures in (
       record {
         goes_on = c.requires.can.goes_on;
-        history = history_more b after c.args.label items refl (c.step.ensures.plan ∙ c.reserve-2.ensures.plan) c.requires.can.standing.at.placed;
+        history = history_more b after c.args.label items refl (c.step.ensures.plan ∙ c.reserve-2.ensures.plan) c.requires.can.standing.at.word;
       },
       refl,
       c.requires.kind (sym c.if-is_start.ensures),

@@ -17,15 +17,15 @@ returns-in-Ok-clause-given c =
     record {
       label = c.in-Ok.label;
       is_stop = c.in-Ok.ensures.label;
-      history = history_more c.args.self.now after c.in-Ok.label (c.push_reserved.ensures.items ∙ ap (λ xs. xs ++ c.in-Ok.label ∷ []) c.reserve.ensures.items) refl c.stop.ensures.plan c.requires.may.at.placed;
+      history = history_more c.args.self.now after c.in-Ok.label (c.push_reserved.ensures.items ∙ ap (λ xs. xs ++ c.in-Ok.label ∷ []) c.reserve.ensures.items) refl c.stop.ensures.plan c.requires.may.at.word;
     }
+
+pub returns-in-Err-stop-clause-still : goal.returns-in-Err-stop-clause-still
+returns-in-Err-stop-clause-still c =
+    let after : Board = record c.args.self.now { machine = c.stop.new.self; journal = c.reserve.new.self } in
+    still c.args.self.now after c.reserve.ensures.items c.stop.ensures.plan (λ h. h) c.in-Err-stop.ensures.keeps
 
 pub returns-in-Err-clause-still : goal.returns-in-Err-clause-still
 returns-in-Err-clause-still c =
-    let after : Board = record c.args.self.now { machine = c.stop.new.self; journal = c.reserve.new.self } in
-    still c.args.self.now after c.reserve.ensures.items c.stop.ensures.plan (λ h. h) c.in-Err.ensures.keeps
-
-pub returns-then-is_err-clause-still : goal.returns-then-is_err-clause-still
-returns-then-is_err-clause-still c =
     let after : Board = record c.args.self.now { journal = c.reserve.new.self } in
     still c.args.self.now after c.reserve.ensures.items refl (λ h. h) (λ start s stands. stands)

@@ -1,7 +1,0 @@
-use Rattle.std.proofs.Common.{ap, ◌∙◌, arith}
-use Rattle.wave_base.specs.Shapes.{class_of}
-use Rattle.context_tree.proofs.ClassLemmas.{last_class}
-use Rattle.context_tree.proofs.tree.class_of.Goals as goal
-
-pub returns-in-len1-up : goal.returns-in-len1-up
-returns-in-len1-up c = last_class 0 c.as_slice.result.now _ (omega (arith, c.in-len1-up.len_at_least)) ∙ ap class_of c.as_slice.ensures.steps

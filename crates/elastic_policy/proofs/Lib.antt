@@ -1,0 +1,10 @@
+pub mod Firsts
+pub mod Loads
+pub mod Sent
+pub mod Even
+pub mod Turns
+pub mod Balances
+pub mod Fits
+pub mod Policies
+pub mod Examples
+pub mod InTree

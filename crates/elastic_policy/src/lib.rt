@@ -1,0 +1,8 @@
+//! Policies: which moves one asks for, and scripts that are run under them.
+#![tactic(auto)]
+
+mod plan;
+mod sums;
+mod turn;
+
+pub use plan::plan_moves;

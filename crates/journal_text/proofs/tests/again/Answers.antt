@@ -1,4 +1,0 @@
-use Rattle.journal_text.proofs.tests.again.Goals as goal
-
-pub write_journal-requires : goal.write_journal-requires
-write_journal-requires c i d h = (c.in_ok-journal.ensures.0.fit i d h).path

@@ -1,0 +1,113 @@
+//! Where mail goes, and contexts that move.
+
+ghost use Rattle.std.specs.Prelude.{◌≡◌};
+
+use context_queue::Entry;
+use host_map::{Found, HostStore, Mark};
+use migration_core::*;
+use std::alloc::Global;
+use std::test::Fail;
+use wave_base::{
+    Child, Children, Class, Host, OutOfMemory, Outcome, Path, Pause, Record, Seq, Step, Ticket,
+};
+use wave_labels::MailId;
+
+fn step(key: i64) -> Step {
+    let class = Class(1);
+    Step { class, key }
+}
+
+fn record(alloc: Global) -> Record {
+    Record {
+        fields: Seq::new(alloc),
+        children: Children::new(alloc),
+    }
+}
+
+fn entry(alloc: Global) -> Entry
+    ensures { result.moves ≡ 0 }
+{
+    Entry::new(alloc, record(alloc))
+}
+
+fn goes(store: &HostStore, path: Path, followed: u64) -> Route {
+    let ticket = Ticket(3);
+    let id = MailId { ticket, number: 1 };
+    let letter = Letter::Enter {
+        number: 1,
+        followed,
+        peek: false,
+    };
+    route(store, &Mail { id, path, letter })
+}
+
+#[test]
+fn an_enter_follows_a_mark_once(rt: HostRuntime) -> Result<(), Fail> {
+    let alloc = rt.alloc();
+    let mut store = HostStore::new(alloc);
+    let near = Path::root().child(step(1));
+    let far = Path::root().child(step(2));
+    store.reserve()?;
+    store.birth(Path::root(), entry(alloc));
+    store.mark(
+        near,
+        Mark {
+            to: Host(5),
+            number: 2,
+        },
+    );
+    assert!(rt; goes(&store, Path::root(), 0) == Route::Deliver);
+    assert!(rt; goes(&store, near, 1) == Route::Forward(Host(5)));
+    assert!(rt; goes(&store, near, 2) == Route::Wait);
+    assert!(rt; goes(&store, far, 0) == Route::Born);
+    assert!(rt; goes(&store, far, 1) == Route::Wait);
+    Ok(())
+}
+
+#[test]
+fn a_context_departs_and_lands(rt: HostRuntime) -> Result<(), Fail> {
+    let alloc = rt.alloc();
+    let mut here = HostStore::new(alloc);
+    let mut there = HostStore::new(alloc);
+    let path = Path::root().child(step(1));
+    let newborn = entry(alloc);
+    here.reserve()?;
+    here.birth(path, newborn);
+    let moved = depart(&mut here, &path, Host(1));
+    assert!(rt; moved.moves == 1);
+    let mark = Mark {
+        to: Host(1),
+        number: 1,
+    };
+    assert!(rt; here.find(&path) == Found::Gone(mark));
+    there.reserve()?;
+    land(&mut there, path, moved);
+    assert!(rt; there.find(&path) == Found::Here);
+    Ok(())
+}
+
+fn with_child(alloc: Global, child: Step) -> Result<Record, OutOfMemory> {
+    let mut record = record(alloc);
+    let birth = Host(0);
+    record.children.put(child, Child { given: 1, birth })?;
+    Ok(record)
+}
+
+#[test]
+fn a_mover_goes_down_and_ends(rt: HostRuntime) -> Result<(), Fail> {
+    let alloc = rt.alloc();
+    let target = Path::root().child(step(4)).child(step(7));
+    let mut mover = Mover::new(Ticket(9), target, Host(3));
+    assert!(rt; advance(alloc, &mut mover, &with_child(alloc, step(4))?) == Pause::Go(step(4)));
+    match advance(alloc, &mut mover, &record(alloc)) {
+        Pause::Over(result) => assert!(rt; result.outcome == Outcome::Absent(target)),
+        _ => assert!(rt; false),
+    }
+    assert!(rt; advance(alloc, &mut mover, &with_child(alloc, step(7))?) == Pause::Go(step(7)));
+    match advance(alloc, &mut mover, &record(alloc)) {
+        Pause::Over(result) => assert!(rt; result.outcome == Outcome::Moved(target, Host(3))),
+        _ => assert!(rt; false),
+    }
+    assert!(rt; mover.ticket() == Ticket(9));
+    Ok(())
+}

@@ -1,0 +1,13 @@
+mod Beginnings
+mod Births
+mod Calls
+mod Efforts
+mod Events
+mod Looks
+mod Market
+mod Picks
+mod Scripts
+mod Sharing
+mod Starts
+mod Statements
+mod Worlds

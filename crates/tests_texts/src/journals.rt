@@ -1,0 +1,235 @@
+ghost use Rattle.std.specs.Prelude.{◌≡◌, ◌≤◌, ◌∷◌, [], codes, length, IfOk};
+ghost use Rattle.wave_base.specs.Names.{HasNames};
+ghost use Rattle.wave_base.specs.Shapes.{IsShape};
+ghost use Rattle.wave_base.specs.Text.{IsText};
+ghost use Rattle.path_text.specs.Sample.{hall_shape};
+
+use journal_text::{JournalError, read_journal, write_journal};
+use std::alloc::Global;
+use std::test::Fail;
+use wave_base::{Class, ClassInfo, Host, OutOfMemory, Path, Seq, Shape, Step, Ticket, Txt, Worker};
+use wave_labels::{Act, Label, MailId};
+
+fn class(alloc: Global, name: &[u8], parent: Option<Class>) -> Result<ClassInfo, OutOfMemory>
+    requires { IsText name.now }
+    ensures { IfOk result (λ c. c ≡ record { name = name.now; parent = parent; fields = [] }) }
+{
+    Ok(ClassInfo {
+        name: Txt::from_bytes(alloc, name)?,
+        parent,
+        fields: Seq::new(alloc),
+    })
+}
+
+// A root, and a Hall in it.
+fn hall_shape(alloc: Global) -> Result<Shape, OutOfMemory>
+    ensures same { IfOk result (λ s. s ≡ hall_shape) }
+    ensures shape { IfOk result IsShape }
+    ensures names { IfOk result HasNames }
+{
+    let root = class(alloc, b"Market", None)?;
+    let hall = class(alloc, b"Hall", Some(Class(0)))?;
+    let mut classes = Vec::new(alloc);
+    classes.push(root)?;
+    classes.push(hall)?;
+    Ok(Shape {
+        classes: Seq::from_vec(classes),
+        events: Seq::new(alloc),
+    })
+}
+
+// The text of what is read of a text.
+fn again(alloc: Global, shape: &Shape, text: &[u8]) -> Result<Seq<u8>, JournalError>
+    requires shape { IsShape shape.now }
+    requires names { HasNames shape.now }
+    requires short { length text.now ≤ 2000 }
+{
+    let journal = read_journal(alloc, shape, text)?;
+    Ok(write_journal(alloc, shape, &journal)?)
+}
+
+const ONE_EVENT: &[u8] = b"journal 7
+1 w0 h0 Admit #1
+2 w0 h0 Queue #1.1 /
+3 w0 h0 Grant #1 /
+4 w0 h0 Start #1 /
+5 w0 h0 Stop #1 /
+6 w0 h0 Commit #1
+7 w0 h0 Free #1.2 /
+";
+
+fn label(act: Act) -> Label {
+    Label {
+        worker: Worker(0),
+        host: Host(0),
+        act,
+    }
+}
+
+fn one_event(alloc: Global) -> Result<Seq<Label>, OutOfMemory> {
+    let ticket = Ticket(1);
+    let root = Path::root();
+    let enter = MailId { ticket, number: 1 };
+    let release = MailId { ticket, number: 2 };
+    let labels = vec![in alloc;
+        label(Act::Admit(ticket)),
+        label(Act::Queue(enter, root)),
+        label(Act::Grant(ticket, root)),
+        label(Act::Start(ticket, root)),
+        label(Act::Stop(ticket, root)),
+        label(Act::Commit(ticket)),
+        label(Act::Free(release, root)),
+    ]?;
+    Ok(Seq::from_vec(labels))
+}
+
+#[test]
+fn reads_one_event(rt: HostRuntime) -> Result<(), Fail> {
+    let alloc = rt.alloc();
+    let shape = hall_shape(alloc)?;
+    assert!(rt; read_journal(alloc, &shape, ONE_EVENT) == Ok(one_event(alloc)?));
+    let text = again(alloc, &shape, ONE_EVENT)?;
+    assert!(rt; text.as_slice() == ONE_EVENT);
+    let none = read_journal(alloc, &shape, b"journal 0\n")?;
+    assert!(rt; none.is_empty());
+    Ok(())
+}
+
+const BOUNDS: &[u8] = b"journal 11
+1 w255 h255 Admit #4294967295
+2 w1 h0 Queue #4294967295.4294967295 /Hall[-9223372036854775808]
+3 w2 h1 Grant #0 /Hall[9223372036854775807]
+4 w3 h2 Visit #3.0 /Hall[0]
+5 w4 h3 Start #4 /Hall[-1]
+6 w5 h4 Stop #5 /
+7 w6 h5 Free #6.1 /Hall[7]
+8 w7 h6 Pass #7.2 /Hall[8] to 255
+9 w8 h7 Land #8.3 /Hall[9]
+10 w0 h0 Commit #0
+11 w0 h0 Pass #0.0 / to 0
+";
+
+#[test]
+fn reads_numbers_at_their_bounds(rt: HostRuntime) -> Result<(), Fail> {
+    let alloc = rt.alloc();
+    let shape = hall_shape(alloc)?;
+    let text = again(alloc, &shape, BOUNDS)?;
+    assert!(rt; text.as_slice() == BOUNDS);
+    let journal = read_journal(alloc, &shape, BOUNDS)?;
+    let passed = Act::Pass(
+        MailId {
+            ticket: Ticket(7),
+            number: 2,
+        },
+        Path::root().child(Step {
+            class: Class(1),
+            key: 8,
+        }),
+        Host(255),
+    );
+    let passes = Label {
+        worker: Worker(7),
+        host: Host(6),
+        act: passed,
+    };
+    assert!(rt; journal.get(7) == Some(&passes));
+    Ok(())
+}
+
+// The line at which a text is refused.
+fn refused(alloc: Global, shape: &Shape, text: &[u8]) -> Option<u32>
+    requires shape { IsShape shape.now }
+    requires names { HasNames shape.now }
+    requires short { length text.now ≤ 2000 }
+{
+    match read_journal(alloc, shape, text) {
+        Err(JournalError::Syntax { line }) => Some(line),
+        _ => None,
+    }
+}
+
+#[test]
+fn refuses_heads(rt: HostRuntime) -> Result<(), Fail> {
+    let alloc = rt.alloc();
+    let shape = hall_shape(alloc)?;
+    for text in [
+        b"".as_slice(),
+        b"\n".as_slice(),
+        b"journal 0".as_slice(),
+        b"journal 00\n".as_slice(),
+        b"journal 1\n".as_slice(),
+        b"journal 0\n\n".as_slice(),
+        b"journal 0\r\n".as_slice(),
+        b"journal 2\n1 w0 h0 Admit #1\n".as_slice(),
+        b"journal 1\n1 w0 h0 Admit #1\n2".as_slice(),
+        b"journal  1\n1 w0 h0 Admit #1\n".as_slice(),
+    ] {
+        if text.len() <= 2000 {
+            assert_eq!(rt; refused(alloc, &shape, text), Some(1));
+        }
+    }
+    Ok(())
+}
+
+// The line at which a journal of this one line is refused.
+fn refused_alone(alloc: Global, shape: &Shape, line: &[u8]) -> Result<Option<u32>, OutOfMemory>
+    requires shape { IsShape shape.now }
+    requires names { HasNames shape.now }
+{
+    let mut text = Vec::from_slice(alloc, b"journal 1\n")?;
+    text.extend_from_slice(line)?;
+    text.push(b'\n')?;
+    if text.len() > 2000 {
+        return Ok(None);
+    }
+    Ok(refused(alloc, shape, text.as_slice()))
+}
+
+#[test]
+fn refuses_lines(rt: HostRuntime) -> Result<(), Fail> {
+    let alloc = rt.alloc();
+    let shape = hall_shape(alloc)?;
+    for line in [
+        b"2 w0 h0 Admit #1".as_slice(),
+        b"01 w0 h0 Admit #1".as_slice(),
+        b"1 h0 w0 Admit #1".as_slice(),
+        b"1 w256 h0 Admit #1".as_slice(),
+        b"1 w0 h256 Admit #1".as_slice(),
+        b"1 w00 h0 Admit #1".as_slice(),
+        b"1 w0 h0 Admit #4294967296".as_slice(),
+        b"1 w0 h0 Admit #01".as_slice(),
+        b"1 w0 h0 Admit 1".as_slice(),
+        b"1 w0 h0 Admit #1.1".as_slice(),
+        b"1 w0 h0 Admit #1 /".as_slice(),
+        b"1 w0 h0 Queue #1 /".as_slice(),
+        b"1 w0 h0 Queue #1.4294967296 /".as_slice(),
+        b"1 w0 h0 Queue #1.1".as_slice(),
+        b"1 w0 h0 Grant #1 /Hall[007]".as_slice(),
+        b"1 w0 h0 Grant #1 /Hall[-0]".as_slice(),
+        b"1 w0 h0 Grant #1 /Hall[9223372036854775808]".as_slice(),
+        b"1 w0 h0 Grant #1 /Stall[1]".as_slice(),
+        b"1 w0 h0 Grant #1 /Hall[1]/Hall[1]".as_slice(),
+        b"1 w0 h0 Pass #1.1 / 1".as_slice(),
+        b"1 w0 h0 Pass #1.1 / to 256".as_slice(),
+        b"1 w0 h0 Go #1".as_slice(),
+        b"1  w0 h0 Admit #1".as_slice(),
+        b"1 w0 h0 Admit #1 ".as_slice(),
+        b"1 w0 h0 Admit #1\r".as_slice(),
+        b"1 w+0 h0 Admit #1".as_slice(),
+        b"".as_slice(),
+    ] {
+        assert_eq!(rt; refused_alone(alloc, &shape, line)?, Some(2));
+    }
+    Ok(())
+}
+
+#[test]
+fn refuses_the_first_line_that_is_none(rt: HostRuntime) -> Result<(), Fail> {
+    let alloc = rt.alloc();
+    let shape = hall_shape(alloc)?;
+    let middle = b"journal 3\n1 w0 h0 Admit #1\n2 w0 h0 Grant 1 /\n3 w0 h0 Nothing\n";
+    assert_eq!(rt; refused(alloc, &shape, middle), Some(3));
+    let open = b"journal 2\n1 w0 h0 Admit #1\n2 w0 h0 Commit #1";
+    assert_eq!(rt; refused(alloc, &shape, open), Some(3));
+    Ok(())
+}

@@ -1,0 +1,36 @@
+//! The tests of crates that cut, read and write texts, a module a crate: a crate with tests is proved twice, so theirs stand here, above
+//! them. It has no code of its own.
+#![tactic(auto)]
+
+#[cfg(test)]
+mod commands;
+#[cfg(test)]
+mod inputs;
+#[cfg(test)]
+mod journals;
+#[cfg(test)]
+mod lexer;
+#[cfg(test)]
+mod listing;
+#[cfg(test)]
+mod listings;
+#[cfg(test)]
+mod loads;
+#[cfg(test)]
+mod nodes;
+#[cfg(test)]
+mod notes;
+#[cfg(test)]
+mod paths;
+#[cfg(test)]
+mod scripts;
+#[cfg(test)]
+mod services;
+#[cfg(test)]
+mod snapshots;
+#[cfg(test)]
+mod streams;
+#[cfg(test)]
+mod tables;
+#[cfg(test)]
+mod words;

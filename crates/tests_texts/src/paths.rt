@@ -1,0 +1,89 @@
+ghost use Rattle.std.specs.Prelude.{◌≡◌, ◌∷◌, [], codes, IfOk};
+ghost use Rattle.wave_base.specs.Text.{IsText};
+ghost use Rattle.wave_base.specs.Shapes.{IsShape};
+ghost use Rattle.path_text.specs.Sample.{hall_shape};
+
+use path_text::{
+    ClassNames, PathError, parse_path, put_shot, resolve_steps, write_path, written_steps,
+};
+use std::alloc::Global;
+use std::test::Fail;
+use wave_base::{Class, ClassInfo, OutOfMemory, Path, Seq, Shape, Shot, Step, Txt};
+
+fn class(alloc: Global, name: &[u8], parent: Option<Class>) -> Result<ClassInfo, OutOfMemory>
+    requires { IsText name.now }
+    ensures { IfOk result (λ c. c ≡ record { name = name.now; parent = parent; fields = [] }) }
+{
+    Ok(ClassInfo {
+        name: Txt::from_bytes(alloc, name)?,
+        parent,
+        fields: Seq::new(alloc),
+    })
+}
+
+// A root, and a Hall in it.
+fn hall_shape(alloc: Global) -> Result<Shape, OutOfMemory>
+    ensures same { IfOk result (λ s. s ≡ hall_shape) }
+    ensures shape { IfOk result IsShape }
+{
+    let root = class(alloc, b"Market", None)?;
+    let hall = class(alloc, b"Hall", Some(Class(0)))?;
+    let mut classes = Vec::new(alloc);
+    classes.push(root)?;
+    classes.push(hall)?;
+    Ok(Shape {
+        classes: Seq::from_vec(classes),
+        events: Seq::new(alloc),
+    })
+}
+
+#[test]
+fn reads_what_it_writes(rt: HostRuntime) -> Result<(), Fail> {
+    let alloc = rt.alloc();
+    let shape = hall_shape(alloc)?;
+    let hall = Path::root().child(Step {
+        class: Class(1),
+        key: -7,
+    });
+    let text = write_path(alloc, &shape, &hall)?;
+    assert!(rt; text.as_slice() == b"/Hall[-7]".as_slice());
+    assert!(rt; parse_path(alloc, &shape, b"/Hall[-007]") == Ok(hall));
+    assert!(rt; parse_path(alloc, &shape, b"/") == Ok(Path::root()));
+    assert!(rt; parse_path(alloc, &shape, b"/Hall[]") == Err(PathError::Syntax));
+    assert!(rt; parse_path(alloc, &shape, b"/Market[1]") == Err(PathError::UnknownClass));
+    Ok(())
+}
+
+#[test]
+fn writes_a_context(rt: HostRuntime) -> Result<(), Fail> {
+    let alloc = rt.alloc();
+    let shape = hall_shape(alloc)?;
+    let shot = Shot {
+        path: Path::root(),
+        fields: Seq::new(alloc),
+    };
+    let mut out = Vec::new(alloc);
+    put_shot(alloc, &mut out, &shape, &shot)?;
+    assert!(rt; out.as_slice() == b"at /".as_slice());
+    Ok(())
+}
+
+#[test]
+fn finds_classes_by_their_names(rt: HostRuntime) -> Result<(), Fail> {
+    let alloc = rt.alloc();
+    let shape = hall_shape(alloc)?;
+    let names = ClassNames::of(alloc, &shape)?;
+    assert_eq!(rt; names.shape().classes.len(), 2);
+    let hall = Path::root().child(Step {
+        class: Class(1),
+        key: 5,
+    });
+    if let Some(steps) = written_steps(alloc, b"/Hall[5]")? {
+        assert!(rt; resolve_steps(&names, steps.as_slice()) == Some(hall));
+        assert!(rt; resolve_steps(&shape, steps.as_slice()) == Some(hall));
+    }
+    if let Some(steps) = written_steps(alloc, b"/Hall[5]/Hall[5]")? {
+        assert!(rt; resolve_steps(&names, steps.as_slice()).is_none());
+    }
+    Ok(())
+}
