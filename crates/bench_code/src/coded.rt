@@ -1,4 +1,4 @@
-ghost use Rattle.std.specs.Prelude.{IfSome};
+ghost use Rattle.std.specs.Prelude.{◌<◌, ◌+◌, ◌^◌, length, IfSome};
 ghost use Rattle.wave_base.specs.Scripts.{IsScript};
 ghost use Rattle.wave_base.specs.Shapes.{IsShape};
 ghost use Rattle.resolved_service.specs.Fits.{FitsService};
@@ -31,6 +31,7 @@ fn typed_service(alloc: Global, text: &[u8]) -> Option<Typed>
     ensures shape { IfSome result (λ t. IsShape t.shape) }
     ensures typed { IfSome result (λ t. IsTyped t.shape t.resolved) }
     ensures fits { IfSome result (λ t. FitsService t.shape t.resolved) }
+    ensures few { IfSome result (λ t. length t.resolved.methods + length t.resolved.events < 2 ^ 16) }
 {
     typed_services_have_code();
     let Ok(service) = parse_text(alloc, text) else {
@@ -47,6 +48,7 @@ fn code_of(alloc: Global, typed: &Typed) -> Option<Verified>
     requires shape { IsShape typed.now.shape }
     requires typed { IsTyped typed.now.shape typed.now.resolved }
     requires fits { FitsService typed.now.shape typed.now.resolved }
+    requires few { length typed.now.resolved.methods + length typed.now.resolved.events < 2 ^ 16 }
     ensures shape { IfSome result (λ p. IsShape p.shape) }
     ensures code { IfSome result (IsCode typed.now.resolved) }
 {
