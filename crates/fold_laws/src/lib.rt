@@ -1,0 +1,6 @@
+//! How much a run adds to what it begins with, and how a run of several scripts is cut into their runs.
+#![tactic(auto)]
+
+mod laws;
+
+pub use laws::calls_enter_few;
