@@ -1,2 +1,4 @@
 pub mod Entering
+pub mod Measures
+pub mod Growing
 pub mod Touring

@@ -103,3 +103,6 @@ module _ (program : Program) (call : Call) (first : Tree Fields) where
   pub tour_pauses : (code_tour program call first).segments ≤ 2 * TICKS + CLASS_DEPTH + 1
   unfolding code_tour
   tour_pauses = segments_after (most_segments program)
+
+  pub code_grows : length (code_tour program call first).tree.paths ≤ length first.paths + CONTEXTS
+  code_grows = omega (arith, tour_adds, tour_enters)

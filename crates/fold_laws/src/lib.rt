@@ -3,4 +3,4 @@
 
 mod laws;
 
-pub use laws::calls_enter_few;
+pub use laws::{calls_enter_few, lines_are_few, plans_stay_few, runs_stay_few};
