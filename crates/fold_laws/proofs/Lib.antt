@@ -1,4 +1,6 @@
 pub mod Entering
-pub mod Measures
 pub mod Growing
+pub mod Measures
+pub mod Numbered
+pub mod Sending
 pub mod Touring

@@ -1,9 +1,10 @@
 //! Laws of folds: each is the contract of a function that does nothing.
 
-ghost use Rattle.std.specs.Prelude.{◌≤◌, ◌+◌, ◌*◌, List, length, sum_by};
+ghost use Rattle.std.specs.Prelude.{◌≡◌, ◌≤◌, ◌<◌, ◌+◌, ◌*◌, ◌^◌, ℕ, List, length, sum_by, Some};
 ghost use Rattle.wave_base.specs.declared.limits.TheConstants.{CLASS_DEPTH, CONTEXTS, TICKS};
 ghost use Rattle.wave_base.specs.declared.call.Call.{Call};
 ghost use Rattle.wave_base.specs.declared.value.Value.{Value};
+ghost use Rattle.wave_base.specs.declared.outcome.EventResult.{EventResult};
 ghost use Rattle.wave_base.specs.declared.script.Line.{Line};
 ghost use Rattle.wave_base.specs.declared.script.Script.{Script};
 ghost use Rattle.wave_base.specs.declared.start.Start.{Start};
@@ -14,9 +15,18 @@ ghost use Rattle.script_fold.specs.Lines.{most_jobs};
 ghost use Rattle.script_fold.specs.Runs.{finished_of};
 ghost use Rattle.service_code.specs.declared.program.Program.{Program};
 ghost use Rattle.service_verify.specs.Tours.{code_tour};
+ghost use Rattle.wave_states.specs.Alone.{job_after};
+ghost use Rattle.wave_states.specs.Begins.{start_state};
+ghost use Rattle.wave_states.specs.Labels.{Label};
+ghost use Rattle.wave_states.specs.Runs.{run};
+ghost use Rattle.wave_states.specs.States.{State};
+ghost use Rattle.wave_theory.specs.Sent.{shares};
+ghost use Rattle.code_actor.specs.CodeActors.{Fields};
 ghost use Rattle.plan_actors.specs.Calls.{code_ran};
-ghost use Rattle.plan_actors.specs.Plans.{Plan, Fits, FitsStart};
+ghost use Rattle.plan_actors.specs.PlanActors.{Actor, plan_actors, plan_kind};
+ghost use Rattle.plan_actors.specs.Plans.{Plan, Fits, FitsStart, begin_in};
 ghost use Rattle.fold_laws.specs.Growth.{most_contexts, GrowsBy, StaysFew};
+ghost use Rattle.fold_laws.specs.Mails.{HaveNumbers};
 
 use script_fold::Runner;
 
@@ -46,4 +56,17 @@ pub fn runs_stay_few<R: Runner>(runner: &R)
 /// A run of a plan stays few: its calls run their code.
 pub fn plans_stay_few()
     ensures { (plan : Plan) (start : Start) → Fits plan → FitsStart plan start → StaysFew start plan.script.batches (finished_of (code_ran plan.program) plan.program.shape start plan.script) }
+{}
+
+/// The segments of a job of a plan, and the contexts that it enters, are together so few that a mail for each of them, and one more,
+/// have numbers of 32 bits.
+pub fn jobs_send_few()
+    ensures { (plan : Plan) (start : Start) (index : ℕ) (job : Line) → Fits plan → FitsStart plan start → job_after (plan_actors plan.program) (begin_in plan start) plan.script.batches index ≡ Some job
+        → shares (plan_kind plan.program plan.script.hosts) (begin_in plan start) plan.script.batches index job + 1 < 2 ^ 32 }
+{}
+
+/// So in each state to which labels lead each event has numbers for the mails that it sent, and for all that one segment more may
+/// send: one by which it goes on, and a Release for each context that it holds.
+pub fn events_send_few()
+    ensures { (plan : Plan) (start : Start) → Fits plan → FitsStart plan start → (labels : List Label) (s : State Actor Fields EventResult Line) → run (plan_actors plan.program) plan.workers (start_state (begin_in plan start) plan.script.batches) labels ≡ Some s → HaveNumbers s }
 {}

@@ -3,4 +3,6 @@
 
 mod laws;
 
-pub use laws::{calls_enter_few, lines_are_few, plans_stay_few, runs_stay_few};
+pub use laws::{
+    calls_enter_few, events_send_few, jobs_send_few, lines_are_few, plans_stay_few, runs_stay_few,
+};
