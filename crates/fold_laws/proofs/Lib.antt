@@ -1,6 +1,10 @@
+pub mod Cutting
 pub mod Entering
 pub mod Growing
+pub mod Heads
 pub mod Measures
 pub mod Numbered
 pub mod Sending
+pub mod Standing
 pub mod Touring
+pub mod Walk
