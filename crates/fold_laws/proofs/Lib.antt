@@ -5,6 +5,7 @@ pub mod Heads
 pub mod Measures
 pub mod Numbered
 pub mod Sending
+pub mod Shaping
 pub mod Standing
 pub mod Touring
 pub mod Walk

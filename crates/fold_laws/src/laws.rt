@@ -12,8 +12,11 @@ ghost use Rattle.wave_base.specs.Scripts.{IsScript};
 ghost use Rattle.wave_base.specs.Starts.{IsStart};
 ghost use Rattle.wave_base.specs.Tree.{Tree};
 ghost use Rattle.script_fold.specs.Lines.{most_jobs};
-ghost use Rattle.script_fold.specs.Runs.{finished_of};
+ghost use Rattle.script_fold.specs.Owed.{KeepsShape};
+ghost use Rattle.script_fold.specs.Runs.{finished_of, IsFew};
 ghost use Rattle.service_code.specs.declared.program.Program.{Program};
+ghost use Rattle.service_verify.specs.Fit.{IsFit};
+ghost use Rattle.service_verify.specs.Points.{IsVerified};
 ghost use Rattle.service_verify.specs.Tours.{code_tour};
 ghost use Rattle.wave_states.specs.Alone.{job_after};
 ghost use Rattle.wave_states.specs.Begins.{start_state};
@@ -25,6 +28,7 @@ ghost use Rattle.code_actor.specs.CodeActors.{Fields};
 ghost use Rattle.plan_actors.specs.Calls.{code_ran};
 ghost use Rattle.plan_actors.specs.PlanActors.{Actor, plan_actors, plan_kind};
 ghost use Rattle.plan_actors.specs.Plans.{Plan, Fits, FitsStart, begin_in};
+ghost use Rattle.fold_laws.specs.Cuts.{both, left_by, Comes, IsCut};
 ghost use Rattle.fold_laws.specs.Growth.{most_contexts, GrowsBy, StaysFew};
 ghost use Rattle.fold_laws.specs.Mails.{HaveNumbers};
 
@@ -69,4 +73,40 @@ pub fn jobs_send_few()
 /// send: one by which it goes on, and a Release for each context that it holds.
 pub fn events_send_few()
     ensures { (plan : Plan) (start : Start) → Fits plan → FitsStart plan start → (labels : List Label) (s : State Actor Fields EventResult Line) → run (plan_actors plan.program) plan.workers (start_state (begin_in plan start) plan.script.batches) labels ≡ Some s → HaveNumbers s }
+{}
+
+/// Where calls keep the shape of a tree, a run is cut where a script ends: that of a script and another behind it is the run of the
+/// one, and then of the other from what the one leaves. This goes on from script to script: both together may have any number of
+/// lines, as long as what they leave is few enough for a Start.
+pub fn runs_are_cut<R: Runner>(runner: &R)
+    requires sound { R.sound runner.now }
+    requires keeps { KeepsShape (R.shape runner.now) (R.meaning runner.now) (R.fits_tree runner.now) (R.fits_call runner.now) }
+    ensures first { (start : Start) (a : Script) → IsScript (R.shape runner.now) a → IsStart (R.shape runner.now) a.hosts start → IsFew (left_by (R.meaning runner.now) (R.shape runner.now) start a)
+        → Comes (R.meaning runner.now) (R.shape runner.now) start a }
+    ensures cut { (start : Start) (a b : Script) → Comes (R.meaning runner.now) (R.shape runner.now) start a → IsScript (R.shape runner.now) b → a.hosts ≡ b.hosts
+        → IsCut (R.meaning runner.now) (R.shape runner.now) start a b }
+    ensures more { (start : Start) (a b : Script) → Comes (R.meaning runner.now) (R.shape runner.now) start a → IsScript (R.shape runner.now) b → a.hosts ≡ b.hosts → IsFew (left_by (R.meaning runner.now) (R.shape runner.now) start (both a b))
+        → Comes (R.meaning runner.now) (R.shape runner.now) start (both a b) }
+{}
+
+/// And where each call adds few contexts besides, both together stay few.
+pub fn cut_runs_stay_few<R: Runner>(runner: &R)
+    requires sound { R.sound runner.now }
+    requires keeps { KeepsShape (R.shape runner.now) (R.meaning runner.now) (R.fits_tree runner.now) (R.fits_call runner.now) }
+    requires grows { GrowsBy (R.meaning runner.now) (R.fits_tree runner.now) (R.fits_call runner.now) }
+    ensures { (start : Start) (a b : Script) → Comes (R.meaning runner.now) (R.shape runner.now) start a → IsScript (R.shape runner.now) b → a.hosts ≡ b.hosts
+        → StaysFew start a.batches (finished_of (R.meaning runner.now) (R.shape runner.now) start a)
+        → StaysFew start (both a b).batches (finished_of (R.meaning runner.now) (R.shape runner.now) start (both a b)) }
+{}
+
+/// Scripts of a fit verified program, whose calls run their code, are cut so, and stay few.
+pub fn code_runs_are_cut()
+    ensures first { (program : Program) (start : Start) (a : Script) → IsFit program → IsVerified program → IsScript program.shape a → IsStart program.shape a.hosts start → IsFew (left_by (code_ran program) program.shape start a)
+        → Comes (code_ran program) program.shape start a }
+    ensures cut { (program : Program) (start : Start) (a b : Script) → IsFit program → IsVerified program → Comes (code_ran program) program.shape start a → IsScript program.shape b → a.hosts ≡ b.hosts
+        → IsCut (code_ran program) program.shape start a b }
+    ensures more { (program : Program) (start : Start) (a b : Script) → IsFit program → IsVerified program → Comes (code_ran program) program.shape start a → IsScript program.shape b → a.hosts ≡ b.hosts → IsFew (left_by (code_ran program) program.shape start (both a b))
+        → Comes (code_ran program) program.shape start (both a b) }
+    ensures few { (program : Program) (start : Start) (a b : Script) → IsFit program → IsVerified program → Comes (code_ran program) program.shape start a → IsScript program.shape b → a.hosts ≡ b.hosts
+        → StaysFew start a.batches (finished_of (code_ran program) program.shape start a) → StaysFew start (both a b).batches (finished_of (code_ran program) program.shape start (both a b)) }
 {}
