@@ -1,8 +1,9 @@
 -- A run is cut where a script ends.
-use Rattle.std.proofs.Common.{◌≡◌, ◌≤◌, ◌<◌, ◌+◌, ℕ, true, List, [], ◌∷◌, ◌++◌, length, map, sum_by, Option, Some, None, is_none, All, zip, refl, sym, ap, subst, ◌∙◌, arith, length-append}
+use Rattle.std.proofs.Common.{◌≡◌, ◌≤◌, ◌<◌, cond, ◌+◌, ℕ, true, List, [], ◌∷◌, ◌++◌, length, map, sum_by, Option, Some, None, is_none, All, zip, refl, sym, ap, subst, ◌∙◌, arith, length-append}
 use Rattle.std.proofs.lemmas.List.{map-append, length-map}
 use Rattle.std.proofs.lemmas.List.Elements.{All-append}
 use Rattle.std.proofs.lemmas.List.Sums.{sum_by-append}
+use Rattle.std.specs.List.{list_any}
 use Rattle.wave_base.specs.declared.call.Call.{Call}
 use Rattle.wave_base.specs.declared.finished.Finished.{Finished}
 use Rattle.wave_base.specs.declared.numbers.Ticket.{Ticket}
@@ -14,7 +15,8 @@ use Rattle.wave_base.specs.declared.shape.Shape.{Shape}
 use Rattle.wave_base.specs.declared.start.Start.{Start}
 use Rattle.wave_base.specs.declared.value.Value.{Value}
 use Rattle.wave_base.specs.Fold.{Progress, first_head, made, next_job, is_over, created_lines}
-use Rattle.wave_base.specs.Places.{after_job, places_after, move_of}
+use Rattle.wave_base.specs.Paths.{path_eq}
+use Rattle.wave_base.specs.Places.{after_job, places_after, move_of, load_of}
 use Rattle.wave_base.specs.Scripts.{IsScript}
 use Rattle.wave_base.specs.Starts.{IsStart, start_tree, start_places}
 use Rattle.wave_base.specs.Tree.{Tree, shots}
@@ -24,7 +26,7 @@ use Rattle.script_fold.specs.Owed.{Owed, KeepsShape}
 use Rattle.script_fold.specs.Runs.{after_jobs, whole_run, hosts_after, ticket_of, place_of, finished_by, finished_of, start_after, IsFew}
 use Rattle.script_fold.proofs.AgainLemmas.{run_goes_on}
 use Rattle.plan_actors.proofs.Folding.{most_over}
-use Rattle.fold_laws.specs.Cuts.{both, followed, AreJoined, left_by, IsCut, Comes}
+use Rattle.fold_laws.specs.Cuts.{both, followed, AreJoined, start_behind, IsCut, Comes}
 use Rattle.fold_laws.specs.Growth.{most_added, most_contexts, GrowsBy, StaysFew}
 use Rattle.fold_laws.proofs.Growing.{stays_few}
 use Rattle.fold_laws.proofs.Standing.{Leaves, leaves_after, shown_tree, told_places}
@@ -66,14 +68,14 @@ module _ (shape : Shape) (meaning : Meaning) (FitsTree : Tree (List Value) → T
     unfolding whole_run
     leaves = leaves_after shape meaning FitsTree FitsCall owed keeps start a is_script is_start (most_jobs a.batches)
 
-    pub tree_left : start_tree shape (left_by meaning shape start a) ≡ (whole_run meaning shape start a).tree
-    tree_left = shown_tree shape (whole_run meaning shape start a).tree (left_by meaning shape start a) leaves.fits refl
+    pub tree_left : start_tree shape (start_behind meaning shape start a) ≡ (whole_run meaning shape start a).tree
+    tree_left = shown_tree shape (whole_run meaning shape start a).tree (start_behind meaning shape start a) leaves.fits refl
 
-    pub places_left : start_places (left_by meaning shape start a) ≡ hosts_after start (whole_run meaning shape start a)
-    places_left = told_places (hosts_after start (whole_run meaning shape start a)) (left_by meaning shape start a) leaves.absent refl
+    pub places_left : start_places (start_behind meaning shape start a) ≡ hosts_after start (whole_run meaning shape start a)
+    places_left = told_places (hosts_after start (whole_run meaning shape start a)) (start_behind meaning shape start a) leaves.absent refl
 
     -- a script that fits, and leaves few
-    pub comes : IsFew (left_by meaning shape start a) → Comes meaning shape start a
+    pub comes : IsFew (start_behind meaning shape start a) → Comes meaning shape start a
     comes few = record {
       full = is_script.full;
       over = ap is_none whole_over;
@@ -86,7 +88,7 @@ module _ (shape : Shape) (meaning : Meaning) (FitsTree : Tree (List Value) → T
 
   module _ (start : Start) (a b : Script) (c : Comes meaning shape start a) (is_script : IsScript shape b) (hosts : a.hosts ≡ b.hosts) where
     abbrev u : Start
-    u = left_by meaning shape start a
+    u = start_behind meaning shape start a
 
     is_start : IsStart shape b.hosts u
     is_start = subst (λ n. IsStart shape n u) hosts c.begins
@@ -150,7 +152,7 @@ module _ (shape : Shape) (meaning : Meaning) (FitsTree : Tree (List Value) → T
       shots = ap (λ (w : Run). map shot_of (shots w.tree)) parts.fold;
     }
 
-    next_same : left_by meaning shape start (both a b) ≡ start_after u other_told
+    next_same : start_behind meaning shape start (both a b) ≡ start_after u other_told
     next_same = λ i. record { shots = is_joined.shots i; places = is_joined.places i; next = record { 0 = counts i } }
       where
         counts : start.next.0 + length (finished_of meaning shape start (both a b)).results ≡ start.next.0 + length first_told.results + length other_told.results
@@ -162,10 +164,11 @@ module _ (shape : Shape) (meaning : Meaning) (FitsTree : Tree (List Value) → T
       over = ap (λ (w : Run). is_over w) parts.fold ∙ ap is_none (shifted_job V.head (over_of V.head sane.sound (none_is (next_job V.head) c.over)) W.head ∙ whole_over u b is_script is_start);
       joined = is_joined;
       next = next_same;
+      loads = λ p. ap (λ (w : Run). load_of w.entered p) parts.fold ∙ sum_by-append (λ (ps : List Path). cond (list_any (path_eq p) ps) 1 0) V.entered W.entered;
     }
 
     -- and so another can go on from both
-    pub more_comes : IsFew (left_by meaning shape start (both a b)) → Comes meaning shape start (both a b)
+    pub more_comes : IsFew (start_behind meaning shape start (both a b)) → Comes meaning shape start (both a b)
     more_comes few = record {
       full = All-append (λ ls. 0 < length ls) a.batches b.batches c.full is_script.full;
       over = cut.over;

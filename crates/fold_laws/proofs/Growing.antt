@@ -3,8 +3,9 @@ use Rattle.std.proofs.Common.{◌≡◌, ◌≤◌, ◌+◌, ◌-◌, ◌*◌, �
 use Rattle.std.proofs.lemmas.List.{length-map}
 use Rattle.std.proofs.lemmas.List.Elements.{All-head, All-map, All-weaker}
 use Rattle.std.proofs.lemmas.List.Sums.{sum_by-cons, sum_by-le}
-use Rattle.wave_base.specs.declared.limits.TheConstants.{CONTEXTS, EVENT_LINES, GENERATION, SPAWNS}
+use Rattle.wave_base.specs.declared.limits.TheConstants.{CONTEXTS, GENERATION, SAVED_TICKET, SPAWNS}
 use Rattle.wave_base.specs.declared.call.Call.{Call}
+use Rattle.wave_base.specs.declared.finished.Finished.{Finished}
 use Rattle.wave_base.specs.declared.outcome.EventResult.{EventResult}
 use Rattle.wave_base.specs.declared.script.Line.{Line}
 use Rattle.wave_base.specs.declared.script.Line.TheVariants.{Request, Move, Snapshot}
@@ -14,12 +15,12 @@ use Rattle.wave_base.specs.declared.start.Start.{Start}
 use Rattle.wave_base.specs.declared.value.Value.{Value}
 use Rattle.wave_base.specs.Fold.{Progress, next_job, with_result, with_job, one_more, created_lines}
 use Rattle.wave_base.specs.Scripts.{IsScript}
-use Rattle.wave_base.specs.Starts.{IsStart, start_tree}
+use Rattle.wave_base.specs.Starts.{IsStart, first_start, start_tree}
 use Rattle.wave_base.specs.Tree.{Tree, shots}
 use Rattle.resolved_service.specs.Jobs.{shot_of}
 use Rattle.script_fold.specs.Lines.{Meaning, line_by, most_events, most_of, most_jobs, FitsJob}
 use Rattle.script_fold.specs.Owed.{Owed}
-use Rattle.script_fold.specs.Runs.{after_jobs, whole_run, finished_of}
+use Rattle.script_fold.specs.Runs.{after_jobs, whole_run, finished_of, start_after, IsFew}
 use Rattle.script_fold.proofs.FoldLemmas.{IsGood, good_after}
 use Rattle.script_fold.proofs.LeftLemmas.{All-drop_head, most_lines, most_some}
 use Rattle.fold_laws.specs.Growth.{most_added, most_contexts, GrowsBy, StaysFew}
@@ -129,3 +130,15 @@ batches_added (b ∷ bs) = omega (arith, batches_added bs, batch_added b, sum_by
 
 pub most_lines_add : (batches : List (List Line)) → most_contexts batches ≤ sum_by length batches * 87296
 most_lines_add batches = omega (arith, batches_added batches, most_lines batches)
+
+-- ---- of a script that fits, from the root alone
+
+module _ (shape : Shape) (script : Script) (is : IsScript shape script) where
+  pub script_jobs : most_jobs script.batches ≤ 1364000
+  script_jobs = omega (arith, most_lines script.batches, is.few_lines)
+
+  pub script_contexts : most_contexts script.batches ≤ 349184000
+  script_contexts = omega (arith, most_lines_add script.batches, is.few_lines)
+
+  pub script_saved : (f : Finished) → StaysFew (first_start shape) script.batches f → IsFew (start_after (first_start shape) f) × ((start_after (first_start shape) f).next.0 ≤ SAVED_TICKET)
+  script_saved f few = ((omega (arith, few.contexts, script_contexts), omega (arith, few.results, script_jobs)), omega (arith, few.results, script_jobs))

@@ -1,5 +1,6 @@
 pub mod Cutting
 pub mod Entering
+pub mod Examples
 pub mod Growing
 pub mod Heads
 pub mod Measures
