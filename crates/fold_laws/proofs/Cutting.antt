@@ -1,20 +1,17 @@
 -- A run is cut where a script ends.
-use Rattle.std.proofs.Common.{◌≡◌, ◌≤◌, ◌<◌, cond, ◌+◌, ℕ, true, List, [], ◌∷◌, ◌++◌, length, map, sum_by, Option, Some, None, is_none, All, zip, refl, sym, ap, subst, ◌∙◌, arith, length-append}
+use Rattle.std.proofs.Common.{◌≡◌, ◌<◌, cond, ◌+◌, ℕ, true, List, [], ◌∷◌, ◌++◌, length, map, sum_by, Option, Some, None, is_none, zip, refl, sym, ap, subst, ◌∙◌, arith, length-append}
 use Rattle.std.proofs.lemmas.List.{map-append, length-map}
 use Rattle.std.proofs.lemmas.List.Elements.{All-append}
 use Rattle.std.proofs.lemmas.List.Sums.{sum_by-append}
 use Rattle.std.specs.List.{list_any}
 use Rattle.wave_base.specs.declared.call.Call.{Call}
 use Rattle.wave_base.specs.declared.finished.Finished.{Finished}
-use Rattle.wave_base.specs.declared.numbers.Ticket.{Ticket}
-use Rattle.wave_base.specs.declared.outcome.EventResult.{EventResult}
 use Rattle.wave_base.specs.declared.path.Path.{Path}
-use Rattle.wave_base.specs.declared.script.Line.{Line}
 use Rattle.wave_base.specs.declared.script.Script.{Script}
 use Rattle.wave_base.specs.declared.shape.Shape.{Shape}
 use Rattle.wave_base.specs.declared.start.Start.{Start}
 use Rattle.wave_base.specs.declared.value.Value.{Value}
-use Rattle.wave_base.specs.Fold.{Progress, first_head, made, next_job, is_over, created_lines}
+use Rattle.wave_base.specs.Fold.{first_head, made, next_job, is_over, created_lines}
 use Rattle.wave_base.specs.Paths.{path_eq}
 use Rattle.wave_base.specs.Places.{after_job, places_after, move_of, load_of}
 use Rattle.wave_base.specs.Scripts.{IsScript}
@@ -23,15 +20,15 @@ use Rattle.wave_base.specs.Tree.{Tree, shots}
 use Rattle.resolved_service.specs.Jobs.{shot_of}
 use Rattle.script_fold.specs.Lines.{Meaning, name_of, most_jobs}
 use Rattle.script_fold.specs.Owed.{Owed, KeepsShape}
-use Rattle.script_fold.specs.Runs.{after_jobs, whole_run, hosts_after, ticket_of, place_of, finished_by, finished_of, start_after, IsFew}
+use Rattle.script_fold.specs.Runs.{after_jobs, whole_run, hosts_after, ticket_of, place_of, finished_of, start_after, IsFew}
 use Rattle.script_fold.proofs.AgainLemmas.{run_goes_on}
 use Rattle.plan_actors.proofs.Folding.{most_over}
 use Rattle.fold_laws.specs.Cuts.{both, followed, AreJoined, start_behind, IsCut, Comes}
-use Rattle.fold_laws.specs.Growth.{most_added, most_contexts, GrowsBy, StaysFew}
+use Rattle.fold_laws.specs.Growth.{most_added, GrowsBy, StaysFew}
 use Rattle.fold_laws.proofs.Growing.{stays_few}
 use Rattle.fold_laws.proofs.Standing.{Leaves, leaves_after, shown_tree, told_places}
 use Rattle.fold_laws.proofs.Heads.{over_of, shifted_job}
-use Rattle.fold_laws.proofs.Walk.{Run, at, Sane, sane_after, Joins, joins, most_both}
+use Rattle.fold_laws.proofs.Walk.{Run, at, Sane, sane_after, joins, most_both}
 
 none_is : {A : Type 0} (o : Option A) → is_none o ≡ true → o ≡ None
 none_is None e = refl

@@ -1,7 +1,7 @@
 -- What instructions do to how many contexts an event has entered: one more where it goes into one that it does not hold, and never more than
 -- 256 in all.
-use Rattle.std.proofs.Common.{◌≡◌, ◌≤◌, ◌⊎◌, inl, inr, ℕ, zero, suc, List, [], ◌∷◌, ◌++◌, length, if◌then◌else◌, Bool, true, false, Option, Some, None, ℤ, refl, sym, ap, subst, ◌∙◌}
-use Rattle.std.specs.Prelude.{slice_get, slice_set, nat_lt, ◌==◌, Ok, Err, unwrap_or}
+use Rattle.std.proofs.Common.{◌≡◌, ◌≤◌, ◌⊎◌, inl, inr, ℕ, zero, suc, List, [], ◌∷◌, ◌++◌, length, if◌then◌else◌, Bool, true, false, Option, Some, None, ℤ, refl, subst, ◌∙◌}
+use Rattle.std.specs.Prelude.{slice_get, slice_set, nat_lt, ◌==◌, Ok, Err}
 use Rattle.std.proofs.lemmas.Bool.{ltb-true}
 use Rattle.std.specs.BTreeSet.{insert_key}
 use Rattle.std.specs.List.{filter}
@@ -14,7 +14,6 @@ use Rattle.wave_base.specs.declared.span.Span.{Span}
 use Rattle.wave_base.specs.declared.trap.TrapKind.{TrapKind}
 use Rattle.wave_base.specs.declared.trap.TrapKind.TheVariants as trap
 use Rattle.wave_base.specs.Paths.{path_cmp, is_above}
-use Rattle.wave_base.specs.Places.{move_of}
 use Rattle.wave_base.specs.declared.value.Kind.{Kind}
 use Rattle.wave_base.specs.declared.value.Value.{Value}
 use Rattle.wave_base.specs.declared.value.Value.TheVariants as v
@@ -26,7 +25,7 @@ use Rattle.service_code.specs.declared.instr.Instr.{Instr}
 use Rattle.service_code.specs.declared.instr.Instr.TheVariants.{PushInt, PushBool, PushText, PushEmpty, Load, Store, Field, SetField, Above, Op, PutLocal, PutField, CutLocal, CutField, Jump, JumpFalse, Tick, Call as CallOwn, CallDown, Return, Pop, Require, Send, Spawn, Go, Reply, End}
 use Rattle.service_code.specs.declared.program.Program.{Program}
 use Rattle.service_verify.specs.Boxes.{Frame, Box}
-use Rattle.service_verify.specs.Segments.{Left, go_on, enough, steps, segment, left_by}
+use Rattle.service_verify.specs.Segments.{go_on, enough, steps, segment}
 use Rattle.service_verify.specs.Steps.{Move, Runs, Paused, Lost, with_some, on_top, on_truth, on_int, truth_of, int_of, taken, has_kinds, is_held, trapped, finished, answered, put_row, cut_row, step_to, entering, ticking, next_with, jumped, with_result, runs, left, called, sent, created, code_of, places_of, acts, acted, frames_step, one_step}
 
 -- an event that held these and had entered so many pauses in a context: one more is entered where it is not held, and there is room

@@ -1,5 +1,5 @@
 -- A run stays few: its tree grows by what its lines may add at most, and there are no more results than jobs.
-use Rattle.std.proofs.Common.{◌≡◌, ◌≤◌, ◌+◌, ◌-◌, ◌*◌, ℕ, zero, suc, List, [], ◌∷◌, ◌++◌, length, map, sum_by, Option, Some, None, All, refl, sym, ap, subst, ◌∙◌, arith, length-append, mul-le-mul_right}
+use Rattle.std.proofs.Common.{◌≡◌, ◌≤◌, ◌+◌, ◌-◌, ◌*◌, ℕ, zero, suc, List, [], ◌∷◌, length, map, sum_by, Option, Some, None, All, refl, sym, ap, subst, ◌∙◌, arith, mul-le-mul_right}
 use Rattle.std.proofs.lemmas.List.{length-map}
 use Rattle.std.proofs.lemmas.List.Elements.{All-head, All-map, All-weaker}
 use Rattle.std.proofs.lemmas.List.Sums.{sum_by-cons, sum_by-le}
@@ -13,9 +13,9 @@ use Rattle.wave_base.specs.declared.script.Script.{Script}
 use Rattle.wave_base.specs.declared.shape.Shape.{Shape}
 use Rattle.wave_base.specs.declared.start.Start.{Start}
 use Rattle.wave_base.specs.declared.value.Value.{Value}
-use Rattle.wave_base.specs.Fold.{Progress, next_job, with_result, with_job, one_more, created_lines}
+use Rattle.wave_base.specs.Fold.{Progress, next_job, with_job, one_more, created_lines}
 use Rattle.wave_base.specs.Scripts.{IsScript}
-use Rattle.wave_base.specs.Starts.{IsStart, first_start, start_tree}
+use Rattle.wave_base.specs.Starts.{IsStart, first_start}
 use Rattle.wave_base.specs.Tree.{Tree, shots}
 use Rattle.resolved_service.specs.Jobs.{shot_of}
 use Rattle.script_fold.specs.Lines.{Meaning, line_by, most_events, most_of, most_jobs, FitsJob}

@@ -1,8 +1,7 @@
 -- Heads of batches that have others behind them, and heads behind others.
-use Rattle.std.proofs.Common.{◌≡◌, ◌≤◌, ◌<◌, ◌+◌, ◌⊎◌, inl, inr, ℕ, zero, suc, Bool, true, false, if◌then◌else◌, List, [], ◌∷◌, ◌++◌, length, map, Option, Some, None, slice_get, All, nat_lt, refl, sym, ap, subst, ◌∙◌, arith, append-nil, append_assoc, length-append, ltb-false, lt-ltb, le-ltb}
+use Rattle.std.proofs.Common.{◌≡◌, ◌≤◌, ◌<◌, ◌+◌, ◌⊎◌, inl, inr, ℕ, zero, suc, Bool, true, false, if◌then◌else◌, List, [], ◌∷◌, ◌++◌, length, None, slice_get, All, nat_lt, refl, sym, ap, subst, ◌∙◌, arith, append-nil, append_assoc, length-append, ltb-false, lt-ltb, le-ltb}
 use Rattle.std.proofs.lemmas.Bool.{ltb-true}
 use Rattle.std.proofs.lemmas.List.Elements.{All-head, All-tail}
-use Rattle.std.proofs.lemmas.Option.{slice_get_within}
 use Rattle.wave_base.specs.Fold.{Head, begun, next_batch, first_head, with_done, next_job, head_after, tickets_from, tickets_of, made}
 
 module _ {J : Type 0} where

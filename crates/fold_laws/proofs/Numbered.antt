@@ -1,16 +1,13 @@
 -- A job of a plan has few segments and enters few contexts, so its mails have numbers.
-use Rattle.std.proofs.Common.{◌≡◌, ◌≤◌, ◌<◌, ◌+◌, ◌*◌, ◌-◌, ◌^◌, ℕ, suc, Bool, true, false, cond, List, [], ◌∷◌, length, filter, Some, refl, sym, ap, subst, ◌∙◌, arith}
-use Rattle.std.specs.Prelude.{map}
+use Rattle.std.proofs.Common.{◌≡◌, ◌≤◌, ◌<◌, ◌+◌, ◌-◌, ◌^◌, ℕ, suc, Bool, true, false, cond, List, [], ◌∷◌, length, filter, Some, refl, sym, ap, ◌∙◌, arith}
 use Rattle.std.proofs.lemmas.List.{length-map}
-use Rattle.wave_base.specs.declared.limits.TheConstants.{START_CONTEXTS}
-use Rattle.wave_base.specs.declared.call.Call.{Call}
 use Rattle.wave_base.specs.declared.outcome.EventResult.{EventResult}
 use Rattle.wave_base.specs.declared.path.Path.{Path}
 use Rattle.wave_base.specs.declared.script.Line.{Line}
 use Rattle.wave_base.specs.declared.script.Line.TheVariants.{Request, Move, Snapshot}
 use Rattle.wave_base.specs.declared.start.Start.{Start}
 use Rattle.wave_base.specs.Fold.{Ran, Progress, next_job}
-use Rattle.wave_base.specs.Tree.{Tree, there}
+use Rattle.wave_base.specs.Tree.{there}
 use Rattle.resolved_service.specs.Jobs.{fronts}
 use Rattle.script_fold.specs.Lines.{line_by, FitsJob}
 use Rattle.script_fold.specs.Runs.{after_jobs}
@@ -34,7 +31,6 @@ use Rattle.plan_actors.proofs.Coded.{code_owes}
 use Rattle.plan_actors.proofs.Jobs.{runs_line, counts_line}
 use Rattle.plan_actors.proofs.Meeting.{plan_fits, begin_fits, folds_meet, good}
 use Rattle.plan_actors.proofs.Owing.{owes}
-use Rattle.fold_laws.specs.Growth.{most_contexts}
 use Rattle.fold_laws.specs.Mails.{HaveNumbers}
 use Rattle.fold_laws.proofs.Growing.{contexts_after, most_lines_add}
 use Rattle.fold_laws.proofs.Sending.{Shares, sends_few}

@@ -1,32 +1,29 @@
 -- Code keeps the shape of a tree: what it enters is of the shape, and what is absent has its initial fields.
-use Rattle.std.proofs.Common.{◌≡◌, ℕ, zero, suc, ◌||◌, ◌⊎◌, inl, inr, Bool, true, false, if◌then◌else◌, List, [], ◌∷◌, ◌++◌, Option, Some, None, length, true≢false, refl, sym, ap, subst, ◌∙◌}
+use Rattle.std.proofs.Common.{◌≡◌, ℕ, zero, suc, ◌||◌, ◌⊎◌, inl, inr, Bool, true, false, if◌then◌else◌, List, [], ◌∷◌, ◌++◌, Option, Some, None, length, true≢false, refl, sym, ap, ◌∙◌}
 use Rattle.std.specs.Prelude.{All}
 use Rattle.std.specs.List.{filter, list_any}
 use Rattle.std.proofs.lemmas.List.Elements.{All-nil, All-cons, recursion_from_All}
 use Rattle.wave_base.specs.declared.call.Call.{Call}
 use Rattle.wave_base.specs.declared.outcome.EventResult.{EventResult}
 use Rattle.wave_base.specs.declared.path.Path.{Path}
-use Rattle.wave_base.specs.declared.path.Step.{Step}
 use Rattle.wave_base.specs.declared.shape.Shape.{Shape}
-use Rattle.wave_base.specs.declared.value.Value.{Value}
 use Rattle.wave_base.proofs.Trees.{there-enter}
 use Rattle.wave_base.specs.Paths.{path_eq, is_above, parent_of}
 use Rattle.wave_base.specs.PathLaws.{path_eq_decides, path_eq_equiv}
 use Rattle.wave_base.specs.Shapes.{is_path, initial_fields}
-use Rattle.wave_base.specs.Tree.{Tree, there, enter, put, children_of}
+use Rattle.wave_base.specs.Tree.{Tree, there, children_of}
 use Rattle.wave_base.specs.Trees.{FitsShape, HasKinds}
 use Rattle.script_fold.specs.Owed.{Owed, KeepsShape}
 use Rattle.service_code.specs.declared.program.Program.{Program}
 use Rattle.service_verify.specs.Fit.{IsFit}
 use Rattle.service_verify.specs.Points.{IsVerified}
 use Rattle.service_verify.specs.Segments.{Event}
-use Rattle.service_verify.specs.Tours.{code_tour}
-use Rattle.wave_states.specs.Actors.{Actors, Pause, Go, Down, Back, Over}
+use Rattle.wave_states.specs.Actors.{Pause, Go, Down, Back, Over}
 use Rattle.wave_states.specs.Alone.{Alone, has, into, tree_with, goes_on, segment_alone, segment_if, next_alone, first_alone, after_segments, ended_alone}
 use Rattle.wave_states.specs.Kinds.{Kind}
 use Rattle.wave_states.specs.Owes.{Owes, Keeps}
 use Rattle.wave_theory.proofs.Alone.{Stands, Fine, at_held, first_fine}
-use Rattle.wave_theory.proofs.Basics.{options, none_not}
+use Rattle.wave_theory.proofs.Basics.{none_not}
 use Rattle.wave_theory.proofs.Paths.{has_append}
 use Rattle.wave_theory.proofs.Plans.{fine_after}
 use Rattle.code_actor.specs.CodeActors.{Fields, code_actors, code_kind, IsJob}
@@ -155,14 +152,16 @@ module _ (program : Program) where
           let after : Tree Fields = (code_ran program tree call).tree in
           let w = whole program fit verified call 0 tree job known.fields in
           let x : Shaped (ended_alone (code_actors program) 0 tree call) = all_shaped ((code_actors program).enough call 0 tree) in
-          let kept : IsTree program after = (code_owes program fit verified).kept tree call known job in
-          (record {
-            ordered = kept.ordered;
-            paths = all_of (λ p. is_path program.shape p ≡ true) after.paths (λ p e. x.paths p (ap (λ (t : Tree Fields). there t p) w.tree ∙ e));
-            parents = all_of (λ p. there after (parent_of p) ≡ true) after.paths kept.parents;
-            kinds = all_of (λ p. HasKinds program.shape p (after.fields p)) after.paths (λ p e. kept.fields p);
-            absent = λ p e. ap (λ (t : Tree Fields). t.fields p) (sym w.tree) ∙ x.absent p (ap (λ (t : Tree Fields). there t p) w.tree ∙ e);
-          }, kept.root)
+          let kept : IsTree program after = (code_owes program fit verified).kept tree call known job in (
+            record {
+              ordered = kept.ordered;
+              paths = all_of (λ p. is_path program.shape p ≡ true) after.paths (λ p e. x.paths p (ap (λ (t : Tree Fields). there t p) w.tree ∙ e));
+              parents = all_of (λ p. there after (parent_of p) ≡ true) after.paths kept.parents;
+              kinds = all_of (λ p. HasKinds program.shape p (after.fields p)) after.paths (λ p e. kept.fields p);
+              absent = λ p e. ap (λ (t : Tree Fields). t.fields p) (sym w.tree) ∙ x.absent p (ap (λ (t : Tree Fields). there t p) w.tree ∙ e);
+            },
+            kept.root,
+          )
 
     -- on trees of the shape, code owes what a fold asks for, and keeps the shape
     pub shape_owes : Owed program.shape (code_ran program) (HasShape program.shape) (IsJob program)

@@ -1,5 +1,5 @@
 -- What a run leaves is what it came to: its tree is read back from its shots, and its hosts from its places.
-use Rattle.std.proofs.Common.{◌≡◌, ◌+◌, ℕ, zero, suc, Bool, true, false, if◌then◌else◌, ◌||◌, List, [], ◌∷◌, map, Option, Some, None, true≢false, refl, sym, ap, subst, ◌∙◌, arith}
+use Rattle.std.proofs.Common.{◌≡◌, ◌+◌, ℕ, zero, suc, Bool, true, false, if◌then◌else◌, ◌||◌, List, [], ◌∷◌, map, Option, Some, None, true≢false, refl, sym, ap, subst, ◌∙◌}
 use Rattle.std.specs.List.{list_any}
 use Rattle.wave_base.specs.declared.call.Call.{Call}
 use Rattle.wave_base.specs.declared.finished.Place.{Place}
@@ -30,7 +30,6 @@ use Rattle.script_fold.proofs.FoldLemmas.{IsGood, good_after, good_ran, hosts_pu
 use Rattle.script_fold.proofs.LeftLemmas.{All-drop_head}
 
 -- ---- what is shown of a tree
-
 
 module _ (shape : Shape) (fields : Path → List Value) where
   abbrev shown_of : List Path → List Shot

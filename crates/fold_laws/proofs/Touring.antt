@@ -1,5 +1,5 @@
 -- How many contexts a call enters, and adds to the tree; and how many segments it has.
-use Rattle.std.proofs.Common.{◌≡◌, ◌≤◌, ◌⊎◌, inl, inr, ℕ, zero, suc, ◌+◌, ◌*◌, List, [], ◌∷◌, ◌++◌, length, length-append, Bool, true, false, if◌then◌else◌, Option, Some, None, refl, sym, ap, subst, ◌∙◌, arith}
+use Rattle.std.proofs.Common.{◌≡◌, ◌≤◌, inl, inr, ℕ, zero, suc, ◌+◌, ◌*◌, List, [], ◌∷◌, ◌++◌, length, length-append, Bool, true, false, Option, Some, None, refl, sym, ◌∙◌, arith}
 use Rattle.std.specs.BTreeSet.{insert_key}
 use Rattle.std.specs.Ordering.{match_ordering}
 use Rattle.std.specs.declared.cmp.Ordering.{Ordering}
@@ -15,7 +15,7 @@ use Rattle.wave_base.specs.Tree.{Tree, enter}
 use Rattle.service_code.specs.declared.program.Program.{Program}
 use Rattle.service_verify.specs.Boxes.{Box, first_box}
 use Rattle.service_verify.specs.Steps.{Move, Runs, Paused, Lost, is_held}
-use Rattle.service_verify.specs.Tours.{Fields, Tour, into, halted, toured, fields_above, segment_on, tour_if, next_tour, tour_after, first_tour, most_segments, code_tour}
+use Rattle.service_verify.specs.Tours.{Fields, Tour, into, halted, toured, fields_above, segment_on, tour_if, tour_after, first_tour, most_segments, code_tour}
 use Rattle.fold_laws.proofs.Entering.{Goes, Pauses, Keeps, segment_keeps}
 
 -- one path more at most

@@ -1,15 +1,14 @@
 -- The run of two lists of batches, one behind the other, job by job beside the run of each.
-use Rattle.std.proofs.Common.{◌≡◌, ◌≤◌, ◌<◌, ◌+◌, ◌-◌, ℕ, zero, suc, List, [], ◌∷◌, ◌++◌, length, map, sum_by, Option, Some, None, slice_get, refl, sym, ap, subst, ◌∙◌, arith, append-nil, append_assoc, length-append}
+use Rattle.std.proofs.Common.{◌≡◌, ◌≤◌, ◌<◌, ◌+◌, ◌-◌, ℕ, zero, suc, List, [], ◌∷◌, ◌++◌, length, map, sum_by, Option, Some, None, refl, sym, ap, subst, ◌∙◌, arith, append-nil, append_assoc, length-append}
 use Rattle.std.proofs.lemmas.List.{map-append}
 use Rattle.std.proofs.lemmas.List.Sums.{sum_by-append}
 use Rattle.std.proofs.lemmas.Option.{slice_get_within}
 use Rattle.wave_base.specs.declared.outcome.EventResult.{EventResult}
-use Rattle.wave_base.specs.declared.path.Path.{Path}
 use Rattle.wave_base.specs.declared.script.Line.{Line}
 use Rattle.wave_base.specs.declared.value.Value.{Value}
 use Rattle.wave_base.specs.Fold.{Head, Ran, Progress, first_head, with_done, next_job, head_after, made, tickets_of, first_progress, with_result, with_job, one_more, fold_jobs, created_lines}
 use Rattle.wave_base.specs.Tree.{Tree}
-use Rattle.wave_theory.proofs.Basics.{options, none_not}
+use Rattle.wave_theory.proofs.Basics.{none_not}
 use Rattle.wave_theory.proofs.Folds.{with_done_done}
 use Rattle.script_fold.specs.Lines.{Meaning, line_by, most_of, most_jobs}
 use Rattle.script_fold.proofs.StepLemmas.{any_ticket}

@@ -1,10 +1,6 @@
-use Rattle.std.proofs.Common.{◌≤◌, ◌+◌, length, arith}
-use Rattle.wave_base.specs.declared.limits.TheConstants.{CONTEXTS}
-use Rattle.service_code.specs.declared.program.Program.{Program}
 use Rattle.code_actor.specs.CodeActors.{IsJob}
 use Rattle.plan_actors.specs.Calls.{code_ran, IsTree}
 use Rattle.plan_actors.proofs.Coded.{code_owes}
-use Rattle.fold_laws.specs.Growth.{GrowsBy}
 use Rattle.fold_laws.proofs.Growing.{stays_few}
 use Rattle.fold_laws.proofs.Touring.{code_grows}
 use Rattle.fold_laws.proofs.laws.plans_stay_few.Goals as goal
