@@ -1,0 +1,12 @@
+pub mod Cutting
+pub mod Entering
+pub mod Examples
+pub mod Growing
+pub mod Heads
+pub mod Measures
+pub mod Numbered
+pub mod Sending
+pub mod Shaping
+pub mod Standing
+pub mod Touring
+pub mod Walk
