@@ -1,4 +1,4 @@
-ghost use Rattle.std.specs.Prelude.{◌≡◌, ◌≤◌, ◌+◌, ◌&&◌, [], length, List, map, Some, None, IsSome, IfOk, OnOk, false, option_copied, option_map};
+ghost use Rattle.std.specs.Prelude.{◌≡◌, ◌≤◌, ◌<◌, ◌+◌, ◌^◌, ◌&&◌, [], length, List, map, Some, None, IsSome, IfOk, OnOk, false, option_copied, option_map};
 ghost use Rattle.std.specs.BTreeMap.{insert_entry};
 ghost use Rattle.event_cells.specs.Keeps.{mail_in, is_empty};
 ghost use Rattle.event_cells.specs.inner.Releases.{keeps, releases, sent_on};
@@ -182,10 +182,12 @@ impl<A: Drop> Cell<A> {
 
     /// Sends a mail to a host, for a context.
     pub fn send(&mut self, envelope: Envelope)
-        requires { 1 ≤ self.old.outbox.room }
+        requires room { 1 ≤ self.old.outbox.room }
+        requires number { self.old.outbox.sent + 1 < 2 ^ 32 }
         ensures desk { (d : Desk A (List Value)) (m : theory.Mail (List Value)) → StandsFor self.old d → IsEnvelope envelope m → StandsFor self.new (send d m) }
         ensures one_mail_more { length self.new.outbox.mails ≡ length self.old.outbox.mails + 1 }
         ensures mails_room { self.old.outbox.room ≤ self.new.outbox.room + 1 }
+        ensures sent { self.new.outbox.sent ≡ self.old.outbox.sent + 1 }
         ensures actor { self.new.actor ≡ self.old.actor }
         ensures held { self.new.held ≡ self.old.held }
         ensures status { self.new.status ≡ self.old.status }
@@ -208,7 +210,8 @@ impl<A: Drop> Cell<A> {
 
     /// Gives up all that it holds outside the subtree of a context: a Release for each, in the order of the paths.
     pub fn release_outside(&mut self, top: &Path)
-        requires { length self.old.held.holds ≤ self.old.outbox.room }
+        requires room { length self.old.held.holds ≤ self.old.outbox.room }
+        requires numbers { self.old.outbox.sent + length self.old.held.holds < 2 ^ 32 }
         ensures desk { (d : Desk A (List Value)) → StandsFor self.old d → StandsFor self.new (give_up (is_above top.now) d) }
         ensures few_mails { length self.new.outbox.mails ≤ length self.old.outbox.mails + length self.old.held.holds }
         ensures actor { self.new.actor ≡ self.old.actor }
@@ -222,7 +225,8 @@ impl<A: Drop> Cell<A> {
 
     /// Has a result: gives up all that it holds, a Release for each in the order of the paths, and drops its actor.
     pub fn end(&mut self)
-        requires { length self.old.held.holds ≤ self.old.outbox.room }
+        requires room { length self.old.held.holds ≤ self.old.outbox.room }
+        requires numbers { self.old.outbox.sent + length self.old.held.holds < 2 ^ 32 }
         ensures desk { (d : Desk A (List Value)) → StandsFor self.old d → StandsFor self.new (ended d) }
         ensures few_mails { length self.new.outbox.mails ≤ length self.old.outbox.mails + length self.old.held.holds }
         ensures actor { self.new.actor ≡ None }
@@ -249,7 +253,8 @@ impl<A: Drop> Cell<A> {
 
 // Sends a Release for each of these contexts that is not in the subtree of `top`.
 fn release(held: &[(Path, Hold)], outbox: &mut Outbox, top: Option<&Path>)
-    requires { length held.now ≤ outbox.old.room }
+    requires room { length held.now ≤ outbox.old.room }
+    requires numbers { outbox.old.sent + length held.now < 2 ^ 32 }
     ensures sent { outbox.new.sent ≡ outbox.old.sent + length (releases (keeps (option_copied top.entry)) held.now) }
     ensures mails { outbox.new.mails ≡ sent_on outbox.old.mails outbox.old.sent (releases (keeps (option_copied top.entry)) held.now) }
     ensures few { length outbox.new.mails ≤ length outbox.old.mails + length held.now }

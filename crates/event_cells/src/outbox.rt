@@ -1,4 +1,4 @@
-ghost use Rattle.std.specs.Prelude.{◌≡◌, ◌≤◌, ◌+◌, [], ℕ, length, OnOk, Some, None, nat_eq, if◌then◌else◌, option_copied, IsSome};
+ghost use Rattle.std.specs.Prelude.{◌≡◌, ◌≤◌, ◌<◌, ◌+◌, ◌^◌, [], ℕ, length, OnOk, Some, None, nat_eq, if◌then◌else◌, option_copied, IsSome};
 ghost use Rattle.std.specs.BTreeMap.{insert_entry};
 ghost use Rattle.std.specs.Ordering.{nat_cmp};
 ghost use Rattle.std.specs.List.Sorted.{IsStrictlySortedBy};
@@ -88,24 +88,21 @@ impl Outbox {
         }
     }
 
-    /// Makes room for so many more mails, for which there are numbers too.
+    /// Makes room for so many more mails.
     pub fn reserve(&mut self, more: usize) -> Result<(), OutOfMemory>
         ensures ok { OnOk result (more ≤ self.new.room) }
         ensures room { self.old.room ≤ self.new.room }
         ensures sent { self.new.sent ≡ self.old.sent }
         ensures mails { self.new.mails ≡ self.old.mails }
     {
-        // A mail without a number can't be sent, so where the numbers run out there is to be no room. The request is then for more than any
-        // memory holds, and it is its refusal that answers.
-        let numbers = (u32::MAX - self.sent) as usize;
-        let more = if more > numbers { usize::MAX } else { more };
         self.mails.reserve(more)?;
         Ok(())
     }
 
     /// Sends a mail, under the next number.
     pub fn send(&mut self, envelope: Envelope)
-        requires { 1 ≤ self.old.room }
+        requires room { 1 ≤ self.old.room }
+        requires number { self.old.sent + 1 < 2 ^ 32 }
         ensures sent { self.new.sent ≡ self.old.sent + 1 }
         ensures mails { self.new.mails ≡ insert_entry nat_cmp self.old.mails (self.old.sent + 1) envelope }
         ensures one_more { length self.new.mails ≡ length self.old.mails + 1 }

@@ -77,8 +77,9 @@ fn a_go_gives_up_what_is_outside(rt: HostRuntime) -> Result<(), Fail> {
     assert!(rt; cell.status == Status::Running(root) && cell.actor.is_none());
     cell.put_back(6);
     assert!(rt; cell.status == Status::Travelling && cell.actor == Some(6));
-    let mails = cell.held.as_slice().len().saturating_add(1);
-    cell.reserve(mails)?;
+    assert!(rt; cell.held.as_slice().len() == 1);
+    assert!(rt; cell.outbox.sent() == 1);
+    cell.reserve(2)?;
     cell.send(Envelope {
         to: Host(1),
         path: hall(),
@@ -101,6 +102,7 @@ fn what_is_over_gives_up_all_in_path_order(rt: HostRuntime) -> Result<(), Fail> 
     cell.let_in(root, at(2));
     let mails = cell.held.as_slice().len();
     assert!(rt; mails == 2);
+    assert!(rt; cell.outbox.sent() == 1);
     cell.reserve(mails)?;
     cell.end();
     assert!(rt; cell.actor.is_none() && cell.status == Status::Ended);

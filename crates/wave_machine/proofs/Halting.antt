@@ -4,6 +4,7 @@ use Rattle.std.specs.Prelude.{nat_eq, nat_lt, position, slice_get}
 use Rattle.std.specs.FinMap as table
 use Rattle.std.proofs.lemmas.Bool.{cases_lt}
 use Rattle.std.proofs.lemmas.Bool.Decides.{nat_tests}
+use Rattle.std.proofs.lemmas.List.{length-map}
 use Rattle.std.proofs.lemmas.List.Sums.{fails_before_first}
 use Rattle.std.proofs.lemmas.Option.{get_or_from_slice_get, slice_get-get_or}
 use Rattle.std.specs.List.{position_or_len}
@@ -15,6 +16,8 @@ use Rattle.script_fold.specs.Lines.{most_jobs}
 use Rattle.script_fold.proofs.LeftLemmas.{most_lines}
 use Rattle.context_queue.specs.declared.entry.Entry as E
 use Rattle.host_map.specs.Stores.{Stores, Matches, has}
+use Rattle.event_cells.specs.declared.cell.Cell.{Cell}
+use Rattle.event_cells.specs.Cells.{held_of}
 use Rattle.code_actor.specs.CodeActors.{Fields}
 use Rattle.wave_base.specs.Places.{with_contexts}
 use Rattle.wave_base.specs.Tree.{Tree}
@@ -30,8 +33,9 @@ use Rattle.wave_theory.specs.Hands.{CanStop}
 use Rattle.wave_theory.specs.Trails.{IsTrail, IsUnborn}
 use Rattle.plan_actors.specs.PlanActors.{plan_actors, plan_kind}
 use Rattle.plan_actors.specs.Plans.{Plan, Fits, FitsStart, begin_in}
+use Rattle.wave_machine.specs.declared.actor.Actor.{Actor}
 use Rattle.wave_machine.specs.declared.lease.Lease.{Lease}
-use Rattle.wave_machine.specs.Machines.{TheState, Kept, IsReached, Stands}
+use Rattle.wave_machine.specs.Machines.{TheState, Kept, IsReached, Stands, event_as}
 use Rattle.wave_machine.specs.Running as running
 use Rattle.wave_machine.specs.Running.{IsBack, IsStopping, stop_of}
 use Rattle.wave_machine.proofs.Reached.{has_it, host_is}
@@ -243,3 +247,11 @@ module _ (laws : Laws) (segments : Segments) (m : Kept) (lease : Lease) (why : P
           at_most_one : (x : Bool) → cond x 1 0 ≤ 1
           at_most_one true = omega arith
           at_most_one false = omega arith
+
+  -- each event has numbers for the mails that its next segment may send
+  pub numbered : (i : ℕ) (c : Cell Actor) → slice_get m.cells i ≡ Some c → c.outbox.sent + length c.held.holds + 1 < 2 ^ 32
+  numbered i c there =
+      let is = stands.shows.cells.each i c there in
+      let few : is.desk.event.sent + length is.desk.event.held + 1 < 2 ^ 32 = known.numbers (m.first + i) (event_as is.desk.event) is.event in
+      let held : length is.desk.event.held ≡ length c.held.holds = ap length is.stands.held ∙ length-map c.held.holds held_of in
+      omega (arith, few, held, is.stands.sent)

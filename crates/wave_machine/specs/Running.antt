@@ -20,6 +20,7 @@ use Rattle.wave_theory.specs.Hands.{Stoppable}
 use Rattle.wave_theory.specs.Sent.{Within}
 use Rattle.wave_theory.specs.Trails.{Trails}
 use Rattle.code_actor.specs.CodeActors.{Fields}
+use Rattle.fold_laws.specs.Mails.{HaveNumbers}
 use Rattle.plan_actors.specs.PlanActors as theory
 use Rattle.plan_actors.specs.PlanActors.{plan_actors, plan_kind}
 use Rattle.plan_actors.specs.Plans.{Plan, begin_in}
@@ -78,10 +79,11 @@ module _ (m : Kept) (lease : Lease) (why : Pause) (host : ℕ) where
   Stops m' = (start : Start) (s s' : TheState) → Stands m start s → IsBack m.plan.program s lease why → step (plan_actors m.plan.program) m.plan.workers s (stop_of lease host) ≡ Some s' → Stands m' start s'
 
 -- what is known of the segments that are out: they may run and can be stopped; numbers are small, since the fold ends; each context has
--- its trail
+-- its trail; each event has numbers for the mails that its next segment may send
 pub record SegmentsKnown (plan : Plan) (start : Start) (s : TheState) : Type 0 where
   pub stoppable : Stoppable (plan_kind plan.program plan.script.hosts) plan.workers (begin_in plan start) plan.script.batches s
   pub may_run : hands.MayRun (plan_kind plan.program plan.script.hosts) (begin_in plan start) plan.script.batches s
   pub within : Within (plan_kind plan.program plan.script.hosts) (begin_in plan start) plan.script.batches s
   pub ends : job_after (plan_actors plan.program) (begin_in plan start) plan.script.batches (most_jobs plan.script.batches) ≡ None
   pub trails : Trails (plan_kind plan.program plan.script.hosts) (begin_in plan start) plan.script.batches s
+  pub numbers : HaveNumbers s

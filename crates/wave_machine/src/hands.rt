@@ -7,11 +7,12 @@ ghost use Rattle.wave_states.specs.Labels.{Label};
 ghost use Rattle.wave_machine.specs.Machines.{IsReached, TheState};
 ghost use Rattle.wave_machine.specs.Running.{SegmentsKnown};
 
+use fold_laws::events_send_few;
 use plan_actors::{PlanActors, folds_end};
 use wave_theory::{may_run, stoppable, trails, within};
 
-/// In a state that labels lead to, each segment that is out may run and can be stopped; numbers are small, since the fold ends; and each
-/// context has its trail.
+/// In a state that labels lead to, each segment that is out may run and can be stopped; numbers are small, since the fold ends; each
+/// context has its trail; and each event has numbers for the mails that its next segment may send.
 pub fn segments_are_known()
     ensures { (plan : Plan) (start : Start) (labels : List Label) (s : TheState) → Fits plan → FitsStart plan start → IsReached plan start labels s → SegmentsKnown plan start s }
 {
@@ -20,4 +21,5 @@ pub fn segments_are_known()
     within::<PlanActors>();
     folds_end();
     trails::<PlanActors>();
+    events_send_few();
 }

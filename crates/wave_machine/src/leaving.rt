@@ -171,8 +171,10 @@ fn go_on(
     requires there { has path.now store.old ≡ true }
     requires mail { is_some mail ≡ true }
     requires room { 1 + length cell.old.held.holds ≤ cell.old.outbox.room }
+    requires numbers { cell.old.outbox.sent + length cell.old.held.holds + 1 < 2 ^ 32 }
     ensures desk { (e : declared.Envelope) (d : Desk actors.Actor Fields) (m : Mail Fields) → mail ≡ Some e → StandsFor cell.old d → IsEnvelope e m → StandsFor cell.new (send d m) × (result ≡ m.path) }
     ensures room { length cell.new.held.holds ≤ cell.new.outbox.room }
+    ensures numbers { cell.new.outbox.sent + length cell.new.held.holds < 2 ^ 32 }
     ensures one_mail_more { length cell.new.outbox.mails ≡ length cell.old.outbox.mails + 1 }
     ensures held { cell.new.held ≡ cell.old.held }
     ensures actor { cell.new.actor ≡ cell.old.actor }
@@ -193,8 +195,10 @@ fn send_away(cell: &mut Cell<Actor>, store: &mut HostStore, path: &Path, to: Hos
     requires counted { (e : Entry) → map.get store.old.store path.now ≡ Some e → e.moves + 1 < 2 ^ 64 }
     requires marks { 1 ≤ store.old.mark_room }
     requires room { 1 + length cell.old.held.holds ≤ cell.old.outbox.room }
+    requires numbers { cell.old.outbox.sent + length cell.old.held.holds + 1 < 2 ^ 32 }
     ensures desk { (d : Desk actors.Actor Fields) (c : Column Fields) (host : ℕ) (en : theory.Entry Fields) → StandsFor cell.old d → IsAt store.old path.now c host → c.store host ≡ Some en → StandsFor cell.new (sent_off d path.now to.0 en) }
     ensures room { length cell.new.held.holds ≤ cell.new.outbox.room }
+    ensures numbers { cell.new.outbox.sent + length cell.new.held.holds < 2 ^ 32 }
     ensures one_mail_more { length cell.new.outbox.mails ≡ length cell.old.outbox.mails + 1 }
     ensures fewer { length cell.new.held.holds ≤ length cell.old.held.holds }
     ensures here { (c : Column Fields) (host : ℕ) (en : theory.Entry Fields) → IsAt store.old path.now c host → c.store host ≡ Some en → IsAt store.new path.now (departed c host to.0 (suc en.moves)) host }
@@ -223,6 +227,7 @@ fn over(
     requires counted { (e : Entry) → map.get store.old.store path.now ≡ Some e → e.moves + 1 < 2 ^ 64 }
     requires marks { 1 ≤ store.old.mark_room }
     requires room { 1 + length cell.old.held.holds ≤ cell.old.outbox.room }
+    requires numbers { cell.old.outbox.sent + length cell.old.held.holds + 1 < 2 ^ 32 }
     ensures part { (d : Desk actors.Actor Fields) (x y : Part actors.Actor Fields results.EventResult) (en : theory.Entry Fields) (r : results.EventResult) (peek : Bool) → StandsFor cell.old d → IsAt store.old path.now x.column host.0 → x.column.store host.0 ≡ Some en
         → option_map (λ h. h.0) to ≡ away_from host.0 (move_of r) → stopped_by move_of path.now host.0 x d en (record_of body) peek (Over r) (holds_as_peek d.event.held path.now) ≡ Some y → HasLeft cell.new store.new path.now host.0 (Some r) y }
     ensures few_mails { length cell.new.outbox.mails ≤ 1 + length cell.old.held.holds + length cell.old.outbox.mails }
@@ -258,6 +263,7 @@ pub(crate) fn leave(
     requires counted { (e : Entry) → map.get store.old.store lease.path ≡ Some e → e.moves + 1 < 2 ^ 64 }
     requires marks { 1 ≤ store.old.mark_room }
     requires room { 1 + length cell.old.held.holds ≤ cell.old.outbox.room }
+    requires numbers { cell.old.outbox.sent + length cell.old.held.holds + 1 < 2 ^ 32 }
     requires mail { HasMail pause mail }
     ensures part { (d : Desk actors.Actor Fields) (x y : Part actors.Actor Fields results.EventResult) (en : theory.Entry Fields) (r : records.Record) (peek : Bool) → StandsFor cell.old d → IsAt store.old lease.path x.column host.0 → x.column.store host.0 ≡ Some en → x.cell.result ≡ None
         → Tells (onward host.0 lease.path (record_of r) d.event.held peek pause) r mail lease.body

@@ -1,5 +1,5 @@
 -- What an outbox keeps: mails in ascending order, none with a number past those that were sent.
-use Rattle.std.specs.Prelude.{◌-◌, ◌≤◌, ◌^◌, min, length, vec_capacity}
+use Rattle.std.specs.Prelude.{◌-◌, ◌≤◌, length, vec_capacity}
 use Rattle.std.specs.List.{AllByRecursion}
 use Rattle.std.specs.List.Sorted.{IsStrictlySortedBy}
 use Rattle.std.specs.Map.{keys_of}
@@ -7,9 +7,8 @@ use Rattle.std.specs.Ordering.{nat_cmp}
 use Rattle.event_cells.specs.declared.outbox.Outbox.TheInside.{Inside}
 use Rattle.event_cells.specs.Keeps.{Sending}
 
--- there is room where there is a place and a number
 abbrev pub sending_of : Inside → Sending
-sending_of a = record { sent = a.sent; mails = a.mails.items; room = min (vec_capacity a.mails - length a.mails.items) (2 ^ 32 - 1 - a.sent) }
+sending_of a = record { sent = a.sent; mails = a.mails.items; room = vec_capacity a.mails - length a.mails.items }
 
 pub record IsOutbox (a : Inside) : Type 0 where
   pub rises : IsStrictlySortedBy nat_cmp (keys_of a.mails.items)

@@ -9,4 +9,5 @@ invariant-loop-path l = record {
   sends : Sends (keeps (option_copied l.top)) l.held l.fn.outbox.mails l.fn.outbox.sent l.path-index l.outbox.mails l.outbox.sent;
   room : length l.held ≤ l.path-index + l.outbox.room;
   few : length l.outbox.mails ≤ length l.fn.outbox.mails + l.path-index;
+  few_sent : l.outbox.sent ≤ l.fn.outbox.sent + l.path-index;
 }

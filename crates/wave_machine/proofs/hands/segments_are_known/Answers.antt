@@ -14,4 +14,5 @@ returns c = λ plan start labels s fits begins reached.
       within = c.within.ensures k plan.workers (begin_in plan start) plan.script.batches b p labels s reached;
       ends = c.folds_end.ensures.most plan start fits begins;
       trails = c.trails.ensures k plan.workers (begin_in plan start) plan.script.batches b p labels s reached;
+      numbers = c.events_send_few.ensures plan start fits begins labels s reached;
     }

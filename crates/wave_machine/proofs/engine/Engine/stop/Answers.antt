@@ -12,7 +12,7 @@ use Rattle.wave_machine.specs.Actors.{peeks_now}
 use Rattle.wave_machine.specs.Keeping.{kept_of}
 use Rattle.wave_machine.specs.Machines.{Kept}
 use Rattle.wave_machine.proofs.Depth.{near}
-use Rattle.wave_machine.proofs.Halting.{above, cell_at, counted, enabled, found, fresh, worker_at}
+use Rattle.wave_machine.proofs.Halting.{above, cell_at, counted, enabled, found, fresh, numbered, worker_at}
 use Rattle.wave_machine.proofs.Roomy.{keeps, stopping_still}
 use Rattle.wave_machine.proofs.Stopping.{Adds, has_mail, leaves_as, mapped_some, placed_at, still_has, stop_taken, stops_still}
 use Rattle.wave_machine.proofs.Framing.{moved_both, same_at}
@@ -109,6 +109,16 @@ leave-result-requires-clause-room c =
     let at = cell_at c.states_are_known.ensures c.segments_are_known.ensures m1 c.args.lease c.args.pause on.start on.state on.stands on.back in
     let within : i < length m1.cells = omega (arith, at.0, at.1) in
     c.in-Ok.ensures.room.mails x (slice_get_read m1.cells _ i x refl within c.index_mut-cell.ensures.value)
+
+pub leave-result-requires-clause-numbers : goal.leave-result-requires-clause-numbers
+leave-result-requires-clause-numbers c =
+    let m1 : Kept = kept_of c.prepare_stop.new.self in
+    let i = c.args.lease.ticket.0 - m1.first in
+    let x = c.index_mut-cell.result.now in
+    let on = stopping_still (kept_of c.args.self.now) m1 c.prepare_stop.ensures.same c.args.lease c.args.pause c.requires in
+    let at = cell_at c.states_are_known.ensures c.segments_are_known.ensures m1 c.args.lease c.args.pause on.start on.state on.stands on.back in
+    let within : i < length m1.cells = omega (arith, at.0, at.1) in
+    numbered c.states_are_known.ensures c.segments_are_known.ensures m1 c.args.lease c.args.pause on.start on.state on.stands on.back i x (slice_get_read m1.cells _ i x refl within c.index_mut-cell.ensures.value)
 
 pub leave-result-requires-clause-mail : goal.leave-result-requires-clause-mail
 leave-result-requires-clause-mail c =
