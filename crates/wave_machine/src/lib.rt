@@ -16,6 +16,7 @@ mod engine;
 mod finds;
 mod finish;
 mod first;
+mod glance;
 mod hands;
 mod heading;
 mod index;
@@ -47,12 +48,15 @@ mod running;
 mod runs;
 mod shown;
 mod takers;
+mod taking;
 
 pub use actor::Actor;
 pub use always::{
     contexts_have_owners, labels_are_apart, machines_come_to_an_end, machines_follow_the_fold,
 };
 pub use drives::{drive, drive_at, drive_with};
+pub use ends::End;
+pub use glance::Glance;
 pub use hands::segments_are_known;
 pub use kept::{Out, Settled};
 pub use known::heads_are_known;

@@ -52,7 +52,7 @@ fn add_all(
 }
 
 // The places in order.
-fn listed(alloc: Global, hosts: &BTreeMap<Path, Host>) -> Result<Vec<Place>, OutOfMemory>
+pub(crate) fn listed(alloc: Global, hosts: &BTreeMap<Path, Host>) -> Result<Vec<Place>, OutOfMemory>
     ensures places { IfOk result (λ places. places.items ≡ map placed_at hosts.now.entries) }
     ensures ordered { IsStrictlySortedBy path_cmp (keys hosts.now) }
 {
