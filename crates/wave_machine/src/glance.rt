@@ -1,6 +1,6 @@
 //! How far a run has come, and where its contexts are.
 
-ghost use Rattle.std.specs.Prelude.{◌≡◌, ◌≤◌, ℕ, IfOk, List, OnOk, map, length, Some, slice_get, All, true};
+ghost use Rattle.std.specs.Prelude.{◌≡◌, ◌≤◌, ℕ, IfOk, OnOk, map, length, Some, slice_get, All, true};
 ghost use Rattle.std.specs.BTreeMap.{keys};
 ghost use Rattle.std.specs.List.{AllByRecursion, list_any};
 ghost use Rattle.std.specs.List.Sorted.{IsStrictlySortedBy};
@@ -11,15 +11,14 @@ ghost use Rattle.wave_base.specs.declared.numbers.Host as host;
 ghost use Rattle.wave_base.specs.declared.path.Path as path;
 ghost use Rattle.wave_base.specs.declared.start.Start.{Start};
 ghost use Rattle.wave_machine.specs.Machines.{Stands, TheState};
-ghost use Rattle.wave_machine.specs.inner.Endings.{AllThere, IsPlace};
-ghost use Rattle.wave_machine.specs.inner.Owned.{IsCarried, IsOldOr, IsOwnPlace, IsSent};
+ghost use Rattle.wave_machine.specs.inner.Owned.{IsCarried, IsOldOr, IsOwnPlace, IsSent, carried_in, with_place};
 
 use crate::actor::Actor;
 use crate::engine::Engine;
 use crate::known::heads_are_known;
 use crate::laws::states_are_known;
-use crate::places::{listed, places};
-use event_cells::{Cell, Outbox};
+use crate::places::{listed, stored};
+use event_cells::{Cell, Envelope, Outbox};
 use host_map::HostStore;
 use migration_core::Letter;
 use std::alloc::Global;
@@ -70,37 +69,49 @@ fn owners(
     ensures stored { IfOk result (λ owners. (h : ℕ) (x : Stores) (p : path.Path) → slice_get stores.now h ≡ Some x → has p x ≡ true → list_any (path_eq p) (map path_of owners.items) ≡ true) }
     ensures sent { IfOk result (λ owners. (p : path.Path) (h : host.Host) → IsSent cells.now p h → list_any (path_eq p) (map path_of owners.items) ≡ true) }
 {
-    let mut owners = BTreeMap::new(alloc);
-    let places = places(alloc, stores)?;
-    add_places(&mut owners, &places)?;
+    let mut hosts = stored(alloc, stores)?;
     for cell in cells {
-        add_carried(&mut owners, &cell.outbox)?;
+        add_carried(&mut hosts, &cell.outbox)?;
     }
-    let owners = listed(alloc, &owners)?;
+    let owners = listed(alloc, &hosts)?;
     Ok(owners)
 }
 
-// Each of these contexts is at its place.
-fn add_places(owners: &mut BTreeMap<Path, Host>, places: &[Place]) -> Result<(), OutOfMemory>
-    ensures there { OnOk result ((stores : List Stores) → All (IsPlace stores) places.now → AllThere stores owners.old.entries → AllThere stores owners.new.entries) }
-    ensures more { OnOk result ((p : path.Path) → list_any (path_eq p) (map path_of places.now) ≡ true → list_any (path_eq p) (keys owners.new) ≡ true) }
+// Each context that a mail carries is where the mail is on its way to.
+fn add_carried(hosts: &mut BTreeMap<Path, Host>, outbox: &Outbox) -> Result<(), OutOfMemory>
+    ensures there { OnOk result (AllByRecursion (λ e. IsOldOr hosts.old.entries outbox.now.mails e.0 e.1) hosts.new.entries) }
+    ensures more { OnOk result ((p : path.Path) (h : host.Host) → IsCarried outbox.now.mails p h → list_any (path_eq p) (keys hosts.new) ≡ true) }
+    ensures kept { OnOk result ((p : path.Path) → list_any (path_eq p) (keys hosts.old) ≡ true → list_any (path_eq p) (keys hosts.new) ≡ true) }
 {
-    for place in places {
-        owners.insert(place.path, place.host)?;
+    let mails = outbox.as_slice();
+    for mail in mails {
+        add_one(hosts, &mail.1)?;
     }
     Ok(())
 }
 
-// Each context that one of these mails carries is where that is on its way to.
-fn add_carried(owners: &mut BTreeMap<Path, Host>, outbox: &Outbox) -> Result<(), OutOfMemory>
-    ensures there { OnOk result (AllByRecursion (λ e. IsOldOr owners.old.entries outbox.now.mails e.0 e.1) owners.new.entries) }
-    ensures more { OnOk result ((p : path.Path) (h : host.Host) → IsCarried outbox.now.mails p h → list_any (path_eq p) (keys owners.new) ≡ true) }
-    ensures kept { OnOk result ((p : path.Path) → list_any (path_eq p) (keys owners.old) ≡ true → list_any (path_eq p) (keys owners.new) ≡ true) }
+// The context that a mail carries, if it does, is where the mail is on its way to.
+fn add_one(hosts: &mut BTreeMap<Path, Host>, envelope: &Envelope) -> Result<(), OutOfMemory>
+    ensures { OnOk result (hosts.new.entries ≡ with_place hosts.old.entries (carried_in envelope.now)) }
 {
-    for mail in outbox.as_slice() {
-        if let Letter::Transfer(_) = &mail.1.letter {
-            owners.insert(mail.1.path, mail.1.to)?;
+    match carried(envelope) {
+        Some(place) => {
+            hosts.insert(place.path, place.host)?;
+            Ok(())
         }
+        None => Ok(()),
     }
-    Ok(())
+}
+
+// Where a mail brings its context, if it does.
+fn carried(envelope: &Envelope) -> Option<Place>
+    ensures { result ≡ carried_in envelope.now }
+{
+    match &envelope.letter {
+        Letter::Transfer(_) => Some(Place {
+            path: envelope.path,
+            host: envelope.to,
+        }),
+        _ => None,
+    }
 }

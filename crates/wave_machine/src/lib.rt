@@ -47,8 +47,8 @@ mod rules;
 mod running;
 mod runs;
 mod shown;
+mod takeable;
 mod takers;
-mod taking;
 
 pub use actor::Actor;
 pub use always::{

@@ -64,8 +64,7 @@ impl<'p> Engine<'p> {
 
 // Whether it is in the list. Its slot has one entry at most, which is found by halves.
 fn has(index: &[Ready], ready: &Ready) -> bool
-    requires { Rising (λ (l m : theory.Label). Before l.act m.act) (map by_none index.now) }
-    ensures { IsTrue result ↔ IsIn index.now ready.now }
+    ensures { Rising (λ (l m : theory.Label). Before l.act m.act) (map by_none index.now) → IsTrue result ↔ IsIn index.now ready.now }
 {
     let act = &ready.act;
     let at = place(index, kind_of(act), ticket_of(act), number_of(act));
