@@ -8,6 +8,11 @@ use Rattle.path_text.specs.PathTexts.{path_text}
 use Rattle.journal_text.specs.LabelTexts.{label_text}
 use Rattle.journal_replay.specs.declared.replay.Replayed.{Replayed}
 
+-- a line for each, which ends with a line feed
+abbrev pub lines_of : {X : Type 0} → (X → List ℕ) → List X → List ℕ
+lines_of line [] = []
+lines_of line (x ∷ xs) = line x ++ 10 ∷ lines_of line xs
+
 -- run k finished
 abbrev pub ending_text : Bool → List ℕ
 ending_text true = codes " finished"
@@ -24,19 +29,10 @@ step_text r = codes "step " ++ decimal r.shown ++ codes " admitted " ++ decimal 
 abbrev pub owner_text : Shape → Place → List ℕ
 owner_text shape x = codes "owner " ++ path_text shape x.path ++ 32 ∷ decimal x.host.0
 
-abbrev pub owners_text : Shape → List Place → List ℕ
-owners_text shape [] = []
-owners_text shape (x ∷ xs) = owner_text shape x ++ 10 ∷ owners_text shape xs
-
--- the run, the step that is shown, and a line for each context; each line ends with a line feed
+-- the run, the step that is shown, and the contexts
 abbrev pub replayed_text : Shape → Replayed → List ℕ
-replayed_text shape r = run_text r ++ 10 ∷ step_text r ++ 10 ∷ owners_text shape r.glance.owners
+replayed_text shape r = run_text r ++ 10 ∷ step_text r ++ 10 ∷ lines_of (owner_text shape) r.glance.owners
 
--- the labels, each on a line
-abbrev pub labels_text : Shape → List Label → List ℕ
-labels_text shape [] = []
-labels_text shape (l ∷ ls) = label_text shape l ++ 10 ∷ labels_text shape ls
-
--- refused i, how many labels can be taken, and those
+-- refused i; enabled k; and the labels that can be taken
 abbrev pub refused_text : Shape → ℕ → List Label → List ℕ
-refused_text shape step labels = codes "refused " ++ decimal step ++ 10 ∷ codes "enabled " ++ decimal (length labels) ++ 10 ∷ labels_text shape labels
+refused_text shape step labels = codes "refused " ++ decimal step ++ 10 ∷ codes "enabled " ++ decimal (length labels) ++ 10 ∷ lines_of (label_text shape) labels

@@ -7,8 +7,8 @@ use crate::error::ReplayError;
 use crate::walk::Walk;
 use std::alloc::Global;
 use wave_base::Seq;
-use wave_labels::Label;
-use wave_machine::{Glance, Plan};
+use wave_labels::{Label, labels_tell};
+use wave_machine::{Glance, Plan, contexts_have_owners};
 
 /// A journal that is a run, and what is shown of it.
 #[derive(Debug, Drop)]
@@ -35,13 +35,14 @@ pub fn replay(
     requires few { length journal.now < 2 ^ 32 }
     ensures { IsOnlyOutcome (plan_of plan.now) journal.now show result }
 {
+    contexts_have_owners();
+    labels_tell();
     let labels = journal.as_slice();
     let shown = (show as usize).min(labels.len());
-    let (front, back) = labels.split_at(shown);
     let mut walk = Walk::new(alloc, plan)?;
-    walk.go(alloc, plan, front, 0)?;
+    walk.go(alloc, plan, labels, 0, shown)?;
     let glance = walk.machine.glance()?;
-    walk.go(alloc, plan, back, shown as u32)?;
+    walk.go(alloc, plan, labels, shown, labels.len())?;
     Ok(Replayed {
         steps: labels.len() as u32,
         finished: walk.machine.finished(),

@@ -1,7 +1,8 @@
 //! What is reported of a replay.
 
 ghost use Rattle.std.specs.Prelude.{◌≡◌, ◌++◌, IfOk, OnOk};
-ghost use Rattle.journal_replay.specs.Reports.{ending_text, labels_text, owner_text, owners_text, refused_text, replayed_text, run_text, step_text};
+ghost use Rattle.journal_text.specs.LabelTexts.{label_text};
+ghost use Rattle.journal_replay.specs.Reports.{ending_text, lines_of, owner_text, refused_text, replayed_text, run_text, step_text};
 
 use crate::replay::Replayed;
 use journal_text::put_label;
@@ -64,7 +65,7 @@ fn put_owners(
     shape: &Shape,
     owners: &[Place],
 ) -> Result<(), OutOfMemory>
-    ensures { OnOk result (out.new.items ≡ out.old.items ++ owners_text shape.now owners.now) }
+    ensures { OnOk result (out.new.items ≡ out.old.items ++ lines_of (owner_text shape.now) owners.now) }
 {
     for owner in owners {
         put_owner(alloc, out, shape, owner)?;
@@ -112,7 +113,7 @@ fn put_labels(
     shape: &Shape,
     labels: &[Label],
 ) -> Result<(), OutOfMemory>
-    ensures { OnOk result (out.new.items ≡ out.old.items ++ labels_text shape.now labels.now) }
+    ensures { OnOk result (out.new.items ≡ out.old.items ++ lines_of (label_text shape.now) labels.now) }
 {
     for label in labels {
         put_label(alloc, out, shape, label)?;

@@ -4,26 +4,29 @@ use Rattle.std.specs.Prelude.{nat_lt, slice_get}
 use Rattle.std.specs.List.{AllByRecursion}
 use Rattle.std.proofs.lemmas.List.{length-map, map-append}
 use Rattle.std.proofs.lemmas.Bool.Decides.{nat_tests}
-use Rattle.wave_labels.specs.Labels.{act_of}
+use Rattle.wave_labels.specs.Labels.{act_eq, act_of}
+use Rattle.wave_labels.specs.LabelLaws.{act_itself, act_same}
 use Rattle.wave_states.specs.Labels.{Act, Label, Admit, Queue, Grant, Visit, Start, Stop, Free, Pass, Land, Commit, ticket_of}
 use Rattle.wave_theory.specs.Listed.{Before, IsIn, Rising, kind_of, mail_of}
+use Rattle.wave_theory.proofs.Basics.{and_first, and_second, number_is, number_self}
 use Rattle.wave_machine.specs.declared.ready.Ready.{Ready}
 use Rattle.wave_machine.specs.inner.Index.{Parted, by_none, number_of, under}
 use Rattle.wave_machine.proofs.Bridged.{with_worker}
+use Rattle.wave_machine.proofs.Ending.{and_true}
 
 -- ---- a list in its order, at the place of one that is in it
 
-number_is : (a : Act) → mail_of a ≡ number_of a
-number_is (Admit t) = refl
-number_is (Queue t k p) = refl
-number_is (Grant t p) = refl
-number_is (Visit t k p) = refl
-number_is (Start t p) = refl
-number_is (Stop t p) = refl
-number_is (Free t k p) = refl
-number_is (Pass t k p g) = refl
-number_is (Land t k p) = refl
-number_is (Commit t) = refl
+mail_is : (a : Act) → mail_of a ≡ number_of a
+mail_is (Admit t) = refl
+mail_is (Queue t k p) = refl
+mail_is (Grant t p) = refl
+mail_is (Visit t k p) = refl
+mail_is (Start t p) = refl
+mail_is (Stop t p) = refl
+mail_is (Free t k p) = refl
+mail_is (Pass t k p g) = refl
+mail_is (Land t k p) = refl
+mail_is (Commit t) = refl
 
 abbrev comes : ℕ → ℕ → ℕ → ℕ → ℕ → ℕ → Bool
 comes a t k b u j = nat_lt a b || ((a == b) && (nat_lt t u || ((t == u) && nat_lt k j)))
@@ -41,7 +44,7 @@ self_not : (a t k : ℕ) → comes a t k a t k ≡ false
 self_not a t k = grind (arith, nat_tests)
 
 as_numbers : (a b : Act) → Before a b → Less (kind_of a) (ticket_of a) (number_of a) (kind_of b) (ticket_of b) (number_of b)
-as_numbers a b h = subst (λ n. Less (kind_of a) (ticket_of a) (number_of a) (kind_of b) (ticket_of b) n) (number_is b) (subst (λ n. Less (kind_of a) (ticket_of a) n (kind_of b) (ticket_of b) (mail_of b)) (number_is a) h)
+as_numbers a b h = subst (λ n. Less (kind_of a) (ticket_of a) (number_of a) (kind_of b) (ticket_of b) n) (mail_is b) (subst (λ n. Less (kind_of a) (ticket_of a) n (kind_of b) (ticket_of b) (mail_of b)) (mail_is a) h)
 
 abbrev act_in : Ready → Act
 act_in r = act_of r.act
@@ -112,3 +115,20 @@ place_found rs r at h place e =
     record { all = ap (map by_none) f.all ∙ map-append by_none f.low (r ∷ f.high); lower = f.lower; higher = f.higher } in
     let there : at ≡ length f.low = place (map by_none f.low) (map by_none (r ∷ f.high)) parted ∙ length-map f.low by_none in
     (λ i. slice_get (f.all i) (there i)) ∙ at_length f.low r f.high
+
+-- the place, by what the code has computed of it
+pub place_as : (rs : List Ready) (r : Ready) (at kind t k : ℕ) → kind ≡ kind_of (act_in r) → t ≡ ticket_of (act_in r) → k ≡ number_of (act_in r)
+    → ((low high : List Label) → Parted (map by_none rs) kind t k low high → at ≡ length low)
+    → (low high : List Label) → Parted (map by_none rs) (kind_of (act_in r)) (ticket_of (act_in r)) (number_of (act_in r)) low high → at ≡ length low
+place_as rs r at kind t k e f g place low high p =
+    place low high (subst (λ n. Parted (map by_none rs) n t k low high) (sym e) (subst (λ n. Parted (map by_none rs) (kind_of (act_in r)) n k low high) (sym f) (subst (λ n. Parted (map by_none rs) (kind_of (act_in r)) (ticket_of (act_in r)) n low high) (sym g) p)))
+
+-- equal ones are the same
+pub ready_same : (a b : Ready) → ((a.host.0 == b.host.0) && act_eq a.act b.act) ≡ true → a ≡ b
+ready_same a b e =
+    let host : a.host.0 ≡ b.host.0 = number_is a.host.0 b.host.0 (and_first (a.host.0 == b.host.0) (act_eq a.act b.act) e) in
+    let act : a.act ≡ b.act = act_same a.act b.act (and_second (a.host.0 == b.host.0) (act_eq a.act b.act) e) in
+    λ i. record { host = record { 0 = host i }; act = act i }
+
+pub ready_itself : (a b : Ready) → a ≡ b → ((a.host.0 == b.host.0) && act_eq a.act b.act) ≡ true
+ready_itself a b e = subst (λ (z : Ready). ((a.host.0 == z.host.0) && act_eq a.act z.act) ≡ true) e (and_true (a.host.0 == a.host.0) (act_eq a.act a.act) (number_self a.host.0) (act_itself a.act))

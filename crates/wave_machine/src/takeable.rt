@@ -1,6 +1,6 @@
 //! Whether a label can be taken, without a list of all that can be.
 
-ghost use Rattle.std.specs.Prelude.{◌≡◌, ◌↔◌, true, List, IsTrue, is_some, map};
+ghost use Rattle.std.specs.Prelude.{◌≡◌, ◌↔◌, true, List, IsTrue, is_some, map, slice_get};
 ghost use Rattle.wave_base.specs.declared.start.Start.{Start};
 ghost use Rattle.wave_labels.specs.Labels.{act_of, label_of};
 ghost use Rattle.wave_states.specs.Labels as theory;
@@ -68,10 +68,16 @@ fn has(index: &[Ready], ready: &Ready) -> bool
 {
     let act = &ready.act;
     let at = place(index, kind_of(act), ticket_of(act), number_of(act));
-    match index.get(at) {
-        Some(found) => found == ready,
+    match ready_at(index, at) {
+        Some(found) => found == *ready,
         None => false,
     }
+}
+
+fn ready_at(index: &[Ready], at: usize) -> Option<Ready>
+    ensures { result ≡ slice_get index.now at }
+{
+    index.get(at).copied()
 }
 
 // A state that labels lead to has what is to be known to say what can be taken.
