@@ -26,7 +26,7 @@ use Rattle.wave_machine.specs.Glances.{IsGlance}
 use Rattle.wave_machine.specs.Machines.{TheState}
 use Rattle.journal_replay.specs.declared.error.ReplayError.{ReplayError}
 use Rattle.journal_replay.specs.declared.error.ReplayError.TheVariants.{Refused, OutOfMemory}
-use Rattle.journal_replay.specs.declared.replay.Replayed.{Replayed}
+use Rattle.journal_replay.specs.declared.replaying.Replayed.{Replayed}
 use Rattle.journal_replay.specs.Replays.{IsOnlyOutcome, IsOutcome, IsRefusal, IsReplay, LeadsTo}
 use Rattle.journal_replay.specs.inner.Walks.{StopsIn}
 
@@ -60,7 +60,7 @@ module _ (s : TheState) (one : (p : Path) (h h' : ℕ) → IsOwner s p h → IsO
       let owned = recursion_from_All Owned g.owners h.owned in
       let owned' = recursion_from_All Owned g'.owners k.owned in
       let paths : map path_of g'.owners ≡ map path_of g.owners = sorted_same (map path_of g'.owners) (map path_of g.owners) k.ordered h.ordered
-          (λ q e. let o = owner_of g'.owners q owned' e in h.all_there q o.0 o.1) (λ q e. let o = owner_of g.owners q owned e in k.all_there q o.0 o.1) in
+      (λ q e. let o = owner_of g'.owners q owned' e in h.all_there q o.0 o.1) (λ q e. let o = owner_of g.owners q owned e in k.all_there q o.0 o.1) in
       let owners = places_same g'.owners g.owners paths owned' owned in
       λ i. record { admitted = (k.admitted ∙ sym h.admitted) i; committed = (k.committed ∙ sym h.committed) i; owners = owners i }
 

@@ -12,7 +12,7 @@ use Rattle.wave_machine.specs.Glances.{IsGlance}
 use Rattle.wave_machine.specs.Machines.{IsReached, TheState}
 use Rattle.journal_replay.specs.declared.error.ReplayError.{ReplayError}
 use Rattle.journal_replay.specs.declared.error.ReplayError.TheVariants.{Refused, OutOfMemory}
-use Rattle.journal_replay.specs.declared.replay.Replayed.{Replayed}
+use Rattle.journal_replay.specs.declared.replaying.Replayed.{Replayed}
 
 module _ (plan : Plan) where
   -- the labels are a run of the plan, from its first Start to this state

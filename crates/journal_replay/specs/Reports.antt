@@ -6,7 +6,7 @@ use Rattle.wave_base.specs.declared.shape.Shape.{Shape}
 use Rattle.wave_labels.specs.declared.label.Label.{Label}
 use Rattle.path_text.specs.PathTexts.{path_text}
 use Rattle.journal_text.specs.LabelTexts.{label_text}
-use Rattle.journal_replay.specs.declared.replay.Replayed.{Replayed}
+use Rattle.journal_replay.specs.declared.replaying.Replayed.{Replayed}
 
 -- a line for each, which ends with a line feed
 abbrev pub lines_of : {X : Type 0} → (X → List ℕ) → List X → List ℕ

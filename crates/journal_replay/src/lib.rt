@@ -2,10 +2,10 @@
 #![tactic(auto)]
 
 mod error;
-mod replay;
+mod replaying;
 mod report;
 mod walk;
 
 pub use error::ReplayError;
-pub use replay::{Replayed, replay};
+pub use replaying::{Replayed, replay};
 pub use report::{refused_text, replayed_text};

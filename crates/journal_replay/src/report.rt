@@ -4,7 +4,7 @@ ghost use Rattle.std.specs.Prelude.{◌≡◌, ◌++◌, IfOk, OnOk};
 ghost use Rattle.journal_text.specs.LabelTexts.{label_text};
 ghost use Rattle.journal_replay.specs.Reports.{ending_text, lines_of, owner_text, refused_text, replayed_text, run_text, step_text};
 
-use crate::replay::Replayed;
+use crate::replaying::Replayed;
 use journal_text::put_label;
 use path_text::put_path;
 use std::alloc::Global;

@@ -1,5 +1,5 @@
 -- A glance: what is gathered of the stores and the mails is what the state has.
-use Rattle.std.proofs.Common.{◌≡◌, ◌∙◌, ◌⊎◌, inl, inr, ℕ, zero, suc, ◌+◌, ◌-◌, ◌<◌, ◌≤◌, ◌||◌, true, List, [], ◌∷◌, length, map, Option, Some, None, is_some, refl, sym, ap, subst, true≢false, arith}
+use Rattle.std.proofs.Common.{◌≡◌, ◌∙◌, ◌⊎◌, inl, inr, ℕ, zero, suc, ◌+◌, ◌-◌, ◌<◌, ◌≤◌, ◌^◌, ◌||◌, true, List, [], ◌∷◌, length, map, Option, Some, None, is_some, refl, sym, ap, subst, true≢false, arith}
 use Rattle.std.specs.FinMap as table
 use Rattle.std.specs.Prelude.{slice_get, All}
 use Rattle.std.specs.List.{AllByRecursion, list_any}
@@ -45,6 +45,8 @@ use Rattle.wave_machine.specs.inner.Endings.{IsThere}
 use Rattle.wave_machine.specs.inner.Owned.{IsCarried, IsKeptAt, IsOldOr, IsOwnPlace, IsSent, carried_by, carried_in, with_place}
 use Rattle.wave_machine.proofs.Collecting.{all_inserted, insert_keys}
 use Rattle.wave_machine.proofs.Ending.{some_at}
+use Rattle.wave_machine.proofs.Headings.{Heads}
+use Rattle.wave_machine.proofs.ListingSizes.{listable}
 use Rattle.wave_machine.proofs.Reached.{has_it, host_is, mailed_is}
 use Rattle.wave_machine.proofs.StoreParts.{TheEntry}
 use Rattle.wave_machine.proofs.Taking.{Laws, now}
@@ -55,7 +57,7 @@ pub all_weaker : {X : Type 0} (P Q : X → Type 0) → ((x : X) → P x → Q x)
 all_weaker P Q f [] h = tt
 all_weaker P Q f (x ∷ xs) h = (f x h.0, all_weaker P Q f xs h.1)
 
-of_all : {X : Type 0} (P : X → Type 0) (xs : List X) (x : X) → AllByRecursion P xs → IsIn xs x → P x
+pub of_all : {X : Type 0} (P : X → Type 0) (xs : List X) (x : X) → AllByRecursion P xs → IsIn xs x → P x
 of_all P [] x h e = absurd e
 of_all P (y ∷ ys) x h (inl same) = subst P same h.0
 of_all P (y ∷ ys) x h (inr e) = of_all P ys x h.1 e
@@ -241,3 +243,22 @@ module _ (laws : Laws) (m : Kept) (start : Start) (s : TheState) (stands : Stand
           owned = subst (All (λ x. IsOwner s x.path x.host.0)) (sym same) (All-weaker (IsOwnPlace m.stores m.cells) (λ (x : Place). IsOwner s x.path x.host.0) kept_owns places owned);
           all_there = λ p host on. subst (λ xs. list_any (path_eq p) (map path_of xs) ≡ true) (sym same) (owner_listed p host on);
         }
+
+-- the numbers fit
+pub record Sizes (m : Kept) : Type 0 where
+  pub first : 1 ≤ m.first
+  pub tickets : m.first + length m.cells ≤ 2 ^ 32
+  pub settled : length m.settled.results ≤ length m.cells
+
+pub sizes_of : Laws → Heads → (m : Kept) (start : Start) (s : TheState) → Stands m start s → Sizes m
+sizes_of laws heads m start s stands =
+    let head = heads m.plan start stands.labels s stands.fits stands.begins stands.reached in
+    let list = listable laws m start s stands head in
+    let h = stands.shows in
+    let first = h.head.before in
+    let many = h.cells.as_many in
+    let all = h.head.admitted in
+    let done = ap (λ (x : Head Line). x.done) h.head.head in
+    let settled = h.results.as_many in
+    let time = head.in_time in
+    record { first = omega (arith, first); tickets = list.tickets; settled = omega (arith, many, all, done, settled, time) }

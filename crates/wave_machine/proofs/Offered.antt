@@ -1,9 +1,11 @@
 -- Whether a label can be taken: by an idle worker where it is in the list, and by another one where it is the Stop of what that has out.
-use Rattle.std.proofs.Common.{◌≡◌, ◌∙◌, inl, inr, ℕ, ◌<◌, Bool, true, false, List, [], ◌∷◌, map, Option, Some, None, is_none, is_some, refl, sym, ap, subst, true≢false, arith}
+use Rattle.std.proofs.Common.{◌≡◌, ◌∙◌, inl, inr, ℕ, ◌<◌, ◌&&◌, ◌==◌, Bool, true, false, List, [], ◌∷◌, map, Option, Some, None, is_none, is_some, refl, sym, ap, subst, true≢false, arith}
 use Rattle.std.specs.FinMap as table
 use Rattle.std.specs.Prelude.{◌↔◌, if◌then◌else◌, option_map, slice_get}
 use Rattle.wave_base.specs.declared.path.Path.{Path}
 use Rattle.wave_base.specs.declared.start.Start.{Start}
+use Rattle.wave_base.specs.Paths.{path_eq}
+use Rattle.wave_base.specs.PathLaws.{path_eq_equiv}
 use Rattle.host_map.specs.Stores.{Stores}
 use Rattle.wave_labels.specs.declared.label.Label as program
 use Rattle.wave_labels.specs.Labels.{act_of, label_of}
@@ -14,7 +16,7 @@ use Rattle.wave_states.specs.Owners.{IsOwner}
 use Rattle.wave_states.specs.States.{Hand, State}
 use Rattle.wave_states.specs.Steps.{act_bench, admit, commit, part_of, step, with_bench}
 use Rattle.wave_theory.specs.Listed.{IsIn}
-use Rattle.wave_theory.proofs.Basics.{if_some, none_not, some_same}
+use Rattle.wave_theory.proofs.Basics.{and_first, and_second, if_some, none_not, number_is, number_self, path_is, some_same}
 use Rattle.wave_theory.proofs.Frames.{option_some}
 use Rattle.code_actor.specs.CodeActors.{Fields}
 use Rattle.plan_actors.specs.PlanActors as actors
@@ -25,10 +27,10 @@ use Rattle.wave_machine.specs.declared.ready.Ready.{Ready}
 use Rattle.wave_machine.specs.Machines.{IsOut, Kept, Shows, TheState}
 use Rattle.wave_machine.specs.inner.Index.{IsIndex, by_none, has_at}
 use Rattle.wave_machine.specs.inner.Listable.{CanList}
-use Rattle.wave_machine.specs.inner.Takeable.{CanTake, IsStopOf}
+use Rattle.wave_machine.specs.inner.Takeable.{CanTake, is_stop_of}
 use Rattle.wave_machine.proofs.Bridged.{in_mapped, taken_is, with_worker}
 use Rattle.wave_machine.proofs.Driven.{stopped_by}
-use Rattle.wave_machine.proofs.Ending.{some_at}
+use Rattle.wave_machine.proofs.Ending.{and_true, some_at}
 use Rattle.wave_machine.proofs.Glancing.{matched, there_is}
 use Rattle.wave_machine.proofs.Halves.{InOrder, Rises, in_order_too}
 use Rattle.wave_machine.proofs.ListingOwn.{past_lists}
@@ -123,22 +125,29 @@ module _ (m : Kept) (start : Start) (s : TheState) (shows : Shows m s) (list : C
       ap (has_at p) x.1 ∙ has_it (table.get x.0.store p) ((s.columns p).store h) en.0 (shows.stores.each h x.0 x.1 p).entry en.1
 
   module _ (w h : ℕ) (o : Out) (out : slice_get m.hands w ≡ Some (Some o)) where
+    abbrev IsStop : Act → Type 0
+    IsStop a = is_stop_of m.stores o h a ≡ true
+
     held : InHand o (s.hands w)
     held = in_hand o (s.hands w) (shows.hands.each w (Some o) out)
 
     -- a Stop is taken by the host that has the context, and only there
-    stop_can : (t : ℕ) (p : Path) → IsStopOf m.stores o h (Stop t p) → Can (record { worker = w; host = h; act = Stop t p })
+    stop_can : (t : ℕ) (p : Path) → IsStop (Stop t p) → Can (record { worker = w; host = h; act = Stop t p })
     stop_can t p is =
+        let more = and_second (o.ticket.0 == t) (path_eq o.path p && has_at p (slice_get m.stores h)) is in
+        let ticket : o.ticket.0 ≡ t = number_is o.ticket.0 t (and_first (o.ticket.0 == t) (path_eq o.path p && has_at p (slice_get m.stores h)) is) in
+        let of : o.path ≡ p = path_is o.path p (and_first (path_eq o.path p) (has_at p (slice_get m.stores h)) more) in
+        let stored : has_at p (slice_get m.stores h) ≡ true = and_second (path_eq o.path p) (has_at p (slice_get m.stores h)) more in
         let can = list.stoppable w held.hand held.there in
-        let path : held.hand.path ≡ p = held.path ∙ is.1 in
+        let path : held.hand.path ≡ p = held.path ∙ of in
         let there : IsOwner s held.hand.path can.host = inl can.here in
-        let here : IsOwner s p h = inl (here_is p h is.2) in
+        let here : IsOwner s p h = inl (here_is p h stored) in
         let same : can.host ≡ h = list.owner.one p can.host h (subst (λ q. IsOwner s q can.host) path there) here in
         let label : record { worker = w; host = can.host; act = Stop held.hand.ticket held.hand.path } ≡ record { worker = w; host = h; act = Stop t p } =
-        λ i. record { worker = w; host = same i; act = Stop ((held.ticket ∙ is.0) i) (path i) } in
+        λ i. record { worker = w; host = same i; act = Stop ((held.ticket ∙ ticket) i) (path i) } in
         subst Can label can.enabled
 
-    can_stop : (t : ℕ) (p : Path) → Can (record { worker = w; host = h; act = Stop t p }) → IsStopOf m.stores o h (Stop t p)
+    can_stop : (t : ℕ) (p : Path) → Can (record { worker = w; host = h; act = Stop t p }) → IsStop (Stop t p)
     can_stop t p e =
         let l : Label = record { worker = w; host = h; act = Stop t p } in
         let v = option_some (step (plan_actors m.plan.program) m.plan.workers s l) e in
@@ -148,21 +157,24 @@ module _ (m : Kept) (start : Start) (s : TheState) (shows : Shows m s) (list : C
         let can = list.stoppable w held.hand held.there in
         let there : IsOwner s held.hand.path can.host = inl can.here in
         let same : can.host ≡ h = list.owner.one p can.host h (subst (λ q. IsOwner s q can.host) path there) (take.owners l v.0 v.1).0 in
-        (sym held.ticket ∙ ap (λ (g : Hand actors.Actor Fields). g.ticket) one ∙ of.ticket, sym held.path ∙ path, has_here p h (subst (λ n. is_some ((s.columns p).store n) ≡ true) same (subst (λ q. is_some ((s.columns q).store can.host) ≡ true) path can.here)))
+        let ticket : o.ticket.0 ≡ t = sym held.ticket ∙ ap (λ (g : Hand actors.Actor Fields). g.ticket) one ∙ of.ticket in
+        let stored : has_at p (slice_get m.stores h) ≡ true = has_here p h (subst (λ n. is_some ((s.columns p).store n) ≡ true) same (subst (λ q. is_some ((s.columns q).store can.host) ≡ true) path can.here)) in
+        and_true (o.ticket.0 == t) (path_eq o.path p && has_at p (slice_get m.stores h)) (subst (λ n. (o.ticket.0 == n) ≡ true) ticket (number_self o.ticket.0))
+        (and_true (path_eq o.path p) (has_at p (slice_get m.stores h)) (subst (λ q. path_eq o.path q ≡ true) (sym held.path ∙ path) (path_eq_equiv.refl o.path)) stored)
 
     other_not : (a : Act) → is_stop a ≡ false → Can (record { worker = w; host = h; act = a }) → ⊥
     other_not a n e =
         let v = option_some (step (plan_actors m.plan.program) m.plan.workers s (record { worker = w; host = h; act = a })) e in
         only_stops (plan_actors m.plan.program) m.plan.workers s v.0 w h held.hand held.there a n v.1
 
-    pub busy_can : (a : Act) → IsStopOf m.stores o h a ↔ Can (record { worker = w; host = h; act = a })
+    pub busy_can : (a : Act) → IsStop a ↔ Can (record { worker = w; host = h; act = a })
     busy_can (Stop t p) = (stop_can t p, can_stop t p)
-    busy_can (Admit t) = (λ e. absurd e, λ e. other_not (Admit t) refl e)
-    busy_can (Queue t k p) = (λ e. absurd e, λ e. other_not (Queue t k p) refl e)
-    busy_can (Grant t p) = (λ e. absurd e, λ e. other_not (Grant t p) refl e)
-    busy_can (Visit t k p) = (λ e. absurd e, λ e. other_not (Visit t k p) refl e)
-    busy_can (Begin t p) = (λ e. absurd e, λ e. other_not (Begin t p) refl e)
-    busy_can (Free t k p) = (λ e. absurd e, λ e. other_not (Free t k p) refl e)
-    busy_can (Pass t k p g) = (λ e. absurd e, λ e. other_not (Pass t k p g) refl e)
-    busy_can (Land t k p) = (λ e. absurd e, λ e. other_not (Land t k p) refl e)
-    busy_can (Commit t) = (λ e. absurd e, λ e. other_not (Commit t) refl e)
+    busy_can (Admit t) = (λ e. absurd (true≢false (sym e)), λ e. absurd (other_not (Admit t) refl e))
+    busy_can (Queue t k p) = (λ e. absurd (true≢false (sym e)), λ e. absurd (other_not (Queue t k p) refl e))
+    busy_can (Grant t p) = (λ e. absurd (true≢false (sym e)), λ e. absurd (other_not (Grant t p) refl e))
+    busy_can (Visit t k p) = (λ e. absurd (true≢false (sym e)), λ e. absurd (other_not (Visit t k p) refl e))
+    busy_can (Begin t p) = (λ e. absurd (true≢false (sym e)), λ e. absurd (other_not (Begin t p) refl e))
+    busy_can (Free t k p) = (λ e. absurd (true≢false (sym e)), λ e. absurd (other_not (Free t k p) refl e))
+    busy_can (Pass t k p g) = (λ e. absurd (true≢false (sym e)), λ e. absurd (other_not (Pass t k p g) refl e))
+    busy_can (Land t k p) = (λ e. absurd (true≢false (sym e)), λ e. absurd (other_not (Land t k p) refl e))
+    busy_can (Commit t) = (λ e. absurd (true≢false (sym e)), λ e. absurd (other_not (Commit t) refl e))

@@ -1,6 +1,7 @@
 -- What can be taken: what is known of a state, and the Stop of a segment that is out.
-use Rattle.std.specs.Prelude.{◌≡◌, ℕ, true, List, slice_get}
+use Rattle.std.specs.Prelude.{◌&&◌, ◌==◌, ℕ, Bool, false, List, slice_get}
 use Rattle.wave_base.specs.declared.start.Start.{Start}
+use Rattle.wave_base.specs.Paths.{path_eq}
 use Rattle.host_map.specs.Stores.{Stores}
 use Rattle.wave_states.specs.Labels.{Act, Stop}
 use Rattle.wave_theory.specs.Listed.{ListedFor}
@@ -17,6 +18,6 @@ pub record CanTake (plan : Plan) (start : Start) (s : TheState) : Type 0 where
   pub owners : ByOwners (plan_kind plan.program plan.script.hosts) plan.workers (begin_in plan start) plan.script.batches s
 
 -- it is the Stop of the segment, at a host whose store has the context
-abbrev pub IsStopOf : List Stores → Out → ℕ → Act → Type 0
-IsStopOf stores o host (Stop t p) = (o.ticket.0 ≡ t) × (o.path ≡ p) × (has_at p (slice_get stores host) ≡ true)
-IsStopOf stores o host _ = ⊥
+abbrev pub is_stop_of : List Stores → Out → ℕ → Act → Bool
+is_stop_of stores o host (Stop t p) = (o.ticket.0 == t) && (path_eq o.path p && has_at p (slice_get stores host))
+is_stop_of stores o host _ = false

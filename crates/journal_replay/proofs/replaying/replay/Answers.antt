@@ -7,11 +7,11 @@ use Rattle.wave_states.specs.Runs.{Finished}
 use Rattle.plan_actors.specs.PlanActors.{plan_actors}
 use Rattle.plan_actors.specs.Plans.{Plan}
 use Rattle.wave_machine.specs.Plans.{plan_of}
-use Rattle.journal_replay.specs.declared.replay.Replayed.{Replayed}
+use Rattle.journal_replay.specs.declared.replaying.Replayed.{Replayed}
 use Rattle.journal_replay.specs.Replays.{IsReplay, LeadsTo}
 use Rattle.journal_replay.specs.inner.Walks.{IsWalking, StopsIn}
 use Rattle.journal_replay.proofs.Unique.{only_stop, replay_is_one}
-use Rattle.journal_replay.proofs.replay.replay.Goals as goal
+use Rattle.journal_replay.proofs.replaying.replay.Goals as goal
 
 pub returns-in_err-go : goal.returns-in_err-go
 returns-in_err-go c = ?
