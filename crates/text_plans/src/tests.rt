@@ -4,6 +4,7 @@ mod cases;
 mod drives;
 mod looks;
 mod moves;
+mod replays;
 mod rules;
 mod steps;
 mod wants;

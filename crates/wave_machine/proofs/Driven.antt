@@ -195,7 +195,7 @@ step_is_calm (label.Commit t) e = refl
 
 module _ (m m' : Kept) (ends : List (Option End)) (l : Label) (plan : m'.plan ≡ m.plan) (within : l.worker < length ends) where
   -- at other workers all is as it was
-  others : (start : Start) (s s' : TheState) (o : Option End) → IsUnder m ends start s → step (plan_actors m.plan.program) m.plan.workers s l ≡ Some s' → (w : ℕ) (hand : Hand actors.Actor Fields) → (l.worker ≢ w) → s'.hands w ≡ Some hand
+  pub others : (start : Start) (s s' : TheState) (o : Option End) → IsUnder m ends start s → step (plan_actors m.plan.program) m.plan.workers s l ≡ Some s' → (w : ℕ) (hand : Hand actors.Actor Fields) → (l.worker ≢ w) → s'.hands w ≡ Some hand
       → IsEnd m'.plan.program w hand (slice_get (slice_set ends l.worker o) w)
   others start s s' o under e w hand apart there =
       subst (λ (x : Option (Option End)). IsEnd m'.plan.program w hand x) (sym (set_elsewhere ends l.worker w o apart))

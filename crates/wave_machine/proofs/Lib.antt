@@ -63,3 +63,7 @@ pub mod Grows
 pub mod Roomier
 pub mod OwnMails
 pub mod KeptMails
+pub mod Halves
+pub mod Mapped
+pub mod Glancing
+pub mod Offered

@@ -17,3 +17,4 @@ pub mod Lengths
 pub mod Orders
 pub mod Picks
 pub mod Readies
+pub mod Glances

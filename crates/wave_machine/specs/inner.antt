@@ -15,3 +15,5 @@ pub mod Drivable
 pub mod Lines
 pub mod Done
 pub mod Index
+pub mod Owned
+pub mod Takeable

@@ -16,6 +16,7 @@ mod engine;
 mod finds;
 mod finish;
 mod first;
+mod glance;
 mod hands;
 mod heading;
 mod index;
@@ -46,6 +47,7 @@ mod rules;
 mod running;
 mod runs;
 mod shown;
+mod takeable;
 mod takers;
 
 pub use actor::Actor;
@@ -53,6 +55,8 @@ pub use always::{
     contexts_have_owners, labels_are_apart, machines_come_to_an_end, machines_follow_the_fold,
 };
 pub use drives::{drive, drive_at, drive_with};
+pub use ends::End;
+pub use glance::Glance;
 pub use hands::segments_are_known;
 pub use kept::{Out, Settled};
 pub use known::heads_are_known;

@@ -1,4 +1,4 @@
-ghost use Rattle.std.specs.Prelude.{◌≡◌, ◌↔◌, ◌≤◌, ◌+◌, ◌-◌, ℕ, true, length, map, min, slice_get, Some, None, IsTrue, IfErr, IfOk, OnErr, OnOk};
+ghost use Rattle.std.specs.Prelude.{◌≡◌, ◌↔◌, ◌≤◌, ◌+◌, ◌-◌, ℕ, true, length, map, min, slice_get, Some, None, is_some, IsTrue, IfErr, IfOk, OnErr, OnOk};
 ghost use Rattle.script_fold.specs.Runs.{finished_of};
 ghost use Rattle.wave_base.specs.declared.start.Start.{Start};
 ghost use Rattle.wave_base.specs.Starts.{first_start};
@@ -6,9 +6,11 @@ ghost use Rattle.wave_labels.specs.Labels.{label_of};
 ghost use Rattle.wave_states.specs.Begins.{start_state};
 ghost use Rattle.wave_states.specs.Canonical.{enabled, enabled_for, taken_as};
 ghost use Rattle.wave_states.specs.Runs as runs;
+ghost use Rattle.wave_states.specs.Steps.{step};
 ghost use Rattle.plan_actors.specs.Calls.{code_ran};
 ghost use Rattle.plan_actors.specs.PlanActors.{plan_actors};
 ghost use Rattle.plan_actors.specs.Plans.{Fits, FitsStart, begin_in};
+ghost use Rattle.wave_machine.specs.Glances.{IsGlance};
 ghost use Rattle.wave_machine.specs.Machines.{IsEnabled, Keeps, Stands, Takes, TheState};
 ghost use Rattle.wave_machine.specs.Plans.{plan_of};
 ghost use Rattle.wave_machine.specs.Prepared.{IsStood, is_start, is_step};
@@ -18,6 +20,7 @@ ghost use Rattle.wave_machine.specs.Picks.{IsOneOf};
 ghost use Rattle.wave_machine.specs.Readies.{choice_of, ready_in};
 ghost use Rattle.wave_machine.specs.Showing.{IsLineOf};
 
+use crate::glance::Glance;
 use crate::lease::Lease;
 use crate::listed::Listed;
 use crate::plan::Plan;
@@ -219,6 +222,20 @@ impl<'p> Machine<'p> {
                 Err((machine, error))
             }
         }
+    }
+
+    /// Whether a label can be taken now, by its worker and at its host. It is searched for by halves, and takes no memory.
+    pub fn can_take(&self, label: &Label) -> bool
+        ensures { (start : Start) (s : TheState) → Stands self.now.kept start s → IsTrue result ↔ (is_some (step (plan_actors self.now.kept.plan.program) self.now.kept.plan.workers s (label_of label.now)) ≡ true) }
+    {
+        self.listed.can_take(label)
+    }
+
+    /// How far the run has come, and where its contexts are.
+    pub fn glance(&self) -> Result<Glance, OutOfMemory>
+        ensures { IfOk result (λ g. (start : Start) (s : TheState) → Stands self.now.kept start s → IsGlance s g) }
+    {
+        self.listed.engine.glance(self.alloc)
     }
 
     /// How many tickets of this run are committed.

@@ -24,12 +24,25 @@ pub(crate) fn places(alloc: Global, stores: &[HostStore]) -> Result<Vec<Place>, 
     ensures there { IfOk result (λ places. All (IsPlace stores.now) places.items) }
     ensures all { IfOk result (λ places. (h : ℕ) (x : Stores) (p : path.Path) → slice_get stores.now h ≡ Some x → has p x ≡ true → list_any (path_eq p) (map path_of places.items) ≡ true) }
 {
+    let hosts = stored(alloc, stores)?;
+    let places = listed(alloc, &hosts)?;
+    Ok(places)
+}
+
+// The contexts that are there by their paths.
+pub(crate) fn stored(
+    alloc: Global,
+    stores: &[HostStore],
+) -> Result<BTreeMap<Path, Host>, OutOfMemory>
+    requires { length stores.now ≤ 8 }
+    ensures there { IfOk result (λ hosts. AllThere stores.now hosts.entries) }
+    ensures all { IfOk result (λ hosts. (h : ℕ) (x : Stores) (p : path.Path) → slice_get stores.now h ≡ Some x → has p x ≡ true → list_any (path_eq p) (keys hosts) ≡ true) }
+{
     let mut hosts = BTreeMap::new(alloc);
     for host in 0..stores.len() {
         add_all(alloc, &mut hosts, stores, Host(host as u8))?;
     }
-    let places = listed(alloc, &hosts)?;
-    Ok(places)
+    Ok(hosts)
 }
 
 // Each context of a store is at its host.
@@ -52,7 +65,7 @@ fn add_all(
 }
 
 // The places in order.
-fn listed(alloc: Global, hosts: &BTreeMap<Path, Host>) -> Result<Vec<Place>, OutOfMemory>
+pub(crate) fn listed(alloc: Global, hosts: &BTreeMap<Path, Host>) -> Result<Vec<Place>, OutOfMemory>
     ensures places { IfOk result (λ places. places.items ≡ map placed_at hosts.now.entries) }
     ensures ordered { IsStrictlySortedBy path_cmp (keys hosts.now) }
 {

@@ -6,7 +6,7 @@ use Rattle.wave_base.specs.declared.path.Path.{Path}
 use Rattle.wave_base.specs.Paths.{path_eq}
 use Rattle.host_map.specs.Stores.{Stores, has}
 use Rattle.wave_machine.specs.inner.Endings.{AllThere}
-use Rattle.wave_machine.proofs.places.places.Given as goal
+use Rattle.wave_machine.proofs.places.stored.Given as goal
 
 abbrev pub invariant-loop-host : goal.invariant-loop-host
 invariant-loop-host l = record {

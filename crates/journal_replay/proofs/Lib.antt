@@ -1,0 +1,3 @@
+pub mod Walking
+pub mod Unique
+pub mod Written
