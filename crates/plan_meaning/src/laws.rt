@@ -12,7 +12,9 @@ ghost use Rattle.wave_base.specs.Starts.{IsStart};
 ghost use Rattle.wave_base.specs.Tree.{Tree};
 ghost use Rattle.resolved_service.specs.declared.service.Resolved.{Resolved};
 ghost use Rattle.resolved_service.specs.Jobs.{call_meaning};
-ghost use Rattle.script_fold.specs.Runs.{finished_of};
+ghost use Rattle.fold_laws.specs.Cuts.{both, start_behind, Comes, IsCut};
+ghost use Rattle.fold_laws.specs.Growth.{StaysFew};
+ghost use Rattle.script_fold.specs.Runs.{finished_of, IsFew};
 ghost use Rattle.service_code.specs.declared.program.Program.{Program};
 ghost use Rattle.service_verify.specs.Tours.{code_tour};
 ghost use Rattle.wave_meaning.specs.Meaning.{call_ran, results_at, IsWholeAt};
@@ -52,3 +54,22 @@ pub fn finished_states_mean()
 {
     finished_states_tell();
 }
+
+/// What a script of a service gives is cut where the script ends: a script and another behind it give what the one gives, and then what
+/// the other gives from what the one leaves. This goes on from script to script, however many lines they have together.
+pub fn scripts_are_cut()
+    ensures first { (service : Resolved) (program : Program) (start : Start) (a : Script) → IsCode service program → IsScript program.shape a → IsStart program.shape a.hosts start → IsFew (start_behind (call_ran service) program.shape start a)
+        → Comes (call_ran service) program.shape start a }
+    ensures cut { (service : Resolved) (program : Program) (start : Start) (a b : Script) → IsCode service program → Comes (call_ran service) program.shape start a → IsScript program.shape b → a.hosts ≡ b.hosts
+        → IsCut (call_ran service) program.shape start a b }
+    ensures more { (service : Resolved) (program : Program) (start : Start) (a b : Script) → IsCode service program → Comes (call_ran service) program.shape start a → IsScript program.shape b → a.hosts ≡ b.hosts
+        → IsFew (start_behind (call_ran service) program.shape start (both a b)) → Comes (call_ran service) program.shape start (both a b) }
+{}
+
+/// It leaves few contexts, and takes few tickets; and so do scripts one behind the other.
+pub fn scripts_stay_few()
+    ensures one { (service : Resolved) (program : Program) (start : Start) (a : Script) → IsCode service program → IsScript program.shape a → IsStart program.shape a.hosts start
+        → StaysFew start a.batches (results_at program.shape service start a) }
+    ensures both { (service : Resolved) (program : Program) (start : Start) (a b : Script) → IsCode service program → Comes (call_ran service) program.shape start a → IsScript program.shape b → a.hosts ≡ b.hosts
+        → StaysFew start a.batches (results_at program.shape service start a) → StaysFew start (both a b).batches (results_at program.shape service start (both a b)) }
+{}

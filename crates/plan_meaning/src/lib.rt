@@ -3,4 +3,6 @@
 
 mod laws;
 
-pub use laws::{calls_mean, finished_states_mean, plans_end, plans_mean};
+pub use laws::{
+    calls_mean, finished_states_mean, plans_end, plans_mean, scripts_are_cut, scripts_stay_few,
+};
