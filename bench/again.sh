@@ -5,7 +5,7 @@ set -eu
 cd "$(dirname "$0")/.."
 times=${1:-200} workers=${2:-16} processors=${3:-2}
 program=${PROGRAM:-crates/eventwave_program/out/eventwave_program}
-[ -x "$program" ] || ./eventwave run <examples/counter.wave >/dev/null
+[ -x "$program" ] || ./eventwave --proved check <examples/counter.wave >/dev/null
 folder=$(mktemp -d); trap 'rm -rf "$folder"' EXIT
 
 "$program" gen 7 >"$folder/load"

@@ -4,9 +4,8 @@
 # the shortest load. All have to write what the reference's `seq` writes.
 set -eu
 cd "$(dirname "$0")/.."
-reference=${1:-../shared/tools/reference} runs=${2:-7}
-program=${PROGRAM:-crates/eventwave_program/out/eventwave_program}
-[ -x "$program" ] || ./eventwave run <examples/counter.wave >/dev/null
+named=${1:-} runs=${2:-7}
+. bench/reference.sh
 folder=$(mktemp -d); trap 'rm -rf "$folder"' EXIT
 
 median() { sort -n | awk '{ all[NR] = $1 } END { print all[int((NR + 1) / 2)] }'; }
@@ -19,7 +18,7 @@ ways() {
 
 printf '%6s %12s %12s %12s %8s\n' lines way 'time, ms' 'us a line' growth
 for lines in 250 1000 4000; do
-    "$reference" genlines 7 "$lines" >"$folder/load"
+    python3 bench/load.py 7 "$lines" >"$folder/load"
     "$reference" seq <"$folder/load" >"$folder/want"
     for _ in $(seq "$runs"); do
         while read -r name words; do

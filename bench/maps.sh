@@ -6,15 +6,13 @@
 # that only fills the map, is taken off its time.
 set -eu
 cd "$(dirname "$0")/.."
-by=seq; if [ "${1:-}" = code ]; then by=code; shift; fi
-reference=${1:-../shared/tools/reference} runs=${2:-7}
+by=seq own=''; if [ "${1:-}" = code ]; then by=code own=1; shift; fi
+named=${1:-} runs=${2:-7}
+. bench/reference.sh
 if [ $by = code ]; then
     # Where it is not built yet, or a source is newer, `rt run` proves and builds it.
     program=${PROGRAM:-crates/bench_code/out/bench_code}
     [ -n "${PROGRAM:-}" ] || (cd crates/bench_code; rt run <stdin >/dev/null 2>&1 || { rt run <stdin; exit 1; })
-else
-    program=${PROGRAM:-crates/eventwave_program/out/eventwave_program}
-    [ -x "$program" ] || ./eventwave run <examples/counter.wave >/dev/null
 fi
 folder=$(mktemp -d); trap 'rm -rf "$folder"' EXIT
 

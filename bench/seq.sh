@@ -4,12 +4,11 @@
 # milliseconds with their ratio, and the peak memory in KiB.
 set -eu
 cd "$(dirname "$0")/.."
-reference=${1:-../shared/tools/reference} runs=${2:-9}
-program=${PROGRAM:-crates/eventwave_program/out/eventwave_program}
-[ -x "$program" ] || ./eventwave run <examples/counter.wave >/dev/null
+named=${1:-} runs=${2:-9}
+. bench/reference.sh
 folder=$(mktemp -d); trap 'rm -rf "$folder"' EXIT
 
-for lines in 250 1000 2300 4000; do "$reference" genlines 7 "$lines" >"$folder/load-$lines"; done
+for lines in 250 1000 2300 4000; do python3 bench/load.py 7 "$lines" >"$folder/load-$lines"; done
 { sed '/^----$/q' "$folder/load-250"; for i in $(seq 2300); do echo "request buy($((i % 24)),$((i % 25)),1)"; done; } >"$folder/sales-2300"
 cat >"$folder/turns" <<'END'
 service Loop {

@@ -3,9 +3,8 @@
 # the reference program, by turns in one run. It prints the median times in milliseconds, their ratio, and how they grow.
 set -eu
 cd "$(dirname "$0")/.."
-command=$1 reference=${2:-../shared/tools/reference} runs=${3:-15}
-program=${PROGRAM:-crates/eventwave_program/out/eventwave_program}
-[ -x "$program" ] || ./eventwave run <examples/counter.wave >/dev/null
+command=$1 named=${2:-} runs=${3:-15}
+. bench/reference.sh
 folder=$(mktemp -d); trap 'rm -rf "$folder"' EXIT
 
 median() { sort -n | awk '{ all[NR] = $1 } END { print all[int((NR + 1) / 2)] }'; }

@@ -4,8 +4,8 @@
 # of the nanoseconds a tick, and of the ratios. The reference's start is taken off: it is timed with as many events that count to 0.
 set -eu
 cd "$(dirname "$0")/.."
-ticks=${1:-100000} reference=${2:-../shared/tools/reference} runs=${3:-15}
-reference=$(realpath "$reference")
+ticks=${1:-100000} named=${2:-} runs=${3:-15} own=1
+. bench/reference.sh
 events=10
 # Where it is not built yet, or a source is newer, `rt run` proves and builds it.
 (cd crates/bench_vm; rt run -- 1000 >/dev/null 2>&1 || { rt run -- 1000; exit 1; })

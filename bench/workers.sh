@@ -4,9 +4,8 @@
 # and with 4 workers. It prints the median times in milliseconds and the peak memory in KiB. All have to write the same bytes.
 set -eu
 cd "$(dirname "$0")/.."
-reference=${1:-../shared/tools/reference} runs=${2:-9}
-program=${PROGRAM:-crates/eventwave_program/out/eventwave_program}
-[ -x "$program" ] || ./eventwave run <examples/counter.wave >/dev/null
+named=${1:-} runs=${2:-9}
+. bench/reference.sh
 folder=$(mktemp -d); trap 'rm -rf "$folder"' EXIT
 
 "$program" gen 7 >"$folder/load"

@@ -1,0 +1,1 @@
+au BufRead,BufNewFile *.wave setfiletype eventwave
