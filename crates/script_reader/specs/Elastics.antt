@@ -3,6 +3,7 @@ use Rattle.std.specs.Prelude.{◌≡◌, ◌≤◌, ◌<◌, ℕ, ◌+◌, Bool,
 use Rattle.std.specs.List.{list_any}
 use Rattle.wave_base.specs.declared.limits.TheConstants.{EVENT_LINES, HOSTS}
 use Rattle.wave_base.specs.declared.policy.Policy.{Policy}
+use Rattle.wave_base.specs.declared.script.Script.{Script}
 use Rattle.wave_base.specs.declared.shape.Shape.{Shape}
 use Rattle.wave_base.specs.Scripts.{FitsLine, IsPolicy}
 use Rattle.wave_text.specs.Lines.{lines_of}
@@ -127,6 +128,10 @@ pub record IsElasticOf (shape : Shape) (text : List ℕ) (r : Result Elastic Scr
 abbrev pub IsElasticAnswer : Shape → List ℕ → Result Elastic ScriptError → Type 0
 IsElasticAnswer shape text (Err (error.OutOfMemory _)) = Unit {0}
 IsElasticAnswer shape text r = IsElasticOf shape text r
+
+-- a script without policies is one part
+abbrev pub plain_elastic : Script → Elastic
+plain_elastic script = record { hosts = script.hosts; parts = record { policy = None; batches = script.batches } ∷ [] }
 
 -- ---- what fits a shape
 

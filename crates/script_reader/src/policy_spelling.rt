@@ -47,7 +47,9 @@ fn two_hosts(rest: &[Piece]) -> Option<(&[u8], &[u8])>
     ensures some { IfSome result (λ x. AreTwoHosts rest.now x.0.now x.1.now) }
     ensures none { IfNone result (AreNoTwoHosts rest.now) }
 {
-    let (from, to) = path_and_host(rest)?;
+    let Some((from, to)) = path_and_host(rest) else {
+        return None;
+    };
     if is_digits(from) {
         Some((from, to))
     } else {

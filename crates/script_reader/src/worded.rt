@@ -1,7 +1,5 @@
-ghost use Rattle.std.specs.Prelude.{IfOk, IfSome, IfNone};
+ghost use Rattle.std.specs.Prelude.{IfOk};
 ghost use Rattle.script_reader.specs.Elastics.{IsOnlyWorded};
-ghost use Rattle.script_reader.specs.Policies.{HasNoPolicyForm};
-ghost use Rattle.script_reader.specs.inner.PolicyParts.{HasOnlyPolicyForm};
 
 use crate::pieces::{first_run, pieces_of};
 use crate::policy_form::PolicyForm;
@@ -19,17 +17,6 @@ pub enum Worded {
     Policy(PolicyForm),
 }
 
-// The form of a policy line.
-fn policy_by(alloc: Global, line: &[u8]) -> Result<Option<PolicyForm>, OutOfMemory>
-    ensures some { IfOk result (λ o. IfSome o (HasOnlyPolicyForm line.now)) }
-    ensures none { IfOk result (λ o. IfNone o (HasNoPolicyForm line.now)) }
-{
-    match pieces_of(alloc, line)? {
-        Some(pieces) => policy_form_of(alloc, pieces.as_slice()),
-        None => Ok(None),
-    }
-}
-
 /// What a line says. A line that begins with another word than a policy is read once.
 pub(crate) fn worded_by(alloc: Global, line: &[u8]) -> Result<Worded, OutOfMemory>
     ensures { IfOk result (IsOnlyWorded line.now) }
@@ -37,7 +24,10 @@ pub(crate) fn worded_by(alloc: Global, line: &[u8]) -> Result<Worded, OutOfMemor
     if !is_policy_word(first_run(line)) {
         return Ok(Worded::Plain(said_by(alloc, line)?));
     }
-    match policy_by(alloc, line)? {
+    let Some(pieces) = pieces_of(alloc, line)? else {
+        return Ok(Worded::Plain(Said::Unknown));
+    };
+    match policy_form_of(alloc, pieces.as_slice())? {
         Some(form) => Ok(Worded::Policy(form)),
         None => Ok(Worded::Plain(Said::Unknown)),
     }

@@ -4,7 +4,7 @@ use Rattle.wave_base.specs.Names.{is_digits, same_bytes}
 use Rattle.script_reader.specs.declared.piece.Piece.{Piece}
 use Rattle.script_reader.specs.declared.piece.Piece.TheVariants.{Run}
 use Rattle.script_reader.specs.declared.policy_form.PolicyForm.{PolicyForm}
-use Rattle.script_reader.specs.Policies.{policy_word, policy_rest, is_policy_form, HasPolicyForm}
+use Rattle.script_reader.specs.Policies.{policy_word, policy_rest, is_policy_form}
 
 abbrev pub is_policy_word : List ℕ → Bool
 is_policy_word word = same_bytes word (codes "balance") || same_bytes word (codes "drain")
@@ -48,6 +48,3 @@ SpellsOnlyPolicy pieces form = SpellsPolicy pieces form × ((other : PolicyForm)
 
 abbrev pub SpellsNoPolicy : List Piece → Type 0
 SpellsNoPolicy pieces = (form : PolicyForm) → SpellsPolicy pieces form → ⊥
-
-abbrev pub HasOnlyPolicyForm : List ℕ → PolicyForm → Type 0
-HasOnlyPolicyForm line form = HasPolicyForm line form × ((other : PolicyForm) → HasPolicyForm line other → other ≡ form)
