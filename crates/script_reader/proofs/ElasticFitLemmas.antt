@@ -74,7 +74,7 @@ start_fits shape = record {
 drain_fits : (hosts h g : ℕ) (q : Policy) → drained hosts h g ≡ Ok q → IsPolicy hosts q
 drain_fits hosts h g q e =
     elim (nat_lt h hosts && (nat_lt g hosts && not (h == g)))
-      as (λ t. (nat_lt h hosts && (nat_lt g hosts && not (h == g))) ≡ t → cond t (Ok (policy.Drain (record { 0 = h }) (record { 0 = g }))) (Err HostRange) ≡ Ok q → IsPolicy hosts q) [
+    as (λ t. (nat_lt h hosts && (nat_lt g hosts && not (h == g))) ≡ t → cond t (Ok (policy.Drain (record { 0 = h }) (record { 0 = g }))) (Err HostRange) ≡ Ok q → IsPolicy hosts q) [
       | true ↦ λ c k.
           let same : policy.Drain (record { 0 = h }) (record { 0 = g }) ≡ q = cc in
           let first = and_parts (nat_lt h hosts) (nat_lt g hosts && not (h == g)) c in

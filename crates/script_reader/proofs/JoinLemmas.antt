@@ -148,12 +148,11 @@ module _ (us : List Taken) where
       → ((t : Taken) → IsRead shape then_ (t ∷ vs) ls (Ok b) → IsRead shape nothing_earlier (behind (t ∷ vs)) ls (Ok (with_front b))) → IsSaid l said → judged_after shape then_ vs said ≡ x
       → Goes x (λ t. IsRead shape then_ (t ∷ vs) ls (Ok b)) (λ f. Ok b ≡ Err (refused f (length vs + 1))) → IsRead shape nothing_earlier (behind vs) (l ∷ ls) (Ok (with_front b))
   line_behind shape vs l ls b said (Err f) rec is j g = cc
-  line_behind shape vs l ls b said (Ok t) rec is j g =
-      (
-        said,
-        is,
-        subst (λ y. Goes y (λ u. IsRead shape nothing_earlier (u ∷ behind vs) ls (Ok (with_front b))) (λ f. Ok (with_front b) ≡ Err (refused f (length (behind vs) + 1)))) (sym (judged_behind shape vs said ∙ j)) (rec t g)
-      )
+  line_behind shape vs l ls b said (Ok t) rec is j g = (
+    said,
+    is,
+    subst (λ y. Goes y (λ u. IsRead shape nothing_earlier (u ∷ behind vs) ls (Ok (with_front b))) (λ f. Ok (with_front b) ≡ Err (refused f (length (behind vs) + 1)))) (sym (judged_behind shape vs said ∙ j)) (rec t g),
+  )
 
   read_behind : (shape : Shape) (vs : List Taken) (ls : List (List ℕ)) (b : Script) → IsRead shape then_ vs ls (Ok b) → IsRead shape nothing_earlier (behind vs) ls (Ok (with_front b))
   read_behind shape vs [] b e =

@@ -96,12 +96,11 @@ one_plain : (shape : Shape) (ts : List Taken) (l : List ℕ) (ls : List (List �
     → ((t : Taken) → IsRead shape nothing_earlier (t ∷ ts) ls (Ok s) → ReadPlain shape (t ∷ ts) ls s) → IsSaid l said → judged_after shape nothing_earlier ts said ≡ r
     → Goes r (λ t. IsRead shape nothing_earlier (t ∷ ts) ls (Ok s)) (λ f. Ok s ≡ Err (refused f (length ts + 1))) → ReadPlain shape ts (l ∷ ls) s
 one_plain shape ts l ls s said (Err f) more is j g = cc
-one_plain shape ts l ls s said (Ok t) more is j g =
-    (
-      worded.Plain said,
-      (is, no_policy_form shape (hosts_of nothing_earlier ts) (has_begun nothing_earlier ts) (event_lines nothing_earlier ts) l said t is j),
-      subst (λ x. Leads x (λ u. IsReadElastic shape (u ∷ plain ts) ls (Ok (plain_elastic s))) (λ f. Ok (plain_elastic s) ≡ Err (refused f (length (plain ts) + 1)))) (sym (judged_same shape ts said ∙ ap as_plain j)) (more t g)
-    )
+one_plain shape ts l ls s said (Ok t) more is j g = (
+  worded.Plain said,
+  (is, no_policy_form shape (hosts_of nothing_earlier ts) (has_begun nothing_earlier ts) (event_lines nothing_earlier ts) l said t is j),
+  subst (λ x. Leads x (λ u. IsReadElastic shape (u ∷ plain ts) ls (Ok (plain_elastic s))) (λ f. Ok (plain_elastic s) ≡ Err (refused f (length (plain ts) + 1)))) (sym (judged_same shape ts said ∙ ap as_plain j)) (more t g),
+)
 
 pub read_plain : (shape : Shape) (ts : List Taken) (ls : List (List ℕ)) (s : Script) → IsRead shape nothing_earlier ts ls (Ok s) → ReadPlain shape ts ls s
 read_plain shape ts [] s e =

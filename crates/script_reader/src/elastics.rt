@@ -39,11 +39,7 @@ fn take_worded(
 }
 
 // Reads a text line by line.
-fn read_parts(
-    alloc: Global,
-    shape: &NamedShape<'_>,
-    text: &[u8],
-) -> Result<Elastic, ScriptError>
+fn read_parts(alloc: Global, shape: &NamedShape<'_>, text: &[u8]) -> Result<Elastic, ScriptError>
     requires shape { IsShape shape.now }
     requires short { length text.now ≤ PLACED_BYTES }
     ensures answer { IsElasticAnswer shape.now text.now result }
