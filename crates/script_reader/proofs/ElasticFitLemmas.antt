@@ -1,5 +1,5 @@
 -- The parts that are read fit the shape.
-use Rattle.std.proofs.Common.{◌≡◌, ◌≢◌, ◌+◌, ◌<◌, ◌≤◌, ℕ, Bool, true, false, cond, List, [], ◌∷◌, ◌++◌, length, sum_by, Option, Some, None, Result, Ok, Err, refl, sym, ap, subst, ◌∙◌, length-append, arith}
+use Rattle.std.proofs.Common.{◌≡◌, ◌≢◌, ◌+◌, ◌<◌, ◌≤◌, ℕ, Bool, true, false, cond, List, [], ◌∷◌, ◌++◌, length, sum_by, Option, None, Result, Ok, Err, refl, sym, ap, subst, ◌∙◌, length-append, arith}
 use Rattle.std.specs.Prelude.{◌&&◌, ◌==◌, not, nat_lt, nat_le, is_some, All, IfSome}
 use Rattle.std.proofs.lemmas.Bool.{and_parts}
 use Rattle.std.proofs.lemmas.Bool.Decides.{nat_tests}
@@ -17,12 +17,10 @@ use Rattle.path_text.specs.Paths.{path_of}
 use Rattle.script_reader.specs.declared.elastic.Part.{Part}
 use Rattle.script_reader.specs.declared.elastic_progress.ElasticProgress.{ElasticProgress}
 use Rattle.script_reader.specs.declared.error.Fault.{Fault}
-use Rattle.script_reader.specs.declared.error.Fault.TheVariants.{CountRange, HostRange, TooMany, HostsLate}
-use Rattle.script_reader.specs.declared.form.Form.{Form}
+use Rattle.script_reader.specs.declared.error.Fault.TheVariants.{CountRange, HostRange, TooMany}
 use Rattle.script_reader.specs.declared.form.Form.TheVariants as form
 use Rattle.script_reader.specs.declared.policy_form.PolicyForm.{PolicyForm}
 use Rattle.script_reader.specs.declared.policy_form.PolicyForm.TheVariants.{Balance, Drain}
-use Rattle.script_reader.specs.declared.progress.Progress.{Progress}
 use Rattle.script_reader.specs.declared.said.Said.{Said}
 use Rattle.script_reader.specs.declared.said.Said.TheVariants.{Nothing, Unknown, Says}
 use Rattle.script_reader.specs.declared.taken.Taken.{Taken}
@@ -32,12 +30,11 @@ use Rattle.script_reader.specs.declared.told.Told.TheVariants.{Plain, Policed}
 use Rattle.script_reader.specs.declared.worded.Worded.{Worded}
 use Rattle.script_reader.specs.declared.worded.Worded.TheVariants as worded
 use Rattle.script_reader.specs.Elastics.{as_plain, as_policed, IsPart, lines_in, IsElastic}
-use Rattle.script_reader.specs.Judged.{requested, move_to, as_event, judged_event, judged_hosts}
+use Rattle.script_reader.specs.Judged.{requested, move_to, as_event, judged_event}
 use Rattle.script_reader.specs.Policies.{balanced, drained, asked, first_in_batch, judged_policy}
-use Rattle.script_reader.specs.Scripts.{judged, with_batch}
+use Rattle.script_reader.specs.Scripts.{judged}
 use Rattle.script_reader.specs.inner.ElasticProgressed.{elastic_progress_of, with_told, part_with, elastic_with}
 use Rattle.script_reader.specs.inner.ElasticSteps.{judged_now, IsElasticStep}
-use Rattle.script_reader.specs.inner.Progressed.{with_taken}
 use Rattle.script_reader.proofs.FitLemmas.{Fits, judged_fits, batch_fits, batch_full, batch_count}
 
 -- one for a policy

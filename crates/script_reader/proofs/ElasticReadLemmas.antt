@@ -12,12 +12,11 @@ use Rattle.script_reader.specs.declared.error.ScriptError.{ScriptError}
 use Rattle.script_reader.specs.declared.error.ScriptError.TheVariants as error
 use Rattle.script_reader.specs.declared.refusal.Refusal.{Refusal}
 use Rattle.script_reader.specs.declared.refusal.Refusal.TheVariants as refusal
-use Rattle.script_reader.specs.declared.taken.Taken.{Taken}
 use Rattle.script_reader.specs.declared.taken.Taken.TheVariants.{Skipped, Hosts, Event, Settle}
 use Rattle.script_reader.specs.declared.told.Told.{Told}
 use Rattle.script_reader.specs.declared.told.Told.TheVariants.{Plain, Policed}
 use Rattle.script_reader.specs.declared.worded.Worded.{Worded}
-use Rattle.script_reader.specs.Elastics.{IsOnlyWorded, is_event_line, event_count, told_hosts, is_under_way, last_lines, last_policy, last_part, ended_parts, judged_told, Leads, IsReadElastic, IsElasticOf, IsElasticAnswer}
+use Rattle.script_reader.specs.Elastics.{IsOnlyWorded, is_event_line, event_count, told_hosts, last_lines, last_policy, last_part, ended_parts, judged_told, Leads, IsReadElastic, IsElasticOf, IsElasticAnswer}
 use Rattle.script_reader.specs.Scripts.{open_batch, closed_batches, refused}
 use Rattle.script_reader.specs.inner.ElasticProgressed.{elastic_progress_of, with_told}
 use Rattle.script_reader.specs.inner.ElasticSteps.{judged_now, IsElasticStep, IsElasticRefused, IsElasticStop}

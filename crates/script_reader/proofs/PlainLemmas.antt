@@ -1,15 +1,11 @@
 -- What is read as a script is read as a script with policies that has one part.
-use Rattle.std.proofs.Common.{◌≡◌, ◌+◌, ◌++◌, ℕ, Bool, true, false, cond, List, [], ◌∷◌, map, None, Result, Ok, Err, refl, sym, ap, subst, ◌∙◌, arith}
+use Rattle.std.proofs.Common.{◌≡◌, ◌+◌, ◌++◌, ℕ, Bool, cond, List, [], ◌∷◌, map, None, Result, Ok, Err, refl, sym, ap, subst, ◌∙◌, arith}
 use Rattle.std.specs.Prelude.{count_by, length}
 use Rattle.std.proofs.lemmas.Bool.{false≢true}
 use Rattle.std.proofs.lemmas.List.Sums.{sum_by-cons}
 use Rattle.wave_base.specs.declared.script.Script.{Script}
 use Rattle.wave_base.specs.declared.shape.Shape.{Shape}
-use Rattle.script_reader.specs.declared.elastic.Elastic.{Elastic}
 use Rattle.script_reader.specs.declared.error.Fault.{Fault}
-use Rattle.script_reader.specs.declared.error.ScriptError.{ScriptError}
-use Rattle.script_reader.specs.declared.form.Form.{Form}
-use Rattle.script_reader.specs.declared.policy_form.PolicyForm.{PolicyForm}
 use Rattle.script_reader.specs.declared.said.Said.{Said}
 use Rattle.script_reader.specs.declared.said.Said.TheVariants.{Nothing, Unknown, Says}
 use Rattle.script_reader.specs.declared.taken.Taken.{Taken}
@@ -18,11 +14,11 @@ use Rattle.script_reader.specs.declared.told.Told.{Told}
 use Rattle.script_reader.specs.declared.told.Told.TheVariants.{Plain}
 use Rattle.script_reader.specs.declared.worded.Worded.TheVariants as worded
 use Rattle.script_reader.specs.Elastics.{is_event_line, event_count, has_spoken, told_hosts, last_lines, last_policy, ended_parts, elastic_of, plain_elastic, as_plain, judged_told, Leads, IsReadElastic}
-use Rattle.script_reader.specs.Forms.{form_word, is_skipped}
+use Rattle.script_reader.specs.Forms.{form_word}
 use Rattle.script_reader.specs.inner.Begins.{first_run, is_form_word}
 use Rattle.script_reader.specs.Judged.{nothing_earlier, is_event, hosts_of, has_begun, event_lines}
 use Rattle.script_reader.specs.Pieces.{without_blanks}
-use Rattle.script_reader.specs.Policies.{policy_word, HasPolicyForm, HasNoPolicyForm}
+use Rattle.script_reader.specs.Policies.{policy_word, HasNoPolicyForm}
 use Rattle.script_reader.specs.Scripts.{IsSaid, judged, judged_after, open_batch, closed_batches, with_batch, script_of, Goes, IsRead, refused}
 use Rattle.script_reader.proofs.FormLemmas.{form_words}
 use Rattle.script_reader.proofs.FrontLemmas.{front_run}

@@ -19,8 +19,8 @@ use Rattle.script_reader.specs.declared.told.Told.TheVariants.{Plain, Policed}
 use Rattle.script_reader.specs.declared.worded.Worded.{Worded}
 use Rattle.script_reader.specs.declared.worded.Worded.TheVariants as worded
 use Rattle.script_reader.specs.Judged.{is_event, is_said}
-use Rattle.script_reader.specs.Policies.{is_policy_form, HasPolicyForm, HasNoPolicyForm, judged_policy}
-use Rattle.script_reader.specs.Scripts.{IsSaid, IsWellFormed, judged, open_batch, closed_batches, with_batch, refused}
+use Rattle.script_reader.specs.Policies.{HasPolicyForm, HasNoPolicyForm, judged_policy}
+use Rattle.script_reader.specs.Scripts.{IsSaid, judged, open_batch, closed_batches, with_batch, refused}
 
 -- what a line says: a policy, or else what it says in a script without policies
 abbrev pub IsWorded : List ℕ → Worded → Type 0

@@ -4,7 +4,7 @@ use Rattle.script_reader.specs.declared.elastic.Elastic.{Elastic}
 use Rattle.script_reader.specs.declared.elastic.Part.{Part}
 use Rattle.script_reader.specs.declared.elastic_progress.ElasticProgress.{ElasticProgress}
 use Rattle.script_reader.specs.declared.taken.Taken.{Taken}
-use Rattle.script_reader.specs.declared.taken.Taken.TheVariants.{Skipped, Hosts, Event, Settle}
+use Rattle.script_reader.specs.declared.taken.Taken.TheVariants.{Event, Settle}
 use Rattle.script_reader.specs.declared.told.Told.{Told}
 use Rattle.script_reader.specs.declared.told.Told.TheVariants.{Plain, Policed}
 use Rattle.script_reader.specs.declared.worded.Worded.{Worded}

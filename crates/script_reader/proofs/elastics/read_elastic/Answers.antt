@@ -1,4 +1,4 @@
-use Rattle.std.proofs.Common.{◌≤◌, IfOk, length, sym, subst}
+use Rattle.std.proofs.Common.{IfOk, sym, subst}
 use Rattle.wave_base.specs.Shapes.{IsShape}
 use Rattle.script_reader.specs.Elastics.{IsElasticAnswer, IsElastic}
 use Rattle.script_reader.proofs.elastics.read_elastic.Goals as goal
