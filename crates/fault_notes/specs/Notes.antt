@@ -63,4 +63,6 @@ script_note (script.BadPath line) = on_line (codes "S5 BadPath") line
 script_note (script.HostRange line) = on_line (codes "S6 HostRange") line
 script_note (script.HostsLate line) = on_line (codes "S7 HostsLate") line
 script_note (script.TooMany line) = on_line (codes "S8 TooMany") line
+script_note (script.PolicyLate line) = on_line (codes "S10 PolicyLate") line
+script_note (script.CountRange line) = on_line (codes "S11 CountRange") line
 script_note (script.OutOfMemory _) = []

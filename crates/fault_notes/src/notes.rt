@@ -111,6 +111,8 @@ pub fn script_note(alloc: Global, error: &ScriptError) -> Result<Vec<u8>, OutOfM
         ScriptError::HostRange { line } => on_line(alloc, b"S6 HostRange", *line),
         ScriptError::HostsLate { line } => on_line(alloc, b"S7 HostsLate", *line),
         ScriptError::TooMany { line } => on_line(alloc, b"S8 TooMany", *line),
+        ScriptError::PolicyLate { line } => on_line(alloc, b"S10 PolicyLate", *line),
+        ScriptError::CountRange { line } => on_line(alloc, b"S11 CountRange", *line),
         ScriptError::OutOfMemory(refused) => Err(*refused),
     }
 }

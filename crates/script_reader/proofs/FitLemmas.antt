@@ -194,15 +194,15 @@ hosts_fit shape p n t h e =
         })
     within false none c k = cc
 
-batch_fits : (P : Line → Type 0) (bs : List (List Line)) (b : List Line) → All (All P) bs → All P b → All (All P) (with_batch bs b)
+pub batch_fits : (P : Line → Type 0) (bs : List (List Line)) (b : List Line) → All (All P) bs → All P b → All (All P) (with_batch bs b)
 batch_fits P bs [] h k = h
 batch_fits P bs (l ∷ ls) h k = All-push (All P) bs (l ∷ ls) h k
 
-batch_full : (bs : List (List Line)) (b : List Line) → All (λ x. 0 < length x) bs → All (λ x. 0 < length x) (with_batch bs b)
+pub batch_full : (bs : List (List Line)) (b : List Line) → All (λ x. 0 < length x) bs → All (λ x. 0 < length x) (with_batch bs b)
 batch_full bs [] h = h
 batch_full bs (l ∷ ls) h = All-push (λ (x : List Line). 0 < length x) bs (l ∷ ls) h (omega arith)
 
-batch_count : (bs : List (List Line)) (b : List Line) → sum_by length (with_batch bs b) ≡ sum_by length bs + length b
+pub batch_count : (bs : List (List Line)) (b : List Line) → sum_by length (with_batch bs b) ≡ sum_by length bs + length b
 batch_count bs [] = omega arith
 batch_count bs (l ∷ ls) = sum_by_push length bs (l ∷ ls)
 

@@ -37,7 +37,7 @@ says_unknown line h none = ((h, none), λ other k. by_said other k)
     by_said Unknown k = refl
     by_said (Says f) k = absurd (none f k.1)
 
-form_words : (f : Form) → is_form_word (form_word f) ≡ true
+pub form_words : (f : Form) → is_form_word (form_word f) ≡ true
 form_words (Hosts n) = refl
 form_words (Request name args) = refl
 form_words (Move steps to) = refl

@@ -45,7 +45,7 @@ same_literal piece a b p q = same_by a b p.form_is q.form_is (p.piece_is ∙ sym
 same_number : (a b : ℕ) → nat_eq a b ≡ true → a ≡ b
 same_number a b h = grind (arith, nat_tests)
 
-same_text : (t u : List ℕ) → same_bytes t u ≡ true → t ≡ u
+pub same_text : (t u : List ℕ) → same_bytes t u ≡ true → t ≡ u
 same_text [] [] e = refl
 same_text [] (y ∷ u) e = cc
 same_text (x ∷ t) [] e = cc

@@ -49,6 +49,8 @@ refused_stop shape line before n s fault.BadPath o e = record { said = s; fault 
 refused_stop shape line before n s fault.HostRange o e = record { said = s; fault = fault.HostRange; says = o; judged_is = e; error_is = refl }
 refused_stop shape line before n s fault.HostsLate o e = record { said = s; fault = fault.HostsLate; says = o; judged_is = e; error_is = refl }
 refused_stop shape line before n s fault.TooMany o e = record { said = s; fault = fault.TooMany; says = o; judged_is = e; error_is = refl }
+refused_stop shape line before n s fault.PolicyLate o e = record { said = s; fault = fault.PolicyLate; says = o; judged_is = e; error_is = refl }
+refused_stop shape line before n s fault.CountRange o e = record { said = s; fault = fault.CountRange; says = o; judged_is = e; error_is = refl }
 
 pub stopped_stop : (shape : Shape) (line : List ℕ) (before : Progress) (n : ℕ) (s : Said) (r : Refusal) → IsOnlySaid line s → Gives (Err r) (judged shape before.hosts before.begun before.events s) → IsStop shape line before n (stopped r n)
 stopped_stop shape line before n s (refusal.Fault f) o e = refused_stop shape line before n s f o e

@@ -77,6 +77,8 @@ refused fault.BadPath n = error.BadPath n
 refused fault.HostRange n = error.HostRange n
 refused fault.HostsLate n = error.HostsLate n
 refused fault.TooMany n = error.TooMany n
+refused fault.PolicyLate n = error.PolicyLate n
+refused fault.CountRange n = error.CountRange n
 
 -- a line is taken, or refused
 abbrev pub Goes : Result Taken Fault → (Taken → Type 0) → (Fault → Type 0) → Type 0

@@ -17,12 +17,16 @@ pub enum Fault {
     ArgType,
     /// The path is none of the service.
     BadPath,
-    /// The number of hosts is not from 1 to 8, or a host is not below it.
+    /// The number of hosts is not from 1 to 8, a host is not below it, or a policy names one host twice.
     HostRange,
     /// `hosts` behind an event line, a `settle` or another `hosts`.
     HostsLate,
     /// An event line too many.
     TooMany,
+    /// A policy behind an event line of its batch.
+    PolicyLate,
+    /// The number of moves that a policy may make is not from 1 to 4,000.
+    CountRange,
 }
 
 /// The first line of a script that is refused, from 1, and why.
@@ -43,7 +47,7 @@ pub enum ScriptError {
     /// A class is not a child class of the one before it, a key does not fit 64 bits, or there are too many steps.
     #[error("line {line}: no path of the service")]
     BadPath { line: u32 },
-    /// The number of hosts is not from 1 to 8, or a host is not below it.
+    /// The number of hosts is not from 1 to 8, a host is not below it, or a policy names one host twice.
     #[error("line {line}: a host or a number of hosts that is out of range")]
     HostRange { line: u32 },
     /// `hosts` behind an event line, a `settle` or another `hosts`.
@@ -52,6 +56,12 @@ pub enum ScriptError {
     /// An event line too many.
     #[error("line {line}: an event line too many")]
     TooMany { line: u32 },
+    /// A policy behind an event line of its batch.
+    #[error("line {line}: the policy does not come first in its batch")]
+    PolicyLate { line: u32 },
+    /// The number of moves that a policy may make is not from 1 to 4,000.
+    #[error("line {line}: a number of moves that is out of range")]
+    CountRange { line: u32 },
     /// Memory was wanting, and nothing is said of the text.
     #[error("out of memory")]
     OutOfMemory(OutOfMemory),
@@ -70,6 +80,8 @@ pub(crate) fn refused(fault: Fault, line: u32) -> ScriptError
         Fault::HostRange => ScriptError::HostRange { line },
         Fault::HostsLate => ScriptError::HostsLate { line },
         Fault::TooMany => ScriptError::TooMany { line },
+        Fault::PolicyLate => ScriptError::PolicyLate { line },
+        Fault::CountRange => ScriptError::CountRange { line },
     }
 }
 

@@ -131,8 +131,8 @@ fn requested(
 
 // ---- hosts and moves
 
-// The number that digits stand for, where it is at most this one.
-fn number_within(digits: &[u8], most: u8) -> Option<u8>
+/// The number that digits stand for, where it is at most this one.
+pub(crate) fn number_within(digits: &[u8], most: u8) -> Option<u8>
     requires { is_digits digits.now ≡ true }
     ensures some { IfSome result (λ n. n ≡ number_of digits.now) }
     ensures within { IfSome result (λ n. n ≤ most) }

@@ -11,8 +11,8 @@ use std::alloc::Global;
 use wave_base::{OutOfMemory, Seq};
 use wave_text::{is_digits, is_whole, is_word};
 
-// The bytes of a run.
-fn run_in(piece: &Piece) -> Option<&[u8]>
+/// The bytes of a run.
+pub(crate) fn run_in(piece: &Piece) -> Option<&[u8]>
     ensures some { IfSome result (λ bytes. piece.now ≡ Run bytes.now) }
     ensures none { IfNone result ((bytes : List ℕ) → piece.now ≡ Run bytes → ⊥) }
 {
@@ -130,8 +130,8 @@ fn literals_of(alloc: Global, pieces: &[Piece]) -> Result<Seq<Literal>, OutOfMem
 
 // ---- lines
 
-// The digits of a number that stands alone.
-fn number_alone(rest: &[Piece]) -> Option<&[u8]>
+/// The digits of a number that stands alone.
+pub(crate) fn number_alone(rest: &[Piece]) -> Option<&[u8]>
     ensures some { IfSome result (λ n. IsNumber rest.now n.now) }
     ensures none { IfNone result (IsNoNumber rest.now) }
 {
@@ -199,8 +199,8 @@ fn host_behind(rest: &[Piece]) -> Option<&[u8]>
     }
 }
 
-// A run, the word `to`, and digits.
-fn path_and_host(rest: &[Piece]) -> Option<(&[u8], &[u8])>
+/// A run, the word `to`, and digits.
+pub(crate) fn path_and_host(rest: &[Piece]) -> Option<(&[u8], &[u8])>
     ensures some { IfSome result (λ x. IsMove rest.now x.0.now x.1.now) }
     ensures none { IfNone result (IsNoMove rest.now) }
 {

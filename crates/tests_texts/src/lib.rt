@@ -5,6 +5,8 @@
 #[cfg(test)]
 mod commands;
 #[cfg(test)]
+mod elastics;
+#[cfg(test)]
 mod inputs;
 #[cfg(test)]
 mod journals;

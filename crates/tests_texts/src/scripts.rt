@@ -57,7 +57,7 @@ fn events(alloc: Global) -> Result<Seq<EventInfo>, OutOfMemory>
     Ok(Seq::from_vec(events))
 }
 
-fn shape(alloc: Global) -> Result<Shape, OutOfMemory>
+pub(crate) fn shape(alloc: Global) -> Result<Shape, OutOfMemory>
     ensures { IfOk result IsShape }
 {
     Ok(Shape {

@@ -1,4 +1,4 @@
-use Rattle.std.proofs.Common.{refl, ◌∙◌}
+use Rattle.std.proofs.Common.{refl}
 use Rattle.script_reader.proofs.FrontLemmas.{run_found}
 use Rattle.script_reader.proofs.pieces.run_piece.Goals as goal
 
