@@ -19,6 +19,8 @@ mod moves;
 #[cfg(test)]
 mod outputs;
 #[cfg(test)]
+mod policies;
+#[cfg(test)]
 mod queues;
 #[cfg(test)]
 mod trees;
