@@ -22,7 +22,7 @@ pub enum Accepted {
 }
 
 /// Reads a service and a script. A refusal is the only answer that is due; and where there is something to run, what it gives
-/// when its calls run by its code, from the root alone, is told by the only answer that is due.
+/// when its calls run by its code, from the first Start, is told by the only answer that is due.
 pub fn accept(alloc: Global, input: &[u8]) -> Result<Accepted, OutOfMemory>
     ensures { IfOk result (IsAccepted input.now) }
 {

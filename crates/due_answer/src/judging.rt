@@ -1,5 +1,6 @@
 ghost use Rattle.std.specs.Prelude.{◌≡◌, ◌≤◌, length, All, IfOk};
 ghost use Rattle.wave_base.specs.declared.limits.TheConstants.{INPUT_BYTES};
+ghost use Rattle.command_words.specs.Inputs.{input_bytes};
 ghost use Rattle.input_parts.specs.Parts.{service_of};
 ghost use Rattle.mace_ast.specs.Decls.{service_tree};
 ghost use Rattle.mace_printer.specs.Written.{IsParsed};
@@ -26,7 +27,7 @@ use wave_gen::generate;
 
 /// What is due for a command and an input that is not too large; a command that reads none does not look at it.
 pub fn judge(alloc: Global, command: Command, input: &[u8]) -> Result<Answer, OutOfMemory>
-    requires { length input.now ≤ INPUT_BYTES }
+    requires { length input.now ≤ input_bytes command }
     ensures { IfOk result (IsToldFor command input.now) }
 {
     match command {
@@ -54,7 +55,7 @@ fn judge_gen(alloc: Global, n: u64) -> Result<Answer, OutOfMemory>
 
 // What is due for one that is to be run and summed up.
 fn judge_load(alloc: Global, n: u64) -> Result<Answer, OutOfMemory>
-    ensures { IfOk result (Only (IsDueSized (IsDueScripted (Reports Report.Summary)) (load_text n))) }
+    ensures { IfOk result (Only (IsDueSized INPUT_BYTES (IsDueScripted (Reports Report.Summary)) (load_text n))) }
 {
     let load = generate(alloc, n)?;
     judge_run(alloc, Engine::Evaluator, Report::Summary, load.as_slice())
@@ -124,7 +125,7 @@ fn judge_run(
     report: Report,
     input: &[u8],
 ) -> Result<Answer, OutOfMemory>
-    ensures { IfOk result (Only (IsDueSized (IsDueScripted (Reports report)) input.now)) }
+    ensures { IfOk result (Only (IsDueSized INPUT_BYTES (IsDueScripted (Reports report)) input.now)) }
 {
     match accept(alloc, input)? {
         Accepted::Ready(work) => run(alloc, engine, report, work),
@@ -139,7 +140,7 @@ fn judge_trace(
     crew: Crew,
     input: &[u8],
 ) -> Result<Answer, OutOfMemory>
-    ensures { IfOk result (IsDueSized (IsDueScripted (Traces places crew)) input.now) }
+    ensures { IfOk result (IsDueSized INPUT_BYTES (IsDueScripted (Traces places crew)) input.now) }
 {
     match accept(alloc, input)? {
         Accepted::Ready(work) => trace(alloc, places, crew, work),
