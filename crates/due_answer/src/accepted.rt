@@ -4,7 +4,7 @@ ghost use Rattle.std.specs.Prelude.{◌≡◌, IfOk};
 ghost use Rattle.due_answer.specs.Accepted.{IsAccepted, IsAcceptedBy};
 ghost use Rattle.due_answer.specs.Due.{IsDueScripted, refusal};
 
-use crate::answer::{Answer, refused};
+use crate::answer::{Answer, refused, too_large};
 use crate::script::accept_script;
 use crate::service::{Judged, served};
 use crate::work::Work;
@@ -27,7 +27,7 @@ pub fn accept(alloc: Global, input: &[u8]) -> Result<Accepted, OutOfMemory>
     ensures { IfOk result (IsAccepted input.now) }
 {
     if input.len() > INPUT_BYTES {
-        return refuse(alloc, 3, b"TooLarge input");
+        return Ok(Accepted::Refused(too_large(alloc)?));
     }
     accept_both(alloc, input)
 }
