@@ -23,6 +23,7 @@ use Rattle.script_fold.specs.Lines.{most_jobs}
 use Rattle.script_fold.specs.Runs.{after_jobs, whole_run}
 use Rattle.script_fold.proofs.FoldLemmas.{IsGood, good_after, room_after}
 use Rattle.script_fold.proofs.StartLemmas.{first_fits}
+use Rattle.type_rules.specs.Known.{shape_of}
 use Rattle.context_types.specs.declared.Typed.{Typed}
 use Rattle.code_actor.specs.CodeActors.{Fields}
 use Rattle.code_meaning.specs.inner.Owing.{code_owes}
@@ -43,10 +44,10 @@ use Rattle.due_answer.specs.Due.{Only, IsDueFirst, IsDueFold, IsDueTold, IsDueTr
 use Rattle.due_answer.specs.inner.Coded.{IsCoded}
 use Rattle.due_answer.specs.inner.Served.{IsTypedTree}
 use Rattle.due_answer.proofs.DueLemmas.{only_fold}
-use Rattle.wave_machine.specs.Lengths.{DrivesAreMeasured, FinishedRunsAreMeasured, IsMeasured}
-use Rattle.due_answer.specs.Runs.{IsRunOf, nearest_workers}
+use Rattle.wave_machine.specs.Lengths.{DrivesAreMeasured, FinishedRunsAreMeasured}
+use Rattle.due_answer.specs.Runs.{ComesTo, IsRunOf, nearest_workers}
 use Rattle.due_answer.proofs.NameLemmas.{code_typed}
-use Rattle.due_answer.proofs.RunLemmas.{PlansDrive, TheRulesPick, few_nearest, run_measured, some_nearest, some_run}
+use Rattle.due_answer.proofs.RunLemmas.{FinishedStatesMean, PlansDrive, TheRulesPick, few_nearest, run_comes, some_nearest, some_run}
 
 -- there is a ticket for each result of a run
 plan_room : (service : Resolved) (program : Program) → IsCode service program → (start : Start) (script : Script) → IsStart program.shape script.hosts start → IsScript program.shape script
@@ -74,7 +75,7 @@ ready_first tree typed script start work t is h =
     subst (λ s. IsReady (λ telling. IsDueTold telling tree s script) work) (is ∙ ap first_start t.shape_is) h
 
 module _ (tree : ServiceTree) (typed : Typed) (program : Program) (start : Start) (script : Script) (t : IsTypedTree tree typed) (coded : IsCoded typed.shape typed.resolved program)
-    (begun : IsStart typed.shape script.hosts start) (fits : IsScript typed.shape script) (rules : TheRulesPick) (drives : PlansDrive) (finished_measured : FinishedRunsAreMeasured) (drives_measured : DrivesAreMeasured) where
+    (begun : IsStart typed.shape script.hosts start) (fits : IsScript typed.shape script) (rules : TheRulesPick) (drives : PlansDrive) (finished_measured : FinishedRunsAreMeasured) (drives_measured : DrivesAreMeasured) (finished_mean : FinishedStatesMean) where
   abbrev work : Work
   work = record { service = typed.resolved; program = program; script = script; start = start }
 
@@ -125,8 +126,10 @@ module _ (tree : ServiceTree) (typed : Typed) (program : Program) (start : Start
     whole = subst (λ s. IsWholeAt s typed.resolved start script) t.shape_is whole;
     journal = journal;
     run = subst (λ (p : Program). IsRunOf crew (record { program = p; script = script; workers = nearest_workers crew.workers }) start (map label_of journal)) (coded.is ∙ ap (λ s. scheme_program s typed.resolved) t.shape_is) run;
-    measured = subst (λ (p : Program). IsMeasured (record { program = p; script = script; workers = nearest_workers crew.workers }) start (map label_of journal)) (coded.is ∙ ap (λ s. scheme_program s typed.resolved) t.shape_is)
-        (run_measured finished_measured drives_measured (plan_with work (nearest_workers crew.workers)) start (plan_fits (nearest_workers crew.workers) (some_nearest crew.workers) (few_nearest crew.workers)) begins (map label_of journal) crew.schedule run);
+    comes_to = subst (λ (p : Program). ComesTo (record { program = p; script = script; workers = nearest_workers crew.workers }) start (map label_of journal) (results_at (shape_of tree) typed.resolved start script)) (coded.is ∙ ap (λ s. scheme_program s typed.resolved) t.shape_is)
+        (run_comes rules drives (plan_with work (nearest_workers crew.workers)) start (plan_fits (nearest_workers crew.workers) (some_nearest crew.workers) (few_nearest crew.workers)) begins
+        finished_measured drives_measured finished_mean typed.resolved code crew.schedule (map label_of journal) run (results_at (shape_of tree) typed.resolved start script)
+        (ap (λ s. results_at s typed.resolved start script) (sym (same_shape ∙ t.shape_is))));
     due_is =
         ap (λ done. with_text (reported program.shape start.next.0 (Listing places) done) (journal_text program.shape journal)) means
         ∙ ap (λ s. with_text (reported s start.next.0 (Listing places) (results_at s typed.resolved start script)) (journal_text s journal)) (same_shape ∙ t.shape_is);

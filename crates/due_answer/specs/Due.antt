@@ -49,8 +49,7 @@ use Rattle.wave_gen.specs.Summary.{summary_text}
 use Rattle.due_answer.specs.declared.report.Report.{Report}
 use Rattle.due_answer.specs.declared.report.Report.TheVariants.{Listing, Summary}
 use Rattle.plan_actors.specs.Plans.{Plan}
-use Rattle.wave_machine.specs.Lengths.{IsMeasured}
-use Rattle.due_answer.specs.Runs.{IsRunOf, nearest_workers}
+use Rattle.due_answer.specs.Runs.{ComesTo, IsRunOf, nearest_workers}
 
 -- ---- answers
 
@@ -145,14 +144,14 @@ with_text a more = record { status = a.status; note = a.note; text = a.text ++ m
 abbrev pub plan_for : Crew → Shape → Resolved → Script → Plan
 plan_for crew shape service script = record { program = scheme_program shape service; script = script; workers = nearest_workers crew.workers }
 
--- of one that is traced: the listing of that fold, and behind it the journal of a run of this crew, which has as many labels as its plan asks for
+-- of one that is traced: the listing of that fold, and behind it the journal of a run of this crew, which is the machine's run that comes to what is listed
 pub record IsDueTrace (places : Places) (crew : Crew) (tree : ServiceTree) (start : Start) (script : Script) (due : Answer) : Type 0 where
   pub service : Resolved
   pub resolved : resolved_view service ≡ resolve_service tree
   pub whole : IsWholeAt (shape_of tree) service start script
   pub journal : List Label
   pub run : IsRunOf crew (plan_for crew (shape_of tree) service script) start (map label_of journal)
-  pub measured : IsMeasured (plan_for crew (shape_of tree) service script) start (map label_of journal)
+  pub comes_to : ComesTo (plan_for crew (shape_of tree) service script) start (map label_of journal) (results_at (shape_of tree) service start script)
   pub due_is : due ≡ with_text (reported (shape_of tree) start.next.0 (Listing places) (results_at (shape_of tree) service start script)) (journal_text (shape_of tree) journal)
 
 -- what is told of a script that was read: a report of its fold; or the listing, and the journal of a run of this crew

@@ -1,5 +1,6 @@
 -- The runs of a plan that a crew may take, as lists of labels from a Start on.
 use Rattle.std.specs.Prelude.{ℕ, max, min, List, Option, Some, None}
+use Rattle.wave_base.specs.declared.finished.Finished.{Finished}
 use Rattle.wave_base.specs.declared.limits.TheConstants.{WORKERS}
 use Rattle.wave_base.specs.declared.start.Start.{Start}
 use Rattle.command_words.specs.declared.command.Crew.{Crew}
@@ -8,10 +9,12 @@ use Rattle.command_words.specs.declared.command.Schedule.TheVariants as schedule
 use Rattle.wave_states.specs.Begins.{start_state}
 use Rattle.wave_states.specs.Labels.{Label}
 use Rattle.wave_states.specs.Runs as runs
+use Rattle.plan_actors.specs.Finishing.{Tells}
 use Rattle.plan_actors.specs.PlanActors.{plan_actors}
 use Rattle.plan_actors.specs.Plans.{Plan, begin_in}
 use Rattle.wave_machine.specs.declared.rules.PickRule.{PickRule}
 use Rattle.wave_machine.specs.declared.rules.PickRule.TheVariants.{Seed, Oldest, Newest, Movers, MailLast}
+use Rattle.wave_machine.specs.Lengths.{IsMeasured}
 use Rattle.wave_machine.specs.Machines.{IsReached, TheState}
 use Rattle.wave_machine.specs.Rules.{number_of, rule_of}
 
@@ -32,6 +35,13 @@ pub record IsFinishedRun (plan : Plan) (start : Start) (labels : List Label) : T
   pub state : TheState
   pub reached : IsReached plan start labels state
   pub finished : runs.Finished (plan_actors plan.program) plan.workers state
+
+-- This is what the machine's run comes to: the labels lead, one after the other, from the Start to a state in which nothing is left to do, and
+-- that state tells just what was done. They are as many as the plan's work asks for, and the Passes.
+pub record ComesTo (plan : Plan) (start : Start) (labels : List Label) (done : Finished) : Type 0 where
+  pub run : IsFinishedRun plan start labels
+  pub tells : Tells run.state start plan.script.batches done
+  pub measured : IsMeasured plan start labels
 
 -- they are what the rule picks, until nothing is left
 abbrev pub IsDriveBy : PickRule → Plan → Start → List Label → Type 0

@@ -18,6 +18,7 @@ use crate::work::Work;
 use context_types::Typed;
 use fault_notes::script_note;
 use plan_actors::{PlanActors, plans_drive};
+use plan_meaning::finished_states_mean;
 use script_reader::{ScriptError, read_script};
 use service_verify::Verified;
 use std::alloc::Global;
@@ -40,6 +41,7 @@ fn ready(typed: Typed, program: Verified, start: Start, script: Script) -> Work
     plans_drive();
     rules_pick::<PlanActors>();
     runs_are_measured();
+    finished_states_mean();
     let Typed {
         service: _,
         shape: _,
