@@ -1,4 +1,4 @@
-use Rattle.std.proofs.Common.{◌∙◌, IfOk, ap, arith, subst, sym}
+use Rattle.std.proofs.Common.{◌≡◌, ◌∙◌, IfOk, ap, arith, subst, sym}
 use Rattle.wave_base.specs.Scripts.{IsScript}
 use Rattle.wave_base.specs.Shapes.{IsShape}
 use Rattle.wave_base.specs.Starts.{IsStart}
