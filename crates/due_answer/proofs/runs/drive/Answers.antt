@@ -1,5 +1,6 @@
 use Rattle.std.proofs.Common.{◌≡◌, ◌∙◌, IfOk, ap, subst}
 use Rattle.service_code.specs.declared.program.Program.{Program}
+use Rattle.wave_machine.specs.Plans.{plan_of}
 use Rattle.due_answer.specs.Due.{reported}
 use Rattle.due_answer.proofs.TraceLemmas.{same_report}
 use Rattle.due_answer.proofs.runs.drive.Goals as goal
@@ -10,7 +11,7 @@ drive_with-requires-clause-fits c = c.into_plan-plan.ensures.code.fits
 pub returns : goal.returns
 returns c =
     let work = c.args.work in
-    let plan = c.into_plan-plan.result.0 in
+    let plan = plan_of c.into_plan-plan.result.0 in
     let start = c.into_plan-plan.result.1 in
     let done = c.in_ok-done.done in
     subst (λ x. IfOk c.reported.result (λ a. a ≡ x))

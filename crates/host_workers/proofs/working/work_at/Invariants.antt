@@ -3,4 +3,4 @@ use Rattle.host_workers.specs.Passes.{IsReady}
 use Rattle.host_workers.proofs.working.work_at.Given as goal
 
 abbrev pub invariant-loop : goal.invariant-loop
-invariant-loop g l = IsPassOf l.post.now.lock.now l.pass × IsReady (name_of l.post.now.lock.now) (known l.pass) l.post.now.number
+invariant-loop g l = IsPassOf l.post.lock.now l.pass × IsReady (name_of l.post.lock.now) (known l.pass) l.post.number
