@@ -7,6 +7,7 @@ mod ending;
 mod giving;
 mod listed;
 mod loads;
+mod ran;
 mod response;
 mod task;
 mod team;
