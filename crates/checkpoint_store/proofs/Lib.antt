@@ -1,0 +1,12 @@
+pub mod CutLemmas
+pub mod FormLemmas
+pub mod FrontLemmas
+pub mod LineLemmas
+pub mod OrderLemmas
+pub mod PartLemmas
+pub mod PointLemmas
+pub mod ShownLemmas
+pub mod StepLemmas
+pub mod StopLemmas
+pub mod TailLemmas
+pub mod VerdictLemmas

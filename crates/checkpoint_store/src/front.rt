@@ -20,12 +20,13 @@ fn read_numbers(alloc: Global, text: &[u8]) -> Result<(Numbers, &[u8]), CheckErr
     ensures ok { IfOk result (λ x. BeginsWithNumbers text.now x.0 x.1.now) }
     ensures err { IfErr result (λ e. (shape : Shape) → IsRefusal shape 0 Counts text.now 2 e) }
 {
-    if let Some((line, rest)) = split_at(text, b'\n') {
-        if let Some(numbers) = numbers_of(alloc, line)? {
-            return Ok((numbers, rest));
-        }
+    let Some((line, rest)) = split_at(text, b'\n') else {
+        return Err(refusal(alloc, Form::Numbers, text, 2));
+    };
+    match numbers_of(alloc, line)? {
+        Some(numbers) => Ok((numbers, rest)),
+        None => Err(refusal(alloc, Form::Numbers, text, 2)),
     }
-    Err(refusal(alloc, Form::Numbers, text, 2))
 }
 
 // What stands behind the line that tells how many classes there are.
@@ -60,9 +61,10 @@ fn read_classes<'t>(alloc: Global, shape: &Shape, text: &'t [u8]) -> Result<&'t 
     ensures ok { IfOk result (λ rest. text.now ≡ ended (map (class_text shape.now) shape.now.classes) ++ rest.now) }
     ensures err { IfErr result (StopsWith shape.now 0 (map (λ c. ClassOf c) shape.now.classes) text.now 3) }
 {
+    let classes = shape.classes.as_slice();
     let mut number = 4u32;
     let mut rest = text;
-    for class in shape.classes.as_slice() {
+    for class in classes {
         rest = read_class(alloc, shape, class, rest, number)?;
         number += 1;
     }

@@ -5,6 +5,7 @@ mod class;
 mod error;
 mod form;
 mod front;
+mod laws;
 mod numbers;
 mod place;
 mod point;
@@ -15,6 +16,7 @@ mod tail;
 mod write;
 
 pub use error::{CheckError, Fault};
+pub use laws::points_have_one_text;
 pub use point::Checkpoint;
 pub use read::read_checkpoint;
 pub use write::write_checkpoint;

@@ -54,10 +54,12 @@ pub(crate) fn read_line<'t>(
     ensures ok { IfOk result (λ rest. IsSplit 10 text.now wanted.now rest.now) }
     ensures err { IfErr result (IsRefusalFor form wanted.now text.now number) }
 {
-    if let Some((line, rest)) = split_at(text, b'\n') {
-        if line == wanted {
-            return Ok(rest);
-        }
+    let Some((line, rest)) = split_at(text, b'\n') else {
+        return Err(refusal(alloc, form, text, number));
+    };
+    if line == wanted {
+        Ok(rest)
+    } else {
+        Err(refusal(alloc, form, text, number))
     }
-    Err(refusal(alloc, form, text, number))
 }

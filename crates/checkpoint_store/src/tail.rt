@@ -28,12 +28,13 @@ fn read_place<'t>(
     ensures ok { IfOk result (λ x. BeginsWithPlace shape.now hosts path.now text.now x.0 x.1.now) }
     ensures err { IfErr result (IsRefusal shape.now hosts (PlaceOf path.now) text.now number) }
 {
-    if let Some((line, rest)) = split_at(text, b'\n') {
-        if let Some(place) = place_of(alloc, shape, hosts, path, line)? {
-            return Ok((place, rest));
-        }
+    let Some((line, rest)) = split_at(text, b'\n') else {
+        return Err(refusal(alloc, Form::Place, text, number));
+    };
+    match place_of(alloc, shape, hosts, path, line)? {
+        Some(place) => Ok((place, rest)),
+        None => Err(refusal(alloc, Form::Place, text, number)),
     }
-    Err(refusal(alloc, Form::Place, text, number))
 }
 
 // The places of these contexts, and what stands behind their lines.

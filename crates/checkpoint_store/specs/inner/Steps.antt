@@ -8,10 +8,8 @@ use Rattle.wave_base.specs.declared.shape.Shape.{Shape}
 use Rattle.wave_text.specs.Splits.{HasNone, IsSplit}
 use Rattle.path_text.specs.PathTexts.{path_text}
 use Rattle.path_text.specs.PlaceTexts.{place_text}
-use Rattle.snapshot_text.specs.declared.error.Fault.{Fault as ShotFault}
 use Rattle.snapshot_text.specs.declared.error.ShotError.{ShotError}
 use Rattle.snapshot_text.specs.declared.error.ShotError.TheVariants as shot
-use Rattle.snapshot_text.specs.Refusals.{refused as refused_shot}
 use Rattle.snapshot_text.specs.Verdicts.{IsOnlyVerdict as IsOnlySnapshot}
 use Rattle.checkpoint_store.specs.declared.error.CheckError.{CheckError}
 use Rattle.checkpoint_store.specs.declared.error.CheckError.TheVariants as error
@@ -25,7 +23,7 @@ use Rattle.checkpoint_store.specs.Dues.{Due, First, Counts, Classes, ClassOf, Pl
 use Rattle.checkpoint_store.specs.Forms.{cut_at, is_numbers, is_count, is_class_line, IsPlaceLine}
 use Rattle.checkpoint_store.specs.Points.{AreInRange}
 use Rattle.checkpoint_store.specs.Refusals.{refused}
-use Rattle.checkpoint_store.specs.Verdicts.{Begins, BeginsWrong, StopsAt, fault_of, IsWrongTail}
+use Rattle.checkpoint_store.specs.Verdicts.{Begins, BeginsWrong, StopsAt, IsWrongTail}
 
 -- ---- numbers
 
@@ -155,4 +153,4 @@ moved (shot.OutOfMemory w) before = error.OutOfMemory w
 
 -- the snapshot is refused, and `before` lines stand before it
 abbrev pub IsShotRefusal : Shape → List ℕ → ℕ → CheckError → Type 0
-IsShotRefusal shape part before e = (e ≡ error.OutOfMemory the_refusal) ⊎ ((f : ShotFault) × (n : ℕ) × IsOnlySnapshot shape part (Err (refused_shot f n)) × (e ≡ refused (fault_of f) (before + n)))
+IsShotRefusal shape part before e = (s : ShotError) × IsOnlySnapshot shape part (Err s) × (e ≡ moved s before)
