@@ -2,6 +2,7 @@ pub mod CutLemmas
 pub mod FormLemmas
 pub mod FrontLemmas
 pub mod LineLemmas
+pub mod NumberLemmas
 pub mod OrderLemmas
 pub mod PartLemmas
 pub mod PointLemmas

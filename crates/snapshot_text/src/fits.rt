@@ -10,7 +10,8 @@ fn pairs_fit(pairs: &[(i64, i64)])
     ensures { All (λ (p : ℤ × ℤ). FitsSigned w64 p.0 × FitsSigned w64 p.1) pairs.now }
 {
     for pair in pairs {
-        let _pair = *pair;
+        let _key = pair.0;
+        let _value = pair.1;
     }
 }
 
@@ -40,7 +41,8 @@ fn fields_fit(values: &[Value])
 fn keys_fit(path: &Path)
     ensures { HasKeys path.now }
 {
-    for step in path.as_slice() {
+    let steps = path.as_slice();
+    for step in steps {
         let _key = step.key;
     }
 }
