@@ -28,7 +28,7 @@ use Rattle.checkpoint_store.specs.Dues.{Due, First, Counts, Classes, ClassOf, Pl
 use Rattle.checkpoint_store.specs.Forms.{cut_at, is_numbers, is_count, is_parent, is_kind, is_named_kind, is_field, is_class_line, HasPlainSteps, IsPlaceLine}
 use Rattle.checkpoint_store.specs.Points.{AreInRange}
 use Rattle.checkpoint_store.proofs.CutLemmas.{cut_none, cut_some}
-use Rattle.checkpoint_store.proofs.LineLemmas.{IsDeclared, number_none, wide_hosts, wide_lines, wide_next, word_none, word_no_colon, kind_none, field_word, kinds_of, field_none}
+use Rattle.checkpoint_store.proofs.LineLemmas.{IsDeclared, number_none, wide_hosts, wide_lines, wide_next, word_none, word_no_colon, kind_none, field_word, kinds_of, field_none, place_spelled}
 
 -- ---- numbers
 
@@ -112,7 +112,8 @@ class_form shape c h =
 module _ (shape : Shape) (names : HasNames shape) where
   pub place_words : (x : Place) → IsPath shape x.path → x.host.0 < 2 ^ 64 → cut_at 32 (place_text shape x) ≡ codes "place" ∷ path_text shape x.path ∷ decimal x.host.0 ∷ []
   place_words x path wide =
-      cut_some 32 (codes "place") (path_text shape x.path ++ (codes " " ++ decimal x.host.0)) refl
+      ap (cut_at 32) (place_spelled shape x)
+      ∙ cut_some 32 (codes "place") (path_text shape x.path ++ (codes " " ++ decimal x.host.0)) refl
       ∙ ap (λ ws. codes "place" ∷ ws) (cut_some 32 (path_text shape x.path) (decimal x.host.0) (path_has_none shape names 32 (lit< tt) x.path path))
       ∙ ap (λ ws. codes "place" ∷ path_text shape x.path ∷ ws) (cut_none 32 (decimal x.host.0) (number_none 32 x.host.0 (lit< tt) wide))
 

@@ -6,8 +6,10 @@ pub mod NumberLemmas
 pub mod OrderLemmas
 pub mod PartLemmas
 pub mod PointLemmas
+pub mod ReadLemmas
 pub mod ShownLemmas
 pub mod StepLemmas
 pub mod StopLemmas
 pub mod TailLemmas
 pub mod VerdictLemmas
+pub mod WalkLemmas

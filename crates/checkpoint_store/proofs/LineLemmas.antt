@@ -1,5 +1,5 @@
 -- The lines that are due: their words, and that no line feed stands in them.
-use Rattle.std.proofs.Common.{◌≡◌, ◌<◌, ◌≤◌, ◌^◌, ℕ, zero, suc, Bool, true, List, [], ◌∷◌, ◌++◌, length, map, get_or, slice_get, Option, Some, None, All, refl, sym, ap, subst, ◌∙◌, lit<, arith}
+use Rattle.std.proofs.Common.{◌≡◌, ◌<◌, ◌≤◌, ◌^◌, ℕ, zero, suc, Bool, true, List, [], ◌∷◌, ◌++◌, length, map, get_or, slice_get, Option, Some, None, All, refl, sym, ap, subst, ◌∙◌, append_assoc, lit<, arith}
 use Rattle.std.specs.Prelude.{◌&&◌, ◌||◌, codes}
 use Rattle.std.specs.Fmt.{decimal}
 use Rattle.std.specs.List.{list_all}
@@ -154,8 +154,12 @@ class_none shape c h =
 
 -- ---- places
 
+pub place_spelled : (shape : Shape) (x : Place) → place_text shape x ≡ codes "place " ++ (path_text shape x.path ++ (codes " " ++ decimal x.host.0))
+place_spelled shape x = ap (λ t. codes "place " ++ t) (append_assoc (path_text shape x.path) (codes " ") (decimal x.host.0))
+
 pub place_none : (shape : Shape) → HasNames shape → (x : Place) → IsPath shape x.path → x.host.0 < 2 ^ 64 → HasNone 10 (place_text shape x)
 place_none shape names x path wide =
-    none-append 10 (codes "place ") (path_text shape x.path ++ (codes " " ++ decimal x.host.0)) refl
-    (none-append 10 (path_text shape x.path) (codes " " ++ decimal x.host.0) (path_has_none shape names 10 (lit< tt) x.path path)
-    (none-append 10 (codes " ") (decimal x.host.0) refl (number_none 10 x.host.0 (lit< tt) wide)))
+    subst (HasNone 10) (sym (place_spelled shape x))
+    (none-append 10 (codes "place ") (path_text shape x.path ++ (codes " " ++ decimal x.host.0)) refl
+        (none-append 10 (path_text shape x.path) (codes " " ++ decimal x.host.0) (path_has_none shape names 10 (lit< tt) x.path path)
+            (none-append 10 (codes " ") (decimal x.host.0) refl (number_none 10 x.host.0 (lit< tt) wide))))

@@ -10,7 +10,7 @@ use Rattle.path_text.specs.PlaceTexts.{place_text}
 use Rattle.checkpoint_store.specs.declared.numbers.Numbers.{Numbers}
 use Rattle.checkpoint_store.specs.CheckpointTexts.{numbers_text}
 use Rattle.checkpoint_store.specs.Points.{AreInRange}
-use Rattle.checkpoint_store.proofs.LineLemmas.{number_none, wide_hosts, wide_lines}
+use Rattle.checkpoint_store.proofs.LineLemmas.{number_none, wide_hosts, wide_lines, place_spelled}
 
 pub record AreRead (n : Numbers) (hosts lines next : List ℕ) : Type 0 where
   pub hosts_are : hosts ≡ decimal n.hosts
@@ -29,7 +29,7 @@ numbers_read n h line a r1 hosts r2 b r3 lines r4 c next p1 p2 p3 p4 p5 e =
 
 pub host_read : (shape : Shape) (x : Place) (line a rest path host : List ℕ) → HasNone 32 (path_text shape x.path) → ArePartsAt 32 line a rest → ArePartsAt 32 rest path host → line ≡ place_text shape x → host ≡ decimal x.host.0
 host_read shape x line a rest path host none p q e =
-    let one = p.cut (codes "place") (path_text shape x.path ++ (codes " " ++ decimal x.host.0)) refl e in
+    let one = p.cut (codes "place") (path_text shape x.path ++ (codes " " ++ decimal x.host.0)) refl (e ∙ place_spelled shape x) in
     (q.cut (path_text shape x.path) (decimal x.host.0) none one.1).1
 
 -- what is found is what the numbers are

@@ -10,6 +10,7 @@ use Rattle.wave_base.specs.declared.finished.Place.{Place}
 use Rattle.wave_base.specs.declared.shape.Shape.{Shape}
 use Rattle.wave_base.specs.declared.shot.Shot.{Shot}
 use Rattle.wave_base.specs.Names.{HasNames}
+use Rattle.wave_text.specs.Counted.{line_count}
 use Rattle.wave_text.specs.Splits.{is_other, HasNone, IsSplit}
 use Rattle.wave_text.proofs.SplitLemmas.{none-append}
 use Rattle.path_text.specs.ShotTexts.{shot_text}
@@ -107,7 +108,7 @@ refused_low shape text f n (inl h) = omega (arith, h.2)
 refused_low shape text f n (inr (inl h)) = omega (arith, h.2)
 refused_low shape text f n (inr (inr h)) =
     let few = shots_few shape h.0 in
-    omega (arith, h.2, ap length h.1.spelled, length-append (head_text _) (10 ∷ (shots_text shape h.0 ++ h.1.rest)), length-append (shots_text shape h.0) h.1.rest)
+    omega (arith, h.2, ap length h.1.spelled, length-append (head_text (line_count (shots_text shape h.0 ++ h.1.rest))) (10 ∷ (shots_text shape h.0 ++ h.1.rest)), length-append (shots_text shape h.0) h.1.rest)
 
 pub part_short : (text : List ℕ) → (length (snapshot_part text) ≤ length text) × (length (behind_part text) ≤ length text)
 part_short text = (omega (arith, ap length (part_whole text), length-append (snapshot_part text) (behind_part text)), omega (arith, ap length (part_whole text), length-append (snapshot_part text) (behind_part text)))

@@ -26,7 +26,8 @@ fn fault_of(alloc: Global, form: Form, text: &[u8]) -> Result<Fault, OutOfMemory
     let Some((line, _)) = split_at(text, b'\n') else {
         return Ok(Fault::Syntax);
     };
-    if looks_like(alloc, form, line)? {
+    let looks = looks_like(alloc, form, line)?;
+    if looks {
         Ok(other(form))
     } else {
         Ok(Fault::Syntax)

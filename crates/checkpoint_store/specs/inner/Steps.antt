@@ -1,5 +1,5 @@
 -- The lines of a checkpoint, as its reader goes through them.
-use Rattle.std.specs.Prelude.{◌≡◌, ◌<◌, ◌^◌, ◌⊎◌, ◌+◌, ℕ, true, List, [], ◌∷◌, ◌++◌, length, map, All, Option, Some, Err}
+use Rattle.std.specs.Prelude.{◌≡◌, ◌<◌, ◌^◌, ◌⊎◌, ◌+◌, ℕ, true, List, [], ◌∷◌, ◌++◌, length, map, All, Option, Some, Err, codes}
 use Rattle.std.specs.Fmt.{decimal}
 use Rattle.wave_base.specs.Memory.{the_refusal}
 use Rattle.wave_base.specs.declared.finished.Place.{Place}
@@ -59,12 +59,6 @@ pub record IsPlaceLineOf (shape : Shape) (hosts : ℕ) (path : Path) (line : Lis
   pub spelled : line ≡ place_text shape x
   pub path_is : x.path ≡ path
   pub below : x.host.0 < hosts
-
--- the text begins with the line of this place
-pub record BeginsWithPlace (shape : Shape) (hosts : ℕ) (path : Path) (text : List ℕ) (x : Place) (rest : List ℕ) : Type 0 where
-  pub line : List ℕ
-  pub split : IsSplit 10 text line rest
-  pub place : IsPlaceLineOf shape hosts path line x
 
 abbrev pub HasNoPlace : Shape → ℕ → Path → List ℕ → Type 0
 HasNoPlace shape hosts path line = IsDue shape hosts (PlaceOf path) line → ⊥
@@ -154,3 +148,10 @@ moved (shot.OutOfMemory w) before = error.OutOfMemory w
 -- the snapshot is refused, and `before` lines stand before it
 abbrev pub IsShotRefusal : Shape → List ℕ → ℕ → CheckError → Type 0
 IsShotRefusal shape part before e = (s : ShotError) × IsOnlySnapshot shape part (Err s) × (e ≡ moved s before)
+
+-- ---- the last line
+
+-- it is not there, or something stands behind it
+abbrev pub IsLastRefusal : List ℕ → ℕ → CheckError → Type 0
+IsLastRefusal text before e =
+    IsRefusalFor form.Word (codes "end") text (before + 1) e ⊎ ((rest : List ℕ) × IsSplit 10 text (codes "end") rest × (rest ≡ [] → ⊥) × (e ≡ error.Syntax (before + 2)))

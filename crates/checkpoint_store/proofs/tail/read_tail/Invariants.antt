@@ -3,7 +3,7 @@ use Rattle.snapshot_text.specs.Shots.{paths_of}
 use Rattle.checkpoint_store.specs.inner.Steps.{HasPlaces}
 use Rattle.checkpoint_store.proofs.StopLemmas.{Passes}
 use Rattle.checkpoint_store.proofs.TailLemmas.{place_dues}
-use Rattle.checkpoint_store.proofs.tail.read_places.Given as goal
+use Rattle.checkpoint_store.proofs.tail.read_tail.Given as goal
 
 abbrev pub invariant-loop-shot : goal.invariant-loop-shot
 invariant-loop-shot l = record {
