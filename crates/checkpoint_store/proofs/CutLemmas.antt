@@ -1,5 +1,5 @@
 -- A text cut at each such byte.
-use Rattle.std.proofs.Common.{◌≡◌, ℕ, Bool, true, false, if◌then◌else◌, List, [], ◌∷◌, ◌++◌, refl, ap, ◌∙◌, arith}
+use Rattle.std.proofs.Common.{◌≡◌, ℕ, Bool, true, false, if◌then◌else◌, List, [], ◌∷◌, ◌++◌, refl, sym, ap, ◌∙◌, append_assoc, arith}
 use Rattle.std.specs.Prelude.{◌==◌, ◌&&◌}
 use Rattle.std.specs.List.{list_all}
 use Rattle.std.proofs.lemmas.Bool.{and_parts}
@@ -28,3 +28,12 @@ cut_some c (b ∷ bs) rest h =
 
 pub cut_split : (c : ℕ) (text w rest : List ℕ) → IsSplit c text w rest → cut_at c text ≡ w ∷ cut_at c rest
 cut_split c text w rest p = ap (cut_at c) p.spelled ∙ cut_some c w rest p.first
+
+-- ---- as it is cut
+
+pub word_cut : (c : ℕ) (words more : List (List ℕ)) (text rest word after w : List ℕ) → words ++ cut_at c rest ≡ cut_at c text → IsSplit c rest word after → w ≡ word → more ≡ words ++ w ∷ [] → more ++ cut_at c after ≡ cut_at c text
+word_cut c words more text rest word after w h s same added =
+    ap (λ ws. ws ++ cut_at c after) (added ∙ ap (λ x. words ++ x ∷ []) same) ∙ append_assoc words (word ∷ []) (cut_at c after) ∙ ap (λ ws. words ++ ws) (sym (cut_split c rest word after s)) ∙ h
+
+pub all_cut : (c : ℕ) (words more : List (List ℕ)) (text rest w : List ℕ) → words ++ cut_at c rest ≡ cut_at c text → HasNone c rest → w ≡ rest → more ≡ words ++ w ∷ [] → more ≡ cut_at c text
+all_cut c words more text rest w h none same added = added ∙ ap (λ x. words ++ x ∷ []) same ∙ ap (λ ws. words ++ ws) (sym (cut_none c rest none)) ∙ h

@@ -1,9 +1,9 @@
 -- A line that is as it is to be has the form.
-use Rattle.std.proofs.Common.{◌≡◌, ◌<◌, ◌≤◌, ◌^◌, ℕ, Bool, true, List, [], ◌∷◌, ◌++◌, length, map, Some, All, refl, sym, ap, subst, ◌∙◌, append-nil, lit<, arith}
-use Rattle.std.specs.Prelude.{◌&&◌, codes}
+use Rattle.std.proofs.Common.{◌≡◌, ◌<◌, ◌≤◌, ◌^◌, ℕ, Bool, true, false, List, [], ◌∷◌, ◌++◌, length, map, Some, All, refl, sym, ap, subst, ◌∙◌, append-nil, lit<, arith}
+use Rattle.std.specs.Prelude.{◌&&◌, ◌↔◌, IsTrue, codes}
 use Rattle.std.specs.Fmt.{decimal}
 use Rattle.std.specs.List.{list_all}
-use Rattle.std.proofs.lemmas.Bool.{and_parts}
+use Rattle.std.proofs.lemmas.Bool.{and_parts, false≢true}
 use Rattle.std.proofs.lemmas.Fmt.{decimal_injective}
 use Rattle.wave_base.specs.declared.finished.Place.{Place}
 use Rattle.wave_base.specs.declared.path.Path.{Path}
@@ -18,7 +18,10 @@ use Rattle.wave_text.specs.Splits.{HasNone}
 use Rattle.path_text.specs.Found.{IsPath}
 use Rattle.path_text.specs.PathTexts.{path_text, written_step}
 use Rattle.path_text.specs.PlaceTexts.{place_text}
-use Rattle.snapshot_text.specs.Forms.{is_plain_digits}
+use Rattle.path_text.specs.declared.written.Written.{Written}
+use Rattle.path_text.specs.Steps.{is_step, HasSteps, HasOnlySteps, HasNoSteps}
+use Rattle.snapshot_text.specs.Forms.{is_plain_digits, is_plain_key, is_plain_step}
+use Rattle.snapshot_text.proofs.FormLemmas.{both_all}
 use Rattle.snapshot_text.proofs.AgainLemmas.{steps_plain}
 use Rattle.snapshot_text.proofs.BelowLemmas.{plain_decimal}
 use Rattle.snapshot_text.proofs.ShotLemmas.{path_has_none}
@@ -153,3 +156,23 @@ due_form shape is names hosts few (PlaceOf p) fit line h =
     let wide : h.0 < 2 ^ 64 = omega (arith, h.1) in
     subst (λ l. IsPlaceLine (cut_at 32 l)) (sym h.2) (place_form shape names (record { path = p; host = record { 0 = h.0 } }) fit wide)
 due_form shape is names hosts few Last fit line h = h
+
+-- ---- a path with plain keys
+
+no_plain_path : (text : List ℕ) → HasNoSteps text → HasPlainSteps text → ⊥
+no_plain_path text none h = none h.steps (record { spelled = h.spelled; form = (both_all h.steps h.plain).0 })
+
+all_both : (steps : List Written) → list_all is_step steps ≡ true → list_all is_plain_key steps ≡ true → list_all is_plain_step steps ≡ true
+all_both [] h k = refl
+all_both (s ∷ ss) h k =
+    let a = and_parts (is_step s) (list_all is_step ss) h in
+    let b = and_parts (is_plain_key s) (list_all is_plain_key ss) k in
+    (λ i. (a.0 i && b.0 i) && list_all is_plain_step ss) ∙ all_both ss a.1 b.1
+
+pub no_path_is : (text : List ℕ) → HasNoSteps text → IsTrue false ↔ HasPlainSteps text
+no_path_is text none = (λ h. absurd (false≢true h), λ h. absurd (no_plain_path text none h))
+
+pub path_is_plain : (text : List ℕ) (steps : List Written) (b : Bool) → HasSteps text steps → HasOnlySteps text steps → b ≡ list_all is_plain_key steps → IsTrue b ↔ HasPlainSteps text
+path_is_plain text steps b has only e =
+    (λ h. record { steps = steps; spelled = has.spelled; plain = all_both steps has.form (sym e ∙ h) },
+      λ h. (let form = both_all h.steps h.plain in e ∙ ap (list_all is_plain_key) (sym (only h.steps (record { spelled = h.spelled; form = form.0 }))) ∙ form.1))

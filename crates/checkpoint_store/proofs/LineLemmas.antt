@@ -161,5 +161,5 @@ pub place_none : (shape : Shape) → HasNames shape → (x : Place) → IsPath s
 place_none shape names x path wide =
     subst (HasNone 10) (sym (place_spelled shape x))
     (none-append 10 (codes "place ") (path_text shape x.path ++ (codes " " ++ decimal x.host.0)) refl
-        (none-append 10 (path_text shape x.path) (codes " " ++ decimal x.host.0) (path_has_none shape names 10 (lit< tt) x.path path)
-            (none-append 10 (codes " ") (decimal x.host.0) refl (number_none 10 x.host.0 (lit< tt) wide))))
+    (none-append 10 (path_text shape x.path) (codes " " ++ decimal x.host.0) (path_has_none shape names 10 (lit< tt) x.path path)
+    (none-append 10 (codes " ") (decimal x.host.0) refl (number_none 10 x.host.0 (lit< tt) wide))))

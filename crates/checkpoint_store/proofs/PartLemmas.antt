@@ -1,5 +1,5 @@
 -- The snapshot within a text, and how long it is.
-use Rattle.std.proofs.Common.{◌≡◌, ◌≤◌, ◌<◌, ◌+◌, ◌-◌, ◌⊎◌, inl, inr, ℕ, Bool, true, false, if◌then◌else◌, List, [], ◌∷◌, ◌++◌, length, take, drop, All, refl, sym, ap, subst, ◌∙◌, append_assoc, length-append, lit<, arith}
+use Rattle.std.proofs.Common.{◌≡◌, ◌≤◌, ◌<◌, ◌+◌, ◌-◌, ◌⊎◌, inl, inr, ℕ, Bool, true, false, if◌then◌else◌, List, [], ◌∷◌, ◌++◌, length, take, drop, All, Err, refl, sym, ap, subst, ◌∙◌, append_assoc, length-append, lit<, arith}
 use Rattle.std.specs.Prelude.{◌==◌, ◌&&◌, not, codes}
 use Rattle.std.specs.Fmt.{decimal}
 use Rattle.std.specs.List.{list_all}
@@ -17,10 +17,14 @@ use Rattle.path_text.specs.ShotTexts.{shot_text}
 use Rattle.snapshot_text.specs.declared.error.Fault.{Fault as ShotFault}
 use Rattle.snapshot_text.specs.Shots.{IsShot}
 use Rattle.snapshot_text.specs.SnapshotTexts.{head_text, shots_text, snapshot_text}
-use Rattle.snapshot_text.specs.Verdicts.{IsRefused as IsRefusedSnapshot}
+use Rattle.snapshot_text.specs.declared.error.Fault.TheVariants as snapshot
+use Rattle.snapshot_text.specs.declared.error.ShotError.{ShotError}
+use Rattle.snapshot_text.specs.declared.error.ShotError.TheVariants as shot
+use Rattle.snapshot_text.specs.Verdicts.{IsRefused as IsRefusedSnapshot, IsOnlyVerdict as IsOnlySnapshot}
 use Rattle.snapshot_text.proofs.ShotLemmas.{shot_no_feed}
 use Rattle.checkpoint_store.specs.CheckpointTexts.{tail_text}
 use Rattle.checkpoint_store.specs.Verdicts.{begins_at, snapshot_part, behind_part}
+use Rattle.checkpoint_store.specs.inner.Steps.{line_in}
 use Rattle.checkpoint_store.proofs.LineLemmas.{number_none}
 
 pub part_whole : (text : List ℕ) → snapshot_part text ++ behind_part text ≡ text
@@ -164,3 +168,10 @@ found_low text rest line after h s = omega (arith, ap length h.spelled, length-a
 -- there is no end of it
 pub not_found : (text rest : List ℕ) → IsPartedTo text rest → HasNone 10 rest → AreParts text text []
 not_found text rest h n = subst (λ t. AreParts text t []) (sym h.spelled) (h.goes rest [] (open_part rest n))
+
+pub error_low : (shape : Shape) (text : List ℕ) (e : ShotError) → IsOnlySnapshot shape text (Err e) → line_in e ≤ length text + 2
+error_low shape text (shot.Syntax n) h = refused_low shape text snapshot.Syntax n h.0
+error_low shape text (shot.Class n) h = refused_low shape text snapshot.Class n h.0
+error_low shape text (shot.Field n) h = refused_low shape text snapshot.Field n h.0
+error_low shape text (shot.Order n) h = refused_low shape text snapshot.Order n h.0
+error_low shape text (shot.OutOfMemory w) h = omega arith

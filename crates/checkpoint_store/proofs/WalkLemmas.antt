@@ -41,8 +41,8 @@ module _ (shape : Shape) where
   front_whole n rest =
       append_assoc first_line (10 ∷ (numbers_text n ++ 10 ∷ (count_text shape ++ 10 ∷ classes_text shape shape.classes))) rest
       ∙ ap (λ t. first_line ++ 10 ∷ t)
-          (append_assoc (numbers_text n) (10 ∷ (count_text shape ++ 10 ∷ classes_text shape shape.classes)) rest
-              ∙ ap (λ t. numbers_text n ++ 10 ∷ t) (append_assoc (count_text shape) (10 ∷ classes_text shape shape.classes) rest))
+      (append_assoc (numbers_text n) (10 ∷ (count_text shape ++ 10 ∷ classes_text shape shape.classes)) rest
+      ∙ ap (λ t. numbers_text n ++ 10 ∷ t) (append_assoc (count_text shape) (10 ∷ classes_text shape shape.classes) rest))
 
   pub front_read : (n : Numbers) (text r1 r2 r3 r4 : List ℕ) → IsSplit 10 text first_line r1 → BeginsWithNumbers r1 n r2 → IsSplit 10 r2 (count_text shape) r3 → r3 ≡ classes_text shape shape.classes ++ r4 → HasFront shape n text r4
   front_read n text r1 r2 r3 r4 p b q e = record {
@@ -151,7 +151,7 @@ module _ (shape : Shape) (hosts : ℕ) where
       ap (λ ss. place_dues (paths_of ss)) (parted_at shots i s h at) ∙ ap place_dues (map-append (λ x. x.path) (take i shots) (s ∷ drop (i + 1) shots)) ∙ map-append (λ p. PlaceOf p) (paths_of (take i shots)) (s.path ∷ paths_of (drop (i + 1) shots)) in
       in_tail (paths_of shots) text before e
       (stops_before shape hosts (place_dues (paths_of shots)) (Last ∷ []) text before e
-          (subst (λ ds. StopsWith shape hosts ds text before e) (sym parts) (stops_with shape hosts front (PlaceOf s.path) more text rest before n e p r line)))
+      (subst (λ ds. StopsWith shape hosts ds text before e) (sym parts) (stops_with shape hosts front (PlaceOf s.path) more text rest before n e p r line)))
 
   -- ---- the last line
 
@@ -163,7 +163,7 @@ module _ (shape : Shape) (hosts : ℕ) where
       let all : place_dues (paths_of (take i shots)) ≡ place_dues (paths_of shots) = ap (λ ss. place_dues (paths_of ss)) (take_all i shots high) in
       in_tail (paths_of shots) text before e
       (subst (λ ds. StopsWith shape hosts (ds ++ Last ∷ []) text before e) all
-          (stops_with shape hosts (place_dues (paths_of (take i shots))) Last [] text rest before (n + 1) e p (r shape hosts Last refl (λ line d. d)) line))
+      (stops_with shape hosts (place_dues (paths_of (take i shots))) Last [] text rest before (n + 1) e p (r shape hosts Last refl (λ line d. d)) line))
   last_stops shots i xs text rest before n e high low h p number (inr r) =
       let all : paths_of (take i shots) ≡ paths_of shots = ap paths_of (take_all i shots high) in
       let count : length (paths_of shots) ≡ length shots = length-map shots (λ s. s.path) in

@@ -31,10 +31,12 @@ fn cut_at(alloc: Global, text: &[u8], byte: u8) -> Result<Seq<Seq<u8>>, OutOfMem
     let mut words = Seq::new(alloc);
     let mut rest = text;
     while let Some((word, after)) = split_at(rest, byte) {
-        words.add(Seq::from_slice(alloc, word)?)?;
+        let copy = Seq::from_slice(alloc, word)?;
+        words.add(copy)?;
         rest = after;
     }
-    words.add(Seq::from_slice(alloc, rest)?)?;
+    let last = Seq::from_slice(alloc, rest)?;
+    words.add(last)?;
     Ok(words)
 }
 
@@ -123,10 +125,10 @@ fn is_class_line(alloc: Global, words: &[Seq<u8>]) -> Result<bool, OutOfMemory>
 fn is_plain_path(alloc: Global, text: &[u8]) -> Result<bool, OutOfMemory>
     ensures { IfOk result (λ b. IsTrue b ↔ HasPlainSteps text.now) }
 {
-    match written_steps(alloc, text)? {
-        Some(steps) => Ok(are_plain(steps.as_slice())),
-        None => Ok(false),
-    }
+    let Some(steps) = written_steps(alloc, text)? else {
+        return Ok(false);
+    };
+    Ok(are_plain(steps.as_slice()))
 }
 
 fn is_place(alloc: Global, words: &[Seq<u8>]) -> Result<bool, OutOfMemory>

@@ -73,11 +73,10 @@ fn numbers_in(line: &[u8]) -> Option<Numbers>
     let (_, rest) = parts_at(rest, b' ');
     let (lines, rest) = parts_at(rest, b' ');
     let (_, next) = parts_at(rest, b' ');
-    Some(Numbers {
-        hosts: byte_of(hosts)?,
-        lines: number_of(lines)?,
-        next: number_of(next)?,
-    })
+    let hosts = byte_of(hosts)?;
+    let lines = number_of(lines)?;
+    let next = number_of(next)?;
+    Some(Numbers { hosts, lines, next })
 }
 
 /// The numbers of a line, where it is written just so and they are in range.

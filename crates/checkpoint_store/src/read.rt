@@ -25,8 +25,8 @@ pub fn read_checkpoint(alloc: Global, shape: &Shape, text: &[u8]) -> Result<Chec
     let before = 3 + shape.classes.len() as u32;
     let (snapshot, tail) = snapshot_parts(rest);
     let shots = read_shots(alloc, shape, snapshot, before)?;
-    let before = before + 1 + shots.len() as u32;
-    let places = read_tail(alloc, shape, numbers.hosts, shots.as_slice(), tail, before)?;
+    let behind = before + 1 + shots.len() as u32;
+    let places = read_tail(alloc, shape, numbers.hosts, shots.as_slice(), tail, behind)?;
     let next = Ticket(numbers.next);
     Ok(Checkpoint {
         hosts: numbers.hosts,

@@ -1,9 +1,6 @@
 use Rattle.std.proofs.Common.{inl, inr, Ok, Err, refl, sym, ◌∙◌}
 use Rattle.checkpoint_store.specs.Laws.{AreReadBack}
 use Rattle.checkpoint_store.specs.declared.error.CheckError.TheVariants as error
-use Rattle.checkpoint_store.proofs.ReadLemmas.{point_said}
-use Rattle.checkpoint_store.proofs.WalkLemmas.{tail_read}
-use Rattle.checkpoint_store.proofs.NumberLemmas.{numbers_read}
 use Rattle.checkpoint_store.proofs.laws.points_have_one_text.Goals as goal
 
 again : AreReadBack
