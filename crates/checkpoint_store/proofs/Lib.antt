@@ -13,3 +13,4 @@ pub mod StopLemmas
 pub mod TailLemmas
 pub mod VerdictLemmas
 pub mod WalkLemmas
+pub mod WriteLemmas

@@ -1,5 +1,5 @@
 -- What is said of a whole text, as the reader comes to it.
-use Rattle.std.proofs.Common.{◌≡◌, ◌≤◌, ◌+◌, ◌⊎◌, inl, inr, ℕ, List, [], length, Result, Ok, Err, sym, ap, subst, ◌∙◌, arith}
+use Rattle.std.proofs.Common.{◌≡◌, ◌≤◌, ◌+◌, ◌⊎◌, inl, inr, ℕ, List, [], length, Result, Ok, Err, sym, ap, subst, ◌∙◌, length-append, arith}
 use Rattle.wave_base.specs.Memory.{the_refusal}
 use Rattle.wave_base.specs.declared.finished.Place.{Place}
 use Rattle.wave_base.specs.declared.shape.Shape.{Shape}
@@ -12,11 +12,13 @@ use Rattle.checkpoint_store.specs.declared.error.CheckError.{CheckError}
 use Rattle.checkpoint_store.specs.declared.error.CheckError.TheVariants as error
 use Rattle.checkpoint_store.specs.declared.numbers.Numbers.{Numbers}
 use Rattle.checkpoint_store.specs.declared.point.Checkpoint.{Checkpoint}
+use Rattle.checkpoint_store.specs.CheckpointTexts.{front_text}
 use Rattle.checkpoint_store.specs.Dues.{front_dues}
 use Rattle.checkpoint_store.specs.Points.{AreInRange, IsPoint}
 use Rattle.checkpoint_store.specs.Refusals.{refused}
 use Rattle.checkpoint_store.specs.Verdicts.{snapshot_part, behind_part, HasFront, HasTail, IsWrongTail, IsOnlyVerdict}
 use Rattle.checkpoint_store.specs.inner.Steps.{moved, StopsWith, IsTailRefusal, IsShotRefusal}
+use Rattle.checkpoint_store.proofs.PartLemmas.{part_short}
 use Rattle.checkpoint_store.proofs.PointLemmas.{is_start}
 use Rattle.checkpoint_store.proofs.VerdictLemmas.{stops_front, stops_snapshot, stops_tail, is_read}
 
@@ -63,3 +65,14 @@ module _ (shape : Shape) (is : IsShape shape) (names : HasNames shape) (text : L
 
         pub point_said : IsOnlyVerdict shape text (Ok point_of)
         point_said = is_read shape is names text n rest front shots read_here places (subst (λ t. HasTail shape n.hosts (paths_of shots) places t []) tail_is placed) point_fits
+
+-- ---- how much there is
+
+pub part_low : (shape : Shape) (n : Numbers) (text rest part : List ℕ) → HasFront shape n text rest → part ≡ snapshot_part rest → length part ≤ length text
+part_low shape n text rest part front same = omega (arith, ap length same, (part_short rest).0, ap length front.spelled, length-append (front_text shape n) rest)
+
+pub moved_tail : (shape : Shape) (hosts : ℕ) (shots others : List Shot) (tail : List ℕ) (before : ℕ) (e : CheckError) → others ≡ shots → IsTailRefusal shape hosts (paths_of others) tail before e → IsTailRefusal shape hosts (paths_of shots) tail before e
+moved_tail shape hosts shots others tail before e same r = subst (λ (ss : List Shot). IsTailRefusal shape hosts (paths_of ss) tail before e) same r
+
+pub moved_places : (shape : Shape) (hosts : ℕ) (shots others : List Shot) (places : List Place) (tail : List ℕ) → others ≡ shots → HasTail shape hosts (paths_of others) places tail [] → HasTail shape hosts (paths_of shots) places tail []
+moved_places shape hosts shots others places tail same h = subst (λ (ss : List Shot). HasTail shape hosts (paths_of ss) places tail []) same h

@@ -94,6 +94,13 @@ module _ (shape : Shape) where
       subst (λ ds. StopsWith shape 0 ds text 3 e) (sym (ap class_dues (parted_at cs i c h at) ∙ map-append (λ x. ClassOf x) (take i cs) (c ∷ drop (i + 1) cs)))
       (stops_with shape 0 (class_dues (take i cs)) (ClassOf c) (class_dues (drop (i + 1) cs)) text rest 3 n e p r line)
 
+  pub class_stopped : (cs : List ClassInfo) → cs ≡ shape.classes → (i : ℕ) (c : ClassInfo) (text rest : List ℕ) (n : ℕ) (e : CheckError) → i < length cs → c ≡ get_or cs i c → Passes shape 0 (class_dues (take i cs)) text rest → n ≡ 4 + i
+      → IsRefusal shape 0 (ClassOf c) rest n e → StopsWith shape 0 (class_dues shape.classes) text 3 e
+  class_stopped cs same i c text rest n e h at p number r = subst (λ ds. StopsWith shape 0 (class_dues ds) text 3 e) same (class_stops cs i c text rest n e h at p number r)
+
+  pub classes_done : (cs : List ClassInfo) → cs ≡ shape.classes → (i : ℕ) (text rest : List ℕ) → length cs ≤ i → Passes shape 0 (class_dues (take i cs)) text rest → text ≡ classes_text shape shape.classes ++ rest
+  classes_done cs same i text rest high p = classes_spelled shape.classes text rest (subst (λ ds. Passes shape 0 (class_dues ds) text rest) (take_all i cs high ∙ same) p)
+
 -- ---- places
 
 module _ (shape : Shape) (hosts : ℕ) where
