@@ -1,11 +1,13 @@
 -- A line that is as it is to be has the form.
-use Rattle.std.proofs.Common.{◌≡◌, ◌<◌, ◌≤◌, ◌^◌, ℕ, Bool, true, false, List, [], ◌∷◌, ◌++◌, length, map, Some, All, refl, sym, ap, subst, ◌∙◌, append-nil, lit<, arith}
+use Rattle.std.proofs.Common.{◌≡◌, ◌<◌, ◌≤◌, ◌^◌, ℕ, Bool, true, false, List, [], ◌∷◌, ◌++◌, length, map, get_or, Some, All, Result, IfOk, refl, sym, ap, subst, ◌∙◌, append-nil, lit<, arith}
 use Rattle.std.specs.Prelude.{◌&&◌, ◌↔◌, IsTrue, codes}
 use Rattle.std.specs.Fmt.{decimal}
 use Rattle.std.specs.List.{list_all}
 use Rattle.std.proofs.lemmas.Bool.{and_parts, false≢true}
+use Rattle.std.proofs.lemmas.Result.{IfOk-weaker}
 use Rattle.std.proofs.lemmas.Fmt.{decimal_injective}
 use Rattle.wave_base.specs.declared.finished.Place.{Place}
+use Rattle.wave_base.specs.declared.memory.OutOfMemory.{OutOfMemory}
 use Rattle.wave_base.specs.declared.path.Path.{Path}
 use Rattle.wave_base.specs.declared.shape.ClassInfo.{ClassInfo}
 use Rattle.wave_base.specs.declared.shape.FieldInfo.{FieldInfo}
@@ -176,3 +178,20 @@ pub path_is_plain : (text : List ℕ) (steps : List Written) (b : Bool) → HasS
 path_is_plain text steps b has only e =
     (λ h. record { steps = steps; spelled = has.spelled; plain = all_both steps has.form (sym e ∙ h) },
       λ h. (let form = both_all h.steps h.plain in e ∙ ap (list_all is_plain_key) (sym (only h.steps (record { spelled = h.spelled; form = form.0 }))) ∙ form.1))
+
+-- ---- a line of a place, by its words
+
+pub three_words : (ws : List (List ℕ)) (a b c : List ℕ) → length ws ≡ 3 → a ≡ get_or ws 0 a → b ≡ get_or ws 1 b → c ≡ get_or ws 2 c → ws ≡ a ∷ b ∷ c ∷ []
+three_words [] a b c n e f g = absurd (omega (arith, n))
+three_words (x ∷ []) a b c n e f g = absurd (omega (arith, n))
+three_words (x ∷ y ∷ []) a b c n e f g = absurd (omega (arith, n))
+three_words (x ∷ y ∷ z ∷ []) a b c n e f g = λ i. sym e i ∷ sym f i ∷ sym g i ∷ []
+three_words (x ∷ y ∷ z ∷ u ∷ ws) a b c n e f g = absurd (omega (arith, n))
+
+pub place_line_is : (ws : List (List ℕ)) (a b c p : List ℕ) (r : Result Bool OutOfMemory) → ws ≡ a ∷ b ∷ c ∷ [] → a ≡ codes "place" → is_plain_digits c ≡ true → p ≡ b → IfOk r (λ t. IsTrue t ↔ HasPlainSteps p) → IfOk r (λ t. IsTrue t ↔ IsPlaceLine ws)
+place_line_is ws a b c p r words word digits path h = IfOk-weaker r (λ t. IsTrue t ↔ HasPlainSteps p) (λ t. IsTrue t ↔ IsPlaceLine ws) both h
+  where
+    both : (t : Bool) → IsTrue t ↔ HasPlainSteps p → IsTrue t ↔ IsPlaceLine ws
+    both t k =
+        (λ e. subst IsPlaceLine (sym words) (record { word_is = word; path_is = subst HasPlainSteps path (k.0 e); host_is = digits }),
+          λ l. (let q : IsPlaceLine (a ∷ b ∷ c ∷ []) = subst IsPlaceLine words l in k.1 (subst HasPlainSteps (sym path) q.path_is)))

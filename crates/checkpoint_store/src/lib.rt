@@ -1,5 +1,5 @@
 //! The text of a checkpoint, a point of a run from which another run can go on: how it is written, and how it is read.
-#![tactic(none)]
+#![tactic(auto)]
 
 mod class;
 mod error;
