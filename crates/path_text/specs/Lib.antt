@@ -1,6 +1,7 @@
 pub mod Found
 pub mod PathTexts
 pub mod Paths
+pub mod PlaceTexts
 pub mod Sample
 pub mod ShotTexts
 pub mod Steps

@@ -4,13 +4,14 @@ ghost use Rattle.wave_base.specs.Names.{HasNames};
 ghost use Rattle.wave_base.specs.Shapes.{IsShape, is_path};
 ghost use Rattle.wave_base.specs.declared.path.Step.{Step};
 ghost use Rattle.path_text.specs.PathTexts.{written_step, path_text, IsPathText};
+ghost use Rattle.path_text.specs.PlaceTexts.{place_text};
 ghost use Rattle.path_text.specs.ShotTexts.{field_text, fields_text, shot_text};
 ghost use Rattle.path_text.specs.Steps.{step_text};
 
 use crate::fields::fields_at;
 use std::alloc::Global;
-use wave_base::{CLASS_DEPTH, FieldInfo, OutOfMemory, Path, Seq, Shape, Shot, Step, Value};
-use wave_text::{put_bytes, put_value, put_whole};
+use wave_base::{CLASS_DEPTH, FieldInfo, OutOfMemory, Path, Place, Seq, Shape, Shot, Step, Value};
+use wave_text::{put_bytes, put_number, put_value, put_whole};
 
 // Appends one step of a path.
 fn put_step(alloc: Global, out: &mut Vec<u8>, shape: &Shape, step: &Step) -> Result<(), OutOfMemory>
@@ -107,4 +108,19 @@ pub fn put_shot(
     put_path(alloc, out, shape, &shot.path)?;
     let fields = fields_at(shape, &shot.path);
     put_fields(alloc, out, fields, shot.fields.as_slice())
+}
+
+/// Appends a context with its host.
+pub fn put_place(
+    alloc: Global,
+    out: &mut Vec<u8>,
+    shape: &Shape,
+    place: &Place,
+) -> Result<(), OutOfMemory>
+    ensures { OnOk result (out.new.items ≡ out.old.items ++ place_text shape.now place.now) }
+{
+    put_bytes(out, b"place ")?;
+    put_path(alloc, out, shape, &place.path)?;
+    put_bytes(out, b" ")?;
+    put_number(alloc, out, u64::from(place.host.0))
 }

@@ -105,7 +105,7 @@ fields_are (f ∷ fs) (v ∷ vs) w h =
 
 -- ---- steps
 
-word_at : (classes : List ClassInfo) (n : ℕ) (info : ClassInfo) → slice_get classes n ≡ Some info → list_all is_name (map (λ c. c.name) classes) ≡ true → is_word info.name ≡ true
+pub word_at : (classes : List ClassInfo) (n : ℕ) (info : ClassInfo) → slice_get classes n ≡ Some info → list_all is_name (map (λ c. c.name) classes) ≡ true → is_word info.name ≡ true
 word_at [] n info e h = cc
 word_at (x ∷ xs) zero info e h =
     let same : x ≡ info = cc in
@@ -124,7 +124,7 @@ module _ (shape : Shape) (names : HasNames shape) where
       false_true : false ≡ true → ⊥
       false_true k = cc
 
-  steps_plain : (c : ℕ) (p : List Step) → is_path_from shape c p ≡ true → All (λ (s : Step). FitsSigned w64 s.key) p → list_all is_plain_step (map (written_step shape) p) ≡ true
+  pub steps_plain : (c : ℕ) (p : List Step) → is_path_from shape c p ≡ true → All (λ (s : Step). FitsSigned w64 s.key) p → list_all is_plain_step (map (written_step shape) p) ≡ true
   steps_plain c [] h f = refl
   steps_plain c (s ∷ p) h f =
       let parts = and_parts (is_class c (parent_class shape s.class.0)) (is_path_from shape s.class.0 p) h in

@@ -112,7 +112,7 @@ plain_list (b ∷ c ∷ bs) h some f =
     high_first : (b : ℕ) → is_ascii_digit b ≡ true → 48 < b → (nat_le 49 b && nat_le b 57) ≡ true
     high_first b h k = grind (arith, nat_tests)
 
-plain_decimal : (n : ℕ) → n < 2 ^ 64 → is_plain_digits (decimal n) ≡ true
+pub plain_decimal : (n : ℕ) → n < 2 ^ 64 → is_plain_digits (decimal n) ≡ true
 plain_decimal n w = plain_list (decimal n) (digits_decimal own n w) (decimal_nonempty n w) (by_size (cases_lt 0 n))
   where
     by_size : (0 < n) ⊎ (n ≤ 0) → 1 < length (decimal n) → 48 < get_or (decimal n) 0 0

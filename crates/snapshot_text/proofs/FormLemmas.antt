@@ -10,8 +10,8 @@ use Rattle.wave_text.specs.Splits.{IsSplit}
 use Rattle.path_text.specs.Steps.{is_step, written_text, HasSteps, HasOnlySteps, HasNoSteps}
 use Rattle.wave_text.proofs.SplitLemmas.{one_split}
 use Rattle.journal_text.proofs.SolidLemmas.{solid_has_none, written_solid}
-use Rattle.snapshot_text.specs.Forms.{Field, IsField, literal_text, field_text, fields_text, is_plain, is_plain_step, HasForm, HasNoForm}
-use Rattle.snapshot_text.specs.inner.Fronts.{Ends, IsRun, HasLiteral, OnlyBehindLiteral, HasNoLiteral, HasField, OnlyBehindField, HasNoField, IsFieldsText, is_plain_key, HasOnlyForm}
+use Rattle.snapshot_text.specs.Forms.{Field, IsField, literal_text, field_text, fields_text, is_plain, is_plain_key, is_plain_step, HasForm, HasNoForm}
+use Rattle.snapshot_text.specs.inner.Fronts.{Ends, IsRun, HasLiteral, OnlyBehindLiteral, HasNoLiteral, HasField, OnlyBehindField, HasNoField, IsFieldsText, HasOnlyForm}
 use Rattle.snapshot_text.proofs.ByteLemmas.{word_no_equals, one_run}
 
 -- ---- what is said of what a call gives

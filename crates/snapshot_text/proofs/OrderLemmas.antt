@@ -88,7 +88,7 @@ pub record IsKept (qs : List Path) : Type 0 where
   pub closed : (q r : Path) → there (q ++ r) qs ≡ true → there q qs ≡ true
   pub greatest : (q : Path) → there q qs ≡ true → is_le (path_cmp q (last_of qs)) ≡ true
 
-behind_last : (q : Path) (qs : List Path) (p : Path) → is_behind (q ∷ qs) p ≡ is_less (path_cmp (last_of (q ∷ qs)) p)
+pub behind_last : (q : Path) (qs : List Path) (p : Path) → is_behind (q ∷ qs) p ≡ is_less (path_cmp (last_of (q ∷ qs)) p)
 behind_last q [] p = refl
 behind_last q (r ∷ qs) p = behind_last r qs p
 
@@ -97,7 +97,7 @@ last_more [] p = refl
 last_more (q ∷ []) p = refl
 last_more (q ∷ r ∷ qs) p = last_more (r ∷ qs) p
 
-less_is : (o : Ordering) → is_less o ≡ true → o ≡ Less
+pub less_is : (o : Ordering) → is_less o ≡ true → o ≡ Less
 less_is Less h = refl
 less_is Equal h = cc
 less_is Greater h = cc
@@ -142,7 +142,7 @@ le_self p = by_equal (path_cmp p p) (sym (path_eq_ties p p) ∙ path_eq_equiv.re
     by_equal Equal h = refl
     by_equal Greater h = cc
 
-root_kept : IsKept ([] ∷ [])
+pub root_kept : IsKept ([] ∷ [])
 root_kept = record { closed = closed; greatest = λ q h. by_path q h }
   where
     closed : (q r : Path) → there (q ++ r) ([] ∷ []) ≡ true → there q ([] ∷ []) ≡ true
@@ -153,7 +153,7 @@ root_kept = record { closed = closed; greatest = λ q h. by_path q h }
     by_path [] h = refl
     by_path (a ∷ q) h = cc
 
-kept_more : (q : Path) (qs : List Path) (p : Path) → IsKept (q ∷ qs) → comes_next (q ∷ qs) p ≡ true → IsKept ((q ∷ qs) ++ p ∷ [])
+pub kept_more : (q : Path) (qs : List Path) (p : Path) → IsKept (q ∷ qs) → comes_next (q ∷ qs) p ≡ true → IsKept ((q ∷ qs) ++ p ∷ [])
 kept_more q qs p k next =
     let parts = and_parts (is_behind (q ∷ qs) p) (there (parent_of p) (q ∷ qs)) next in
     let below : path_cmp (last_of (q ∷ qs)) p ≡ Less = less_is (path_cmp (last_of (q ∷ qs)) p) (sym (behind_last q qs p) ∙ parts.0) in

@@ -67,7 +67,7 @@ fields_no_feed (f ∷ fs) (v ∷ vs) w h =
     (fields_no_feed fs vs k.1 (All-tail IsValue v vs h))
 
 module _ (shape : Shape) (names : HasNames shape) where
-  path_has_none : (b : ℕ) → b < 33 → (p : Path) → IsPath shape p → HasNone b (path_text shape p)
+  pub path_has_none : (b : ℕ) → b < 33 → (p : Path) → IsPath shape p → HasNone b (path_text shape p)
   path_has_none b low p h =
       let keys : HasKeys p = record { short = h.short; keys = h.keys } in
       solid_has_none b low (path_text shape p) (path_solid shape names p h.path keys)

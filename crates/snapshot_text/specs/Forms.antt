@@ -93,9 +93,12 @@ pub record IsField (f : Field) : Type 0 where
   pub name : is_word f.name ≡ true
   pub literal : IsLiteral f.literal
 
+abbrev pub is_plain_key : Written → Bool
+is_plain_key s = is_plain s.key
+
 -- a step whose key is plain
 abbrev pub is_plain_step : Written → Bool
-is_plain_step s = is_step s && is_plain s.key
+is_plain_step s = is_step s && is_plain_key s
 
 -- the line has the form, with these steps of a path
 pub record HasForm (line : List ℕ) (steps : List Written) : Type 0 where

@@ -1,7 +1,7 @@
 ghost use Rattle.std.specs.Prelude.{◌≡◌, ◌∷◌, ◌↔◌, true, IsTrue, IfOk, IfSome, IfNone};
 ghost use Rattle.std.specs.List.{list_all};
-ghost use Rattle.snapshot_text.specs.Forms.{HasNoForm};
-ghost use Rattle.snapshot_text.specs.inner.Fronts.{BeginsNotAt, is_plain_key, HasField, OnlyBehindField, HasNoField, IsFieldsText, HasOnlyForm};
+ghost use Rattle.snapshot_text.specs.Forms.{is_plain_key, HasNoForm};
+ghost use Rattle.snapshot_text.specs.inner.Fronts.{BeginsNotAt, HasField, OnlyBehindField, HasNoField, IsFieldsText, HasOnlyForm};
 
 use crate::literal::{behind_literal, run_of};
 use crate::number::is_plain;
@@ -44,7 +44,8 @@ fn are_fields(alloc: Global, text: &[u8]) -> Result<bool, OutOfMemory>
     Ok(true)
 }
 
-fn are_plain(steps: &[Written]) -> bool
+/// Whether the keys of these steps are whole numbers without zeros in front.
+pub fn are_plain(steps: &[Written]) -> bool
     ensures { result ≡ list_all is_plain_key steps.now }
 {
     steps.iter().all(|step| is_plain(step.key.as_slice()))

@@ -2,6 +2,7 @@
 #![tactic(auto)]
 
 mod error;
+mod fits;
 mod form;
 mod line;
 mod literal;
@@ -15,5 +16,8 @@ mod value;
 mod write;
 
 pub use error::{Fault, ShotError};
+pub use fits::values_fit;
+pub use form::are_plain;
+pub use number::is_plain_digits;
 pub use read::read_snapshot;
 pub use write::write_snapshot;

@@ -4,7 +4,8 @@ ghost use Rattle.snapshot_text.specs.Forms.{is_plain_digits, is_zero, is_plain, 
 use std::cmp::Ordering;
 use wave_text::is_digits;
 
-fn is_plain_digits(text: &[u8]) -> bool
+/// Whether a text is digits, of any number, with no zero in front.
+pub fn is_plain_digits(text: &[u8]) -> bool
     ensures { result ≡ is_plain_digits text.now }
 {
     match text {

@@ -75,7 +75,7 @@ fn cell_class(alloc: Global) -> Result<ClassInfo, OutOfMemory>
 }
 
 // A root with a number, a Hall in it with a number, a Stall in that with one of each other kind, and a Cell with none.
-fn market_shape(alloc: Global) -> Result<Shape, OutOfMemory>
+pub(crate) fn market_shape(alloc: Global) -> Result<Shape, OutOfMemory>
     ensures same { IfOk result (λ s. s ≡ sample.market_shape) }
     ensures shape { IfOk result IsShape }
     ensures names { IfOk result HasNames }

@@ -96,9 +96,6 @@ IsFieldsText text = (fs : List Field) × (text ≡ fields_text fs) × All IsFiel
 
 -- ---- the line
 
-abbrev pub is_plain_key : Written → Bool
-is_plain_key s = is_plain s.key
-
 pub record HasOnlyForm (line : List ℕ) (steps : List Written) : Type 0 where
   pub form : HasForm line steps
   pub only : (others : List Written) → HasForm line others → others ≡ steps

@@ -2,7 +2,7 @@ use Rattle.std.proofs.Common.{IfSome, IfNone, sym, ap, subst, ◌∙◌}
 use Rattle.std.proofs.lemmas.Bool.{false≢true}
 use Rattle.std.specs.List.{list_all}
 use Rattle.path_text.specs.Steps.{HasSteps, HasOnlySteps, HasNoSteps}
-use Rattle.snapshot_text.specs.inner.Fronts.{is_plain_key}
+use Rattle.snapshot_text.specs.Forms.{is_plain_key}
 use Rattle.snapshot_text.proofs.FormLemmas.{no_steps, not_plain, not_fields, form_is}
 use Rattle.snapshot_text.proofs.form.form_of.Goals as goal
 

@@ -1,0 +1,16 @@
+pub mod CutLemmas
+pub mod FormLemmas
+pub mod FrontLemmas
+pub mod LineLemmas
+pub mod NumberLemmas
+pub mod OrderLemmas
+pub mod PartLemmas
+pub mod PointLemmas
+pub mod ReadLemmas
+pub mod ShownLemmas
+pub mod StepLemmas
+pub mod StopLemmas
+pub mod TailLemmas
+pub mod VerdictLemmas
+pub mod WalkLemmas
+pub mod WriteLemmas
