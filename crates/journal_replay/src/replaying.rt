@@ -1,7 +1,8 @@
-ghost use Rattle.std.specs.Prelude.{◌<◌, ◌^◌, length};
+ghost use Rattle.std.specs.Prelude.{◌<◌, ◌^◌, length, IfErr, IfOk, Ok};
 ghost use Rattle.plan_actors.specs.Plans.{Fits};
 ghost use Rattle.wave_machine.specs.Plans.{plan_of};
 ghost use Rattle.journal_replay.specs.Replays.{IsOnlyOutcome};
+ghost use Rattle.journal_replay.specs.inner.Walks.{StopsIn};
 
 use crate::error::ReplayError;
 use crate::walk::Walk;
@@ -35,16 +36,35 @@ pub fn replay(
     requires few { length journal.now < 2 ^ 32 }
     ensures { IsOnlyOutcome (plan_of plan.now) journal.now show result }
 {
-    contexts_have_owners();
     labels_tell();
     let labels = journal.as_slice();
-    let shown = (show as usize).min(labels.len());
+    match walk_through(alloc, plan, labels, show) {
+        Ok(replayed) => Ok(replayed),
+        Err(error) => Err(error),
+    }
+}
+
+// Takes the labels, those that come before the glance first.
+fn walk_through(
+    alloc: Global,
+    plan: &Plan,
+    journal: &[Label],
+    show: u32,
+) -> Result<Replayed, ReplayError>
+    requires fits { Fits (plan_of plan.now) }
+    requires few { length journal.now < 2 ^ 32 }
+    ensures only { IfOk result (λ r. IsOnlyOutcome (plan_of plan.now) journal.now show (Ok r)) }
+    ensures stops { IfErr result (StopsIn (plan_of plan.now) journal.now) }
+{
+    contexts_have_owners();
+    let count = journal.len();
+    let shown = (show as usize).min(count);
     let mut walk = Walk::new(alloc, plan)?;
-    walk.go(alloc, plan, labels, 0, shown)?;
+    walk.go(alloc, plan, journal, 0, shown)?;
     let glance = walk.machine.glance()?;
-    walk.go(alloc, plan, labels, shown, labels.len())?;
+    walk.go(alloc, plan, journal, shown, count)?;
     Ok(Replayed {
-        steps: labels.len() as u32,
+        steps: count as u32,
         finished: walk.machine.finished(),
         shown: shown as u32,
         glance,

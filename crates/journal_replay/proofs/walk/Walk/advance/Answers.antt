@@ -1,5 +1,6 @@
 use Rattle.std.proofs.Common.{◌≡◌, ◌∙◌, ◌+◌, ◌∷◌, ◌++◌, List, [], suc, Some, drop, length, map, refl, sym, ap, subst, take, true≢false, arith}
-use Rattle.std.specs.Prelude.{slice_get}
+use Rattle.std.specs.Prelude.{min, slice_get}
+use Rattle.std.proofs.lemmas.List.{length-take}
 use Rattle.std.proofs.lemmas.Option.{slice_get_read}
 use Rattle.wave_base.specs.Starts.{first_start}
 use Rattle.wave_labels.specs.declared.label.Label.{Label}
@@ -26,7 +27,7 @@ returns-then-can_take-clause-walking c =
     let journal = c.args.journal.now in
     let label = c.index-journal-i.result in
     let at : slice_get journal c.args.i ≡ Some label = slice_get_read journal _ c.args.i label refl c.requires.within c.index-journal-i.is in
-    subst (λ (ls : List Label). IsWalking p ls c.take.new.self) (take_next journal c.args.i label at)
+    subst (λ (ls : List Label). IsWalking p ls c.take.new.self) (sym (take_next journal c.args.i label at))
     (walks_on p c.args.self.now (take c.args.i journal) d label ((c.can_take.ensures (first_start p.program.shape) d.state d.under.stands).0 c.if-can_take.true) c.take.new.self c.in_ok-take.ensures.leads c.take.ensures.plan)
 
 pub returns-clause-stops : goal.returns-clause-stops
@@ -37,11 +38,12 @@ returns-clause-stops c =
     let i = c.args.i in
     let label = c.index-journal-i.result in
     let at : slice_get journal i ≡ Some label = slice_get_read journal _ i label refl c.requires.within c.index-journal-i.is in
+    let short : length (take i journal) ≡ min i (length journal) = length-take i journal in
     record {
       before = take i journal;
       after = drop (suc i) journal;
       parts = parts_at journal i label at;
-      place = ?;
+      place = omega (arith, short, c.requires.within);
       state = d.state;
       run = d.run;
       refused = no_step p c.args.self.now (take i journal) d label (λ e. true≢false (sym ((c.can_take.ensures (first_start p.program.shape) d.state d.under.stands).1 e) ∙ c.if-can_take.false));
