@@ -1,5 +1,5 @@
 -- A line that is as it is to be has the form.
-use Rattle.std.proofs.Common.{◌≡◌, ◌<◌, ◌≤◌, ◌^◌, ℕ, Bool, true, false, List, [], ◌∷◌, ◌++◌, length, map, get_or, Some, All, Result, IfOk, refl, sym, ap, subst, ◌∙◌, append-nil, lit<, arith}
+use Rattle.std.proofs.Common.{◌≡◌, ◌<◌, ◌≤◌, ◌^◌, ℕ, Bool, true, false, List, [], ◌∷◌, ◌++◌, length, map, get_or, Result, IfOk, refl, sym, ap, subst, ◌∙◌, append-nil, lit<, arith}
 use Rattle.std.specs.Prelude.{◌&&◌, ◌↔◌, IsTrue, codes}
 use Rattle.std.specs.Fmt.{decimal}
 use Rattle.std.specs.List.{list_all}
@@ -30,10 +30,10 @@ use Rattle.snapshot_text.proofs.ShotLemmas.{path_has_none}
 use Rattle.checkpoint_store.specs.declared.numbers.Numbers.{Numbers}
 use Rattle.checkpoint_store.specs.CheckpointTexts.{numbers_text, count_text, kind_text, fields_text, parent_text, class_text}
 use Rattle.checkpoint_store.specs.Dues.{Due, First, Counts, Classes, ClassOf, PlaceOf, Last, HasForm, IsDue}
-use Rattle.checkpoint_store.specs.Forms.{cut_at, is_numbers, is_count, is_parent, is_kind, is_named_kind, is_field, is_class_line, HasPlainSteps, IsPlaceLine}
+use Rattle.checkpoint_store.specs.Forms.{cut_at, is_numbers, is_count, is_kind, is_named_kind, is_field, is_class_line, HasPlainSteps, IsPlaceLine}
 use Rattle.checkpoint_store.specs.Points.{AreInRange}
 use Rattle.checkpoint_store.proofs.CutLemmas.{cut_none, cut_some}
-use Rattle.checkpoint_store.proofs.LineLemmas.{IsDeclared, number_none, wide_hosts, wide_lines, wide_next, word_none, word_no_colon, kind_none, field_word, kinds_of, field_none, place_spelled}
+use Rattle.checkpoint_store.proofs.LineLemmas.{IsDeclared, number_none, wide_hosts, wide_lines, wide_next, word_none, word_no_colon, field_word, kinds_of, field_none, place_spelled}
 
 -- ---- numbers
 
@@ -175,9 +175,10 @@ pub no_path_is : (text : List ℕ) → HasNoSteps text → IsTrue false ↔ HasP
 no_path_is text none = (λ h. absurd (false≢true h), λ h. absurd (no_plain_path text none h))
 
 pub path_is_plain : (text : List ℕ) (steps : List Written) (b : Bool) → HasSteps text steps → HasOnlySteps text steps → b ≡ list_all is_plain_key steps → IsTrue b ↔ HasPlainSteps text
-path_is_plain text steps b has only e =
-    (λ h. record { steps = steps; spelled = has.spelled; plain = all_both steps has.form (sym e ∙ h) },
-      λ h. (let form = both_all h.steps h.plain in e ∙ ap (list_all is_plain_key) (sym (only h.steps (record { spelled = h.spelled; form = form.0 }))) ∙ form.1))
+path_is_plain text steps b has only e = (
+  λ h. record { steps = steps; spelled = has.spelled; plain = all_both steps has.form (sym e ∙ h) },
+  λ h. (let form = both_all h.steps h.plain in e ∙ ap (list_all is_plain_key) (sym (only h.steps (record { spelled = h.spelled; form = form.0 }))) ∙ form.1),
+)
 
 -- ---- a line of a place, by its words
 
@@ -192,6 +193,7 @@ pub place_line_is : (ws : List (List ℕ)) (a b c p : List ℕ) (r : Result Bool
 place_line_is ws a b c p r words word digits path h = IfOk-weaker r (λ t. IsTrue t ↔ HasPlainSteps p) (λ t. IsTrue t ↔ IsPlaceLine ws) both h
   where
     both : (t : Bool) → IsTrue t ↔ HasPlainSteps p → IsTrue t ↔ IsPlaceLine ws
-    both t k =
-        (λ e. subst IsPlaceLine (sym words) (record { word_is = word; path_is = subst HasPlainSteps path (k.0 e); host_is = digits }),
-          λ l. (let q : IsPlaceLine (a ∷ b ∷ c ∷ []) = subst IsPlaceLine words l in k.1 (subst HasPlainSteps (sym path) q.path_is)))
+    both t k = (
+      λ e. subst IsPlaceLine (sym words) (record { word_is = word; path_is = subst HasPlainSteps path (k.0 e); host_is = digits }),
+      λ l. (let q : IsPlaceLine (a ∷ b ∷ c ∷ []) = subst IsPlaceLine words l in k.1 (subst HasPlainSteps (sym path) q.path_is)),
+    )

@@ -1,19 +1,17 @@
 -- The front of a checkpoint: its lines one after the other, and that a text has one front alone.
-use Rattle.std.proofs.Common.{◌≡◌, ◌≤◌, ◌+◌, ◌<◌, ◌^◌, ℕ, List, [], ◌∷◌, ◌++◌, length, map, take, drop, All, refl, sym, ap, subst, ◌∙◌, append_assoc, arith}
+use Rattle.std.proofs.Common.{◌≡◌, ℕ, List, [], ◌∷◌, ◌++◌, map, refl, sym, ap, ◌∙◌, append_assoc, arith}
 use Rattle.std.specs.List.{AllByRecursion}
 use Rattle.std.proofs.lemmas.List.Elements.{recursion_from_All}
 use Rattle.wave_base.specs.declared.shape.ClassInfo.{ClassInfo}
 use Rattle.wave_base.specs.declared.shape.Shape.{Shape}
 use Rattle.wave_base.specs.Names.{HasNames}
 use Rattle.wave_base.specs.Shapes.{IsShape}
-use Rattle.wave_text.specs.Splits.{HasNone, IsSplit}
 use Rattle.wave_text.proofs.SplitLemmas.{one_split}
 use Rattle.checkpoint_store.specs.declared.error.Fault.{Fault}
 use Rattle.checkpoint_store.specs.declared.numbers.Numbers.{Numbers}
 use Rattle.checkpoint_store.specs.CheckpointTexts.{first_line, numbers_text, count_text, class_text, ended, front_text}
-use Rattle.checkpoint_store.specs.Dues.{Due, First, Counts, Classes, ClassOf, front_dues}
-use Rattle.checkpoint_store.specs.Points.{AreInRange}
-use Rattle.checkpoint_store.specs.Verdicts.{Begins, BeginsWrong, StopsAt, HasFront}
+use Rattle.checkpoint_store.specs.Dues.{Due, ClassOf, front_dues}
+use Rattle.checkpoint_store.specs.Verdicts.{StopsAt, HasFront}
 use Rattle.checkpoint_store.proofs.FormLemmas.{Fits, one_numbers}
 use Rattle.checkpoint_store.proofs.LineLemmas.{IsDeclared, declared, numbers_none, count_none, class_none}
 use Rattle.checkpoint_store.proofs.StopLemmas.{Passes, passes_one, not_passed, one_stop}

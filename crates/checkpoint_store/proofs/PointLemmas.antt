@@ -1,22 +1,19 @@
 -- A start that fits a shape has the shots of a snapshot, and the shots of a snapshot are those of such a start.
-use Rattle.std.proofs.Common.{◌≡◌, ◌≤◌, ◌<◌, ℕ, true, List, [], ◌∷◌, length, map, All, FitsSigned, w64, refl, sym, ap, subst, ◌∙◌, arith}
+use Rattle.std.proofs.Common.{◌≡◌, ◌≤◌, ◌<◌, ℕ, true, List, [], ◌∷◌, length, map, All, refl}
 use Rattle.std.specs.List.{AllByRecursion}
-use Rattle.std.specs.List.Sorted.{IsStrictlySortedBy}
-use Rattle.std.proofs.lemmas.List.{length-map}
 use Rattle.std.proofs.lemmas.List.Elements.{All-from_recursion, recursion_from_All}
 use Rattle.wave_base.specs.declared.finished.Place.{Place}
 use Rattle.wave_base.specs.declared.path.Path.{Path}
-use Rattle.wave_base.specs.declared.path.Step.{Step}
 use Rattle.wave_base.specs.declared.shape.Shape.{Shape}
 use Rattle.wave_base.specs.declared.shot.Shot.{Shot}
 use Rattle.wave_base.specs.declared.start.Start.{Start}
-use Rattle.wave_base.specs.Paths.{path_cmp, parent_of}
+use Rattle.wave_base.specs.Paths.{parent_of}
 use Rattle.wave_base.specs.Shapes.{is_path}
 use Rattle.wave_base.specs.Starts.{IsStart, start_tree, shown_fields}
 use Rattle.wave_base.specs.Tree.{there}
 use Rattle.wave_base.specs.Trees.{HasKinds, FitsShape}
 use Rattle.journal_text.specs.Fits.{HasKeys}
-use Rattle.snapshot_text.specs.Shots.{IsValue, IsShot, AreShots, are_in_order, paths_of}
+use Rattle.snapshot_text.specs.Shots.{IsValue, IsShot, AreShots, paths_of}
 use Rattle.checkpoint_store.proofs.OrderLemmas.{rec_both, rec_weaker, in_order_sorted, in_order_parents, in_order_root, sorted_in_order}
 use Rattle.checkpoint_store.proofs.ShownLemmas.{kinds_shown, shown_kinds, shown_absent}
 

@@ -1,12 +1,12 @@
 -- What is said of a whole text, as the reader comes to it.
-use Rattle.std.proofs.Common.{◌≡◌, ◌≤◌, ◌+◌, ◌⊎◌, inl, inr, ℕ, List, [], length, Result, Ok, Err, sym, ap, subst, ◌∙◌, length-append, arith}
+use Rattle.std.proofs.Common.{◌≡◌, ◌≤◌, ◌+◌, inl, inr, ℕ, List, [], length, Ok, Err, sym, ap, subst, ◌∙◌, length-append, arith}
 use Rattle.wave_base.specs.Memory.{the_refusal}
 use Rattle.wave_base.specs.declared.finished.Place.{Place}
 use Rattle.wave_base.specs.declared.shape.Shape.{Shape}
 use Rattle.wave_base.specs.declared.shot.Shot.{Shot}
 use Rattle.wave_base.specs.Names.{HasNames}
 use Rattle.wave_base.specs.Shapes.{IsShape}
-use Rattle.snapshot_text.specs.Shots.{AreShots, paths_of}
+use Rattle.snapshot_text.specs.Shots.{paths_of}
 use Rattle.snapshot_text.specs.Verdicts.{IsOnlyVerdict as IsOnlySnapshot}
 use Rattle.checkpoint_store.specs.declared.error.CheckError.{CheckError}
 use Rattle.checkpoint_store.specs.declared.error.CheckError.TheVariants as error

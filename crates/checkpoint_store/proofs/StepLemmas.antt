@@ -1,7 +1,6 @@
 -- The line at the front of a text, by what it looks like.
-use Rattle.std.proofs.Common.{◌≡◌, ◌+◌, ◌⊎◌, inl, inr, ℕ, List, [], ◌∷◌, ◌++◌, length, map, refl, sym, ap, subst, ◌∙◌, arith}
+use Rattle.std.proofs.Common.{◌≡◌, ◌+◌, inl, inr, ℕ, List, ◌∷◌, ◌++◌, length, refl, sym, ap, subst, ◌∙◌, arith}
 use Rattle.wave_base.specs.Memory.{the_refusal}
-use Rattle.wave_base.specs.declared.finished.Place.{Place}
 use Rattle.wave_base.specs.declared.path.Path.{Path}
 use Rattle.wave_base.specs.declared.shape.Shape.{Shape}
 use Rattle.wave_text.specs.Splits.{HasNone, IsSplit}
@@ -11,12 +10,9 @@ use Rattle.checkpoint_store.specs.declared.error.CheckError.TheVariants as error
 use Rattle.checkpoint_store.specs.declared.error.Fault.{Fault}
 use Rattle.checkpoint_store.specs.declared.form.Form.{Form}
 use Rattle.checkpoint_store.specs.declared.form.Form.TheVariants as form
-use Rattle.checkpoint_store.specs.declared.numbers.Numbers.{Numbers}
-use Rattle.checkpoint_store.specs.CheckpointTexts.{numbers_text}
 use Rattle.checkpoint_store.specs.Dues.{Due, First, Counts, Classes, ClassOf, PlaceOf, Last, HasForm, IsDue, other, IsFault}
-use Rattle.checkpoint_store.specs.Points.{AreInRange}
 use Rattle.checkpoint_store.specs.Refusals.{refused}
-use Rattle.checkpoint_store.specs.Verdicts.{Begins, BeginsWrong, StopsAt}
+use Rattle.checkpoint_store.specs.Verdicts.{BeginsWrong}
 use Rattle.checkpoint_store.specs.inner.Steps.{HasNoNumbers, HasNoPlace, LooksLike, form_of, other_of, IsFaultBy, BeginsWrongBy, IsRefusal, BeginsOther, IsRefusalBy, IsRefusalFor, StopsWith}
 use Rattle.checkpoint_store.proofs.StopLemmas.{Passes, one_line, stops_behind, stops_here, stops_in}
 

@@ -1,5 +1,5 @@
 -- Lines one after the other: how far they are as they are to be, and that the first that is not is one alone.
-use Rattle.std.proofs.Common.{◌≡◌, ◌≤◌, ◌+◌, ◌⊎◌, inl, inr, ℕ, suc, List, [], ◌∷◌, ◌++◌, length, refl, sym, ap, subst, ◌∙◌, arith}
+use Rattle.std.proofs.Common.{◌≡◌, ◌≤◌, ◌+◌, inl, inr, ℕ, suc, List, [], ◌∷◌, ◌++◌, length, refl, sym, ap, subst, ◌∙◌, arith}
 use Rattle.std.specs.List.{AllByRecursion}
 use Rattle.wave_base.specs.declared.shape.Shape.{Shape}
 use Rattle.wave_base.specs.Names.{HasNames}
@@ -7,7 +7,7 @@ use Rattle.wave_base.specs.Shapes.{IsShape}
 use Rattle.wave_text.specs.Splits.{HasNone, IsSplit}
 use Rattle.wave_text.proofs.SplitLemmas.{one_split, nowhere}
 use Rattle.checkpoint_store.specs.declared.error.Fault.{Fault}
-use Rattle.checkpoint_store.specs.Dues.{Due, IsDue, IsFault, HasForm}
+use Rattle.checkpoint_store.specs.Dues.{Due, IsDue, IsFault}
 use Rattle.checkpoint_store.specs.Verdicts.{Begins, BeginsWrong, StopsAt}
 use Rattle.checkpoint_store.proofs.FormLemmas.{Fits, due_form}
 

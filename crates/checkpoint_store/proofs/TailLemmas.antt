@@ -1,5 +1,5 @@
 -- The lines behind the snapshot: the places, and the last line.
-use Rattle.std.proofs.Common.{◌≡◌, ◌≤◌, ◌<◌, ◌+◌, ◌^◌, ◌⊎◌, inl, inr, ℕ, List, [], ◌∷◌, ◌++◌, length, map, All, refl, sym, ap, subst, ◌∙◌, append_assoc, arith}
+use Rattle.std.proofs.Common.{◌≡◌, ◌≤◌, ◌<◌, ◌^◌, inl, inr, ℕ, List, [], ◌∷◌, ◌++◌, map, refl, sym, ap, subst, ◌∙◌, append_assoc, arith}
 use Rattle.std.specs.Prelude.{codes}
 use Rattle.std.specs.List.{AllByRecursion}
 use Rattle.std.proofs.lemmas.List.Elements.{recursion_from_All}
@@ -8,12 +8,10 @@ use Rattle.wave_base.specs.declared.path.Path.{Path}
 use Rattle.wave_base.specs.declared.shape.Shape.{Shape}
 use Rattle.wave_base.specs.Names.{HasNames}
 use Rattle.wave_base.specs.Shapes.{IsShape}
-use Rattle.wave_text.specs.Splits.{HasNone, IsSplit}
 use Rattle.wave_text.proofs.SplitLemmas.{one_split}
 use Rattle.path_text.specs.Found.{IsPath}
 use Rattle.path_text.specs.PlaceTexts.{place_text}
 use Rattle.checkpoint_store.specs.declared.error.Fault.{Fault}
-use Rattle.checkpoint_store.specs.declared.error.Fault.TheVariants as fault
 use Rattle.checkpoint_store.specs.CheckpointTexts.{ended, tail_text}
 use Rattle.checkpoint_store.specs.Dues.{Due, PlaceOf, Last, tail_dues}
 use Rattle.checkpoint_store.specs.Verdicts.{StopsAt, HasTail, IsWrongTail}

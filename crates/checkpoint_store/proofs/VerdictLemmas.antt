@@ -1,12 +1,10 @@
 -- What is said of a whole text, from what is known of its front, its snapshot and its tail.
-use Rattle.std.proofs.Common.{◌≡◌, ◌≤◌, ◌<◌, ◌+◌, ◌⊎◌, inl, inr, ℕ, List, [], ◌∷◌, ◌++◌, length, map, All, Result, Ok, Err, refl, sym, ap, subst, ◌∙◌, append_assoc, append-nil, arith}
+use Rattle.std.proofs.Common.{◌≡◌, ◌≤◌, ◌<◌, ◌+◌, inl, inr, ℕ, List, [], ◌∷◌, ◌++◌, length, Result, Ok, Err, refl, sym, ap, subst, ◌∙◌, append-nil, arith}
 use Rattle.std.specs.List.{AllByRecursion}
 use Rattle.std.proofs.lemmas.List.Elements.{recursion_from_All}
 use Rattle.wave_base.specs.declared.finished.Place.{Place}
-use Rattle.wave_base.specs.declared.path.Path.{Path}
 use Rattle.wave_base.specs.declared.shape.Shape.{Shape}
 use Rattle.wave_base.specs.declared.shot.Shot.{Shot}
-use Rattle.wave_base.specs.declared.start.Start.{Start}
 use Rattle.wave_base.specs.Names.{HasNames}
 use Rattle.wave_base.specs.Shapes.{IsShape}
 use Rattle.path_text.specs.Found.{IsPath}
@@ -15,7 +13,7 @@ use Rattle.snapshot_text.specs.declared.error.Fault.TheVariants as snapshot
 use Rattle.snapshot_text.specs.declared.error.ShotError.{ShotError}
 use Rattle.snapshot_text.specs.declared.error.ShotError.TheVariants as shot
 use Rattle.snapshot_text.specs.Refusals.{refused as refused_shot}
-use Rattle.snapshot_text.specs.Shots.{IsShot, AreShots, paths_of}
+use Rattle.snapshot_text.specs.Shots.{IsShot, paths_of}
 use Rattle.snapshot_text.specs.SnapshotTexts.{IsSnapshotText, snapshot_text}
 use Rattle.snapshot_text.specs.Verdicts.{IsRefused as IsRefusedSnapshot, IsVerdict as IsSnapshotVerdict, IsOnlyVerdict as IsOnlySnapshot}
 use Rattle.checkpoint_store.specs.declared.error.CheckError.{CheckError}
@@ -31,7 +29,7 @@ use Rattle.checkpoint_store.specs.Refusals.{refused}
 use Rattle.checkpoint_store.specs.Verdicts.{StopsAt, snapshot_part, behind_part, fault_of, HasFront, HasTail, IsWrongTail, IsRefusedShot, IsRefusedTail, IsRefused, IsVerdict, IsOnlyVerdict}
 use Rattle.checkpoint_store.specs.inner.Steps.{moved}
 use Rattle.checkpoint_store.proofs.FrontLemmas.{one_front, front_goes, one_front_stop}
-use Rattle.checkpoint_store.proofs.PartLemmas.{AreParts, part_whole, written_part, tail_begins}
+use Rattle.checkpoint_store.proofs.PartLemmas.{part_whole, written_part, tail_begins}
 use Rattle.checkpoint_store.proofs.TailLemmas.{one_tail, tail_goes, one_wrong_tail}
 
 -- the paths of shots are paths
@@ -109,9 +107,6 @@ module _ (shape : Shape) (is : IsShape shape) (names : HasNames shape) (text : L
 
     same_front : (m : Numbers) (left : List ℕ) → HasFront shape m text left → (m ≡ numbers) × (left ≡ rest)
     same_front m left h = one_front shape is names m numbers text left rest h front
-
-    part : List ℕ
-    part = snapshot_part rest
 
     -- what a snapshot's verdict is, by its fault and its line
     shot_verdict : (f : ShotFault) (n : ℕ) → IsRefusedSnapshot shape (snapshot_part rest) f n → IsSnapshotVerdict shape (snapshot_part rest) (Err (refused_shot f n))

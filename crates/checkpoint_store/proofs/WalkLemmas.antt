@@ -1,15 +1,14 @@
 -- What the reader knows behind the lines that it has gone through.
-use Rattle.std.proofs.Common.{◌≡◌, ◌<◌, ◌≤◌, ◌+◌, ◌⊎◌, inl, inr, ℕ, suc, List, [], ◌∷◌, ◌++◌, length, map, take, drop, get_or, All, refl, sym, ap, subst, ◌∙◌, append_assoc, append-nil, add-one, arith}
+use Rattle.std.proofs.Common.{◌≡◌, ◌<◌, ◌≤◌, ◌+◌, inl, inr, ℕ, List, [], ◌∷◌, ◌++◌, length, map, take, drop, get_or, All, refl, sym, ap, subst, ◌∙◌, append_assoc, append-nil, arith}
 use Rattle.std.specs.Prelude.{codes}
 use Rattle.std.proofs.lemmas.List.{map-append, length-map, length-take-le, take-append-drop, take_more, drop_more, take_all}
 use Rattle.std.proofs.lemmas.List.Elements.{All-nil, All-cons, All-append}
-use Rattle.wave_base.specs.Memory.{the_refusal}
 use Rattle.wave_base.specs.declared.finished.Place.{Place}
 use Rattle.wave_base.specs.declared.path.Path.{Path}
 use Rattle.wave_base.specs.declared.shape.ClassInfo.{ClassInfo}
 use Rattle.wave_base.specs.declared.shape.Shape.{Shape}
 use Rattle.wave_base.specs.declared.shot.Shot.{Shot}
-use Rattle.wave_text.specs.Splits.{HasNone, IsSplit}
+use Rattle.wave_text.specs.Splits.{IsSplit}
 use Rattle.path_text.specs.PlaceTexts.{place_text}
 use Rattle.snapshot_text.specs.Shots.{paths_of}
 use Rattle.checkpoint_store.specs.declared.error.CheckError.{CheckError}
@@ -17,10 +16,9 @@ use Rattle.checkpoint_store.specs.declared.error.CheckError.TheVariants as error
 use Rattle.checkpoint_store.specs.declared.error.Fault.TheVariants as fault
 use Rattle.checkpoint_store.specs.declared.form.Form.TheVariants as form
 use Rattle.checkpoint_store.specs.declared.numbers.Numbers.{Numbers}
-use Rattle.checkpoint_store.specs.CheckpointTexts.{first_line, numbers_text, count_text, class_text, ended, front_text, tail_text}
+use Rattle.checkpoint_store.specs.CheckpointTexts.{first_line, numbers_text, count_text, class_text, ended, front_text}
 use Rattle.checkpoint_store.specs.Dues.{Due, First, Counts, Classes, ClassOf, PlaceOf, Last, IsDue, front_dues, tail_dues}
-use Rattle.checkpoint_store.specs.Refusals.{refused}
-use Rattle.checkpoint_store.specs.Verdicts.{Begins, HasFront, HasTail, IsWrongTail}
+use Rattle.checkpoint_store.specs.Verdicts.{HasFront, HasTail}
 use Rattle.checkpoint_store.specs.inner.Steps.{BeginsWithNumbers, IsPlaceLineOf, HasPlaces, IsRefusal, IsRefusalFor, StopsWith, IsTailRefusal, IsLastRefusal}
 use Rattle.checkpoint_store.proofs.FrontLemmas.{class_dues, classes_text}
 use Rattle.checkpoint_store.proofs.TailLemmas.{place_dues, places_text, paths_in}
@@ -52,9 +50,6 @@ module _ (shape : Shape) where
         ∙ sym (front_whole n r4);
     range = b.numbers.range;
   }
-
-  more_dues : List Due
-  more_dues = class_dues shape.classes
 
   pub stops_first : (text : List ℕ) (e : CheckError) → IsRefusalFor form.Word first_line text 1 e → StopsWith shape 0 (front_dues shape) text 0 e
   stops_first text e r = stops_with shape 0 [] First (Counts ∷ Classes ∷ class_dues shape.classes) text text 0 1 e refl (r shape 0 First refl (λ line h. h)) refl

@@ -1,10 +1,10 @@
 -- What is written, part by part.
-use Rattle.std.proofs.Common.{◌≡◌, ◌++◌, ◌∷◌, [], ℕ, List, refl, sym, ap, ◌∙◌, append_assoc}
+use Rattle.std.proofs.Common.{◌≡◌, ◌++◌, ◌∷◌, [], ℕ, List, ap, ◌∙◌, append_assoc}
 use Rattle.std.specs.Prelude.{codes}
 use Rattle.wave_base.specs.declared.shape.Shape.{Shape}
 use Rattle.snapshot_text.specs.SnapshotTexts.{IsSnapshotText, snapshot_text}
 use Rattle.checkpoint_store.specs.declared.point.Checkpoint.{Checkpoint}
-use Rattle.checkpoint_store.specs.CheckpointTexts.{front_text, tail_text, checkpoint_text, IsCheckpointText}
+use Rattle.checkpoint_store.specs.CheckpointTexts.{front_text, tail_text, IsCheckpointText}
 use Rattle.checkpoint_store.specs.Points.{IsPoint, numbers_of}
 use Rattle.checkpoint_store.proofs.TailLemmas.{places_text}
 

@@ -1,5 +1,5 @@
 -- The lines of a checkpoint, as its reader goes through them.
-use Rattle.std.specs.Prelude.{◌≡◌, ◌<◌, ◌^◌, ◌⊎◌, ◌+◌, ℕ, true, List, [], ◌∷◌, ◌++◌, length, map, All, Option, Some, Err, codes}
+use Rattle.std.specs.Prelude.{◌≡◌, ◌<◌, ◌^◌, ◌⊎◌, ◌+◌, ℕ, true, List, [], ◌++◌, map, All, Option, Some, Err, codes}
 use Rattle.std.specs.Fmt.{decimal}
 use Rattle.wave_base.specs.Memory.{the_refusal}
 use Rattle.wave_base.specs.declared.finished.Place.{Place}

@@ -1,6 +1,5 @@
-use Rattle.std.proofs.Common.{refl, arith, ap, length}
+use Rattle.std.proofs.Common.{refl, arith}
 use Rattle.std.proofs.lemmas.Result.{err_from_is_err_and}
-use Rattle.std.proofs.lemmas.List.{take_all}
 use Rattle.checkpoint_store.proofs.WalkLemmas.{classes_done, class_passed, class_stopped}
 use Rattle.checkpoint_store.proofs.front.read_classes.Goals as goal
 

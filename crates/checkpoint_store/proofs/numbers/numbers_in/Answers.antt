@@ -17,32 +17,32 @@ next_is n h l t o r a f = (let low : n.next < 2 ^ 32 = omega (arith, r.last_next
 pub returns-in_err-hosts : goal.returns-in_err-hosts
 returns-in_err-hosts c n h e =
     let a =
-        numbers_read n h c.args.line.now c.parts_at.result.0.now c.parts_at.result.1.now c.parts_at-2.result.0.now c.parts_at-2.result.1.now c.parts_at-3.result.0.now c.parts_at-3.result.1.now c.parts_at-4.result.0.now c.parts_at-4.result.1.now c.parts_at-5.result.0.now c.parts_at-5.result.1.now
-        c.parts_at.ensures.parts c.parts_at-2.ensures.parts c.parts_at-3.ensures.parts c.parts_at-4.ensures.parts c.parts_at-5.ensures.parts e in
+    numbers_read n h c.args.line.now c.parts_at.result.0.now c.parts_at.result.1.now c.parts_at-2.result.0.now c.parts_at-2.result.1.now c.parts_at-3.result.0.now c.parts_at-3.result.1.now c.parts_at-4.result.0.now c.parts_at-4.result.1.now c.parts_at-5.result.0.now c.parts_at-5.result.1.now
+    c.parts_at.ensures.parts c.parts_at-2.ensures.parts c.parts_at-3.ensures.parts c.parts_at-4.ensures.parts c.parts_at-5.ensures.parts e in
     let found = hosts_are n c.parts_at-2.result.0.now c.parts_at-4.result.0.now c.parts_at-5.result.1.now c.byte_of.result h a c.byte_of.ensures in
     absurd (cc (found, c.in_err-hosts.was))
 
 pub returns-in_err-lines : goal.returns-in_err-lines
 returns-in_err-lines c n h e =
     let a =
-        numbers_read n h c.args.line.now c.parts_at.result.0.now c.parts_at.result.1.now c.parts_at-2.result.0.now c.parts_at-2.result.1.now c.parts_at-3.result.0.now c.parts_at-3.result.1.now c.parts_at-4.result.0.now c.parts_at-4.result.1.now c.parts_at-5.result.0.now c.parts_at-5.result.1.now
-        c.parts_at.ensures.parts c.parts_at-2.ensures.parts c.parts_at-3.ensures.parts c.parts_at-4.ensures.parts c.parts_at-5.ensures.parts e in
+    numbers_read n h c.args.line.now c.parts_at.result.0.now c.parts_at.result.1.now c.parts_at-2.result.0.now c.parts_at-2.result.1.now c.parts_at-3.result.0.now c.parts_at-3.result.1.now c.parts_at-4.result.0.now c.parts_at-4.result.1.now c.parts_at-5.result.0.now c.parts_at-5.result.1.now
+    c.parts_at.ensures.parts c.parts_at-2.ensures.parts c.parts_at-3.ensures.parts c.parts_at-4.ensures.parts c.parts_at-5.ensures.parts e in
     let found = lines_are n c.parts_at-2.result.0.now c.parts_at-4.result.0.now c.parts_at-5.result.1.now c.number_of.result h a c.number_of.ensures in
     absurd (cc (found, c.in_err-lines.was))
 
 pub returns-in_err-next : goal.returns-in_err-next
 returns-in_err-next c n h e =
     let a =
-        numbers_read n h c.args.line.now c.parts_at.result.0.now c.parts_at.result.1.now c.parts_at-2.result.0.now c.parts_at-2.result.1.now c.parts_at-3.result.0.now c.parts_at-3.result.1.now c.parts_at-4.result.0.now c.parts_at-4.result.1.now c.parts_at-5.result.0.now c.parts_at-5.result.1.now
-        c.parts_at.ensures.parts c.parts_at-2.ensures.parts c.parts_at-3.ensures.parts c.parts_at-4.ensures.parts c.parts_at-5.ensures.parts e in
+    numbers_read n h c.args.line.now c.parts_at.result.0.now c.parts_at.result.1.now c.parts_at-2.result.0.now c.parts_at-2.result.1.now c.parts_at-3.result.0.now c.parts_at-3.result.1.now c.parts_at-4.result.0.now c.parts_at-4.result.1.now c.parts_at-5.result.0.now c.parts_at-5.result.1.now
+    c.parts_at.ensures.parts c.parts_at-2.ensures.parts c.parts_at-3.ensures.parts c.parts_at-4.ensures.parts c.parts_at-5.ensures.parts e in
     let found = next_is n c.parts_at-2.result.0.now c.parts_at-4.result.0.now c.parts_at-5.result.1.now c.number_of-2.result h a c.number_of-2.ensures in
     absurd (cc (found, c.in_err-next.was))
 
 pub returns : goal.returns
 returns c n h e =
     let a =
-        numbers_read n h c.args.line.now c.parts_at.result.0.now c.parts_at.result.1.now c.parts_at-2.result.0.now c.parts_at-2.result.1.now c.parts_at-3.result.0.now c.parts_at-3.result.1.now c.parts_at-4.result.0.now c.parts_at-4.result.1.now c.parts_at-5.result.0.now c.parts_at-5.result.1.now
-        c.parts_at.ensures.parts c.parts_at-2.ensures.parts c.parts_at-3.ensures.parts c.parts_at-4.ensures.parts c.parts_at-5.ensures.parts e in
+    numbers_read n h c.args.line.now c.parts_at.result.0.now c.parts_at.result.1.now c.parts_at-2.result.0.now c.parts_at-2.result.1.now c.parts_at-3.result.0.now c.parts_at-3.result.1.now c.parts_at-4.result.0.now c.parts_at-4.result.1.now c.parts_at-5.result.0.now c.parts_at-5.result.1.now
+    c.parts_at.ensures.parts c.parts_at-2.ensures.parts c.parts_at-3.ensures.parts c.parts_at-4.ensures.parts c.parts_at-5.ensures.parts e in
     let hosts = hosts_are n c.parts_at-2.result.0.now c.parts_at-4.result.0.now c.parts_at-5.result.1.now c.byte_of.result h a c.byte_of.ensures in
     let lines = lines_are n c.parts_at-2.result.0.now c.parts_at-4.result.0.now c.parts_at-5.result.1.now c.number_of.result h a c.number_of.ensures in
     let next = next_is n c.parts_at-2.result.0.now c.parts_at-4.result.0.now c.parts_at-5.result.1.now c.number_of-2.result h a c.number_of-2.ensures in

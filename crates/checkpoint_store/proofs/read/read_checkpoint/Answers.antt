@@ -1,6 +1,5 @@
-use Rattle.std.proofs.Common.{◌≡◌, ◌+◌, ◌≤◌, ◌∙◌, length, sym, ap, subst, All, arith}
+use Rattle.std.proofs.Common.{◌+◌, ◌≤◌, length, sym, ap, subst, All, arith}
 use Rattle.std.proofs.lemmas.Result.{err_from_is_err_and}
-use Rattle.wave_base.specs.declared.shot.Shot.{Shot}
 use Rattle.snapshot_text.specs.Shots.{IsShot}
 use Rattle.checkpoint_store.proofs.ReadLemmas.{front_said, shots_said, tail_said, point_fits, point_said, part_low, moved_tail, moved_places}
 use Rattle.checkpoint_store.proofs.read.read_checkpoint.Goals as goal
@@ -52,19 +51,19 @@ returns-in_err-places-clause-verdict c =
     let p = err_from_is_err_and c.from_residual-in_err-places.result c.from_residual-in_err-places.ensures.1 in
     rw (p.1, p.2)
     (tail_said c.args.shape.now c.requires.shape c.requires.names c.args.text.now c.in_ok-numbers.numbers c.in_ok-numbers.rest.now c.in_ok-numbers.ensures.ok c.snapshot_parts.result.0.now c.snapshot_parts.ensures.part c.in_ok-shots.shots c.in_ok-shots.ensures.ok c.snapshot_parts.result.1.now c.snapshot_parts.ensures.behind
-        (3 + c.len.result + 1 + c.len-2.result) (λ i. 3 + c.len.ensures i + 1 + c.len-2.ensures i) c.in_err-places.field-0.0
-        (moved_tail c.args.shape.now c.in_ok-numbers.numbers.hosts c.in_ok-shots.shots c.as_slice.result.now c.snapshot_parts.result.1.now (3 + c.len.result + 1 + c.len-2.result) c.in_err-places.field-0.0 c.as_slice.ensures c.in_err-places.ensures.err))
+    (3 + c.len.result + 1 + c.len-2.result) (λ i. 3 + c.len.ensures i + 1 + c.len-2.ensures i) c.in_err-places.field-0.0
+    (moved_tail c.args.shape.now c.in_ok-numbers.numbers.hosts c.in_ok-shots.shots c.as_slice.result.now c.snapshot_parts.result.1.now (3 + c.len.result + 1 + c.len-2.result) c.in_err-places.field-0.0 c.as_slice.ensures c.in_err-places.ensures.err))
 
 pub returns-clause-verdict : goal.returns-clause-verdict
 returns-clause-verdict c =
     let few : length c.in_ok-shots.shots ≤ 1000000000 =
-        omega (arith, c.requires.short, c.in_ok-shots.ensures.shorter, part_low c.args.shape.now c.in_ok-numbers.numbers c.args.text.now c.in_ok-numbers.rest.now c.snapshot_parts.result.0.now c.in_ok-numbers.ensures.ok c.snapshot_parts.ensures.part) in
+    omega (arith, c.requires.short, c.in_ok-shots.ensures.shorter, part_low c.args.shape.now c.in_ok-numbers.numbers c.args.text.now c.in_ok-numbers.rest.now c.snapshot_parts.result.0.now c.in_ok-numbers.ensures.ok c.snapshot_parts.ensures.part) in
     point_said c.args.shape.now c.requires.shape c.requires.names c.args.text.now c.in_ok-numbers.numbers c.in_ok-numbers.rest.now c.in_ok-numbers.ensures.ok c.snapshot_parts.result.0.now c.snapshot_parts.ensures.part c.in_ok-shots.shots c.in_ok-shots.ensures.ok c.snapshot_parts.result.1.now c.snapshot_parts.ensures.behind c.in_ok-places.places
     (moved_places c.args.shape.now c.in_ok-numbers.numbers.hosts c.in_ok-shots.shots c.as_slice.result.now c.in_ok-places.places c.snapshot_parts.result.1.now c.as_slice.ensures c.in_ok-places.ensures.ok) few
 
 pub returns-clause-fits : goal.returns-clause-fits
 returns-clause-fits c =
     let few : length c.in_ok-shots.shots ≤ 1000000000 =
-        omega (arith, c.requires.short, c.in_ok-shots.ensures.shorter, part_low c.args.shape.now c.in_ok-numbers.numbers c.args.text.now c.in_ok-numbers.rest.now c.snapshot_parts.result.0.now c.in_ok-numbers.ensures.ok c.snapshot_parts.ensures.part) in
+    omega (arith, c.requires.short, c.in_ok-shots.ensures.shorter, part_low c.args.shape.now c.in_ok-numbers.numbers c.args.text.now c.in_ok-numbers.rest.now c.snapshot_parts.result.0.now c.in_ok-numbers.ensures.ok c.snapshot_parts.ensures.part) in
     point_fits c.args.shape.now c.requires.shape c.requires.names c.args.text.now c.in_ok-numbers.numbers c.in_ok-numbers.rest.now c.in_ok-numbers.ensures.ok c.snapshot_parts.result.0.now c.snapshot_parts.ensures.part c.in_ok-shots.shots c.in_ok-shots.ensures.ok c.snapshot_parts.result.1.now c.snapshot_parts.ensures.behind c.in_ok-places.places
     (moved_places c.args.shape.now c.in_ok-numbers.numbers.hosts c.in_ok-shots.shots c.as_slice.result.now c.in_ok-places.places c.snapshot_parts.result.1.now c.as_slice.ensures c.in_ok-places.ensures.ok) few

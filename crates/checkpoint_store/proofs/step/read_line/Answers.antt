@@ -1,4 +1,4 @@
-use Rattle.std.proofs.Common.{◌≡◌, rules}
+use Rattle.std.proofs.Common.{rules}
 use Rattle.checkpoint_store.proofs.StepLemmas.{open_refused, line_refused}
 use Rattle.checkpoint_store.proofs.step.read_line.Goals as goal
 

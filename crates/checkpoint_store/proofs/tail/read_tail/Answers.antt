@@ -1,8 +1,6 @@
-use Rattle.std.proofs.Common.{◌≡◌, ◌+◌, ◌≤◌, ◌∷◌, [], List, IfSome, IfNone, length, inl, refl, sym, ap, subst, ◌∙◌, arith}
-use Rattle.std.proofs.lemmas.List.Elements.{All-head}
+use Rattle.std.proofs.Common.{◌+◌, ◌≤◌, [], List, IfSome, IfNone, length, inl, refl, sym, ap, subst, arith}
 use Rattle.std.proofs.lemmas.Result.{err_from_is_err_and}
 use Rattle.wave_base.specs.declared.finished.Place.{Place}
-use Rattle.path_text.specs.Found.{IsPath}
 use Rattle.snapshot_text.specs.Shots.{IsShot}
 use Rattle.checkpoint_store.specs.Dues.{PlaceOf}
 use Rattle.checkpoint_store.specs.inner.Steps.{IsPlaceLineOf, HasNoPlace, HasPlaces}
@@ -41,7 +39,7 @@ pub returns-in-None-clause-err : goal.returns-in-None-clause-err
 returns-in-None-clause-err c =
     place_stops c.args.shape.now c.args.hosts c.args.shots.now c.loop-shot.shot-index c.shot-item.result c.args.text.now c.loop-shot.rest.now c.args.before (c.loop-shot.number + 1) c.refusal-in-None.result c.loop-shot-test.true c.shot-item.is c.loop-shot.invariant.passed (ap (λ n. n + 1) c.loop-shot.invariant.number)
     (place_refused c.args.shape.now c.args.hosts c.shot-item.result.path c.loop-shot.rest.now c.in-Some.line.now c.in-Some.after.now (c.loop-shot.number + 1) c.refusal-in-None.result c.in-Some.ensures.some
-        (subst (λ o. IfNone o (HasNoPlace c.args.shape.now c.args.hosts c.shot-item.result.path c.in-Some.line.now)) c.in-None.is c.in_ok-place.ensures.none) c.refusal-in-None.ensures)
+    (subst (λ o. IfNone o (HasNoPlace c.args.shape.now c.args.hosts c.shot-item.result.path c.in-Some.line.now)) c.in-None.is c.in_ok-place.ensures.none) c.refusal-in-None.ensures)
 
 pub loop-shot-preserved : goal.loop-shot-preserved
 loop-shot-preserved c =

@@ -1,8 +1,7 @@
-use Rattle.std.proofs.Common.{◌≡◌, ◌++◌, ◌∷◌, [], ℕ, List, All, refl, sym, ap, subst, ◌∙◌, append_assoc}
-use Rattle.std.specs.Prelude.{codes}
+use Rattle.std.proofs.Common.{◌++◌, List, All, ap, subst, ◌∙◌}
 use Rattle.wave_base.specs.declared.shot.Shot.{Shot}
 use Rattle.journal_text.specs.Fits.{HasKeys}
-use Rattle.snapshot_text.specs.Shots.{IsValue, AreShots}
+use Rattle.snapshot_text.specs.Shots.{IsValue}
 use Rattle.checkpoint_store.proofs.PointLemmas.{are_shots}
 use Rattle.checkpoint_store.proofs.TailLemmas.{places_text}
 use Rattle.checkpoint_store.proofs.WriteLemmas.{all_written}
