@@ -1,7 +1,6 @@
 -- Small cases of what policies ask for.
 use Rattle.std.proofs.Common.{◌≡◌, ℕ, pos, List, [], ◌∷◌, refl}
 use Rattle.wave_base.specs.declared.finished.Place.{Place}
-use Rattle.wave_base.specs.declared.path.Path.{Path}
 use Rattle.wave_base.specs.declared.policy.Policy.TheVariants.{Balance, Drain}
 use Rattle.wave_base.specs.declared.script.Line.{Line}
 use Rattle.wave_base.specs.declared.script.Line.TheVariants.{Move}

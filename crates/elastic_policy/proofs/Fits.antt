@@ -1,6 +1,6 @@
 -- What a policy asks for are moves of the contexts that are there, and a drain leaves nothing where it drains.
-use Rattle.std.proofs.Common.{◌≡◌, ◌≢◌, ◌≤◌, ◌<◌, ◌+◌, ◌-◌, ℕ, zero, suc, Bool, true, false, cond, ◌||◌, ◌==◌, nat_lt, List, [], ◌∷◌, ◌++◌, map, length, get_or, take, All, count_by, Option, Some, None, refl, ap, sym, subst, ◌∙◌, arith}
-use Rattle.std.specs.List.{AllByRecursion, Contains, zip, filter, find, list_any}
+use Rattle.std.proofs.Common.{◌≡◌, ◌≢◌, ◌≤◌, ◌<◌, ℕ, zero, suc, Bool, true, false, cond, ◌||◌, ◌==◌, List, [], ◌∷◌, map, length, take, All, count_by, Some, None, refl, ap, sym, subst, ◌∙◌, arith}
+use Rattle.std.specs.List.{AllByRecursion, Contains, zip, filter, list_any}
 use Rattle.std.proofs.lemmas.Bool.{ne_eqb, true≢false, false≢true, false_from_ne_true}
 use Rattle.std.proofs.lemmas.List.{take_all, length-take, length-map}
 use Rattle.std.proofs.lemmas.List.Elements.{All-from_recursion, recursion_from_All, All-take, Contains-get_or}
@@ -14,9 +14,9 @@ use Rattle.wave_base.specs.Paths.{path_eq}
 use Rattle.wave_base.specs.PathLaws.{path_eq_equiv}
 use Rattle.elastic_policy.specs.Moves.{is_on, load_on, lightest, mover, may_go, heaviest, spread, on_host, sent, move_to, balance, drain, placed}
 use Rattle.elastic_policy.specs.MoveFacts.{IsMoveOf, FitsScript}
-use Rattle.elastic_policy.specs.inner.Turns.{under_way, drained_moves}
+use Rattle.elastic_policy.specs.inner.Turns.{drained_moves}
 use Rattle.elastic_policy.proofs.Firsts.{least_below}
-use Rattle.elastic_policy.proofs.Sent.{paths_of, AreApart, found_path, paths_sent}
+use Rattle.elastic_policy.proofs.Sent.{paths_of, found_path, paths_sent}
 use Rattle.elastic_policy.proofs.Even.{balance-none, balance-some}
 use Rattle.elastic_policy.proofs.Turns.{Paired, paths_under, under_start}
 

@@ -8,3 +8,4 @@ pub mod Fits
 pub mod Policies
 pub mod Examples
 pub mod InTree
+pub mod StageLemmas

@@ -1,5 +1,5 @@
 -- The loads of hosts.
-use Rattle.std.proofs.Common.{◌≡◌, ◌≢◌, ◌≤◌, ◌<◌, ◌+◌, ℕ, length, take, drop, get_or, Bool, true, false, cond, ◌==◌, List, [], ◌∷◌, ◌++◌, map, sum, refl, ap, sym, subst, ◌∙◌, arith}
+use Rattle.std.proofs.Common.{◌≡◌, ◌≢◌, ◌≤◌, ◌<◌, ◌+◌, ℕ, length, take, drop, get_or, Bool, true, false, cond, ◌==◌, List, [], ◌∷◌, ◌++◌, map, sum, refl, ap, sym, ◌∙◌, arith}
 use Rattle.std.specs.List.{zip}
 use Rattle.std.proofs.Math.ListN.{set}
 use Rattle.std.proofs.lemmas.Bool.{eq-eqb, eqb-true, eqb-false}

@@ -9,7 +9,7 @@ use Rattle.wave_base.specs.declared.policy.Policy.TheVariants.{Balance, Drain}
 use Rattle.wave_base.specs.declared.script.Line.{Line}
 use Rattle.wave_base.specs.Paths.{path_cmp}
 use Rattle.wave_base.specs.Scripts.{IsPolicy}
-use Rattle.elastic_policy.specs.Moves.{balance, drain, moves_of}
+use Rattle.elastic_policy.specs.Moves.{balance, moves_of}
 use Rattle.elastic_policy.specs.MoveFacts.{FitsScript, IsEven, IsDrained}
 use Rattle.elastic_policy.specs.inner.Turns.{drained_moves}
 use Rattle.elastic_policy.proofs.Even.{balance_even}

@@ -1,3 +1,4 @@
 pub mod Moves
 pub mod MoveFacts
+pub mod Stages
 pub mod inner

@@ -2,7 +2,9 @@
 #![tactic(auto)]
 
 mod plan;
+mod stages;
 mod sums;
 mod turn;
 
 pub use plan::plan_moves;
+pub use stages::Stages;

@@ -1,11 +1,11 @@
-use Rattle.std.proofs.Common.{◌≡◌, ◌≤◌, ◌<◌, ℕ, List, ◌∷◌, [], ◌++◌, length, get_or, Some, None, refl, ap, sym, subst, ◌∙◌, arith, rules}
+use Rattle.std.proofs.Common.{ℕ, List, length, get_or, ap, sym, ◌∙◌, arith}
 use Rattle.std.proofs.Math.ListN.{length-set}
 use Rattle.std.proofs.lemmas.List.{length-map}
 use Rattle.std.specs.List.{zip}
 use Rattle.wave_base.specs.declared.finished.Place.{Place}
 use Rattle.wave_base.specs.declared.numbers.Host.{Host}
-use Rattle.elastic_policy.specs.Moves.{load_on, balance}
-use Rattle.elastic_policy.specs.inner.Turns.{next_index, under_way}
+use Rattle.elastic_policy.specs.Moves.{load_on}
+use Rattle.elastic_policy.specs.inner.Turns.{next_index}
 use Rattle.elastic_policy.proofs.Balances.{is_under_way, start_is, start_rest, turn_leaves, turn_fits, turn_sums, turn_written, turn_over}
 use Rattle.elastic_policy.proofs.plan.balanced.Goals as goal
 

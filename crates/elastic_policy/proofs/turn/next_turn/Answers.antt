@@ -1,5 +1,5 @@
-use Rattle.std.proofs.Common.{◌≡◌, ◌≤◌, ◌<◌, ℕ, get_or, ap, arith}
-use Rattle.elastic_policy.proofs.Firsts.{greatest_below, least_below, least_is}
+use Rattle.std.proofs.Common.{get_or, arith}
+use Rattle.elastic_policy.proofs.Firsts.{greatest_below, least_below}
 use Rattle.elastic_policy.proofs.turn.next_turn.Goals as goal
 
 pub bounds-sums-from : goal.bounds-sums-from
