@@ -1,5 +1,5 @@
-use Rattle.std.proofs.Common.{◌∙◌, ap, subst, take}
-use Rattle.std.specs.Prelude.{◌↔◌, IsTrue, min}
+use Rattle.std.proofs.Common.{length, refl, subst, take}
+use Rattle.std.specs.Prelude.{◌↔◌, IsTrue}
 use Rattle.std.proofs.Math.Seq.{take-length}
 use Rattle.wave_base.specs.Starts.{first_start}
 use Rattle.wave_states.specs.Runs.{Finished}
@@ -17,19 +17,19 @@ returns-clause-only c =
     let p = plan_of c.args.plan.now in
     let start = first_start p.program.shape in
     let journal = c.args.journal.now in
-    let count = c.len-count.result in
+    let count = length journal in
     let shown = c.min-shown.result in
     let seen : IsWalking p (take shown journal) c.go.new.self = c.in_ok-go.ensures.walking in
     let done : IsWalking p (take count journal) c.go-2.new.self = c.in_ok-go-2.ensures.walking in
     let r : Replayed = record { steps = count; finished = c.finished.result; shown = shown; glance = c.in_ok-glance.glance } in
-    let whole : LeadsTo p journal done.state = subst (λ ls. LeadsTo p ls done.state) (ap (λ n. take n journal) c.len-count.ensures ∙ take-length journal) done.run in
+    let whole : LeadsTo p journal done.state = subst (λ ls. LeadsTo p ls done.state) (take-length journal) done.run in
     let ended = subst (λ (q : Plan). IsTrue c.finished.result ↔ Finished (plan_actors q.program) q.workers done.state) done.same (c.finished.ensures start done.state done.under.stands) in
     let h : IsReplay p journal c.args.show r = record {
-      steps = c.len-count.ensures;
+      steps = refl;
       last = done.state;
       run = whole;
       finished = ended;
-      shown = c.min-shown.ensures ∙ ap (min c.args.show) c.len-count.ensures;
+      shown = c.min-shown.ensures;
       state = seen.state;
       seen = seen.run;
       glance = c.in_ok-glance.ensures start seen.state seen.under.stands;
