@@ -1,9 +1,6 @@
 use Rattle.eventwave.proofs.ListedLemmas.{is_ran, run_fails, run_gives, run_wants}
 use Rattle.eventwave.proofs.listed.run_work.Goals as goal
 
-pub run_plan_at-requires-clause-fits : goal.run_plan_at-requires-clause-fits
-run_plan_at-requires-clause-fits g c κs within = c.into_plan-plan.ensures.code.fits
-
 pub write_rest-requires : goal.write_rest-requires
 write_rest-requires g c =
     let e = c.into_plan-plan.ensures in

@@ -6,6 +6,12 @@ use Rattle.eventwave.specs.inner.Tasks.{rest_with}
 use Rattle.eventwave.proofs.ListedLemmas.{end_broken, end_same, journal_broken}
 use Rattle.eventwave.proofs.listed.write_behind.Goals as goal
 
+pub last_ticket-requires-clause-some : goal.last_ticket-requires-clause-some
+last_ticket-requires-clause-some g c = c.requires.begins.first_next
+
+pub last_ticket-requires-clause-few : goal.last_ticket-requires-clause-few
+last_ticket-requires-clause-few g c = c.requires.few
+
 pub returns-in_err-write_end-clause-err : goal.returns-in_err-write_end-clause-err
 returns-in_err-write_end-clause-err g c =
     let old = g.K.Sink.written c.args.out.now in
