@@ -1,6 +1,4 @@
 ghost use Rattle.std.specs.Prelude.{◌≡◌, ◌++◌, IfOk, OnOk, map};
-ghost use Rattle.wave_base.specs.Names.{HasNames};
-ghost use Rattle.wave_base.specs.Shapes.{IsShape};
 ghost use Rattle.path_text.specs.PlaceTexts.{place_text};
 ghost use Rattle.checkpoint_store.specs.CheckpointTexts.{ended, class_text, front_text, tail_text, IsCheckpointText};
 ghost use Rattle.checkpoint_store.specs.Points.{IsPoint};
@@ -64,9 +62,7 @@ pub fn write_checkpoint(
     shape: &Shape,
     point: &Checkpoint,
 ) -> Result<Seq<u8>, OutOfMemory>
-    requires shape { IsShape shape.now }
-    requires names { HasNames shape.now }
-    requires point { IsPoint shape.now point.now }
+    requires { IsPoint shape.now point.now }
     ensures { IfOk result (λ text. IsCheckpointText shape.now text point.now) }
 {
     values_fit(point.start.shots.as_slice());
