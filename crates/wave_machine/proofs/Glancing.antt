@@ -1,12 +1,12 @@
 -- A glance: what is gathered of the stores and the mails is what the state has.
-use Rattle.std.proofs.Common.{◌≡◌, ◌∙◌, ◌⊎◌, inl, inr, ℕ, zero, suc, ◌+◌, ◌-◌, ◌≤◌, ◌^◌, true, List, [], ◌∷◌, length, map, Option, Some, None, is_some, refl, sym, ap, subst, true≢false, arith}
+use Rattle.std.proofs.Common.{◌≡◌, ◌∙◌, ◌⊎◌, inl, inr, ℕ, zero, suc, ◌+◌, ◌-◌, ◌<◌, ◌≤◌, ◌^◌, ◌||◌, true, List, [], ◌∷◌, length, map, Option, Some, None, is_some, refl, sym, ap, subst, true≢false, arith}
 use Rattle.std.specs.FinMap as table
 use Rattle.std.specs.Prelude.{slice_get, All}
 use Rattle.std.specs.List.{AllByRecursion, list_any}
 use Rattle.std.specs.List.Sorted.{IsStrictlySortedBy}
 use Rattle.std.specs.Map.{keys_of}
 use Rattle.std.specs.Ordering.{nat_cmp}
-use Rattle.std.specs.declared.cmp.Ordering.TheVariants.{Less}
+use Rattle.std.specs.declared.cmp.Ordering.TheVariants.{Less, Equal, Greater}
 use Rattle.std.proofs.lemmas.Grind.{common_steps}
 use Rattle.std.proofs.lemmas.List.Elements.{All-weaker}
 use Rattle.std.proofs.lemmas.Map.Entries.{place_from_lookup}
@@ -19,18 +19,19 @@ use Rattle.wave_base.specs.Fold.{Head}
 use Rattle.wave_base.specs.Paths.{path_cmp, path_eq}
 use Rattle.wave_base.specs.PathLaws.{path_eq_equiv}
 use Rattle.context_queue.specs.declared.entry.Entry.{Entry}
+use Rattle.context_queue.specs.Entries.{StandsFor}
 use Rattle.host_map.specs.Stores.{Stores, Matches, has}
 use Rattle.migration_core.specs.declared.mail.Letter.{Letter}
 use Rattle.migration_core.specs.declared.mail.Letter.TheVariants as letter
 use Rattle.migration_core.specs.Letters.{Says}
 use Rattle.event_cells.specs.declared.cell.Cell.{Cell}
 use Rattle.event_cells.specs.declared.outbox.Envelope.{Envelope}
-use Rattle.event_cells.specs.Cells.{Carries}
+use Rattle.event_cells.specs.Cells.{Carries, IsEnvelope}
 use Rattle.event_cells.specs.Keeps.{mail_in}
-use Rattle.wave_states.specs.Owners.{IsOwner}
+use Rattle.wave_states.specs.Owners.{IsComing, IsOwner}
 use Rattle.wave_states.specs.States as theory
 use Rattle.wave_theory.specs.Listed.{IsIn}
-use Rattle.wave_theory.proofs.Basics.{none_not, options}
+use Rattle.wave_theory.proofs.Basics.{none_not, options, some_same}
 use Rattle.wave_theory.proofs.Paths.{or_left, or_right}
 use Rattle.plan_actors.specs.Finishing.{path_of}
 use Rattle.plan_actors.specs.PlanActors.{plan_kind}
@@ -41,7 +42,7 @@ use Rattle.wave_machine.specs.declared.glance.Glance.{Glance}
 use Rattle.wave_machine.specs.Glances.{IsGlance}
 use Rattle.wave_machine.specs.Machines.{IsCell, Kept, Known, Shows, Stands, TheState}
 use Rattle.wave_machine.specs.inner.Endings.{IsThere}
-use Rattle.wave_machine.specs.inner.Owned.{IsCarried, IsOldOr, IsOwnPlace, IsSent, carried_by, carried_in, with_place}
+use Rattle.wave_machine.specs.inner.Owned.{IsCarried, IsKeptAt, IsOldOr, IsOwnPlace, IsSent, carried_by, carried_in, with_place}
 use Rattle.wave_machine.proofs.Collecting.{all_inserted, insert_keys}
 use Rattle.wave_machine.proofs.Ending.{some_at}
 use Rattle.wave_machine.proofs.Headings.{Heads}

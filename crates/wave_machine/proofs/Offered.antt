@@ -1,5 +1,5 @@
 -- Whether a label can be taken: by an idle worker where it is in the list, and by another one where it is the Stop of what that has out.
-use Rattle.std.proofs.Common.{◌≡◌, ◌∙◌, inl, inr, ℕ, ◌&&◌, ◌==◌, true, false, List, [], ◌∷◌, map, Option, Some, None, is_none, is_some, refl, sym, ap, subst, true≢false, arith}
+use Rattle.std.proofs.Common.{◌≡◌, ◌∙◌, inl, inr, ℕ, ◌<◌, ◌&&◌, ◌==◌, Bool, true, false, List, [], ◌∷◌, map, Option, Some, None, is_none, is_some, refl, sym, ap, subst, true≢false, arith}
 use Rattle.std.specs.FinMap as table
 use Rattle.std.specs.Prelude.{◌↔◌, if◌then◌else◌, option_map, slice_get}
 use Rattle.wave_base.specs.declared.path.Path.{Path}
@@ -8,7 +8,7 @@ use Rattle.wave_base.specs.Paths.{path_eq}
 use Rattle.wave_base.specs.PathLaws.{path_eq_equiv}
 use Rattle.host_map.specs.Stores.{Stores}
 use Rattle.wave_labels.specs.declared.label.Label as program
-use Rattle.wave_labels.specs.Labels.{label_of}
+use Rattle.wave_labels.specs.Labels.{act_of, label_of}
 use Rattle.wave_states.specs.Actors.{Actors}
 use Rattle.wave_states.specs.Canonical.{enabled_for}
 use Rattle.wave_states.specs.Labels.{Act, Label, Admit, Queue, Grant, Visit, Start as Begin, Stop, Free, Pass, Land, Commit, is_stop, path_of, ticket_of}
@@ -35,6 +35,7 @@ use Rattle.wave_machine.proofs.Glancing.{matched, there_is}
 use Rattle.wave_machine.proofs.Halves.{InOrder, Rises, in_order_too}
 use Rattle.wave_machine.proofs.ListingOwn.{past_lists}
 use Rattle.wave_machine.proofs.Reached.{has_it, host_is}
+use Rattle.wave_machine.proofs.StoreParts.{TheEntry}
 
 -- ---- a worker that has a segment out takes its Stop alone
 

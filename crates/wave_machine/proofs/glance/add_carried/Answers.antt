@@ -4,6 +4,7 @@ use Rattle.std.specs.Map.{keys_of}
 use Rattle.std.specs.Prelude.{slice_get}
 use Rattle.std.proofs.lemmas.Bool.{cases_lt}
 use Rattle.std.proofs.lemmas.Option.{slice_get_read, slice_get_within}
+use Rattle.wave_base.specs.declared.finished.Place.{Place}
 use Rattle.wave_base.specs.declared.numbers.Host.{Host}
 use Rattle.wave_base.specs.declared.path.Path.{Path}
 use Rattle.wave_base.specs.Paths.{path_eq}
@@ -25,6 +26,9 @@ loop-mail-preserved c = record {
   kept = λ p e. there p (still_there p c.loop-mail.hosts.entries (carried_in c.mail-item.result.1) (c.loop-mail.invariant.kept p e));
 }
   where
+
+
+
     at : slice_get c.as_slice-mails.result.now c.loop-mail.mail-index ≡ Some c.mail-item.result
     at = slice_get_read c.as_slice-mails.result.now _ c.loop-mail.mail-index c.mail-item.result refl c.loop-mail-test.true c.mail-item.is
 

@@ -1,6 +1,11 @@
-use Rattle.std.proofs.Common.{◌∙◌, sym, subst, true≢false}
-use Rattle.wave_theory.specs.Listed.{IsIn}
+use Rattle.std.proofs.Common.{◌≡◌, ◌∙◌, true, false, List, Some, None, length, map, sym, ap, subst, true≢false}
+use Rattle.std.specs.Prelude.{slice_get}
+use Rattle.wave_labels.specs.Labels.{act_of}
+use Rattle.wave_states.specs.Labels.{Label, ticket_of}
+use Rattle.wave_theory.specs.Listed.{IsIn, kind_of}
 use Rattle.wave_theory.proofs.Basics.{none_not, some_same}
+use Rattle.wave_machine.specs.declared.ready.Ready.{Ready}
+use Rattle.wave_machine.specs.inner.Index.{Parted, by_none, number_of}
 use Rattle.wave_machine.proofs.Bridged.{in_place}
 use Rattle.wave_machine.proofs.Halves.{place_as, place_found, ready_itself, ready_same}
 use Rattle.wave_machine.proofs.takeable.has.Goals as goal
