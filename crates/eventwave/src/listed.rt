@@ -68,12 +68,7 @@ fn write_rest<K: Sink>(alloc: Global, task: Task, ran: &Ran, out: &mut K) -> End
 }
 
 // Writes the end of a listing, and what stands behind it.
-fn write_behind<K: Sink>(
-    alloc: Global,
-    task: Task,
-    ran: &Ran,
-    out: &mut K,
-) -> Result<(), ListError>
+fn write_behind<K: Sink>(alloc: Global, task: Task, ran: &Ran, out: &mut K) -> Result<(), ListError>
     requires { IsRanBy ran.now }
     ensures ok { OnOk result (Appends (K.written out.old) (K.written out.new) (rest_text task ran.now.plan.program.shape ran.now.start.next.0 ran.now.done ran.now.journal)) }
     ensures err { OnErr result (AppendsFront (K.written out.old) (K.written out.new) (rest_text task ran.now.plan.program.shape ran.now.start.next.0 ran.now.done ran.now.journal)) }
@@ -82,7 +77,13 @@ fn write_behind<K: Sink>(
 {
     let shape = &ran.plan.program.program().shape;
     let places = places_of(&ran.done, task.places);
-    write_end(alloc, out, shape, places, last_ticket(ran.start.next, &ran.done))?;
+    write_end(
+        alloc,
+        out,
+        shape,
+        places,
+        last_ticket(ran.start.next, &ran.done),
+    )?;
     match task.behind {
         Behind::Nothing => Ok(()),
         Behind::Journal => write_run(alloc, ran, out),

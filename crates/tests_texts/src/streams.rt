@@ -89,7 +89,10 @@ fn written_through(alloc: Global, bytes: &[u8]) -> Result<Vec<u8>, Failed>
 #[test]
 fn the_standard_adapters_pass_all_bytes_on(rt: HostRuntime) -> Result<(), Fail> {
     let alloc = rt.alloc();
-    assert_eq!(rt; read_through(alloc, b"hello")?.as_slice(), b"hello".as_slice());
+    assert_eq!(rt;
+        read_through(alloc, b"hello")?.as_slice(),
+        b"hello".as_slice()
+    );
     match written_through(alloc, b"hello") {
         Ok(out) => assert_eq!(rt; out.as_slice(), b"hello".as_slice()),
         Err(Failed) => panic!(rt; "a fault"),

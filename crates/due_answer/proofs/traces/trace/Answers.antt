@@ -13,9 +13,12 @@ pub journal_of-requires-clause-run : goal.journal_of-requires-clause-run
 journal_of-requires-clause-run c =
     let plan = plan_of c.into_plan-plan.result.0 in
     let start = c.into_plan-plan.result.1 in
-    let e = c.into_plan-plan.ensures in
-    (start, e.begins, finished c.rules_pick.ensures c.plans_drive.ensures c.args.work c.args.crew plan start
-    (record { program = e.program; script = e.script; as_many = e.workers; begin_is = e.start; code = e.code; begins = e.begins }) c.rule_for.result c.in_ok-done.journal c.in_ok-done.ensures.driven)
+    let e = c.into_plan-plan.ensures in (
+      start,
+      e.begins,
+      finished c.rules_pick.ensures c.plans_drive.ensures c.args.work c.args.crew plan start
+          (record { program = e.program; script = e.script; as_many = e.workers; begin_is = e.start; code = e.code; begins = e.begins }) c.rule_for.result c.in_ok-done.journal c.in_ok-done.ensures.driven,
+    )
 
 pub returns : goal.returns
 returns c =

@@ -26,9 +26,6 @@ loop-mail-preserved c = record {
   kept = λ p e. there p (still_there p c.loop-mail.hosts.entries (carried_in c.mail-item.result.1) (c.loop-mail.invariant.kept p e));
 }
   where
-
-
-
     at : slice_get c.as_slice-mails.result.now c.loop-mail.mail-index ≡ Some c.mail-item.result
     at = slice_get_read c.as_slice-mails.result.now _ c.loop-mail.mail-index c.mail-item.result refl c.loop-mail-test.true c.mail-item.is
 
