@@ -14,7 +14,7 @@ use command_words::Command;
 use due_answer::{Answer, judge};
 use std::alloc::Global;
 use std::process::Abort;
-use wave_base::OutOfMemory;
+use wave_base::{INPUT_BYTES, OutOfMemory};
 
 // The answer that is due for a command and an input.
 fn due(
@@ -23,8 +23,7 @@ fn due(
     command: Command,
     input: &[u8],
 ) -> Result<Answer, OutOfMemory> {
-    assert!(rt; !command.runs_workers());
-    assert!(rt; input.len() <= command.input_bytes());
+    assert!(rt; input.len() <= INPUT_BYTES);
     judge(alloc, command, input)
 }
 

@@ -1,6 +1,5 @@
--- Which commands read standard input and how much of it, and which are run by workers.
-use Rattle.std.specs.Prelude.{ℕ, Bool, true, false, is_none}
-use Rattle.wave_base.specs.declared.limits.TheConstants.{INPUT_BYTES}
+-- Which commands read standard input, and which are run by workers.
+use Rattle.std.specs.Prelude.{Bool, true, false, is_none}
 use Rattle.command_words.specs.declared.command.Command.{Command}
 use Rattle.command_words.specs.declared.command.Command.TheVariants.{Run, Trace, Gen, Load}
 use Rattle.command_words.specs.declared.command.Crew.{Crew}
@@ -10,10 +9,6 @@ abbrev pub reads_input : Command → Bool
 reads_input (Gen n) = false
 reads_input (Load n crew) = false
 reads_input _ = true
-
--- how many bytes the input of a command may have
-abbrev pub input_bytes : Command → ℕ
-input_bytes c = INPUT_BYTES
 
 -- no schedule binds the crew
 abbrev pub is_free : Crew → Bool

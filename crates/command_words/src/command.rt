@@ -1,7 +1,5 @@
 ghost use Rattle.std.specs.Prelude.{◌≡◌};
-ghost use Rattle.command_words.specs.Inputs.{input_bytes, is_free, reads_input, runs_workers};
-
-use wave_base::INPUT_BYTES;
+ghost use Rattle.command_words.specs.Inputs.{is_free, reads_input, runs_workers};
 
 /// Whether the listing ends with the hosts of the contexts.
 #[derive(Clone, Copy, Debug, PartialEq, Eq)]
@@ -80,13 +78,6 @@ impl Command {
             | Command::Code => true,
             Command::Gen(_) | Command::Load(_, _) => false,
         }
-    }
-
-    /// How many bytes its input may have.
-    pub fn input_bytes(&self) -> usize
-        ensures { result ≡ input_bytes self.now }
-    {
-        INPUT_BYTES
     }
 
     /// Whether workers run it, each in a thread of its own.

@@ -20,8 +20,8 @@ use Rattle.due_answer.specs.declared.accepted.Accepted.TheVariants.{Refused, Rea
 use Rattle.due_answer.specs.declared.answer.Answer.{Answer}
 use Rattle.due_answer.specs.declared.report.Report.{Report}
 use Rattle.due_answer.specs.declared.work.Work.{Work}
-use Rattle.due_answer.specs.Accepted.{IsAcceptedBy, IsReady, IsTraced, report_of, trace_of}
-use Rattle.due_answer.specs.Due.{Only, Reports, Telling, Traces, IsDueLines, IsDueRead, IsDueScript, IsDueService, IsDueTyped, too_large_script}
+use Rattle.due_answer.specs.Accepted.{IsAcceptedBy, IsReady, IsTraced, ran, trace_of}
+use Rattle.due_answer.specs.Due.{Only, Reports, Telling, Traces, IsDueLines, IsDueRead, IsDueScript, IsDueService, IsDueTyped, reported, too_large_script}
 use Rattle.due_answer.specs.inner.Coded.{IsCoded}
 use Rattle.due_answer.specs.inner.Served.{IsRead, IsTypedRead, IsTypedTree}
 use Rattle.due_answer.proofs.CodeLemmas.{is_coded, only_coded}
@@ -35,7 +35,7 @@ module _ (P Q : Telling → Answer → Type 0) (also : (telling : Telling) (due 
   accepted_as (Refused answer) h = λ telling. lift telling answer (h telling)
   accepted_as (Ready work) h = record {
     can_run = h.can_run;
-    due = λ report. lift (Reports report) (report_of work report) (h.due report);
+    due = λ report done is. lift (Reports report) (reported work.program.shape report done) (h.due report done is);
     traced = λ places crew journal run. also (Traces places crew) (trace_of work places journal) (h.traced places crew journal run);
   }
 
@@ -49,8 +49,8 @@ refused_if P answer (Ok x) is h = subst (IsAcceptedBy P) (sym is) h
 refused_if P answer (Err e) is h = tt
 
 -- what was run is told
-pub told_if : {E : Type 0} (P : Telling → Answer → Type 0) (work : Work) (report : Report) (r : Result Answer E) → IsReady P work → IfOk r (λ a. a ≡ report_of work report) → IfOk r (Only (P (Reports report)))
-told_if P work report (Ok a) h is = subst (Only (P (Reports report))) (sym is) (h.due report)
+pub told_if : {E : Type 0} (P : Telling → Answer → Type 0) (work : Work) (report : Report) (r : Result Answer E) → IsReady P work → IfOk r (λ a. a ≡ reported work.program.shape report (ran work)) → IfOk r (Only (P (Reports report)))
+told_if P work report (Ok a) h is = subst (Only (P (Reports report))) (sym is) (h.due report (ran work) refl)
 told_if P work report (Err e) h is = tt
 
 -- what was traced

@@ -3,14 +3,14 @@ use Rattle.std.proofs.Common.{◌≡◌, ℕ, ◌≤◌, ◌<◌, inl, inr, true
 use Rattle.wave_base.specs.declared.limits.TheConstants.{INPUT_BYTES, SCRIPT_BYTES}
 use Rattle.wave_base.specs.declared.script.Script.{Script}
 use Rattle.wave_base.specs.declared.shape.Shape.{Shape}
-use Rattle.wave_base.specs.declared.start.Start.{Start}
+use Rattle.wave_base.specs.Starts.{first_start}
 use Rattle.mace_ast.specs.Decls.{ServiceTree}
 use Rattle.resolved_service.specs.declared.service.Resolved.{Resolved}
 use Rattle.type_rules.specs.Known.{shape_of}
 use Rattle.type_rules.specs.Views.{resolved_view}
 use Rattle.meaning_views.proofs.SameMeaning.{same_calls}
 use Rattle.script_fold.specs.Runs.{finished_of}
-use Rattle.wave_meaning.specs.Meaning.{results_at, IsWholeAt}
+use Rattle.wave_meaning.specs.Meaning.{results_of, IsWhole}
 use Rattle.context_types.specs.declared.Typed.{Typed}
 use Rattle.service_reader.specs.declared.fault.TextFault.{TextFault}
 use Rattle.service_reader.specs.Parsing.{IsOnlyParse}
@@ -18,7 +18,7 @@ use Rattle.due_answer.specs.declared.answer.Answer.{Answer}
 use Rattle.command_words.specs.declared.command.Command.{Command}
 use Rattle.due_answer.specs.declared.report.Report.{Report}
 use Rattle.input_parts.specs.Parts.{service_of}
-use Rattle.command_words.specs.Inputs.{input_bytes, reads_input}
+use Rattle.command_words.specs.Inputs.{reads_input}
 use Rattle.command_words.specs.declared.command.Command.TheVariants.{Run, Seq, Trace, Check, Print, Code, Gen, Load}
 use Rattle.due_answer.specs.declared.report.Report.TheVariants.{Listing}
 use Rattle.due_answer.specs.Due.{Only, Reports, Traces, IsDueScripted, IsDueSized, IsListedCode, IsPrinted, approved, IsDueService, IsDueOf, IsDueTyped, IsDueScript, IsDueLines, IsDueFold, IsOnlyDue, IsToldFor, reported, too_large_input}
@@ -76,15 +76,15 @@ only_same x = record { is_due = refl; only = λ other h. h }
 
 -- ---- a script
 
-same_results : (shape : Shape) (a b : Resolved) (start : Start) (script : Script) → resolved_view a ≡ resolved_view b → results_at shape a start script ≡ results_at shape b start script
-same_results shape a b start script e = ap (λ calls. finished_of (λ tree call. (calls tree call).ran) shape start script) (same_calls a b e)
+same_results : (shape : Shape) (a b : Resolved) (script : Script) → resolved_view a ≡ resolved_view b → results_of shape a script ≡ results_of shape b script
+same_results shape a b script e = ap (λ calls. finished_of (λ tree call. (calls tree call).ran) shape (first_start shape) script) (same_calls a b e)
 
-pub only_fold : (report : Report) (tree : ServiceTree) (typed : Typed) (start : Start) (script : Script) → IsTypedTree tree typed → IsWholeAt typed.shape typed.resolved start script →
-    Only (IsDueFold report tree start script) (reported typed.shape start.next.0 report (results_at typed.shape typed.resolved start script))
-only_fold report tree typed start script t whole = record {
-  is_due = record { service = typed.resolved; resolved = t.resolved_is; whole = subst (λ s. IsWholeAt s typed.resolved start script) t.shape_is whole; due_is = ap (λ s. reported s start.next.0 report (results_at s typed.resolved start script)) t.shape_is };
-  only = λ other h. h.due_is ∙ ap (reported (shape_of tree) start.next.0 report) (same_results (shape_of tree) h.service typed.resolved start script (h.resolved ∙ sym t.resolved_is))
-      ∙ ap (λ s. reported s start.next.0 report (results_at s typed.resolved start script)) (sym t.shape_is);
+pub only_fold : (report : Report) (tree : ServiceTree) (typed : Typed) (script : Script) → IsTypedTree tree typed → IsWhole typed.shape typed.resolved script →
+    Only (IsDueFold report tree script) (reported typed.shape report (results_of typed.shape typed.resolved script))
+only_fold report tree typed script t whole = record {
+  is_due = record { service = typed.resolved; resolved = t.resolved_is; whole = subst (λ s. IsWhole s typed.resolved script) t.shape_is whole; due_is = ap (λ s. reported s report (results_of s typed.resolved script)) t.shape_is };
+  only = λ other h. h.due_is ∙ ap (reported (shape_of tree) report) (same_results (shape_of tree) h.service typed.resolved script (h.resolved ∙ sym t.resolved_is))
+      ∙ ap (λ s. reported s report (results_of s typed.resolved script)) (sym t.shape_is);
 }
 
 pub only_short : (P : ServiceTree → Script → Answer → Type 0) (text : List ℕ) (tree : ServiceTree) (shape : Shape) (due : Answer) → length text ≤ SCRIPT_BYTES → shape ≡ shape_of tree →
@@ -101,32 +101,32 @@ only_short P text tree shape due small e o = record { is_due = inr (small, so.is
 -- ---- both, and the whole
 
 -- bytes that are too many, and others
-pub sized_long : (most : ℕ) (P : List ℕ → Answer → Type 0) (bytes : List ℕ) → most < length bytes → Only (IsDueSized most P bytes) too_large_input
-sized_long most P bytes long = record { is_due = inl (long, refl); only = others }
+pub sized_long : (P : List ℕ → Answer → Type 0) (bytes : List ℕ) → INPUT_BYTES < length bytes → Only (IsDueSized P bytes) too_large_input
+sized_long P bytes long = record { is_due = inl (long, refl); only = others }
   where
-    others : (other : Answer) → IsDueSized most P bytes other → other ≡ too_large_input
+    others : (other : Answer) → IsDueSized P bytes other → other ≡ too_large_input
     others other (inl h) = h.1
     others other (inr h) = let small = h.0 in absurd (omega arith)
 
-pub sized_fine : (most : ℕ) (P : List ℕ → Answer → Type 0) (bytes : List ℕ) (due : Answer) → length bytes ≤ most → Only (P bytes) due → Only (IsDueSized most P bytes) due
-sized_fine most P bytes due small o = record { is_due = inr (small, o.is_due); only = others }
+pub sized_fine : (P : List ℕ → Answer → Type 0) (bytes : List ℕ) (due : Answer) → length bytes ≤ INPUT_BYTES → Only (P bytes) due → Only (IsDueSized P bytes) due
+sized_fine P bytes due small o = record { is_due = inr (small, o.is_due); only = others }
   where
-    others : (other : Answer) → IsDueSized most P bytes other → other ≡ due
+    others : (other : Answer) → IsDueSized P bytes other → other ≡ due
     others other (inl h) = let long = h.0 in absurd (omega arith)
     others other (inr h) = o.only other h.1
 
-pub sized_if : {E : Type 0} (most : ℕ) (P : List ℕ → Answer → Type 0) (bytes : List ℕ) (r : Result Answer E) → length bytes ≤ most → IfOk r (Only (P bytes)) → IfOk r (Only (IsDueSized most P bytes))
-sized_if most P bytes (Ok a) small o = sized_fine most P bytes a small o
-sized_if most P bytes (Err e) small o = tt
+pub sized_if : {E : Type 0} (P : List ℕ → Answer → Type 0) (bytes : List ℕ) (r : Result Answer E) → length bytes ≤ INPUT_BYTES → IfOk r (Only (P bytes)) → IfOk r (Only (IsDueSized P bytes))
+sized_if P bytes (Ok a) small o = sized_fine P bytes a small o
+sized_if P bytes (Err e) small o = tt
 
 -- a command that reads its input is told so where there is too much of it
-pub only_too_large : (c : Command) (bytes : List ℕ) → reads_input c ≡ true → input_bytes c < length bytes → IsOnlyDue c bytes too_large_input
-only_too_large (Run places crew) bytes reads long = sized_long INPUT_BYTES (IsDueScripted (Reports (Listing places))) bytes long
-only_too_large (Seq places) bytes reads long = sized_long INPUT_BYTES (IsDueScripted (Reports (Listing places))) bytes long
-only_too_large (Trace places crew) bytes reads long = sized_long INPUT_BYTES (IsDueScripted (Traces places crew)) bytes long
-only_too_large Check bytes reads long = sized_long INPUT_BYTES (λ b. IsDueService (λ tree a. a ≡ approved) (service_of b)) bytes long
-only_too_large Code bytes reads long = sized_long INPUT_BYTES (λ b. IsDueService IsListedCode (service_of b)) bytes long
-only_too_large Print bytes reads long = sized_long INPUT_BYTES (λ b. IsDueService IsPrinted (service_of b)) bytes long
+pub only_too_large : (c : Command) (bytes : List ℕ) → reads_input c ≡ true → INPUT_BYTES < length bytes → IsOnlyDue c bytes too_large_input
+only_too_large (Run places crew) bytes reads long = sized_long (IsDueScripted (Reports (Listing places))) bytes long
+only_too_large (Seq places) bytes reads long = sized_long (IsDueScripted (Reports (Listing places))) bytes long
+only_too_large (Trace places crew) bytes reads long = sized_long (IsDueScripted (Traces places crew)) bytes long
+only_too_large Check bytes reads long = sized_long (λ b. IsDueService (λ tree a. a ≡ approved) (service_of b)) bytes long
+only_too_large Code bytes reads long = sized_long (λ b. IsDueService IsListedCode (service_of b)) bytes long
+only_too_large Print bytes reads long = sized_long (λ b. IsDueService IsPrinted (service_of b)) bytes long
 only_too_large (Gen n) bytes reads long = cc
 only_too_large (Load n crew) bytes reads long = cc
 

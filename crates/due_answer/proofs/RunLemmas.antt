@@ -3,22 +3,19 @@ use Rattle.std.proofs.Common.{◌≡◌, ◌∙◌, ◌≤◌, ℕ, arith, List,
 use Rattle.std.specs.Prelude.{max}
 use Rattle.std.proofs.Math.Nat.{le-max_right, le-min, min-le_right}
 use Rattle.wave_base.specs.declared.limits.TheConstants.{WORKERS}
-use Rattle.std.specs.Prelude.{◌↔◌}
-use Rattle.wave_base.specs.declared.finished.Finished as declared
 use Rattle.wave_base.specs.declared.outcome.EventResult.{EventResult}
 use Rattle.wave_base.specs.declared.script.Line.{Line}
 use Rattle.wave_base.specs.declared.start.Start.{Start}
-use Rattle.resolved_service.specs.declared.service.Resolved.{Resolved}
-use Rattle.code_runner.specs.Coded.{IsCode}
-use Rattle.wave_meaning.specs.Meaning.{results_at}
+use Rattle.wave_base.specs.Starts.{first_start}
+use Rattle.context_tree.proofs.FitLemmas as trees
+use Rattle.script_fold.proofs.StartLemmas.{first_fits}
 use Rattle.command_words.specs.declared.command.Crew.{Crew}
 use Rattle.command_words.specs.declared.command.Schedule.{Schedule}
 use Rattle.wave_states.specs.Begins.{start_state}
 use Rattle.wave_states.specs.Labels as theory
-use Rattle.wave_states.specs.Runs.{Finished, Rule, run}
+use Rattle.wave_states.specs.Runs.{Rule, run}
 use Rattle.wave_theory.specs.Drives.{HasDrive, Picks, RulesPick}
 use Rattle.code_actor.specs.CodeActors.{Fields}
-use Rattle.plan_actors.specs.Finishing.{Tells}
 use Rattle.plan_actors.specs.PlanActors.{Actor, plan_actors, plan_kind}
 use Rattle.plan_actors.specs.Plans.{Plan, Fits, FitsStart, begin_in}
 use Rattle.wave_labels.specs.declared.label.Act.{Act}
@@ -28,10 +25,10 @@ use Rattle.wave_labels.specs.Labels.{act_of, label_of}
 use Rattle.wave_machine.specs.declared.rules.PickRule.{PickRule}
 use Rattle.wave_machine.specs.declared.rules.PickRule.TheVariants as rule
 use Rattle.wave_machine.specs.Kinds.{is_move, kind_of}
-use Rattle.wave_machine.specs.Machines.{IsReached, TheState}
 use Rattle.wave_machine.specs.Rules.{number_of, rule_of}
-use Rattle.wave_machine.specs.Lengths.{DrivesAreMeasured, FinishedRunsAreMeasured, IsMeasured}
-use Rattle.due_answer.specs.Runs.{ComesTo, IsDriveBy, IsFinishedRun, IsRunBy, IsRunOf, nearest_workers, rule_by}
+use Rattle.due_answer.specs.Accepted.{HasCode}
+use Rattle.wave_machine.specs.Lengths.{DrivesAreMeasured, FinishedRunsAreMeasured}
+use Rattle.due_answer.specs.Runs.{IsDriveBy, IsFinishedRun, IsMeasured, IsRunBy, IsRunOf, nearest_workers, rule_by}
 
 -- ---- the label of a program for each label of the theory
 
@@ -81,6 +78,11 @@ some_nearest n = le-min (le-max_right n 1) (omega arith)
 pub few_nearest : (n : ℕ) → nearest_workers n ≤ WORKERS
 few_nearest n = min-le_right (max n 1) WORKERS
 
+-- ---- where a run begins
+
+pub first_begins : (plan : Plan) → HasCode plan → FitsStart plan (first_start plan.program.shape)
+first_begins plan has = first_fits plan.program.shape plan.script.hosts (trees.first_fits plan.program.shape has.code.typed.shape_is) has.fits.script.some_host
+
 -- ---- drives
 
 -- what is known of the rules, and of the drives of plans
@@ -97,57 +99,36 @@ picks k rule.Newest = k.by_newest
 picks k rule.Movers = k.by_movers (λ line. is_move (kind_of line))
 picks k rule.MailLast = k.by_mail_last
 
-module _ (rules : TheRulesPick) (drives : PlansDrive) (plan : Plan) (start : Start) (fits : Fits plan) (begins : FitsStart plan start) where
-  abbrev drive : (r : PickRule) → HasDrive (plan_kind plan.program plan.script.hosts) plan.workers (begin_in plan start) plan.script.batches (rule_of r) (number_of r)
-  drive r = drives plan start fits begins (rule_of r) (picks rules r) (number_of r)
+module _ (rules : TheRulesPick) (drives : PlansDrive) (plan : Plan) (fits : Fits plan) (begins : FitsStart plan (first_start plan.program.shape)) where
+  abbrev drive : (r : PickRule) → HasDrive (plan_kind plan.program plan.script.hosts) plan.workers (begin_in plan (first_start plan.program.shape)) plan.script.batches (rule_of r) (number_of r)
+  drive r = drives plan (first_start plan.program.shape) fits begins (rule_of r) (picks rules r) (number_of r)
 
   -- the drive of a rule is a finished run
-  pub drive_finished : (r : PickRule) (labels : List theory.Label) → IsDriveBy r plan start labels → IsFinishedRun plan start labels
+  pub drive_finished : (r : PickRule) (labels : List theory.Label) → IsDriveBy r plan labels → IsFinishedRun plan labels
   drive_finished r labels is = record {
     state = (drive r).state;
-    reached = subst (λ (ls : List theory.Label). run (plan_actors plan.program) plan.workers (start_state (begin_in plan start) plan.script.batches) ls ≡ Some (drive r).state) (sym ((drive r).only labels is)) (drive r).is_run;
+    reached = subst (λ (ls : List theory.Label). run (plan_actors plan.program) plan.workers (start_state (begin_in plan (first_start plan.program.shape)) plan.script.batches) ls ≡ Some (drive r).state) (sym ((drive r).only labels is)) (drive r).is_run;
     finished = (drive r).finished;
   }
 
   -- what a rule drives is a run of a crew whose schedule is that rule, if it has one
-  pub drive_of : (crew : Crew) (r : PickRule) (labels : List theory.Label) → ((schedule : Schedule) → crew.schedule ≡ Some schedule → r ≡ rule_by schedule) → IsDriveBy r plan start labels → IsRunOf crew plan start labels
+  pub drive_of : (crew : Crew) (r : PickRule) (labels : List theory.Label) → ((schedule : Schedule) → crew.schedule ≡ Some schedule → r ≡ rule_by schedule) → IsDriveBy r plan labels → IsRunOf crew plan labels
   drive_of crew r labels by is = by_schedule crew.schedule by
     where
-      by_schedule : (o : Option Schedule) → ((schedule : Schedule) → o ≡ Some schedule → r ≡ rule_by schedule) → IsRunBy o plan start labels
-      by_schedule (Some schedule) by = subst (λ q. IsDriveBy q plan start labels) (by schedule refl) is
+      by_schedule : (o : Option Schedule) → ((schedule : Schedule) → o ≡ Some schedule → r ≡ rule_by schedule) → IsRunBy o plan labels
+      by_schedule (Some schedule) by = subst (λ q. IsDriveBy q plan labels) (by schedule refl) is
       by_schedule None by = drive_finished r labels is
 
   -- each crew has a run
-  pub some_run : (crew : Crew) → (journal : List Label) × IsRunOf crew plan start (map label_of journal)
+  pub some_run : (crew : Crew) → (journal : List Label) × IsRunOf crew plan (map label_of journal)
   some_run crew = by_schedule crew.schedule
     where
-      by_schedule : (o : Option Schedule) → (journal : List Label) × IsRunBy o plan start (map label_of journal)
-      by_schedule (Some schedule) = (journal_for (drive (rule_by schedule)).labels, subst (IsDriveBy (rule_by schedule) plan start) (sym (journal_back (drive (rule_by schedule)).labels)) (drive (rule_by schedule)).is_drive)
-      by_schedule None = (journal_for (drive rule.Oldest).labels, subst (IsFinishedRun plan start) (sym (journal_back (drive rule.Oldest).labels)) (drive_finished rule.Oldest (drive rule.Oldest).labels (drive rule.Oldest).is_drive))
+      by_schedule : (o : Option Schedule) → (journal : List Label) × IsRunBy o plan (map label_of journal)
+      by_schedule (Some schedule) = (journal_for (drive (rule_by schedule)).labels, subst (IsDriveBy (rule_by schedule) plan) (sym (journal_back (drive (rule_by schedule)).labels)) (drive (rule_by schedule)).is_drive)
+      by_schedule None = (journal_for (drive rule.Oldest).labels, subst (IsFinishedRun plan) (sym (journal_back (drive rule.Oldest).labels)) (drive_finished rule.Oldest (drive rule.Oldest).labels (drive rule.Oldest).is_drive))
 
--- ---- how long runs are, and what they come to
+-- ---- how long runs are
 
-run_measured : FinishedRunsAreMeasured → DrivesAreMeasured → (plan : Plan) (start : Start) → Fits plan → FitsStart plan start → (labels : List theory.Label) (o : Option Schedule) → IsRunBy o plan start labels → IsMeasured plan start labels
-run_measured finished drives plan start fits begins labels (Some schedule) is = drives plan start fits begins (rule_by schedule) labels is
-run_measured finished drives plan start fits begins labels None run = finished plan start fits begins labels run.state run.reached run.finished
-
--- what is known of finished states
-abbrev pub FinishedStatesMean : Type 0
-FinishedStatesMean = (service : Resolved) (plan : Plan) (start : Start) → IsCode service plan.program → Fits plan → FitsStart plan start → (labels : List theory.Label) (s : TheState) → IsReached plan start labels s
-    → Finished (plan_actors plan.program) plan.workers s → (f : declared.Finished) → Tells s start plan.script.batches f ↔ (f ≡ results_at plan.program.shape service start plan.script)
-
-module _ (rules : TheRulesPick) (drives : PlansDrive) (plan : Plan) (start : Start) (fits : Fits plan) (begins : FitsStart plan start) where
-  -- whatever picks them, they are a finished run
-  any_finished : (o : Option Schedule) (labels : List theory.Label) → IsRunBy o plan start labels → IsFinishedRun plan start labels
-  any_finished (Some schedule) labels is = drive_finished rules drives plan start fits begins (rule_by schedule) labels is
-  any_finished None labels run = run
-
-  pub run_comes : FinishedRunsAreMeasured → DrivesAreMeasured → FinishedStatesMean → (service : Resolved) → IsCode service plan.program → (o : Option Schedule) (labels : List theory.Label) → IsRunBy o plan start labels
-      → (done : declared.Finished) → done ≡ results_at plan.program.shape service start plan.script → ComesTo plan start labels done
-  run_comes measured drives_measured mean service code o labels is done told =
-      let run = any_finished o labels is in
-      record {
-        run = run;
-        tells = (mean service plan start code fits begins labels run.state run.reached run.finished done).1 told;
-        measured = run_measured measured drives_measured plan start fits begins labels o is;
-      }
+pub run_measured : FinishedRunsAreMeasured → DrivesAreMeasured → (plan : Plan) → Fits plan → FitsStart plan (first_start plan.program.shape) → (labels : List theory.Label) (o : Option Schedule) → IsRunBy o plan labels → IsMeasured plan labels
+run_measured finished drives plan fits begins labels (Some schedule) is = drives plan (first_start plan.program.shape) fits begins (rule_by schedule) labels is
+run_measured finished drives plan fits begins labels None run = finished plan (first_start plan.program.shape) fits begins labels run.state run.reached run.finished

@@ -1,10 +1,7 @@
 -- The statuses of what may be due: none is one of those that the call itself tells.
 use Rattle.std.proofs.Common.{◌≡◌, inl, inr, ◌∙◌, ap, refl, ℕ, Bool, true, false, cond, List, Option, None, Some, Result, Ok, Err}
 use Rattle.std.specs.Prelude.{◌==◌, ◌||◌}
-use Rattle.wave_base.specs.declared.limits.TheConstants.{INPUT_BYTES}
 use Rattle.wave_base.specs.declared.script.Script.{Script}
-use Rattle.wave_base.specs.declared.start.Start.{Start}
-use Rattle.wave_base.specs.Starts.{first_start}
 use Rattle.mace_ast.specs.Decls.{ServiceTree}
 use Rattle.input_parts.specs.Parts.{service_of, script_of}
 use Rattle.service_reader.specs.declared.fault.TextFault.{TextFault}
@@ -13,12 +10,12 @@ use Rattle.type_rules.specs.declared.error.TypeError.{TypeError}
 use Rattle.type_rules.specs.Demands.{first_wrong}
 use Rattle.type_rules.specs.Services.{service_demands}
 use Rattle.type_rules.specs.Known.{shape_of}
-use Rattle.wave_meaning.specs.Meaning.{results_at}
+use Rattle.wave_meaning.specs.Meaning.{results_of}
 use Rattle.command_words.specs.declared.command.Command.{Command}
 use Rattle.command_words.specs.declared.command.Command.TheVariants.{Run, Seq, Trace, Check, Print, Code, Gen, Load}
 use Rattle.due_answer.specs.declared.answer.Answer.{Answer}
 use Rattle.due_answer.specs.declared.report.Report.TheVariants.{Listing, Summary}
-use Rattle.due_answer.specs.Due.{Reports, Telling, Traces, IsDue, IsDueBoth, IsDueFirst, IsDueOf, IsDueRead, IsDueTold, IsDueScript, IsDueScripted, IsDueService, IsDueSized, IsDueTyped, IsListedCode, IsPrinted, any_trap, approved}
+use Rattle.due_answer.specs.Due.{Reports, Telling, Traces, IsDue, IsDueBoth, IsDueOf, IsDueRead, IsDueTold, IsDueScript, IsDueScripted, IsDueService, IsDueSized, IsDueTyped, IsListedCode, IsPrinted, any_trap, approved}
 
 abbrev pub own_status : ℕ → Bool
 own_status n = n == 0 || n == 1 || n == 3 || n == 4
@@ -29,9 +26,9 @@ HasOwn due = own_status due.status ≡ true
 of_answer : (due a : Answer) → due ≡ a → HasOwn a → HasOwn due
 of_answer due a e h = ap (λ (x : Answer). own_status x.status) e ∙ h
 
-sized : (most : ℕ) (P : List ℕ → Answer → Type 0) (bytes : List ℕ) (due : Answer) → (P bytes due → HasOwn due) → IsDueSized most P bytes due → HasOwn due
-sized most P bytes due f (inl h) = of_answer due _ h.1 refl
-sized most P bytes due f (inr h) = f h.1
+sized : (P : List ℕ → Answer → Type 0) (bytes : List ℕ) (due : Answer) → (P bytes due → HasOwn due) → IsDueSized P bytes due → HasOwn due
+sized P bytes due f (inl h) = of_answer due _ h.1 refl
+sized P bytes due f (inr h) = f h.1
 
 typed : (P : ServiceTree → Answer → Type 0) (tree : ServiceTree) (o : Option TypeError) (due : Answer) → (P tree due → HasOwn due) → IsDueTyped P tree o due → HasOwn due
 typed P tree (Some e) due f h = of_answer due _ h refl
@@ -51,9 +48,9 @@ by_traps : (b : Bool) → own_status (cond b 1 0) ≡ true
 by_traps true = refl
 by_traps false = refl
 
-told : (telling : Telling) (tree : ServiceTree) (start : Start) (script : Script) (due : Answer) → IsDueTold telling tree start script due → HasOwn due
-told (Reports report) tree start script due h = of_answer due _ h.due_is (by_traps (any_trap (results_at (shape_of tree) h.service start script).results))
-told (Traces places crew) tree start script due h = of_answer due _ h.due_is (by_traps (any_trap (results_at (shape_of tree) h.service start script).results))
+told : (telling : Telling) (tree : ServiceTree) (script : Script) (due : Answer) → IsDueTold telling tree script due → HasOwn due
+told (Reports report) tree script due h = of_answer due _ h.due_is (by_traps (any_trap (results_of (shape_of tree) h.service script).results))
+told (Traces places crew) tree script due h = of_answer due _ h.due_is (by_traps (any_trap (results_of (shape_of tree) h.service script).results))
 
 read : (P : Script → Answer → Type 0) (r : Result Script ScriptError) (due : Answer) → ((script : Script) → P script due → HasOwn due) → IsDueRead P r due → HasOwn due
 read P (Err e) due f h = of_answer due _ h refl
@@ -63,13 +60,13 @@ script_text : (P : ServiceTree → Script → Answer → Type 0) (text : List �
 script_text P text tree due f (inl h) = of_answer due _ h.1 refl
 script_text P text tree due f (inr h) = read (P tree) h.1.read due f h.1.due_is
 
-both : (telling : Telling) (text : List ℕ) (found : Option (List ℕ)) (due : Answer) → IsDueBoth (IsDueFirst telling) text found due → HasOwn due
+both : (telling : Telling) (text : List ℕ) (found : Option (List ℕ)) (due : Answer) → IsDueBoth (IsDueTold telling) text found due → HasOwn due
 both telling text None due h = of_answer due _ h refl
 both telling text (Some script) due h =
-    service (IsDueScript (IsDueFirst telling) script) text due (λ tree k. script_text (IsDueFirst telling) script tree due (λ s j. told telling tree (first_start (shape_of tree)) s due j) k) h
+    service (IsDueScript (IsDueTold telling) script) text due (λ tree k. script_text (IsDueTold telling) script tree due (λ s j. told telling tree s due j) k) h
 
-scripted : (telling : Telling) (bytes : List ℕ) (due : Answer) → IsDueSized INPUT_BYTES (IsDueScripted telling) bytes due → HasOwn due
-scripted telling bytes due = sized INPUT_BYTES (IsDueScripted telling) bytes due (both telling (service_of bytes) (script_of bytes) due)
+scripted : (telling : Telling) (bytes : List ℕ) (due : Answer) → IsDueSized (IsDueScripted telling) bytes due → HasOwn due
+scripted telling bytes due = sized (IsDueScripted telling) bytes due (both telling (service_of bytes) (script_of bytes) due)
 
 approves : (due : Answer) → due ≡ approved → HasOwn due
 approves due h = of_answer due approved h refl
@@ -78,8 +75,8 @@ pub statuses : (c : Command) (bytes : List ℕ) (due : Answer) → IsDue c bytes
 statuses (Run places crew) bytes due h = scripted (Reports (Listing places)) bytes due h
 statuses (Seq places) bytes due h = scripted (Reports (Listing places)) bytes due h
 statuses (Trace places crew) bytes due h = scripted (Traces places crew) bytes due h
-statuses Check bytes due h = sized INPUT_BYTES (λ b. IsDueService (λ tree a. a ≡ approved) (service_of b)) bytes due (service (λ tree a. a ≡ approved) (service_of bytes) due (λ tree k. approves due k)) h
-statuses Code bytes due h = sized INPUT_BYTES (λ b. IsDueService IsListedCode (service_of b)) bytes due (service IsListedCode (service_of bytes) due (λ tree k. of_answer due _ k.due_is refl)) h
-statuses Print bytes due h = sized INPUT_BYTES (λ b. IsDueService IsPrinted (service_of b)) bytes due (service IsPrinted (service_of bytes) due (λ tree k. of_answer due _ k.due_is refl)) h
+statuses Check bytes due h = sized (λ b. IsDueService (λ tree a. a ≡ approved) (service_of b)) bytes due (service (λ tree a. a ≡ approved) (service_of bytes) due (λ tree k. approves due k)) h
+statuses Code bytes due h = sized (λ b. IsDueService IsListedCode (service_of b)) bytes due (service IsListedCode (service_of bytes) due (λ tree k. of_answer due _ k.due_is refl)) h
+statuses Print bytes due h = sized (λ b. IsDueService IsPrinted (service_of b)) bytes due (service IsPrinted (service_of bytes) due (λ tree k. of_answer due _ k.due_is refl)) h
 statuses (Gen n) bytes due h = of_answer due _ h refl
 statuses (Load n crew) bytes due h = scripted (Reports Summary) _ due h

@@ -1,13 +1,9 @@
 -- A script that was read for a typed service with its code can be run, and what it gives is what is due.
-use Rattle.std.proofs.Common.{◌≡◌, ℕ, ◌≤◌, ◌+◌, ◌^◌, List, [], length, map, sym, ◌∙◌, subst, ap, arith}
+use Rattle.std.proofs.Common.{◌≡◌, ℕ, ◌≤◌, ◌-◌, ◌^◌, List, length, map, sym, ◌∙◌, subst, ap, arith}
 use Rattle.wave_base.specs.declared.finished.Finished.{Finished}
 use Rattle.wave_base.specs.declared.limits.TheConstants.{WORKERS}
-use Rattle.wave_base.specs.declared.outcome.EventResult.{EventResult}
-use Rattle.wave_base.specs.declared.script.Line.{Line}
-use Rattle.wave_base.specs.Fold.{Progress}
 use Rattle.wave_base.specs.declared.script.Script.{Script}
 use Rattle.wave_base.specs.Scripts.{IsScript}
-use Rattle.wave_base.specs.declared.start.Start.{Start}
 use Rattle.wave_base.specs.Starts.{IsStart, first_start}
 use Rattle.context_tree.proofs.FitLemmas as trees
 use Rattle.command_words.specs.declared.command.Crew.{Crew}
@@ -18,66 +14,33 @@ use Rattle.service_code.specs.declared.program.Program.{Program}
 use Rattle.code_scheme.specs.Programs.{scheme_program}
 use Rattle.code_scheme.specs.Typed.{IsTyped}
 use Rattle.code_scheme.proofs.Made.{program_shape}
-use Rattle.resolved_service.specs.declared.service.Resolved.{Resolved}
-use Rattle.script_fold.specs.Lines.{most_jobs}
-use Rattle.script_fold.specs.Runs.{after_jobs, whole_run}
-use Rattle.script_fold.proofs.FoldLemmas.{IsGood, good_after, room_after}
 use Rattle.script_fold.proofs.StartLemmas.{first_fits}
-use Rattle.type_rules.specs.Known.{shape_of}
 use Rattle.context_types.specs.declared.Typed.{Typed}
-use Rattle.code_actor.specs.CodeActors.{Fields}
-use Rattle.code_meaning.specs.inner.Owing.{code_owes}
-use Rattle.code_runner.specs.Coded.{IsCode, IsJob, IsTree}
+use Rattle.code_runner.specs.Coded.{IsCode}
 use Rattle.code_runner.proofs.Meant.{code_fit, code_verified}
-use Rattle.wave_meaning.specs.Meaning.{call_ran, results_at, IsWholeAt}
+use Rattle.wave_meaning.specs.Meaning.{results_of, IsWhole}
 use Rattle.plan_actors.specs.Plans.{Fits}
-use Rattle.plan_actors.proofs.Folding.{whole_at}
-use Rattle.plan_meaning.proofs.Meaning.{plan_means, plan_ends}
+use Rattle.plan_meaning.proofs.Meaning.{plan_means, plan_ends, plan_few}
 use Rattle.journal_text.specs.JournalTexts.{journal_text}
 use Rattle.wave_labels.specs.declared.label.Label.{Label}
 use Rattle.wave_labels.specs.Labels.{label_of}
 use Rattle.due_answer.specs.declared.report.Report.{Report}
 use Rattle.due_answer.specs.declared.report.Report.TheVariants.{Listing}
 use Rattle.due_answer.specs.declared.work.Work.{Work}
-use Rattle.due_answer.specs.Accepted.{CanRun, IsJournalOf, IsReady, plan_with, ran, report_of, trace_of}
-use Rattle.due_answer.specs.Due.{Only, IsDueFirst, IsDueFold, IsDueTold, IsDueTrace, reported, with_text}
+use Rattle.due_answer.specs.Accepted.{CanRun, IsJournalOf, IsReady, plan_with, ran, trace_of}
+use Rattle.due_answer.specs.Due.{Only, IsDueFold, IsDueTold, IsDueTrace, reported, with_text}
 use Rattle.due_answer.specs.inner.Coded.{IsCoded}
 use Rattle.due_answer.specs.inner.Served.{IsTypedTree}
 use Rattle.due_answer.proofs.DueLemmas.{only_fold}
 use Rattle.wave_machine.specs.Lengths.{DrivesAreMeasured, FinishedRunsAreMeasured}
-use Rattle.due_answer.specs.Runs.{ComesTo, IsRunOf, nearest_workers}
+use Rattle.due_answer.specs.Runs.{IsMeasured, IsRunOf, nearest_workers}
 use Rattle.due_answer.proofs.NameLemmas.{code_typed}
-use Rattle.due_answer.proofs.RunLemmas.{FinishedStatesMean, PlansDrive, TheRulesPick, few_nearest, run_comes, some_nearest, some_run}
+use Rattle.due_answer.proofs.RunLemmas.{PlansDrive, TheRulesPick, few_nearest, run_measured, some_nearest, some_run}
 
--- there is a ticket for each result of a run
-plan_room : (service : Resolved) (program : Program) → IsCode service program → (start : Start) (script : Script) → IsStart program.shape script.hosts start → IsScript program.shape script
-    → start.next.0 + length (results_at program.shape service start script).results ≤ 2 ^ 32
-plan_room service program code start script begins fits =
-    let owed = code_owes service program code in
-    let most : Progress Fields EventResult Line = after_jobs (call_ran service) program.shape start script (most_jobs script.batches) in
-    let whole : whole_run (call_ran service) program.shape start script ≡ most = whole_at program.shape (call_ran service) (IsTree program.shape) (IsJob program) owed start script fits begins in
-    let good : IsGood program.shape (call_ran service) (IsTree program.shape) (IsJob program) owed start script most =
-    good_after program.shape (call_ran service) (IsTree program.shape) (IsJob program) owed start script fits begins (most_jobs script.batches) in
-    let room = room_after program.shape (call_ran service) (IsTree program.shape) (IsJob program) owed start script fits begins most good [] (omega arith) in
-    let within = good.within in
-    let results = good.results in
-    subst (λ (w : Progress Fields EventResult Line). start.next.0 + length w.results ≤ 2 ^ 32) (sym whole) (omega (arith, room, within, results))
-
--- the first Start of a typed service
-pub first_begins : (tree : ServiceTree) (typed : Typed) (script : Script) (start : Start) → IsTypedTree tree typed → IsScript typed.shape script → start ≡ first_start typed.shape → IsStart typed.shape script.hosts start
-first_begins tree typed script start t fits is =
-    subst (IsStart typed.shape script.hosts) (sym is) (first_fits typed.shape script.hosts (trees.first_fits typed.shape t.well_formed) fits.some_host)
-
--- from it on
-pub ready_first : (tree : ServiceTree) (typed : Typed) (script : Script) (start : Start) (work : Work) → IsTypedTree tree typed → start ≡ first_start typed.shape → IsReady (λ telling. IsDueTold telling tree start script) work
-    → IsReady (λ telling. IsDueFirst telling tree script) work
-ready_first tree typed script start work t is h =
-    subst (λ s. IsReady (λ telling. IsDueTold telling tree s script) work) (is ∙ ap first_start t.shape_is) h
-
-module _ (tree : ServiceTree) (typed : Typed) (program : Program) (start : Start) (script : Script) (t : IsTypedTree tree typed) (coded : IsCoded typed.shape typed.resolved program)
-    (begun : IsStart typed.shape script.hosts start) (fits : IsScript typed.shape script) (rules : TheRulesPick) (drives : PlansDrive) (finished_measured : FinishedRunsAreMeasured) (drives_measured : DrivesAreMeasured) (finished_mean : FinishedStatesMean) where
+module _ (tree : ServiceTree) (typed : Typed) (program : Program) (script : Script) (t : IsTypedTree tree typed) (coded : IsCoded typed.shape typed.resolved program) (fits : IsScript typed.shape script)
+    (rules : TheRulesPick) (drives : PlansDrive) (finished_measured : FinishedRunsAreMeasured) (drives_measured : DrivesAreMeasured) where
   abbrev work : Work
-  work = record { service = typed.resolved; program = program; script = script; start = start }
+  work = record { service = typed.resolved; program = program; script = script }
 
   same_shape : program.shape ≡ typed.shape
   same_shape = ap (λ (p : Program). p.shape) coded.is ∙ program_shape typed.shape typed.resolved
@@ -92,14 +55,14 @@ module _ (tree : ServiceTree) (typed : Typed) (program : Program) (start : Start
   script_fits : IsScript program.shape script
   script_fits = subst (λ s. IsScript s script) (sym same_shape) fits
 
-  begins : IsStart program.shape script.hosts start
-  begins = subst (λ s. IsStart s script.hosts start) (sym same_shape) begun
+  begins : IsStart program.shape script.hosts (first_start program.shape)
+  begins = first_fits program.shape script.hosts (trees.first_fits program.shape code.typed.shape_is) script_fits.some_host
 
-  means : ran work ≡ results_at program.shape typed.resolved start script
-  means = plan_means typed.resolved program code start script begins script_fits
+  means : ran work ≡ results_of program.shape typed.resolved script
+  means = plan_means typed.resolved program code (first_start program.shape) script begins script_fits
 
-  whole : IsWholeAt typed.shape typed.resolved start script
-  whole = subst (λ s. IsWholeAt s typed.resolved start script) same_shape (plan_ends typed.resolved program code start script begins script_fits)
+  whole : IsWhole typed.shape typed.resolved script
+  whole = subst (λ s. IsWhole s typed.resolved script) same_shape (plan_ends typed.resolved program code (first_start program.shape) script begins script_fits)
 
   plan_fits : (workers : ℕ) → 1 ≤ workers → workers ≤ WORKERS → Fits (plan_with work workers)
   plan_fits workers some few = record { fit = code_fit typed.resolved program code; verified = code_verified typed.resolved program code; script = script_fits; some_worker = some; few_workers = few }
@@ -108,40 +71,38 @@ module _ (tree : ServiceTree) (typed : Typed) (program : Program) (start : Start
   can_run = record {
     code = code;
     fits = plan_fits;
-    begins = begins;
-    few = subst (λ (f : Finished). start.next.0 + length f.results ≤ 2 ^ 32) (sym means) (plan_room typed.resolved program code start script begins script_fits);
-    runs = λ crew. some_run rules drives (plan_with work (nearest_workers crew.workers)) start (plan_fits (nearest_workers crew.workers) (some_nearest crew.workers) (few_nearest crew.workers)) begins crew;
+    begins = λ workers. begins;
+    few = subst (λ (f : Finished). length f.results ≤ 2 ^ 32 - 1) (sym means) (plan_few typed.resolved program code (first_start program.shape) script begins script_fits);
+    runs = λ crew. some_run rules drives (plan_with work (nearest_workers crew.workers)) (plan_fits (nearest_workers crew.workers) (some_nearest crew.workers) (few_nearest crew.workers)) begins crew;
   }
 
-  same_told : (report : Report) → reported typed.shape start.next.0 report (results_at typed.shape typed.resolved start script) ≡ report_of work report
-  same_told report =
-      ap (λ s. reported s start.next.0 report (results_at s typed.resolved start script)) (sym same_shape)
-      ∙ ap (reported program.shape start.next.0 report) (sym means)
+  same_told : (report : Report) (done : Finished) → done ≡ ran work → reported typed.shape report (results_of typed.shape typed.resolved script) ≡ reported program.shape report done
+  same_told report done is =
+      ap (λ s. reported s report (results_of s typed.resolved script)) (sym same_shape)
+      ∙ ap (reported program.shape report) (sym (is ∙ means))
 
   -- a run of the crew, traced
-  is_traced : (places : Places) (crew : Crew) (journal : List Label) → IsJournalOf crew work journal → IsDueTrace places crew tree start script (trace_of work places journal)
+  is_traced : (places : Places) (crew : Crew) (journal : List Label) → IsJournalOf crew work journal → IsDueTrace places crew tree script (trace_of work places journal)
   is_traced places crew journal run = record {
     service = typed.resolved;
     resolved = t.resolved_is;
-    whole = subst (λ s. IsWholeAt s typed.resolved start script) t.shape_is whole;
+    whole = subst (λ s. IsWhole s typed.resolved script) t.shape_is whole;
     journal = journal;
-    run = subst (λ (p : Program). IsRunOf crew (record { program = p; script = script; workers = nearest_workers crew.workers }) start (map label_of journal)) (coded.is ∙ ap (λ s. scheme_program s typed.resolved) t.shape_is) run;
-    comes_to = subst (λ (p : Program). ComesTo (record { program = p; script = script; workers = nearest_workers crew.workers }) start (map label_of journal) (results_at (shape_of tree) typed.resolved start script)) (coded.is ∙ ap (λ s. scheme_program s typed.resolved) t.shape_is)
-        (run_comes rules drives (plan_with work (nearest_workers crew.workers)) start (plan_fits (nearest_workers crew.workers) (some_nearest crew.workers) (few_nearest crew.workers)) begins
-        finished_measured drives_measured finished_mean typed.resolved code crew.schedule (map label_of journal) run (results_at (shape_of tree) typed.resolved start script)
-        (ap (λ s. results_at s typed.resolved start script) (sym (same_shape ∙ t.shape_is))));
+    run = subst (λ (p : Program). IsRunOf crew (record { program = p; script = script; workers = nearest_workers crew.workers }) (map label_of journal)) (coded.is ∙ ap (λ s. scheme_program s typed.resolved) t.shape_is) run;
+    measured = subst (λ (p : Program). IsMeasured (record { program = p; script = script; workers = nearest_workers crew.workers }) (map label_of journal)) (coded.is ∙ ap (λ s. scheme_program s typed.resolved) t.shape_is)
+        (run_measured finished_measured drives_measured (plan_with work (nearest_workers crew.workers)) (plan_fits (nearest_workers crew.workers) (some_nearest crew.workers) (few_nearest crew.workers)) begins (map label_of journal) crew.schedule run);
     due_is =
-        ap (λ done. with_text (reported program.shape start.next.0 (Listing places) done) (journal_text program.shape journal)) means
-        ∙ ap (λ s. with_text (reported s start.next.0 (Listing places) (results_at s typed.resolved start script)) (journal_text s journal)) (same_shape ∙ t.shape_is);
+        ap (λ done. with_text (reported program.shape (Listing places) done) (journal_text program.shape journal)) means
+        ∙ ap (λ s. with_text (reported s (Listing places) (results_of s typed.resolved script)) (journal_text s journal)) (same_shape ∙ t.shape_is);
   }
 
-  pub ready : IsReady (λ telling. IsDueTold telling tree start script) work
+  pub ready : IsReady (λ telling. IsDueTold telling tree script) work
   ready = record {
     can_run = can_run;
-    due = λ report. subst (Only (IsDueFold report tree start script)) (same_told report) (only_fold report tree typed start script t whole);
+    due = λ report done is. subst (Only (IsDueFold report tree script)) (same_told report done is) (only_fold report tree typed script t whole);
     traced = is_traced;
   }
 
 -- what the evaluator gives of it is the same
-pub evaluated : (work : Work) → CanRun work → ran work ≡ results_at work.program.shape work.service work.start work.script
-evaluated work h = plan_means work.service work.program h.code work.start work.script h.begins (h.fits 1 (omega arith) (omega arith)).script
+pub evaluated : (work : Work) → CanRun work → ran work ≡ results_of work.program.shape work.service work.script
+evaluated work h = plan_means work.service work.program h.code (first_start work.program.shape) work.script (h.begins 1) (h.fits 1 (omega arith) (omega arith)).script

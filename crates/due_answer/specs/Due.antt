@@ -8,8 +8,6 @@ use Rattle.wave_base.specs.declared.outcome.Outcome.{Outcome}
 use Rattle.wave_base.specs.declared.outcome.Outcome.TheVariants.{Trapped}
 use Rattle.wave_base.specs.declared.script.Script.{Script}
 use Rattle.wave_base.specs.declared.shape.Shape.{Shape}
-use Rattle.wave_base.specs.declared.start.Start.{Start}
-use Rattle.wave_base.specs.Starts.{first_start}
 use Rattle.input_parts.specs.Parts.{service_of, script_of}
 use Rattle.mace_ast.specs.Decls.{ServiceTree, SameUpToSpans}
 use Rattle.mace_grammar.specs.Spelled.{Spelled}
@@ -33,7 +31,7 @@ use Rattle.script_reader.specs.Judged.{nothing_earlier}
 use Rattle.script_reader.specs.Scripts.{IsRead}
 use Rattle.wave_text.specs.Lines.{lines_of}
 use Rattle.listing_out.specs.Listing.{listing}
-use Rattle.wave_meaning.specs.Meaning.{results_at, IsWholeAt}
+use Rattle.wave_meaning.specs.Meaning.{results_of, IsWhole}
 use Rattle.journal_text.specs.JournalTexts.{journal_text}
 use Rattle.wave_labels.specs.declared.label.Label.{Label}
 use Rattle.wave_labels.specs.Labels.{label_of}
@@ -43,13 +41,12 @@ use Rattle.command_words.specs.declared.command.Command.TheVariants.{Run, Seq, T
 use Rattle.command_words.specs.declared.command.Crew.{Crew}
 use Rattle.command_words.specs.declared.command.Places.{Places}
 use Rattle.command_words.specs.declared.command.Places.TheVariants.{Unlisted, Listed}
-use Rattle.command_words.specs.Inputs.{input_bytes}
 use Rattle.wave_gen.specs.Load.{load_text}
 use Rattle.wave_gen.specs.Summary.{summary_text}
 use Rattle.due_answer.specs.declared.report.Report.{Report}
 use Rattle.due_answer.specs.declared.report.Report.TheVariants.{Listing, Summary}
 use Rattle.plan_actors.specs.Plans.{Plan}
-use Rattle.due_answer.specs.Runs.{ComesTo, IsRunOf, nearest_workers}
+use Rattle.due_answer.specs.Runs.{IsMeasured, IsRunOf, nearest_workers}
 
 -- ---- answers
 
@@ -120,21 +117,21 @@ is_trap _ = false
 abbrev pub any_trap : List EventResult → Bool
 any_trap rs = list_any (λ (r : EventResult). is_trap r.outcome) rs
 
--- all that was done is listed, from its first ticket on, or summed up
-abbrev pub report_text : Shape → ℕ → Report → Finished → List ℕ
-report_text shape first (Listing places) done = listing shape first done (is_listed places)
-report_text shape first Summary done = summary_text done.results
+-- all that was done is listed, or summed up
+abbrev pub report_text : Shape → Report → Finished → List ℕ
+report_text shape (Listing places) done = listing shape 1 done (is_listed places)
+report_text shape Summary done = summary_text done.results
 
 -- what was done is told; the status tells whether something trapped
-abbrev pub reported : Shape → ℕ → Report → Finished → Answer
-reported shape first report done = record { status = if any_trap done.results then 1 else 0; note = []; text = report_text shape first report done }
+abbrev pub reported : Shape → Report → Finished → Answer
+reported shape report done = record { status = if any_trap done.results then 1 else 0; note = []; text = report_text shape report done }
 
--- of a script that was read: what its fold from a Start, to its end, on the service with each name resolved has done
-pub record IsDueFold (report : Report) (tree : ServiceTree) (start : Start) (script : Script) (due : Answer) : Type 0 where
+-- of a script that was read: what its fold, to its end, on the service with each name resolved has done
+pub record IsDueFold (report : Report) (tree : ServiceTree) (script : Script) (due : Answer) : Type 0 where
   pub service : Resolved
   pub resolved : resolved_view service ≡ resolve_service tree
-  pub whole : IsWholeAt (shape_of tree) service start script
-  pub due_is : due ≡ reported (shape_of tree) start.next.0 report (results_at (shape_of tree) service start script)
+  pub whole : IsWhole (shape_of tree) service script
+  pub due_is : due ≡ reported (shape_of tree) report (results_of (shape_of tree) service script)
 
 -- a text behind that of an answer
 abbrev pub with_text : Answer → List ℕ → Answer
@@ -144,28 +141,24 @@ with_text a more = record { status = a.status; note = a.note; text = a.text ++ m
 abbrev pub plan_for : Crew → Shape → Resolved → Script → Plan
 plan_for crew shape service script = record { program = scheme_program shape service; script = script; workers = nearest_workers crew.workers }
 
--- of one that is traced: the listing of that fold, and behind it the journal of a run of this crew, which is the machine's run that comes to what is listed
-pub record IsDueTrace (places : Places) (crew : Crew) (tree : ServiceTree) (start : Start) (script : Script) (due : Answer) : Type 0 where
+-- of one that is traced: the listing of that fold, and behind it the journal of a run of this crew, which has as many labels as its plan asks for
+pub record IsDueTrace (places : Places) (crew : Crew) (tree : ServiceTree) (script : Script) (due : Answer) : Type 0 where
   pub service : Resolved
   pub resolved : resolved_view service ≡ resolve_service tree
-  pub whole : IsWholeAt (shape_of tree) service start script
+  pub whole : IsWhole (shape_of tree) service script
   pub journal : List Label
-  pub run : IsRunOf crew (plan_for crew (shape_of tree) service script) start (map label_of journal)
-  pub comes_to : ComesTo (plan_for crew (shape_of tree) service script) start (map label_of journal) (results_at (shape_of tree) service start script)
-  pub due_is : due ≡ with_text (reported (shape_of tree) start.next.0 (Listing places) (results_at (shape_of tree) service start script)) (journal_text (shape_of tree) journal)
+  pub run : IsRunOf crew (plan_for crew (shape_of tree) service script) (map label_of journal)
+  pub measured : IsMeasured (plan_for crew (shape_of tree) service script) (map label_of journal)
+  pub due_is : due ≡ with_text (reported (shape_of tree) (Listing places) (results_of (shape_of tree) service script)) (journal_text (shape_of tree) journal)
 
 -- what is told of a script that was read: a report of its fold; or the listing, and the journal of a run of this crew
 pub data Telling : Type 0 where
   Reports : Report → Telling
   Traces : Places → Crew → Telling
 
-abbrev pub IsDueTold : Telling → ServiceTree → Start → Script → Answer → Type 0
-IsDueTold (Reports report) tree start script due = IsDueFold report tree start script due
-IsDueTold (Traces places crew) tree start script due = IsDueTrace places crew tree start script due
-
--- the same from the first Start
-abbrev pub IsDueFirst : Telling → ServiceTree → Script → Answer → Type 0
-IsDueFirst telling tree script due = IsDueTold telling tree (first_start (shape_of tree)) script due
+abbrev pub IsDueTold : Telling → ServiceTree → Script → Answer → Type 0
+IsDueTold (Reports report) tree script due = IsDueFold report tree script due
+IsDueTold (Traces places crew) tree script due = IsDueTrace places crew tree script due
 
 abbrev pub IsDueRead : (Script → Answer → Type 0) → Result Script ScriptError → Answer → Type 0
 IsDueRead P (Err e) due = due ≡ refusal 4 (script_note e)
@@ -207,27 +200,23 @@ pub record IsListedCode (tree : ServiceTree) (due : Answer) : Type 0 where
 
 -- of the bytes of a service and a script
 abbrev pub IsDueScripted : Telling → List ℕ → Answer → Type 0
-IsDueScripted telling bytes due = IsDueBoth (IsDueFirst telling) (service_of bytes) (script_of bytes) due
+IsDueScripted telling bytes due = IsDueBoth (IsDueTold telling) (service_of bytes) (script_of bytes) due
 
--- of bytes, which may be more than so many
-abbrev pub IsDueSized : ℕ → (List ℕ → Answer → Type 0) → List ℕ → Answer → Type 0
-IsDueSized most P bytes due = ((most < length bytes) × (due ≡ too_large_input)) ⊎ ((length bytes ≤ most) × P bytes due)
-
--- of the input of a command, which may be more than it may have
-abbrev pub IsDueInput : Command → (List ℕ → Answer → Type 0) → List ℕ → Answer → Type 0
-IsDueInput c P bytes due = IsDueSized (input_bytes c) P bytes due
+-- of bytes, which may be too many
+abbrev pub IsDueSized : (List ℕ → Answer → Type 0) → List ℕ → Answer → Type 0
+IsDueSized P bytes due = ((INPUT_BYTES < length bytes) × (due ≡ too_large_input)) ⊎ ((length bytes ≤ INPUT_BYTES) × P bytes due)
 
 -- What runs a script, and how many workers or which schedule, is nothing to what `run` and `seq` owe, which is the same; but `trace` tells the run
 -- of its crew. `gen` writes the load of a number, and `load` runs it and sums it up, whatever the input is; all others are about their input.
 abbrev pub IsDue : Command → List ℕ → Answer → Type 0
-IsDue (Run places crew) bytes due = IsDueInput (Run places crew) (IsDueScripted (Reports (Listing places))) bytes due
-IsDue (Seq places) bytes due = IsDueInput (Seq places) (IsDueScripted (Reports (Listing places))) bytes due
-IsDue (Trace places crew) bytes due = IsDueInput (Trace places crew) (IsDueScripted (Traces places crew)) bytes due
-IsDue Check bytes due = IsDueInput Check (λ b. IsDueService (λ tree a. a ≡ approved) (service_of b)) bytes due
-IsDue Code bytes due = IsDueInput Code (λ b. IsDueService IsListedCode (service_of b)) bytes due
-IsDue Print bytes due = IsDueInput Print (λ b. IsDueService IsPrinted (service_of b)) bytes due
+IsDue (Run places crew) bytes due = IsDueSized (IsDueScripted (Reports (Listing places))) bytes due
+IsDue (Seq places) bytes due = IsDueSized (IsDueScripted (Reports (Listing places))) bytes due
+IsDue (Trace places crew) bytes due = IsDueSized (IsDueScripted (Traces places crew)) bytes due
+IsDue Check bytes due = IsDueSized (λ b. IsDueService (λ tree a. a ≡ approved) (service_of b)) bytes due
+IsDue Code bytes due = IsDueSized (λ b. IsDueService IsListedCode (service_of b)) bytes due
+IsDue Print bytes due = IsDueSized (λ b. IsDueService IsPrinted (service_of b)) bytes due
 IsDue (Gen n) bytes due = due ≡ written (load_text n)
-IsDue (Load n crew) bytes due = IsDueSized INPUT_BYTES (IsDueScripted (Reports Summary)) (load_text n) due
+IsDue (Load n crew) bytes due = IsDueSized (IsDueScripted (Reports Summary)) (load_text n) due
 
 -- it is so of this answer, and of no other
 pub record Only (P : Answer → Type 0) (due : Answer) : Type 0 where

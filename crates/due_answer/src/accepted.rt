@@ -4,7 +4,7 @@ ghost use Rattle.std.specs.Prelude.{◌≡◌, IfOk};
 ghost use Rattle.due_answer.specs.Accepted.{IsAccepted, IsAcceptedBy};
 ghost use Rattle.due_answer.specs.Due.{IsDueScripted, refusal};
 
-use crate::answer::{Answer, refused, too_large};
+use crate::answer::{Answer, refused};
 use crate::script::accept_script;
 use crate::service::{Judged, served};
 use crate::work::Work;
@@ -22,12 +22,12 @@ pub enum Accepted {
 }
 
 /// Reads a service and a script. A refusal is the only answer that is due; and where there is something to run, what it gives
-/// when its calls run by its code, from the first Start, is told by the only answer that is due.
+/// when its calls run by its code, from the root alone, is told by the only answer that is due.
 pub fn accept(alloc: Global, input: &[u8]) -> Result<Accepted, OutOfMemory>
     ensures { IfOk result (IsAccepted input.now) }
 {
     if input.len() > INPUT_BYTES {
-        return Ok(Accepted::Refused(too_large(alloc)?));
+        return refuse(alloc, 3, b"TooLarge input");
     }
     accept_both(alloc, input)
 }

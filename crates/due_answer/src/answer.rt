@@ -1,5 +1,5 @@
 ghost use Rattle.std.specs.Prelude.{◌≡◌, [], IfOk};
-ghost use Rattle.due_answer.specs.Due.{refusal, too_large_input, written};
+ghost use Rattle.due_answer.specs.Due.{refusal, written};
 
 use std::alloc::Global;
 use wave_base::{OutOfMemory, Seq};
@@ -25,13 +25,6 @@ pub fn refused(alloc: Global, status: u8, note: &[u8]) -> Result<Answer, OutOfMe
         note: Seq::from_vec(note),
         text: Seq::new(alloc),
     })
-}
-
-/// The refusal of an input that has more bytes than it may have.
-pub fn too_large(alloc: Global) -> Result<Answer, OutOfMemory>
-    ensures { IfOk result (λ a. a ≡ too_large_input) }
-{
-    refused(alloc, 3, b"TooLarge input")
 }
 
 /// A text that is written, with nothing to tell.

@@ -14,7 +14,17 @@ pub enum Engine {
     Machine(u8, PickRule),
 }
 
-/// The rule by which a crew's labels are picked where it has no threads: that of its schedule, where it has one.
+impl Engine {
+    /// What a crew runs a script by: the machine where it has a schedule. Where it has none the evaluator stands in for its threads.
+    pub fn of_crew(crew: Crew) -> Engine {
+        match crew.schedule {
+            Some(schedule) => Engine::Machine(crew.workers, rule_by(schedule)),
+            None => Engine::Evaluator,
+        }
+    }
+}
+
+/// The rule by which a crew is traced without threads: that of its schedule, where it has one.
 pub fn rule_for(crew: Crew) -> PickRule
     ensures { (schedule : Schedule) → crew.schedule ≡ Some schedule → result ≡ rule_by schedule }
 {

@@ -1,16 +1,16 @@
-ghost use Rattle.std.specs.Prelude.{◌≡◌, ◌≤◌, false, length, All, IfOk};
+ghost use Rattle.std.specs.Prelude.{◌≡◌, ◌≤◌, length, All, IfOk};
 ghost use Rattle.wave_base.specs.declared.limits.TheConstants.{INPUT_BYTES};
-ghost use Rattle.command_words.specs.Inputs.{input_bytes, runs_workers};
 ghost use Rattle.input_parts.specs.Parts.{service_of};
 ghost use Rattle.mace_ast.specs.Decls.{service_tree};
 ghost use Rattle.mace_printer.specs.Written.{IsParsed};
 ghost use Rattle.service_code.specs.Listing.{CanList, program_text};
 ghost use Rattle.wave_gen.specs.Load.{load_text};
 ghost use Rattle.due_answer.specs.Due.{Only, Reports, Traces, IsDueScripted, IsDueService, IsDueSized, IsListedCode, IsPrinted, IsToldFor, approved, written};
+ghost use Rattle.due_answer.specs.declared.report.Report.{Report};
 
 use crate::accepted::{Accepted, accept};
 use crate::answer::{Answer, written};
-use crate::engine::{Engine, rule_for};
+use crate::engine::Engine;
 use crate::report::Report;
 use crate::runs::run;
 use crate::service::{Judged, served};
@@ -24,16 +24,14 @@ use std::alloc::Global;
 use wave_base::{OutOfMemory, Seq};
 use wave_gen::generate;
 
-/// What is due for a command that no workers run, and an input that is not too large; a command that reads none does not look at it.
+/// What is due for a command and an input that is not too large; a command that reads none does not look at it.
 pub fn judge(alloc: Global, command: Command, input: &[u8]) -> Result<Answer, OutOfMemory>
-    requires alone { runs_workers command ≡ false }
-    requires short { length input.now ≤ input_bytes command }
+    requires { length input.now ≤ INPUT_BYTES }
     ensures { IfOk result (IsToldFor command input.now) }
 {
     match command {
         Command::Run(places, crew) => {
-            let engine = Engine::Machine(crew.workers, rule_for(crew));
-            judge_run(alloc, engine, Report::Listing(places), input)
+            judge_run(alloc, Engine::of_crew(crew), Report::Listing(places), input)
         }
         Command::Seq(places) => {
             judge_run(alloc, Engine::Evaluator, Report::Listing(places), input)
@@ -43,7 +41,7 @@ pub fn judge(alloc: Global, command: Command, input: &[u8]) -> Result<Answer, Ou
         Command::Print => judge_print(alloc, input),
         Command::Code => judge_code(alloc, input),
         Command::Gen(n) => judge_gen(alloc, n),
-        Command::Load(_, _) => unreachable!(),
+        Command::Load(n, _) => judge_load(alloc, n),
     }
 }
 
@@ -52,6 +50,14 @@ fn judge_gen(alloc: Global, n: u64) -> Result<Answer, OutOfMemory>
     ensures { IfOk result (λ a. a ≡ written (load_text n)) }
 {
     Ok(written(alloc, generate(alloc, n)?))
+}
+
+// What is due for one that is to be run and summed up.
+fn judge_load(alloc: Global, n: u64) -> Result<Answer, OutOfMemory>
+    ensures { IfOk result (Only (IsDueSized (IsDueScripted (Reports Report.Summary)) (load_text n))) }
+{
+    let load = generate(alloc, n)?;
+    judge_run(alloc, Engine::Evaluator, Report::Summary, load.as_slice())
 }
 
 // What is due where a service is typed and nothing more is asked.
@@ -118,7 +124,7 @@ fn judge_run(
     report: Report,
     input: &[u8],
 ) -> Result<Answer, OutOfMemory>
-    ensures { IfOk result (Only (IsDueSized INPUT_BYTES (IsDueScripted (Reports report)) input.now)) }
+    ensures { IfOk result (Only (IsDueSized (IsDueScripted (Reports report)) input.now)) }
 {
     match accept(alloc, input)? {
         Accepted::Ready(work) => run(alloc, engine, report, work),
@@ -133,7 +139,7 @@ fn judge_trace(
     crew: Crew,
     input: &[u8],
 ) -> Result<Answer, OutOfMemory>
-    ensures { IfOk result (IsDueSized INPUT_BYTES (IsDueScripted (Traces places crew)) input.now) }
+    ensures { IfOk result (IsDueSized (IsDueScripted (Traces places crew)) input.now) }
 {
     match accept(alloc, input)? {
         Accepted::Ready(work) => trace(alloc, places, crew, work),

@@ -15,7 +15,7 @@ mod traces;
 mod work;
 
 pub use accepted::{Accepted, accept};
-pub use answer::{Answer, too_large};
+pub use answer::{Answer, refused};
 pub use judging::judge;
 pub use report::Report;
 pub use told::{reported, status_of};

@@ -2,12 +2,11 @@ ghost use Rattle.std.specs.Prelude.{◌≡◌, ◌≢◌, ◌≤◌, length, IfO
 ghost use Rattle.wave_base.specs.declared.limits.TheConstants.{SCRIPT_BYTES};
 ghost use Rattle.wave_base.specs.Scripts.{IsScript};
 ghost use Rattle.wave_base.specs.Shapes.{IsShape};
-ghost use Rattle.wave_base.specs.Starts.{IsStart};
 ghost use Rattle.mace_ast.specs.Decls.{ServiceTree};
 ghost use Rattle.fault_notes.specs.Notes.{script_note};
 ghost use Rattle.script_reader.specs.declared.error.ScriptError.{ScriptError};
 ghost use Rattle.due_answer.specs.Accepted.{IsAcceptedBy, IsReady};
-ghost use Rattle.due_answer.specs.Due.{IsDueTold, IsDueFirst, IsDueLines, IsDueScript, refusal};
+ghost use Rattle.due_answer.specs.Due.{IsDueTold, IsDueLines, IsDueScript, refusal};
 ghost use Rattle.due_answer.specs.inner.Coded.{IsCoded};
 ghost use Rattle.due_answer.specs.inner.Served.{IsTypedTree};
 ghost use Rattle.wave_base.specs.Memory.{the_refusal};
@@ -18,11 +17,10 @@ use crate::work::Work;
 use context_types::Typed;
 use fault_notes::script_note;
 use plan_actors::{PlanActors, plans_drive};
-use plan_meaning::finished_states_mean;
 use script_reader::{ScriptError, read_script};
 use service_verify::Verified;
 use std::alloc::Global;
-use wave_base::{OutOfMemory, SCRIPT_BYTES, Script, Start};
+use wave_base::{OutOfMemory, SCRIPT_BYTES, Script};
 use wave_machine::runs_are_measured;
 use wave_theory::rules_pick;
 
@@ -34,14 +32,13 @@ fn refused_script(alloc: Global, error: &ScriptError) -> Result<Answer, OutOfMem
     refused(alloc, 4, note.as_slice())
 }
 
-// A script that was read, with its service, the code, and the Start.
-fn ready(typed: Typed, program: Verified, start: Start, script: Script) -> Work
-    ensures { (tree : ServiceTree) → IsTypedTree tree typed → IsCoded typed.shape typed.resolved program → IsStart typed.shape script.hosts start → IsScript typed.shape script → IsReady (λ telling. IsDueTold telling tree start script) result }
+// A script that was read, with its service and the code.
+fn ready(typed: Typed, program: Verified, script: Script) -> Work
+    ensures { (tree : ServiceTree) → IsTypedTree tree typed → IsCoded typed.shape typed.resolved program → IsScript typed.shape script → IsReady (λ telling. IsDueTold telling tree script) result }
 {
     plans_drive();
     rules_pick::<PlanActors>();
     runs_are_measured();
-    finished_states_mean();
     let Typed {
         service: _,
         shape: _,
@@ -51,11 +48,10 @@ fn ready(typed: Typed, program: Verified, start: Start, script: Script) -> Work
         service: resolved,
         program,
         script,
-        start,
     }
 }
 
-// The text of a script that isn't too long, from the first Start.
+// The text of a script that isn't too long.
 fn accept_lines(
     alloc: Global,
     typed: Typed,
@@ -64,13 +60,10 @@ fn accept_lines(
 ) -> Result<Accepted, OutOfMemory>
     requires shape { IsShape typed.shape }
     requires short { length text.now ≤ SCRIPT_BYTES }
-    ensures { (tree : ServiceTree) → IsTypedTree tree typed → IsCoded typed.shape typed.resolved program → IfOk result (IsAcceptedBy (λ telling. IsDueLines (IsDueFirst telling tree) typed.shape text.now)) }
+    ensures { (tree : ServiceTree) → IsTypedTree tree typed → IsCoded typed.shape typed.resolved program → IfOk result (IsAcceptedBy (λ telling. IsDueLines (IsDueTold telling tree) typed.shape text.now)) }
 {
     match read_script(alloc, &typed.shape, text) {
-        Ok(script) => {
-            let start = Start::first(alloc, &typed.shape)?;
-            Ok(Accepted::Ready(ready(typed, program, start, script)))
-        }
+        Ok(script) => Ok(Accepted::Ready(ready(typed, program, script))),
         Err(error) => Ok(Accepted::Refused(refused_script(alloc, &error)?)),
     }
 }
@@ -83,7 +76,7 @@ pub fn accept_script(
     text: &[u8],
 ) -> Result<Accepted, OutOfMemory>
     requires { IsShape typed.shape }
-    ensures { (tree : ServiceTree) → IsTypedTree tree typed → IsCoded typed.shape typed.resolved program → IfOk result (IsAcceptedBy (λ telling. IsDueScript (IsDueFirst telling) text.now tree)) }
+    ensures { (tree : ServiceTree) → IsTypedTree tree typed → IsCoded typed.shape typed.resolved program → IfOk result (IsAcceptedBy (λ telling. IsDueScript (IsDueTold telling) text.now tree)) }
 {
     if text.len() > SCRIPT_BYTES {
         return refuse(alloc, 4, b"TooLarge script");

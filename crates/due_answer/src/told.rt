@@ -33,15 +33,13 @@ fn report_text(
     alloc: Global,
     report: Report,
     shape: &Shape,
-    first: Ticket,
     done: &Finished,
 ) -> Result<Seq<u8>, OutOfMemory>
-    requires first { 1 ≤ first.0 }
-    requires few { length done.now.results ≤ 2 ^ 32 - 1 }
-    ensures { IfOk result (λ text. text ≡ report_text shape.now first.0 report done.now) }
+    requires { length done.now.results ≤ 2 ^ 32 - 1 }
+    ensures { IfOk result (λ text. text ≡ report_text shape.now report done.now) }
 {
     match report {
-        Report::Listing(places) => listing(alloc, shape, first, done, is_listed(places)),
+        Report::Listing(places) => listing(alloc, shape, Ticket(1), done, is_listed(places)),
         Report::Summary => summarize(alloc, done.results.as_slice()),
     }
 }
@@ -53,19 +51,17 @@ pub fn status_of(results: &[EventResult]) -> u8
     if any_trap(results) { 1 } else { 0 }
 }
 
-/// All that was done is told; its first ticket is `first`.
+/// All that was done is told.
 pub fn reported(
     alloc: Global,
     report: Report,
     shape: &Shape,
-    first: Ticket,
     done: &Finished,
 ) -> Result<Answer, OutOfMemory>
-    requires first { 1 ≤ first.0 }
-    requires few { length done.now.results ≤ 2 ^ 32 - 1 }
-    ensures { IfOk result (λ a. a ≡ reported shape.now first.0 report done.now) }
+    requires { length done.now.results ≤ 2 ^ 32 - 1 }
+    ensures { IfOk result (λ a. a ≡ reported shape.now report done.now) }
 {
-    let text = report_text(alloc, report, shape, first, done)?;
+    let text = report_text(alloc, report, shape, done)?;
     Ok(Answer {
         status: status_of(done.results.as_slice()),
         note: Seq::new(alloc),

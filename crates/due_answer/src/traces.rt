@@ -2,7 +2,6 @@
 
 ghost use Rattle.std.specs.Prelude.{◌≡◌, List, map, All, IfOk};
 ghost use Rattle.journal_text.specs.Fits.{HasPath};
-ghost use Rattle.wave_base.specs.declared.start.Start.{Start};
 ghost use Rattle.journal_text.specs.JournalTexts.{IsJournalText};
 ghost use Rattle.plan_actors.specs.Plans as plans;
 ghost use Rattle.wave_labels.specs.declared.label.Label.{Label};
@@ -21,14 +20,14 @@ use command_words::{Crew, Places};
 use journal_text::write_journal;
 use plan_actors::{PlanActors, plans_drive};
 use std::alloc::Global;
-use wave_base::{OutOfMemory, Seq};
+use wave_base::{OutOfMemory, Seq, Start};
 use wave_labels::Label;
 use wave_machine::{Plan, drive_with};
 use wave_theory::{by_owners, complete, one_owner, rules_pick, trails};
 
 /// Each context that a finished run names is one of the shape.
 pub fn runs_have_paths()
-    ensures { (plan : plans.Plan) (start : Start) (journal : List Label) → HasCode plan → plans.FitsStart plan start → IsFinishedRun plan start (map label_of journal) → All (λ (l : Label). HasPath plan.program.shape l.act) journal }
+    ensures { (plan : plans.Plan) (journal : List Label) → HasCode plan → IsFinishedRun plan (map label_of journal) → All (λ (l : Label). HasPath plan.program.shape l.act) journal }
 {
     by_owners::<PlanActors>();
     complete::<PlanActors>();
@@ -39,7 +38,7 @@ pub fn runs_have_paths()
 /// The text of the journal of a finished run.
 pub fn journal_of(alloc: Global, plan: &Plan, journal: &Seq<Label>) -> Result<Seq<u8>, OutOfMemory>
     requires code { HasCode (plan_of plan.now) }
-    requires run { (start : Start) × plans.FitsStart (plan_of plan.now) start × IsFinishedRun (plan_of plan.now) start (map label_of journal.now) }
+    requires run { IsFinishedRun (plan_of plan.now) (map label_of journal.now) }
     ensures { IfOk result (λ text. IsJournalText plan.now.program.shape text journal.now) }
 {
     runs_have_paths();
@@ -53,10 +52,11 @@ pub fn trace(alloc: Global, places: Places, crew: Crew, work: Work) -> Result<An
 {
     plans_drive();
     rules_pick::<PlanActors>();
-    let (plan, start) = work.into_plan(crew.workers);
+    let plan = work.into_plan(crew.workers);
     let shape = &plan.program.program().shape;
+    let start = Start::first(alloc, shape)?;
     let (done, journal) = drive_with(alloc, &plan, &start, rule_for(crew))?;
-    let told = reported(alloc, Report::Listing(places), shape, start.next, &done)?;
+    let told = reported(alloc, Report::Listing(places), shape, &done)?;
     followed_by(told, &journal_of(alloc, &plan, &journal)?)
 }
 

@@ -2,13 +2,13 @@
 use Rattle.std.proofs.Common.{◌≡◌, inl, inr, ◌∙◌, ℕ, Bool, true, false, List, Option, Some, ap, refl, sym, subst}
 use Rattle.wave_io.specs.Causes.{Rose}
 use Rattle.command_words.specs.declared.command.Command.{Command}
-use Rattle.command_words.specs.Inputs.{input_bytes, reads_input}
+use Rattle.command_words.specs.Inputs.{reads_input}
 use Rattle.command_words.specs.Reading.{command_of}
 use Rattle.due_answer.specs.declared.answer.Answer.{Answer}
 use Rattle.due_answer.specs.Due.{IsToldFor, too_large_input}
 use Rattle.eventwave.specs.declared.ending.Ending.{Ending}
 use Rattle.eventwave.specs.declared.ending.Ending.TheVariants.{WordsRefused, ReadFault, WriteFault, NoMemory, Answered}
-use Rattle.eventwave.specs.Ends.{Change, IsInput, IsLong, ReadsAll, most_by, most_where, read_by, reads_where}
+use Rattle.eventwave.specs.Ends.{Change, IsInput, IsLong, ReadsAll, read_by, reads_where}
 use Rattle.eventwave.specs.inner.Parts.{Did, Ended, Gave, ReadsDue, SomeGave, is_read_fault}
 use Rattle.eventwave.proofs.EndLemmas.{too_large_due}
 
@@ -37,13 +37,13 @@ module _ (old new : Option (List ℕ)) where
   reads_none P (NoMemory _) g = refl
   reads_none P (Answered status note) g = refl
 
-reads_due : (b : Bool) (most : ℕ) (old new : Option (List ℕ)) (e : Ending) → ReadsAll most old new → ReadsDue b most old new e
-reads_due true most old new WordsRefused h = tt
-reads_due true most old new ReadFault h = tt
-reads_due true most old new WriteFault h = tt
-reads_due true most old new (NoMemory _) h = tt
-reads_due true most old new (Answered status note) h = h
-reads_due false most old new e h = tt
+reads_due : (b : Bool) (old new : Option (List ℕ)) (e : Ending) → ReadsAll old new → ReadsDue b old new e
+reads_due true old new WordsRefused h = tt
+reads_due true old new ReadFault h = tt
+reads_due true old new WriteFault h = tt
+reads_due true old new (NoMemory _) h = tt
+reads_due true old new (Answered status note) h = h
+reads_due false old new e h = tt
 
 not_unread : {X : Type 0} (b : Bool) → b ≡ true → b ≡ false → X
 not_unread b h k = (let bad : true ≡ false = sym h ∙ k in absurd cc)
@@ -51,9 +51,6 @@ not_unread b h k = (let bad : true ≡ false = sym h ∙ k in absurd cc)
 module _ (words : List (List ℕ)) (c : Command) (accepted : command_of words ≡ Some c) (input out : Change) where
   same_reads : read_by words ≡ reads_input c
   same_reads = ap reads_where accepted
-
-  same_most : most_by words ≡ input_bytes c
-  same_most = ap most_where accepted
 
   ended_of : (bytes : List ℕ) → IsInput c input.bytes bytes → (e : Ending) → SomeGave (IsToldFor c bytes) out.bytes out.bytes_now e → Ended words input.bytes out.bytes out.bytes_now e
   ended_of bytes i WordsRefused g = absurd g.gave
@@ -64,11 +61,11 @@ module _ (words : List (List ℕ)) (c : Command) (accepted : command_of words �
   ended_of bytes i (Answered status note) g = record { command = c; accepted = accepted; bytes = bytes; input = i; found = record { due = g.due; told = g.is_so; holds = g.gave } }
 
   -- a command that reads its input has read it, and an answer that is due for it was given
-  pub did_read : reads_input c ≡ true → (bytes : List ℕ) → IsInput c input.bytes bytes → ReadsAll (input_bytes c) input.bytes input.bytes_now
+  pub did_read : reads_input c ≡ true → (bytes : List ℕ) → IsInput c input.bytes bytes → ReadsAll input.bytes input.bytes_now
       → (e : Ending) → SomeGave (IsToldFor c bytes) out.bytes out.bytes_now e → (e ≡ WriteFault → Rose out.faults out.faults_now) → Did words input out e
   did_read reads bytes i all e g fault = record {
     ended = ended_of bytes i e g;
-    read = reads_due (read_by words) (most_by words) input.bytes input.bytes_now e (subst (λ n. ReadsAll n input.bytes input.bytes_now) (sym same_most) all);
+    read = reads_due (read_by words) input.bytes input.bytes_now e all;
     read_fault = λ is. (let bad : is_read_fault ReadFault ≡ false = subst (λ x. is_read_fault x ≡ false) is (reads_none out.bytes out.bytes_now (IsToldFor c bytes) e g) in absurd cc);
     write_fault = fault;
     unread = λ unread. not_unread (read_by words) (same_reads ∙ reads) unread;
@@ -76,7 +73,7 @@ module _ (words : List (List ℕ)) (c : Command) (accepted : command_of words �
   }
 
   -- and where it is too large
-  pub did_long : reads_input c ≡ true → IsLong (input_bytes c) input.bytes
+  pub did_long : reads_input c ≡ true → IsLong input.bytes
       → (e : Ending) → Gave too_large_input out.bytes out.bytes_now e → (e ≡ WriteFault → Rose out.faults out.faults_now) → Did words input out e
   did_long reads long e g fault =
       let due = too_large_due c input.bytes too_large_input reads refl long in

@@ -1,11 +1,11 @@
 -- What is written of a run, part by part.
-use Rattle.std.proofs.Common.{◌≡◌, ◌∙◌, ℕ, ◌+◌, ◌^◌, ◌≤◌, true, false, List, [], ◌++◌, length, map, Option, None, Some, ap, inr, refl, sym, subst, append_assoc, append-nil}
+use Rattle.std.proofs.Common.{◌≡◌, ◌∙◌, ℕ, true, false, List, [], ◌++◌, length, map, Option, None, Some, ap, arith, inr, refl, sym, subst, append_assoc, append-nil}
 use Rattle.std.specs.Prelude.{if◌then◌else◌, is_none}
 use Rattle.std.specs.List.{concat}
 use Rattle.std.specs.Io.KnownBytes.{Appends}
 use Rattle.std.proofs.KnownBytes.{Appends-trans}
 use Rattle.std.proofs.lemmas.List.Folds.{concat-append}
-use Rattle.wave_base.specs.declared.start.Start.{Start}
+use Rattle.wave_base.specs.Starts.{first_start}
 use Rattle.wave_base.specs.declared.finished.Finished.{Finished}
 use Rattle.wave_base.specs.declared.finished.Place.{Place}
 use Rattle.wave_base.specs.declared.script.Script.{Script}
@@ -33,8 +33,8 @@ use Rattle.host_workers.specs.Runs.{IsRun}
 use Rattle.due_answer.specs.declared.answer.Answer.{Answer}
 use Rattle.due_answer.specs.declared.report.Report.TheVariants.{Listing}
 use Rattle.due_answer.specs.declared.work.Work.{Work}
-use Rattle.due_answer.specs.Accepted.{CanRun, HasCode, plan_with, ran, report_of, trace_of}
-use Rattle.due_answer.specs.Due.{any_trap, is_listed}
+use Rattle.due_answer.specs.Accepted.{CanRun, plan_with, ran, trace_of}
+use Rattle.due_answer.specs.Due.{any_trap, is_listed, reported}
 use Rattle.due_answer.specs.Runs.{IsFinishedRun, IsRunBy, nearest_workers}
 use Rattle.eventwave.specs.declared.ending.Ending.{Ending}
 use Rattle.eventwave.specs.declared.ending.Ending.TheVariants.{WordsRefused, ReadFault, WriteFault, NoMemory, Answered}
@@ -42,7 +42,7 @@ use Rattle.eventwave.specs.declared.task.Behind.{Behind}
 use Rattle.eventwave.specs.declared.task.Behind.TheVariants.{Nothing, Journal}
 use Rattle.eventwave.specs.declared.task.Task.{Task}
 use Rattle.eventwave.specs.inner.Parts.{Gave, Gives, SomeGave}
-use Rattle.eventwave.specs.inner.Tasks.{IsRanBy, Tells, TellsWith, command_for, command_with, end_text, rest_of, rest_with}
+use Rattle.eventwave.specs.inner.Tasks.{Tells, TellsWith, command_for, command_with, end_text, rest_of, rest_with}
 use Rattle.eventwave.proofs.GivingLemmas.{gives_it}
 use Rattle.wave_base.specs.Memory.{the_refusal}
 
@@ -68,26 +68,21 @@ gave_behind old mid new lines a (Answered status note) p g = (g.0, g.1, Appends-
 
 -- ---- the lines of a run
 
-abbrev pub lines_by : Program → Start → Script → List ℕ
-lines_by p b s = concat (lines_from p.shape b.next.0 (shown_of (finished_of (code_ran p) p.shape b s)))
+abbrev pub lines_by : Program → Script → List ℕ
+lines_by p s = concat (lines_from p.shape 1 (shown_of (finished_of (code_ran p) p.shape (first_start p.shape) s)))
 
 -- the lines of the events of what was accepted
 abbrev pub lines_of : Work → List ℕ
-lines_of work = lines_by work.program work.start work.script
+lines_of work = lines_by work.program work.script
 
-pub same_lines : (work : Work) (plan : Plan) (start : Start) → plan.program ≡ work.program → plan.script ≡ work.script → start ≡ work.start → event_lines plan start ≡ lines_of work
-same_lines work plan start p s b = λ i. lines_by (p i) (b i) (s i)
+pub same_lines : (work : Work) (plan : Plan) → plan.program ≡ work.program → plan.script ≡ work.script → event_lines plan (first_start plan.program.shape) ≡ lines_of work
+same_lines work plan p s = λ i. lines_by (p i) (s i)
 
-pub same_ran : (work : Work) (plan : Plan) (start : Start) → plan.program ≡ work.program → plan.script ≡ work.script → start ≡ work.start → told_by plan start ≡ ran work
-same_ran work plan start p s b = λ i. finished_of (code_ran (p i)) (p i).shape (b i) (s i)
+pub same_ran : (work : Work) (plan : Plan) → plan.program ≡ work.program → plan.script ≡ work.script → told_by plan (first_start plan.program.shape) ≡ ran work
+same_ran work plan p s = λ i. finished_of (code_ran (p i)) (p i).shape (first_start (p i).shape) (s i)
 
--- what stands behind the lines of what was accepted
-abbrev end_of : Places → Work → List ℕ
-end_of places work = end_text places work.program.shape work.start.next.0 (ran work)
-
-listing_is : (work : Work) (places : Places) → (report_of work (Listing places)).text ≡ lines_of work ++ end_of places work
-listing_is work places =
-    concat-append (lines_from work.program.shape work.start.next.0 (shown_of (ran work))) (end_lines work.program.shape (places_of (ran work) (is_listed places)) (last_ticket work.start.next.0 (ran work)))
+listing_is : (work : Work) (places : Places) → (reported work.program.shape (Listing places) (ran work)).text ≡ lines_of work ++ end_text places work.program.shape (ran work)
+listing_is work places = concat-append (lines_from work.program.shape 1 (shown_of (ran work))) (end_lines work.program.shape (places_of (ran work) (is_listed places)) (last_ticket 1 (ran work)))
 
 -- ---- what is told of a run
 
@@ -100,92 +95,84 @@ no_schedule None h = refl
 no_schedule (Some s) h = (let bad : false ≡ true = h in absurd cc)
 
 -- a finished run of a free crew is one of its runs
-free_run : (crew : Crew) (plan : plans.Plan) (start : Start) (labels : List theory.Label) → is_none crew.schedule ≡ true → IsFinishedRun plan start labels → IsRunBy crew.schedule plan start labels
-free_run crew plan start labels free run = subst (λ s. IsRunBy s plan start labels) (sym (no_schedule crew.schedule free)) run
+free_run : (crew : Crew) (plan : plans.Plan) (labels : List theory.Label) → is_none crew.schedule ≡ true → IsFinishedRun plan labels → IsRunBy crew.schedule plan labels
+free_run crew plan labels free run = subst (λ s. IsRunBy s plan labels) (sym (no_schedule crew.schedule free)) run
 
 -- what the workers' run is in words of plans
-pub finished_run : (plan : Plan) (start : Start) (labels : List theory.Label) → hosts.IsFinishedRun plan start labels → IsFinishedRun (plan_of plan) start labels
-finished_run plan start labels h = record { state = h.state; reached = h.reached; finished = h.finished }
+pub finished_run : (plan : Plan) (labels : List theory.Label) → hosts.IsFinishedRun plan (first_start plan.program.shape) labels → IsFinishedRun (plan_of plan) labels
+finished_run plan labels h = record { state = h.state; reached = h.reached; finished = h.finished }
 
 same_plan : (work : Work) (plan : Plan) (workers : ℕ) → plan.program ≡ work.program → plan.script ≡ work.script → plan.workers ≡ workers → plan_of plan ≡ plan_with work workers
 same_plan work plan workers p s w = λ i. record { program = p i; script = s i; workers = w i }
 
 -- the lines of the events, and what stands behind them, is what is told
 tells_rest : (behind : Behind) (places : Places) (crew : Crew) (work : Work) (journal : List Label) → runs_workers (command_with behind places crew) ≡ true
-    → IsFinishedRun (plan_with work (nearest_workers crew.workers)) work.start (map label_of journal)
-    → TellsWith behind places crew work (with_lines (lines_of work) (rest_of (record { places = places; behind = behind; crew = crew }) work.program.shape work.start.next.0 (ran work) journal))
+    → IsFinishedRun (plan_with work (nearest_workers crew.workers)) (map label_of journal)
+    → TellsWith behind places crew work (with_lines (lines_of work) (rest_of (record { places = places; behind = behind; crew = crew }) work.program.shape (ran work) journal))
 tells_rest Nothing places crew work journal free run = ap (as_told work) (sym (listing_is work places))
 tells_rest Journal places crew work journal free run = record {
   journal = journal;
-  run = free_run crew (plan_with work (nearest_workers crew.workers)) work.start (map label_of journal) free run;
+  run = free_run crew (plan_with work (nearest_workers crew.workers)) (map label_of journal) free run;
   is = (let text : List ℕ = journal_text work.program.shape journal in
-      ap (as_told work) (sym (append_assoc (lines_of work) (end_of places work) text) ∙ ap (λ z. z ++ text) (sym (listing_is work places))));
+      ap (as_told work) (sym (append_assoc (lines_of work) (end_text places work.program.shape (ran work)) text) ∙ ap (λ z. z ++ text) (sym (listing_is work places))));
 }
 
 -- where the lines broke off, they are a front of what is told of some run
 tells_front : (behind : Behind) (places : Places) (crew : Crew) (work : Work) (old new : Option (List ℕ)) (e : Ending) → CanRun work → AppendsFront old new (lines_of work)
     → ((a : Answer) → AppendsFront old new a.text → Gave a old new e) → Gives (TellsWith behind places crew work) old new e
 tells_front Nothing places crew work old new e can front g =
-    let a : Answer = report_of work (Listing places) in
-    record { due = a; is_so = refl; gave = g a (subst (AppendsFront old new) (sym (listing_is work places)) (front_on old new (lines_of work) (end_of places work) front)) }
+    let a : Answer = reported work.program.shape (Listing places) (ran work) in
+    record { due = a; is_so = refl; gave = g a (subst (AppendsFront old new) (sym (listing_is work places)) (front_on old new (lines_of work) (end_text places work.program.shape (ran work)) front)) }
 tells_front Journal places crew work old new e can front g =
     let j = can.runs crew in
     let a : Answer = trace_of work places j.0 in
-    let whole = subst (AppendsFront old new) (sym (listing_is work places)) (front_on old new (lines_of work) (end_of places work) front) in
+    let whole = subst (AppendsFront old new) (sym (listing_is work places)) (front_on old new (lines_of work) (end_text places work.program.shape (ran work)) front) in
     record {
       due = a;
       is_so = record { journal = j.0; run = j.1; is = refl };
-      gave = g a (front_on old new (report_of work (Listing places)).text (journal_text work.program.shape j.0) whole);
+      gave = g a (front_on old new (reported work.program.shape (Listing places) (ran work)).text (journal_text work.program.shape j.0) whole);
     }
 
-module _ (task : Task) (work : Work) (plan : Plan) (start : Start) (p : plan.program ≡ work.program) (s : plan.script ≡ work.script) (b : start ≡ work.start) where
+module _ (task : Task) (work : Work) (plan : Plan) (p : plan.program ≡ work.program) (s : plan.script ≡ work.script) where
   -- a run that came to its end, with all that was written behind its lines
   pub run_gives : (done : Finished) (journal : List Label) (old mid new : Option (List ℕ)) (e : Ending) → runs_workers (command_for task) ≡ true
-      → plan.workers ≡ nearest_workers task.crew.workers → IsRun plan start (done, journal)
-      → Appends old mid (event_lines plan start) → Gave (rest_of task plan.program.shape start.next.0 done journal) mid new e → SomeGave (Tells task work) old new e
+      → plan.workers ≡ nearest_workers task.crew.workers → IsRun plan (first_start plan.program.shape) (done, journal)
+      → Appends old mid (event_lines plan (first_start plan.program.shape)) → Gave (rest_of task plan.program.shape done journal) mid new e → SomeGave (Tells task work) old new e
   run_gives done journal old mid new e free w run lines gave =
-      let r : done ≡ ran work = run.done ∙ same_ran work plan start p s b in
-      let rest : Answer = rest_of task work.program.shape work.start.next.0 (ran work) journal in
-      let g : Gave rest mid new e = subst (λ a. Gave a mid new e) (λ i. rest_of task (p i).shape (b i).next.0 (r i) journal) gave in
-      let l : Appends old mid (lines_of work) = subst (Appends old mid) (same_lines work plan start p s b) lines in
+      let r : done ≡ ran work = run.0 ∙ same_ran work plan p s in
+      let rest : Answer = rest_of task work.program.shape (ran work) journal in
+      let g : Gave rest mid new e = subst (λ a. Gave a mid new e) (λ i. rest_of task (p i).shape (r i) journal) gave in
+      let l : Appends old mid (lines_of work) = subst (Appends old mid) (same_lines work plan p s) lines in
       let labels : List theory.Label = map label_of journal in
-      let f : IsFinishedRun (plan_with work (nearest_workers task.crew.workers)) work.start labels =
-      subst (λ x. IsFinishedRun (plan_with work (nearest_workers task.crew.workers)) x labels) b (subst (λ x. IsFinishedRun x start labels) (same_plan work plan (nearest_workers task.crew.workers) p s w) (finished_run plan start labels run.run)) in
+      let f = subst (λ x. IsFinishedRun x labels) (same_plan work plan (nearest_workers task.crew.workers) p s w) (finished_run plan labels run.1) in
       gives_it old new (Tells task work) (with_lines (lines_of work) rest) e (tells_rest task.behind task.places task.crew work journal free f) (gave_behind old mid new (lines_of work) rest e l g)
 
   -- a run that broke off
-  run_breaks : (old new : Option (List ℕ)) (e : Ending) → CanRun work → AppendsFront old new (event_lines plan start)
+  run_breaks : (old new : Option (List ℕ)) (e : Ending) → CanRun work → AppendsFront old new (event_lines plan (first_start plan.program.shape))
       → ((a : Answer) → AppendsFront old new a.text → Gave a old new e) → Gives (Tells task work) old new e
   run_breaks old new e can front g =
-      tells_front task.behind task.places task.crew work old new e can (subst (AppendsFront old new) (same_lines work plan start p s b) front) g
+      tells_front task.behind task.places task.crew work old new e can (subst (AppendsFront old new) (same_lines work plan p s) front) g
 
-  pub run_fails : (old new : Option (List ℕ)) → CanRun work → AppendsFront old new (event_lines plan start) → SomeGave (Tells task work) old new WriteFault
+  pub run_fails : (old new : Option (List ℕ)) → CanRun work → AppendsFront old new (event_lines plan (first_start plan.program.shape)) → SomeGave (Tells task work) old new WriteFault
   run_fails old new can front = run_breaks old new WriteFault can front (λ a h. h)
 
-  pub run_wants : (old new : Option (List ℕ)) → CanRun work → AppendsFront old new (event_lines plan start) → SomeGave (Tells task work) old new (NoMemory the_refusal)
+  pub run_wants : (old new : Option (List ℕ)) → CanRun work → AppendsFront old new (event_lines plan (first_start plan.program.shape)) → SomeGave (Tells task work) old new (NoMemory the_refusal)
   run_wants old new can front = inr (run_breaks old new (NoMemory the_refusal) can front (λ a h. h))
-
-  -- what was run, as one
-  pub is_ran : (done : Finished) (journal : List Label) → CanRun work → HasCode (plan_of plan) → plans.FitsStart (plan_of plan) start → IsRun plan start (done, journal) → IsRanBy (record { plan = plan; start = start; done = done; journal = journal })
-  is_ran done journal can code begins run = record {
-    code = code;
-    begins = begins;
-    run = finished_run plan start (map label_of journal) run.run;
-    few = subst (λ (f : Finished). start.next.0 + length f.results ≤ 2 ^ 32) (sym (run.done ∙ same_ran work plan start p s b)) (subst (λ (x : Start). x.next.0 + length (ran work).results ≤ 2 ^ 32) (sym b) can.few);
-  }
 
 -- ---- the end of a listing
 
-pub end_same : (mine p : Program) (first : ℕ) (done : Finished) (places : Places) (listed : Option (List Place)) (last : ℕ) → mine ≡ p → listed ≡ places_of done (is_listed places) → last ≡ last_ticket first done
-    → concat (end_lines mine.shape listed last) ≡ end_text places p.shape first done
-end_same mine p first done places listed last m l e = λ i. concat (end_lines (m i).shape (l i) (e i))
+pub end_same : (mine p : Program) (done : Finished) (places : Places) (listed : Option (List Place)) (last : ℕ) → mine ≡ p → listed ≡ places_of done (is_listed places) → last ≡ length done.results
+    → concat (end_lines mine.shape listed last) ≡ end_text places p.shape done
+end_same mine p done places listed last m l e =
+    let same : last ≡ last_ticket 1 done = omega arith in
+    λ i. concat (end_lines (m i).shape (l i) (same i))
 
-module _ (shape : Shape) (first : ℕ) (done : Finished) (journal : List Label) (old mid new : Option (List ℕ)) where
+module _ (shape : Shape) (done : Finished) (journal : List Label) (old mid new : Option (List ℕ)) where
   -- the end broke off
-  pub end_broken : (behind : Behind) (places : Places) → AppendsFront old new (end_text places shape first done) → AppendsFront old new (rest_with behind places shape first done journal)
+  pub end_broken : (behind : Behind) (places : Places) → AppendsFront old new (end_text places shape done) → AppendsFront old new (rest_with behind places shape done journal)
   end_broken Nothing places front = front
-  end_broken Journal places front = front_on old new (end_text places shape first done) (journal_text shape journal) front
+  end_broken Journal places front = front_on old new (end_text places shape done) (journal_text shape journal) front
 
   -- the end stands there, and the journal broke off
-  pub journal_broken : (places : Places) → Appends old mid (end_text places shape first done) → AppendsFront mid new (journal_text shape journal) → AppendsFront old new (rest_with Journal places shape first done journal)
-  journal_broken places end front = front_behind old mid new (end_text places shape first done) (journal_text shape journal) end front
+  pub journal_broken : (places : Places) → Appends old mid (end_text places shape done) → AppendsFront mid new (journal_text shape journal) → AppendsFront old new (rest_with Journal places shape done journal)
+  journal_broken places end front = front_behind old mid new (end_text places shape done) (journal_text shape journal) end front

@@ -2,7 +2,7 @@
 
 ghost use Rattle.std.specs.Prelude.{◌≡◌, List, ℕ, Option, true, false, Some, IfOk, IsErrOf};
 ghost use Rattle.wave_io.specs.Causes.{Rose};
-ghost use Rattle.command_words.specs.Inputs.{input_bytes, reads_input, runs_workers};
+ghost use Rattle.command_words.specs.Inputs.{reads_input};
 ghost use Rattle.command_words.specs.Reading.{command_of};
 ghost use Rattle.eventwave.specs.Ends.{ReadsAll, Untouched};
 ghost use Rattle.eventwave.specs.inner.Parts.{Ended, ReadsDue, SomeInputDue, is_read_fault};
@@ -10,10 +10,10 @@ ghost use Rattle.eventwave.specs.inner.Parts.{Ended, ReadsDue, SomeInputDue, is_
 use crate::ending::Ending;
 use crate::giving::give;
 use command_words::Command;
-use due_answer::{Answer, judge, too_large};
+use due_answer::{Answer, judge, refused};
 use std::alloc::Global;
 use thiserror::Error;
-use wave_base::OutOfMemory;
+use wave_base::{INPUT_BYTES, OutOfMemory};
 use wave_io::{ReadError, Sink, Source, read_all};
 
 /// Why no answer is due.
@@ -27,8 +27,7 @@ enum InputError {
 
 /// Finds what is due for a command that reads no input.
 fn judge_alone(alloc: Global, command: Command) -> Result<Answer, InputError>
-    requires unread { reads_input command ≡ false }
-    requires alone { runs_workers command ≡ false }
+    requires { reads_input command ≡ false }
     ensures found { (left : Option (List ℕ)) → IfOk result (SomeInputDue command left) }
     ensures sure { ¬ (IsErrOf result InputError.ReadFault) }
 {
@@ -44,19 +43,18 @@ fn judge_input<S: Source>(
     command: Command,
     input: &mut S,
 ) -> Result<Answer, InputError>
-    requires read { reads_input command ≡ true }
-    requires alone { runs_workers command ≡ false }
+    requires { reads_input command ≡ true }
     ensures found { IfOk result (SomeInputDue command (S.left input.old)) }
-    ensures end { IfOk result (λ _. ReadsAll (input_bytes command) (S.left input.old) (S.left input.new)) }
+    ensures end { IfOk result (λ _. ReadsAll (S.left input.old) (S.left input.new)) }
     ensures fault { IsErrOf result InputError.ReadFault → Rose (S.faults input.old) (S.faults input.new) }
 {
-    match read_all(alloc, input, command.input_bytes()) {
+    match read_all(alloc, input, INPUT_BYTES) {
         Ok(bytes) => match judge(alloc, command, bytes.as_slice()) {
             Ok(answer) => Ok(answer),
             Err(refused) => Err(InputError::OutOfMemory(refused)),
         },
         Err(ReadError::ReadFault) => Err(InputError::ReadFault),
-        Err(ReadError::TooLarge) => match too_large(alloc) {
+        Err(ReadError::TooLarge) => match refused(alloc, 3, b"TooLarge input") {
             Ok(answer) => Ok(answer),
             Err(refused) => Err(InputError::OutOfMemory(refused)),
         },
@@ -66,9 +64,8 @@ fn judge_input<S: Source>(
 
 /// Finds what is due for a command.
 fn find_due<S: Source>(alloc: Global, command: Command, input: &mut S) -> Result<Answer, InputError>
-    requires { runs_workers command ≡ false }
     ensures found { IfOk result (SomeInputDue command (S.left input.old)) }
-    ensures end { reads_input command ≡ true → IfOk result (λ _. ReadsAll (input_bytes command) (S.left input.old) (S.left input.new)) }
+    ensures end { reads_input command ≡ true → IfOk result (λ _. ReadsAll (S.left input.old) (S.left input.new)) }
     ensures fault { IsErrOf result InputError.ReadFault → Rose (S.faults input.old) (S.faults input.new) }
     ensures unread { reads_input command ≡ false → Untouched (S.faults input.old) (S.faults input.new) (S.left input.old) (S.left input.new) }
     ensures sure { reads_input command ≡ false → ¬ (IsErrOf result InputError.ReadFault) }
@@ -87,9 +84,8 @@ pub fn perform<S: Source, K: Sink>(
     input: &mut S,
     out: &mut K,
 ) -> Ending
-    requires { runs_workers command ≡ false }
     ensures ended { (words : List (List ℕ)) → command_of words ≡ Some command → Ended words (S.left input.old) (K.written out.old) (K.written out.new) result }
-    ensures read { ReadsDue (reads_input command) (input_bytes command) (S.left input.old) (S.left input.new) result }
+    ensures read { ReadsDue (reads_input command) (S.left input.old) (S.left input.new) result }
     ensures read_fault { result ≡ Ending.ReadFault → Rose (S.faults input.old) (S.faults input.new) }
     ensures write_fault { result ≡ Ending.WriteFault → Rose (K.faults out.old) (K.faults out.new) }
     ensures unread { reads_input command ≡ false → Untouched (S.faults input.old) (S.faults input.new) (S.left input.old) (S.left input.new) }

@@ -7,7 +7,6 @@ mod ending;
 mod giving;
 mod listed;
 mod loads;
-mod ran;
 mod response;
 mod task;
 mod team;

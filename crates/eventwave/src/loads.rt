@@ -3,8 +3,8 @@
 ghost use Rattle.std.specs.Prelude.{◌≡◌, [], IfOk};
 ghost use Rattle.wave_io.specs.Causes.{Rose};
 ghost use Rattle.command_words.specs.declared.command.Command.TheVariants as command;
-ghost use Rattle.due_answer.specs.Accepted.{CanRun, report_of};
-ghost use Rattle.due_answer.specs.Due.{IsToldFor};
+ghost use Rattle.due_answer.specs.Accepted.{CanRun, ran};
+ghost use Rattle.due_answer.specs.Due.{IsToldFor, reported};
 ghost use Rattle.due_answer.specs.declared.report.Report.{Report};
 ghost use Rattle.eventwave.specs.inner.Parts.{SomeGave};
 
@@ -13,7 +13,7 @@ use crate::giving::give;
 use crate::team::Team;
 use command_words::Crew;
 use due_answer::{Accepted, Answer, Report, Work, accept, reported};
-use host_workers::{RunError, run_plan_at};
+use host_workers::{RunError, run_plan};
 use std::sync::Wait;
 use std::thread::Threads;
 use wave_base::OutOfMemory;
@@ -58,13 +58,12 @@ fn sum_up<R: Threads + Wait + Sync, G: Gate + Sync>(
     work: Work,
 ) -> Result<Answer, OutOfMemory>
     requires { CanRun work }
-    ensures { IfOk result (λ a. a ≡ report_of work Report.Summary) }
+    ensures { IfOk result (λ a. a ≡ reported work.program.shape Report.Summary (ran work)) }
 {
-    let (plan, start) = work.into_plan(crew.workers);
+    let plan = work.into_plan(crew.workers);
     let shape = &plan.program.program().shape;
-    let out = &mut SureSink::new();
-    match run_plan_at(team.rt, team.alloc, &plan, &start, team.gate, out) {
-        Ok((done, _)) => reported(team.alloc, Report::Summary, shape, start.next, &done),
+    match run_plan(team.rt, team.alloc, &plan, team.gate, &mut SureSink::new()) {
+        Ok((done, _)) => reported(team.alloc, Report::Summary, shape, &done),
         Err(RunError::OutOfMemory(refused)) => Err(refused),
         Err(RunError::WriteFault) => unreachable!(),
     }

@@ -16,7 +16,7 @@ use crate::loads::run_load;
 use crate::task::{Behind, Task};
 use crate::team::Team;
 use command_words::Command;
-use due_answer::{Accepted, accept, too_large};
+use due_answer::{Accepted, accept, refused};
 use std::alloc::Global;
 use std::sync::Wait;
 use std::thread::Threads;
@@ -84,7 +84,7 @@ fn refuse<K: Sink>(alloc: Global, out: &mut K) -> Ending
     ensures gave { Gave too_large_input (K.written out.old) (K.written out.new) result }
     ensures fault { result ≡ Ending.WriteFault → Rose (K.faults out.old) (K.faults out.new) }
 {
-    match too_large(alloc) {
+    match refused(alloc, 3, b"TooLarge input") {
         Ok(answer) => give(out, answer),
         Err(refused) => Ending::NoMemory(refused),
     }

@@ -2,7 +2,6 @@
 use Rattle.std.specs.Prelude.{◌≡◌, List, map}
 use Rattle.wave_base.specs.declared.finished.Finished.{Finished}
 use Rattle.wave_base.specs.declared.start.Start.{Start}
-use Rattle.plan_actors.specs.Finishing.{Tells}
 use Rattle.wave_labels.specs.declared.label.Label.{Label}
 use Rattle.wave_labels.specs.Labels.{label_of}
 use Rattle.wave_machine.specs.declared.plan.Plan.{Plan}
@@ -11,10 +10,6 @@ use Rattle.wave_machine.specs.Plans.{plan_of}
 use Rattle.host_workers.specs.Endings.{IsFinishedRun}
 use Rattle.host_workers.specs.Lines.{told_by}
 
--- The journal is a run of the machine, label by label from the Start to a state in which nothing is left to do. What was done is what that very
--- state tells, and that is what the script gives. And the journal has just as many labels as the plan's work asks for, and the Passes.
-pub record IsRun (plan : Plan) (start : Start) (r : Finished × List Label) : Type 0 where
-  pub run : IsFinishedRun plan start (map label_of r.1)
-  pub tells : Tells run.state start plan.script.batches r.0
-  pub done : r.0 ≡ told_by plan start
-  pub measured : IsMeasured (plan_of plan) start (map label_of r.1)
+-- what the script gives, and a journal that is a finished run, which has just as many labels as the plan's work asks for
+abbrev pub IsRun : Plan → Start → Finished × List Label → Type 0
+IsRun plan start r = (r.0 ≡ told_by plan start) × IsFinishedRun plan start (map label_of r.1) × IsMeasured (plan_of plan) start (map label_of r.1)

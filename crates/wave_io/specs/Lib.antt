@@ -1,4 +1,3 @@
 pub mod Causes
 pub mod Memory
-pub mod Standard
 pub mod Streams

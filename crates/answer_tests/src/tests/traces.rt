@@ -1,6 +1,6 @@
 //! Scripts that are traced: the listing, and behind it the journal of the run.
 
-use super::{due, has, joined, unmarked};
+use super::{due, equal, has, joined, unmarked};
 use command_words::{Command, Crew, Places, Schedule};
 use due_answer::Answer;
 use std::alloc::Global;
@@ -61,6 +61,7 @@ fn the_journal_stands_behind_the_listing(rt: HostRuntime) -> Result<(), Fail> {
     Ok(())
 }
 
+// Nothing is left to choose where one event has left and is committed but for who is first, so each run has as many steps.
 #[test]
 fn a_trap_is_traced_too(rt: HostRuntime) -> Result<(), Fail> {
     let alloc = rt.alloc();
@@ -79,6 +80,12 @@ fn a_trap_is_traced_too(rt: HostRuntime) -> Result<(), Fail> {
         1,
         b"#1 e trap Require at 1:32\ndone 1\n",
     )?;
+    let free = traced(&rt, alloc, Places::Unlisted, None, input)?;
+    let front = b"#1 e trap Require at 1:32\ndone 1\njournal 7\n".as_slice();
+    let text = free.text.as_slice();
+    equal(&rt, text.get(..front.len()).unwrap_or(b""), front);
+    assert_eq!(rt; text.iter().filter(|byte| **byte == b'\n').count(), 10);
+    assert_eq!(rt; free.status, 1);
     Ok(())
 }
 
@@ -90,8 +97,8 @@ fn refuses(
     status: u8,
     note: &[u8],
 ) -> Result<(), OutOfMemory> {
-    for schedule in [Schedule::Seed(7), Schedule::Oldest] {
-        let answer = traced(rt, alloc, Places::Listed, Some(schedule), input)?;
+    for schedule in [None, Some(Schedule::Oldest)] {
+        let answer = traced(rt, alloc, Places::Listed, schedule, input)?;
         has(rt, &answer, status, note, b"");
     }
     Ok(())

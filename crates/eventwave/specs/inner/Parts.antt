@@ -12,7 +12,7 @@ use Rattle.eventwave.specs.declared.ending.Ending.{Ending}
 use Rattle.eventwave.specs.declared.ending.Ending.TheVariants.{WordsRefused, ReadFault, WriteFault, NoMemory, Answered}
 use Rattle.eventwave.specs.declared.response.Response.{Response}
 use Rattle.eventwave.specs.declared.response.Response.TheVariants.{Done, Crewed}
-use Rattle.eventwave.specs.Ends.{note_for, Change, IsInput, SomeDue, ReadsAll, IsUntouched, WritesFront, most_by, read_by}
+use Rattle.eventwave.specs.Ends.{note_for, Change, IsInput, SomeDue, ReadsAll, IsUntouched, WritesFront, read_by}
 use Rattle.wave_base.specs.Memory.{the_refusal}
 
 -- there are bytes of a command's input for which this answer is due, and with all commands but `trace` no other
@@ -61,9 +61,9 @@ Ended words left old new WriteFault = SomeDue words left (λ due. Gave due old n
 Ended words left old new (Answered status note) = SomeDue words left (λ due. Gave due old new (Answered status note))
 
 -- an answer that is given has read the input, where it is read
-abbrev pub ReadsDue : Bool → ℕ → Option (List ℕ) → Option (List ℕ) → Ending → Type 0
-ReadsDue true most old new (Answered status note) = ReadsAll most old new
-ReadsDue _ most old new ending = Unit {0}
+abbrev pub ReadsDue : Bool → Option (List ℕ) → Option (List ℕ) → Ending → Type 0
+ReadsDue true old new (Answered status note) = ReadsAll old new
+ReadsDue _ old new ending = Unit {0}
 
 -- a command that reads no input never ends so
 abbrev pub is_read_fault : Ending → Bool
@@ -73,7 +73,7 @@ is_read_fault _ = false
 -- what an ending says of the words, and of what was done to the source and to `out`
 pub record Did (words : List (List ℕ)) (input out : Change) (e : Ending) : Type 0 where
   pub ended : Ended words input.bytes out.bytes out.bytes_now e
-  pub read : ReadsDue (read_by words) (most_by words) input.bytes input.bytes_now e
+  pub read : ReadsDue (read_by words) input.bytes input.bytes_now e
   pub read_fault : e ≡ ReadFault → Rose input.faults input.faults_now
   pub write_fault : e ≡ WriteFault → Rose out.faults out.faults_now
   pub unread : read_by words ≡ false → IsUntouched input

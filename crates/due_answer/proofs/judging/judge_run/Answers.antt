@@ -1,5 +1,4 @@
 use Rattle.std.proofs.Common.{subst}
-use Rattle.wave_base.specs.declared.limits.TheConstants.{INPUT_BYTES}
 use Rattle.due_answer.specs.Accepted.{IsAccepted}
 use Rattle.due_answer.specs.Due.{Reports, IsDueScripted, IsDueSized}
 use Rattle.due_answer.proofs.AcceptLemmas.{told_if}
@@ -11,7 +10,7 @@ run-requires c = (subst (IsAccepted c.args.input.now) c.in-Ready.is c.in_ok-work
 pub returns-in-Ready : goal.returns-in-Ready
 returns-in-Ready c =
     let ready = subst (IsAccepted c.args.input.now) c.in-Ready.is c.in_ok-work.ensures in
-    told_if (λ telling. IsDueSized INPUT_BYTES (IsDueScripted telling) c.args.input.now) c.in-Ready.work c.args.report c.run.result ready c.run.ensures
+    told_if (λ telling. IsDueSized (IsDueScripted telling) c.args.input.now) c.in-Ready.work c.args.report c.run.result ready c.run.ensures
 
 pub returns-in-Refused : goal.returns-in-Refused
 returns-in-Refused c = (subst (IsAccepted c.args.input.now) c.in-Refused.is c.in_ok-work.ensures) (Reports c.args.report)

@@ -1,5 +1,4 @@
 use Rattle.std.proofs.Common.{subst}
-use Rattle.wave_base.specs.declared.limits.TheConstants.{INPUT_BYTES}
 use Rattle.due_answer.specs.Accepted.{IsAccepted}
 use Rattle.due_answer.specs.Due.{Traces, IsDueScripted, IsDueSized}
 use Rattle.due_answer.proofs.AcceptLemmas.{traced_if}
@@ -11,7 +10,7 @@ trace-requires c = (subst (IsAccepted c.args.input.now) c.in-Ready.is c.in_ok-wo
 pub returns-in-Ready : goal.returns-in-Ready
 returns-in-Ready c =
     let ready = subst (IsAccepted c.args.input.now) c.in-Ready.is c.in_ok-work.ensures in
-    traced_if (λ telling. IsDueSized INPUT_BYTES (IsDueScripted telling) c.args.input.now) c.in-Ready.work c.args.places c.args.crew c.trace.result ready c.trace.ensures
+    traced_if (λ telling. IsDueSized (IsDueScripted telling) c.args.input.now) c.in-Ready.work c.args.places c.args.crew c.trace.result ready c.trace.ensures
 
 pub returns-in-Refused : goal.returns-in-Refused
 returns-in-Refused c = ((subst (IsAccepted c.args.input.now) c.in-Refused.is c.in_ok-work.ensures) (Traces c.args.places c.args.crew)).is_due

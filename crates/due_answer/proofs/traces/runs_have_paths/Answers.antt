@@ -1,14 +1,18 @@
 use Rattle.std.proofs.Common.{map}
+use Rattle.wave_base.specs.Starts.{first_start}
 use Rattle.wave_labels.specs.Labels.{label_of}
 use Rattle.plan_actors.specs.Plans.{Setting, begin_in}
 use Rattle.plan_actors.proofs.Meeting.{plan_fits, begin_fits}
 use Rattle.plan_actors.proofs.Owing.{setting_of}
 use Rattle.due_answer.proofs.PathLemmas.{all_named}
+use Rattle.due_answer.proofs.RunLemmas.{first_begins}
 use Rattle.due_answer.proofs.traces.runs_have_paths.Goals as goal
 
 pub returns : goal.returns
-returns c = λ plan start journal has begins run.
+returns c = λ plan journal has run.
     let fits = has.fits in
+    let start = first_start plan.program.shape in
+    let begins = first_begins plan has in
     let k : Setting = setting_of plan.program fits.fit fits.verified plan.script.hosts in
     let b = begin_in plan start in
     let is_begin = begin_fits plan fits start begins in

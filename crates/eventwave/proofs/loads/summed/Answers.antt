@@ -1,7 +1,7 @@
 use Rattle.std.proofs.Common.{◌≡◌, ◌∙◌, [], subst}
 use Rattle.command_words.specs.declared.command.Command.TheVariants.{Load}
-use Rattle.due_answer.specs.Accepted.{IsAccepted, report_of}
-use Rattle.due_answer.specs.Due.{IsToldFor}
+use Rattle.due_answer.specs.Accepted.{IsAccepted, ran}
+use Rattle.due_answer.specs.Due.{IsToldFor, reported}
 use Rattle.due_answer.specs.declared.accepted.Accepted.TheVariants.{Ready, Refused}
 use Rattle.due_answer.specs.declared.report.Report.TheVariants.{Summary}
 use Rattle.wave_gen.specs.Load.{load_text}
@@ -13,7 +13,7 @@ returns-in-Ready g c =
     let work = c.in-Ready.work in
     let text : c.as_slice.result.now ≡ load_text c.args.n = c.as_slice.ensures ∙ c.in_ok-load.ensures in
     let ready = subst (λ b. IsAccepted b (Ready work)) text (subst (IsAccepted c.as_slice.result.now) c.in-Ready.is c.in_ok-work.ensures) in
-    if_by (λ a. a ≡ report_of work Summary) (IsToldFor (Load c.args.n c.args.crew) []) c.sum_up.result (load_due c.args.n c.args.crew work ready) c.sum_up.ensures
+    if_by (λ a. a ≡ reported work.program.shape Summary (ran work)) (IsToldFor (Load c.args.n c.args.crew) []) c.sum_up.result (load_due c.args.n c.args.crew work ready) c.sum_up.ensures
 
 pub returns : goal.returns
 returns g c =

@@ -1,4 +1,3 @@
-use Rattle.command_words.specs.Inputs.{input_bytes}
 use Rattle.eventwave.specs.Ends.{Change, change}
 use Rattle.eventwave.specs.inner.Tasks.{command_for}
 use Rattle.eventwave.proofs.DueLemmas.{reads_script}
@@ -12,4 +11,4 @@ returns-in-Err-TooLarge g c = λ words accepted.
     let input : Change = change (g.S.Source.faults c.args.input.now) (g.S.Source.faults c.read_all.new.source) (g.S.Source.left c.args.input.now) (g.S.Source.left c.read_all.new.source) in
     let out : Change = change (g.K.Sink.faults c.args.out.now) (g.K.Sink.faults c.refuse.new.out) (g.K.Sink.written c.args.out.now) (g.K.Sink.written c.refuse.new.out) in
     let gave = c.in-Err-TooLarge.ensures.gave in
-    did_long words (command_for task) accepted input out (reads_script task.behind task.places task.crew) (long_input (input_bytes (command_for task)) input.bytes input.bytes_now gave.0 gave.1 (gave.2.0 cc)) c.refuse.result c.refuse.ensures.gave c.refuse.ensures.fault
+    did_long words (command_for task) accepted input out (reads_script task.behind task.places task.crew) (long_input input.bytes input.bytes_now gave.0 gave.1 (gave.2.0 cc)) c.refuse.result c.refuse.ensures.gave c.refuse.ensures.fault
