@@ -132,21 +132,26 @@ fn a_stop_of_another_host_is_refused(rt: HostRuntime) -> Result<(), Fail> {
     Ok(())
 }
 
-#[test]
-fn numbers_at_their_bounds_are_refused(rt: HostRuntime) -> Result<(), Fail> {
-    let last = MailId {
+// An Enter is passed on, with each number at its bound.
+fn far() -> Act {
+    let mail = MailId {
         ticket: Ticket(u32::MAX),
         number: u32::MAX,
     };
+    Act::Pass(mail, Path::root(), Host(u8::MAX))
+}
+
+#[test]
+fn numbers_at_their_bounds_are_refused(rt: HostRuntime) -> Result<(), Fail> {
+    let alloc = rt.alloc();
     let label = Label {
         worker: Worker(u8::MAX),
         host: Host(u8::MAX),
-        act: Act::Pass(last, Path::root(), Host(u8::MAX)),
+        act: far(),
     };
-    let alloc = rt.alloc();
     let wanted = b"refused 1\nenabled 1\nw0 h0 Admit #1\n";
     reports(&rt, alloc, &[label], 0, wanted)?;
-    reports(&rt, alloc, &[first(label.act)], 0, wanted)?;
+    reports(&rt, alloc, &[first(far())], 0, wanted)?;
     let [_, _, _, _, stop, _, _] = whole();
     reports(&rt, alloc, &[stop], 0, wanted)?;
     Ok(())
