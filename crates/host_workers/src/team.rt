@@ -70,7 +70,7 @@ fn seated<'l, 'p, R, G>(
     Helper { post, pass }
 }
 
-/// Runs worker 0, which writes, beside the others. Where no thread can be made it runs first, and finishes alone.
+/// Runs worker 0, which writes, beside the others. Where no thread can be made it runs last, and finishes alone.
 pub(crate) fn run_team<'l, 'p, R: Threads + Wait + Sync, G: Gate + Sync, K: Sink + Send>(
     post: &Post<'l, 'p, R, G>,
     first: &mut Pass<Board<'p>>,
