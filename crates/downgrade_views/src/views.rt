@@ -1,6 +1,8 @@
 ghost use Rattle.std.specs.Prelude.{◌≡◌, ◌<◌, ◌++◌, ◌∷◌, [], length, true, false, Some, IsSome, IfOk, OnOk, OnErr};
+ghost use Rattle.wave_base.specs.declared.value.Kind.{Kind};
 ghost use Rattle.wave_base.specs.declared.value.Kind.TheVariants as k;
 ghost use Rattle.wave_base.specs.declared.value.Value.TheVariants as v;
+ghost use Rattle.wave_base.specs.Values.{TakesMemory};
 ghost use Rattle.downgrade_views.specs.Levels.{field_at, HasField, kept_level};
 
 use crate::level::{Level, copied, value_of};
@@ -54,10 +56,11 @@ impl Views {
         let _ = self.levels.pop();
     }
 
-    /// A copy of a field of a level, the root's being 0.
+    /// A copy of a field of a level, the root's being 0. Memory is asked for by texts and maps alone.
     pub fn read(&self, level: usize, field: usize) -> Result<Value, OutOfMemory>
         requires { IsSome (field_at self.now level field) }
-        ensures { IfOk result (λ v. field_at self.now level field ≡ Some v) }
+        ensures value { IfOk result (λ v. field_at self.now level field ≡ Some v) }
+        ensures memory { OnErr result ((kind : Kind) → HasField self.now level field kind → TakesMemory kind) }
     {
         self.at(level, field).copy(self.alloc)
     }

@@ -7,5 +7,6 @@ pub mod Balances
 pub mod Fits
 pub mod Policies
 pub mod Examples
+pub mod ExpansionExamples
 pub mod InTree
 pub mod StageLemmas

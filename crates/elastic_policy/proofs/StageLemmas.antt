@@ -15,7 +15,8 @@ use Rattle.wave_base.specs.Starts.{first_start}
 use Rattle.script_reader.specs.declared.elastic.Elastic.{Elastic}
 use Rattle.script_reader.specs.declared.elastic.Part.{Part}
 use Rattle.script_reader.specs.Elastics.{IsPart, IsElastic}
-use Rattle.elastic_policy.specs.Stages.{Staged, Turn, no_loads, first_staged, policy_moves, batches_alone, part_turn, batches_turn, next_of, ArePlaced, FitsHosts, IsStaged}
+use Rattle.elastic_policy.specs.Moves.{policy_moves}
+use Rattle.elastic_policy.specs.Stages.{Staged, Turn, no_loads, first_staged, batches_alone, part_turn, batches_turn, next_of, ArePlaced, FitsHosts, IsStaged}
 
 -- ---- contexts that nothing entered
 

@@ -1,4 +1,5 @@
 pub mod Moves
 pub mod MoveFacts
+pub mod Expansions
 pub mod Stages
 pub mod inner

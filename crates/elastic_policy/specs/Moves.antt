@@ -80,6 +80,11 @@ abbrev pub moves_of : ℕ → Policy → List (Place × ℕ) → List Line
 moves_of hosts (Balance most) xs = balance hosts most xs
 moves_of hosts (Drain from to) xs = drain from.0 to.0 xs
 
+-- none where no policy stands
+abbrev pub policy_moves : ℕ → Option Policy → List (Place × ℕ) → List Line
+policy_moves hosts None xs = []
+policy_moves hosts (Some p) xs = moves_of hosts p xs
+
 -- the contexts after a line of a script: a move alone changes them
 abbrev pub after_line : List (Place × ℕ) → Line → List (Place × ℕ)
 after_line xs (Request call) = xs

@@ -16,7 +16,7 @@ use Rattle.wave_base.specs.Starts.{first_start}
 use Rattle.script_fold.specs.Runs.{start_after}
 use Rattle.script_reader.specs.declared.elastic.Elastic.{Elastic}
 use Rattle.script_reader.specs.declared.elastic.Part.{Part}
-use Rattle.elastic_policy.specs.Moves.{moves_of}
+use Rattle.elastic_policy.specs.Moves.{policy_moves}
 
 -- how far it has come: what the next piece begins with, how many tickets of the piece before entered each of its contexts, and the parts
 -- that are left
@@ -39,11 +39,6 @@ first_staged shape elastic = record {
 }
 
 -- ---- the next piece
-
--- none where no policy stands
-abbrev pub policy_moves : ℕ → Option Policy → List (Place × ℕ) → List Line
-policy_moves hosts None xs = []
-policy_moves hosts (Some p) xs = moves_of hosts p xs
 
 -- without its policy, whose moves were run
 abbrev pub batches_alone : Part → Part

@@ -5,7 +5,8 @@ ghost use Rattle.std.specs.List.{zip};
 ghost use Rattle.wave_base.specs.Shapes.{IsShape};
 ghost use Rattle.wave_base.specs.declared.limits.TheConstants.{HOSTS};
 ghost use Rattle.script_reader.specs.Elastics.{IsElastic};
-ghost use Rattle.elastic_policy.specs.Stages.{first_staged, no_loads, policy_moves, piece_of, passed, staged_after, ArePlaced, FitsHosts, IsStaged, MayFollow};
+ghost use Rattle.elastic_policy.specs.Moves.{policy_moves};
+ghost use Rattle.elastic_policy.specs.Stages.{first_staged, no_loads, piece_of, passed, staged_after, ArePlaced, FitsHosts, IsStaged, MayFollow};
 
 use crate::plan::plan_moves;
 use script_reader::{Elastic, Part};

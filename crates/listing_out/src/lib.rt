@@ -9,4 +9,6 @@ mod write;
 
 pub use law::parts_make_a_listing;
 pub use whole::listing;
-pub use write::{ListError, write_end, write_lines, write_listing, write_listing_at};
+pub use write::{
+    ListError, write_end, write_lines, write_listing, write_listing_at, write_results,
+};

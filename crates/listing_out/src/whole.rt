@@ -51,7 +51,8 @@ pub(crate) fn ticket_at(first: Ticket, i: usize) -> u64
     u64::from(first.0) + i as u64
 }
 
-fn put_lines(out: &mut Vec<u8>, lines: &[Seq<u8>]) -> Result<(), OutOfMemory>
+/// Appends lines.
+pub(crate) fn put_lines(out: &mut Vec<u8>, lines: &[Seq<u8>]) -> Result<(), OutOfMemory>
     ensures { OnOk result (out.new.items ≡ out.old.items ++ concat lines.now) }
 {
     for line in lines {

@@ -1,16 +1,17 @@
-ghost use Rattle.std.specs.Prelude.{◌≡◌, ◌+◌, ◌-◌, ◌^◌, ◌≤◌, length, option_copied, OnOk, OnErr, IsErrOf};
+ghost use Rattle.std.specs.Prelude.{◌≡◌, ◌+◌, ◌-◌, ◌^◌, ◌≤◌, length, option_copied, IfOk, OnOk, OnErr, IsErrOf};
 ghost use Rattle.std.specs.List.{concat};
 ghost use Rattle.std.specs.Io.KnownBytes.{Appends};
 ghost use Rattle.wave_io.specs.Causes.{HasCause, Rose};
+ghost use Rattle.wave_io.specs.Held.{Takes, TakesFront};
 ghost use Rattle.wave_io.specs.Streams.{AppendsFront};
-ghost use Rattle.listing_out.specs.Listing.{lines_from, end_lines, listing};
+ghost use Rattle.listing_out.specs.Listing.{lines_from, shown_of, end_lines, listing};
 
 use crate::lines::{end_lines, result_lines};
-use crate::whole::{last_ticket, made_at, name_at, places_of, ticket_at};
+use crate::whole::{last_ticket, made_at, name_at, places_of, put_lines, ticket_at};
 use std::alloc::Global;
 use thiserror::Error;
 use wave_base::{Finished, OutOfMemory, Place, Seq, Shape, Shown, Ticket};
-use wave_io::{Failed, Sink, write_all};
+use wave_io::{Failed, HeldBytes, Sink, write_all};
 
 /// Why a listing was not written whole. A front of it was.
 #[derive(Clone, Copy, Debug, PartialEq, Eq, Error)]
@@ -45,19 +46,40 @@ impl From<Failed> for ListError {
     }
 }
 
-// Writes lines, each as a whole.
-fn write_each<K: Sink>(sink: &mut K, lines: &[Seq<u8>]) -> Result<(), Failed>
-    ensures ok { OnOk result (Appends (K.written sink.old) (K.written sink.new) (concat lines.now)) }
-    ensures err { OnErr result (AppendsFront (K.written sink.old) (K.written sink.new) (concat lines.now)) }
+// Takes lines, each as a whole.
+fn hold_each<K: Sink>(held: &mut HeldBytes, sink: &mut K, lines: &[Seq<u8>]) -> Result<(), Failed>
+    ensures ok { OnOk result (Takes held.old held.new (K.written sink.old) (K.written sink.new) (concat lines.now)) }
+    ensures err { OnErr result (TakesFront held.old held.new (K.written sink.old) (K.written sink.new) (concat lines.now)) }
     ensures cause { HasCause (K.faults sink.old) (K.faults sink.new) result }
 {
     for line in lines {
-        write_all(sink, line.as_slice())?;
+        held.write_all(sink, line.as_slice())?;
     }
     Ok(())
 }
 
-/// Writes the lines of tickets, of which the first is `from`, line by line.
+// The lines of tickets, of which the first is `from`, as bytes.
+fn lines_in_one(
+    alloc: Global,
+    shape: &Shape,
+    from: Ticket,
+    part: &Seq<Shown>,
+) -> Result<Vec<u8>, OutOfMemory>
+    requires { from.0 + length part.now ≤ 2 ^ 32 }
+    ensures { IfOk result (λ bytes. bytes.items ≡ concat (lines_from shape.now from.0 part.now)) }
+{
+    let mut bytes = Vec::new(alloc);
+    for (i, shown) in part.as_slice().iter().enumerate() {
+        let n = ticket_at(from, i);
+        let made = shown.made.as_slice();
+        let lines = result_lines(alloc, shape, n, shown.name, &shown.result, made)?;
+        put_lines(&mut bytes, lines.as_slice())?;
+    }
+    Ok(bytes)
+}
+
+/// Writes the lines of tickets, of which the first is `from`, as one text: a sink that takes all that it is given is called once.
+/// Where memory for the text is wanting, nothing is written.
 pub fn write_lines<K: Sink>(
     alloc: Global,
     sink: &mut K,
@@ -71,16 +93,12 @@ pub fn write_lines<K: Sink>(
     ensures fault { IsErrOf result ListError.WriteFault → Rose (K.faults sink.old) (K.faults sink.new) }
     ensures later { K.faults sink.old ≤ K.faults sink.new }
 {
-    for (i, shown) in part.as_slice().iter().enumerate() {
-        let n = ticket_at(from, i);
-        let made = shown.made.as_slice();
-        let lines = result_lines(alloc, shape, n, shown.name, &shown.result, made)?;
-        write_each(sink, lines.as_slice())?;
-    }
+    let bytes = lines_in_one(alloc, shape, from, part)?;
+    write_all(sink, bytes.as_slice())?;
     Ok(())
 }
 
-// Writes the last lines.
+// Writes the last lines, as one text.
 fn write_last<K: Sink>(
     alloc: Global,
     sink: &mut K,
@@ -94,7 +112,9 @@ fn write_last<K: Sink>(
     ensures later { K.faults sink.old ≤ K.faults sink.new }
 {
     let lines = end_lines(alloc, shape, places, last)?;
-    write_each(sink, lines.as_slice())?;
+    let mut text = Vec::new(alloc);
+    put_lines(&mut text, lines.as_slice())?;
+    write_all(sink, text.as_slice())?;
     Ok(())
 }
 
@@ -115,7 +135,33 @@ pub fn write_end<K: Sink>(
     write_last(alloc, sink, shape, places, u64::from(last))
 }
 
-/// Writes the listing of a run whose first ticket is `first`, line by line.
+/// Writes the lines of all tickets of a run, of which the first is `first`, many in one write; what stands behind them is left to
+/// `write_end`.
+pub fn write_results<K: Sink>(
+    alloc: Global,
+    sink: &mut K,
+    shape: &Shape,
+    first: Ticket,
+    done: &Finished,
+) -> Result<(), ListError>
+    requires first { 1 ≤ first.0 }
+    requires few { length done.now.results ≤ 2 ^ 32 - 1 }
+    ensures ok { OnOk result (Appends (K.written sink.old) (K.written sink.new) (concat (lines_from shape.now first.0 (shown_of done.now)))) }
+    ensures err { OnErr result (AppendsFront (K.written sink.old) (K.written sink.new) (concat (lines_from shape.now first.0 (shown_of done.now)))) }
+    ensures fault { IsErrOf result ListError.WriteFault → Rose (K.faults sink.old) (K.faults sink.new) }
+    ensures later { K.faults sink.old ≤ K.faults sink.new }
+{
+    let mut held = HeldBytes::new(alloc)?;
+    for (i, result_) in done.results.as_slice().iter().enumerate() {
+        let n = ticket_at(first, i);
+        let lines = result_lines(alloc, shape, n, name_at(done, i), result_, made_at(done, i))?;
+        hold_each(&mut held, sink, lines.as_slice())?;
+    }
+    held.flush(sink)?;
+    Ok(())
+}
+
+/// Writes the listing of a run whose first ticket is `first`, many lines in one write.
 pub fn write_listing_at<K: Sink>(
     alloc: Global,
     sink: &mut K,
@@ -131,16 +177,16 @@ pub fn write_listing_at<K: Sink>(
     ensures fault { IsErrOf result ListError.WriteFault → Rose (K.faults sink.old) (K.faults sink.new) }
     ensures later { K.faults sink.old ≤ K.faults sink.new }
 {
-    for (i, result_) in done.results.as_slice().iter().enumerate() {
-        let n = ticket_at(first, i);
-        let lines = result_lines(alloc, shape, n, name_at(done, i), result_, made_at(done, i))?;
-        write_each(sink, lines.as_slice())?;
+    match write_results(alloc, sink, shape, first, done) {
+        Ok(()) => {
+            let last = last_ticket(first, done);
+            write_last(alloc, sink, shape, places_of(done, map), last)
+        }
+        Err(error) => Err(error),
     }
-    let last = last_ticket(first, done);
-    write_last(alloc, sink, shape, places_of(done, map), last)
 }
 
-/// Writes the listing of a run that begins with ticket 1, line by line.
+/// Writes the listing of a run that begins with ticket 1, many lines in one write.
 pub fn write_listing<K: Sink>(
     alloc: Global,
     sink: &mut K,

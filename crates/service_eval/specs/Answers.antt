@@ -41,6 +41,11 @@ abbrev pub value_in : Operand → Value
 value_in (operand.Held v) = v.now
 value_in (operand.Made v) = v
 
+-- what an operator gives, as an operand of its own
+abbrev pub made : Result Value Stop → Result (Option Operand) Stop
+made (Ok v) = Ok (Some (operand.Made v))
+made (Err e) = Err e
+
 -- a value that is found without any change; or nothing is said
 abbrev pub Looks : Outcome Value → State → Result (Option Operand) Stop → Type 0
 Looks out st (Ok None) = Unit {0}

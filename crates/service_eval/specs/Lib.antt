@@ -4,6 +4,7 @@ pub mod Ready
 pub mod Worlds
 pub mod Answers
 pub mod Turns
+pub mod Wants
 pub mod Changes
 pub mod Events
 pub mod inner

@@ -1,12 +1,13 @@
 //! Statements that change a variable: done at once where they meet no call, and begun where they do.
 
-ghost use Rattle.std.specs.Prelude.{◌≡◌, IsNone, IfSome};
+ghost use Rattle.std.specs.Prelude.{◌≡◌, ◌⊎◌, IsNone, IfSome};
 ghost use Rattle.context_tree.specs.Contexts.{tree_of as shown};
 ghost use Rattle.resolved_service.specs.Meaning.{value, called};
 ghost use Rattle.resolved_service.specs.Steps.{step_of};
 ghost use Rattle.resolved_service.specs.View.{tree_of};
 ghost use Rattle.service_eval.specs.declared.assignments.Assignment.TheVariants as assignment;
 ghost use Rattle.service_eval.specs.Answers.{told, FindsTwo};
+ghost use Rattle.service_eval.specs.Wants.{WhereWanting, MayWantToFind, MayWantAtOnce};
 ghost use Rattle.service_eval.specs.Changes.{step_in, IsOther};
 ghost use Rattle.service_eval.specs.Items as i;
 ghost use Rattle.service_eval.specs.Machines.{state_of};
@@ -56,7 +57,7 @@ pub fn assignment_in(stmt: &Stmt) -> Option<Assignment<'_>>
 }
 
 /// Does a statement that changes a variable and meets no call, and says whether it did. Nothing has changed where it
-/// didn't.
+/// didn't. Memory is asked for by what gives or copies a text or a map, and by a new key of a map.
 pub fn at_once(
     code: Code<'_>,
     contexts: &mut Tree,
@@ -64,7 +65,8 @@ pub fn at_once(
     stmt: &Stmt,
 ) -> Result<bool, Stop>
     requires { Ready code.shape.now code.methods.now (mach code contexts.old m.old) }
-    ensures { AtOnce code.entry contexts.old m.old (step_of stmt.now) result contexts.new m.new }
+    ensures does { AtOnce code.entry contexts.old m.old (step_of stmt.now) result contexts.new m.new }
+    ensures memory { WhereWanting result (MayWantAtOnce code.entry contexts.old m.old (step_of stmt.now)) }
 {
     let at = stmt.at;
     match assignment_in(stmt) {
@@ -85,7 +87,8 @@ fn set(
     e: &Expr,
 ) -> Result<bool, Stop>
     requires { Ready code.shape.now code.methods.now (mach code contexts.old m.old) }
-    ensures { AtOnce code.entry contexts.old m.old (step_in at (assignment.Set variable e.entry)) result contexts.new m.new }
+    ensures does { AtOnce code.entry contexts.old m.old (step_in at (assignment.Set variable e.entry)) result contexts.new m.new }
+    ensures memory { WhereWanting result (MayWantAtOnce code.entry contexts.old m.old (step_in at (assignment.Set variable e.entry))) }
 {
     match found(code, contexts, m, e) {
         Ok(Some(value)) => told(change(code, contexts, m, at, variable, Edit::Set(value))),
@@ -105,7 +108,8 @@ fn put(
     e: &Expr,
 ) -> Result<bool, Stop>
     requires { Ready code.shape.now code.methods.now (mach code contexts.old m.old) }
-    ensures { AtOnce code.entry contexts.old m.old (step_in at (assignment.Put variable key.entry e.entry)) result contexts.new m.new }
+    ensures does { AtOnce code.entry contexts.old m.old (step_in at (assignment.Put variable key.entry e.entry)) result contexts.new m.new }
+    ensures memory { WhereWanting result (MayWantAtOnce code.entry contexts.old m.old (step_in at (assignment.Put variable key.entry e.entry))) }
 {
     match found_two(code, contexts, m, key, e) {
         Ok(Some((key, value))) => told(change(
@@ -131,7 +135,8 @@ fn cut(
     key: &Expr,
 ) -> Result<bool, Stop>
     requires { Ready code.shape.now code.methods.now (mach code contexts.old m.old) }
-    ensures { AtOnce code.entry contexts.old m.old (step_in at (assignment.Cut variable key.entry)) result contexts.new m.new }
+    ensures does { AtOnce code.entry contexts.old m.old (step_in at (assignment.Cut variable key.entry)) result contexts.new m.new }
+    ensures memory { WhereWanting result (MayWantAtOnce code.entry contexts.old m.old (step_in at (assignment.Cut variable key.entry))) }
 {
     match found(code, contexts, m, key) {
         Ok(Some(key)) => told(change(code, contexts, m, at, variable, Edit::Cut(key))),
@@ -148,7 +153,8 @@ fn found_two(
     a: &Expr,
     b: &Expr,
 ) -> Result<Option<(Value, Value)>, Stop>
-    ensures { FindsTwo (value (called code.entry.methods.now TICKS) m.now.path (tree_of a.now) (state_of (shown code.entry.shape.now contexts.now) m.now)) (value (called code.entry.methods.now TICKS) m.now.path (tree_of b.now)) (state_of (shown code.entry.shape.now contexts.now) m.now) result }
+    ensures finds { FindsTwo (value (called code.entry.methods.now TICKS) m.now.path (tree_of a.now) (state_of (shown code.entry.shape.now contexts.now) m.now)) (value (called code.entry.methods.now TICKS) m.now.path (tree_of b.now)) (state_of (shown code.entry.shape.now contexts.now) m.now) result }
+    ensures memory { WhereWanting result (MayWantToFind code.entry contexts.now m.now (tree_of a.now) ⊎ MayWantToFind code.entry contexts.now m.now (tree_of b.now)) }
 {
     match found(code, contexts, m, a) {
         Ok(Some(first)) => match found(code, contexts, m, b) {

@@ -4,6 +4,7 @@ ghost use Rattle.service_eval.specs.Changes.{changing};
 ghost use Rattle.service_eval.specs.declared.work.Variable.TheVariants as variable;
 ghost use Rattle.service_eval.specs.Ready.{Ready};
 ghost use Rattle.service_eval.specs.Turns.{mach, Does};
+ghost use Rattle.service_eval.specs.Wants.{WhereWanting, PutsNewKey, value_of};
 
 use crate::code::Code;
 use crate::edits::Edit;
@@ -13,7 +14,7 @@ use crate::work::Variable;
 use context_tree::Tree;
 use wave_base::{Seq, Span};
 
-/// Changes a variable.
+/// Changes a variable. Memory is asked for by a new key of a map alone.
 pub fn change(
     code: Code<'_>,
     contexts: &mut Tree,
@@ -23,7 +24,8 @@ pub fn change(
     edit: Edit,
 ) -> Result<(), Stop>
     requires { Ready code.shape.now code.methods.now (mach code contexts.old m.old) }
-    ensures { Does code.entry contexts.old m.old (changing m.old.path at variable edit) result contexts.new m.new }
+    ensures does { Does code.entry contexts.old m.old (changing m.old.path at variable edit) result contexts.new m.new }
+    ensures memory { WhereWanting result (PutsNewKey edit (value_of code.entry contexts.old m.old variable)) }
 {
     match variable {
         Variable::Local(slot) => change_local(code, contexts, m, at, slot, edit),
@@ -41,7 +43,8 @@ fn change_local(
     edit: Edit,
 ) -> Result<(), Stop>
     requires { Ready code.shape.now code.methods.now (mach code contexts.now m.old) }
-    ensures { Does code.entry contexts.now m.old (changing m.old.path at (variable.Local slot) edit) result contexts.now m.new }
+    ensures does { Does code.entry contexts.now m.old (changing m.old.path at (variable.Local slot) edit) result contexts.now m.new }
+    ensures memory { WhereWanting result (PutsNewKey edit (value_of code.entry contexts.now m.old (variable.Local slot))) }
 {
     edit.apply_at(&mut m.locals, slot, at)
 }
@@ -56,7 +59,8 @@ fn change_field(
     edit: Edit,
 ) -> Result<(), Stop>
     requires { Ready code.shape.now code.methods.now (mach code contexts.old m.now) }
-    ensures { Does code.entry contexts.old m.now (changing m.now.path at (variable.Field f) edit) result contexts.new m.now }
+    ensures does { Does code.entry contexts.old m.now (changing m.now.path at (variable.Field f) edit) result contexts.new m.now }
+    ensures memory { WhereWanting result (PutsNewKey edit (value_of code.entry contexts.old m.now (variable.Field f))) }
 {
     let taken = contexts.exchange(&m.path, Seq::new(code.alloc));
     let mut fields = taken.into_vec();

@@ -1,10 +1,12 @@
 //! Values changed where they stand.
 
-ghost use Rattle.std.specs.Prelude.{◌≡◌, ◌∷◌, [], Err};
+ghost use Rattle.std.specs.Prelude.{◌≡◌, ◌∷◌, [], Err, get_or};
 ghost use Rattle.resolved_service.specs.Meaning.{row_put, row_cut};
 ghost use Rattle.service_eval.specs.declared.stop.Stop.{Stop};
 ghost use Rattle.service_eval.specs.Turns.{Alters};
 ghost use Rattle.service_eval.specs.Changes.{edited, Revises};
+ghost use Rattle.service_eval.specs.Wants.{WhereWanting, IsNewKey, PutsNewKey};
+ghost use Rattle.resolved_service.specs.World.{nothing};
 ghost use Rattle.value_ops.specs.Operators.{apply_row};
 ghost use Rattle.wave_base.specs.declared.trap.TrapKind.{TrapKind};
 
@@ -24,9 +26,10 @@ pub enum Edit {
 }
 
 impl Edit {
-    /// Changes one of some values; nothing changes where it is not there.
+    /// Changes one of some values; nothing changes where it is not there. Memory is asked for by a new key alone.
     pub fn apply_at(self, values: &mut Vec<Value>, i: usize, at: Span) -> Result<(), Stop>
-        ensures { Revises self at values.old.items i result values.new.items }
+        ensures revises { Revises self at values.old.items i result values.new.items }
+        ensures memory { WhereWanting result (PutsNewKey self (get_or values.old.items i nothing)) }
     {
         if i < values.len() {
             self.apply(&mut values[i], at)
@@ -39,7 +42,8 @@ impl Edit {
     // Changes a value.
     #[inline(always)]
     fn apply(self, value: &mut Value, at: Span) -> Result<(), Stop>
-        ensures { Alters (edited self value.old) at value.old result value.new }
+        ensures alters { Alters (edited self value.old) at value.old result value.new }
+        ensures memory { WhereWanting result (PutsNewKey self value.old) }
     {
         match self {
             Edit::Set(new) => {
@@ -54,7 +58,8 @@ impl Edit {
 
 // The map has the pair.
 fn put(map: &mut Value, key: &Value, new: &Value, at: Span) -> Result<(), Stop>
-    ensures { Alters (apply_row row_put (map.old ∷ key.now ∷ new.now ∷ [])) at map.old result map.new }
+    ensures alters { Alters (apply_row row_put (map.old ∷ key.now ∷ new.now ∷ [])) at map.old result map.new }
+    ensures memory { WhereWanting result (IsNewKey map.old key.now) }
 {
     let Value::Map(table) = map else {
         return absent(at);
@@ -74,7 +79,8 @@ fn put(map: &mut Value, key: &Value, new: &Value, at: Span) -> Result<(), Stop>
 
 // The map has the key no more.
 fn cut(map: &mut Value, key: &Value, at: Span) -> Result<(), Stop>
-    ensures { Alters (apply_row row_cut (map.old ∷ key.now ∷ [])) at map.old result map.new }
+    ensures alters { Alters (apply_row row_cut (map.old ∷ key.now ∷ [])) at map.old result map.new }
+    ensures memory { WhereWanting result ⊥ }
 {
     let Value::Map(table) = map else {
         return absent(at);

@@ -1,17 +1,21 @@
 //! Expressions on their way to their values.
 
-ghost use Rattle.std.specs.Prelude.{◌≡◌, [], ◌∷◌, map, OnOk, IfOk, IfErr, IsNone, IfSome};
+ghost use Rattle.std.specs.Prelude.{◌≡◌, ◌≤◌, ◌⊎◌, [], ◌∷◌, true, false, map, length, OnOk, IfOk, IfErr, IsNone, IfSome};
 ghost use Rattle.context_tree.specs.Contexts.{tree_of as shown};
 ghost use Rattle.resolved_service.specs.Meaning.{value, called};
 ghost use Rattle.service_eval.specs.Answers.{Finds};
 ghost use Rattle.service_eval.specs.declared.stop.Stop.{Stop};
-ghost use Rattle.service_eval.specs.Machines.{mach_of, state_of, with_value};
+ghost use Rattle.service_eval.specs.Machines.{mach_of, state_of, with_value, own};
 ghost use Rattle.wave_base.specs.declared.limits.TheConstants.{TICKS};
 ghost use Rattle.wave_base.specs.declared.value.Value.{Value};
 ghost use Rattle.resolved_service.specs.View.{Op, tree_of, trees_of};
 ghost use Rattle.service_eval.specs.Items as i;
 ghost use Rattle.service_eval.specs.Turns.{IsNext, Goes};
+ghost use Rattle.service_eval.specs.Wants.{WhereWanting, MayWantToFind};
 ghost use Rattle.wave_base.specs.Memory.{the_refusal};
+ghost use Rattle.wave_base.specs.Values.{TakesMemory};
+ghost use Rattle.resolved_service.specs.World.{is_true};
+ghost use Rattle.value_ops.specs.Operators.{gives_of};
 
 use crate::code::Code;
 use crate::fields::{field, item};
@@ -112,7 +116,8 @@ pub fn found(
     m: &Machine<'_>,
     e: &Expr,
 ) -> Result<Option<Value>, Stop>
-    ensures { Finds (value (called code.entry.methods.now TICKS) m.now.path (tree_of e.now) (state_of (shown code.entry.shape.now contexts.now) m.now)) (state_of (shown code.entry.shape.now contexts.now) m.now) result }
+    ensures finds { Finds (value (called code.entry.methods.now TICKS) m.now.path (tree_of e.now) (state_of (shown code.entry.shape.now contexts.now) m.now)) (state_of (shown code.entry.shape.now contexts.now) m.now) result }
+    ensures memory { WhereWanting result (MayWantToFind code.entry contexts.now m.now (tree_of e.now)) }
 {
     match look(View { code, contexts, m }, e) {
         Ok(Some(operand)) => match operand.owned(code.alloc) {
@@ -133,7 +138,8 @@ fn operated(
     row: u16,
     args: &[Expr],
 ) -> Result<Option<Value>, Stop>
-    ensures { Finds (value (called code.entry.methods.now TICKS) m.now.path (Op at row (trees_of (map tree_of args.now))) (state_of (shown code.entry.shape.now contexts.now) m.now)) (state_of (shown code.entry.shape.now contexts.now) m.now) result }
+    ensures finds { Finds (value (called code.entry.methods.now TICKS) m.now.path (Op at row (trees_of (map tree_of args.now))) (state_of (shown code.entry.shape.now contexts.now) m.now)) (state_of (shown code.entry.shape.now contexts.now) m.now) result }
+    ensures memory { WhereWanting result (MayWantToFind code.entry contexts.now m.now (Op at row (trees_of (map tree_of args.now)))) }
 {
     match look_row(View { code, contexts, m }, row, args, at) {
         Ok(Some(operand)) => match operand.owned(code.alloc) {
@@ -171,7 +177,7 @@ fn first_of(es: &[Expr]) -> Option<(&Expr, &[Expr])>
     }
 }
 
-/// An operator whose operands have their values.
+/// An operator whose operands have their values. Memory is asked for by operators that give a text or a map alone.
 pub fn apply(
     code: Code<'_>,
     contexts: &Tree,
@@ -181,18 +187,16 @@ pub fn apply(
     base: usize,
 ) -> Result<(), Stop>
     requires { IsNext code contexts.now m.old (i.Apply at row base) }
-    ensures { Goes code.entry contexts.now m.old (i.Apply at row base) result contexts.now m.new }
+    ensures goes { Goes code.entry contexts.now m.old (i.Apply at row base) result contexts.now m.new }
+    ensures memory { WhereWanting result (TakesMemory (gives_of row) ⊎ length m.old.values.items ≤ base) }
 {
     match apply_any(code.alloc, row as usize, m.own(base), at) {
-        Ok(value) => {
-            m.cut(base);
-            m.give(value)
-        }
+        Ok(value) => m.settle(base, value),
         Err(e) => Err(e),
     }
 }
 
-/// `&&` whose left operand has its value.
+/// `&&` whose left operand has its value. Memory is asked for where the right one comes next.
 pub fn and_then<'s>(
     code: Code<'s>,
     contexts: &Tree,
@@ -201,18 +205,18 @@ pub fn and_then<'s>(
     base: usize,
 ) -> Result<(), Stop>
     requires { IsNext code contexts.now m.old (i.AndThen (tree_of right.now) base) }
-    ensures { Goes code.entry contexts.now m.old (i.AndThen (tree_of right.now) base) result contexts.now m.new }
+    ensures goes { Goes code.entry contexts.now m.old (i.AndThen (tree_of right.now) base) result contexts.now m.new }
+    ensures memory { WhereWanting result ((is_true (own 0 base m.old.values.items) ≡ true) ⊎ length m.old.values.items ≤ base) }
 {
-    let holds = m.is_true(base);
-    m.cut(base);
-    if holds {
+    if m.is_true(base) {
+        m.cut(base);
         m.push(Work::Eval(right))
     } else {
-        m.give(Value::Bool(false))
+        m.settle(base, Value::Bool(false))
     }
 }
 
-/// `||` whose left operand has its value.
+/// `||` whose left operand has its value. Memory is asked for where the right one comes next.
 pub fn or_else<'s>(
     code: Code<'s>,
     contexts: &Tree,
@@ -221,13 +225,13 @@ pub fn or_else<'s>(
     base: usize,
 ) -> Result<(), Stop>
     requires { IsNext code contexts.now m.old (i.OrElse (tree_of right.now) base) }
-    ensures { Goes code.entry contexts.now m.old (i.OrElse (tree_of right.now) base) result contexts.now m.new }
+    ensures goes { Goes code.entry contexts.now m.old (i.OrElse (tree_of right.now) base) result contexts.now m.new }
+    ensures memory { WhereWanting result ((is_true (own 0 base m.old.values.items) ≡ false) ⊎ length m.old.values.items ≤ base) }
 {
-    let holds = m.is_true(base);
-    m.cut(base);
-    if holds {
-        m.give(Value::Bool(true))
+    if m.is_true(base) {
+        m.settle(base, Value::Bool(true))
     } else {
+        m.cut(base);
         m.push(Work::Eval(right))
     }
 }

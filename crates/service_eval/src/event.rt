@@ -1,6 +1,6 @@
 //! Whole events.
 
-ghost use Rattle.std.specs.Prelude.{◌≡◌, ◌≤◌, ◌∷◌, [], IfOk, OnOk, IsNone, IfSome, All};
+ghost use Rattle.std.specs.Prelude.{◌≡◌, ◌≤◌, ◌∷◌, [], slice_get, IsSome, IfOk, OnOk, OnErr, IsNone, IfSome, All};
 ghost use Rattle.context_tree.specs.Contexts.{tree_of as shown};
 ghost use Rattle.resolved_service.specs.Fits.{FitsMethod, FitsService, FitsEvent, FitsPhases, FitsLast, FitsSteps, FitsTree, IsChildClass};
 ghost use Rattle.resolved_service.specs.Jobs.{call_meaning, meant_by, first_world, replied};
@@ -38,7 +38,8 @@ pub struct EventRan {
     pub entered: Seq<Path>,
 }
 
-/// Runs an event on a tree of contexts. Where memory is wanting, the tree may hold a part of its changes.
+/// Runs an event on a tree of contexts. Where memory is wanting, the tree may hold a part of its changes. An event that the service
+/// hasn't takes none.
 pub fn run_event(
     alloc: Global,
     shape: &Shape,
@@ -52,6 +53,7 @@ pub fn run_event(
     requires early { call.now.generation ≤ GENERATION }
     ensures means { IfOk result (λ ran. Means (call_meaning service.now (shown shape.now contexts.old) call.now) ran (shown shape.now contexts.new)) }
     ensures holds { Holds shape.now (shown shape.now contexts.new) }
+    ensures memory { OnErr result (IsSome (slice_get service.now.events call.now.event)) }
 {
     let code = Code {
         alloc,

@@ -1,6 +1,8 @@
 //! What statements do once their expressions have their values.
 
 ghost use Rattle.resolved_service.specs.Steps.{steps_in};
+ghost use Rattle.service_eval.specs.Machines.{own};
+ghost use Rattle.service_eval.specs.Wants.{WhereWanting, IsNewKey, MayWantAtEnd, value_of};
 ghost use Rattle.service_eval.specs.declared.work.Ending.TheVariants as ending;
 ghost use Rattle.service_eval.specs.Items as i;
 ghost use Rattle.service_eval.specs.Items.{end_of};
@@ -17,7 +19,7 @@ use crate::work::{Branches, Ending, Variable, Work};
 use context_tree::Tree;
 use wave_base::{Span, TrapKind, Txt};
 
-/// The rest of a statement.
+/// The rest of a statement. Memory is asked for by what is sent, created or still to be done, and by a new key of a map.
 pub fn finish<'s>(
     code: Code<'s>,
     contexts: &mut Tree,
@@ -27,7 +29,8 @@ pub fn finish<'s>(
     base: usize,
 ) -> Result<(), Stop>
     requires { IsNext code contexts.old m.old (i.Finish at (end_of ending) base) }
-    ensures { Goes code.entry contexts.old m.old (i.Finish at (end_of ending.entry) base) result contexts.new m.new }
+    ensures goes { Goes code.entry contexts.old m.old (i.Finish at (end_of ending.entry) base) result contexts.new m.new }
+    ensures memory { WhereWanting result (MayWantAtEnd code.entry contexts.old m.old base (end_of ending.entry)) }
 {
     match ending {
         Ending::Set(variable) => set(code, contexts, m, at, variable, base),
@@ -53,7 +56,8 @@ fn set<'s>(
     base: usize,
 ) -> Result<(), Stop>
     requires { IsNext code contexts.old m.old (i.Finish at (end_of (ending.Set variable)) base) }
-    ensures { Goes code.entry contexts.old m.old (i.Finish at (end_of (ending.Set variable)) base) result contexts.new m.new }
+    ensures goes { Goes code.entry contexts.old m.old (i.Finish at (end_of (ending.Set variable)) base) result contexts.new m.new }
+    ensures memory { WhereWanting result ⊥ }
 {
     let value = m.take(base);
     change(code, contexts, m, at, variable, Edit::Set(value))
@@ -69,7 +73,8 @@ fn put<'s>(
     base: usize,
 ) -> Result<(), Stop>
     requires { IsNext code contexts.old m.old (i.Finish at (end_of (ending.Put variable)) base) }
-    ensures { Goes code.entry contexts.old m.old (i.Finish at (end_of (ending.Put variable)) base) result contexts.new m.new }
+    ensures goes { Goes code.entry contexts.old m.old (i.Finish at (end_of (ending.Put variable)) base) result contexts.new m.new }
+    ensures memory { WhereWanting result (IsNewKey (value_of code.entry contexts.old m.old variable) (own 0 base m.old.values.items)) }
 {
     let (key, value) = m.take_two(base);
     change(code, contexts, m, at, variable, Edit::Put(key, value))
@@ -85,7 +90,8 @@ fn cut<'s>(
     base: usize,
 ) -> Result<(), Stop>
     requires { IsNext code contexts.old m.old (i.Finish at (end_of (ending.Cut variable)) base) }
-    ensures { Goes code.entry contexts.old m.old (i.Finish at (end_of (ending.Cut variable)) base) result contexts.new m.new }
+    ensures goes { Goes code.entry contexts.old m.old (i.Finish at (end_of (ending.Cut variable)) base) result contexts.new m.new }
+    ensures memory { WhereWanting result ⊥ }
 {
     let key = m.take(base);
     change(code, contexts, m, at, variable, Edit::Cut(key))
@@ -121,7 +127,8 @@ fn demand<'s>(
     base: usize,
 ) -> Result<(), Stop>
     requires { IsNext code contexts.now m.old (i.Finish at (i.Require) base) }
-    ensures { Goes code.entry contexts.now m.old (i.Finish at (i.Require) base) result contexts.now m.new }
+    ensures goes { Goes code.entry contexts.now m.old (i.Finish at (i.Require) base) result contexts.now m.new }
+    ensures memory { WhereWanting result ⊥ }
 {
     let holds = m.is_true(base);
     if holds {
@@ -175,7 +182,8 @@ fn forget<'s>(
     base: usize,
 ) -> Result<(), Stop>
     requires { IsNext code contexts.now m.old (i.Finish at (i.Drop) base) }
-    ensures { Goes code.entry contexts.now m.old (i.Finish at (i.Drop) base) result contexts.now m.new }
+    ensures goes { Goes code.entry contexts.now m.old (i.Finish at (i.Drop) base) result contexts.now m.new }
+    ensures memory { WhereWanting result ⊥ }
 {
     m.cut(base);
     Ok(())
@@ -205,7 +213,8 @@ fn finish_with<'s>(
     base: usize,
 ) -> Result<(), Stop>
     requires { IsNext code contexts.now m.old (i.Finish at (i.Finishes) base) }
-    ensures { Goes code.entry contexts.now m.old (i.Finish at (i.Finishes) base) result contexts.now m.new }
+    ensures goes { Goes code.entry contexts.now m.old (i.Finish at (i.Finishes) base) result contexts.now m.new }
+    ensures memory { WhereWanting result ⊥ }
 {
     Err(Stop::Ended(Some(m.take(base))))
 }

@@ -2,7 +2,9 @@
 
 ghost use Rattle.std.specs.Prelude.{◌≡◌, map, take};
 ghost use Rattle.resolved_service.specs.View.{Op, And, Or, tree, no_trees, tree_of, trees_of};
+ghost use Rattle.service_eval.specs.Answers.{made};
 ghost use Rattle.service_eval.specs.Turns.{Sees};
+ghost use Rattle.service_eval.specs.Wants.{WhereWanting, MayWant};
 
 use crate::code::Code;
 use crate::fields::{field, item};
@@ -26,10 +28,12 @@ pub struct View<'v, 's> {
     pub m: &'v Machine<'s>,
 }
 
-/// The value of an expression. None where a call is met; nothing has changed then.
+/// The value of an expression. None where a call is met; nothing has changed then. Memory is asked for by operators that give a
+/// text or a map alone.
 #[cycle(look)]
 pub fn look<'v, 's>(view: View<'v, 's>, e: &'v Expr) -> Result<Option<Operand<'v>>, Stop>
-    ensures { Sees view.entry (tree_of e.now) result }
+    ensures sees { Sees view.entry (tree_of e.now) result }
+    ensures memory { WhereWanting result (MayWant (tree_of e.now)) }
 {
     match &e.node {
         Node::Const(value) => Ok(Some(Operand::Held(value))),
@@ -56,7 +60,8 @@ pub fn look<'v, 's>(view: View<'v, 's>, e: &'v Expr) -> Result<Option<Operand<'v
 #[cycle(look)]
 #[inline(always)]
 fn operand<'v, 's>(view: View<'v, 's>, e: &'v Expr) -> Result<Option<Operand<'v>>, Stop>
-    ensures { Sees view.entry (tree_of e.now) result }
+    ensures sees { Sees view.entry (tree_of e.now) result }
+    ensures memory { WhereWanting result (MayWant (tree_of e.now)) }
 {
     match &e.node {
         Node::Const(value) => Ok(Some(Operand::Held(value))),
@@ -73,7 +78,8 @@ pub fn look_row<'v, 's>(
     args: &'v [Expr],
     at: Span,
 ) -> Result<Option<Operand<'v>>, Stop>
-    ensures { Sees view.entry (Op at row (trees_of (map tree_of args.now))) result }
+    ensures sees { Sees view.entry (Op at row (trees_of (map tree_of args.now))) result }
+    ensures memory { WhereWanting result (MayWant (Op at row (trees_of (map tree_of args.now)))) }
 {
     match args {
         [a] => look_one(view, row, a, at),
@@ -90,17 +96,14 @@ fn look_one<'v, 's>(
     a: &'v Expr,
     at: Span,
 ) -> Result<Option<Operand<'v>>, Stop>
-    ensures { Sees view.entry (Op at row (tree (tree_of a.now) no_trees)) result }
+    ensures sees { Sees view.entry (Op at row (tree (tree_of a.now) no_trees)) result }
+    ensures memory { WhereWanting result (MayWant (Op at row (tree (tree_of a.now) no_trees))) }
 {
     match look(view, a) {
         Ok(Some(a)) => {
-            let value = apply_any(
-                view.code.alloc,
-                row as usize,
-                slice::from_ref(a.value()),
-                at,
-            )?;
-            Ok(Some(Operand::Made(value)))
+            let first = a.value();
+            let values = slice::from_ref(first);
+            made(apply_any(view.code.alloc, row as usize, values, at))
         }
         Ok(None) => Ok(None),
         Err(e) => Err(e),
@@ -115,13 +118,15 @@ fn look_two<'v, 's>(
     b: &'v Expr,
     at: Span,
 ) -> Result<Option<Operand<'v>>, Stop>
-    ensures { Sees view.entry (Op at row (tree (tree_of a.now) (tree (tree_of b.now) no_trees))) result }
+    ensures sees { Sees view.entry (Op at row (tree (tree_of a.now) (tree (tree_of b.now) no_trees))) result }
+    ensures memory { WhereWanting result (MayWant (Op at row (tree (tree_of a.now) (tree (tree_of b.now) no_trees)))) }
 {
     match operand(view, a) {
         Ok(Some(a)) => match operand(view, b) {
             Ok(Some(b)) => {
-                let value = apply_two(view.code.alloc, row as usize, a.value(), b.value(), at)?;
-                Ok(Some(Operand::Made(value)))
+                let first = a.value();
+                let second = b.value();
+                made(apply_two(view.code.alloc, row as usize, first, second, at))
             }
             Ok(None) => Ok(None),
             Err(e) => Err(e),
@@ -140,15 +145,25 @@ fn look_three<'v, 's>(
     c: &'v Expr,
     at: Span,
 ) -> Result<Option<Operand<'v>>, Stop>
-    ensures { Sees view.entry (Op at row (tree (tree_of a.now) (tree (tree_of b.now) (tree (tree_of c.now) no_trees)))) result }
+    ensures sees { Sees view.entry (Op at row (tree (tree_of a.now) (tree (tree_of b.now) (tree (tree_of c.now) no_trees)))) result }
+    ensures memory { WhereWanting result (MayWant (Op at row (tree (tree_of a.now) (tree (tree_of b.now) (tree (tree_of c.now) no_trees))))) }
 {
     match look(view, a) {
         Ok(Some(a)) => match look(view, b) {
             Ok(Some(b)) => match look(view, c) {
                 Ok(Some(c)) => {
-                    let (a, b, c) = (a.value(), b.value(), c.value());
-                    let value = apply_three(view.code.alloc, row as usize, a, b, c, at)?;
-                    Ok(Some(Operand::Made(value)))
+                    let first = a.value();
+                    let second = b.value();
+                    let third = c.value();
+                    let given = apply_three(
+                        view.code.alloc,
+                        row as usize,
+                        first,
+                        second,
+                        third,
+                        at,
+                    );
+                    made(given)
                 }
                 Ok(None) => Ok(None),
                 Err(e) => Err(e),
@@ -168,7 +183,8 @@ fn look_and<'v, 's>(
     right: &'v Expr,
     at: Span,
 ) -> Result<Option<Operand<'v>>, Stop>
-    ensures { Sees view.entry (And at (tree_of left.now) (tree_of right.now)) result }
+    ensures sees { Sees view.entry (And at (tree_of left.now) (tree_of right.now)) result }
+    ensures memory { WhereWanting result (MayWant (And at (tree_of left.now) (tree_of right.now))) }
 {
     match look(view, left) {
         Ok(Some(a)) => {
@@ -190,7 +206,8 @@ fn look_or<'v, 's>(
     right: &'v Expr,
     at: Span,
 ) -> Result<Option<Operand<'v>>, Stop>
-    ensures { Sees view.entry (Or at (tree_of left.now) (tree_of right.now)) result }
+    ensures sees { Sees view.entry (Or at (tree_of left.now) (tree_of right.now)) result }
+    ensures memory { WhereWanting result (MayWant (Or at (tree_of left.now) (tree_of right.now))) }
 {
     match look(view, left) {
         Ok(Some(a)) => {
@@ -201,6 +218,16 @@ fn look_or<'v, 's>(
             }
         }
         Ok(None) => Ok(None),
+        Err(e) => Err(e),
+    }
+}
+
+// What an operator gives, as an operand of its own.
+fn made<'v>(given: Result<Value, Stop>) -> Result<Option<Operand<'v>>, Stop>
+    ensures { result ≡ made given }
+{
+    match given {
+        Ok(value) => Ok(Some(Operand::Made(value))),
         Err(e) => Err(e),
     }
 }

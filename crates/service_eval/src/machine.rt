@@ -1,4 +1,4 @@
-ghost use Rattle.std.specs.Prelude.{◌≡◌, ◌<◌, ◌^◌, suc, length, drop, get_or, slice_set, [], ◌∷◌, OnOk, IfOk, IfErr, IsNone, IfSome};
+ghost use Rattle.std.specs.Prelude.{◌≡◌, ◌<◌, ◌≤◌, ◌^◌, suc, length, drop, get_or, slice_set, [], ◌∷◌, OnOk, OnErr, IfOk, IfErr, IsNone, IfSome};
 ghost use Rattle.resolved_service.specs.World.{nothing, is_true, key_of};
 ghost use Rattle.service_eval.specs.declared.stop.Stop.{Stop};
 ghost use Rattle.service_eval.specs.Items.{item_of, return_of, to_return};
@@ -93,6 +93,21 @@ impl<'s> Machine<'s> {
     {
         push(&mut self.values, value)?;
         Ok(())
+    }
+
+    /// An item's own values come to this one. Memory is asked for only where it has none.
+    pub fn settle(&mut self, base: usize, value: Value) -> Result<(), Stop>
+        ensures ok { OnOk result ((tree : _) → mach_of tree self.new ≡ with_value value (cut_to base (mach_of tree self.old))) }
+        ensures err { IfErr result (λ e. e ≡ Stop.OutOfMemory the_refusal) }
+        ensures memory { OnErr result (length self.old.values.items ≤ base) }
+    {
+        if base < self.values.len() {
+            self.values[base] = value;
+            self.values.truncate(base + 1);
+            Ok(())
+        } else {
+            self.give(value)
+        }
     }
 
     /// The number of values.

@@ -1,6 +1,7 @@
-ghost use Rattle.std.specs.Prelude.{◌≡◌, IfOk};
+ghost use Rattle.std.specs.Prelude.{◌≡◌, IfOk, OnErr};
 ghost use Rattle.resolved_service.specs.World.{is_true};
 ghost use Rattle.service_eval.specs.Answers.{value_in};
+ghost use Rattle.wave_base.specs.Values.{kind_of, TakesMemory};
 
 use std::alloc::Global;
 use wave_base::{OutOfMemory, Value};
@@ -26,10 +27,11 @@ impl<'v> Operand<'v> {
         }
     }
 
-    /// The value as the caller's own: one that is kept elsewhere is copied.
+    /// The value as the caller's own: one that is kept elsewhere is copied. Memory is asked for by texts and maps alone.
     #[inline(always)]
     pub fn owned(self, alloc: Global) -> Result<Value, OutOfMemory>
-        ensures { IfOk result (λ v. v ≡ value_in self.entry) }
+        ensures equal { IfOk result (λ v. v ≡ value_in self.entry) }
+        ensures memory { OnErr result (TakesMemory (kind_of (value_in self.entry))) }
     {
         match self {
             Operand::Held(value) => value.copy(alloc),

@@ -1,5 +1,6 @@
-ghost use Rattle.std.specs.Prelude.{◌≡◌, ◌≤◌, Err};
+ghost use Rattle.std.specs.Prelude.{◌≡◌, ◌≤◌, ◌<◌, length, Err};
 ghost use Rattle.resolved_service.specs.World.{has, ticking, releasing, sending, spawning};
+ghost use Rattle.service_eval.specs.Wants.{WhereWanting};
 ghost use Rattle.service_eval.specs.Worlds.{world_of, Changes};
 ghost use Rattle.wave_base.specs.declared.limits.TheConstants.{GENERATION};
 ghost use Rattle.service_eval.specs.declared.stop.Stop.{Stop};
@@ -31,7 +32,8 @@ impl Trace {
     /// Takes a tick.
     #[inline(always)]
     pub fn tick(&mut self, at: Span) -> Result<(), Stop>
-        ensures { (tree : _) → Changes (ticking (world_of tree self.old)) at (world_of tree self.old) result (world_of tree self.new) }
+        ensures changes { (tree : _) → Changes (ticking (world_of tree self.old)) at (world_of tree self.old) result (world_of tree self.new) }
+        ensures memory { WhereWanting result ⊥ }
     {
         if self.ticks == 0 {
             return trapped(TrapKind::Ticks, at);
@@ -61,7 +63,8 @@ impl Trace {
 
     /// Sends a message.
     pub fn send(&mut self, alloc: Global, label: &Txt, value: Value, at: Span) -> Result<(), Stop>
-        ensures { (tree : _) → Changes (sending label.now value (world_of tree self.old)) at (world_of tree self.old) result (world_of tree self.new) }
+        ensures changes { (tree : _) → Changes (sending label.now value (world_of tree self.old)) at (world_of tree self.old) result (world_of tree self.new) }
+        ensures memory { WhereWanting result (length self.old.messages.items < MESSAGES) }
     {
         if self.messages.len() >= MESSAGES {
             return trapped(TrapKind::Sends, at);
@@ -74,7 +77,8 @@ impl Trace {
     /// Creates an event.
     pub fn spawn(&mut self, event: u16, args: Vec<Value>, at: Span) -> Result<(), Stop>
         requires { self.old.generation ≤ GENERATION }
-        ensures { (tree : _) → Changes (spawning event args.items (world_of tree self.old)) at (world_of tree self.old) result (world_of tree self.new) }
+        ensures changes { (tree : _) → Changes (spawning event args.items (world_of tree self.old)) at (world_of tree self.old) result (world_of tree self.new) }
+        ensures memory { WhereWanting result ((self.old.generation < GENERATION) × length self.old.created.items < SPAWNS) }
     {
         if self.generation == GENERATION {
             return trapped(TrapKind::Generation, at);

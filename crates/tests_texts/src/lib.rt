@@ -9,6 +9,8 @@ mod commands;
 #[cfg(test)]
 mod elastics;
 #[cfg(test)]
+mod held;
+#[cfg(test)]
 mod inputs;
 #[cfg(test)]
 mod journals;
@@ -32,6 +34,8 @@ mod scripts;
 mod services;
 #[cfg(test)]
 mod snapshots;
+#[cfg(test)]
+mod stages;
 #[cfg(test)]
 mod streams;
 #[cfg(test)]

@@ -17,3 +17,9 @@ blank_of k.Int = Int (pos 0)
 blank_of k.Bool = Bool false
 blank_of k.Text = Str []
 blank_of k.Map = Map []
+
+-- the kinds whose values take memory of their own
+abbrev pub TakesMemory : Kind → Type 0
+TakesMemory k.Text = Unit {0}
+TakesMemory k.Map = Unit {0}
+TakesMemory _ = ⊥

@@ -1,8 +1,10 @@
-//! Sources and sinks of bytes, whose faults are counted; whole reads and writes over them; and the gate before a segment.
+//! Sources and sinks of bytes, whose faults are counted; whole reads and writes over them, and bytes held back before a sink; and the gate
+//! before a segment.
 #![tactic(auto)]
 
 mod ends;
 mod gate;
+mod held;
 mod memory;
 mod standard;
 mod sure;
@@ -10,6 +12,7 @@ mod whole;
 
 pub use ends::{Failed, Sink, Source};
 pub use gate::{Gate, OpenGate};
+pub use held::HeldBytes;
 pub use memory::{MemSink, MemSource};
 pub use standard::{StdSink, StdSource};
 pub use sure::{SureSink, SureSource};

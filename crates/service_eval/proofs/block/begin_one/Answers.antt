@@ -20,8 +20,8 @@ finish-requires c =
 
 pub returns-in-Ok : goal.returns-in-Ok
 returns-in-Ok c =
-    let found = rw c.in-Ok-Some.field-0-is at c.in-Ok-Some.ensures in
-    let goes = subst (λ n. Goes c.args.code c.args.contexts.now c.give.new.self (Finish c.args.at (end_of c.args.ending) n) c.finish.result c.finish.new.contexts c.finish.new.m) c.height-base.ensures c.finish.ensures in
+    let found = rw c.in-Ok-Some.field-0-is at c.in-Ok-Some.ensures.finds in
+    let goes = subst (λ n. Goes c.args.code c.args.contexts.now c.give.new.self (Finish c.args.at (end_of c.args.ending) n) c.finish.result c.finish.new.contexts c.finish.new.m) c.height-base.ensures c.finish.ensures.goes in
     let M = mach c.args.code c.args.contexts.now c.args.m.now in
     let all = before_all (Eval (tree_of c.args.e.now) ∷ Finish c.args.at (end_of c.args.ending) (length c.args.m.now.values.items) ∷ []) M in
     follows_from c.args.code (comes_to c.args.code.methods.now all) (comes_to c.args.code.methods.now all) c.finish.result (mach c.args.code c.finish.new.contexts c.finish.new.m) refl (load c.args.code.methods.now all) (suc (load c.args.code.methods.now all)) (omega arith)
@@ -37,4 +37,4 @@ returns-in-Ok-None c =
 pub returns-in-Err : goal.returns-in-Err
 returns-in-Err c =
     let M = mach c.args.code c.args.contexts.now c.args.m.now in
-    (found_fails c.args.code.methods.now (before_all (Finish c.args.at (end_of c.args.ending) (length M.values) ∷ []) M) (tree_of c.args.e.now) c.in-Err.e _ c.in-Err.ensures, c.requires.holds)
+    (found_fails c.args.code.methods.now (before_all (Finish c.args.at (end_of c.args.ending) (length M.values) ∷ []) M) (tree_of c.args.e.now) c.in-Err.e _ c.in-Err.ensures.finds, c.requires.holds)

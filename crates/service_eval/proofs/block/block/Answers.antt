@@ -29,7 +29,7 @@ statements-preserved c =
     let M : Mach = mach code c.statements.contexts c.statements.m in
     let M' : Mach = mach code c.at_once.new.contexts c.at_once.new.m in
     let next = subst (λ ss. Ready code.shape.now code.methods.now (on_top (Block (steps_in ss)) M)) c.in-Some.ensures.some c.statements.invariant.ready in
-    let done = rw c.if-done.true at c.in-Ok.ensures in
+    let done = rw c.if-done.true at c.in-Ok.ensures.does in
     let ss = steps_in c.in-Some.others.now in
     record {
       same = c.statements.invariant.same ∙ ap (λ ss. comes_to code.methods.now (on_top (Block (steps_in ss)) M)) c.in-Some.ensures.some
@@ -46,7 +46,7 @@ pub begin_first-requires : goal.begin_first-requires
 begin_first-requires c =
     let code = c.args.code in
     let M : Mach = mach code c.statements.contexts c.statements.m in
-    let same : mach code c.at_once.new.contexts c.at_once.new.m ≡ M = rw c.if-done.false at c.in-Ok.ensures in
+    let same : mach code c.at_once.new.contexts c.at_once.new.m ≡ M = rw c.if-done.false at c.in-Ok.ensures.does in
     subst (λ (x : Mach). Ready code.shape.now code.methods.now (on_top (Block (step (step_of c.in-Some.first.now) (steps_in c.in-Some.others.now))) x)) (sym same)
     (subst (λ ss. Ready code.shape.now code.methods.now (on_top (Block (steps_in ss)) M)) c.in-Some.ensures.some c.statements.invariant.ready)
 
@@ -54,7 +54,7 @@ pub returns-else-done : goal.returns-else-done
 returns-else-done c =
     let code = c.args.code in
     let M : Mach = mach code c.statements.contexts c.statements.m in
-    let same : mach code c.at_once.new.contexts c.at_once.new.m ≡ M = rw c.if-done.false at c.in-Ok.ensures in
+    let same : mach code c.at_once.new.contexts c.at_once.new.m ≡ M = rw c.if-done.false at c.in-Ok.ensures.does in
     let all = Block (step (step_of c.in-Some.first.now) (steps_in c.in-Some.others.now)) in
     goes_from code (on_top (Block (steps_in c.args.stmts.now)) (mach code c.args.contexts.now c.args.m.now)) (on_top all (mach code c.at_once.new.contexts c.at_once.new.m)) c.begin_first.result (mach code c.begin_first.new.contexts c.begin_first.new.m)
     (c.statements.invariant.same ∙ ap (λ ss. comes_to code.methods.now (on_top (Block (steps_in ss)) M)) c.in-Some.ensures.some ∙ ap (λ (x : Mach). comes_to code.methods.now (on_top all x)) (sym same))
@@ -68,6 +68,6 @@ returns-in-Err c =
     let M : Mach = mach code c.statements.contexts c.statements.m in (
       subst (λ o. Fails o c.in-Err.e (mach code c.at_once.new.contexts c.at_once.new.m).state.world)
           (sym (c.statements.invariant.same ∙ ap (λ ss. comes_to code.methods.now (on_top (Block (steps_in ss)) M)) c.in-Some.ensures.some))
-          (block_fails code.methods.now M (step_of c.in-Some.first.now) (steps_in c.in-Some.others.now) c.in-Err.e _ c.in-Err.ensures.0),
-      c.in-Err.ensures.1,
+          (block_fails code.methods.now M (step_of c.in-Some.first.now) (steps_in c.in-Some.others.now) c.in-Err.e _ c.in-Err.ensures.does.0),
+      c.in-Err.ensures.does.1,
     )

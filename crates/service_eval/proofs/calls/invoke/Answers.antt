@@ -14,7 +14,7 @@ use Rattle.service_eval.proofs.calls.invoke.Goals as goal
 
 pub returns-in-Err : goal.returns-in-Err
 returns-in-Err c =
-    (l.no_tick c.args.code.methods.now (mach c.args.code c.args.contexts.now c.args.m.now) c.args.at c.args.method c.args.base c.in-Err.e _ (c.in-Err.ensures (shown c.args.code.shape.now c.args.contexts.now)), c.requires.next.holds)
+    (l.no_tick c.args.code.methods.now (mach c.args.code c.args.contexts.now c.args.m.now) c.args.at c.args.method c.args.base c.in-Err.e _ (c.in-Err.ensures.changes (shown c.args.code.shape.now c.args.contexts.now)), c.requires.next.holds)
 
 pub returns-in-Ok-take_all : goal.returns-in-Ok-take_all
 returns-in-Ok-take_all c =
@@ -22,9 +22,9 @@ returns-in-Ok-take_all c =
     let m = mach c.args.code c.args.contexts.now c.args.m.now in
     let w = world_of T c.tick.new.self in
     turned_to c.args.code c.args.contexts.now (on_top (Invoke c.args.at c.args.method c.args.base) m) (started c.method_at.result.now (drop c.args.base m.values) false (cut_to c.args.base (in_world w m))) c.start.new.m c.start.result
-    (l.invoked c.args.code.methods.now m c.args.at c.requires.next.few c.method_at.result.now c.args.method c.args.base w (c.in-Ok.ensures T) c.method_at.ensures)
-    (ready_invoked c.args.code.shape.now c.args.code.methods.now c.requires.methods m c.args.method c.method_at.result.now c.method_at.ensures c.args.at c.args.base w c.requires.next (c.in-Ok.ensures T))
+    (l.invoked c.args.code.methods.now m c.args.at c.requires.next.few c.method_at.result.now c.args.method c.args.base w (c.in-Ok.ensures.changes T) c.method_at.ensures)
+    (ready_invoked c.args.code.shape.now c.args.code.methods.now c.requires.methods m c.args.method c.method_at.result.now c.method_at.ensures c.args.at c.args.base w c.requires.next (c.in-Ok.ensures.changes T))
     c.requires.next.holds
     (on_ok_weaker c.start.result (λ h. h T ∙ (λ i. started c.method_at.result.now (c.in-Ok-take_all.ensures.values i) false (c.in-Ok-take_all.ensures.rest T i))) c.start.ensures.ok) c.start.ensures.err
     (load c.args.code.methods.now (on_top (Invoke c.args.at c.args.method c.args.base) m))
-    (invoke_ticked c.args.code.methods.now m (record { locals = m.state.locals; world = w }) (take c.args.base m.values) (ticked m.state.world w (c.in-Ok.ensures T)).0 m.path c.args.method c.method_at.result.now (drop c.args.base m.values) false c.method_at.ensures c.args.at c.args.base)
+    (invoke_ticked c.args.code.methods.now m (record { locals = m.state.locals; world = w }) (take c.args.base m.values) (ticked m.state.world w (c.in-Ok.ensures.changes T)).0 m.path c.args.method c.method_at.result.now (drop c.args.base m.values) false c.method_at.ensures c.args.at c.args.base)

@@ -28,7 +28,7 @@ use Rattle.service_eval.proofs.calls.invoke_child.Goals as goal
 
 pub returns-in-Err : goal.returns-in-Err
 returns-in-Err c =
-    (l.no_child_tick c.args.code.methods.now (mach c.args.code c.args.contexts.now c.args.m.now) c.args.at c.args.callee.class.0 c.args.callee.method c.args.base c.in-Err.e _ (c.in-Err.ensures (shown c.args.code.shape.now c.args.contexts.now)), c.requires.next.holds)
+    (l.no_child_tick c.args.code.methods.now (mach c.args.code c.args.contexts.now c.args.m.now) c.args.at c.args.callee.class.0 c.args.callee.method c.args.base c.in-Err.e _ (c.in-Err.ensures.changes (shown c.args.code.shape.now c.args.contexts.now)), c.requires.next.holds)
 
 pub child-path-requires : goal.child-path-requires
 child-path-requires c = short_path c.args.code.shape.now c.requires.shape c.args.m.now.path c.args.callee.class.0 c.requires.next.path c.requires.next.items.0.0
@@ -66,22 +66,22 @@ pub enter-requires-clause-path : goal.enter-requires-clause-path
 enter-requires-clause-path c =
     let m = mach c.args.code c.args.contexts.now c.args.m.now in
     let p = is_child c.args.m.now.path c.args.callee.class c.key.result (own 0 c.args.base c.args.m.now.values.items) c.child-path.result (search rules) c.child-path.ensures c.key.ensures in
-    subst (λ q. is_path c.args.code.shape.now q ≡ true) (sym p) (path_is c.args.code.shape.now c.args.code.methods.now c.requires.shape m c.args.at c.args.callee.class.0 c.args.callee.method c.args.base c.requires.next _ (c.in-Ok.ensures (shown c.args.code.shape.now c.args.contexts.now)))
+    subst (λ q. is_path c.args.code.shape.now q ≡ true) (sym p) (path_is c.args.code.shape.now c.args.code.methods.now c.requires.shape m c.args.at c.args.callee.class.0 c.args.callee.method c.args.base c.requires.next _ (c.in-Ok.ensures.changes (shown c.args.code.shape.now c.args.contexts.now)))
 
 pub enter-requires-clause-parent : goal.enter-requires-clause-parent
 enter-requires-clause-parent c =
     let m = mach c.args.code c.args.contexts.now c.args.m.now in
     let p = is_child c.args.m.now.path c.args.callee.class c.key.result (own 0 c.args.base c.args.m.now.values.items) c.child-path.result (search rules) c.child-path.ensures c.key.ensures in
-    subst (λ q. there (shown c.args.code.shape.now c.args.contexts.now) (parent_of q) ≡ true) (sym p) (parent_is c.args.code.shape.now c.args.code.methods.now c.requires.shape m c.args.at c.args.callee.class.0 c.args.callee.method c.args.base c.requires.next _ (c.in-Ok.ensures (shown c.args.code.shape.now c.args.contexts.now)))
+    subst (λ q. there (shown c.args.code.shape.now c.args.contexts.now) (parent_of q) ≡ true) (sym p) (parent_is c.args.code.shape.now c.args.code.methods.now c.requires.shape m c.args.at c.args.callee.class.0 c.args.callee.method c.args.base c.requires.next _ (c.in-Ok.ensures.changes (shown c.args.code.shape.now c.args.contexts.now)))
 
 pub returns-in-Err-enter : goal.returns-in-Err-enter
 returns-in-Err-enter c =
     let T = shown c.args.code.shape.now c.args.contexts.now in
     let m = mach c.args.code c.args.contexts.now c.args.m.now in
     let p = is_child c.args.m.now.path c.args.callee.class c.key.result (own 0 c.args.base c.args.m.now.values.items) c.child-path.result (search rules) c.child-path.ensures c.key.ensures in (
-      l.not_entered c.args.code.methods.now m c.args.at c.args.callee.class.0 c.args.callee.method c.args.base c.in-Err-enter.e (world_of T c.tick.new.self) _ (c.in-Ok.ensures T)
+      l.not_entered c.args.code.methods.now m c.args.at c.args.callee.class.0 c.args.callee.method c.args.base c.in-Err-enter.e (world_of T c.tick.new.self) _ (c.in-Ok.ensures.changes T)
           (subst (λ q. Changes (entering q (world_of T c.tick.new.self)) c.args.at (world_of T c.tick.new.self) (Err c.in-Err-enter.e) (world_of (shown c.args.code.shape.now c.enter.new.contexts) c.enter.new.trace)) p c.in-Err-enter.ensures.enters),
-      subst (λ t. Holds c.args.code.shape.now (shown c.args.code.shape.now t)) (sym c.in-Err-enter.ensures.memory) c.requires.next.holds,
+      subst (λ t. Holds c.args.code.shape.now (shown c.args.code.shape.now t)) (sym c.in-Err-enter.ensures.err) c.requires.next.holds,
     )
 
 pub returns-in-Ok-take_others : goal.returns-in-Ok-take_others
@@ -94,15 +94,15 @@ returns-in-Ok-take_others c =
     let w = world_of T c.tick.new.self in
     let q = child m.path c.args.callee.class.0 (own 0 c.args.base m.values) in
     let is : entering q w ≡ Ok (changed v) = subst (λ q. entering q w ≡ Ok (changed v)) p c.in-Ok-enter.ensures.enters in
-    let fact = known c.args.code.shape.now c.args.code.methods.now c.requires.shape m c.args.at c.args.callee.class.0 c.args.callee.method c.args.base c.requires.next w (c.in-Ok.ensures T) v is in
+    let fact = known c.args.code.shape.now c.args.code.methods.now c.requires.shape m c.args.at c.args.callee.class.0 c.args.callee.method c.args.base c.requires.next w (c.in-Ok.ensures.changes T) v is in
     let rest : mach_of U c.cut.new.self ≡ cut_to c.args.base (in_world v m) = c.cut.ensures U ∙ ap (cut_to c.args.base) (c.in-Ok-take_others.ensures.rest U) ∙ ap (λ vs. record (in_world v m) { values = vs }) (take_twice c.args.base m.values) in
     turned_to c.args.code c.enter.new.contexts (on_top (Child c.args.at c.args.callee.class.0 c.args.callee.method c.args.base) m) (started c.method_at.result.now (drop (suc c.args.base) m.values) true (record (cut_to c.args.base (in_world v m)) { path = q })) c.start.new.m c.start.result
-    (l.child_invoked c.args.code.methods.now m c.args.at c.requires.next.few c.method_at.result.now c.args.callee.class.0 c.args.callee.method c.args.base w v (c.in-Ok.ensures T) is fact.ticks c.method_at.ensures)
-    (ready_child c.args.code.shape.now c.args.code.methods.now c.requires.methods m c.args.callee.method c.method_at.result.now c.method_at.ensures c.args.at c.args.callee.class.0 c.args.base w v c.requires.shape c.requires.next (c.in-Ok.ensures T) fact)
+    (l.child_invoked c.args.code.methods.now m c.args.at c.requires.next.few c.method_at.result.now c.args.callee.class.0 c.args.callee.method c.args.base w v (c.in-Ok.ensures.changes T) is fact.ticks c.method_at.ensures)
+    (ready_child c.args.code.shape.now c.args.code.methods.now c.requires.methods m c.args.callee.method c.method_at.result.now c.method_at.ensures c.args.at c.args.callee.class.0 c.args.base w v c.requires.shape c.requires.next (c.in-Ok.ensures.changes T) fact)
     fact.holds
     (on_ok_weaker c.start.result (λ h. h U ∙ (λ i. started c.method_at.result.now (c.in-Ok-take_others.ensures.values i) true (record (rest i) { path = p i }))) c.start.ensures.ok) c.start.ensures.err
     (load c.args.code.methods.now (on_top (Child c.args.at c.args.callee.class.0 c.args.callee.method c.args.base) m))
-    (child_ticked c.args.code.methods.now m (record { locals = m.state.locals; world = v }) (take c.args.base m.values) ((ticked m.state.world w (c.in-Ok.ensures T)).0 ∙ ap suc (sym fact.ticks)) q c.args.callee.method c.method_at.result.now (drop (suc c.args.base) m.values) true c.method_at.ensures c.args.at c.args.callee.class.0 c.args.base)
+    (child_ticked c.args.code.methods.now m (record { locals = m.state.locals; world = v }) (take c.args.base m.values) ((ticked m.state.world w (c.in-Ok.ensures.changes T)).0 ∙ ap suc (sym fact.ticks)) q c.args.callee.method c.method_at.result.now (drop (suc c.args.base) m.values) true c.method_at.ensures c.args.at c.args.callee.class.0 c.args.base)
 
 pub returns-in-Err-take_others : goal.returns-in-Err-take_others
 returns-in-Err-take_others c =
@@ -114,5 +114,5 @@ returns-in-Err-take_others c =
     let w = world_of T c.tick.new.self in
     let is : entering (child m.path c.args.callee.class.0 (own 0 c.args.base m.values)) w ≡ Ok (changed v) = subst (λ q. entering q w ≡ Ok (changed v)) p c.in-Ok-enter.ensures.enters in (
       subst (λ e. Fails (comes_to c.args.code.methods.now (on_top (Child c.args.at c.args.callee.class.0 c.args.callee.method c.args.base) m)) e (world_of U c.take_others.new.self.trace)) (sym c.in-Err-take_others.ensures.err) tt,
-      (known c.args.code.shape.now c.args.code.methods.now c.requires.shape m c.args.at c.args.callee.class.0 c.args.callee.method c.args.base c.requires.next w (c.in-Ok.ensures T) v is).holds,
+      (known c.args.code.shape.now c.args.code.methods.now c.requires.shape m c.args.at c.args.callee.class.0 c.args.callee.method c.args.base c.requires.next w (c.in-Ok.ensures.changes T) v is).holds,
     )

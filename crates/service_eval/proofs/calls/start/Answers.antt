@@ -16,7 +16,7 @@ returns-in-Some-clause-ok c =
       items = Block (steps_in (c.as_slice-2.ensures i)) ∷ with_last (sym c.in-Some.is i) (Return (ap (λ v. v.items) c.replace-locals.ensures.value i) (ap (λ v. v.items) c.replace-values.ensures.value i) c.args.up ∷ m.items);
       values = (ap (λ v. v.items) c.replace-values.ensures.after ∙ c.new.ensures.items) i;
       path = m.path;
-      state = record { locals = (ap (λ v. v.items) c.replace-locals.ensures.after ∙ c.in-Ok.ensures ∙ ap (with_blanks c.args.given.items) c.as_slice.ensures) i; world = m.state.world };
+      state = record { locals = (ap (λ v. v.items) c.replace-locals.ensures.after ∙ c.in-Ok.ensures.locals ∙ ap (with_blanks c.args.given.items) c.as_slice.ensures) i; world = m.state.world };
     })) c.push_two.ensures.ok
 
 pub returns-in-None-clause-ok : goal.returns-in-None-clause-ok
@@ -28,5 +28,5 @@ returns-in-None-clause-ok c =
       items = Block (steps_in (c.as_slice-2.ensures i)) ∷ with_last (sym c.in-None.is i) (Return (ap (λ v. v.items) c.replace-locals.ensures.value i) (ap (λ v. v.items) c.replace-values.ensures.value i) c.args.up ∷ m.items);
       values = (ap (λ v. v.items) c.replace-values.ensures.after ∙ c.new.ensures.items) i;
       path = m.path;
-      state = record { locals = (ap (λ v. v.items) c.replace-locals.ensures.after ∙ c.in-Ok.ensures ∙ ap (with_blanks c.args.given.items) c.as_slice.ensures) i; world = m.state.world };
+      state = record { locals = (ap (λ v. v.items) c.replace-locals.ensures.after ∙ c.in-Ok.ensures.locals ∙ ap (with_blanks c.args.given.items) c.as_slice.ensures) i; world = m.state.world };
     })) c.push-in-None.ensures.ok

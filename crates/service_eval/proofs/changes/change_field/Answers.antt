@@ -7,6 +7,7 @@ use Rattle.service_eval.specs.declared.work.Variable.TheVariants as variable
 use Rattle.service_eval.specs.Changes.{changing, edited}
 use Rattle.service_eval.specs.Machines.{Mach, in_state}
 use Rattle.service_eval.specs.Turns.{mach, Alters}
+use Rattle.service_eval.specs.Wants.{WhereWanting, PutsNewKey}
 use Rattle.wave_base.proofs.Trees.{put_twice}
 use Rattle.service_eval.proofs.OnceLemmas.{field_does}
 use Rattle.service_eval.proofs.changes.change_field.Goals as goal
@@ -14,14 +15,14 @@ use Rattle.service_eval.proofs.changes.change_field.Goals as goal
 pub exchange-requires : goal.exchange-requires
 exchange-requires c = ap (λ (t : Tree (List Value)). there t c.args.m.now.path) (c.exchange-taken.ensures.put c.args.code.shape.now) ∙ c.requires.here
 
-pub returns : goal.returns
+pub returns-clause-does : goal.returns-clause-does
 unfolding read_field
-returns c =
+returns-clause-does c =
     let shape = c.args.code.shape.now in
     let M : Mach = mach c.args.code c.args.contexts.now c.args.m.now in
     let T = M.state.world.tree in
     let f = c.args.f in
-    let changed = c.apply_at-done.ensures in
+    let changed = c.apply_at-done.ensures.revises in
     let taken = c.into_vec-fields.ensures ∙ sym (c.exchange-taken.ensures.before shape) in
     let before : Value = read_field f M.path M.state.world in
     let alters : Alters (edited c.args.edit before) c.args.at before c.apply_at-done.result changed.value =
@@ -33,3 +34,8 @@ returns c =
     ∙ ap (put T M.path) (c.from_vec.ensures ∙ changed.list ∙ ap (λ (vs : List Value). slice_set vs f changed.value) taken) in
     field_does c.args.code c.args.contexts.now c.args.m.now c.args.m.now (changing M.path c.args.at (variable.Field f) c.args.edit) c.requires c.args.at (edited c.args.edit before) c.exchange.new.self f refl changed.value c.apply_at-done.result alters
     (ap (λ t. in_state (record { locals = M.state.locals; world = record M.state.world { tree = t } }) M) tree)
+
+pub returns-clause-memory : goal.returns-clause-memory
+returns-clause-memory c =
+    let taken = c.into_vec-fields.ensures ∙ sym (c.exchange-taken.ensures.before c.args.code.shape.now) in
+    subst (λ (vs : List Value). WhereWanting c.apply_at-done.result (PutsNewKey c.args.edit (get_or vs c.args.f nothing))) taken c.apply_at-done.ensures.memory

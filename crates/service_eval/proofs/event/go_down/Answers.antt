@@ -40,7 +40,7 @@ returns-in-Err-clause-comes c =
     (subst (λ q. Changes (entering q (world_of T c.args.m.now.trace)) c.args.phase.now.at (world_of T c.args.m.now.trace) (Err c.in-Err.e) (world_of U c.enter.new.trace)) p c.in-Err.ensures.enters))
 
 pub returns-in-Err-clause-holds : goal.returns-in-Err-clause-holds
-returns-in-Err-clause-holds c = subst (λ t. Holds c.args.code.shape.now (shown c.args.code.shape.now t)) (sym c.in-Err.ensures.memory) c.requires.rests.ready.holds
+returns-in-Err-clause-holds c = subst (λ t. Holds c.args.code.shape.now (shown c.args.code.shape.now t)) (sym c.in-Err.ensures.err) c.requires.rests.ready.holds
 
 pub returns-clause-comes : goal.returns-clause-comes
 returns-clause-comes c =

@@ -18,8 +18,8 @@ change-requires c =
     let T = shown c.args.code.shape.now c.args.contexts.now in
     subst (Ready c.args.code.shape.now c.args.code.methods.now) (sym (c.take-key.ensures.rest T)) (ready_with _ _ _ _ _ c.requires c.requires.items.1)
 
-pub returns : goal.returns
-returns c =
+pub returns-clause-goes : goal.returns-clause-goes
+returns-clause-goes c =
     let code = c.args.code in
     let T = shown code.shape.now c.args.contexts.now in
     let M : Mach = mach code c.args.contexts.now c.args.m.now in
@@ -27,6 +27,9 @@ returns c =
     let v = c.args.variable in
     let took = c.take-key.ensures.rest T in
     let does : Does code c.args.contexts.now c.take-key.new.self (changing M.path at v (edit.Cut c.take-key.result)) c.change.result c.change.new.contexts c.change.new.m =
-    subst (λ p. Does code c.args.contexts.now c.take-key.new.self (changing p at v (edit.Cut c.take-key.result)) c.change.result c.change.new.contexts c.change.new.m) (ap (λ (x : Mach). x.path) took) c.change.ensures in
+    subst (λ p. Does code c.args.contexts.now c.take-key.new.self (changing p at v (edit.Cut c.take-key.result)) c.change.result c.change.new.contexts c.change.new.m) (ap (λ (x : Mach). x.path) took) c.change.ensures.does in
     change_turn code c.args.contexts.now c.change.new.contexts c.args.m.now c.take-key.new.self c.change.new.m at c.args.base (end_of (ending.Cut v)) (changing M.path at v (edit.Cut c.take-key.result)) c.change.result took
     (cut_ends (called code.methods.now TICKS) TICKS M.path at M.state (drop c.args.base M.values) v ∙ ap (λ x. changing M.path at v (edit.Cut x) M.state) (sym c.take-key.ensures.value)) does
+
+pub returns-clause-memory : goal.returns-clause-memory
+returns-clause-memory c = c.change.ensures.memory

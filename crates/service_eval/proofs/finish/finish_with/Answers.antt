@@ -9,8 +9,8 @@ use Rattle.service_eval.specs.Worlds.{Holds, Ends}
 use Rattle.service_eval.proofs.Outcomes.{finish_through}
 use Rattle.service_eval.proofs.finish.finish_with.Goals as goal
 
-pub returns : goal.returns
-returns c =
+pub returns-clause-goes : goal.returns-clause-goes
+returns-clause-goes c =
     let T = shown c.args.code.shape.now c.args.contexts.now in
     let m = mach c.args.code c.args.contexts.now c.args.m.now in
     let o = comes_to c.args.code.methods.now (on_top (Finish c.args.at i.Finishes c.args.base) m) in

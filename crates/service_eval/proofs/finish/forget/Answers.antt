@@ -9,8 +9,8 @@ use Rattle.service_eval.proofs.FinishLemmas as l
 use Rattle.service_eval.proofs.FinishTurns.{same_world, ready_in, did}
 use Rattle.service_eval.proofs.finish.forget.Goals as goal
 
-pub returns : goal.returns
-returns c =
+pub returns-clause-goes : goal.returns-clause-goes
+returns-clause-goes c =
     let T = shown c.args.code.shape.now c.args.contexts.now in
     let m = (mach c.args.code c.args.contexts.now c.args.m.now) in
     did c.args.code c.args.contexts.now c.args.contexts.now (Finish c.args.at i.Drop c.args.base) (in_state m.state (cut_to c.args.base m)) c.args.m.now c.cut.new.self

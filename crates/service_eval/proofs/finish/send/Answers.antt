@@ -17,5 +17,5 @@ returns c =
     let label = c.args.label.now in
     changed_turn c.args.code c.args.contexts.now c.args.m.now c.take-value.new.self c.send.new.self c.args.at c.args.base (i.Send label) (sending label (own 0 c.args.base m.values) m.state.world) c.send.result refl (c.take-value.ensures.rest T)
     (subst (λ (w : World). Changes (sending label (own 0 c.args.base m.values) w) c.args.at w c.send.result (world_of T c.send.new.self)) (ap (λ (x : Mach). x.state.world) (c.take-value.ensures.rest T))
-    (subst (λ v. Changes (sending label v (world_of T c.take-value.new.self.trace)) c.args.at (world_of T c.take-value.new.self.trace) c.send.result (world_of T c.send.new.self)) c.take-value.ensures.value (c.send.ensures T)))
+    (subst (λ v. Changes (sending label v (world_of T c.take-value.new.self.trace)) c.args.at (world_of T c.take-value.new.self.trace) c.send.result (world_of T c.send.new.self)) c.take-value.ensures.value (c.send.ensures.changes T)))
     (λ v h. same_sent label (own 0 c.args.base m.values) m.state.world v h) c.requires

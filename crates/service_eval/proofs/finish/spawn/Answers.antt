@@ -20,5 +20,5 @@ returns-in-Ok c =
     let e = c.args.event in
     changed_turn c.args.code c.args.contexts.now c.args.m.now c.take_all.new.self c.spawn.new.self c.args.at c.args.base (i.Spawn e) (spawning e (drop c.args.base m.values) m.state.world) c.spawn.result refl (c.in-Ok.ensures.rest T)
     (subst (λ (w : World). Changes (spawning e (drop c.args.base m.values) w) c.args.at w c.spawn.result (world_of T c.spawn.new.self)) (ap (λ (x : Mach). x.state.world) (c.in-Ok.ensures.rest T))
-    (subst (λ vs. Changes (spawning e vs (world_of T c.take_all.new.self.trace)) c.args.at (world_of T c.take_all.new.self.trace) c.spawn.result (world_of T c.spawn.new.self)) c.in-Ok.ensures.values (c.spawn.ensures T)))
+    (subst (λ vs. Changes (spawning e vs (world_of T c.take_all.new.self.trace)) c.args.at (world_of T c.take_all.new.self.trace) c.spawn.result (world_of T c.spawn.new.self)) c.in-Ok.ensures.values (c.spawn.ensures.changes T)))
     (λ v h. same_spawned e (drop c.args.base m.values) m.state.world v h) c.requires

@@ -29,7 +29,7 @@ pub returns-in-Err : goal.returns-in-Err
 returns-in-Err c =
     let T = shown c.args.code.shape.now c.args.contexts.now in (
       l.check_fails c.args.code.methods.now (mach c.args.code c.args.contexts.now c.args.m.now) c.args.cycle.at (steps_in c.args.cycle.body.now) (tree_of c.args.cycle.test.now) c.args.base c.in-Err.e (world_of T c.tick.new.self) (sym c.is_true-holds.ensures ∙ c.if-holds.true)
-          (subst (λ w. Changes (ticking w) c.args.cycle.at w (Err c.in-Err.e) (world_of T c.tick.new.self)) (ap (λ (m : Mach). m.state.world) (c.cut.ensures T)) (c.in-Err.ensures T)),
+          (subst (λ w. Changes (ticking w) c.args.cycle.at w (Err c.in-Err.e) (world_of T c.tick.new.self)) (ap (λ (m : Mach). m.state.world) (c.cut.ensures T)) (c.in-Err.ensures.changes T)),
       c.requires.holds,
     )
 
@@ -40,7 +40,7 @@ returns-in-Ok c =
     let m = mach c.args.code c.args.contexts.now c.args.m.now in
     let test = tree_of c.args.cycle.test.now in
     let body = steps_in c.args.cycle.body.now in
-    let t : ticking m.state.world ≡ Ok w = subst (λ w'. ticking w' ≡ Ok w) (ap (λ (m : Mach). m.state.world) (c.cut.ensures T)) (c.in-Ok.ensures T) in
+    let t : ticking m.state.world ≡ Ok w = subst (λ w'. ticking w' ≡ Ok w) (ap (λ (m : Mach). m.state.world) (c.cut.ensures T)) (c.in-Ok.ensures.changes T) in
     turned_to c.args.code c.args.contexts.now (on_top (Check c.args.cycle.at test body c.args.base) m) (on_top (Block body) (on_top (Turns c.args.cycle.at test body) (in_world w (cut_to c.args.base m)))) c.push_two.new.self c.push_two.result
     (l.check_more c.args.code.methods.now m c.args.cycle.at body test c.args.base w (sym c.is_true-holds.ensures ∙ c.if-holds.true) t)
     (ready_in _ _ m _ _ _ _ c.requires (c.requires.items.0.1, (c.requires.items.0, c.requires.items.1)) (same_ticked m.state.world w t)) c.requires.holds

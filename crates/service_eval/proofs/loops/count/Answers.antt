@@ -18,7 +18,7 @@ use Rattle.service_eval.proofs.loops.count.Goals as goal
 
 pub returns-in-Err : goal.returns-in-Err
 returns-in-Err c =
-    (l.counts_fails c.args.code.methods.now (mach c.args.code c.args.contexts.now c.args.m.now) c.args.cycle.at c.args.cycle.counter (steps_in c.args.cycle.body.now) c.requires.next.few c.args.value c.requires.test c.in-Err.e _ c.requires.holds (c.in-Err.ensures (shown c.args.code.shape.now c.args.contexts.now)), c.requires.next.holds)
+    (l.counts_fails c.args.code.methods.now (mach c.args.code c.args.contexts.now c.args.m.now) c.args.cycle.at c.args.cycle.counter (steps_in c.args.cycle.body.now) c.requires.next.few c.args.value c.requires.test c.in-Err.e _ c.requires.holds (c.in-Err.ensures.changes (shown c.args.code.shape.now c.args.contexts.now)), c.requires.next.holds)
 
 pub block-requires : goal.block-requires
 block-requires c =
@@ -27,10 +27,10 @@ block-requires c =
     let m = (mach c.args.code c.args.contexts.now c.args.m.now) in
     let body = steps_in c.args.cycle.body.now in
     let st : State = record { locals = slice_set m.state.locals (c.args.cycle.counter + 2) (get_or m.state.locals c.args.cycle.counter nothing); world = w } in
-    let number : c.in-Ok-owned.number ≡ get_or m.state.locals c.args.cycle.counter nothing = c.in-Ok-owned.ensures ∙ c.item.ensures ∙ ap (λ vs. get_or vs c.args.cycle.counter nothing) c.as_slice.ensures.value in
+    let number : c.in-Ok-owned.number ≡ get_or m.state.locals c.args.cycle.counter nothing = c.in-Ok-owned.ensures.equal ∙ c.item.ensures ∙ ap (λ vs. get_or vs c.args.cycle.counter nothing) c.as_slice.ensures.value in
     let is = c.in-Ok-push.ensures.ok T ∙ ap (on_top (Again c.args.cycle.at c.args.cycle.counter body)) (c.set_local.ensures T ∙ ap (λ (v : Value). in_state (record { locals = slice_set m.state.locals (c.args.cycle.counter + 2) v; world = w }) m) number) in
     subst (λ (x : Mach). Ready c.args.code.shape.now c.args.code.methods.now (on_top (Block body) x)) (sym is)
-    (ready_in _ _ m _ _ _ _ c.requires.next (c.requires.next.items.0, (c.requires.next.items.0, c.requires.next.items.1)) (same_ticked m.state.world w (c.in-Ok.ensures T)))
+    (ready_in _ _ m _ _ _ _ c.requires.next (c.requires.next.items.0, (c.requires.next.items.0, c.requires.next.items.1)) (same_ticked m.state.world w (c.in-Ok.ensures.changes T)))
 
 pub returns-in-Ok-push : goal.returns-in-Ok-push
 returns-in-Ok-push c =
@@ -39,11 +39,11 @@ returns-in-Ok-push c =
     let m = (mach c.args.code c.args.contexts.now c.args.m.now) in
     let body = steps_in c.args.cycle.body.now in
     let st : State = record { locals = slice_set m.state.locals (c.args.cycle.counter + 2) (get_or m.state.locals c.args.cycle.counter nothing); world = w } in
-    let number : c.in-Ok-owned.number ≡ get_or m.state.locals c.args.cycle.counter nothing = c.in-Ok-owned.ensures ∙ c.item.ensures ∙ ap (λ vs. get_or vs c.args.cycle.counter nothing) c.as_slice.ensures.value in
+    let number : c.in-Ok-owned.number ≡ get_or m.state.locals c.args.cycle.counter nothing = c.in-Ok-owned.ensures.equal ∙ c.item.ensures ∙ ap (λ vs. get_or vs c.args.cycle.counter nothing) c.as_slice.ensures.value in
     let is = c.in-Ok-push.ensures.ok T ∙ ap (on_top (Again c.args.cycle.at c.args.cycle.counter body)) (c.set_local.ensures T ∙ ap (λ (v : Value). in_state (record { locals = slice_set m.state.locals (c.args.cycle.counter + 2) v; world = w }) m) number) in
     goes_from c.args.code (on_top (Counts c.args.cycle.at c.args.cycle.counter body) m) (on_top (Block body) (mach c.args.code c.args.contexts.now c.push.new.self)) c.block.result (mach c.args.code c.block.new.contexts c.block.new.m)
-    (l.counts_more c.args.code.methods.now m c.args.cycle.at c.args.cycle.counter body c.requires.next.few c.args.value c.requires.test w c.requires.holds (c.in-Ok.ensures T)
+    (l.counts_more c.args.code.methods.now m c.args.cycle.at c.args.cycle.counter body c.requires.next.few c.args.value c.requires.test w c.requires.holds (c.in-Ok.ensures.changes T)
     ∙ ap (λ (x : Mach). comes_to c.args.code.methods.now (on_top (Block body) x)) (sym is))
     c.block.ensures
-    (let light = counts_ticked c.args.code.methods.now m st m.values (ticked m.state.world w (c.in-Ok.ensures T)).0 c.args.cycle.at c.args.cycle.counter body in
+    (let light = counts_ticked c.args.code.methods.now m st m.values (ticked m.state.world w (c.in-Ok.ensures.changes T)).0 c.args.cycle.at c.args.cycle.counter body in
     subst (λ (x : Mach). load c.args.code.methods.now (on_top (Block body) x) ≤ load c.args.code.methods.now (on_top (Counts c.args.cycle.at c.args.cycle.counter body) m)) (sym is) (omega (arith, light)))

@@ -40,7 +40,7 @@ returns-in-Ok c =
     let t = tree_of c.args.cycle.test.now in
     let b = steps_in c.args.cycle.body.now in
     let n = c.height-base.result in
-    let found = rw c.in-Ok-Some.field-0-is at c.in-Ok-Some.ensures in
+    let found = rw c.in-Ok-Some.field-0-is at c.in-Ok-Some.ensures.finds in
     goes_from c.args.code (on_top (Turns c.args.cycle.at t b) (mach c.args.code c.args.contexts.now c.args.m.now)) (on_top (Eval t) (before_all (Check c.args.cycle.at t b n ∷ []) (mach c.args.code c.args.contexts.now c.args.m.now))) c.check.result (mach c.args.code c.args.contexts.now c.check.new.m)
     (test_first c.args.code c.args.contexts.now c.args.m.now c.args.cycle.at t b n c.requires.few c.height-base.ensures)
     (then_goes c.args.code c.args.contexts.now c.args.m.now c.give.new.self t (Check c.args.cycle.at t b n ∷ []) (test_next c.args.code c.args.contexts.now c.args.m.now c.args.cycle.at t b n c.requires) c.in-Ok-Some.value (c.in-Ok.ensures.ok (shown c.args.code.shape.now c.args.contexts.now)) found c.args.contexts.now c.check.new.m c.check.result c.check.ensures)
@@ -62,6 +62,6 @@ returns-in-Err c =
     let n = c.height-base.result in
     let M = mach c.args.code c.args.contexts.now c.args.m.now in (
       subst (λ o. Fails o c.in-Err.e M.state.world) (sym (test_first c.args.code c.args.contexts.now c.args.m.now c.args.cycle.at t b n c.requires.few c.height-base.ensures))
-          (found_fails c.args.code.methods.now (before_all (Check c.args.cycle.at t b n ∷ []) M) t c.in-Err.e _ c.in-Err.ensures),
+          (found_fails c.args.code.methods.now (before_all (Check c.args.cycle.at t b n ∷ []) M) t c.in-Err.e _ c.in-Err.ensures.finds),
       c.requires.holds,
     )

@@ -1,6 +1,7 @@
 use Rattle.std.proofs.Common.{◌≡◌, [], length, refl, sym, ap, subst, ◌∙◌, rules}
 use Rattle.std.specs.List.{zip}
-use Rattle.elastic_policy.specs.Stages.{no_loads, policy_moves, next_of, ArePlaced}
+use Rattle.elastic_policy.specs.Moves.{policy_moves}
+use Rattle.elastic_policy.specs.Stages.{no_loads, next_of, ArePlaced}
 use Rattle.elastic_policy.proofs.StageLemmas.{unloaded, gives_none, staged_is, others_fit, rest_fits}
 use Rattle.elastic_policy.proofs.stages.Stages.next.Goals as goal
 

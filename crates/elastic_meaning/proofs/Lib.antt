@@ -1,0 +1,4 @@
+pub mod Plain
+pub mod Serving
+pub mod Turning
+pub mod Walking

@@ -1,0 +1,12 @@
+pub mod Leads
+pub mod Tokens
+pub mod Exprs
+pub mod Stmts
+pub mod Decls
+pub mod Going
+pub mod Standing
+pub mod Following
+pub mod Turns
+pub mod Short
+pub mod Trying
+pub mod Whole

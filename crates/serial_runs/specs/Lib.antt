@@ -1,0 +1,4 @@
+pub mod Journals
+pub mod Origins
+pub mod Recorded
+pub mod Serial

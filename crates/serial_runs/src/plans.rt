@@ -1,0 +1,79 @@
+//! The laws of whole runs at plans: each is the contract of a function that does nothing.
+
+ghost use Rattle.std.specs.Prelude.{◌≡◌, ◌<◌, ℕ, List, Some};
+ghost use Rattle.wave_base.specs.declared.outcome.EventResult.{EventResult};
+ghost use Rattle.wave_base.specs.declared.script.Line.{Line};
+ghost use Rattle.wave_base.specs.declared.start.Start.{Start};
+ghost use Rattle.wave_states.specs.Begins.{start_state};
+ghost use Rattle.wave_states.specs.Labels.{Label};
+ghost use Rattle.wave_states.specs.Runs.{run, Finished, IsDrive, oldest};
+ghost use Rattle.wave_states.specs.States.{State};
+ghost use Rattle.wave_theory.specs.Came.{Came};
+ghost use Rattle.wave_theory.specs.Trails.{Traced};
+ghost use Rattle.code_actor.specs.CodeActors.{Fields};
+ghost use Rattle.plan_actors.specs.PlanActors.{Actor, plan_actors, plan_kind};
+ghost use Rattle.plan_actors.specs.Plans.{Plan, Fits, FitsStart, begin_in};
+ghost use Rattle.serial_runs.specs.Journals.{OwnersTake};
+ghost use Rattle.serial_runs.specs.Origins.{Origins};
+ghost use Rattle.serial_runs.specs.Recorded.{Recorded};
+ghost use Rattle.serial_runs.specs.Serial.{IsSerial, HasSerial};
+
+use crate::laws::{oldest_is_serial, one_end, origins, owners_take, recorded, serial};
+use plan_actors::PlanActors;
+use wave_theory::{came, traced};
+
+/// Each finished run of a plan ends in the very state to which a serial run of the same plan leads, by worker 0 alone.
+pub fn plans_are_serial()
+    ensures { (plan : Plan) (start : Start) → Fits plan → FitsStart plan start → (labels : List Label) (s : State Actor Fields EventResult Line) → run (plan_actors plan.program) plan.workers (start_state (begin_in plan start) plan.script.batches) labels ≡ Some s → Finished (plan_actors plan.program) plan.workers s → HasSerial (plan_kind plan.program plan.script.hosts) plan.workers (begin_in plan start) plan.script.batches s }
+{
+    serial::<PlanActors>();
+}
+
+/// All finished runs of a plan end in one state, however many workers take the labels.
+pub fn plans_end_in_one_state()
+    ensures { (plan : Plan) (start : Start) → Fits plan → FitsStart plan start → (labels : List Label) (s : State Actor Fields EventResult Line) → run (plan_actors plan.program) plan.workers (start_state (begin_in plan start) plan.script.batches) labels ≡ Some s → Finished (plan_actors plan.program) plan.workers s → (others : ℕ) (labels' : List Label) (s' : State Actor Fields EventResult Line) → 0 < others → run (plan_actors plan.program) others (start_state (begin_in plan start) plan.script.batches) labels' ≡ Some s' → Finished (plan_actors plan.program) others s' → s' ≡ s }
+{
+    one_end::<PlanActors>();
+}
+
+/// What the oldest rule picks of a plan is a serial run.
+pub fn plans_drive_serially()
+    ensures { (plan : Plan) (start : Start) → Fits plan → FitsStart plan start → (x : ℕ) (labels : List Label) → IsDrive (plan_actors plan.program) plan.workers plan.script.hosts oldest x (start_state (begin_in plan start) plan.script.batches) labels → IsSerial labels }
+{
+    oldest_is_serial::<PlanActors>();
+}
+
+/// Who was let in to a context, and whose Enter to it was sent, in the order of the labels: the tickets that enter it, in ascending order.
+pub fn plans_come_in_order()
+    ensures { (plan : Plan) (start : Start) → Fits plan → FitsStart plan start → (labels : List Label) (s : State Actor Fields EventResult Line) → run (plan_actors plan.program) plan.workers (start_state (begin_in plan start) plan.script.batches) labels ≡ Some s → Came (plan_kind plan.program plan.script.hosts) plan.workers (begin_in plan start) plan.script.batches labels s }
+{
+    came::<PlanActors>();
+}
+
+/// The labels tell the trail of each context.
+pub fn plans_leave_trails()
+    ensures { (plan : Plan) (start : Start) → Fits plan → FitsStart plan start → (labels : List Label) (s : State Actor Fields EventResult Line) → run (plan_actors plan.program) plan.workers (start_state (begin_in plan start) plan.script.batches) labels ≡ Some s → Traced (plan_kind plan.program plan.script.hosts) plan.workers (begin_in plan start) plan.script.batches labels s }
+{
+    traced::<PlanActors>();
+}
+
+/// Each label of a plan's journal, wherever it stands, is taken by a host that owns its context just before it or just after it.
+pub fn plans_have_owners()
+    ensures { (plan : Plan) (start : Start) → Fits plan → FitsStart plan start → (labels : List Label) (s : State Actor Fields EventResult Line) → run (plan_actors plan.program) plan.workers (start_state (begin_in plan start) plan.script.batches) labels ≡ Some s → OwnersTake (plan_kind plan.program plan.script.hosts) plan.workers (begin_in plan start) plan.script.batches labels s }
+{
+    owners_take::<PlanActors>();
+}
+
+/// The record of a context, also while a worker has it in hand, says how many Enters were sent to each child, and where it was born.
+pub fn plans_keep_records()
+    ensures { (plan : Plan) (start : Start) → Fits plan → FitsStart plan start → (labels : List Label) (s : State Actor Fields EventResult Line) → run (plan_actors plan.program) plan.workers (start_state (begin_in plan start) plan.script.batches) labels ≡ Some s → Recorded (plan_kind plan.program plan.script.hosts) plan.workers (begin_in plan start) plan.script.batches labels s }
+{
+    recorded::<PlanActors>();
+}
+
+/// Each ticket of a plan has one origin: a line of the script, or a call that an earlier ticket created.
+pub fn tickets_have_origins()
+    ensures { (plan : Plan) (start : Start) → Fits plan → FitsStart plan start → (labels : List Label) (s : State Actor Fields EventResult Line) → run (plan_actors plan.program) plan.workers (start_state (begin_in plan start) plan.script.batches) labels ≡ Some s → Origins (plan_kind plan.program plan.script.hosts) (begin_in plan start) plan.script.batches s }
+{
+    origins::<PlanActors>();
+}
