@@ -1,5 +1,5 @@
 -- What is written of a run, part by part.
-use Rattle.std.proofs.Common.{◌≡◌, ◌∙◌, ℕ, true, false, List, [], ◌++◌, length, map, Option, None, Some, ap, arith, inr, refl, sym, subst, append_assoc, append-nil}
+use Rattle.std.proofs.Common.{◌≡◌, ◌∙◌, Result, Ok, Err, OnErr, ℕ, true, false, List, [], ◌++◌, length, map, Option, None, Some, ap, arith, inr, refl, sym, subst, append_assoc, append-nil}
 use Rattle.std.specs.Prelude.{if◌then◌else◌, is_none}
 use Rattle.std.specs.List.{concat}
 use Rattle.std.specs.Io.KnownBytes.{Appends}
@@ -176,3 +176,7 @@ module _ (shape : Shape) (done : Finished) (journal : List Label) (old mid new :
   -- the end stands there, and the journal broke off
   pub journal_broken : (places : Places) → Appends old mid (end_text places shape done) → AppendsFront mid new (journal_text shape journal) → AppendsFront old new (rest_with Journal places shape done journal)
   journal_broken places end front = front_behind old mid new (end_text places shape done) (journal_text shape journal) end front
+
+pub err_by : {T E P Q : Type 0} (r : Result T E) → (P → Q) → OnErr r P → OnErr r Q
+err_by (Ok x) f p = tt
+err_by (Err e) f p = f p

@@ -1,9 +1,9 @@
 use Rattle.std.proofs.Common.{sym, subst}
 use Rattle.std.specs.Io.KnownBytes.{Appends}
 use Rattle.wave_io.specs.Streams.{AppendsFront}
-use Rattle.listing_out.proofs.SinkLemmas.{err_by, on_err}
+use Rattle.listing_out.proofs.SinkLemmas.{on_err}
 use Rattle.eventwave.specs.inner.Tasks.{rest_with}
-use Rattle.eventwave.proofs.ListedLemmas.{end_broken, end_same, journal_broken}
+use Rattle.eventwave.proofs.ListedLemmas.{end_broken, end_same, err_by, journal_broken}
 use Rattle.eventwave.proofs.listed.write_behind.Goals as goal
 
 pub returns-in_err-write_end-clause-err : goal.returns-in_err-write_end-clause-err
