@@ -1,4 +1,4 @@
-//! Tests alone, of what is due for a command and an input. They stand above `due_answer`, which takes long to prove, and a crate with tests is
+//! Tests alone, of what is due for a command and an input. They stand above the top call, which takes long to prove, and a crate with tests is
 //! proved twice.
 #![tactic(auto)]
 

@@ -10,27 +10,44 @@ mod second;
 mod traces;
 mod traps;
 
-use command_words::Command;
-use due_answer::{Answer, judge};
+use eventwave::eventwave_alone;
 use std::alloc::Global;
 use std::process::Abort;
-use wave_base::{INPUT_BYTES, OutOfMemory};
+use wave_base::{OutOfMemory, Seq, Words};
+use wave_io::{MemSink, MemSource};
 
-// The answer that is due for a command and an input.
-fn due(
-    rt: &impl Abort,
-    alloc: Global,
-    command: Command,
-    input: &[u8],
-) -> Result<Answer, OutOfMemory> {
-    assert!(rt; input.len() <= INPUT_BYTES);
-    judge(alloc, command, input)
+/// What a call came to: its status, and what it wrote on the output and as a note.
+#[derive(Drop)]
+struct Answer {
+    status: u8,
+    out: MemSink,
+    notes: MemSink,
+}
+
+// What a call on this thread comes to, for words with a blank between them and an input.
+fn due(rt: &impl Abort, alloc: Global, text: &str, input: &[u8]) -> Result<Answer, OutOfMemory> {
+    let mut words = Words::new(alloc);
+    for word in text.split(' ') {
+        words.push(word)?;
+    }
+    let bytes = Seq::from_vec(Vec::from_slice(alloc, input)?);
+    let mut source = MemSource::new(bytes, 4096, Seq::new(alloc));
+    let mut out = MemSink::new(alloc, 4_000_000, 4096, Seq::new(alloc))?;
+    let mut notes = MemSink::new(alloc, 1000, 1000, Seq::new(alloc))?;
+    let status = eventwave_alone(alloc, &words, &mut source, &mut out, &mut notes);
+    assert!(rt; status.is_some());
+    Ok(Answer {
+        status: status.unwrap_or(0),
+        out,
+        notes,
+    })
 }
 
 // It has this status, this note and this text.
 fn has(rt: &impl Abort, answer: &Answer, status: u8, note: &[u8], text: &[u8]) {
-    equal(rt, answer.note.as_slice(), note);
-    equal(rt, answer.text.as_slice(), text);
+    let told = answer.notes.bytes();
+    equal(rt, told.strip_suffix(b"\n").unwrap_or(told), note);
+    equal(rt, answer.out.bytes(), text);
     assert_eq!(rt; answer.status, status);
 }
 

@@ -4,7 +4,7 @@ use Rattle.wave_base.specs.Names.{same_bytes}
 use Rattle.command_words.specs.declared.choice.Verb.{Verb}
 use Rattle.command_words.specs.declared.choice.Verb.TheVariants as verb
 use Rattle.command_words.specs.declared.command.Command.{Command}
-use Rattle.command_words.specs.declared.command.Command.TheVariants.{Run, Seq, Trace, Check, Print, Code, Gen, Load}
+use Rattle.command_words.specs.declared.command.Command.TheVariants.{Run, Seq, Trace, Save, Resume, Replay, Check, Print, Code, Gen, Load}
 use Rattle.command_words.specs.declared.command.Crew.{Crew}
 use Rattle.command_words.specs.declared.command.Places.{Places}
 use Rattle.command_words.specs.declared.command.Places.TheVariants.{Unlisted, Listed}
@@ -16,6 +16,9 @@ verb_of word =
     if same_bytes word (codes "run") then Some verb.Run
     else if same_bytes word (codes "seq") then Some verb.Seq
     else if same_bytes word (codes "trace") then Some verb.Trace
+    else if same_bytes word (codes "save") then Some verb.Save
+    else if same_bytes word (codes "resume") then Some verb.Resume
+    else if same_bytes word (codes "replay") then Some verb.Replay
     else if same_bytes word (codes "check") then Some verb.Check
     else if same_bytes word (codes "print") then Some verb.Print
     else if same_bytes word (codes "code") then Some verb.Code
@@ -27,11 +30,15 @@ verb_of word =
 abbrev pub crew_of : Option ℕ → Option Schedule → Crew
 crew_of workers schedule = record { workers = unwrap_or workers 4; schedule = schedule }
 
--- `run` and `trace` take workers, a schedule and the places; `seq` the places; `gen` wants a number; `load` wants one and takes workers
+-- `run`, `trace` and `resume` take workers, a schedule and the places; `seq` the places; `save` workers; `gen` wants a number; `load` and `replay`
+-- want one and take workers
 abbrev pub command_with : Verb → Option ℕ → Option ℕ → Option Schedule → Places → Option Command
 command_with verb.Run None workers schedule places = Some (Run places (crew_of workers schedule))
 command_with verb.Seq None None None places = Some (Seq places)
 command_with verb.Trace None workers schedule places = Some (Trace places (crew_of workers schedule))
+command_with verb.Save None workers None Unlisted = Some (Save (crew_of workers None))
+command_with verb.Resume None workers schedule places = Some (Resume places (crew_of workers schedule))
+command_with verb.Replay (Some n) workers None Unlisted = Some (Replay n (crew_of workers None))
 command_with verb.Check None None None Unlisted = Some Check
 command_with verb.Print None None None Unlisted = Some Print
 command_with verb.Code None None None Unlisted = Some Code

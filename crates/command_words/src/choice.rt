@@ -17,6 +17,12 @@ pub enum Verb {
     Seq,
     /// `trace`: as `run`, with the journal behind the listing.
     Trace,
+    /// `save`: the point that a script leaves, as a checkpoint.
+    Save,
+    /// `resume`: a script from a checkpoint on.
+    Resume,
+    /// `replay`: a journal, label by label.
+    Replay,
     /// `check`: whether the service is typed.
     Check,
     /// `print`: the service in canonical layout.
@@ -38,6 +44,12 @@ fn verb_of(word: &str) -> Option<Verb>
         Some(Verb::Seq)
     } else if word == "trace" {
         Some(Verb::Trace)
+    } else if word == "save" {
+        Some(Verb::Save)
+    } else if word == "resume" {
+        Some(Verb::Resume)
+    } else if word == "replay" {
+        Some(Verb::Replay)
     } else if word == "check" {
         Some(Verb::Check)
     } else if word == "print" {
@@ -76,6 +88,15 @@ fn command_with(
         (Verb::Run, None, _, _, _) => Some(Command::Run(places, crew_of(workers, schedule))),
         (Verb::Seq, None, None, None, _) => Some(Command::Seq(places)),
         (Verb::Trace, None, _, _, _) => Some(Command::Trace(places, crew_of(workers, schedule))),
+        (Verb::Save, None, _, None, Places::Unlisted) => {
+            Some(Command::Save(crew_of(workers, None)))
+        }
+        (Verb::Resume, None, _, _, _) => {
+            Some(Command::Resume(places, crew_of(workers, schedule)))
+        }
+        (Verb::Replay, Some(n), _, None, Places::Unlisted) => {
+            Some(Command::Replay(n, crew_of(workers, None)))
+        }
         (Verb::Check, None, None, None, Places::Unlisted) => Some(Command::Check),
         (Verb::Print, None, None, None, Places::Unlisted) => Some(Command::Print),
         (Verb::Code, None, None, None, Places::Unlisted) => Some(Command::Code),

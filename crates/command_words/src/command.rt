@@ -1,5 +1,7 @@
 ghost use Rattle.std.specs.Prelude.{◌≡◌};
-ghost use Rattle.command_words.specs.Inputs.{is_free, reads_input, runs_workers};
+ghost use Rattle.command_words.specs.Inputs.{input_bytes, is_free, reads_input, runs_workers};
+
+use wave_base::{INPUT_BYTES, LONG_INPUT_BYTES};
 
 /// Whether the listing ends with the hosts of the contexts.
 #[derive(Clone, Copy, Debug, PartialEq, Eq)]
@@ -52,6 +54,12 @@ pub enum Command {
     Seq(Places),
     /// The same as `run`, and behind it the journal of the run.
     Trace(Places, Crew),
+    /// Runs the script on the service, and writes the point that it leaves as a checkpoint. The crew has no schedule.
+    Save(Crew),
+    /// Runs the script on the service from a checkpoint on, and lists the results.
+    Resume(Places, Crew),
+    /// Replays a journal by so many workers, and tells the machine after this many labels. The crew has no schedule.
+    Replay(u64, Crew),
     /// Says whether the service is typed.
     Check,
     /// Writes the service in canonical layout.
@@ -73,10 +81,31 @@ impl Command {
             Command::Run(_, _)
             | Command::Seq(_)
             | Command::Trace(_, _)
+            | Command::Save(_)
+            | Command::Resume(_, _)
+            | Command::Replay(_, _)
             | Command::Check
             | Command::Print
             | Command::Code => true,
             Command::Gen(_) | Command::Load(_, _) => false,
+        }
+    }
+
+    /// How many bytes its input may have.
+    pub fn input_bytes(&self) -> usize
+        ensures { result ≡ input_bytes self.now }
+    {
+        match self {
+            Command::Resume(_, _) | Command::Replay(_, _) => LONG_INPUT_BYTES,
+            Command::Run(_, _)
+            | Command::Seq(_)
+            | Command::Trace(_, _)
+            | Command::Save(_)
+            | Command::Check
+            | Command::Print
+            | Command::Code
+            | Command::Gen(_)
+            | Command::Load(_, _) => INPUT_BYTES,
         }
     }
 
@@ -85,10 +114,16 @@ impl Command {
         ensures { result ≡ runs_workers self.now }
     {
         match self {
-            Command::Run(_, crew) | Command::Trace(_, crew) => crew.is_free(),
-            Command::Load(_, _) => true,
-            Command::Seq(_) | Command::Check | Command::Print | Command::Code | Command::Gen(_) =>
-                false,
+            Command::Run(_, crew) | Command::Trace(_, crew) | Command::Resume(_, crew) => {
+                crew.is_free()
+            }
+            Command::Save(_) | Command::Load(_, _) => true,
+            Command::Seq(_)
+            | Command::Replay(_, _)
+            | Command::Check
+            | Command::Print
+            | Command::Code
+            | Command::Gen(_) => false,
         }
     }
 }

@@ -1,9 +1,3 @@
-pub mod CodeLemmas
-pub mod NameLemmas
 pub mod DueLemmas
-pub mod AcceptLemmas
-pub mod RunLemmas
-pub mod PathLemmas
-pub mod WorkLemmas
-pub mod TraceLemmas
+pub mod FoundLemmas
 pub mod StatusLemmas

@@ -1,4 +1,4 @@
 pub mod inner
-pub mod Runs
 pub mod Due
-pub mod Accepted
+pub mod Tasks
+pub mod Prepared

@@ -1,23 +1,10 @@
-//! What is due for a command and an input: a status, a note, and a text to write.
+//! What a command and an input come to: the answer that is due, or a script that is to be run and what is to be told of it.
 #![tactic(auto)]
 
-mod accepted;
-mod answer;
-mod code;
-mod engine;
-mod judging;
-mod report;
-mod runs;
-mod script;
-mod service;
-mod told;
-mod traces;
-mod work;
+mod prepared;
+mod preparing;
+mod task;
 
-pub use accepted::{Accepted, accept};
-pub use answer::{Answer, refused};
-pub use judging::judge;
-pub use report::Report;
-pub use told::{reported, status_of};
-pub use traces::{journal_of, runs_have_paths};
-pub use work::Work;
+pub use prepared::Prepared;
+pub use preparing::prepare;
+pub use task::{Engine, Task};

@@ -4,43 +4,31 @@ use Rattle.std.specs.Prelude.{◌==◌}
 use Rattle.std.proofs.lemmas.Bool.Decides.{nat_tests}
 use Rattle.std.specs.Io.KnownBytes.{Appends, Consumes, Keeps}
 use Rattle.wave_io.specs.Causes.{Rose}
-use Rattle.wave_base.specs.declared.limits.TheConstants.{INPUT_BYTES}
-use Rattle.due_answer.specs.declared.answer.Answer.{Answer}
+use Rattle.due_parts.specs.declared.answer.Answer.{Answer}
 use Rattle.command_words.specs.declared.command.Command.{Command}
-use Rattle.command_words.specs.declared.command.Command.TheVariants.{Run, Seq, Trace, Check, Print, Code, Gen, Load}
-use Rattle.command_words.specs.Inputs.{reads_input}
-use Rattle.due_answer.specs.Due.{IsDue, IsToldFor, too_large_input}
-use Rattle.eventwave.specs.Ends.{Change, Ends, DueFor, SomeDue, IsInput, IsInputWhere, IsLeft, IsLong, IsTold, IsToldWhere, ReadsAll, Told, WritesFront, is_given, note_for, read_by, reads_where}
+use Rattle.command_words.specs.Inputs.{input_bytes, reads_input}
+use Rattle.due_answer.specs.Due.{IsToldFor}
+use Rattle.due_parts.specs.Answers.{too_large_input}
+use Rattle.eventwave.specs.Ends.{Change, Ends, DueFor, SomeDue, IsInput, IsInputWhere, IsLeft, IsLong, IsTold, IsToldWhere, ReadsAll, Told, WritesFront, is_given, most_by, note_for, read_by, reads_where}
 use Rattle.eventwave.specs.inner.Parts.{Did, Ended, Gave, ReadsDue, SomeInputDue, is_read_fault, note_of, status_of}
 use Rattle.eventwave.specs.declared.ending.Ending.{Ending}
 use Rattle.eventwave.specs.declared.ending.Ending.TheVariants.{WordsRefused, ReadFault, WriteFault, NoMemory, Answered}
 use Rattle.command_words.specs.Reading.{command_of}
 use Rattle.due_answer.proofs.StatusLemmas.{own_status, statuses}
-use Rattle.due_answer.proofs.DueLemmas.{only_too_large, told_only}
+use Rattle.due_answer.proofs.DueLemmas.{due_of_told, only_too_large, told_only}
 
 -- where more was read than is allowed, the input is too large
-pub long_input : (old new : Option (List ℕ)) (bytes : List ℕ) → Consumes old new bytes → INPUT_BYTES < length bytes → IsLong old
-long_input None new bytes p long = record { bytes = bytes; input = tt; long = long }
-long_input (Some xs) None bytes p long = absurd p
-long_input (Some xs) (Some ys) bytes p long = record { bytes = xs; input = refl; long = omega (arith, ap length p, length-append bytes ys) }
+pub long_input : (most : ℕ) (old new : Option (List ℕ)) (bytes : List ℕ) → Consumes old new bytes → most < length bytes → IsLong most old
+long_input most None new bytes p long = record { bytes = bytes; input = tt; long = long }
+long_input most (Some xs) None bytes p long = absurd p
+long_input most (Some xs) (Some ys) bytes p long = record { bytes = xs; input = refl; long = omega (arith, ap length p, length-append bytes ys) }
 
 -- the bytes of a command's input
 pub read_bytes : (c : Command) (left : Option (List ℕ)) (bytes : List ℕ) → reads_input c ≡ true → IsLeft left bytes → IsInput c left bytes
 read_bytes c left bytes reads h = subst (λ b. IsInputWhere b left bytes) (sym reads) h
 
-pub too_large_due : (c : Command) (left : Option (List ℕ)) (a : Answer) → reads_input c ≡ true → a ≡ too_large_input → IsLong left → SomeInputDue c left a
+pub too_large_due : (c : Command) (left : Option (List ℕ)) (a : Answer) → reads_input c ≡ true → a ≡ too_large_input → IsLong (input_bytes c) left → SomeInputDue c left a
 too_large_due c left a reads e h = record { bytes = h.bytes; input = read_bytes c left h.bytes reads h.input; told = subst (IsToldFor c h.bytes) (sym e) (told_only c h.bytes too_large_input (only_too_large c h.bytes reads h.long)) }
-
--- what is told for a command is due
-due_of_told : (c : Command) (bytes : List ℕ) (due : Answer) → IsToldFor c bytes due → IsDue c bytes due
-due_of_told (Run places crew) bytes due h = h.is_due
-due_of_told (Seq places) bytes due h = h.is_due
-due_of_told (Trace places crew) bytes due h = h
-due_of_told Check bytes due h = h.is_due
-due_of_told Print bytes due h = h.is_due
-due_of_told Code bytes due h = h.is_due
-due_of_told (Gen n) bytes due h = h.is_due
-due_of_told (Load n crew) bytes due h = h.is_due
 
 -- ---- what a status says of how a call ended
 
@@ -161,12 +149,12 @@ module _ (words : List (List ℕ)) (input out : Change) where
       let bad : is_read_fault ReadFault ≡ false = d.sure by in
       cc)
 
-  read_whole : (e : Ending) → Did words input out e → is_given (status_of e) ≡ true → read_by words ≡ true → ReadsAll input.bytes input.bytes_now
+  read_whole : (e : Ending) → Did words input out e → is_given (status_of e) ≡ true → read_by words ≡ true → ReadsAll (most_by words) input.bytes input.bytes_now
   read_whole WordsRefused d given reads = absurd cc
   read_whole ReadFault d given reads = absurd cc
   read_whole WriteFault d given reads = absurd cc
   read_whole (NoMemory _) d given reads = absurd cc
-  read_whole (Answered status note) d given reads = subst (λ b. ReadsDue b input.bytes input.bytes_now (Answered status note)) reads d.read
+  read_whole (Answered status note) d given reads = subst (λ b. ReadsDue b (most_by words) input.bytes input.bytes_now (Answered status note)) reads d.read
 
   module _ (notes : Change) where
     abbrev pub Noted : List ℕ → Type 0

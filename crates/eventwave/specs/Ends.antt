@@ -1,12 +1,11 @@
 -- How a call ends: statuses, notes, and what was read and written.
 use Rattle.std.specs.Prelude.{◌≡◌, ◌≢◌, ℕ, ◌⊎◌, ◌==◌, ◌||◌, Bool, true, false, not, if◌then◌else◌, Option, Some, None, IfSome, List, [], ◌∷◌, ◌++◌, codes, length, ◌<◌}
 use Rattle.std.specs.Io.KnownBytes.{Appends, Keeps, IsAtEnd}
-use Rattle.wave_base.specs.declared.limits.TheConstants.{INPUT_BYTES}
 use Rattle.wave_io.specs.Causes.{Rose}
 use Rattle.wave_io.specs.Streams.{AppendsFront}
-use Rattle.due_answer.specs.declared.answer.Answer.{Answer}
+use Rattle.due_parts.specs.declared.answer.Answer.{Answer}
 use Rattle.command_words.specs.declared.command.Command.{Command}
-use Rattle.command_words.specs.Inputs.{reads_input, runs_workers}
+use Rattle.command_words.specs.Inputs.{input_bytes, reads_input, runs_workers}
 use Rattle.command_words.specs.Reading.{command_of}
 use Rattle.due_answer.specs.Due.{IsToldFor}
 
@@ -49,6 +48,14 @@ reads_where (Some c) = reads_input c
 abbrev pub read_by : List (List ℕ) → Bool
 read_by words = reads_where (command_of words)
 
+-- how many bytes the input may have: none, where the words are no command
+abbrev pub most_where : Option Command → ℕ
+most_where None = 0
+most_where (Some c) = input_bytes c
+
+abbrev pub most_by : List (List ℕ) → ℕ
+most_by words = most_where (command_of words)
+
 -- the words are a command that workers run
 abbrev pub crewed_where : Option Command → Bool
 crewed_where None = false
@@ -80,14 +87,14 @@ note_line (b ∷ bs) = (b ∷ bs) ++ 10 ∷ []
 abbrev pub Told : ℕ → ℕ → Option (List ℕ) → Option (List ℕ) → List ℕ → Type 0
 Told before now old new note = Rose before now ⊎ Appends old new (note_line note)
 
--- more than is allowed stands in the input, or it was read to its end
-pub record IsLong (left : Option (List ℕ)) : Type 0 where
+-- more than so many bytes stand in the input, or it was read to its end
+pub record IsLong (most : ℕ) (left : Option (List ℕ)) : Type 0 where
   pub bytes : List ℕ
   pub input : IsLeft left bytes
-  pub long : INPUT_BYTES < length bytes
+  pub long : most < length bytes
 
-abbrev pub ReadsAll : Option (List ℕ) → Option (List ℕ) → Type 0
-ReadsAll old new = IsLong old ⊎ IsAtEnd new
+abbrev pub ReadsAll : ℕ → Option (List ℕ) → Option (List ℕ) → Type 0
+ReadsAll most old new = IsLong most old ⊎ IsAtEnd new
 
 -- nothing was done to a stream
 pub record Untouched (before now : ℕ) (old new : Option (List ℕ)) : Type 0 where
@@ -133,7 +140,7 @@ pub record Ends (words : List (List ℕ)) (input out notes : Change) (n : ℕ) :
   pub write_fault : n ≡ 6 → Rose out.faults out.faults_now
   -- Each other status but 7 is that of an answer that is due, with all commands but `trace` the only one, whose text and note were written.
   pub given : is_given n ≡ true → SomeDue words input.bytes (λ due. (n ≡ due.status) × Appends out.bytes out.bytes_now due.text × Told notes.faults notes.faults_now notes.bytes notes.bytes_now due.note)
-  pub end : is_given n ≡ true → read_by words ≡ true → ReadsAll input.bytes input.bytes_now
+  pub end : is_given n ≡ true → read_by words ≡ true → ReadsAll (most_by words) input.bytes input.bytes_now
   -- What is written where no answer was given.
   pub nothing : (n ≡ 2) ⊎ (n ≡ 5) → Keeps out.bytes out.bytes_now
   pub front : (n ≡ 6) ⊎ (n ≡ 7) → WritesFront words input.bytes out.bytes out.bytes_now

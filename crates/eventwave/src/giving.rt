@@ -6,7 +6,7 @@ ghost use Rattle.eventwave.specs.Ends.{Told};
 ghost use Rattle.eventwave.specs.inner.Parts.{Gave, note_of, status_of};
 
 use crate::ending::Ending;
-use due_answer::Answer;
+use due_parts::Answer;
 use wave_io::{Failed, Sink, write_all};
 
 /// Writes the text of an answer.

@@ -4,11 +4,12 @@
 
 mod alone;
 mod ending;
+mod engines;
 mod giving;
-mod listed;
-mod loads;
+mod made;
+mod pouring;
+mod reading;
 mod response;
-mod task;
 mod team;
 mod together;
 mod top;

@@ -4,6 +4,8 @@ mod crews;
 mod ends;
 mod gates;
 mod memory;
+mod points;
+mod replays;
 mod rows;
 mod scripts;
 mod second;

@@ -7,6 +7,10 @@ use Rattle.mace_lexer.specs.declared.fault.LexError.{LexError}
 use Rattle.mace_lexer.specs.declared.fault.LexError.TheVariants as lex
 use Rattle.mace_parser.specs.declared.fault.ParseError.{ParseError}
 use Rattle.mace_parser.specs.declared.fault.ParseError.TheVariants as parse
+use Rattle.checkpoint_store.specs.declared.error.CheckError.{CheckError}
+use Rattle.checkpoint_store.specs.declared.error.CheckError.TheVariants as check
+use Rattle.journal_text.specs.declared.error.JournalError.{JournalError}
+use Rattle.journal_text.specs.declared.error.JournalError.TheVariants as journal
 use Rattle.script_reader.specs.declared.error.ScriptError.{ScriptError}
 use Rattle.script_reader.specs.declared.error.ScriptError.TheVariants as script
 use Rattle.service_reader.specs.declared.fault.TextFault.{TextFault}
@@ -50,7 +54,7 @@ type_note (wrong.Limit which at) = placed (codes "Y8 Limit") at
 type_note (wrong.Unreachable at) = placed (codes "Y10 Unreachable") at
 type_note (wrong.OutOfMemory _) = []
 
--- what it is, and the line of the script
+-- what it is, and the line of the script, the checkpoint or the journal
 abbrev pub on_line : List ℕ → ℕ → List ℕ
 on_line name line = name ++ (codes " line " ++ decimal line)
 
@@ -66,3 +70,13 @@ script_note (script.TooMany line) = on_line (codes "S8 TooMany") line
 script_note (script.PolicyLate line) = on_line (codes "S10 PolicyLate") line
 script_note (script.CountRange line) = on_line (codes "S11 CountRange") line
 script_note (script.OutOfMemory _) = []
+
+abbrev pub check_note : CheckError → List ℕ
+check_note (check.Syntax line) = on_line (codes "K1 Syntax") line
+check_note (check.Service line) = on_line (codes "K2 Service") line
+check_note (check.Tree line) = on_line (codes "K3 Tree") line
+check_note (check.OutOfMemory _) = []
+
+abbrev pub journal_note : JournalError → List ℕ
+journal_note (journal.Syntax line) = on_line (codes "J1 Syntax") line
+journal_note (journal.OutOfMemory _) = []

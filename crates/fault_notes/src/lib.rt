@@ -3,4 +3,6 @@
 
 mod notes;
 
-pub use notes::{lex_note, parse_note, script_note, text_note, type_note};
+pub use notes::{
+    check_note, journal_note, lex_note, parse_note, script_note, text_note, type_note,
+};

@@ -1,12 +1,18 @@
+//! The notes of faults.
+
 ghost use Rattle.std.specs.Prelude.{◌≡◌, ◌≢◌, IfOk};
 ghost use Rattle.mace_lexer.specs.declared.fault.LexError.{LexError};
 ghost use Rattle.mace_parser.specs.declared.fault.ParseError.{ParseError};
+ghost use Rattle.checkpoint_store.specs.declared.error.CheckError.{CheckError};
+ghost use Rattle.journal_text.specs.declared.error.JournalError.{JournalError};
 ghost use Rattle.script_reader.specs.declared.error.ScriptError.{ScriptError};
 ghost use Rattle.service_reader.specs.declared.fault.TextFault.{TextFault};
 ghost use Rattle.type_rules.specs.declared.error.TypeError.{TypeError};
-ghost use Rattle.fault_notes.specs.Notes.{placed, on_line, lex_note, parse_note, text_note, type_note, script_note};
+ghost use Rattle.fault_notes.specs.Notes.{placed, on_line, lex_note, parse_note, text_note, type_note, script_note, check_note, journal_note};
 ghost use Rattle.wave_base.specs.Memory.{the_refusal};
 
+use checkpoint_store::CheckError;
+use journal_text::JournalError;
 use mace_lexer::LexError;
 use mace_parser::ParseError;
 use script_reader::ScriptError;
@@ -86,7 +92,7 @@ pub fn type_note(alloc: Global, error: &TypeError) -> Result<Vec<u8>, OutOfMemor
     }
 }
 
-// What it is, and the line of the script.
+// What it is, and the line of the script, the checkpoint or the journal.
 fn on_line(alloc: Global, name: &[u8], line: u32) -> Result<Vec<u8>, OutOfMemory>
     ensures { IfOk result (λ note. note.items ≡ on_line name.now line) }
 {
@@ -114,5 +120,29 @@ pub fn script_note(alloc: Global, error: &ScriptError) -> Result<Vec<u8>, OutOfM
         ScriptError::PolicyLate { line } => on_line(alloc, b"S10 PolicyLate", *line),
         ScriptError::CountRange { line } => on_line(alloc, b"S11 CountRange", *line),
         ScriptError::OutOfMemory(refused) => Err(*refused),
+    }
+}
+
+/// What is told of a checkpoint's line that is refused.
+pub fn check_note(alloc: Global, error: &CheckError) -> Result<Vec<u8>, OutOfMemory>
+    ensures note { IfOk result (λ note. note.items ≡ check_note error.now) }
+    ensures told { IfOk result (λ _. error.now ≢ CheckError.OutOfMemory the_refusal) }
+{
+    match error {
+        CheckError::Syntax { line } => on_line(alloc, b"K1 Syntax", *line),
+        CheckError::Service { line } => on_line(alloc, b"K2 Service", *line),
+        CheckError::Tree { line } => on_line(alloc, b"K3 Tree", *line),
+        CheckError::OutOfMemory(refused) => Err(*refused),
+    }
+}
+
+/// What is told of a journal's line that is refused.
+pub fn journal_note(alloc: Global, error: &JournalError) -> Result<Vec<u8>, OutOfMemory>
+    ensures note { IfOk result (λ note. note.items ≡ journal_note error.now) }
+    ensures told { IfOk result (λ _. error.now ≢ JournalError.OutOfMemory the_refusal) }
+{
+    match error {
+        JournalError::Syntax { line } => on_line(alloc, b"J1 Syntax", *line),
+        JournalError::OutOfMemory(refused) => Err(*refused),
     }
 }

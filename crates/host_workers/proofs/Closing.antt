@@ -1,6 +1,6 @@
 -- The board of a lock that is closed, once worker 0 has seen that all is done.
 use Rattle.std.proofs.Common.{◌≡◌, ◌∙◌, ℕ, List, [], ◌∷◌, ◌++◌, map, Option, Some, refl, sym, ap, append-nil, subst}
-use Rattle.std.specs.Prelude.{option_and_then}
+use Rattle.std.specs.Prelude.{◌↔◌, option_and_then}
 use Rattle.std.specs.Io.KnownBytes.{Appends}
 use Rattle.wave_base.specs.declared.finished.Finished as declared_finished
 use Rattle.wave_base.specs.declared.start.Start.{Start}
@@ -18,8 +18,11 @@ use Rattle.wave_io.specs.Streams.{AppendsFront}
 use Rattle.listing_out.proofs.SinkLemmas.{written_front}
 use Rattle.script_fold.specs.Runs.{finished_of}
 use Rattle.plan_actors.specs.Calls.{code_ran}
-use Rattle.plan_actors.specs.PlanActors.{plan_actors}
+use Rattle.plan_actors.specs.Finishing.{Tells}
+use Rattle.plan_actors.specs.PlanActors.{plan_actors, plan_kind}
 use Rattle.plan_actors.specs.Plans.{Plan, Fits, FitsStart, begin_in}
+use Rattle.serial_runs.specs.Journals.{OwnersTake}
+use Rattle.serial_runs.specs.Serial.{HasSerial}
 use Rattle.wave_machine.specs.declared.plan.Plan as declared_plan
 use Rattle.wave_machine.specs.Lengths.{FinishedRunsAreMeasured}
 use Rattle.wave_machine.specs.Machines.{IsReached, TheState}
@@ -48,6 +51,21 @@ run_on sys workers (l ∷ xs) ys s u v e f =
     let a = then_some (λ z. run sys workers z xs) (step sys workers s l) u e in
     run_on sys workers xs ys a.0 u v a.2 (subst (λ o. option_and_then (λ z. run sys workers z (xs ++ ys)) o ≡ Some v) a.1 f)
 
+-- what is known of finished states
+abbrev FinishedStatesTell : Type 0
+FinishedStatesTell = (plan : Plan) (start : Start) → Fits plan → FitsStart plan start → (labels : List Label) (s : TheState) → IsReached plan start labels s
+    → Finished (plan_actors plan.program) plan.workers s → (f : declared_finished.Finished) → Tells s start plan.script.batches f ↔ (f ≡ finished_of (code_ran plan.program) plan.program.shape start plan.script)
+
+-- what is known of the labels that lead to a state
+abbrev PlansHaveOwners : Type 0
+PlansHaveOwners = (plan : Plan) (start : Start) → Fits plan → FitsStart plan start → (labels : List Label) (s : TheState) → IsReached plan start labels s
+    → OwnersTake (plan_kind plan.program plan.script.hosts) plan.workers (begin_in plan start) plan.script.batches labels s
+
+-- and of a serial run to a finished state
+abbrev PlansAreSerial : Type 0
+PlansAreSerial = (plan : Plan) (start : Start) → Fits plan → FitsStart plan start → (labels : List Label) (s : TheState) → IsReached plan start labels s
+    → Finished (plan_actors plan.program) plan.workers s → HasSerial (plan_kind plan.program plan.script.hosts) plan.workers (begin_in plan start) plan.script.batches s
+
 module _ (o : Origin) (b : Board) (s : TheState) (at : IsAt b o s) (seen : List Trail) (over : IsFinishedRun o.plan.now o.start.now (labels_in seen)) (begins : StartsWith (history_of b) seen) where
   abbrev pub plan : Plan
   plan = plan_of o.plan.now
@@ -71,14 +89,20 @@ module _ (o : Origin) (b : Board) (s : TheState) (at : IsAt b o s) (seen : List 
   is_finished = subst (λ (p : Plan). Finished (plan_actors p.program) p.workers s) (sym at.plan) done
 
   -- and its parts are those of a run
-  pub is_run : FinishedRunsAreMeasured → (r : declared_finished.Finished × List declared_label.Label) → r.1 ≡ b.journal.items
+  pub is_run : FinishedRunsAreMeasured → FinishedStatesTell → PlansHaveOwners → PlansAreSerial → (r : declared_finished.Finished × List declared_label.Label) → r.1 ≡ b.journal.items
       → ((o : Origin) (s : TheState) → IsAt b o s → r.0 ≡ finished_of (code_ran o.plan.now.program) o.plan.now.program.shape o.start.now o.plan.now.script) → IsRun o.plan.now o.start.now r
-  is_run measured r journal told =
-      let run : IsReached plan o.start.now (map label_of r.1) s = subst (λ js. IsReached plan o.start.now (map label_of js) s) (sym journal) reached in (
-        told o s at,
-        record { state = s; reached = run; finished = done },
-        measured plan o.start.now (subst Fits at.plan at.fits) (subst (λ (p : Plan). FitsStart p o.start.now) at.plan at.begins) (map label_of r.1) s run done,
-      )
+  is_run measured tell owned serial r journal told =
+      let run : IsReached plan o.start.now (map label_of r.1) s = subst (λ js. IsReached plan o.start.now (map label_of js) s) (sym journal) reached in
+      let fits : Fits plan = subst Fits at.plan at.fits in
+      let starts : FitsStart plan o.start.now = subst (λ (p : Plan). FitsStart p o.start.now) at.plan at.begins in
+      record {
+        run = record { state = s; reached = run; finished = done };
+        tells = (tell plan o.start.now fits starts (map label_of r.1) s run done r.0).1 (told o s at);
+        done = told o s at;
+        measured = measured plan o.start.now fits starts (map label_of r.1) s run done;
+        owned = owned plan o.start.now fits starts (map label_of r.1) s run;
+        serial = serial plan o.start.now fits starts (map label_of r.1) s run done;
+      }
 
 -- a board that stands for the origin may be taken apart
 pub can_part : (o : Origin) (b : Board) (seen : List Trail) → StandsFor b o → IsFinishedRun o.plan.now o.start.now (labels_in seen) → StartsWith (history_of b) seen → (o : Origin) × (s : TheState) × IsAt b o s × IsFinished b s

@@ -10,13 +10,15 @@ ghost use Rattle.wave_board.specs.Boards.{labels_in};
 ghost use Rattle.host_workers.specs.Endings.{IsFinishedRun};
 ghost use Rattle.host_workers.specs.Passes.{IsReady};
 ghost use Rattle.host_workers.specs.Lines.{event_lines};
-ghost use Rattle.host_workers.specs.Runs.{IsRun};
+ghost use Rattle.host_workers.specs.Runs.{IsWholeRun};
 
 use crate::ending::{Ending, RunError};
 use crate::post::Post;
 use crate::team::{helpers_of, run_team};
 use context_tree::trees_that_fit;
 use kept_lock::{KeptLock, Pass};
+use plan_actors::finished_states_tell;
+use serial_runs::{plans_are_serial, plans_have_owners};
 use std::alloc::Global;
 use std::sync::Wait;
 use std::thread::Threads;
@@ -27,8 +29,9 @@ use wave_labels::Label;
 use wave_machine::{Plan, runs_are_measured};
 
 /// Runs a plan from a Start by its workers, each in a thread of its own where one can be made. It gives what the script gives, and the journal of
-/// the labels that the workers took: as many as the plan's work asks for, and the Passes. The lines of the events are written while the workers
-/// run; those behind them are left to the caller.
+/// the labels that the workers took. That is a run of the machine from the Start to its end, each label taken by an owner of its context; what the
+/// end tells is what is given, and a serial run ends there too. The lines of the events are written while the workers run; those behind them are
+/// left to the caller.
 pub fn run_plan_at<R: Threads + Wait + Sync, G: Gate + Sync, K: Sink + Send>(
     rt: &R,
     alloc: Global,
@@ -39,7 +42,7 @@ pub fn run_plan_at<R: Threads + Wait + Sync, G: Gate + Sync, K: Sink + Send>(
 ) -> Result<(Finished, Seq<Label>), RunError>
     requires fits { Fits (plan_of plan.now) }
     requires begins { FitsStart (plan_of plan.now) start.now }
-    ensures run { IfOk result (λ r. IsRun plan.now start.now r) }
+    ensures run { IfOk result (λ r. IsWholeRun plan.now start.now r) }
     ensures lines { OnOk result (Appends (K.written out.old) (K.written out.new) (event_lines plan.now start.now)) }
     ensures front { OnErr result (AppendsFront (K.written out.old) (K.written out.new) (event_lines plan.now start.now)) }
     ensures fault { IsErrOf result RunError.WriteFault → Rose (K.faults out.old) (K.faults out.new) }
@@ -50,7 +53,15 @@ pub fn run_plan_at<R: Threads + Wait + Sync, G: Gate + Sync, K: Sink + Send>(
         Ok(made) => made,
         Err((_, refused)) => return Err(RunError::OutOfMemory(refused)),
     };
-    run_workers(rt, alloc, &lock, &mut first, plan, start.next, gate, out)?;
+    let post = Post {
+        rt,
+        alloc,
+        lock: &lock,
+        plan,
+        number: Worker(0),
+        gate,
+    };
+    run_workers(&post, &mut first, start.next, out)?;
     match parts_of(rt, lock, first) {
         Ok(parts) => Ok(parts),
         Err(refused) => Err(RunError::OutOfMemory(refused)),
@@ -66,7 +77,7 @@ pub fn run_plan<R: Threads + Wait + Sync, G: Gate + Sync, K: Sink + Send>(
     out: &mut K,
 ) -> Result<(Finished, Seq<Label>), RunError>
     requires { Fits (plan_of plan.now) }
-    ensures run { IfOk result (λ r. IsRun plan.now (first_start plan.now.program.shape) r) }
+    ensures run { IfOk result (λ r. IsWholeRun plan.now (first_start plan.now.program.shape) r) }
     ensures lines { OnOk result (Appends (K.written out.old) (K.written out.new) (event_lines plan.now (first_start plan.now.program.shape))) }
     ensures front { OnErr result (AppendsFront (K.written out.old) (K.written out.new) (event_lines plan.now (first_start plan.now.program.shape))) }
     ensures fault { IsErrOf result RunError.WriteFault → Rose (K.faults out.old) (K.faults out.new) }
@@ -77,39 +88,28 @@ pub fn run_plan<R: Threads + Wait + Sync, G: Gate + Sync, K: Sink + Send>(
     run_plan_at(rt, alloc, plan, &start, gate, out)
 }
 
-// Runs all workers of the plan round a new lock.
-fn run_workers<'p, R: Threads + Wait + Sync, G: Gate + Sync, K: Sink + Send>(
-    rt: &R,
-    alloc: Global,
-    lock: &KeptLock<Board<'p>>,
+// Runs all workers of the plan round a new lock, at which the post of worker 0 is.
+fn run_workers<'l, 'p, R: Threads + Wait + Sync, G: Gate + Sync, K: Sink + Send>(
+    post: &Post<'l, 'p, R, G>,
     first: &mut Pass<Board<'p>>,
-    plan: &'p Plan,
     from: Ticket,
-    gate: &G,
     out: &mut K,
 ) -> Result<(), RunError>
-    requires of_lock { IsPassOf lock.now first.old }
-    requires plan { (name_of lock.now).plan.now ≡ plan.now }
-    requires from { (name_of lock.now).start.now.next ≡ from }
-    requires ready { IsReady (name_of lock.now) (known first.old) (record { 0 = 0 }) }
+    requires of_lock { IsPassOf post.now.lock.now first.old }
+    requires plan { (name_of post.now.lock.now).plan.now ≡ post.now.plan.now }
+    requires from { (name_of post.now.lock.now).start.now.next ≡ from }
+    requires writer { post.now.number ≡ record { 0 = 0 } }
+    requires ready { IsReady (name_of post.now.lock.now) (known first.old) (record { 0 = 0 }) }
     requires one { (known first.old).passes ≡ 1 }
-    ensures of_lock { IsPassOf lock.now first.new }
-    ensures finished { OnOk result (IsFinishedRun (name_of lock.now).plan.now (name_of lock.now).start.now (labels_in (known first.new).seen)) }
-    ensures lines { OnOk result (Appends (K.written out.old) (K.written out.new) (event_lines plan.now (name_of lock.now).start.now)) }
-    ensures front { OnErr result (AppendsFront (K.written out.old) (K.written out.new) (event_lines plan.now (name_of lock.now).start.now)) }
+    ensures of_lock { IsPassOf post.now.lock.now first.new }
+    ensures finished { OnOk result (IsFinishedRun (name_of post.now.lock.now).plan.now (name_of post.now.lock.now).start.now (labels_in (known first.new).seen)) }
+    ensures lines { OnOk result (Appends (K.written out.old) (K.written out.new) (event_lines post.now.plan.now (name_of post.now.lock.now).start.now)) }
+    ensures front { OnErr result (AppendsFront (K.written out.old) (K.written out.new) (event_lines post.now.plan.now (name_of post.now.lock.now).start.now)) }
     ensures fault { IsErrOf result RunError.WriteFault → Rose (K.faults out.old) (K.faults out.new) }
     ensures later { K.faults out.old ≤ K.faults out.new }
 {
-    let post = Post {
-        rt,
-        alloc,
-        lock,
-        plan,
-        number: Worker(0),
-        gate,
-    };
-    let helpers = helpers_of(&post, first)?;
-    match run_team(&post, first, helpers, from, out) {
+    let helpers = helpers_of(post, first)?;
+    match run_team(post, first, helpers, from, out) {
         Ending::Finished => Ok(()),
         Ending::WriteFault => Err(RunError::WriteFault),
         Ending::Stopped(StopCause::Memory(refused)) => Err(RunError::OutOfMemory(refused)),
@@ -126,8 +126,11 @@ fn parts_of<'p, R: Wait>(
 ) -> Result<(Finished, Seq<Label>), OutOfMemory>
     requires of_lock { IsPassOf lock first }
     requires finished { IsFinishedRun (name_of lock).plan.now (name_of lock).start.now (labels_in (known first).seen) }
-    ensures { IfOk result (λ r. IsRun (name_of lock.entry).plan.now (name_of lock.entry).start.now r) }
+    ensures { IfOk result (λ r. IsWholeRun (name_of lock.entry).plan.now (name_of lock.entry).start.now r) }
 {
+    finished_states_tell();
+    plans_have_owners();
+    plans_are_serial();
     runs_are_measured();
     match lock.close(rt, first).into_parts() {
         Ok(parts) => Ok(parts),

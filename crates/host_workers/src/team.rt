@@ -7,8 +7,8 @@ ghost use Rattle.host_workers.specs.inner.Teams.{HasEnded, IsSeated};
 
 use crate::ending::Ending;
 use crate::post::Post;
-use crate::working::worker;
-use crate::writer::writing_worker;
+use crate::working::work_at;
+use crate::writer::write_at;
 use kept_lock::Pass;
 use std::sync::Wait;
 use std::thread::{Threads, join_mut, map_vec};
@@ -51,22 +51,7 @@ fn seated<'l, 'p, R, G>(
 ) -> Helper<'l, 'p, R, G>
     requires { IsSeated post.now.lock.now pass post.now.plan.now number }
 {
-    let Post {
-        rt,
-        alloc,
-        lock,
-        plan,
-        number: _,
-        gate,
-    } = post;
-    let post = Post {
-        rt: *rt,
-        alloc: *alloc,
-        lock: *lock,
-        plan: *plan,
-        number,
-        gate: *gate,
-    };
+    let post = Post { number, ..*post };
     Helper { post, pass }
 }
 
@@ -81,38 +66,20 @@ pub(crate) fn run_team<'l, 'p, R: Threads + Wait + Sync, G: Gate + Sync, K: Sink
     requires of_lock { IsPassOf post.now.lock.now first.old }
     requires plan { (name_of post.now.lock.now).plan.now ≡ post.now.plan.now }
     requires from { (name_of post.now.lock.now).start.now.next ≡ from }
-    requires ready { IsReady (name_of post.now.lock.now) (known first.old) (record { 0 = 0 }) }
+    requires ready { IsReady (name_of post.now.lock.now) (known first.old) post.now.number }
+    requires writer { post.now.number.0 ≡ 0 }
     ensures of_lock { IsPassOf post.now.lock.now first.new }
     ensures ended { HasEnded (name_of post.now.lock.now) post.now.plan.now (known first.new) (K.written out.old) (K.written out.new) (K.faults out.old) (K.faults out.new) result }
 {
     let mut helpers = Some(helpers);
     let (ending, ()) = join_mut(
         post.rt,
-        &mut || lead(post, first, from, out),
+        &mut || write_at(post, first, from, out),
         &mut ||
             requires { IsSync R.row × IsSync G.row }
         { help(post.rt, helpers.take()) },
     );
     ending
-}
-
-// Worker 0 at its post.
-fn lead<'l, 'p, R: Wait, G: Gate, K: Sink>(
-    post: &Post<'l, 'p, R, G>,
-    first: &mut Pass<Board<'p>>,
-    from: Ticket,
-    out: &mut K,
-) -> Ending
-    requires of_lock { IsPassOf post.now.lock.now first.old }
-    requires plan { (name_of post.now.lock.now).plan.now ≡ post.now.plan.now }
-    requires from { (name_of post.now.lock.now).start.now.next ≡ from }
-    requires ready { IsReady (name_of post.now.lock.now) (known first.old) (record { 0 = 0 }) }
-    ensures of_lock { IsPassOf post.now.lock.now first.new }
-    ensures ended { HasEnded (name_of post.now.lock.now) post.now.plan.now (known first.new) (K.written out.old) (K.written out.new) (K.faults out.old) (K.faults out.new) result }
-{
-    writing_worker(
-        post.rt, post.alloc, post.lock, first, post.plan, post.gate, from, out,
-    )
 }
 
 // Runs these workers. Where there is no memory for them the first does all.
@@ -136,13 +103,5 @@ fn run<'l, 'p, R: Wait, G: Gate>(helper: Helper<'l, 'p, R, G>) -> Ending
     ensures { result ≢ Ending.WriteFault }
 {
     let Helper { post, mut pass } = helper;
-    worker(
-        post.rt,
-        post.alloc,
-        post.lock,
-        &mut pass,
-        post.plan,
-        post.number,
-        post.gate,
-    )
+    work_at(&post, &mut pass)
 }

@@ -43,8 +43,24 @@ pub fn worker<'p, R: Wait, G: Gate>(
         number,
         gate,
     };
-    for _ in rt.forever() {
-        if let Some(ending) = round(&post, pass) {
+    work_at(&post, pass)
+}
+
+/// The same at its post.
+pub(crate) fn work_at<'l, 'p, R: Wait, G: Gate>(
+    post: &Post<'l, 'p, R, G>,
+    pass: &mut Pass<Board<'p>>,
+) -> Ending
+    requires of_lock { IsPassOf post.now.lock.now pass.old }
+    requires plan { (name_of post.now.lock.now).plan.now ≡ post.now.plan.now }
+    requires ready { IsReady (name_of post.now.lock.now) (known pass.old) post.now.number }
+    ensures of_lock { IsPassOf post.now.lock.now pass.new }
+    ensures number { (known pass.new).number ≡ post.now.number.0 }
+    ensures ended { Ended (name_of post.now.lock.now) (known pass.new) result }
+    ensures no_sink { result ≢ Ending.WriteFault }
+{
+    for _ in post.rt.forever() {
+        if let Some(ending) = round(post, pass) {
             return ending;
         }
     }

@@ -6,6 +6,7 @@ ghost use Rattle.kept_lock.specs.Locks.{name_of, known, IsPassOf};
 ghost use Rattle.host_workers.specs.Endings.{Ended};
 ghost use Rattle.host_workers.specs.Lines.{event_lines};
 ghost use Rattle.host_workers.specs.Passes.{IsReady};
+ghost use Rattle.host_workers.specs.inner.Teams.{HasEnded};
 ghost use Rattle.host_workers.specs.inner.Writing.{AreCommitted, AreNext, HasWritten};
 
 use crate::ending::Ending;
@@ -54,9 +55,27 @@ pub fn writing_worker<'p, R: Wait, G: Gate, K: Sink>(
         number: Worker(0),
         gate,
     };
+    write_at(&post, pass, from, out)
+}
+
+/// The same at its post.
+pub(crate) fn write_at<'l, 'p, R: Wait, G: Gate, K: Sink>(
+    post: &Post<'l, 'p, R, G>,
+    pass: &mut Pass<Board<'p>>,
+    from: Ticket,
+    out: &mut K,
+) -> Ending
+    requires of_lock { IsPassOf post.now.lock.now pass.old }
+    requires plan { (name_of post.now.lock.now).plan.now ≡ post.now.plan.now }
+    requires from { (name_of post.now.lock.now).start.now.next ≡ from }
+    requires ready { IsReady (name_of post.now.lock.now) (known pass.old) post.now.number }
+    requires writer { post.now.number.0 ≡ 0 }
+    ensures of_lock { IsPassOf post.now.lock.now pass.new }
+    ensures ended { HasEnded (name_of post.now.lock.now) post.now.plan.now (known pass.new) (K.written out.old) (K.written out.new) (K.faults out.old) (K.faults out.new) result }
+{
     let mut written = 0;
-    for _ in rt.forever() {
-        match writing_round(&post, pass, from, written, out) {
+    for _ in post.rt.forever() {
+        match writing_round(post, pass, from, written, out) {
             Ok(more) => written = more,
             Err(ending) => return ending,
         }

@@ -4,6 +4,7 @@
 mod error;
 mod label;
 mod line;
+mod lines;
 mod number;
 mod operands;
 mod put;
@@ -13,6 +14,7 @@ mod word;
 mod write;
 
 pub use error::JournalError;
+pub use lines::{head_line, label_line};
 pub use put::put_label;
 pub use read::read_journal;
 pub use write::write_journal;

@@ -1,13 +1,13 @@
 -- Computed examples: which lists are serial; a serial drive and another one of the same plan, which end in one state and are no
--- reordering of one another; and where a line stands.
+-- reordering of one another; which neighbours change places; and where a line stands.
 use Rattle.std.proofs.Common.{◌≡◌, ◌≤◌, ℕ, nat_lt, true, Option, Some, None, List, [], ◌∷◌, length, refl, arith}
-use Rattle.std.specs.Prelude.{if◌then◌else◌, map, nat_eq, option_map, option_and_then}
+use Rattle.std.specs.Prelude.{if◌then◌else◌, ◌++◌, Bool, false, is_some, map, nat_eq, option_map, option_and_then}
 use Rattle.wave_base.specs.Kids.{child_at}
 use Rattle.wave_states.specs.Begins.{start_state}
 use Rattle.wave_states.specs.Canonical.{enabled}
-use Rattle.wave_states.specs.Labels.{Act, Label, Admit, Start, Free, Commit, ticket_of}
+use Rattle.wave_states.specs.Labels.{Act, Label, Admit, Queue, Grant, Start, Stop, Free, Commit, ticket_of}
 use Rattle.wave_states.specs.Runs.{run, drive, newest, oldest, Rule}
-use Rattle.wave_states.specs.States.{Entry, Mark, State}
+use Rattle.wave_states.specs.States.{Entry, Event, Mark, State}
 use Rattle.wave_states.specs.Steps.{step}
 use Rattle.wave_states.proofs.Trips.{Trip, Told, begin, hall, moves, passes, trips}
 use Rattle.serial_runs.specs.Origins.{line_at}
@@ -74,6 +74,40 @@ ends_in_one : map (λ ls. option_map seen (run trips 4 (start_state begin moves)
     ≡ Some (None ∷ Some (0, 2) ∷ [], Some (2, 4), Some (4, 0)) ∷ Some (None ∷ Some (0, 2) ∷ [], Some (2, 4), Some (4, 0)) ∷ []
 unfolding step run enabled drive
 ends_in_one = refl
+
+-- ---- neighbours
+
+abbrev by_worker : ℕ → Act → Label
+by_worker w a = record { worker = w; host = 0; act = a }
+
+-- ticket 1 is at the root by worker 0, which has just put back what it ran
+abbrev first_visit : List Label
+first_visit = map (by_worker 0) (Admit 1 ∷ Queue 1 1 [] ∷ Grant 1 [] ∷ Start 1 [] ∷ [])
+
+-- of the first two tickets whether they have an actor at home and how many mails they sent, and how many were admitted
+abbrev under_way : State Trip ℕ Told Trip → ℕ × List (Option (Bool × ℕ))
+under_way s = (s.admitted, map (λ t. option_map (λ (e : Event Trip). (is_some e.actor, e.sent)) (s.cells t).event) (1 ∷ 2 ∷ []))
+
+abbrev ways : List (List Label) → List (Option (ℕ × List (Option (Bool × ℕ))))
+ways ls = map (λ l. option_map under_way (run trips 4 (start_state begin moves) (first_visit ++ l))) ls
+
+-- a Stop and another worker's Admit: ticket 1 has sent its first Enter, one to the hall and a Release of the root
+change_places : ways ((by_worker 0 (Stop 1 []) ∷ by_worker 1 (Admit 2) ∷ []) ∷ (by_worker 1 (Admit 2) ∷ by_worker 0 (Stop 1 []) ∷ []) ∷ [])
+    ≡ Some (2, Some (true, 3) ∷ Some (true, 1) ∷ []) ∷ Some (2, Some (true, 3) ∷ Some (true, 1) ∷ []) ∷ []
+unfolding step run
+change_places = refl
+
+-- an Admit of the worker that stops: it has to stop first
+keep_places : ways ((by_worker 0 (Stop 1 []) ∷ by_worker 0 (Admit 2) ∷ []) ∷ (by_worker 0 (Admit 2) ∷ by_worker 0 (Stop 1 []) ∷ []) ∷ [])
+    ≡ Some (2, Some (true, 3) ∷ Some (true, 1) ∷ []) ∷ None ∷ []
+unfolding step run
+keep_places = refl
+
+-- two Admits: each takes the next ticket
+one_by_one : ways ((by_worker 1 (Admit 2) ∷ by_worker 2 (Admit 3) ∷ []) ∷ (by_worker 2 (Admit 3) ∷ by_worker 1 (Admit 2) ∷ []) ∷ [])
+    ≡ Some (3, Some (false, 1) ∷ Some (true, 1) ∷ []) ∷ None ∷ []
+unfolding step run
+one_by_one = refl
 
 -- ---- lines
 

@@ -8,4 +8,5 @@ pub mod Oldest
 pub mod Past
 pub mod Sited
 pub mod Sources
+pub mod Turning
 pub mod Wherever

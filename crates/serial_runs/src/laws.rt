@@ -1,12 +1,17 @@
 //! The laws of serial runs: each is the contract of a function that does nothing.
 
+ghost use Rattle.std.specs.Prelude.{◌≡◌, ℕ, List, Some};
+ghost use Rattle.wave_states.specs.Labels.{Label};
+ghost use Rattle.wave_states.specs.Runs.{run};
+ghost use Rattle.wave_states.specs.States.{State};
 ghost use Rattle.wave_theory.specs.Always.{Always, AlwaysBy, AlwaysOf};
 ghost use Rattle.serial_runs.specs.Journals.{OwnersTake};
+ghost use Rattle.serial_runs.specs.Orders.{EitherOrder, NeighboursChange};
 ghost use Rattle.serial_runs.specs.Origins.{Origins};
 ghost use Rattle.serial_runs.specs.Recorded.{Recorded};
 ghost use Rattle.serial_runs.specs.Serial.{OldestIsSerial, OneEnd, Serial};
 
-use wave_theory::{Acting, agree, by_owners, results, tickets};
+use wave_theory::{Acting, agree, by_owners, changes, independent, reads, results, tickets};
 
 /// All finished runs of a plan end in one state.
 pub fn one_end<T: Acting>()
@@ -43,4 +48,21 @@ pub fn origins<T: Acting>()
 {
     results::<T>();
     tickets::<T>();
+}
+
+/// Two enabled labels that stand apart can be taken in either order, which leads to one state.
+pub fn either_order<T: Acting>()
+    ensures { (c : T.Code) (workers : ℕ) (s : State T.Actor T.Fields T.Outcome T.Job) → EitherOrder (T.kind c).system workers s }
+{
+    changes::<T>();
+    independent::<T>();
+    reads::<T>();
+}
+
+/// Neighbours of a journal that are strangers may change places: it leads to the same state.
+pub fn neighbours_change<T: Acting>()
+    ensures { (c : T.Code) (workers : ℕ) (s v : State T.Actor T.Fields T.Outcome T.Job) (labels : List Label) → run (T.kind c).system workers s labels ≡ Some v → NeighboursChange (T.kind c).system workers s labels v }
+{
+    changes::<T>();
+    reads::<T>();
 }

@@ -5,8 +5,12 @@
 mod laws;
 mod plans;
 
-pub use laws::{oldest_is_serial, one_end, origins, owners_take, recorded, serial};
+pub use laws::{
+    either_order, neighbours_change, oldest_is_serial, one_end, origins, owners_take, recorded,
+    serial,
+};
 pub use plans::{
-    plans_are_serial, plans_come_in_order, plans_drive_serially, plans_end_in_one_state,
-    plans_have_owners, plans_keep_records, plans_leave_trails, tickets_have_origins,
+    plans_are_serial, plans_change_neighbours, plans_come_in_order, plans_drive_serially,
+    plans_end_in_one_state, plans_have_owners, plans_keep_records, plans_leave_trails,
+    plans_take_either_order, tickets_have_origins,
 };

@@ -14,11 +14,15 @@ ghost use Rattle.code_actor.specs.CodeActors.{Fields};
 ghost use Rattle.plan_actors.specs.PlanActors.{Actor, plan_actors, plan_kind};
 ghost use Rattle.plan_actors.specs.Plans.{Plan, Fits, FitsStart, begin_in};
 ghost use Rattle.serial_runs.specs.Journals.{OwnersTake};
+ghost use Rattle.serial_runs.specs.Orders.{EitherOrder, NeighboursChange};
 ghost use Rattle.serial_runs.specs.Origins.{Origins};
 ghost use Rattle.serial_runs.specs.Recorded.{Recorded};
 ghost use Rattle.serial_runs.specs.Serial.{IsSerial, HasSerial};
 
-use crate::laws::{oldest_is_serial, one_end, origins, owners_take, recorded, serial};
+use crate::laws::{
+    either_order, neighbours_change, oldest_is_serial, one_end, origins, owners_take, recorded,
+    serial,
+};
 use plan_actors::PlanActors;
 use wave_theory::{came, traced};
 
@@ -76,4 +80,18 @@ pub fn tickets_have_origins()
     ensures { (plan : Plan) (start : Start) → Fits plan → FitsStart plan start → (labels : List Label) (s : State Actor Fields EventResult Line) → run (plan_actors plan.program) plan.workers (start_state (begin_in plan start) plan.script.batches) labels ≡ Some s → Origins (plan_kind plan.program plan.script.hosts) (begin_in plan start) plan.script.batches s }
 {
     origins::<PlanActors>();
+}
+
+/// In each state of a plan's run two enabled labels that stand apart can be taken in either order, which leads to one state.
+pub fn plans_take_either_order()
+    ensures { (plan : Plan) (start : Start) → Fits plan → FitsStart plan start → (labels : List Label) (s : State Actor Fields EventResult Line) → run (plan_actors plan.program) plan.workers (start_state (begin_in plan start) plan.script.batches) labels ≡ Some s → EitherOrder (plan_actors plan.program) plan.workers s }
+{
+    either_order::<PlanActors>();
+}
+
+/// Neighbours of a plan's journal that are strangers may change places: it leads to the same state.
+pub fn plans_change_neighbours()
+    ensures { (plan : Plan) (start : Start) → Fits plan → FitsStart plan start → (labels : List Label) (s : State Actor Fields EventResult Line) → run (plan_actors plan.program) plan.workers (start_state (begin_in plan start) plan.script.batches) labels ≡ Some s → NeighboursChange (plan_actors plan.program) plan.workers (start_state (begin_in plan start) plan.script.batches) labels s }
+{
+    neighbours_change::<PlanActors>();
 }

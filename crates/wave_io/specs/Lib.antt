@@ -1,4 +1,5 @@
 pub mod Causes
 pub mod Held
 pub mod Memory
+pub mod Standard
 pub mod Streams

@@ -1,4 +1,4 @@
-ghost use Rattle.std.specs.Prelude.{◌≡◌, ◌<◌, ◌≤◌, length, None, OnOk, OnErr, IfOk};
+ghost use Rattle.std.specs.Prelude.{◌≡◌, ◌<◌, ◌≤◌, length, OnOk, OnErr, IfOk};
 ghost use Rattle.std.specs.Io.{ReadsAtMost};
 ghost use Rattle.std.specs.Io.KnownBytes.{ReadConsumes, WriteAppends};
 ghost use Rattle.wave_io.specs.Causes.{HasCause, raised};
@@ -7,7 +7,8 @@ use crate::ends::{Failed, Sink, Source};
 use std::io::{Read, Write};
 use std::marker::Model;
 
-/// A reader of the system, whose errors are counted. It doesn't tell its bytes, and is seen as the count of its errors.
+/// A reader of the system, whose errors are counted, an interrupted read among them. It tells the bytes that its reader tells, and is seen as these
+/// and the count.
 #[derive(Drop)]
 pub struct StdSource<R: Read> {
     inner: R,
@@ -15,36 +16,36 @@ pub struct StdSource<R: Read> {
 }
 
 impl<R: Read> Model for StdSource<R> {
-    ghost use Rattle.std.specs.Prelude.{ℕ};
+    ghost use Rattle.wave_io.specs.Standard.{Counted};
 
-    ghost Value = { ℕ };
+    ghost Value = { Counted R };
 
-    ghost view = { λ s. s.faults };
+    ghost view = { λ s. record { inner = s.inner; faults = s.faults } };
 }
 
 impl<R: Read> StdSource<R> {
     /// No error has come yet.
     pub fn new(inner: R) -> StdSource<R>
-        ensures { result ≡ 0 }
+        ensures { result ≡ record { inner = inner; faults = 0 } }
     {
         StdSource { inner, faults: 0 }
     }
 }
 
 impl<R: Read> Source for StdSource<R> {
-    ghost left = { λ _. None };
+    ghost left = { λ s. R.remaining s.inner };
 
-    ghost faults = { λ s. s };
+    ghost faults = { λ s. s.faults };
 
     fn read(&mut self, buf: &mut [u8]) -> Result<usize, Failed>
         requires { 0 < length buf.old }
         ensures bound { ReadsAtMost result buf.new }
-        ensures bytes { ReadConsumes None None result buf.new }
-        ensures cause { HasCause self.old self.new result }
+        ensures bytes { ReadConsumes (R.remaining self.old.inner) (R.remaining self.new.inner) result buf.new }
+        ensures cause { HasCause self.old.faults self.new.faults result }
 
         // The count is raised by one at an error, and else stays.
-        ensures on_err { OnErr result (self.new ≡ raised self.old) }
-        ensures on_ok { OnOk result (self.new ≡ self.old) }
+        ensures on_err { OnErr result (self.new.faults ≡ raised self.old.faults) }
+        ensures on_ok { OnOk result (self.new.faults ≡ self.old.faults) }
     {
         match self.inner.read(buf) {
             Ok(n) => Ok(n),
@@ -56,8 +57,8 @@ impl<R: Read> Source for StdSource<R> {
     }
 }
 
-/// A writer of the system, whose errors are counted; a write that takes nothing is one. It doesn't tell its bytes, and is
-/// seen as the count of its errors.
+/// A writer of the system, whose errors are counted, an interrupted write among them; a write that takes nothing is one. It tells the bytes that its
+/// writer tells, and is seen as these and the count.
 #[derive(Drop)]
 pub struct StdSink<W: Write> {
     inner: W,
@@ -65,36 +66,43 @@ pub struct StdSink<W: Write> {
 }
 
 impl<W: Write> Model for StdSink<W> {
-    ghost use Rattle.std.specs.Prelude.{ℕ};
+    ghost use Rattle.wave_io.specs.Standard.{Counted};
 
-    ghost Value = { ℕ };
+    ghost Value = { Counted W };
 
-    ghost view = { λ s. s.faults };
+    ghost view = { λ s. record { inner = s.inner; faults = s.faults } };
 }
 
 impl<W: Write> StdSink<W> {
     /// No error has come yet.
     pub fn new(inner: W) -> StdSink<W>
-        ensures { result ≡ 0 }
+        ensures { result ≡ record { inner = inner; faults = 0 } }
     {
         StdSink { inner, faults: 0 }
+    }
+
+    /// The writer, with what it was given.
+    pub fn into_inner(self) -> W
+        ensures { result ≡ self.inner }
+    {
+        self.inner
     }
 }
 
 impl<W: Write> Sink for StdSink<W> {
-    ghost written = { λ _. None };
+    ghost written = { λ s. W.contents s.inner };
 
-    ghost faults = { λ s. s };
+    ghost faults = { λ s. s.faults };
 
     fn write(&mut self, piece: &[u8]) -> Result<usize, Failed>
         requires { 0 < length piece.now }
         ensures bound { IfOk result (λ n. (0 < n) × (n ≤ length piece.now)) }
-        ensures bytes { WriteAppends None None result piece.now }
-        ensures cause { HasCause self.old self.new result }
+        ensures bytes { WriteAppends (W.contents self.old.inner) (W.contents self.new.inner) result piece.now }
+        ensures cause { HasCause self.old.faults self.new.faults result }
 
         // The count is raised by one at an error, and else stays.
-        ensures on_err { OnErr result (self.new ≡ raised self.old) }
-        ensures on_ok { OnOk result (self.new ≡ self.old) }
+        ensures on_err { OnErr result (self.new.faults ≡ raised self.old.faults) }
+        ensures on_ok { OnOk result (self.new.faults ≡ self.old.faults) }
     {
         match self.inner.write(piece) {
             Ok(0) | Err(_) => {

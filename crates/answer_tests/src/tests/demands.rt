@@ -1,7 +1,6 @@
 //! Each thing that is asked of a service is told where a text breaks it, and of no other text.
 
 use super::{due, has, joined, rows, rows_of, second, sides, unmarked};
-use command_words::Command;
 use std::alloc::Global;
 use std::process::Abort;
 use std::test::Fail;
@@ -10,7 +9,7 @@ use wave_text::put_number;
 
 /// The service is typed.
 pub fn accepts(rt: &impl Abort, alloc: Global, text: &[u8]) -> Result<(), OutOfMemory> {
-    let answer = due(rt, alloc, Command::Check, text)?;
+    let answer = due(rt, alloc, "check", text)?;
     has(rt, &answer, 0, b"", b"ok\n");
     Ok(())
 }
@@ -22,7 +21,7 @@ pub fn refuses(
     text: &[u8],
     note: &[u8],
 ) -> Result<(), OutOfMemory> {
-    let answer = due(rt, alloc, Command::Check, text)?;
+    let answer = due(rt, alloc, "check", text)?;
     has(rt, &answer, 3, note, b"");
     Ok(())
 }

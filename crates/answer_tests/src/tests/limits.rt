@@ -1,9 +1,7 @@
 //! Services at their limits, and one past them.
 
 use super::demands::{accepts, refuses};
-use super::{due, has, joined};
-use command_words::{Command, Places};
-use due_answer::Answer;
+use super::{Answer, due, has, joined};
 use std::alloc::Global;
 use std::process::Abort;
 use std::test::Fail;
@@ -175,7 +173,7 @@ fn a_service_has_at_most_262144_bytes(rt: HostRuntime) -> Result<(), Fail> {
 // What is due for a script of a service that says nothing.
 fn scripted(rt: &impl Abort, alloc: Global, script: &[u8]) -> Result<Answer, OutOfMemory> {
     let input = joined(alloc, &[b"service L { }\n----\n", script])?;
-    due(rt, alloc, Command::Seq(Places::Unlisted), input.as_slice())
+    due(rt, alloc, "seq", input.as_slice())
 }
 
 #[test]

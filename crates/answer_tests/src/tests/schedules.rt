@@ -1,31 +1,29 @@
 //! Scripts run by the machine without threads: whichever rule picks, and however many workers there are, the listing is the same.
 
 use super::{due, has};
-use command_words::{Command, Crew, Places, Schedule};
 use std::alloc::Global;
 use std::process::Abort;
 use std::test::Fail;
 use wave_base::OutOfMemory;
 
-const SCHEDULES: [Schedule; 5] = [
-    Schedule::Seed(7),
-    Schedule::Oldest,
-    Schedule::Newest,
-    Schedule::Movers,
-    Schedule::MailLast,
+const CREWS: [&str; 10] = [
+    "run --map --workers 1 --schedule 7",
+    "run --map --workers 16 --schedule 7",
+    "run --map --workers 1 --schedule oldest",
+    "run --map --workers 16 --schedule oldest",
+    "run --map --workers 1 --schedule newest",
+    "run --map --workers 16 --schedule newest",
+    "run --map --workers 1 --schedule movers",
+    "run --map --workers 16 --schedule movers",
+    "run --map --workers 1 --schedule maillast",
+    "run --map --workers 16 --schedule maillast",
 ];
 
 // What a script gives by each rule, with one worker and with sixteen.
 fn gives(rt: &impl Abort, alloc: Global, input: &[u8], listing: &[u8]) -> Result<(), OutOfMemory> {
-    for schedule in &SCHEDULES {
-        for workers in [1, 16] {
-            let crew = Crew {
-                workers,
-                schedule: Some(*schedule),
-            };
-            let answer = due(rt, alloc, Command::Run(Places::Listed, crew), input)?;
-            has(rt, &answer, 0, b"", listing);
-        }
+    for words in &CREWS {
+        let answer = due(rt, alloc, words, input)?;
+        has(rt, &answer, 0, b"", listing);
     }
     Ok(())
 }

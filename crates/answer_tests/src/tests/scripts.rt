@@ -1,8 +1,6 @@
 //! Script lines: those that are fine, and what is told of those that aren't.
 
-use super::{due, equal, has, joined, rows_of, sides};
-use command_words::{Command, Places};
-use due_answer::Answer;
+use super::{Answer, due, equal, has, joined, rows_of, sides};
 use std::alloc::Global;
 use std::process::Abort;
 use std::test::Fail;
@@ -83,12 +81,12 @@ const EARLIER: [&[u8]; 4] = [b"snapshot", b"settle", b"hosts 2", b"request i(1)"
 fn answered(rt: &impl Abort, alloc: Global, pieces: &[&[u8]]) -> Result<Answer, OutOfMemory> {
     let script = joined(alloc, pieces)?;
     let input = joined(alloc, &[FORMS, script.as_slice()])?;
-    due(rt, alloc, Command::Seq(Places::Unlisted), input.as_slice())
+    due(rt, alloc, "seq", input.as_slice())
 }
 
 fn runs(rt: &impl Abort, alloc: Global, pieces: &[&[u8]]) -> Result<(), OutOfMemory> {
     let answer = answered(rt, alloc, pieces)?;
-    equal(rt, answer.note.as_slice(), b"");
+    equal(rt, answer.notes.bytes(), b"");
     assert_eq!(rt; answer.status, 0);
     Ok(())
 }

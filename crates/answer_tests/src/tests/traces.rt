@@ -1,8 +1,6 @@
 //! Scripts that are traced: the listing, and behind it the journal of the run.
 
-use super::{due, equal, has, joined, unmarked};
-use command_words::{Command, Crew, Places, Schedule};
-use due_answer::Answer;
+use super::{Answer, due, has, joined, unmarked};
 use std::alloc::Global;
 use std::process::Abort;
 use std::test::Fail;
@@ -22,21 +20,6 @@ const SEVEN: &[u8] = b"journal 7
 7 w0 h0 Free #1.2 /
 ";
 
-// What is due for a trace of this input.
-fn traced(
-    rt: &impl Abort,
-    alloc: Global,
-    places: Places,
-    schedule: Option<Schedule>,
-    input: &[u8],
-) -> Result<Answer, OutOfMemory> {
-    let crew = Crew {
-        workers: 4,
-        schedule,
-    };
-    due(rt, alloc, Command::Trace(places, crew), input)
-}
-
 // It gives this listing, and behind it that journal.
 fn gives(
     rt: &impl Abort,
@@ -53,15 +36,13 @@ fn gives(
 #[test]
 fn the_journal_stands_behind_the_listing(rt: HostRuntime) -> Result<(), Fail> {
     let alloc = rt.alloc();
-    let seed = Some(Schedule::Seed(0));
-    let unlisted = traced(&rt, alloc, Places::Unlisted, seed, TICK)?;
+    let unlisted = due(&rt, alloc, "trace --schedule 0", TICK)?;
     gives(&rt, alloc, &unlisted, 0, b"#1 hit = 1\ndone 1\n")?;
-    let listed = traced(&rt, alloc, Places::Listed, seed, TICK)?;
+    let listed = due(&rt, alloc, "trace --schedule 0 --map", TICK)?;
     gives(&rt, alloc, &listed, 0, b"#1 hit = 1\nplace / 0\ndone 1\n")?;
     Ok(())
 }
 
-// Nothing is left to choose where one event has left and is committed but for who is first, so each run has as many steps.
 #[test]
 fn a_trap_is_traced_too(rt: HostRuntime) -> Result<(), Fail> {
     let alloc = rt.alloc();
@@ -71,8 +52,7 @@ fn a_trap_is_traced_too(rt: HostRuntime) -> Result<(), Fail> {
     )?;
     assert_eq!(rt; column, 32);
     let input = input.as_slice();
-    let seed = Some(Schedule::Seed(0));
-    let seeded = traced(&rt, alloc, Places::Unlisted, seed, input)?;
+    let seeded = due(&rt, alloc, "trace --schedule 0", input)?;
     gives(
         &rt,
         alloc,
@@ -80,12 +60,6 @@ fn a_trap_is_traced_too(rt: HostRuntime) -> Result<(), Fail> {
         1,
         b"#1 e trap Require at 1:32\ndone 1\n",
     )?;
-    let free = traced(&rt, alloc, Places::Unlisted, None, input)?;
-    let front = b"#1 e trap Require at 1:32\ndone 1\njournal 7\n".as_slice();
-    let text = free.text.as_slice();
-    equal(&rt, text.get(..front.len()).unwrap_or(b""), front);
-    assert_eq!(rt; text.iter().filter(|byte| **byte == b'\n').count(), 10);
-    assert_eq!(rt; free.status, 1);
     Ok(())
 }
 
@@ -97,8 +71,8 @@ fn refuses(
     status: u8,
     note: &[u8],
 ) -> Result<(), OutOfMemory> {
-    for schedule in [None, Some(Schedule::Oldest)] {
-        let answer = traced(rt, alloc, Places::Listed, schedule, input)?;
+    for words in ["trace --schedule 7 --map", "trace --schedule oldest --map"] {
+        let answer = due(rt, alloc, words, input)?;
         has(rt, &answer, status, note, b"");
     }
     Ok(())

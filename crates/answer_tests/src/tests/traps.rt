@@ -1,7 +1,6 @@
 //! Events that trap: a row for each way to a trap, with its place; and what an event that traps leaves behind.
 
 use super::{due, has, joined, rows_of, sides, unmarked};
-use command_words::{Command, Places};
 use std::alloc::Global;
 use std::process::Abort;
 use std::test::Fail;
@@ -52,7 +51,7 @@ Overflow: here { for i in 0 to 3 { n = i; i = 9; require n != 2 || i == 0 - 1 ||
 
 // What the evaluator gives of a service and a script, one of its events having trapped.
 fn gives(rt: &impl Abort, alloc: Global, input: &[u8], listing: &[u8]) -> Result<(), OutOfMemory> {
-    let answer = due(rt, alloc, Command::Seq(Places::Unlisted), input)?;
+    let answer = due(rt, alloc, "seq", input)?;
     has(rt, &answer, 1, b"", listing);
     Ok(())
 }

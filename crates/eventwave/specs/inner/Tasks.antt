@@ -1,51 +1,26 @@
--- What workers do with an input, and what is told of it.
-use Rattle.std.specs.Prelude.{◌≡◌, ◌++◌, ℕ, if◌then◌else◌, List, []}
-use Rattle.std.specs.List.{concat}
-use Rattle.wave_base.specs.declared.finished.Finished.{Finished}
-use Rattle.wave_base.specs.declared.shape.Shape.{Shape}
-use Rattle.wave_labels.specs.declared.label.Label.{Label}
+-- Work that is run for a command.
+use Rattle.std.specs.Prelude.{◌≡◌, Bool, true, false, Some}
+use Rattle.checkpoint_store.specs.Points.{IsPoint}
 use Rattle.command_words.specs.declared.command.Command.{Command}
-use Rattle.command_words.specs.declared.command.Command.TheVariants.{Run, Trace}
-use Rattle.command_words.specs.declared.command.Crew.{Crew}
-use Rattle.command_words.specs.declared.command.Places.{Places}
-use Rattle.listing_out.specs.Listing.{end_lines, last_ticket, places_of}
-use Rattle.journal_text.specs.JournalTexts.{journal_text}
-use Rattle.due_answer.specs.declared.answer.Answer.{Answer}
-use Rattle.due_answer.specs.declared.report.Report.TheVariants.{Listing}
-use Rattle.due_answer.specs.declared.work.Work.{Work}
-use Rattle.due_answer.specs.Accepted.{IsTraced, ran}
-use Rattle.due_answer.specs.Due.{any_trap, is_listed, reported}
-use Rattle.eventwave.specs.declared.task.Behind.{Behind}
-use Rattle.eventwave.specs.declared.task.Behind.TheVariants.{Nothing, Journal}
-use Rattle.eventwave.specs.declared.task.Task.{Task}
+use Rattle.command_words.specs.Inputs.{runs_workers}
+use Rattle.due_answer.specs.declared.task.Task.{Task}
+use Rattle.due_answer.specs.Tasks.{task_of}
+use Rattle.due_parts.specs.declared.report.Report.TheVariants.{Listing, Point}
+use Rattle.due_parts.specs.declared.telling.Telling.{Telling}
+use Rattle.due_parts.specs.declared.telling.Telling.TheVariants.{Reports, Traces}
+use Rattle.due_parts.specs.declared.work.Work.{Work}
+use Rattle.due_parts.specs.Accepted.{CanRun, point_of}
 
-abbrev pub command_with : Behind → Places → Crew → Command
-command_with Nothing places crew = Run places crew
-command_with Journal places crew = Trace places crew
+-- a command asks for this task, and workers run it or do not; the work can be run, and where its point is asked for it has one
+pub record IsDone (by_workers : Bool) (task : Task) (work : Work) : Type 0 where
+  pub command : Command
+  pub who : runs_workers command ≡ by_workers
+  pub asked : task_of command ≡ Some task
+  pub can_run : CanRun work
+  pub saved : task.telling ≡ Reports Point → IsPoint work.program.shape (point_of work)
 
--- the command that asks for it
-abbrev pub command_for : Task → Command
-command_for task = command_with task.behind task.places task.crew
-
-abbrev pub TellsWith : Behind → Places → Crew → Work → Answer → Type 0
-TellsWith Nothing places crew work a = a ≡ reported work.program.shape (Listing places) (ran work)
-TellsWith Journal places crew work a = IsTraced crew work places a
-
--- what is told where it is done: the listing; and behind it the journal of a run of the crew
-abbrev pub Tells : Task → Work → Answer → Type 0
-Tells task work a = TellsWith task.behind task.places task.crew work a
-
--- what stands behind the lines of the events
-abbrev pub end_text : Places → Shape → Finished → List ℕ
-end_text places shape done = concat (end_lines shape (places_of done (is_listed places)) (last_ticket 1 done))
-
-abbrev pub rest_with : Behind → Places → Shape → Finished → List Label → List ℕ
-rest_with Nothing places shape done journal = end_text places shape done
-rest_with Journal places shape done journal = end_text places shape done ++ journal_text shape journal
-
-abbrev pub rest_text : Task → Shape → Finished → List Label → List ℕ
-rest_text task shape done journal = rest_with task.behind task.places shape done journal
-
--- the same as an answer, with its status
-abbrev pub rest_of : Task → Shape → Finished → List Label → Answer
-rest_of task shape done journal = record { status = if any_trap done.results then 1 else 0; note = []; text = rest_text task shape done journal }
+-- lines are written while it is run
+abbrev pub has_lines : Telling → Bool
+has_lines (Reports (Listing places)) = true
+has_lines (Reports report) = false
+has_lines (Traces places crew) = true

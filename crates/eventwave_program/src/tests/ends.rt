@@ -233,8 +233,8 @@ fn faults(rt: HostRuntime) -> Result<(), Fail> {
         holds(&rt, alloc, &row)?;
     }
     let written = b"#1 hit = 1\ndone 1\n";
-    for (words, fronts) in [("run", [0usize, 4, 8, 11, 15]), ("seq", [0, 4, 8, 12, 16])] {
-        for (i, front) in fronts.iter().enumerate() {
+    for words in ["run", "seq"] {
+        for (i, front) in [0usize, 4, 8, 11, 15].iter().enumerate() {
             let row = Row {
                 failing_write: i as u64 + 1,
                 ..plain(words, TICK, 6, &written[..*front], b"WriteFault\n")

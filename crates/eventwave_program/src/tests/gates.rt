@@ -5,8 +5,10 @@ use super::rows::{joined, ran_on};
 use super::services::MARKET;
 use std::alloc::Global;
 use std::hint::spin_loop;
+use std::sync::Wait;
 use std::sync::atomic::{AtomicU64, Ordering};
 use std::test::Fail;
+use std::thread::Threads;
 use wave_base::{Class, OutOfMemory, Path, Step, Ticket};
 use wave_io::Gate;
 
@@ -65,6 +67,77 @@ impl Gate for Meeting {
             self.meet(&self.second, &self.first);
         }
     }
+}
+
+// Holds each of the first events at its stall until all of them have come to theirs: so many segments are out at once.
+#[derive(Drop)]
+struct Crowd {
+    many: u32,
+    come: AtomicU64,
+    missed: AtomicU64,
+}
+
+impl Gate for Crowd {
+    fn reach(&self, ticket: Ticket, path: &Path) {
+        if ticket.0 <= self.many && *path == stall(i64::from(ticket.0)) {
+            self.come.fetch_add(1, Ordering::SeqCst);
+            for _ in 0..TURNS {
+                if self.come.load(Ordering::SeqCst) == u64::from(self.many) {
+                    return;
+                }
+                spin_loop();
+            }
+            self.missed.store(1, Ordering::SeqCst);
+        }
+    }
+}
+
+// Whether four events that buy at four stalls miss each other, and how many came: by workers they meet.
+fn four_buy<R: Threads + Wait + Sync>(
+    rt: &R,
+    alloc: Global,
+    words: &str,
+) -> Result<(u64, u64), OutOfMemory> {
+    let script =
+        b"request buy(1,1,1)\nrequest buy(1,2,1)\nrequest buy(1,3,1)\nrequest buy(1,4,1)\n";
+    let input = joined(alloc, MARKET, script)?;
+    let gate = Crowd {
+        many: 4,
+        come: AtomicU64::new(0),
+        missed: AtomicU64::new(0),
+    };
+    ran_on(rt, alloc, words, input.as_slice(), &gate)?;
+    let missed = gate.missed.load(Ordering::SeqCst);
+    Ok((missed, gate.come.load(Ordering::SeqCst)))
+}
+
+#[test]
+fn four_segments_are_out_at_once(rt: HostRuntime) -> Result<(), Fail> {
+    let alloc = rt.alloc();
+    for words in [
+        "run --workers 4",
+        "run --workers 16",
+        "run",
+        "trace --workers 16",
+    ] {
+        assert_eq!(rt; four_buy(&rt, alloc, words)?, (0, 4));
+    }
+    Ok(())
+}
+
+/// No worker runs a script that has a schedule, or that the evaluator runs: nothing comes to the gate.
+#[test]
+fn a_schedule_has_no_workers(rt: HostRuntime) -> Result<(), Fail> {
+    let alloc = rt.alloc();
+    for words in [
+        "seq",
+        "run --schedule 5",
+        "run --workers 16 --schedule newest",
+        "trace --schedule 5",
+    ] {
+        assert_eq!(rt; four_buy(&rt, alloc, words)?, (0, 0));
+    }
+    Ok(())
 }
 
 // Where a text has these bytes first.

@@ -8,7 +8,7 @@ use Rattle.listing_out.proofs.SinkLemmas.{nothing_written, on_err, written_front
 use Rattle.script_fold.proofs.StartLemmas.{first_fits}
 use Rattle.service_code.specs.declared.program.Program.{Program}
 use Rattle.host_workers.specs.Lines.{event_lines}
-use Rattle.host_workers.specs.Runs.{IsRun}
+use Rattle.host_workers.specs.Runs.{IsWholeRun}
 use Rattle.host_workers.proofs.run.run_plan.Goals as goal
 
 pub returns-in_err-start-clause-front : goal.returns-in_err-start-clause-front
@@ -23,7 +23,7 @@ run_plan_at-requires-clause-begins g c κs within =
 pub returns-clause-run : goal.returns-clause-run
 returns-clause-run g c =
     let start_is : c.in_ok-start.start ≡ first_start c.args.plan.now.program.shape = c.in_ok-start.ensures ∙ ap (λ (p : Program). first_start p.shape) c.program.ensures.program in
-    subst (λ (st : Start). IfOk c.run_plan_at.result (λ r. IsRun c.args.plan.now st r)) start_is c.run_plan_at.ensures.run
+    subst (λ (st : Start). IfOk c.run_plan_at.result (λ r. IsWholeRun c.args.plan.now st r)) start_is c.run_plan_at.ensures.run
 
 pub returns-clause-lines : goal.returns-clause-lines
 returns-clause-lines g c =

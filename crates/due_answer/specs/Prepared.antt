@@ -1,0 +1,45 @@
+-- What a command comes to before anything is run.
+use Rattle.std.specs.Prelude.{◌≡◌, List, ℕ, Some, Result, Ok, Err}
+use Rattle.checkpoint_store.specs.Points.{IsPoint}
+use Rattle.command_words.specs.declared.command.Command.{Command}
+use Rattle.due_parts.specs.declared.answer.Answer.{Answer}
+use Rattle.due_parts.specs.declared.refusal.Refusal.{Refusal}
+use Rattle.due_parts.specs.declared.refusal.Refusal.TheVariants.{Due, OutOfMemory}
+use Rattle.due_parts.specs.declared.report.Report.TheVariants.{Point}
+use Rattle.due_parts.specs.declared.telling.Telling.{Telling}
+use Rattle.due_parts.specs.declared.telling.Telling.TheVariants.{Reports, Traces}
+use Rattle.due_parts.specs.declared.work.Work.{Work}
+use Rattle.due_parts.specs.Accepted.{CanRun, IsTraced, point_of, report_of}
+use Rattle.due_answer.specs.declared.prepared.Prepared.{Prepared}
+use Rattle.due_answer.specs.declared.prepared.Prepared.TheVariants.{Given, Run}
+use Rattle.due_answer.specs.declared.task.Task.{Task}
+use Rattle.due_answer.specs.Due.{IsToldFor}
+use Rattle.due_answer.specs.Tasks.{task_of}
+
+-- what is told of work that was run: the report; or the listing, and the journal of a run of the crew
+abbrev pub Tells : Telling → Work → Answer → Type 0
+Tells (Reports report) work a = a ≡ report_of work report
+Tells (Traces places crew) work a = IsTraced crew work places a
+
+-- Work can be run, and where its point is asked for it has one; it is run for what the command asks for; and whatever is told of it so is due.
+pub record IsRunFor (c : Command) (bytes : List ℕ) (task : Task) (work : Work) : Type 0 where
+  pub asked : task_of c ≡ Some task
+  pub can_run : CanRun work
+  pub saved : task.telling ≡ Reports Point → IsPoint work.program.shape (point_of work)
+  pub due : (a : Answer) → Tells task.telling work a → IsToldFor c bytes a
+
+-- an answer is due at once
+abbrev pub IsPrepared : Command → List ℕ → Prepared → Type 0
+IsPrepared c bytes (Given answer) = IsToldFor c bytes answer
+IsPrepared c bytes (Run task work) = IsRunFor c bytes task work
+
+-- the same, or a refusal that is due
+abbrev pub IsFound : Command → List ℕ → Result Prepared Refusal → Type 0
+IsFound c bytes (Ok prepared) = IsPrepared c bytes prepared
+IsFound c bytes (Err (Due answer)) = IsToldFor c bytes answer
+IsFound c bytes (Err (OutOfMemory refused)) = Unit {0}
+
+-- an answer that was found at once
+abbrev pub given : Result Answer Refusal → Result Prepared Refusal
+given (Ok answer) = Ok (Given answer)
+given (Err refusal) = Err refusal

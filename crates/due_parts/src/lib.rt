@@ -1,0 +1,27 @@
+//! What is due for the parts of an input: a service and its code, a script, and what is told of its run.
+#![tactic(auto)]
+
+mod accepted;
+mod answer;
+mod code;
+mod parts;
+mod refusal;
+mod report;
+mod script;
+mod service;
+mod telling;
+mod told;
+mod traces;
+mod work;
+
+pub use accepted::accept;
+pub use answer::{Answer, refused, too_large, written};
+pub use parts::three_parts;
+pub use refusal::Refusal;
+pub use report::Report;
+pub use script::{ready, refused_script};
+pub use service::served;
+pub use telling::Telling;
+pub use told::{saved, status_of, summed};
+pub use traces::runs_have_paths;
+pub use work::Work;

@@ -1,0 +1,5 @@
+pub mod AcceptLemmas
+pub mod HostLemmas
+pub mod LawLemmas
+pub mod ListedLemmas
+pub mod PartLemmas

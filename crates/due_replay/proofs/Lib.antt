@@ -1,0 +1,4 @@
+pub mod DueLemmas
+pub mod PartLemmas
+pub mod ReplayLemmas
+pub mod TreeLemmas

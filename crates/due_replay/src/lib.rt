@@ -1,0 +1,6 @@
+//! Journals that are replayed.
+#![tactic(auto)]
+
+mod replayed;
+
+pub use replayed::judge_replay;

@@ -1,0 +1,4 @@
+pub mod Elastic
+pub mod Accepted
+pub mod Plain
+pub mod Listed

@@ -1,0 +1,11 @@
+use wave_base::{Finished, Seq};
+use wave_labels::Label;
+
+/// What an engine made of a plan.
+#[derive(Drop)]
+pub struct Made {
+    /// What was done.
+    pub done: Finished,
+    /// The labels that were taken, where the machine ran it.
+    pub journal: Option<Seq<Label>>,
+}

@@ -1,0 +1,290 @@
+//! Checkpoints: a run whose point is saved, and runs that go on from one.
+
+use super::rows::{Row, holds, plain, ran_on};
+use super::services::{CHAIN, MARKET};
+use std::alloc::Global;
+use std::process::Abort;
+use std::sync::Wait;
+use std::test::Fail;
+use std::thread::Threads;
+use wave_base::OutOfMemory;
+use wave_io::OpenGate;
+
+/// The lines of the point behind one sale.
+const POINT: [&[u8]; 14] = [
+    b"checkpoint 1\n",
+    b"hosts 1 lines 1 next 2\n",
+    b"classes 3\n",
+    b"class Market - seen:int\n",
+    b"class Hall Market count:int\n",
+    b"class Stall Hall stock:int\n",
+    b"snapshot 3\n",
+    b"at / seen=1\n",
+    b"at /Hall[1] count=3\n",
+    b"at /Hall[1]/Stall[1] stock=7\n",
+    b"place / 0\n",
+    b"place /Hall[1] 0\n",
+    b"place /Hall[1]/Stall[1] 0\n",
+    b"end\n",
+];
+
+const SALE: &[u8] = b"request buy(1,1,3)\n";
+
+const NEXT_SALE: &[u8] = b"request buy(1,2,4)\n";
+
+const NEXT_LISTED: &[u8] = b"#2 buy = 6\n#2 send \"till\" 7\ndone 2\n";
+
+// A service and parts behind it, each behind a line of dashes.
+fn parted(alloc: Global, service: &[u8], parts: &[&[u8]]) -> Result<Vec<u8>, OutOfMemory> {
+    let mut input = Vec::from_slice(alloc, service)?;
+    for part in parts {
+        input.extend_from_slice(b"----\n")?;
+        input.extend_from_slice(part)?;
+    }
+    Ok(input)
+}
+
+// The point with another line in the place of one, from 1.
+fn point_with(alloc: Global, place: usize, line: &[u8]) -> Result<Vec<u8>, OutOfMemory> {
+    let mut text = Vec::new(alloc);
+    for (i, own) in POINT.iter().enumerate() {
+        text.extend_from_slice(if i + 1 == place { line } else { own })?;
+    }
+    Ok(text)
+}
+
+fn point(alloc: Global) -> Result<Vec<u8>, OutOfMemory> {
+    point_with(alloc, 0, b"")
+}
+
+#[test]
+fn a_point_is_saved(rt: HostRuntime) -> Result<(), Fail> {
+    let alloc = rt.alloc();
+    let saved = point(alloc)?;
+    let input = parted(alloc, MARKET, &[SALE])?;
+    for words in ["save", "save --workers 1", "save --workers 16"] {
+        holds(
+            &rt,
+            alloc,
+            &plain(words, input.as_slice(), 0, saved.as_slice(), b""),
+        )?;
+    }
+    let none = parted(alloc, MARKET, &[b""])?;
+    let first =
+        b"checkpoint 1\nhosts 1 lines 0 next 1\nclasses 3\nclass Market - seen:int\nclass Hall Market count:int\nclass Stall Hall stock:int\nsnapshot 1\nat / seen=0\nplace / 0\nend\n";
+    holds(&rt, alloc, &plain("save", none.as_slice(), 0, first, b""))?;
+    let moved = parted(
+        alloc,
+        CHAIN,
+        &[b"hosts 3\nmove / to 2\nrequest two()\nsnapshot\n"],
+    )?;
+    let behind =
+        b"checkpoint 1\nhosts 3 lines 3 next 6\nclasses 1\nclass Chain - n:int\nsnapshot 1\nat / n=21\nplace / 2\nend\n";
+    holds(&rt, alloc, &plain("save", moved.as_slice(), 0, behind, b""))?;
+    Ok(())
+}
+
+#[test]
+fn a_point_is_saved_where_an_event_traps(rt: HostRuntime) -> Result<(), Fail> {
+    let alloc = rt.alloc();
+    let service = b"service T { var n: int = 1; event e() { here { n = 5; require n < 0; } } }\n";
+    let input = parted(alloc, service, &[b"request e()\n"])?;
+    let saved =
+        b"checkpoint 1\nhosts 1 lines 1 next 2\nclasses 1\nclass T - n:int\nsnapshot 1\nat / n=5\nplace / 0\nend\n";
+    holds(&rt, alloc, &plain("save", input.as_slice(), 1, saved, b""))?;
+    // the run that goes on traps nowhere
+    let resumed = parted(alloc, service, &[saved, b"snapshot\n"])?;
+    let listed = b"#2 snapshot 1\n#2 at / n=5\ndone 2\n";
+    holds(
+        &rt,
+        alloc,
+        &plain("resume", resumed.as_slice(), 0, listed, b""),
+    )?;
+    Ok(())
+}
+
+#[test]
+fn a_run_goes_on(rt: HostRuntime) -> Result<(), Fail> {
+    let alloc = rt.alloc();
+    let saved = point(alloc)?;
+    let input = parted(alloc, MARKET, &[saved.as_slice(), NEXT_SALE])?;
+    for words in [
+        "resume",
+        "resume --workers 1",
+        "resume --workers 16",
+        "resume --schedule 5",
+        "resume --schedule movers --workers 2",
+    ] {
+        holds(
+            &rt,
+            alloc,
+            &plain(words, input.as_slice(), 0, NEXT_LISTED, b""),
+        )?;
+    }
+    let places =
+        b"#2 buy = 6\n#2 send \"till\" 7\nplace / 0\nplace /Hall[1] 0\nplace /Hall[1]/Stall[1] 0\nplace /Hall[1]/Stall[2] 0\ndone 2\n";
+    for words in ["resume --map", "resume --schedule 5 --map"] {
+        holds(&rt, alloc, &plain(words, input.as_slice(), 0, places, b""))?;
+    }
+    let none = parted(alloc, MARKET, &[saved.as_slice(), b""])?;
+    holds(
+        &rt,
+        alloc,
+        &plain("resume", none.as_slice(), 0, b"done 1\n", b""),
+    )?;
+    Ok(())
+}
+
+/// One line changed, and what is told of the point then.
+const WRONG: [(usize, &[u8], &[u8]); 12] = [
+    (1, b"checkpoint 2\n", b"K1 Syntax line 1\n"),
+    (2, b"hosts 9 lines 1 next 2\n", b"K3 Tree line 2\n"),
+    (2, b"hosts 1 lines 4001 next 2\n", b"K3 Tree line 2\n"),
+    (2, b"hosts 1 lines 1 next 20000001\n", b"K3 Tree line 2\n"),
+    (3, b"classes 4\n", b"K2 Service line 3\n"),
+    (5, b"class Hall Market count:text\n", b"K2 Service line 5\n"),
+    (6, b"class Stall Market stock:int\n", b"K2 Service line 6\n"),
+    (7, b"snapshot 4\n", b"K1 Syntax line 7\n"),
+    (9, b"at /Hall[1] count=x\n", b"K1 Syntax line 9\n"),
+    (
+        9,
+        b"at /Hall[1] count=9223372036854775808\n",
+        b"K3 Tree line 9\n",
+    ),
+    (12, b"place /Hall[1] 1\n", b"K3 Tree line 12\n"),
+    (14, b"", b"K1 Syntax line 14\n"),
+];
+
+#[test]
+fn a_point_is_refused(rt: HostRuntime) -> Result<(), Fail> {
+    let alloc = rt.alloc();
+    for (place, line, note) in WRONG {
+        let wrong = point_with(alloc, place, line)?;
+        let input = parted(alloc, MARKET, &[wrong.as_slice(), b"nonsense\n"])?;
+        holds(&rt, alloc, &plain("resume", input.as_slice(), 8, b"", note))?;
+    }
+    let longer = point_with(alloc, 14, b"end\n\n")?;
+    let input = parted(alloc, MARKET, &[longer.as_slice(), b""])?;
+    holds(
+        &rt,
+        alloc,
+        &plain("resume", input.as_slice(), 8, b"", b"K1 Syntax line 15\n"),
+    )?;
+    Ok(())
+}
+
+#[test]
+fn refusals_of_a_resumed_script_in_order(rt: HostRuntime) -> Result<(), Fail> {
+    let alloc = rt.alloc();
+    let saved = point(alloc)?;
+    let two = parted(alloc, MARKET, &[SALE])?;
+    holds(
+        &rt,
+        alloc,
+        &plain("resume", two.as_slice(), 3, b"", b"NoScript\n"),
+    )?;
+    let late = parted(alloc, MARKET, &[saved.as_slice(), b"hosts 1\n"])?;
+    holds(
+        &rt,
+        alloc,
+        &plain("resume", late.as_slice(), 4, b"", b"S7 HostsLate line 1\n"),
+    )?;
+    let dashes = parted(alloc, MARKET, &[saved.as_slice(), b"snapshot\n", b""])?;
+    holds(
+        &rt,
+        alloc,
+        &plain(
+            "resume",
+            dashes.as_slice(),
+            4,
+            b"",
+            b"S1 UnknownCommand line 2\n",
+        ),
+    )?;
+    let most = point_with(alloc, 2, b"hosts 1 lines 3999 next 2\n")?;
+    let many = parted(alloc, MARKET, &[most.as_slice(), b"snapshot\nsnapshot\n"])?;
+    holds(
+        &rt,
+        alloc,
+        &plain("resume", many.as_slice(), 4, b"", b"S8 TooMany line 2\n"),
+    )?;
+    let long = Vec::from_elem(alloc, b' ', 1_048_577)?;
+    let large = parted(alloc, MARKET, &[saved.as_slice(), long.as_slice()])?;
+    let row = plain("resume", large.as_slice(), 4, b"", b"TooLarge script\n");
+    assert_eq!(rt;
+        ran_on(&rt, alloc, row.words, row.input, &OpenGate)?.0,
+        row.status
+    );
+    Ok(())
+}
+
+// A call fails at each read of 16 bytes, the last of which finds nothing left, and at each write of 4.
+fn fails_at_each<R: Abort + Threads + Wait + Sync>(
+    rt: &R,
+    alloc: Global,
+    words: &str,
+    input: &[u8],
+    out: &[u8],
+) -> Result<(), OutOfMemory> {
+    for failing_read in 1..(input.len() as u64).div_ceil(16) + 2 {
+        let row = Row {
+            failing_read,
+            ..plain(words, input, 5, b"", b"ReadFault\n")
+        };
+        holds(rt, alloc, &row)?;
+    }
+    for failing_write in 1..(out.len() as u64).div_ceil(4) + 1 {
+        let written = (failing_write as usize - 1) * 4;
+        let row = Row {
+            failing_write,
+            ..plain(
+                words,
+                input,
+                6,
+                &out[..written.min(out.len())],
+                b"WriteFault\n",
+            )
+        };
+        holds(rt, alloc, &row)?;
+    }
+    Ok(())
+}
+
+#[test]
+fn each_read_and_each_write_of_a_point_fails(rt: HostRuntime) -> Result<(), Fail> {
+    let alloc = rt.alloc();
+    let saved = point(alloc)?;
+    let first = parted(alloc, MARKET, &[SALE])?;
+    fails_at_each(&rt, alloc, "save", first.as_slice(), saved.as_slice())?;
+    let second = parted(alloc, MARKET, &[saved.as_slice(), b""])?;
+    fails_at_each(&rt, alloc, "resume", second.as_slice(), b"done 1\n")?;
+    Ok(())
+}
+
+/// A script cut where a batch ends: the point behind the first half, and the run of the second from there, give what the whole gives.
+#[test]
+fn two_halves_are_the_whole(rt: HostRuntime) -> Result<(), Fail> {
+    let alloc = rt.alloc();
+    let one: &[u8] = b"hosts 2\nrequest buy(1,1,3)\nmove /Hall[1] to 1\nrequest pair(1)\n";
+    let other: &[u8] =
+        b"request buy(2,1,4)\nmove /Hall[1]/Stall[1] to 1\nrequest pair(1)\nsnapshot\n";
+    let mut both = Vec::from_slice(alloc, one)?;
+    both.extend_from_slice(b"settle\n")?;
+    both.extend_from_slice(other)?;
+    let whole = parted(alloc, MARKET, &[both.as_slice()])?;
+    let (_, listed) = ran_on(&rt, alloc, "run --map", whole.as_slice(), &OpenGate)?;
+    let first = parted(alloc, MARKET, &[one])?;
+    let (_, saved) = ran_on(&rt, alloc, "save", first.as_slice(), &OpenGate)?;
+    let second = parted(alloc, MARKET, &[saved.bytes(), other])?;
+    for words in [
+        "resume --map",
+        "resume --map --workers 1",
+        "resume --map --schedule 3",
+    ] {
+        let (status, rest) = ran_on(&rt, alloc, words, second.as_slice(), &OpenGate)?;
+        assert_eq!(rt; status, 0);
+        assert!(rt; listed.bytes().ends_with(rest.bytes()));
+        assert!(rt; rest.bytes().starts_with(b"#4 buy"));
+    }
+    Ok(())
+}

@@ -1,0 +1,3 @@
+mod Examples
+pub mod Equation
+pub mod Meant

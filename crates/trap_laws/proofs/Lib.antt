@@ -1,0 +1,4 @@
+mod Examples
+mod Rows
+pub mod Standing
+pub mod Traps
