@@ -9,7 +9,7 @@ use Rattle.service_verify.specs.Boxes.{Frame, Box}
 use Rattle.service_verify.specs.Fit.{jump_of}
 use Rattle.service_verify.specs.Steps.{code_of}
 
--- An instruction is quiet that changes no field and goes into no child; and a call of a method where `quiet` says it of the method.
+-- An instruction is quiet that changes no field and calls into no child; and a call of a method where `quiet` says it of the method.
 abbrev pub is_quiet : (ℕ → Bool) → Instr → Bool
 is_quiet quiet (SetField f) = false
 is_quiet quiet (PutField f) = false

@@ -52,7 +52,7 @@ fn is_go(instr: Instr) -> bool
     matches!(instr, Instr::Go(_))
 }
 
-// It changes no field and goes into no child.
+// It changes no field and calls into no child.
 fn is_quiet(instr: Instr, quiet: &[bool]) -> bool
     ensures { result ≡ is_quiet (says quiet.now) instr }
 {

@@ -17,7 +17,7 @@ use wave_base::{OutOfMemory, Seq};
 pub struct Survey {
     /// For each class, by its number, and each of its fields: whether it is read from below.
     pub kept: Vec<Seq<bool>>,
-    /// For each function: whether it changes no field and goes into no child, nor does what it calls.
+    /// For each function: whether it changes no field and calls into no child, nor does what it calls.
     pub quiet: Vec<bool>,
     /// For each function that is an event: the instruction from which on it only looks, if there is one.
     pub looks: Vec<Option<usize>>,

@@ -8,3 +8,5 @@ pub mod Leading
 pub mod Looking
 pub mod Seen
 pub mod Spinning
+pub mod Telling
+pub mod Wanting

@@ -1,4 +1,5 @@
 pub mod Acts
+pub mod Wants
 pub mod Boxes
 pub mod Frames
 pub mod inner

@@ -1,4 +1,4 @@
-ghost use Rattle.std.specs.Prelude.{◌≡◌, ◌<◌, ◌≤◌, ℕ, [], length, map, drop, Some, IsSome, IfOk, IfErr, OnOk, slice_get};
+ghost use Rattle.std.specs.Prelude.{◌≡◌, ◌<◌, ◌≤◌, ℕ, [], length, map, drop, Some, IsSome, IfOk, IfErr, OnOk, OnErr, slice_get};
 ghost use Rattle.wave_base.specs.declared.path.Path.{Path};
 ghost use Rattle.wave_base.specs.declared.limits.TheConstants.{GENERATION};
 ghost use Rattle.wave_base.specs.Scripts.{IsCall};
@@ -8,6 +8,7 @@ ghost use Rattle.service_verify.specs.Looks.{is_peeking, frames_peek};
 ghost use Rattle.service_verify.specs.Points.{IsVerified};
 ghost use Rattle.service_verify.specs.Standing.{HasFields, Stands, Leaves};
 ghost use Rattle.service_vm.specs.Boxes.{Segment, frames_left};
+ghost use Rattle.service_vm.specs.Wants.{MayWantIn};
 
 use crate::act::function;
 use crate::frames::add_blanks;
@@ -119,7 +120,7 @@ impl EventBox {
 }
 
 /// Runs an event to its next pause, on the record of the context where it is. After want of memory event and record are
-/// only to be dropped.
+/// only to be dropped. Memory is asked for by an instruction that it comes to, and for a copy of what it leaves on its way down.
 pub fn segment(
     program: &Verified,
     event: &mut EventBox,
@@ -132,6 +133,7 @@ pub fn segment(
     ensures peeking { OnOk result (event.new.peeking ≡ is_peeking program.now event.new.event.box) }
     ensures ticket { OnOk result (event.new.ticket ≡ event.old.ticket) }
     ensures children { body.new.children ≡ body.old.children }
+    ensures wants { OnErr result (MayWantIn program.now event.old.event body.old.fields) }
 {
     run_to_pause(program, event, body)
 }
@@ -147,6 +149,7 @@ fn run_to_pause(
     ensures peeking { OnOk result (event.new.peeking ≡ is_peeking program.now event.new.event.box) }
     ensures ticket { OnOk result (event.new.ticket ≡ event.old.ticket) }
     ensures children { body.new.children ≡ body.old.children }
+    ensures wants { OnErr result (MayWantIn program.now event.old.event body.old.fields) }
     ensures verified { IsVerified program.now }
 {
     let class = event.run.path.class();

@@ -62,21 +62,21 @@ impl Run {
         Ok(Flow::Down(step))
     }
 
-    /// The end of a method: back to its caller, in the same context or in the parent.
+    /// The end of a method: back to its caller, in the same context or in the parent, which takes no memory.
     #[inline(never)]
-    pub fn return_from(&mut self, function: &Function) -> Result<Flow, OutOfMemory>
+    pub fn return_from(&mut self, function: &Function) -> Flow
         requires caller { 0 < length self.old.frames.below }
         requires value { IsSome function.now.result → 0 < length self.old.frames.top.stack }
-        ensures does { IfOk result (λ flow. (program : Program) (fields : List Value) → slice_get program.functions self.old.frames.top.function ≡ Some function.now → Does program self.old instr.Return fields flow self.new fields) }
+        ensures does { (program : Program) (fields : List Value) → slice_get program.functions self.old.frames.top.function ≡ Some function.now → Does program self.old instr.Return fields result self.new fields }
         ensures stays { Stays self.old self.new }
     {
         let down = self.frames.is_down();
-        self.frames.close(function.result.is_some())?;
+        self.frames.close(function.result.is_some());
         if !down {
-            return Ok(Flow::On);
+            return Flow::On;
         }
         self.path = parent_of(&self.path);
-        Ok(Flow::Back)
+        Flow::Back
     }
 }
 

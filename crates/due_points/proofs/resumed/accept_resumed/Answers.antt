@@ -9,7 +9,7 @@ use Rattle.due_parts.proofs.AcceptLemmas.{refused_accepted, typed_accepted}
 use Rattle.due_parts.proofs.DueLemmas.{typed_served}
 use Rattle.due_points.specs.Resumed.{IsDueFrom, IsDuePoint}
 use Rattle.due_points.proofs.AcceptLemmas.{named_typed, shaped_typed}
-use Rattle.due_points.proofs.PartLemmas.{parts_short}
+use Rattle.due_parts.proofs.PartLemmas.{parts_short}
 use Rattle.due_points.proofs.resumed.accept_resumed.Goals as goal
 
 pub accept_point-requires-clause-shape : goal.accept_point-requires-clause-shape

@@ -6,7 +6,7 @@ use Rattle.due_parts.proofs.DueLemmas.{typed_served}
 use Rattle.due_parts.specs.Served.{IsServed}
 use Rattle.due_replay.specs.Replayed.{IsDueJournal, IsDueReplay}
 use Rattle.due_replay.proofs.DueLemmas.{both_there, found_refused, found_typed}
-use Rattle.due_replay.proofs.PartLemmas.{parts_short}
+use Rattle.due_parts.proofs.PartLemmas.{parts_short}
 use Rattle.due_replay.proofs.TreeLemmas.{has_names, tree_of, well_formed}
 use Rattle.due_replay.proofs.replayed.judge_replay.Goals as goal
 

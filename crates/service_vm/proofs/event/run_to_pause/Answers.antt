@@ -5,7 +5,9 @@ use Rattle.service_verify.specs.Points.{IsVerified}
 use Rattle.service_verify.specs.Reads.{kept}
 use Rattle.service_verify.specs.Standing.{HasFields, Stands}
 use Rattle.service_vm.specs.Boxes.{Boxed, event_in}
-use Rattle.service_vm.proofs.Events.{back_there, class_known, kept_fits}
+use Rattle.service_vm.specs.Wants.{MayWantIn}
+use Rattle.service_vm.proofs.Events.{back_there, class_known, kept_fits, wants_there, wants_down}
+use Rattle.service_vm.proofs.Keeping.{if_refused}
 use Rattle.service_vm.proofs.event.run_to_pause.Goals as goal
 
 pub back-requires : goal.back-requires
@@ -33,3 +35,25 @@ leave-requires c =
     ap length (c.kept.ensures.kept ∙ ap (kept c.args.program.now) c.class-class.ensures)
     ∙ ap (λ q. length (kept q (class_of c.event.inside.run.path))) (sym e)
     ∙ kept_fits c.program.result.now (subst IsFit (sym e) c.requires.fit) (subst IsVerified (sym e) c.program.ensures.verified) s.0 s.1 c.event.inside.ended c.event.inside.run c.pause.new.self c.args.body.now.fields c.pause.new.fields c.in_ok-why.why stands has c.in_ok-why.ensures.did
+
+pub returns-in_err-why-clause-wants : goal.returns-in_err-why-clause-wants
+returns-in_err-why-clause-wants c =
+    let s = c.requires.stands in
+    let e = c.program.ensures.program in
+    let is = ap (λ (b : Boxed). b.event) c.event.view_is in
+    let stands = subst (λ q. Stands q s.0 s.1 (event_in c.event.inside.ended c.event.inside.run)) (sym e) (subst (Stands c.args.program.now s.0 s.1) (sym is) s.2) in
+    if_refused c.from_residual.result
+    (subst (λ v. MayWantIn c.args.program.now v c.args.body.now.fields) is
+    (subst (λ q. MayWantIn q (event_in c.event.inside.ended c.event.inside.run) c.args.body.now.fields) e
+    (wants_there c.program.result.now s.0 s.1 c.event.inside.ended c.event.inside.run c.args.body.now.fields stands c.in_err-why.ensures.wants)))
+
+pub returns-in_err-leave-in-Go-clause-wants : goal.returns-in_err-leave-in-Go-clause-wants
+returns-in_err-leave-in-Go-clause-wants c =
+    let s = c.requires.stands in
+    let e = c.program.ensures.program in
+    let is = ap (λ (b : Boxed). b.event) c.event.view_is in
+    let stands = subst (λ q. Stands q s.0 s.1 (event_in c.event.inside.ended c.event.inside.run)) (sym e) (subst (Stands c.args.program.now s.0 s.1) (sym is) s.2) in
+    if_refused c.from_residual-in_err-leave-in-Go.result
+    (subst (λ v. MayWantIn c.args.program.now v c.args.body.now.fields) is
+    (subst (λ q. MayWantIn q (event_in c.event.inside.ended c.event.inside.run) c.args.body.now.fields) e
+    (wants_down c.program.result.now s.0 s.1 c.event.inside.ended c.event.inside.run c.pause.new.self c.args.body.now.fields c.pause.new.fields c.in_ok-why.why stands c.in_ok-why.ensures.did c.in-Go.is)))
