@@ -8,7 +8,7 @@ use Rattle.plan_actors.specs.PlanActors.{plan_actors}
 use Rattle.serial_runs.specs.Orders.{IsEnabled, LeadToOne, StandApart}
 use Rattle.wave_machine.specs.declared.lease.Lease.{Lease}
 use Rattle.wave_machine.specs.Machines as machines
-use Rattle.wave_machine.specs.Machines.{Kept, Stands, Takes, TheState}
+use Rattle.wave_machine.specs.Machines.{Keeps, Kept, Stands, Takes, TheState}
 use Rattle.wave_machine.specs.Running.{IsBack, IsStopping, Stops, stop_of}
 
 -- `step` and `start` take a label; `stop` gives a lease back with its pause, and takes the lease's Stop at a host.
@@ -30,12 +30,17 @@ pub record MayTurn (m : Kept) (s : TheState) (t : Turn) : Type 0 where
   pub enabled : IsEnabled (plan_actors m.plan.program) m.plan.workers s (label_in t)
   pub back : IsBackIn m.plan.program s t
 
+-- the same machine still, or what `reserve` made of it
+pub record IsStill (m k : Kept) : Type 0 where
+  pub keeps : Keeps m k
+  pub plan : k.plan ≡ m.plan
+
 -- what the call asks for
 abbrev pub Allows : Kept → Turn → Type 0
 Allows m (Take l) = machines.IsEnabled m l
 Allows m (Give lease why host) = IsStopping m lease why
 
--- and what it makes of a machine
+-- and what it makes of a machine, which runs the same plan
 abbrev pub Makes : Kept → Turn → Kept → Type 0
 Makes m (Take l) m' = Takes m m' l
 Makes m (Give lease why host) m' = Stops m lease why host m'
@@ -44,11 +49,12 @@ pub record IsMade (m : Kept) (t : Turn) (m' : Kept) : Type 0 where
   pub makes : Makes m t m'
   pub plan : m'.plan ≡ m.plan
 
--- The one call and then the other: each may be made, and whatever machine comes of both stands for the state.
+-- The one call and then the other, each with room made for it before, or without: each may be made, and whatever machine comes of both
+-- stands for the state.
 pub record InOrder (start : Start) (m : Kept) (t t' : Turn) (v : TheState) : Type 0 where
-  pub first : Allows m t
-  pub second : (m₁ : Kept) → IsMade m t m₁ → Allows m₁ t'
-  pub stand : (m₁ m₂ : Kept) → IsMade m t m₁ → IsMade m₁ t' m₂ → Stands m₂ start v
+  pub first : (k : Kept) → IsStill m k → Allows k t
+  pub second : (k m₁ k₁ : Kept) → IsStill m k → IsMade k t m₁ → IsStill m₁ k₁ → Allows k₁ t'
+  pub stand : (k m₁ k₁ m₂ : Kept) → IsStill m k → IsMade k t m₁ → IsStill m₁ k₁ → IsMade k₁ t' m₂ → Stands m₂ start v
 
 -- both orders of their labels are runs, which lead to one state; and in both orders the machine comes to stand for it
 pub record InEitherOrder (start : Start) (s : TheState) (m : Kept) (t t' : Turn) : Type 0 where
@@ -56,8 +62,8 @@ pub record InEitherOrder (start : Start) (s : TheState) (m : Kept) (t t' : Turn)
   pub here : InOrder start m t t' one.state
   pub there : InOrder start m t' t one.state
 
--- Either order. Of a machine, and each state for which it stands: two calls that may be made there, whose labels stand apart, may be made
--- in both orders, and in both the machine comes to stand for one state.
+-- Either order. Of a machine and each state for which it stands: two calls that may be made there, and whose labels stand apart, may be
+-- made in both orders, and in both the machine comes to stand for one state.
 abbrev pub TurnsInEitherOrder : Type 0
 TurnsInEitherOrder = (start : Start) (s : TheState) (m : Kept) (t t' : Turn) → Stands m start s → StandApart s (label_in t) (label_in t')
     → MayTurn m s t → MayTurn m s t' → InEitherOrder start s m t t'
