@@ -1,3 +1,4 @@
 pub mod DueLemmas
+mod Examples
 pub mod FoundLemmas
 pub mod StatusLemmas
