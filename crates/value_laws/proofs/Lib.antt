@@ -1,0 +1,3 @@
+mod Rows
+mod Acts
+pub mod Calls
