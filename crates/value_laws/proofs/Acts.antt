@@ -37,7 +37,7 @@ use Rattle.value_laws.specs.Values.{IsKeyed, AreValues, BoundedContexts, Bounded
 
 -- ---- values
 
-nothing_is : IsValue nothing
+pub nothing_is : IsValue nothing
 nothing_is = record { sfits = omega arith }
 
 blank_is : (kind : Kind) → IsValue (blank_of kind)
@@ -68,10 +68,10 @@ key_is (Map m) h = record { sfits = omega arith }
 pub child_is : (p : Path) (class : ℕ) (v : Value) → IsKeyed p → IsValue v → IsKeyed (child p class v)
 child_is p class v h g = All-push (λ (s : PathStep). FitsSigned w64 s.key) p _ h (key_is v g)
 
-two_are : (a b : Value) → IsValue a → IsValue b → AreValues (a ∷ b ∷ [])
+pub two_are : (a b : Value) → IsValue a → IsValue b → AreValues (a ∷ b ∷ [])
 two_are a b f g = All-cons IsValue a (b ∷ []) f (All-cons IsValue b [] g (All-nil IsValue))
 
-three_are : (a b c : Value) → IsValue a → IsValue b → IsValue c → AreValues (a ∷ b ∷ c ∷ [])
+pub three_are : (a b c : Value) → IsValue a → IsValue b → IsValue c → AreValues (a ∷ b ∷ c ∷ [])
 three_are a b c f g h = All-cons IsValue a (b ∷ c ∷ []) f (two_are b c g h)
 
 -- ---- worlds

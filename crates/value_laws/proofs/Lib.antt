@@ -1,3 +1,4 @@
 mod Rows
 mod Acts
 pub mod Calls
+pub mod Scripts

@@ -1,5 +1,5 @@
 -- What operators give of values is a value.
-use Rattle.std.proofs.Common.{◌≡◌, ◌≢◌, ◌<◌, ◌≤◌, ◌+◌, ◌^◌, ℕ, zero, suc, ℤ, pos, negsuc, Bool, true, false, not, if◌then◌else◌, cond, sum_by, unwrap_or, List, [], ◌∷◌, ◌++◌, length, get_or, take, drop, map, Option, Some, None, IfSome, is_some, is_none, Result, Ok, Err, refl, sym, ap, subst, ◌∙◌, arith, w64, slice_get, FitsSigned, All, leb-true, length-append, add-suc}
+use Rattle.std.proofs.Common.{◌≡◌, ◌≢◌, ◌<◌, ◌≤◌, ◌+◌, ◌-◌, ◌^◌, ℕ, zero, suc, ℤ, pos, negsuc, Bool, true, false, not, if◌then◌else◌, cond, sum_by, unwrap_or, List, [], ◌∷◌, ◌++◌, length, get_or, take, drop, map, Option, Some, None, IfSome, is_some, is_none, Result, Ok, Err, refl, sym, ap, subst, ◌∙◌, arith, w64, slice_get, FitsSigned, All, leb-true, length-append, add-suc}
 use Rattle.std.specs.Prelude.{◌+ℤ◌, ◌-ℤ◌, ◌*ℤ◌, nat_le, nat_lt, neg_ℤ, unsigned_abs, slice_range, option_map, ◌&&◌}
 use Rattle.std.specs.Fmt.{signed_decimal}
 use Rattle.std.specs.Int.{int_min, int_max}
