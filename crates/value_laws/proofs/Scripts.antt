@@ -52,11 +52,9 @@ module _ (shape : Shape) (bounded : BoundedShape shape) where
 
   shown_bounded : (ss : List Shot) → All BoundedShot ss → (p : Path) → AreValues (shown_fields shape ss p)
   shown_bounded [] h p = initial_bounded _
-  shown_bounded (s ∷ ss) h p = by (path_eq s.path p)
-    where
-      by : (b : Bool) → AreValues (if b then s.fields else shown_fields shape ss p)
-      by true = (All-head BoundedShot s ss h).fields
-      by false = shown_bounded ss (All-tail BoundedShot s ss h) p
+  shown_bounded (s ∷ ss) h p =
+      let first : BoundedShot s = All-head BoundedShot s ss h in
+      elim (path_eq s.path p) as (λ b. AreValues (if b then s.fields else shown_fields shape ss p)) [ true ↦ first.fields | false ↦ shown_bounded ss (All-tail BoundedShot s ss h) p ]
 
   tree_bounded : (start : Start) → BoundedStart start → BoundedContexts (start_tree shape start)
   tree_bounded start h = record {
