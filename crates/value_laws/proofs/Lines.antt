@@ -28,6 +28,7 @@ use Rattle.script_reader.specs.declared.form.Form.TheVariants as form
 use Rattle.script_reader.specs.declared.form.Literal.{Literal}
 use Rattle.script_reader.specs.declared.form.Literal.TheVariants as literal
 use Rattle.script_reader.specs.declared.piece.Piece.{Piece}
+use Rattle.script_reader.specs.declared.piece.Piece.TheVariants.{Run, Open}
 use Rattle.script_reader.specs.declared.said.Said.{Said}
 use Rattle.script_reader.specs.declared.said.Said.TheVariants.{Nothing, Unknown, Says}
 use Rattle.script_reader.specs.declared.taken.Taken.{Taken}
@@ -196,7 +197,9 @@ form_is : (shape : Shape) (hosts : ℕ) (begun : Bool) (events : ℕ) (text : Li
 form_is shape hosts begun events text (form.Hosts n) h =
     one_taken begun (Err HostsLate) (if nat_le 1 (number_of n) && nat_le (number_of n) HOSTS then Ok (Hosts (number_of n)) else Err HostRange) tt
     (one_taken (nat_le 1 (number_of n) && nat_le (number_of n) HOSTS) (Ok (Hosts (number_of n))) (Err HostRange) tt tt)
-form_is shape hosts begun events text (form.Request name ls) h = event_is events (requested shape name ls) (requested_is shape name ls (literals_are ls (pieces_are _ _ h.cut).1.1.1))
+form_is shape hosts begun events text (form.Request name ls) h =
+    let pieces : Each IsPiece (Run (form_word (form.Request name ls)) ∷ Run name ∷ Open ∷ literal_pieces ls) = pieces_are (without_blanks text) (Run (form_word (form.Request name ls)) ∷ form_rest (form.Request name ls)) h.cut in
+    event_is events (requested shape name ls) (requested_is shape name ls (literals_are ls pieces.1.1.1))
 form_is shape hosts begun events text (form.Move steps to) h = event_is events (move_to hosts (path_of shape steps) (number_of to)) (moved_is hosts (path_of shape steps) (number_of to) (path_keyed shape steps))
 form_is shape hosts begun events text form.Snapshot h = event_is events (Ok line.Snapshot) tt
 form_is shape hosts begun events text form.Settle h = tt
