@@ -1,3 +1,4 @@
+mod Examples
 mod Rows
 mod Acts
 pub mod Calls

@@ -1,5 +1,5 @@
 -- A service that was read from a text is bounded: its tokens have numbers and texts within the limits.
-use Rattle.std.proofs.Common.{◌≡◌, ◌<◌, ◌≤◌, ℕ, ℤ, pos, List, [], ◌∷◌, map, take, Option, Some, None, All, FitsSigned, w64, sym, subst, arith}
+use Rattle.std.proofs.Common.{◌≡◌, ◌<◌, ◌≤◌, ℕ, ℤ, pos, List, [], ◌∷◌, map, take, Option, Some, None, Ok, All, FitsSigned, w64, sym, subst, arith}
 use Rattle.std.specs.Option.{option_map}
 use Rattle.std.proofs.lemmas.List.Elements.{All-from_recursion}
 use Rattle.wave_base.specs.declared.shape.ClassInfo.{ClassInfo}
@@ -12,17 +12,18 @@ use Rattle.mace_lexer.specs.declared.token.Word.TheVariants as word
 use Rattle.mace_lexer.specs.Cuts.{Cuts, at_end, gap, spelled}
 use Rattle.mace_lexer.specs.Pieces.{IsPiece, Spell}
 use Rattle.mace_ast.specs.Decls.{ServiceTree}
+use Rattle.service_reader.specs.Parsing.{Parses}
 use Rattle.resolved_service.specs.declared.service.Event.{Event}
 use Rattle.resolved_service.specs.declared.service.Last.{Last}
 use Rattle.resolved_service.specs.declared.service.Method.{Method}
 use Rattle.resolved_service.specs.declared.service.Phase.{Phase}
 use Rattle.resolved_service.specs.declared.service.Resolved.{Resolved}
 use Rattle.type_rules.specs.Known.{Entry, service_classes, shape_of}
+use Rattle.type_rules.specs.Services.{resolve_service}
 use Rattle.type_rules.specs.Views.{event_view, last_view, method_view, phase_view, resolved_view}
 use Rattle.value_laws.proofs.Decls.{EntryIs, EventIs, IsService, LastIs, MethodIs, PhaseIs, ServiceIs, entries_are, service, service_is}
 use Rattle.value_laws.proofs.Exprs.{IsToken, IsWord}
 use Rattle.value_laws.proofs.Parts.{Each}
-use Rattle.value_laws.specs.Laws.{IsReadFrom}
 use Rattle.value_laws.specs.Services.{BoundedEvent, BoundedLast, BoundedMethod, BoundedPhase, BoundedService}
 use Rattle.value_laws.specs.Values.{BoundedClass, BoundedShape}
 
@@ -80,8 +81,7 @@ shape_bounded : (tree : ServiceTree) → Each EntryIs (service_classes tree) →
 unfolding shape_of
 shape_bounded tree h = All-from_recursion BoundedClass (map (λ (c : Entry). c.info) (service_classes tree)) (each_map (λ (c : Entry). c.info) BoundedClass (service_classes tree) h)
 
-pub read_bounded : (text : List ℕ) (shape : Shape) (resolved : Resolved) → IsReadFrom text shape resolved → BoundedShape shape × BoundedService resolved
-read_bounded text shape resolved r =
-    let p = r.parses in
-    let is : IsService r.tree = service.so r.tree p.tokens (tokens_are p.cut) p.spelled in
-    (subst BoundedShape (sym r.shape_is) (shape_bounded r.tree (entries_are r.tree is)), service_bounded resolved (subst ServiceIs (sym r.resolved) (service_is r.tree is)))
+pub read_bounded : (text : List ℕ) (tree : ServiceTree) (resolved : Resolved) → Parses text (Ok tree) → resolved_view resolved ≡ resolve_service tree → BoundedShape (shape_of tree) × BoundedService resolved
+read_bounded text tree resolved p same =
+    let is : IsService tree = service.so tree p.tokens (tokens_are p.cut) p.spelled in
+    (shape_bounded tree (entries_are tree is), service_bounded resolved (subst ServiceIs (sym same) (service_is tree is)))

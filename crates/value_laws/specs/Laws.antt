@@ -1,7 +1,6 @@
 -- What stays within the limits: what operators give, what calls and scripts do, and what is read from texts.
 use Rattle.std.specs.Prelude.{◌≡◌, ℕ, List, Ok}
 use Rattle.wave_base.specs.declared.call.Call.{Call}
-use Rattle.wave_base.specs.declared.finished.Finished.{Finished}
 use Rattle.wave_base.specs.declared.script.Script.{Script}
 use Rattle.wave_base.specs.declared.shape.Shape.{Shape}
 use Rattle.wave_base.specs.declared.start.Start.{Start}
@@ -35,16 +34,9 @@ ScriptsAreBounded shape service = (start : Start) (script : Script) → BoundedS
 
 -- ---- what is read
 
--- the text is read as a tree, of which the service is what it is with each name resolved
-pub record IsReadFrom (text : List ℕ) (shape : Shape) (service : Resolved) : Type 0 where
-  pub tree : ServiceTree
-  pub parses : Parses text (Ok tree)
-  pub shape_is : shape ≡ shape_of tree
-  pub resolved : resolved_view service ≡ resolve_service tree
-
--- a service that was read from a text is bounded, and so is what its contexts begin with
+-- a service that was read from a text, with each name resolved, is bounded, and so is what its contexts begin with
 abbrev pub ReadServicesAreBounded : Type 0
-ReadServicesAreBounded = (text : List ℕ) (shape : Shape) (service : Resolved) → IsReadFrom text shape service → BoundedShape shape × BoundedService service
+ReadServicesAreBounded = (text : List ℕ) (tree : ServiceTree) (service : Resolved) → Parses text (Ok tree) → resolved_view service ≡ resolve_service tree → BoundedShape (shape_of tree) × BoundedService service
 
 -- and so is a script, whatever stands before it
 abbrev pub ReadScriptsAreBounded : Type 0

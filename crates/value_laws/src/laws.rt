@@ -6,13 +6,18 @@ ghost use Rattle.wave_base.specs.declared.shape.Shape.{Shape};
 ghost use Rattle.wave_base.specs.declared.start.Start.{Start};
 ghost use Rattle.wave_base.specs.Shapes.{IsShape};
 ghost use Rattle.wave_base.specs.Starts.{IsStart, first_start};
+ghost use Rattle.mace_ast.specs.Decls.{ServiceTree};
+ghost use Rattle.service_reader.specs.Parsing.{Parses};
 ghost use Rattle.resolved_service.specs.declared.service.Resolved.{Resolved};
+ghost use Rattle.type_rules.specs.Known.{shape_of};
+ghost use Rattle.type_rules.specs.Services.{resolve_service};
+ghost use Rattle.type_rules.specs.Views.{resolved_view};
 ghost use Rattle.script_fold.specs.Runs.{start_after};
 ghost use Rattle.script_reader.specs.Judged.{nothing_earlier};
 ghost use Rattle.script_reader.specs.Scripts.{IsScriptOf};
 ghost use Rattle.snapshot_text.specs.Shots.{AreShots};
 ghost use Rattle.wave_meaning.specs.Meaning.{results_at, results_of};
-ghost use Rattle.value_laws.specs.Laws.{CallsAreBounded, IsReadFrom, OperatorsAreBounded, ReadScriptsAreBounded, ReadServicesAreBounded, ScriptsAreBounded};
+ghost use Rattle.value_laws.specs.Laws.{CallsAreBounded, OperatorsAreBounded, ReadScriptsAreBounded, ReadServicesAreBounded, ScriptsAreBounded};
 ghost use Rattle.value_laws.specs.Services.{BoundedService};
 ghost use Rattle.value_laws.specs.Values.{BoundedScript, BoundedShape, BoundedStart};
 
@@ -48,10 +53,11 @@ pub fn texts_are_bounded()
     ensures scripts { ReadScriptsAreBounded }
 {}
 
-/// So a script that was read from a text leaves, from the first Start of a service that was, what a snapshot may show and a checkpoint may keep.
+/// So a script that was read from a text leaves, from the first Start of a service that was, what a snapshot may show and a checkpoint may
+/// keep.
 pub fn texts_leave_shots()
-    ensures { (text lines : List ℕ) (shape : Shape) (service : Resolved) (script : Script) → IsReadFrom text shape service → IsScriptOf shape nothing_earlier lines (Ok script) → IsShape shape
-        → IsStart shape script.hosts (start_after (first_start shape) (results_of shape service script)) → AreShots shape (results_of shape service script).shots }
+    ensures { (text lines : List ℕ) (tree : ServiceTree) (shape : Shape) (service : Resolved) (script : Script) → Parses text (Ok tree) → shape ≡ shape_of tree → resolved_view service ≡ resolve_service tree
+        → IsScriptOf shape nothing_earlier lines (Ok script) → IsShape shape → IsStart shape script.hosts (start_after (first_start shape) (results_of shape service script)) → AreShots shape (results_of shape service script).shots }
 {
     scripts_are_bounded();
     scripts_leave_shots();
