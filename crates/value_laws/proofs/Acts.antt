@@ -1,10 +1,8 @@
 -- Worlds that are bounded, and the parts of the meaning that keep them so.
-use Rattle.std.proofs.Common.{◌≡◌, ℕ, zero, suc, ◌+◌, pos, Bool, true, false, nat_lt, ◌==◌, if◌then◌else◌, List, [], ◌∷◌, ◌++◌, length, get_or, drop, map, set, slice_set, slice_get, Option, Some, None, Ok, Err, All, FitsSigned, w64, refl, arith}
-use Rattle.std.proofs.lemmas.List.Elements.{All-append, All-head, All-tail, All-cons, All-nil, All-map, All-push, All-set}
+use Rattle.std.proofs.Common.{ℕ, zero, suc, ◌+◌, pos, Bool, true, false, nat_lt, ◌==◌, if◌then◌else◌, List, [], ◌∷◌, ◌++◌, length, get_or, drop, map, slice_set, Option, Some, None, Ok, Err, All, FitsSigned, w64, arith}
+use Rattle.std.proofs.lemmas.List.Elements.{All-append, All-head, All-tail, All-cons, All-nil, All-push, All-set}
 use Rattle.std.proofs.lemmas.Map.Views.{All-insert_key}
-use Rattle.wave_base.proofs.Lists.{all_at}
 use Rattle.wave_base.proofs.Places.{table_none}
-use Rattle.wave_base.specs.declared.call.Call.{Call as CallOf}
 use Rattle.wave_base.specs.declared.limits.TheConstants.{CONTEXTS, MESSAGES, SPAWNS, GENERATION}
 use Rattle.wave_base.specs.declared.path.Path.{Path}
 use Rattle.wave_base.specs.declared.path.Step.{Step as PathStep}
@@ -16,24 +14,13 @@ use Rattle.wave_base.specs.declared.value.Value.{Value}
 use Rattle.wave_base.specs.declared.value.Value.TheVariants.{Int, Bool as Truth, Str, Map}
 use Rattle.wave_base.specs.Paths.{path_eq, path_cmp}
 use Rattle.wave_base.specs.Text.{IsPrintable, IsText}
-use Rattle.wave_base.specs.Tree as t
-use Rattle.wave_base.specs.Tree.{enter, put}
 use Rattle.value_ops.specs.Kinds.{Answer}
 use Rattle.value_ops.specs.Operators.{apply_row}
-use Rattle.resolved_service.specs.declared.service.Event.{Event}
-use Rattle.resolved_service.specs.declared.service.Last.{Last}
-use Rattle.resolved_service.specs.declared.service.Method.{Method}
-use Rattle.resolved_service.specs.declared.service.Phase.{Phase}
-use Rattle.resolved_service.specs.declared.service.Resolved.{Resolved}
-use Rattle.resolved_service.specs.Jobs.{call_meaning, first_world, meant_by, meant_event}
-use Rattle.resolved_service.specs.Meaning.{State, Leave, Returned, Finished, Outcome, Done, Trapped, Left, Act, and_then, ◌>>=◌, ◌>>◌, give, answer, with_world, tick, enter_at, choose, get_local, set_local, get_field, get_above, put_field, demand, row_add, row_lt, row_put, row_cut, worth, value, values, while_turns, for_test, for_body, maybe_value, effect, effects, else_effect, last_value, with_locals, with_blanks, run_method, called, phases_run, event_run}
-use Rattle.resolved_service.specs.Steps.{Step, SetLocal, SetField, PutLocal, PutField, CutLocal, CutField, If, While, For, Require, Send, Spawn, Do, Return, Finish, Steps, no_steps, step, Else, no_else, otherwise, steps_in}
-use Rattle.resolved_service.specs.View.{Tree, Const, Local, Field, Above, Op, And, Or, Call, Child, Trees, no_trees, tree, tree_of}
-use Rattle.resolved_service.specs.World.{World, blank_of, nothing, is_true, key_of, child, took, changed, with_entered, releasing, has, entering, sending, spawning, read_field, read_above, set_field}
+use Rattle.resolved_service.specs.Meaning.{State, Leave, Returned, Finished, Outcome, Done, Trapped, Left, Act, and_then, ◌>>◌, give, answer, with_world, tick, enter_at, choose, set_local, put_field, demand, row_add, row_lt, while_turns, for_test, for_body, with_blanks}
+use Rattle.resolved_service.specs.World.{World, blank_of, nothing, is_true, key_of, child, took, changed, with_entered, has, entering, sending, spawning, read_field, read_above, set_field}
 use Rattle.snapshot_text.specs.Shots.{IsValue}
 use Rattle.value_laws.proofs.Rows.{IsGiven, row_given}
-use Rattle.value_laws.specs.Services.{BoundedTree, BoundedTrees, BoundedMaybe, BoundedStep, BoundedSteps, BoundedElse, BoundedLast, BoundedMethod, BoundedPhase, BoundedEvent, BoundedService}
-use Rattle.value_laws.specs.Values.{IsKeyed, AreValues, BoundedContexts, BoundedCall, BoundedMessage, BoundedRan}
+use Rattle.value_laws.specs.Values.{IsKeyed, AreValues, BoundedContexts, BoundedCall, BoundedMessage}
 
 -- ---- values
 
@@ -155,10 +142,13 @@ pub send_good : (label : List ℕ) (x : Value) (at : Span) → IsText label → 
 unfolding sending
 send_good label x at f g st h =
     elim (nat_lt (length st.world.messages) MESSAGES) as (λ b. Good Any (with_world (if b then Ok (record st.world { messages = st.world.messages ++ record { label = label; value = x } ∷ [] }) else Err trap.Sends) at st)) [
-      | true ↦ (tt, record {
-        locals = h.locals;
-        world = record { tree = (h.world).tree; entered = (h.world).entered; messages = All-push BoundedMessage st.world.messages _ (h.world).messages (record { label = f; value = g }); created = (h.world).created };
-      })
+      | true ↦ (
+        tt,
+        record {
+          locals = h.locals;
+          world = record { tree = (h.world).tree; entered = (h.world).entered; messages = All-push BoundedMessage st.world.messages _ (h.world).messages (record { label = f; value = g }); created = (h.world).created };
+        },
+      )
       | false ↦ h.world
     ]
 
@@ -168,10 +158,13 @@ spawn_good event args at g st h =
     elim (st.world.generation == GENERATION) as (λ b. Good Any (with_world (if b then Err trap.Generation else (if nat_lt (length st.world.created) SPAWNS then Ok (record st.world { created = st.world.created ++ record { event = event; args = args; generation = suc st.world.generation } ∷ [] }) else Err trap.Spawns)) at st)) [
       | true ↦ h.world
       | false ↦ elim (nat_lt (length st.world.created) SPAWNS) as (λ b. Good Any (with_world (if b then Ok (record st.world { created = st.world.created ++ record { event = event; args = args; generation = suc st.world.generation } ∷ [] }) else Err trap.Spawns) at st)) [
-        | true ↦ (tt, record {
-          locals = h.locals;
-          world = record { tree = (h.world).tree; entered = (h.world).entered; messages = (h.world).messages; created = All-push BoundedCall st.world.created _ (h.world).created g };
-        })
+        | true ↦ (
+          tt,
+          record {
+            locals = h.locals;
+            world = record { tree = (h.world).tree; entered = (h.world).entered; messages = (h.world).messages; created = All-push BoundedCall st.world.created _ (h.world).created g };
+          },
+        )
         | false ↦ h.world
       ]
     ]
@@ -197,15 +190,18 @@ above_is level f p w h = field_is f _ w h
 
 pub put_good : (f : ℕ) (p : Path) (v : Value) → IsValue v → Safe Any (put_field f p v)
 unfolding set_field
-put_good f p v g st h = (tt, record {
-  locals = h.locals;
-  world = record {
-    tree = record { fields = λ q. at_path q (path_eq p q); paths = ((h.world).tree).paths };
-    entered = (h.world).entered;
-    messages = (h.world).messages;
-    created = (h.world).created;
-  };
-})
+put_good f p v g st h = (
+  tt,
+  record {
+    locals = h.locals;
+    world = record {
+      tree = record { fields = λ q. at_path q (path_eq p q); paths = ((h.world).tree).paths };
+      entered = (h.world).entered;
+      messages = (h.world).messages;
+      created = (h.world).created;
+    };
+  },
+)
   where
     at_path : (q : Path) (b : Bool) → AreValues (if b then slice_set (st.world.tree.fields p) f v else st.world.tree.fields q)
     at_path q true = All-set IsValue (st.world.tree.fields p) f v g (((h.world).tree).fields p)

@@ -1,12 +1,12 @@
 -- A call on bounded contexts leaves such contexts, and tells, sends and creates nothing else: an induction over what the meaning recurses on.
-use Rattle.std.proofs.Common.{◌≡◌, ℕ, zero, suc, ◌+◌, pos, Bool, true, false, List, [], ◌∷◌, get_or, slice_get, Option, Some, None, All, FitsSigned, w64, refl}
+use Rattle.std.proofs.Common.{◌≡◌, ℕ, zero, suc, ◌+◌, true, false, List, [], ◌∷◌, get_or, slice_get, Option, Some, None, All, FitsSigned, w64, refl}
 use Rattle.std.proofs.lemmas.List.Elements.{All-cons, All-head, All-nil, All-tail}
 use Rattle.wave_base.proofs.Lists.{all_at}
 use Rattle.wave_base.specs.declared.call.Call.{Call as CallOf}
 use Rattle.wave_base.specs.declared.path.Path.{Path}
 use Rattle.wave_base.specs.declared.path.Step.{Step as PathStep}
 use Rattle.wave_base.specs.declared.value.Value.{Value}
-use Rattle.wave_base.specs.declared.value.Value.TheVariants.{Int, Bool as Truth}
+use Rattle.wave_base.specs.declared.value.Value.TheVariants.{Bool as Truth}
 use Rattle.wave_base.specs.declared.limits.TheConstants.{TICKS}
 use Rattle.wave_base.specs.Tree as t
 use Rattle.value_ops.specs.Operators.{apply_row}
@@ -16,7 +16,7 @@ use Rattle.resolved_service.specs.declared.service.Method.{Method}
 use Rattle.resolved_service.specs.declared.service.Phase.{Phase}
 use Rattle.resolved_service.specs.declared.service.Resolved.{Resolved}
 use Rattle.resolved_service.specs.Jobs.{call_meaning, ended, first_world, meant_by, meant_event, replied}
-use Rattle.resolved_service.specs.Meaning.{State, Returned, Finished, Outcome, Done, Trapped, Left, Act, and_then, ◌>>=◌, ◌>>◌, give, tick, enter_at, choose, set_local, put_field, row_put, row_cut, worth, value, values, for_test, for_body, maybe_value, effect, effects, else_effect, last_value, with_locals, with_blanks, run_method, called, phases_run, event_run}
+use Rattle.resolved_service.specs.Meaning.{State, Returned, Finished, Outcome, Done, Trapped, Left, Act, give, tick, enter_at, set_local, put_field, row_put, row_cut, worth, value, values, for_test, for_body, maybe_value, effect, effects, else_effect, last_value, with_locals, with_blanks, run_method, called, phases_run, event_run}
 use Rattle.resolved_service.specs.Steps.{Step, SetLocal, SetField, PutLocal, PutField, CutLocal, CutField, If, While, For, Require, Send, Spawn, Do, Return, Finish, Steps, no_steps, step, Else, no_else, otherwise, steps_in}
 use Rattle.resolved_service.specs.View.{Tree, Const, Local, Field, Above, Op, And, Or, Call, Child, Trees, no_trees, tree, tree_of}
 use Rattle.resolved_service.specs.World.{World, nothing, is_true, child, releasing, read_field}

@@ -1,6 +1,6 @@
 -- The methods and events that tokens spell are bounded where the numbers and texts of the tokens are within the limits, and so is what
 -- fields begin with.
-use Rattle.std.proofs.Common.{◌≡◌, ℕ, ◌+◌, List, [], ◌∷◌, ◌++◌, length, map, Option, Some, None, All, FitsSigned, w64, ap, subst, sym}
+use Rattle.std.proofs.Common.{◌≡◌, ℕ, ◌+◌, List, [], ◌∷◌, ◌++◌, length, map, Option, Some, None, FitsSigned, w64, subst, sym}
 use Rattle.std.specs.Option.{option_map, option_map_or}
 use Rattle.std.specs.Int.{int_wrapping_neg}
 use Rattle.std.proofs.lemmas.Int.{SFits-int_wrap, wrapping_neg_is}
@@ -23,12 +23,11 @@ use Rattle.mace_ast.specs.Counts.{class_count}
 use Rattle.mace_ast.specs.Decls.{LastTree, MethodTree, PhaseTree, EventTree, ContextTree, Context, contexts_of, ServiceTree}
 use Rattle.mace_ast.specs.Stmts.{StmtTree, no_stmts, stmts_of}
 use Rattle.mace_grammar.specs.Grammar as g
-use Rattle.mace_grammar.specs.Part.{Part, many}
+use Rattle.mace_grammar.specs.Part.{Part}
 use Rattle.mace_grammar.specs.Words as w
 use Rattle.mace_grammar.specs.Words.{Edition, edition_of}
-use Rattle.resolved_service.specs.Steps.{Steps}
 use Rattle.type_rules.specs.declared.known.Known.{Known}
-use Rattle.type_rules.specs.Functions.{LastView, MethodView, PhaseView, EventView, event_end, event_start, here_body, here_end, inside, method_body, method_end, method_start, phase_body, phase_end, resolve_event, resolve_last, resolve_phases}
+use Rattle.type_rules.specs.Functions.{LastView, MethodView, PhaseView, EventView, event_end, event_start, here_end, inside, method_end, method_start, phase_end, resolve_event, resolve_last, resolve_phases}
 use Rattle.type_rules.specs.Here.{Here}
 use Rattle.type_rules.specs.Known.{Entry, classes_in, classes_of, entry, field_info, known_of, methods_in, methods_of, service_classes, value_of}
 use Rattle.type_rules.specs.Services.{ResolvedView, resolve_context, resolve_contexts, resolve_methods, resolve_service}
@@ -128,8 +127,7 @@ here_is h (Some ss) f = stmts_bounded h ss f
 events_are : (known : Known) (es : List EventTree) → Each IsEvent es → Each EventIs (map (resolve_event known) es)
 events_are known [] fs = tt
 events_are known (v ∷ vs) fs =
-    let f : IsEvent v = fs.0 in
-    (
+    let f : IsEvent v = fs.0 in (
       record { here = here_is (event_start known v) v.here f.here; phases = phases_are (here_end known v) v.phases f.phases; last = last_is (event_end (here_end known v) v.phases) v.last f.last },
       events_are known vs fs.1,
     )

@@ -1,9 +1,9 @@
 -- Small examples: which numbers and texts are within the limits, and what is bounded of a service that sends one.
-use Rattle.std.proofs.Common.{◌≡◌, ℕ, pos, negsuc, ◌+◌, ◌^◌, List, [], ◌∷◌, length, replicate, All, Option, Some, None, refl, arith}
+use Rattle.std.proofs.Common.{pos, negsuc, [], arith}
 use Rattle.std.proofs.lemmas.List.Elements.{All-nil}
 use Rattle.wave_base.specs.declared.span.Span.{Span}
-use Rattle.wave_base.specs.declared.value.Value.TheVariants.{Int, Str, Map}
-use Rattle.wave_base.specs.Text.{IsPrintable, IsText}
+use Rattle.wave_base.specs.declared.value.Value.TheVariants.{Int}
+use Rattle.wave_base.specs.Text.{IsPrintable}
 use Rattle.resolved_service.specs.Steps.{Send}
 use Rattle.resolved_service.specs.View.{Const}
 use Rattle.snapshot_text.specs.Shots.{IsValue}

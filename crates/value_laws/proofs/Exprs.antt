@@ -1,6 +1,5 @@
 -- The expressions that tokens spell are bounded where the numbers and texts of the tokens are within the limits.
-use Rattle.std.proofs.Common.{◌≡◌, List, [], ◌∷◌, Option, Some, None, All, FitsSigned, w64, fold, subst}
-use Rattle.std.specs.Option.{option_map}
+use Rattle.std.proofs.Common.{◌≡◌, List, [], ◌∷◌, Option, Some, None, FitsSigned, w64, fold, subst}
 use Rattle.std.proofs.lemmas.List.Elements.{All-nil}
 use Rattle.wave_base.proofs.Places.{table_none}
 use Rattle.wave_base.specs.declared.span.Span.{Span}

@@ -1,5 +1,5 @@
 -- A script that was read from a text is bounded: its arguments and the keys of its paths are judged to be.
-use Rattle.std.proofs.Common.{◌≡◌, ◌≤◌, ◌<◌, ◌+◌, ◌^◌, ℕ, zero, suc, ℤ, pos, neg_ℤ, Bool, true, false, if◌then◌else◌, ◌==◌, nat_le, nat_lt, List, [], ◌∷◌, length, position, slice_get, Option, Some, None, IfSome, Result, Ok, Err, All, FitsSigned, w64, refl, sym, subst, arith, leb-true, ltb-true, option_map, option_and_then}
+use Rattle.std.proofs.Common.{◌≡◌, ◌≤◌, ◌+◌, ◌^◌, ℕ, zero, suc, ℤ, pos, neg_ℤ, Bool, true, false, if◌then◌else◌, ◌==◌, nat_le, nat_lt, List, [], ◌∷◌, length, position, slice_get, Option, Some, None, IfSome, Result, Ok, Err, All, FitsSigned, w64, refl, sym, subst, arith, leb-true, ltb-true, option_map, option_and_then}
 use Rattle.std.specs.Prelude.{◌&&◌}
 use Rattle.std.proofs.lemmas.List.Elements.{All-cons, All-nil, All-push}
 use Rattle.wave_base.specs.declared.limits.TheConstants.{EVENT_LINES, HOSTS, LITERAL_BYTES}
@@ -13,7 +13,7 @@ use Rattle.wave_base.specs.declared.value.Kind.{Kind}
 use Rattle.wave_base.specs.declared.value.Kind.TheVariants as kind
 use Rattle.wave_base.specs.declared.value.Value.{Value}
 use Rattle.wave_base.specs.declared.value.Value.TheVariants as value
-use Rattle.wave_base.specs.Text.{IsPrintable, IsText}
+use Rattle.wave_base.specs.Text.{IsPrintable}
 use Rattle.wave_text.specs.Lines.{lines_of}
 use Rattle.wave_text.specs.Numbers.{negative, number_of, positive, whole_of}
 use Rattle.path_text.specs.declared.written.Written.{Written}
@@ -34,7 +34,7 @@ use Rattle.script_reader.specs.declared.said.Said.TheVariants.{Nothing, Unknown,
 use Rattle.script_reader.specs.declared.taken.Taken.{Taken}
 use Rattle.script_reader.specs.declared.taken.Taken.TheVariants.{Skipped, Hosts, Event, Settle}
 use Rattle.script_reader.specs.Forms.{HasForm, form_rest, form_word, literal_piece, literal_pieces, more_pieces}
-use Rattle.script_reader.specs.Judged.{as_event, call_at, call_of, call_with, event_lines, has_begun, has_name, hosts_of, judged_event, judged_form, judged_hosts, move_to, params_in, requested, value_of, values_of}
+use Rattle.script_reader.specs.Judged.{as_event, call_at, call_with, event_lines, has_begun, has_name, hosts_of, judged_event, judged_form, move_to, params_in, requested, value_of, values_of}
 use Rattle.script_reader.specs.Pieces.{ArePiecesOf, IsPiece, without_blanks}
 use Rattle.script_reader.specs.Scripts.{Goes, IsRead, IsSaid, IsScriptOf, closed_batches, judged, judged_after, open_batch, refused, script_of}
 use Rattle.snapshot_text.specs.Shots.{IsValue}
@@ -234,7 +234,7 @@ module _ (shape : Shape) (earlier : Earlier) (script : Script) where
       subst BoundedScript (sym same) (batch_fits BoundedLine (closed_batches before) (open_batch before) (closed_bounded before hs) (open_bounded before hs))
   read_bounded before hs (l ∷ ls) h =
       elim (judged_after shape earlier before h.0) as (λ (x : Result Taken Fault).
-          IsTaken x → Goes x (λ t. IsRead shape earlier (t ∷ before) ls (Ok script)) (λ f. ◌≡◌ {A = Result Script ScriptError} (Ok script) (Err (refused f (length before + 1)))) → BoundedScript script) [
+      IsTaken x → Goes x (λ t. IsRead shape earlier (t ∷ before) ls (Ok script)) (λ f. ◌≡◌ {A = Result Script ScriptError} (Ok script) (Err (refused f (length before + 1)))) → BoundedScript script) [
         | Ok t ↦ λ b k. read_bounded (t ∷ before) (b, hs) ls k
         | Err f ↦ λ b e. cc
       ] (said_is shape (hosts_of earlier before) (has_begun earlier before) (event_lines earlier before) l h.0 h.1) h.2

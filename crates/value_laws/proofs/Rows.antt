@@ -1,19 +1,18 @@
 -- What operators give of values is a value.
-use Rattle.std.proofs.Common.{◌≡◌, ◌≢◌, ◌<◌, ◌≤◌, ◌+◌, ◌-◌, ◌^◌, ℕ, zero, suc, ℤ, pos, negsuc, Bool, true, false, not, if◌then◌else◌, cond, sum_by, unwrap_or, List, [], ◌∷◌, ◌++◌, length, get_or, take, drop, map, Option, Some, None, IfSome, is_some, is_none, Result, Ok, Err, refl, sym, ap, subst, ◌∙◌, arith, w64, slice_get, FitsSigned, All, leb-true, length-append, add-suc}
+use Rattle.std.proofs.Common.{◌≡◌, ◌<◌, ◌≤◌, ◌+◌, ◌-◌, ◌^◌, ℕ, zero, suc, ℤ, pos, negsuc, Bool, true, false, not, if◌then◌else◌, cond, sum_by, unwrap_or, List, [], ◌∷◌, ◌++◌, length, get_or, take, drop, Option, Some, None, IfSome, is_some, Ok, Err, refl, sym, ap, ◌∙◌, arith, w64, slice_get, FitsSigned, All, leb-true}
 use Rattle.std.specs.Prelude.{◌+ℤ◌, ◌-ℤ◌, ◌*ℤ◌, nat_le, nat_lt, neg_ℤ, unsigned_abs, slice_range, option_map, ◌&&◌}
 use Rattle.std.specs.Fmt.{signed_decimal}
-use Rattle.std.specs.Int.{int_min, int_max}
 use Rattle.std.specs.Int.RustNames.{int_div, int_rem, int_lt}
 use Rattle.std.specs.List.{AllByRecursion}
-use Rattle.std.specs.Map.{keys_of, values_of, lookup, remove_entry}
-use Rattle.std.specs.BTreeMap.{is_at, insert_entry}
+use Rattle.std.specs.Map.{keys_of, values_of, remove_entry}
+use Rattle.std.specs.BTreeMap.{is_at}
 use Rattle.std.specs.List.Sorted.{IsStrictlySortedBy}
 use Rattle.std.specs.Ordering.{int_cmp, match_ordering}
 use Rattle.std.specs.declared.cmp.Ordering.TheVariants.{Less, Equal, Greater}
 use Rattle.std.proofs.lemmas.Bool.Decides.{nat_tests}
 use Rattle.std.proofs.lemmas.Fmt.{length_signed_le}
 use Rattle.std.proofs.lemmas.Int.{fits_signed_from_abs, rem_below}
-use Rattle.std.proofs.lemmas.List.Elements.{All-append, All-drop, All-head, All-tail, All-cons, All-nil, All-map, All-take, All-weaker, All-from_recursion, recursion_from_All}
+use Rattle.std.proofs.lemmas.List.Elements.{All-append, All-drop, All-map, All-take, All-weaker, All-from_recursion, recursion_from_All}
 use Rattle.std.proofs.lemmas.List.{length-map}
 use Rattle.std.proofs.lemmas.List.Sums.{sum_by-cons}
 use Rattle.std.proofs.lemmas.Cmp.{int_cmp_total}
@@ -28,7 +27,7 @@ use Rattle.wave_base.specs.declared.value.Kind.{Kind}
 use Rattle.wave_base.specs.declared.value.Kind.TheVariants as k
 use Rattle.wave_base.specs.declared.value.Value.{Value}
 use Rattle.wave_base.specs.declared.value.Value.TheVariants.{Int, Bool as Flag, Str, Map}
-use Rattle.wave_base.specs.Tables.{IsTable, is_full, value_at, with_pair, without}
+use Rattle.wave_base.specs.Tables.{IsTable, is_full, value_at, with_pair}
 use Rattle.wave_base.specs.Text.{IsPrintable, IsText}
 use Rattle.value_ops.proofs.IntLemmas.{is_int_fits}
 use Rattle.value_ops.proofs.TextLemmas.{printable_number}
@@ -247,41 +246,108 @@ row_of (o ∷ os) e (suc row) = row_of os e.1 row
 all_rows : EachGives operators
 unfolding operators
 all_rows = (
-  λ a f b g. int (a +ℤ b), (
-  λ a f b g. int (a -ℤ b), (
-  λ a f b g. int (a *ℤ b), (
-  λ a f b g. either k.Int (is_zero b) (Err trap.DivZero) (in_int (int_div a b)) tt (int (int_div a b)), (
-  λ a f b g. rem a b g, (
-  λ a f. int (neg_ℤ a), (
-  λ b f. tt, (
-  λ a f b g. tt, (
-  λ a f b g. tt, (
-  λ a f b g. tt, (
-  λ a f b g. tt, (
-  λ a f b g. tt, (
-  λ a f b g. tt, (
-  λ b f c g. tt, (
-  λ b f c g. tt, (
-  λ s f t g. tt, (
-  λ s f t g. tt, (
-  λ s f t g. tt, (
-  λ s f t g. both_texts s t f g, (
-  λ m f i g. or_absent k.Int (value_at m i) (found m i f), (
-  λ m f i g x h. put_map i x g h m f, (
-  λ m f i g. cut (is_at (int_cmp i)) m f, (
-  λ m f i g. tt, (
-  λ m f. count_fits (length m) f.0.short, (
-  λ m f i g. or_absent k.Int (key_at m i) (key_there m i f), (
-  λ t f. count_fits (length t) f.short, (
-  λ a f. written a f, (
-  λ t f a g b h. or_absent k.Text (part t a b) (parted t a b f), (
-  λ a f b g. one_fits (int_lt b a) b a g f, (
-  λ a f b g. one_fits (int_lt b a) a b f g, (
-  λ a f. int (pos (unsigned_abs a)), (
-  λ m f. int (total m), (
-  λ s f t g. tt, (
-  λ t f. either k.Int (is_number t) (in_int (number_in t)) (Err trap.Absent) (int (number_in t)) tt,
-  tt))))))))))))))))))))))))))))))))))
+  λ a f b g. int (a +ℤ b),
+  (
+    λ a f b g. int (a -ℤ b),
+    (
+      λ a f b g. int (a *ℤ b),
+      (
+        λ a f b g. either k.Int (is_zero b) (Err trap.DivZero) (in_int (int_div a b)) tt (int (int_div a b)),
+        (
+          λ a f b g. rem a b g,
+          (
+            λ a f. int (neg_ℤ a),
+            (
+              λ b f. tt,
+              (
+                λ a f b g. tt,
+                (
+                  λ a f b g. tt,
+                  (
+                    λ a f b g. tt,
+                    (
+                      λ a f b g. tt,
+                      (
+                        λ a f b g. tt,
+                        (
+                          λ a f b g. tt,
+                          (
+                            λ b f c g. tt,
+                            (
+                              λ b f c g. tt,
+                              (
+                                λ s f t g. tt,
+                                (
+                                  λ s f t g. tt,
+                                  (
+                                    λ s f t g. tt,
+                                    (
+                                      λ s f t g. both_texts s t f g,
+                                      (
+                                        λ m f i g. or_absent k.Int (value_at m i) (found m i f),
+                                        (
+                                          λ m f i g x h. put_map i x g h m f,
+                                          (
+                                            λ m f i g. cut (is_at (int_cmp i)) m f,
+                                            (
+                                              λ m f i g. tt,
+                                              (
+                                                λ m f. count_fits (length m) f.0.short,
+                                                (
+                                                  λ m f i g. or_absent k.Int (key_at m i) (key_there m i f),
+                                                  (
+                                                    λ t f. count_fits (length t) f.short,
+                                                    (
+                                                      λ a f. written a f,
+                                                      (
+                                                        λ t f a g b h. or_absent k.Text (part t a b) (parted t a b f),
+                                                        (
+                                                          λ a f b g. one_fits (int_lt b a) b a g f,
+                                                          (
+                                                            λ a f b g. one_fits (int_lt b a) a b f g,
+                                                            (
+                                                              λ a f. int (pos (unsigned_abs a)),
+                                                              (
+                                                                λ m f. int (total m),
+                                                                (
+                                                                  λ s f t g. tt,
+                                                                  (
+                                                                    λ t f. either k.Int (is_number t) (in_int (number_in t)) (Err trap.Absent) (int (number_in t)) tt,
+                                                                    tt,
+                                                                  ),
+                                                                ),
+                                                              ),
+                                                            ),
+                                                          ),
+                                                        ),
+                                                      ),
+                                                    ),
+                                                  ),
+                                                ),
+                                              ),
+                                            ),
+                                          ),
+                                        ),
+                                      ),
+                                    ),
+                                  ),
+                                ),
+                              ),
+                            ),
+                          ),
+                        ),
+                      ),
+                    ),
+                  ),
+                ),
+              ),
+            ),
+          ),
+        ),
+      ),
+    ),
+  ),
+)
 
 pub row_given : (row : ℕ) (values : List Value) → All IsValue values → IsGiven (apply_row row values)
 unfolding apply_row

@@ -1,11 +1,9 @@
 -- A script on bounded contexts gives bounded results and leaves such contexts: the fold of its jobs keeps all so.
-use Rattle.std.proofs.Common.{◌≡◌, ◌+◌, ℕ, zero, suc, Bool, true, false, if◌then◌else◌, List, [], ◌∷◌, ◌++◌, map, filter, slice_get, zip, Option, Some, None, All, FitsSigned, w64, refl, arith}
+use Rattle.std.proofs.Common.{◌≡◌, ◌+◌, ℕ, zero, suc, Bool, true, false, if◌then◌else◌, List, [], ◌∷◌, map, slice_get, zip, Option, Some, None, All, FitsSigned, w64, refl, arith}
 use Rattle.std.proofs.lemmas.List.Elements.{All-append, All-cons, All-filter, All-head, All-map, All-nil, All-push, All-tail, All-weaker}
 use Rattle.std.proofs.lemmas.Map.Views.{All-insert_key}
 use Rattle.wave_base.proofs.Lists.{all_at}
 use Rattle.wave_base.specs.declared.call.Call.{Call}
-use Rattle.wave_base.specs.declared.call.Message.{Message}
-use Rattle.wave_base.specs.declared.numbers.Host.{Host}
 use Rattle.wave_base.specs.declared.outcome.EventResult.{EventResult}
 use Rattle.wave_base.specs.declared.outcome.Outcome.TheVariants as out
 use Rattle.wave_base.specs.declared.path.Path.{Path}
@@ -18,7 +16,7 @@ use Rattle.wave_base.specs.declared.shape.Shape.{Shape}
 use Rattle.wave_base.specs.declared.shot.Shot.{Shot}
 use Rattle.wave_base.specs.declared.start.Start.{Start}
 use Rattle.wave_base.specs.declared.value.Value.{Value}
-use Rattle.wave_base.specs.Fold.{Head, Progress, Ran, created_lines, first_head, first_progress, next_job, one_more, with_done, with_job, with_result}
+use Rattle.wave_base.specs.Fold.{Head, Progress, created_lines, first_head, first_progress, next_job, one_more, with_done, with_job}
 use Rattle.wave_base.specs.Paths.{path_cmp, path_eq, parent_of}
 use Rattle.wave_base.specs.Places.{after_job, move_of, places_after, with_context, with_contexts, with_move}
 use Rattle.wave_base.specs.Shapes.{IsShape, fields_in, fields_of_class, is_path}
@@ -29,12 +27,12 @@ use Rattle.resolved_service.specs.Jobs.{fronts, shot_of}
 use Rattle.service_verify.proofs.Classes.{short_path}
 use Rattle.script_fold.proofs.LeftLemmas.{All-drop_head, Next, done_next, grown, next_keeps}
 use Rattle.script_fold.specs.Lines.{line_by, most_jobs}
-use Rattle.script_fold.specs.Runs.{after_jobs, hosts_after, place_of, start_after, whole_run}
+use Rattle.script_fold.specs.Runs.{after_jobs, hosts_after, place_of, whole_run}
 use Rattle.journal_text.specs.Fits.{HasKeys}
 use Rattle.snapshot_text.specs.Shots.{AreShots, IsValue}
 use Rattle.checkpoint_store.proofs.PointLemmas.{are_shots}
 use Rattle.wave_meaning.specs.Meaning.{call_ran, results_at}
-use Rattle.value_laws.specs.Laws.{CallsAreBounded, ScriptsAreBounded}
+use Rattle.value_laws.specs.Laws.{CallsAreBounded}
 use Rattle.value_laws.specs.Values.{AreValues, BoundedCall, BoundedClass, BoundedContexts, BoundedFinished, BoundedLine, BoundedMessage, BoundedOutcome, BoundedPlace, BoundedRan, BoundedResult, BoundedScript, BoundedShape, BoundedShot, BoundedStart, IsKeyed}
 
 root_keyed : IsKeyed []

@@ -1,5 +1,5 @@
 -- The statements that tokens spell are bounded where the numbers and texts of the tokens are within the limits.
-use Rattle.std.proofs.Common.{◌≡◌, ℕ, List, Option, Some, None, subst}
+use Rattle.std.proofs.Common.{◌≡◌, ℕ, List, Option, Some, subst}
 use Rattle.wave_base.specs.declared.span.Span.{Span}
 use Rattle.wave_base.specs.Text.{IsText}
 use Rattle.mace_lexer.specs.declared.keyword.Keyword.TheVariants as k

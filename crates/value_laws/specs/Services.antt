@@ -1,5 +1,5 @@
 -- A service is bounded where its literals are: the values that its expressions write out, and the labels of what it sends.
-use Rattle.std.specs.Prelude.{List, [], ◌∷◌, Option, Some, None, All}
+use Rattle.std.specs.Prelude.{Option, Some, None, All}
 use Rattle.wave_base.specs.Text.{IsText}
 use Rattle.resolved_service.specs.declared.service.Event.{Event}
 use Rattle.resolved_service.specs.declared.service.Last.{Last}

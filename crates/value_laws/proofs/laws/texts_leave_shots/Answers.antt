@@ -1,4 +1,4 @@
-use Rattle.std.proofs.Common.{◌≡◌, subst, sym}
+use Rattle.std.proofs.Common.{subst, sym}
 use Rattle.wave_base.specs.Starts.{first_start}
 use Rattle.script_reader.specs.Judged.{nothing_earlier}
 use Rattle.type_rules.specs.Known.{shape_of}
