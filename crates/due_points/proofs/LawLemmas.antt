@@ -1,7 +1,6 @@
 -- What is resumed from the checkpoint of a script is what the run of that script and the next has behind the lines of the first.
-use Rattle.std.proofs.Common.{◌≡◌, ◌∙◌, ◌≤◌, ◌<◌, ◌+◌, ◌^◌, ◌⊎◌, inl, inr, ℕ, Bool, true, false, cond, List, [], ◌∷◌, ◌++◌, length, map, suc, sum_by, Option, Some, None, is_none, Result, Ok, refl, sym, ap, subst, arith}
+use Rattle.std.proofs.Common.{◌≡◌, ◌∙◌, ◌≤◌, ◌⊎◌, inl, inr, ℕ, Bool, true, false, cond, List, [], ◌∷◌, ◌++◌, length, map, suc, Option, Some, None, is_none, Result, Ok, refl, sym, ap, subst, arith}
 use Rattle.std.specs.Prelude.{◌↔◌, ◌||◌}
-use Rattle.std.specs.List.{list_any}
 use Rattle.std.proofs.lemmas.List.{length-map}
 use Rattle.std.proofs.lemmas.List.Folds.{list_any-append}
 use Rattle.wave_base.specs.declared.finished.Finished.{Finished}
@@ -31,7 +30,7 @@ use Rattle.code_scheme.specs.Programs.{scheme_program}
 use Rattle.code_scheme.specs.Typed.{IsTyped}
 use Rattle.code_scheme.proofs.Made.{program_shape}
 use Rattle.code_runner.specs.Coded.{IsCode}
-use Rattle.fold_laws.specs.Cuts.{both, start_behind, AreJoined, Comes, IsCut}
+use Rattle.fold_laws.specs.Cuts.{both, start_behind, Comes, IsCut}
 use Rattle.fold_laws.specs.Growth.{StaysFew}
 use Rattle.fold_laws.proofs.Heads.{Over, over_of}
 use Rattle.fold_laws.proofs.Walk.{Sane, sane_after}
@@ -41,16 +40,13 @@ use Rattle.service_reader.specs.Parsing.{Parses}
 use Rattle.snapshot_text.specs.Shots.{AreShots}
 use Rattle.checkpoint_store.specs.declared.error.CheckError.{CheckError}
 use Rattle.checkpoint_store.specs.declared.point.Checkpoint.{Checkpoint}
-use Rattle.checkpoint_store.specs.CheckpointTexts.{checkpoint_text, IsCheckpointText}
 use Rattle.checkpoint_store.specs.Points.{IsPoint}
-use Rattle.checkpoint_store.specs.Verdicts.{IsOnlyVerdict}
 use Rattle.command_words.specs.declared.command.Places.{Places}
-use Rattle.listing_out.specs.Listing.{listing}
 use Rattle.due_parts.specs.declared.answer.Answer.{Answer}
 use Rattle.due_parts.specs.declared.report.Report.{Report}
 use Rattle.due_parts.specs.declared.report.Report.TheVariants.{Listing, Point}
 use Rattle.due_parts.specs.Served.{IsTypedTree}
-use Rattle.due_parts.specs.Told.{IsDueFold, any_trap, is_listed, is_trap, point_behind, reported}
+use Rattle.due_parts.specs.Told.{IsDueFold, any_trap, is_listed, is_trap, reported}
 use Rattle.due_parts.proofs.NameLemmas.{code_typed}
 use Rattle.due_parts.proofs.PointLemmas.{FewAreSaved}
 use Rattle.due_parts.proofs.WorkLemmas.{first_begins}
