@@ -1,7 +1,6 @@
 -- What is resumed from the checkpoint of a script is what the run of that script and the next has behind the lines of the first.
-use Rattle.std.proofs.Common.{◌≡◌, ◌∙◌, ◌≤◌, ◌<◌, ◌+◌, ◌^◌, ◌⊎◌, inl, inr, ℕ, Bool, true, false, cond, List, [], ◌∷◌, ◌++◌, length, map, suc, sum_by, Option, Some, None, is_none, Result, Ok, refl, sym, ap, subst, arith}
+use Rattle.std.proofs.Common.{◌≡◌, ◌∙◌, ◌≤◌, ◌⊎◌, inl, inr, ℕ, Bool, true, false, cond, List, [], ◌∷◌, ◌++◌, length, map, suc, Option, Some, None, is_none, Result, Ok, refl, sym, ap, subst, arith}
 use Rattle.std.specs.Prelude.{◌↔◌, ◌||◌}
-use Rattle.std.specs.List.{list_any}
 use Rattle.std.proofs.lemmas.List.{length-map}
 use Rattle.std.proofs.lemmas.List.Folds.{list_any-append}
 use Rattle.wave_base.specs.declared.finished.Finished.{Finished}
@@ -13,38 +12,41 @@ use Rattle.wave_base.specs.declared.shape.Shape.{Shape}
 use Rattle.wave_base.specs.declared.start.Start.{Start}
 use Rattle.wave_base.specs.Fold.{Head, first_head, made, next_job, created_lines, with_done}
 use Rattle.wave_base.specs.Scripts.{IsScript}
+use Rattle.wave_base.specs.Shapes.{IsShape}
 use Rattle.wave_base.specs.Starts.{IsStart, first_start, start_tree}
 use Rattle.mace_ast.specs.Decls.{ServiceTree}
 use Rattle.resolved_service.specs.declared.service.Resolved.{Resolved}
 use Rattle.resolved_service.specs.Fits.{FitsService}
 use Rattle.type_rules.specs.Known.{shape_of}
+use Rattle.type_rules.specs.Services.{resolve_service}
 use Rattle.type_rules.specs.Views.{resolved_view}
 use Rattle.meaning_views.proofs.SameMeaning.{same_calls}
 use Rattle.context_types.specs.declared.Typed.{Typed}
 use Rattle.script_fold.specs.Lines.{Meaning, name_of, most_jobs}
 use Rattle.script_fold.specs.Runs.{finished_of, start_after, ticket_of, whole_run, IsFew}
-use Rattle.wave_meaning.specs.Meaning.{call_ran, results_at}
+use Rattle.wave_meaning.specs.Meaning.{call_ran, results_at, results_of}
 use Rattle.service_code.specs.declared.program.Program.{Program}
 use Rattle.code_scheme.specs.Programs.{scheme_program}
 use Rattle.code_scheme.specs.Typed.{IsTyped}
 use Rattle.code_scheme.proofs.Made.{program_shape}
 use Rattle.code_runner.specs.Coded.{IsCode}
-use Rattle.fold_laws.specs.Cuts.{both, start_behind, AreJoined, Comes, IsCut}
+use Rattle.fold_laws.specs.Cuts.{both, start_behind, Comes, IsCut}
 use Rattle.fold_laws.specs.Growth.{StaysFew}
 use Rattle.fold_laws.proofs.Heads.{Over, over_of}
 use Rattle.fold_laws.proofs.Walk.{Sane, sane_after}
+use Rattle.script_reader.specs.Judged.{nothing_earlier}
+use Rattle.script_reader.specs.Scripts.{IsScriptOf}
+use Rattle.service_reader.specs.Parsing.{Parses}
+use Rattle.snapshot_text.specs.Shots.{AreShots}
 use Rattle.checkpoint_store.specs.declared.error.CheckError.{CheckError}
 use Rattle.checkpoint_store.specs.declared.point.Checkpoint.{Checkpoint}
-use Rattle.checkpoint_store.specs.CheckpointTexts.{checkpoint_text, IsCheckpointText}
 use Rattle.checkpoint_store.specs.Points.{IsPoint}
-use Rattle.checkpoint_store.specs.Verdicts.{IsOnlyVerdict}
 use Rattle.command_words.specs.declared.command.Places.{Places}
-use Rattle.listing_out.specs.Listing.{listing}
 use Rattle.due_parts.specs.declared.answer.Answer.{Answer}
 use Rattle.due_parts.specs.declared.report.Report.{Report}
 use Rattle.due_parts.specs.declared.report.Report.TheVariants.{Listing, Point}
 use Rattle.due_parts.specs.Served.{IsTypedTree}
-use Rattle.due_parts.specs.Told.{IsDueFold, any_trap, is_listed, is_trap, point_behind, reported}
+use Rattle.due_parts.specs.Told.{IsDueFold, any_trap, is_listed, is_trap, reported}
 use Rattle.due_parts.proofs.NameLemmas.{code_typed}
 use Rattle.due_parts.proofs.PointLemmas.{FewAreSaved}
 use Rattle.due_parts.proofs.WorkLemmas.{first_begins}
@@ -134,7 +136,11 @@ ScriptsAreCut = (service : Resolved) (program : Program) (start : Start) (a b : 
 abbrev pub ScriptsStayFew : Type 0
 ScriptsStayFew = (service : Resolved) (program : Program) (start : Start) (a : Script) → IsCode service program → IsScript program.shape a → IsStart program.shape a.hosts start → StaysFew start a.batches (results_at program.shape service start a)
 
-module _ (come : ScriptsCome) (are_cut : ScriptsAreCut) (stay_few : ScriptsStayFew) (saved_few : FewAreSaved) (tree : ServiceTree) (typed : Typed) (a b : Script) (are : AreScripts tree typed a b) where
+abbrev pub TextsLeaveShots : Type 0
+TextsLeaveShots = (text lines : List ℕ) (tree : ServiceTree) (shape : Shape) (service : Resolved) (script : Script) → Parses text (Ok tree) → shape ≡ shape_of tree → resolved_view service ≡ resolve_service tree
+    → IsScriptOf shape nothing_earlier lines (Ok script) → IsShape shape → IsStart shape script.hosts (start_after (first_start shape) (results_of shape service script)) → AreShots shape (results_of shape service script).shots
+
+module _ (come : ScriptsCome) (are_cut : ScriptsAreCut) (stay_few : ScriptsStayFew) (saved_few : FewAreSaved) (leave_shots : TextsLeaveShots) (tree : ServiceTree) (typed : Typed) (a b : Script) (are : AreScripts tree typed a b) where
   abbrev service : Resolved
   service = typed.resolved
 
@@ -182,6 +188,10 @@ module _ (come : ScriptsCome) (are_cut : ScriptsAreCut) (stay_few : ScriptsStayF
     fits = comes.begins;
   }
 
+  -- of contexts whose values are within the limits
+  shots : AreShots typed.shape (point_after typed a).start.shots
+  shots = leave_shots are.text are.lines tree typed.shape service a are.parses are.is_typed.shape_is are.is_typed.resolved_is are.reads are.is_typed.well_formed comes.begins
+
   told_first : (report : Report) (script : Script) (due : Answer) → IsDueFold report tree (first_start (shape_of tree)) script due → due ≡ reported typed.shape first script report (results_at typed.shape service first script)
   told_first report script due h =
       told_is report tree typed (first_start (shape_of tree)) script due are.is_typed h
@@ -205,7 +215,7 @@ module _ (come : ScriptsCome) (are_cut : ScriptsAreCut) (stay_few : ScriptsStayF
 
     point_is : point ≡ point_after typed a
     point_is =
-        let same : ◌≡◌ {A = Result Checkpoint CheckError} (Ok (point_after typed a)) (Ok point) = due.point_is.1 (Ok (point_after typed a)) (record { spelled = ap (λ (x : Answer). x.text) saved_told; point = is_point; shots = are.shots }) in
+        let same : ◌≡◌ {A = Result Checkpoint CheckError} (Ok (point_after typed a)) (Ok point) = due.point_is.1 (Ok (point_after typed a)) (record { spelled = ap (λ (x : Answer). x.text) saved_told; point = is_point; shots = shots }) in
         cc
 
     resumed_told : resumed ≡ reported typed.shape left b (Listing places) other

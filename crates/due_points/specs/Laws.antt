@@ -11,7 +11,9 @@ use Rattle.context_types.specs.declared.Typed.{Typed}
 use Rattle.wave_meaning.specs.Meaning.{results_of}
 use Rattle.fold_laws.specs.Cuts.{both}
 use Rattle.listing_out.specs.Listing.{lines_from, shown_of}
-use Rattle.snapshot_text.specs.Shots.{AreShots}
+use Rattle.script_reader.specs.Judged.{nothing_earlier}
+use Rattle.script_reader.specs.Scripts.{IsScriptOf}
+use Rattle.service_reader.specs.Parsing.{Parses}
 use Rattle.checkpoint_store.specs.declared.point.Checkpoint.{Checkpoint}
 use Rattle.checkpoint_store.specs.Verdicts.{IsOnlyVerdict}
 use Rattle.command_words.specs.declared.command.Places.{Places}
@@ -32,14 +34,16 @@ done_by typed script = results_of typed.shape typed.resolved script
 abbrev pub point_after : Typed → Script → Checkpoint
 point_after typed script = point_behind (first_start typed.shape) script (done_by typed script)
 
--- Two scripts of a typed service, over the same hosts. What the first leaves is of contexts with values as wide as the program's types have
--- them.
+-- Two scripts of a typed service, over the same hosts. The service was read from a text, and so was the first script.
 pub record AreScripts (tree : ServiceTree) (typed : Typed) (a b : Script) : Type 0 where
+  pub text : List ℕ
+  pub parses : Parses text (Ok tree)
   pub is_typed : IsTypedTree tree typed
+  pub lines : List ℕ
+  pub reads : IsScriptOf typed.shape nothing_earlier lines (Ok a)
   pub first : IsScript typed.shape a
   pub second : IsScript typed.shape b
   pub hosts : a.hosts ≡ b.hosts
-  pub shots : AreShots typed.shape (point_after typed a).start.shots
 
 -- What is due where the first is saved, and this point is read of that; where the second goes on from there; and where both are one script.
 pub record AreDue (tree : ServiceTree) (typed : Typed) (a b : Script) (places : Places) (saved resumed run : Answer) (point : Checkpoint) : Type 0 where

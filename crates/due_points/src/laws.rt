@@ -18,9 +18,10 @@ ghost use Rattle.due_points.specs.Laws.{AreDue, AreScripts, GoesOn};
 use fold_laws::scripts_are_few;
 use plan_meaning::{scripts_are_cut, scripts_stay_few};
 use script_reader::scripts_go_on;
+use value_laws::texts_leave_shots;
 
 /// What is resumed from the checkpoint of a script is what the run of that script and the next has behind the lines of the first, however
-/// many lines both have together.
+/// many lines both have together. The service and the first script are such as are read from texts.
 pub fn checkpoints_go_on()
     ensures { (tree : ServiceTree) (typed : Typed) (a b : Script) (places : Places) (saved resumed run : Answer) (point : Checkpoint) → AreScripts tree typed a b → AreDue tree typed a b places saved resumed run point
         → GoesOn typed a saved resumed run point }
@@ -28,6 +29,7 @@ pub fn checkpoints_go_on()
     scripts_are_cut();
     scripts_are_few();
     scripts_stay_few();
+    texts_leave_shots();
 }
 
 /// So it is with their texts: the first, a line `settle`, and behind it the second as it is read from the checkpoint on, is the script of

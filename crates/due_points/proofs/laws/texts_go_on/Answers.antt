@@ -1,5 +1,4 @@
 use Rattle.std.proofs.Common.{◌≡◌, Ok, sym, ◌∙◌, ◌++◌, length, sum_by}
-use Rattle.wave_base.specs.declared.script.Script.{Script}
 use Rattle.due_points.proofs.HostLemmas.{hosts_same}
 use Rattle.due_points.proofs.laws.texts_go_on.Goals as goal
 

@@ -1,4 +1,4 @@
-use Rattle.std.proofs.Common.{Err, Ok, subst, sym}
+use Rattle.std.proofs.Common.{Err, subst, sym}
 use Rattle.due_parts.specs.Answers.{Only}
 use Rattle.due_parts.proofs.DueLemmas.{only_same}
 use Rattle.due_points.specs.Resumed.{IsDueChecked, IsDueFrom}
