@@ -1,8 +1,7 @@
 //! How calls end: words, refusals in their order, faults of streams, the greatest input.
 
-use super::rows::{Row, bytes, calls, holds, plain, words};
+use super::rows::{Row, bytes, call, call_alone, call_with, calls, holds, plain, words};
 use super::services::{FORMS, FORMS_PRINTED, MARKET, TICK};
-use eventwave::{eventwave, eventwave_alone, start};
 use std::test::Fail;
 use wave_base::{OutOfMemory, Seq};
 use wave_io::{MemSink, MemSource, OpenGate};
@@ -123,7 +122,7 @@ fn loads_read_nothing(rt: HostRuntime) -> Result<(), Fail> {
         let mut source = MemSource::new(bytes(alloc, TICK)?, 16, calls(alloc, &[1])?);
         let mut out = MemSink::new(alloc, 100_000, 4096, Seq::new(alloc))?;
         let mut notes = MemSink::new(alloc, 100, 4, Seq::new(alloc))?;
-        let got = eventwave(
+        let got = call(
             &rt,
             alloc,
             &words,
@@ -156,7 +155,7 @@ fn one_thread(rt: HostRuntime) -> Result<(), Fail> {
         let mut source = MemSource::new(bytes(alloc, TICK)?, 16, Seq::new(alloc));
         let mut out = MemSink::new(alloc, 1000, 100, Seq::new(alloc))?;
         let mut notes = MemSink::new(alloc, 100, 100, Seq::new(alloc))?;
-        let got = eventwave_alone(alloc, &words, &mut source, &mut out, &mut notes);
+        let got = call_alone(alloc, &words, &mut source, &mut out, &mut notes);
         assert_eq!(rt; got, status);
         assert_eq!(rt; out.bytes().is_empty(), status != Some(0));
         assert_eq!(rt; notes.bytes().is_empty(), status != Some(2));
@@ -253,28 +252,19 @@ fn runs_by_the_top_call(rt: HostRuntime) -> Result<(), Fail> {
     let mut source = MemSource::new(bytes(alloc, TICK)?, 16, Seq::new(alloc));
     let mut out = MemSink::new(alloc, 10_000, 4, Seq::new(alloc))?;
     let mut notes = MemSink::new(alloc, 10_000, 4, Seq::new(alloc))?;
-    let status = start(
-        &rt,
-        alloc,
-        Ok(words),
-        &mut source,
-        &mut out,
-        &mut notes,
-        &OpenGate,
-    );
+    let status = call_with(&rt, alloc, Ok(words), &mut source, &mut out, &mut notes);
     assert_eq!(rt; status, 0);
     assert_eq!(rt; out.bytes(), b"#1 hit = 1\ndone 1\n".as_slice());
     let Err(refused) = Vec::<u64>::with_capacity(alloc, usize::MAX) else {
         return Err("so much memory".into());
     };
-    let status = start(
+    let status = call_with(
         &rt,
         alloc,
         Err(OutOfMemory::from(refused)),
         &mut source,
         &mut out,
         &mut notes,
-        &OpenGate,
     );
     assert_eq!(rt; status, 7);
     assert_eq!(rt; notes.bytes(), b"OutOfMemory\n".as_slice());

@@ -1,6 +1,6 @@
 //! Runs of the top call, and what each has to come to.
 
-use eventwave::eventwave;
+use eventwave::{eventwave, eventwave_alone, start};
 use std::alloc::Global;
 use std::process::Abort;
 use std::sync::Wait;
@@ -26,6 +26,42 @@ pub fn words(alloc: Global, text: &str) -> Result<Words, OutOfMemory> {
         words.push(word)?;
     }
     Ok(words)
+}
+
+/// The top call. What its contract says stands in these three functions alone, not in each test.
+pub fn call<R: Threads + Wait + Sync, G: Gate + Sync>(
+    rt: &R,
+    alloc: Global,
+    words: &Words,
+    source: &mut MemSource,
+    out: &mut MemSink,
+    notes: &mut MemSink,
+    gate: &G,
+) -> u8 {
+    eventwave(rt, alloc, words, source, out, notes, gate)
+}
+
+/// The same on this thread alone.
+pub fn call_alone(
+    alloc: Global,
+    words: &Words,
+    source: &mut MemSource,
+    out: &mut MemSink,
+    notes: &mut MemSink,
+) -> Option<u8> {
+    eventwave_alone(alloc, words, source, out, notes)
+}
+
+/// The same for words that may have found no memory.
+pub fn call_with<R: Threads + Wait + Sync>(
+    rt: &R,
+    alloc: Global,
+    words: Result<Words, OutOfMemory>,
+    source: &mut MemSource,
+    out: &mut MemSink,
+    notes: &mut MemSink,
+) -> u8 {
+    start(rt, alloc, words, source, out, notes, &OpenGate)
 }
 
 /// A run on some words: what comes in, which read and write fail (0 is none), and what has to come out.
@@ -54,7 +90,7 @@ pub fn holds<R: Abort + Threads + Wait + Sync>(
     );
     let mut out = MemSink::new(alloc, 10_000, 4, calls(alloc, &[row.failing_write])?)?;
     let mut notes = MemSink::new(alloc, 10_000, 4, Seq::new(alloc))?;
-    let got = eventwave(
+    let got = call(
         rt,
         alloc,
         &words,
@@ -81,7 +117,7 @@ pub fn ran_on<R: Threads + Wait + Sync, G: Gate + Sync>(
     let mut source = MemSource::new(bytes(alloc, input)?, 4096, Seq::new(alloc));
     let mut out = MemSink::new(alloc, 100_000, 100, Seq::new(alloc))?;
     let mut notes = MemSink::new(alloc, 100, 100, Seq::new(alloc))?;
-    let status = eventwave(rt, alloc, &words, &mut source, &mut out, &mut notes, gate);
+    let status = call(rt, alloc, &words, &mut source, &mut out, &mut notes, gate);
     Ok((status, out))
 }
 

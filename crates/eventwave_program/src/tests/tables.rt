@@ -1,9 +1,10 @@
 //! Tables: each read and each write of a run that fails, each rule that picks, and the limits of events.
 
 use super::crews::{LOOKED, LOOKS, MOVED, MOVES, TO_AND_FRO, WENT_TO_AND_FRO};
-use super::rows::{Row, all_hold, bytes, calls, holds, joined, plain, ran_on, traps, words, works};
+use super::rows::{
+    Row, all_hold, bytes, call, calls, holds, joined, plain, ran_on, traps, words, works,
+};
 use super::services::{CHAIN, MARKET};
-use eventwave::eventwave;
 use std::alloc::Global;
 use std::sync::Wait;
 use std::test::Fail;
@@ -56,7 +57,7 @@ fn ran_to<R: Threads + Wait + Sync>(
     let mut source = MemSource::new(bytes(alloc, input)?, 4096, Seq::new(alloc));
     let mut out = MemSink::new(alloc, 10_000, 4, calls(alloc, &[failing])?)?;
     let mut notes = MemSink::new(alloc, 100, 100, Seq::new(alloc))?;
-    let status = eventwave(
+    let status = call(
         rt,
         alloc,
         &words,

@@ -3,10 +3,14 @@
 ghost use Rattle.plan_actors.specs.Plans.{Fits};
 ghost use Rattle.wave_machine.specs.Plans.{plan_of};
 
+use host_workers::{RunError, run_plan};
 use std::alloc::Global;
 use std::process::Abort;
+use std::sync::Wait;
+use std::thread::Threads;
 use text_plans::plan_of_texts;
-use wave_base::WORKERS;
+use wave_base::{Finished, WORKERS};
+use wave_io::{Gate, Sink};
 use wave_machine::Plan;
 
 // A hall moves between two sales, and then two stalls of it are called.
@@ -35,5 +39,21 @@ pub(super) fn plan_for(rt: &impl Abort, alloc: Global, case: &Case) -> Plan
     match plan_of_texts(alloc, case.service, case.script, case.workers) {
         Some(plan) => plan,
         None => panic!(rt; "no plan"),
+    }
+}
+
+// A run of it, and what it gives. What the contract of a run says stands in this function alone, not in each test.
+pub(super) fn ran<R: Threads + Wait + Sync, G: Gate + Sync, K: Sink + Send>(
+    rt: &R,
+    alloc: Global,
+    plan: &Plan,
+    gate: &G,
+    sink: &mut K,
+) -> Result<Finished, RunError>
+    requires { Fits (plan_of plan.now) }
+{
+    match run_plan(rt, alloc, plan, gate, sink) {
+        Ok((finished, _)) => Ok(finished),
+        Err(error) => Err(error),
     }
 }

@@ -1,8 +1,7 @@
 //! Each segment comes to the gate once.
 
-use super::cases::{Case, MOVES, plan_for};
+use super::cases::{Case, MOVES, plan_for, ran};
 use super::wants::hall;
-use host_workers::run_plan;
 use std::alloc::Global;
 use std::process::Abort;
 use std::sync::Wait;
@@ -51,7 +50,7 @@ fn counts<R: Threads + Wait + Sync + Abort>(
         in_hall: AtomicU64::new(0),
     };
     let mut sink = MemSink::new(alloc, 1000, 100, Seq::new(alloc))?;
-    assert!(rt; run_plan(rt, alloc, &plan, &gate, &mut sink).is_ok());
+    assert!(rt; ran(rt, alloc, &plan, &gate, &mut sink).is_ok());
     assert_eq!(rt; gate.all.load(Ordering::SeqCst), 14);
     assert_eq!(rt; gate.last.load(Ordering::SeqCst), 6);
     assert_eq!(rt; gate.in_hall.load(Ordering::SeqCst), 3);

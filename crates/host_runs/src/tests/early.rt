@@ -4,8 +4,7 @@ ghost use Rattle.std.specs.Prelude.{◌≡◌, ◌<◌, ◌≤◌, length, None,
 ghost use Rattle.std.specs.Io.KnownBytes.{WriteAppends};
 ghost use Rattle.wave_io.specs.Causes.{HasCause};
 
-use super::cases::{Case, plan_for};
-use host_workers::run_plan;
+use super::cases::{Case, plan_for, ran};
 use std::alloc::Global;
 use std::process::Abort;
 use std::sync::Wait;
@@ -72,7 +71,7 @@ fn too_late<R: Threads + Wait + Sync + Abort>(rt: &R, alloc: Global, script: &st
         too_late: AtomicU64::new(0),
     };
     let mut sink = Telling { taken: &taken };
-    if run_plan(rt, alloc, &plan, &gate, &mut sink).is_err() {
+    if ran(rt, alloc, &plan, &gate, &mut sink).is_err() {
         panic!(rt; "no run");
     }
     gate.too_late.load(Ordering::SeqCst)

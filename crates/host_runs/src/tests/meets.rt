@@ -1,8 +1,7 @@
 //! Two segments are out at once, where they may be.
 
-use super::cases::{Case, plan_for};
+use super::cases::{Case, plan_for, ran};
 use super::wants::{hall, stall};
-use host_workers::run_plan;
 use std::alloc::Global;
 use std::hint::spin_loop;
 use std::process::Abort;
@@ -68,7 +67,7 @@ fn missed<R: Threads + Wait + Sync + Abort>(
         missed: AtomicU64::new(0),
     };
     let mut sink = MemSink::new(alloc, 1000, 100, Seq::new(alloc))?;
-    assert!(rt; run_plan(rt, alloc, &plan, &gate, &mut sink).is_ok());
+    assert!(rt; ran(rt, alloc, &plan, &gate, &mut sink).is_ok());
     Ok(gate.missed.load(Ordering::SeqCst))
 }
 

@@ -1,8 +1,8 @@
 //! Runs with their listings, by one worker and by many.
 
-use super::cases::{Case, MOVES, plan_for};
+use super::cases::{Case, MOVES, plan_for, ran};
 use super::wants::{has_a_front, has_written};
-use host_workers::{RunError, run_plan};
+use host_workers::RunError;
 use listing_out::write_end;
 use std::alloc::Global;
 use std::process::Abort;
@@ -41,8 +41,8 @@ fn lists<R: Threads + Wait + Sync + Abort>(
 ) -> Result<(), OutOfMemory> {
     let plan = plan_for(rt, alloc, case);
     let mut sink = MemSink::new(alloc, 10_000, 5, Seq::new(alloc))?;
-    match run_plan(rt, alloc, &plan, &OpenGate, &mut sink) {
-        Ok((finished, _)) => write_places(rt, alloc, &plan, &finished, &mut sink),
+    match ran(rt, alloc, &plan, &OpenGate, &mut sink) {
+        Ok(finished) => write_places(rt, alloc, &plan, &finished, &mut sink),
         Err(_) => panic!(rt; "no run"),
     }
     has_written(rt, &sink, listing);
@@ -119,7 +119,7 @@ fn fails<R: Threads + Wait + Sync + Abort>(
 ) -> Result<(), OutOfMemory> {
     let plan = plan_for(rt, alloc, case);
     let mut sink = MemSink::new(alloc, 6, 4, Seq::new(alloc))?;
-    match run_plan(rt, alloc, &plan, &OpenGate, &mut sink) {
+    match ran(rt, alloc, &plan, &OpenGate, &mut sink) {
         Err(RunError::WriteFault) => {}
         _ => panic!(rt; "no fault"),
     }
@@ -150,7 +150,7 @@ fn one_worker_writes_a_front(rt: HostRuntime) -> Result<(), Fail> {
     let alloc = rt.alloc();
     let plan = plan_for(&rt, alloc, &moves(1));
     let mut sink = MemSink::new(alloc, 1000, 100, Seq::new(alloc))?;
-    match run_plan(&rt, alloc, &plan, &OpenGate, &mut sink) {
+    match ran(&rt, alloc, &plan, &OpenGate, &mut sink) {
         Ok(_) => has_written(&rt, &sink, MOVED_LINES),
         Err(RunError::OutOfMemory(_)) => has_a_front(&rt, &sink, MOVED_LINES),
         Err(RunError::WriteFault) => panic!(rt; "a fault"),
