@@ -1,6 +1,6 @@
 //! Checkpoints: a run whose point is saved, and runs that go on from one.
 
-use super::rows::{Row, holds, plain, ran_on};
+use super::rows::{Row, holds, joined, plain, ran_on};
 use super::services::{CHAIN, MARKET};
 use std::alloc::Global;
 use std::process::Abort;
@@ -34,13 +34,16 @@ const NEXT_SALE: &[u8] = b"request buy(1,2,4)\n";
 
 const NEXT_LISTED: &[u8] = b"#2 buy = 6\n#2 send \"till\" 7\ndone 2\n";
 
-// A service and parts behind it, each behind a line of dashes.
-fn parted(alloc: Global, service: &[u8], parts: &[&[u8]]) -> Result<Vec<u8>, OutOfMemory> {
-    let mut input = Vec::from_slice(alloc, service)?;
-    for part in parts {
-        input.extend_from_slice(b"----\n")?;
-        input.extend_from_slice(part)?;
-    }
+// A service, a point behind a line of dashes, and a script behind another.
+fn with_point(
+    alloc: Global,
+    service: &[u8],
+    point: &[u8],
+    script: &[u8],
+) -> Result<Vec<u8>, OutOfMemory> {
+    let mut input = joined(alloc, service, point)?;
+    input.extend_from_slice(b"----\n")?;
+    input.extend_from_slice(script)?;
     Ok(input)
 }
 
@@ -61,7 +64,7 @@ fn point(alloc: Global) -> Result<Vec<u8>, OutOfMemory> {
 fn a_point_is_saved(rt: HostRuntime) -> Result<(), Fail> {
     let alloc = rt.alloc();
     let saved = point(alloc)?;
-    let input = parted(alloc, MARKET, &[SALE])?;
+    let input = joined(alloc, MARKET, SALE)?;
     for words in ["save", "save --workers 1", "save --workers 16"] {
         holds(
             &rt,
@@ -69,14 +72,14 @@ fn a_point_is_saved(rt: HostRuntime) -> Result<(), Fail> {
             &plain(words, input.as_slice(), 0, saved.as_slice(), b""),
         )?;
     }
-    let none = parted(alloc, MARKET, &[b""])?;
+    let none = joined(alloc, MARKET, b"")?;
     let first =
         b"checkpoint 1\nhosts 1 lines 0 next 1\nclasses 3\nclass Market - seen:int\nclass Hall Market count:int\nclass Stall Hall stock:int\nsnapshot 1\nat / seen=0\nplace / 0\nend\n";
     holds(&rt, alloc, &plain("save", none.as_slice(), 0, first, b""))?;
-    let moved = parted(
+    let moved = joined(
         alloc,
         CHAIN,
-        &[b"hosts 3\nmove / to 2\nrequest two()\nsnapshot\n"],
+        b"hosts 3\nmove / to 2\nrequest two()\nsnapshot\n",
     )?;
     let behind =
         b"checkpoint 1\nhosts 3 lines 3 next 6\nclasses 1\nclass Chain - n:int\nsnapshot 1\nat / n=21\nplace / 2\nend\n";
@@ -88,12 +91,12 @@ fn a_point_is_saved(rt: HostRuntime) -> Result<(), Fail> {
 fn a_point_is_saved_where_an_event_traps(rt: HostRuntime) -> Result<(), Fail> {
     let alloc = rt.alloc();
     let service = b"service T { var n: int = 1; event e() { here { n = 5; require n < 0; } } }\n";
-    let input = parted(alloc, service, &[b"request e()\n"])?;
+    let input = joined(alloc, service, b"request e()\n")?;
     let saved =
         b"checkpoint 1\nhosts 1 lines 1 next 2\nclasses 1\nclass T - n:int\nsnapshot 1\nat / n=5\nplace / 0\nend\n";
     holds(&rt, alloc, &plain("save", input.as_slice(), 1, saved, b""))?;
     // the run that goes on traps nowhere
-    let resumed = parted(alloc, service, &[saved, b"snapshot\n"])?;
+    let resumed = with_point(alloc, service, saved, b"snapshot\n")?;
     let listed = b"#2 snapshot 1\n#2 at / n=5\ndone 2\n";
     holds(
         &rt,
@@ -107,7 +110,7 @@ fn a_point_is_saved_where_an_event_traps(rt: HostRuntime) -> Result<(), Fail> {
 fn a_run_goes_on(rt: HostRuntime) -> Result<(), Fail> {
     let alloc = rt.alloc();
     let saved = point(alloc)?;
-    let input = parted(alloc, MARKET, &[saved.as_slice(), NEXT_SALE])?;
+    let input = with_point(alloc, MARKET, saved.as_slice(), NEXT_SALE)?;
     for words in [
         "resume",
         "resume --workers 1",
@@ -126,7 +129,7 @@ fn a_run_goes_on(rt: HostRuntime) -> Result<(), Fail> {
     for words in ["resume --map", "resume --schedule 5 --map"] {
         holds(&rt, alloc, &plain(words, input.as_slice(), 0, places, b""))?;
     }
-    let none = parted(alloc, MARKET, &[saved.as_slice(), b""])?;
+    let none = with_point(alloc, MARKET, saved.as_slice(), b"")?;
     holds(
         &rt,
         alloc,
@@ -160,11 +163,11 @@ fn a_point_is_refused(rt: HostRuntime) -> Result<(), Fail> {
     let alloc = rt.alloc();
     for (place, line, note) in WRONG {
         let wrong = point_with(alloc, place, line)?;
-        let input = parted(alloc, MARKET, &[wrong.as_slice(), b"nonsense\n"])?;
+        let input = with_point(alloc, MARKET, wrong.as_slice(), b"nonsense\n")?;
         holds(&rt, alloc, &plain("resume", input.as_slice(), 8, b"", note))?;
     }
     let longer = point_with(alloc, 14, b"end\n\n")?;
-    let input = parted(alloc, MARKET, &[longer.as_slice(), b""])?;
+    let input = with_point(alloc, MARKET, longer.as_slice(), b"")?;
     holds(
         &rt,
         alloc,
@@ -177,19 +180,19 @@ fn a_point_is_refused(rt: HostRuntime) -> Result<(), Fail> {
 fn refusals_of_a_resumed_script_in_order(rt: HostRuntime) -> Result<(), Fail> {
     let alloc = rt.alloc();
     let saved = point(alloc)?;
-    let two = parted(alloc, MARKET, &[SALE])?;
+    let two = joined(alloc, MARKET, SALE)?;
     holds(
         &rt,
         alloc,
         &plain("resume", two.as_slice(), 3, b"", b"NoScript\n"),
     )?;
-    let late = parted(alloc, MARKET, &[saved.as_slice(), b"hosts 1\n"])?;
+    let late = with_point(alloc, MARKET, saved.as_slice(), b"hosts 1\n")?;
     holds(
         &rt,
         alloc,
         &plain("resume", late.as_slice(), 4, b"", b"S7 HostsLate line 1\n"),
     )?;
-    let dashes = parted(alloc, MARKET, &[saved.as_slice(), b"snapshot\n", b""])?;
+    let dashes = with_point(alloc, MARKET, saved.as_slice(), b"snapshot\n----\n")?;
     holds(
         &rt,
         alloc,
@@ -202,14 +205,14 @@ fn refusals_of_a_resumed_script_in_order(rt: HostRuntime) -> Result<(), Fail> {
         ),
     )?;
     let most = point_with(alloc, 2, b"hosts 1 lines 3999 next 2\n")?;
-    let many = parted(alloc, MARKET, &[most.as_slice(), b"snapshot\nsnapshot\n"])?;
+    let many = with_point(alloc, MARKET, most.as_slice(), b"snapshot\nsnapshot\n")?;
     holds(
         &rt,
         alloc,
         &plain("resume", many.as_slice(), 4, b"", b"S8 TooMany line 2\n"),
     )?;
     let long = Vec::from_elem(alloc, b' ', 1_048_577)?;
-    let large = parted(alloc, MARKET, &[saved.as_slice(), long.as_slice()])?;
+    let large = with_point(alloc, MARKET, saved.as_slice(), long.as_slice())?;
     let row = plain("resume", large.as_slice(), 4, b"", b"TooLarge script\n");
     assert_eq!(rt;
         ran_on(&rt, alloc, row.words, row.input, &OpenGate)?.0,
@@ -254,9 +257,9 @@ fn fails_at_each<R: Abort + Threads + Wait + Sync>(
 fn each_read_and_each_write_of_a_point_fails(rt: HostRuntime) -> Result<(), Fail> {
     let alloc = rt.alloc();
     let saved = point(alloc)?;
-    let first = parted(alloc, MARKET, &[SALE])?;
+    let first = joined(alloc, MARKET, SALE)?;
     fails_at_each(&rt, alloc, "save", first.as_slice(), saved.as_slice())?;
-    let second = parted(alloc, MARKET, &[saved.as_slice(), b""])?;
+    let second = with_point(alloc, MARKET, saved.as_slice(), b"")?;
     fails_at_each(&rt, alloc, "resume", second.as_slice(), b"done 1\n")?;
     Ok(())
 }
@@ -271,11 +274,11 @@ fn two_halves_are_the_whole(rt: HostRuntime) -> Result<(), Fail> {
     let mut both = Vec::from_slice(alloc, one)?;
     both.extend_from_slice(b"settle\n")?;
     both.extend_from_slice(other)?;
-    let whole = parted(alloc, MARKET, &[both.as_slice()])?;
+    let whole = joined(alloc, MARKET, both.as_slice())?;
     let (_, listed) = ran_on(&rt, alloc, "run --map", whole.as_slice(), &OpenGate)?;
-    let first = parted(alloc, MARKET, &[one])?;
+    let first = joined(alloc, MARKET, one)?;
     let (_, saved) = ran_on(&rt, alloc, "save", first.as_slice(), &OpenGate)?;
-    let second = parted(alloc, MARKET, &[saved.bytes(), other])?;
+    let second = with_point(alloc, MARKET, saved.bytes(), other)?;
     for words in [
         "resume --map",
         "resume --map --workers 1",
