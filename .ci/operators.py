@@ -246,51 +246,55 @@ MAPS = """service Ops 2 {
 """
 
 
-def maps(services):
-    """Maps of fields, locals and above, read between changes at keys that are literals, stored, reckoned, or given by a method."""
-    asked, state = Asked(MAPS), {}
+class Maps(Asked):
+    """The map of the service, as it is after what was asked for."""
 
-    def change(name, *values):
-        ticket, reply = len(asked.script) + 1, None
-        asked.script.append(f"request {name}({', '.join(map(str, values))})")
+    def __init__(self):
+        super().__init__(MAPS)
+        self.map = {}
+
+    def change(self, name, *values):
+        reply, trap = self.map, ""
         if name == "put":
-            state[values[0]] = values[1]
+            self.map[values[0]] = values[1]
         elif name == "cut":
-            state.pop(values[0], None)
+            self.map.pop(values[0], None)
         elif name == "none":
-            state.clear()
+            self.map.clear()
         elif name == "local":
-            reply = {**state, values[0] + 1: values[1]}
+            reply = {**self.map, values[0] + 1: values[1]}
             reply.pop(values[0], None)
-        elif name == "fill":
+        else:
             for i in range(*values):
-                if i not in state and len(state) == 1000:
-                    asked.listing.append(f"#{ticket} fill trap Full at {place(MAPS, 'm[i] = i', 'event fill')}")
-                    return
-                state[i] = i
-            reply = len(state)
-        asked.listing.append(f"#{ticket} {name} = {written(state if reply is None else reply)}")
+                if i not in self.map and len(self.map) == 1000:
+                    trap = f"trap Full at {place(MAPS, 'm[i] = i', 'event fill')}"
+                    break
+                self.map[i] = i
+            reply = len(self.map)
+        self.script.append(f"request {name}({', '.join(map(str, values))})")
+        self.listing.append(f"#{len(self.script)} {name} {trap or '= ' + written(reply)}")
 
-    def look():
+    def look(self):
         for form, function, gives in (("m[{}]", found, "int"), ("has(m, {})", lambda m, k: k in m, "bool"), ("key(m, {})", nth, "int")):
             for k in (LEAST, -1, 0, 1, 2, 5, MOST):
-                read(form, function, gives, k)
-            event = asked.event("p: int", gives, f"reply {form.format('p + 1')};", "p + 1")   # the key traps
-            asked.ask(event, (MOST,), lambda k: whole(k + 1), (MOST,))
+                self.read(form, function, gives, k)
+            event = self.event("p: int", gives, f"reply {form.format('p + 1')};", "p + 1")   # the key traps
+            self.ask(event, (MOST,), lambda k: whole(k + 1), (MOST,))
         for form, function in (("size({})", len), ("sum({})", lambda m: whole(sum(m.values())))):
             for of, body in (("m", "reply {};"), ("l", "here {{ let l = m; }} reply {};"), ("map_(m)", "reply {};"),
                              ("Ops.m", "down Low[0] {{ own = 1; }} reply {};")):
                 text = form.format(of)
-                asked.ask(asked.event("", "int", body.format(text), text), (), function, (dict(state),))
+                self.ask(self.event("", "int", body.format(text), text), (), function, (dict(self.map),))
         for text, value in (("size(empty)", 0), ("sum(empty)", 0), ("has(empty, 1)", False)):
-            asked.ask(asked.event("", kind_of(value), f"reply {text};", text), (), lambda value=value: value, ())
+            self.ask(self.event("", kind_of(value), f"reply {text};", text), (), lambda value=value: value, ())
 
-    def read(form, function, gives, k):
+    def read(self, form, function, gives, k):
+        """The map of a field, a local or above, at a key that is a literal, a parameter, a field, of a method, reckoned, or in the map itself."""
         to = {"int": "ri", "bool": "rb"}[gives]
         for key in (literal(k), "p", "k", "int_(p)", "p + j - 1", "j * p", "m[j]"):
-            if key == "m[j]" and 1 not in state or key == "p + j - 1" and k == MOST:
+            if key == "m[j]" and 1 not in self.map or key == "p + j - 1" and k == MOST:
                 continue
-            row, own = (dict(state), state[1] if key == "m[j]" else k), form.format(key)
+            row, own = (dict(self.map), self.map[1] if key == "m[j]" else k), form.format(key)
             params, arguments, sets = ("", (), "j = 1;") if key == literal(k) else ("p: int", (k,), "k = p; j = 1;")
             local = own.replace("m[", "l[").replace("(m,", "(l,")
             above = own.replace("m[", "Ops.m[").replace("(m,", "(Ops.m,")
@@ -299,26 +303,31 @@ def maps(services):
             if key in ("p", literal(k)):
                 forms.append((f"down Low[0] {{ own = own + 1; }} reply {above};", above))
             for body, expression in forms:
-                asked.ask(asked.event(params, gives, body, expression), arguments, function, row)
-    look()
+                self.ask(self.event(params, gives, body, expression), arguments, function, row)
+
+
+def maps(services):
+    """Maps that are empty, have the least and the greatest numbers, have a sum outside 64 bits on the way or at the end, and are full."""
+    asked = Maps()
+    asked.look()
     for key, value in ((1, 5), (-1, 7), (LEAST, MOST), (MOST, LEAST), (1, 2), (0, 0)):
-        change("put", key, value)
-    change("local", 5, 6)
-    look()
+        asked.change("put", key, value)
+    asked.change("local", 5, 6)
+    asked.look()
     for key, value in ((0, MOST), (2, 1)):
-        change("put", key, value)
-    look()
+        asked.change("put", key, value)
+    asked.look()
     for key in (LEAST, 7, MOST, 0):
-        change("cut", key)
-    change("put", 3, MOST)
-    change("put", -3, MOST)   # the sum leaves 64 bits
-    look()
-    change("none")
-    change("fill", 0, 1000)
-    change("fill", 0, 1001)
-    change("put", 500, -1)
-    change("cut", 999)
-    change("put", MOST, 1)
-    change("fill", 0, 1000)
-    look()
+        asked.change("cut", key)
+    asked.change("put", 3, MOST)
+    asked.change("put", -3, MOST)
+    asked.look()
+    asked.change("none")
+    asked.change("fill", 0, 1000)
+    asked.change("fill", 0, 1001)
+    asked.change("put", 500, -1)
+    asked.change("cut", 999)
+    asked.change("put", MOST, 1)
+    asked.change("fill", 0, 1000)
+    asked.look()
     yield from asked.case("operators of maps", services)

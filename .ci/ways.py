@@ -82,9 +82,9 @@ class Case:
         self.listing, self.half, self.tickets = listing, half, tickets
         self.text = service + "----\n" + lines(*self.first, "settle", *self.second)
 
-    def due(self, behind=0, places=True):
-        """Status and listing of the tickets behind so many, with the places at the end if they are known."""
-        own = [line for line in self.listing if int(line[1:line.index(" ")]) > behind]
+    def due(self, behind=0, until=None, places=True):
+        """Status and listing of the tickets behind so many, up to another one, with the places at the end if they are known."""
+        own = [line for line in self.listing if behind < int(line[1:line.index(" ")]) <= (self.tickets if until is None else until)]
         status = int(any(re.match(r"#\d+ \w+ trap ", line) for line in own))
         return status, lines(*own, *(self.places or [] if places else []), f"done {self.tickets}")
 
@@ -94,9 +94,9 @@ class Case:
 
 def everywhere(case, runs=RUNS, traces=(["trace", "--workers", "4"],), resumes=True):
     """Tasks: the case by each way."""
+    status, out = case.due()
     for words in runs:
-        status, out = case.due()
-        yield lambda words=words + case.map(), status=status, out=out: ends(case.shows, words, case.text, status, "", out)
+        yield lambda words=words + case.map(): ends(case.shows, words, case.text, status, "", out)
     for words in traces:
         yield lambda words=words: traced(case, words)
     if resumes:
@@ -152,9 +152,7 @@ def stands(case, crew, text, steps):
 
 def goes_on(case):
     """What is saved of the first batch and resumed with the second is what one run has behind the first."""
-    text = case.service + "----\n" + lines(*case.first)
-    status = case.due()[0] if case.half == case.tickets else int(any(
-        re.match(r"#\d+ \w+ trap ", line) for line in case.listing if int(line[1:line.index(" ")]) <= case.half))
+    text, (status, _) = case.service + "----\n" + lines(*case.first), case.due(until=case.half)
     _, _, point = call(["save"], text)
     asked = len(re.findall(r"^(?:request|move|snapshot)\b", lines(*case.first), re.M))
     head = re.match(r"checkpoint 1\nhosts (\d) lines (\d+) next (\d+)\n", point)
@@ -266,7 +264,7 @@ def main(names):
             if names and name not in names:
                 continue
             at, calls = time.time(), 0
-            faults = [fault for found_ in pool.map(lambda task: task(), function()) for fault in found_]
+            faults = [fault for faults in pool.map(lambda task: task(), function()) for fault in faults]
             wrong += len(faults)
             all_calls += calls
             print(f"{'FAILED' if faults else 'ok'}: {name}: {shows} ({calls} calls, {time.time() - at:.1f} s)")
