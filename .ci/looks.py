@@ -130,7 +130,7 @@ def looks():
 
 def looked(shows, draw, names, rounds, branches, traces):
     """Rounds of a payment, some looks, and now and then a move."""
-    bank, ranges = Bank(), {"b": branches, "a": 3, "k": 4, "n": 60}
+    bank, ranges = Bank(), {"b": branches, "a": 3, "k": 4, "n": 12}
     for i in range(rounds):
         bank.pay(draw.randrange(branches), draw.randrange(3), draw.randrange(10))
         for name in names(draw):
