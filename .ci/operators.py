@@ -2,7 +2,7 @@
 import itertools
 import re
 
-from ways import LEAST, MOST, Case, call, everywhere, group, lines, place, written
+from ways import LEAST, MOST, Case, batches, call, everywhere, group, lines, place, written
 
 
 # ---- what each gives, or the kind of its trap
@@ -119,7 +119,8 @@ class Asked:
         """Tasks: all that is asked for. The service is kept."""
         service, half = self.front + lines(*self.text, "}"), len(self.script) // 2
         services.add(service)
-        yield from everywhere(Case(shows, service, self.script[:half], self.script[half:], self.listing, half, len(self.script)))
+        first, second = batches(self.script[:half]), batches(self.script[half:])
+        yield from everywhere(Case(shows, service, first, second, self.listing, half, len(self.script)))
 
 
 OPERANDS = """service Ops 2 {

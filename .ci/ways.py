@@ -73,6 +73,11 @@ def lines(*parts):
     return "".join(part + "\n" for part in parts)
 
 
+def batches(script):
+    """A script cut into batches of 400 lines, for what is no matter of how many events are under way."""
+    return [line for i, asked in enumerate(script) for line in ([asked, "settle"] if i % 400 == 399 else [asked])]
+
+
 class Case:
     """A service, what is asked of it in a first batch and behind it, and what is due: the listing without its last line, the places of contexts at the end,
     how many tickets the first batch has, and all tickets."""
