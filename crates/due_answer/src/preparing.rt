@@ -93,12 +93,7 @@ fn ready(alloc: Global, telling: Telling, engine: Engine, input: &[u8]) -> Resul
 }
 
 // A service and a script with policies that are to be run piece by piece by an engine, and listed.
-fn staged(
-    alloc: Global,
-    places: Places,
-    engine: Engine,
-    input: &[u8],
-) -> Result<Prepared, Refusal>
+fn staged(alloc: Global, places: Places, engine: Engine, input: &[u8]) -> Result<Prepared, Refusal>
     ensures { (c : Command) → staged_of c ≡ Some (places, engine) → ((due : Answer) → Only (IsDueElastic places input.now) due → IsToldFor c input.now due) → IsFound c input.now result }
 {
     match accept_elastic(alloc, input) {

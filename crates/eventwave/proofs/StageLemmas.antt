@@ -1,6 +1,7 @@
 -- A script with policies that is run and listed piece by piece: what was written is a front of its listing, and in the end all of it.
-use Rattle.std.proofs.Common.{◌≡◌, ◌∙◌, ℕ, ◌+◌, ◌^◌, ◌≤◌, Bool, true, false, List, [], ◌++◌, length, Option, Some, None, ap, refl, sym, subst}
+use Rattle.std.proofs.Common.{◌≡◌, ◌∙◌, ℕ, ◌+◌, ◌^◌, ◌≤◌, ◌<◌, Bool, true, false, List, [], ◌++◌, length, Option, Some, None, ap, refl, sym, subst}
 use Rattle.std.specs.Prelude.{◌||◌, ◌==◌, if◌then◌else◌, take}
+use Rattle.core.specs.Int.{from_bool}
 use Rattle.std.specs.Io.KnownBytes.{Appends}
 use Rattle.std.proofs.KnownBytes.{Appends-nil, Appends-trans}
 use Rattle.wave_base.specs.declared.finished.Finished.{Finished}
@@ -20,7 +21,7 @@ use Rattle.due_parts.proofs.RunLemmas.{few_nearest, some_nearest}
 use Rattle.due_stages.specs.declared.work.StagedWork.{StagedWork}
 use Rattle.due_stages.specs.Accepted.{CanStage}
 use Rattle.due_stages.specs.Elastic.{listed_of}
-use Rattle.due_stages.specs.Listed.{IsFrontListed, IsListedTo, IsPieceListed, IsWholeListed, end_from, events_from, ran_by, told_as}
+use Rattle.due_stages.specs.Listed.{IsFrontListed, IsListedTo, IsPieceListed, IsWholeListed, end_from, events_from, ran_by, told_as, turns_left}
 use Rattle.due_answer.specs.declared.task.Engine.{Engine}
 use Rattle.due_answer.specs.Tasks.{workers_of}
 use Rattle.eventwave.specs.inner.Engines.{CanMake}
@@ -33,6 +34,10 @@ use Rattle.eventwave.proofs.MadeLemmas.{front_behind, lines_by}
 pub trap_test : (b : Bool) → ((if b then 1 else 0) == 1) ≡ b
 trap_test true = refl
 trap_test false = refl
+
+pub status_is : (b : Bool) → from_bool b ≡ (if b then 1 else 0)
+status_is true = refl
+status_is false = refl
 
 -- ---- the script of which no piece was run
 
@@ -105,13 +110,16 @@ module _ (work : StagedWork) where
       pub its_workers : plan.workers ≡ nearest_workers (workers_of engine)
       its_workers = ap (λ (p : Plan). p.workers) made
 
-      pub can_make_it : (start : Start) → start ≡ now.start → CanMake work.service plan start
-      can_make_it start from = subst (CanMake work.service plan) (sym (from ∙ start_is)) (subst (λ p. CanMake work.service p s.start) (sym plan_is) (record {
+      can_piece : CanMake work.service (piece_plan work.program script engine) s.start
+      can_piece = record {
         code = piece.code;
         fits = piece.fits (nearest_workers (workers_of engine)) (some_nearest (workers_of engine)) (few_nearest (workers_of engine));
         begins = piece.begins;
         few = piece.few;
-      }))
+      }
+
+      pub can_make_it : (start : Start) → start ≡ now.start → CanMake work.service plan start
+      can_make_it start from = subst (CanMake work.service plan) (sym (from ∙ start_is)) (subst (λ (p : Plan). CanMake work.service p s.start) (sym plan_is) can_piece)
 
       same_ran : ran_by plan.program now.start plan.script ≡ ran_by work.program s.start script
       same_ran = λ i. ran_by (plan_is i).program (start_is i) (plan_is i).script
@@ -121,6 +129,10 @@ module _ (work : StagedWork) where
 
       same_events : (start : Start) → start ≡ now.start → lines_by plan start ≡ events_from work.program.shape s.start.next.0 (ran_by work.program s.start script)
       same_events start from = λ i. lines_by (plan_is i) ((from ∙ start_is) i)
+
+      -- fewer turns are left
+      pub fewer_turns : (after : Staged) → after ≡ staged_after now (ran_by plan.program now.start plan.script) → turns_left after < turns_left s
+      fewer_turns after is = subst (λ (x : Staged). turns_left x < turns_left s) (sym (is ∙ ap (λ (x : Staged). staged_after x (ran_by plan.program now.start plan.script)) behind)) piece.less
 
       -- where it broke off, what was written is a front of the listing
       pub piece_front : (places : Places) (start : Start) (new : Option (List ℕ)) → PiecesAreFronts → start ≡ now.start → AppendsFront mid new (lines_by plan start) → AppendsFront old new (listing_of work places).text

@@ -359,12 +359,13 @@ fn each_write_of_a_script_with_policies_fails(rt: HostRuntime) -> Result<(), Fai
     let alloc = rt.alloc();
     let input = joined(alloc, BALANCED.service, BALANCED.script)?;
     let whole = listed(alloc, &BALANCED, BALANCED.places)?;
+    let note: &[u8] = b"WriteFault\n";
     for (_, words) in ENGINES {
         let mut written = 0;
         for failing_write in 1..(whole.len() as u64).div_ceil(16) + 1 {
             let (status, out, notes) = broken(&rt, alloc, words, input.as_slice(), failing_write)?;
             assert_eq!(rt; status, 6);
-            assert_eq!(rt; notes.bytes(), b"WriteFault\n");
+            assert_eq!(rt; notes.bytes(), note);
             assert!(rt; whole.as_slice().starts_with(out.bytes()));
             assert!(rt; failing_write == 1 || out.bytes().len() > written);
             written = out.bytes().len();
