@@ -3,6 +3,7 @@ pub mod NameLemmas
 pub mod DueLemmas
 pub mod AcceptLemmas
 pub mod RunLemmas
+pub mod PartLemmas
 pub mod PathLemmas
 pub mod PointLemmas
 pub mod WorkLemmas

@@ -2,4 +2,3 @@ pub mod AcceptLemmas
 pub mod HostLemmas
 pub mod LawLemmas
 pub mod ListedLemmas
-pub mod PartLemmas

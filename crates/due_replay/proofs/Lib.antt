@@ -1,4 +1,3 @@
 pub mod DueLemmas
-pub mod PartLemmas
 pub mod ReplayLemmas
 pub mod TreeLemmas
