@@ -17,7 +17,8 @@ use Rattle.type_rules.specs.declared.error.TypeError.{TypeError}
 use Rattle.type_rules.specs.Demands.{first_wrong}
 use Rattle.type_rules.specs.Services.{service_demands}
 use Rattle.type_rules.specs.Known.{shape_of}
-use Rattle.wave_meaning.specs.Meaning.{results_at}
+use Rattle.wave_meaning.specs.Meaning.{results_at, results_of}
+use Rattle.elastic_meaning.specs.Walks.{expanded}
 use Rattle.wave_labels.specs.declared.label.Label.{Label}
 use Rattle.wave_gen.specs.Load.{load_text}
 use Rattle.checkpoint_store.specs.declared.error.CheckError.{CheckError}
@@ -108,7 +109,7 @@ scripted telling bytes due =
 -- ---- scripts with policies
 
 expansion : (places : Places) (tree : ServiceTree) (e : Elastic) (due : Answer) → IsDueExpansion places tree e due → HasOwn due
-expansion places tree e due h = of_answer due _ h.due_is (by_traps _)
+expansion places tree e due h = of_answer due _ h.due_is (by_traps (any_trap (results_of (shape_of tree) h.service (expanded (shape_of tree) h.service e)).results))
 
 elastic_read : (P : Elastic → Answer → Type 0) (r : Result Elastic ScriptError) (due : Answer) → ((e : Elastic) → P e due → HasOwn due) → IsDueElasticRead P r due → HasOwn due
 elastic_read P (Err e) due f h = of_answer due _ h refl
