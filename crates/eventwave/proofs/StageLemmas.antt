@@ -1,7 +1,7 @@
 -- A script with policies that is run and listed piece by piece: what was written is a front of its listing, and in the end all of it.
 use Rattle.std.proofs.Common.{◌≡◌, ◌∙◌, ℕ, ◌+◌, ◌^◌, ◌≤◌, ◌<◌, Bool, true, false, List, [], ◌++◌, length, Option, Some, None, ap, refl, sym, subst}
 use Rattle.std.specs.Prelude.{◌||◌, ◌==◌, if◌then◌else◌, take}
-use Rattle.core.specs.Int.{from_bool}
+use mir.Val.{bool_byte as from_bool}
 use Rattle.std.specs.Io.KnownBytes.{Appends}
 use Rattle.std.proofs.KnownBytes.{Appends-nil, Appends-trans}
 use Rattle.wave_base.specs.declared.finished.Finished.{Finished}

@@ -1,7 +1,7 @@
 //! Scripts with policies, run piece by piece and listed: the lines of each piece are written before the next one is known, and behind the last what
 //! ends a listing.
 
-ghost use Rattle.std.specs.Prelude.{◌≡◌, ◌≤◌, option_copied, IfOk, IsErrOf, OnErr, OnOk};
+ghost use Rattle.std.specs.Prelude.{◌≡◌, ◌≤◌, option_copied, true, false, IfOk, IsErrOf, OnErr, OnOk};
 ghost use Rattle.std.specs.Io.KnownBytes.{Appends};
 ghost use Rattle.wave_io.specs.Causes.{Rose};
 ghost use Rattle.wave_io.specs.Streams.{AppendsFront};
@@ -56,7 +56,7 @@ pub fn stage_together<R: Threads + Wait + Sync, K: Sink + Send, G: Gate + Sync>(
     work: StagedWork,
     out: &mut K,
 ) -> Ending
-    requires { IsStagedBy true places engine work }
+    requires staged { IsStagedBy true places engine work }
     ensures gave { SomeGave (λ a. a ≡ listing_of work places) (K.written out.old) (K.written out.new) result }
     ensures fault { result ≡ Ending.WriteFault → Rose (K.faults out.old) (K.faults out.new) }
 {
@@ -83,17 +83,17 @@ fn list_alone<K: Sink>(
     pieces_are_listed();
     let StagedWork {
         service,
-        mut program,
+        program: mut code,
         mut stages,
     } = work;
     let mut trapped = false;
     while let Some(script) = stages.next(alloc)? {
-        let plan = piece_plan(program, script, engine);
+        let plan = piece_plan(code, script, engine);
         let made = run_alone(alloc, engine, &service, &plan, stages.start(), out)?;
         trapped |= go_on(engine, &plan, made, &mut stages);
-        program = plan.program;
+        code = plan.program;
     }
-    write_behind(alloc, places, &program.program().shape, stages.start(), out)?;
+    write_behind(alloc, places, &code.program().shape, stages.start(), out)?;
     Ok(u8::from(trapped))
 }
 
@@ -114,20 +114,20 @@ fn list_together<R: Threads + Wait + Sync, K: Sink + Send, G: Gate + Sync>(
     pieces_are_listed();
     let StagedWork {
         service: _,
-        mut program,
+        program: mut code,
         mut stages,
     } = work;
     let mut trapped = false;
     while let Some(script) = stages.next(team.alloc)? {
-        let plan = piece_plan(program, script, engine);
+        let plan = piece_plan(code, script, engine);
         let made = run_together(team, &plan, stages.start(), out)?;
         trapped |= go_on(engine, &plan, made, &mut stages);
-        program = plan.program;
+        code = plan.program;
     }
     write_behind(
         team.alloc,
         places,
-        &program.program().shape,
+        &code.program().shape,
         stages.start(),
         out,
     )?;

@@ -41,6 +41,6 @@ abbrev pub piece_plan : Program → Script → Engine → Plan
 piece_plan program script engine = record { program = program; script = script; workers = nearest_workers (workers_of engine) }
 
 -- the engine made this of its plan, from there
-pub record IsPieceMade (engine : Engine) (plan : Plan) (start : Start) (made : Made) : Type 0 where
+pub record IsPieceMade (engine : Engine) (plan : Plan) (start : Start) (it : Made) : Type 0 where
   pub workers : plan.workers ≡ nearest_workers (workers_of engine)
-  pub made : IsMade engine plan start made
+  pub made : IsMade engine plan start it

@@ -1,8 +1,7 @@
 //! Scripts with policies, which are run piece by piece.
 
-use super::rows::{Case, all_hold, bytes, calls, holds, joined, plain, refuses, words};
+use super::rows::{Case, all_hold, bytes, call, calls, holds, joined, plain, refuses, words};
 use super::services::{CHAIN, EDGE, MARKET};
-use eventwave::eventwave;
 use std::alloc::Global;
 use std::process::Abort;
 use std::sync::Wait;
@@ -294,6 +293,16 @@ const WRONG: [(&[u8], &[u8]); 11] = [
     (b"drain 0 to 1\n", b"S6 HostRange line 1\n"),
 ];
 
+// A script for the market is refused so.
+fn is_refused<R: Abort + Threads + Wait + Sync>(
+    rt: &R,
+    alloc: Global,
+    script: &[u8],
+    note: &[u8],
+) -> Result<(), Fail> {
+    all_hold(rt, alloc, &[refuses(MARKET, script, note)])
+}
+
 #[test]
 fn policies_are_refused_in_order(rt: HostRuntime) -> Result<(), Fail> {
     let alloc = rt.alloc();
@@ -314,14 +323,8 @@ fn policies_are_refused_in_order(rt: HostRuntime) -> Result<(), Fail> {
     late.extend_from_slice(b"snapshot\nbalance by 0\n")?;
     let mut counted = many;
     counted.extend_from_slice(b"settle\nbalance by 1\nsnapshot\n")?;
-    all_hold(
-        &rt,
-        alloc,
-        &[
-            refuses(MARKET, late.as_slice(), b"S8 TooMany line 4001\n"),
-            refuses(MARKET, counted.as_slice(), b"S8 TooMany line 4002\n"),
-        ],
-    )?;
+    is_refused(&rt, alloc, late.as_slice(), b"S8 TooMany line 4001\n")?;
+    is_refused(&rt, alloc, counted.as_slice(), b"S8 TooMany line 4002\n")?;
     // no other command knows them
     let unknown = refuses(MARKET, b"balance by 1\n", b"S1 UnknownCommand line 1\n");
     for words in ["trace", "save"] {
@@ -342,7 +345,7 @@ fn broken<R: Threads + Wait + Sync>(
     let mut source = MemSource::new(bytes(alloc, input)?, 4096, Seq::new(alloc));
     let mut out = MemSink::new(alloc, 10_000, 16, calls(alloc, &[failing_write])?)?;
     let mut notes = MemSink::new(alloc, 100, 100, Seq::new(alloc))?;
-    let status = eventwave(
+    let status = call(
         rt,
         alloc,
         &words,

@@ -13,7 +13,7 @@ pub returns-clause-trapped : goal.returns-clause-trapped
 returns-clause-trapped c =
     let done : Finished = c.args.made.done in
     let same : any_trap c.as_slice.result.now ≡ any_trap done.results = ap any_trap c.as_slice.ensures in
-    ap (λ n. n == 1) c.status_of.ensures ∙ trap_test _ ∙ same ∙ ap (λ (f : Finished). any_trap f.results) c.requires.made.made.done
+    ap (λ n. n == 1) c.status_of-trapped.ensures ∙ trap_test _ ∙ same ∙ ap (λ (f : Finished). any_trap f.results) c.requires.made.made.done
 
 pub returns-clause-after : goal.returns-clause-after
 returns-clause-after c = c.after.ensures.after ∙ ap (staged_after c.args.stages.now) c.requires.made.made.done

@@ -1,5 +1,6 @@
 use Rattle.std.proofs.Common.{◌≡◌, ◌∙◌, Err, ap, refl, subst, sym}
 use Rattle.due_parts.specs.declared.answer.Answer.{Answer}
+use Rattle.eventwave.specs.declared.ending.Ending.TheVariants.{Answered}
 use Rattle.eventwave.specs.inner.Parts.{SomeGave, broken_off}
 use Rattle.eventwave.specs.inner.Stages.{listing_of}
 use Rattle.eventwave.proofs.GivingLemmas.{broken_gave, broken_write, gives_it}
@@ -8,7 +9,7 @@ use Rattle.eventwave.proofs.staged.stage_together.Goals as goal
 pub returns-in-Ok-clause-gave : goal.returns-in-Ok-clause-gave
 returns-in-Ok-clause-gave g c =
     let whole = listing_of c.args.work c.args.places in
-    gives_it _ _ (λ (a : Answer). a ≡ whole) whole _ refl (c.in-Ok.ensures.status, c.new.ensures, c.in-Ok.ensures.lines)
+    gives_it _ _ (λ (a : Answer). a ≡ whole) whole (Answered c.in-Ok.status c.new.result) refl (c.in-Ok.ensures.status, c.new.ensures, c.in-Ok.ensures.lines)
 
 pub returns-in-Err-clause-gave : goal.returns-in-Err-clause-gave
 returns-in-Err-clause-gave g c =

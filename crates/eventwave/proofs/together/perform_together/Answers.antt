@@ -15,8 +15,8 @@ run_task-requires-clause-done g c κs within =
     let run = subst (IsPrepared c.args.command prepared.bytes) c.in-Ok-Run.field-0-is prepared.prepared in
     record { command = c.args.command; who = c.requires; asked = run.asked; can_run = run.can_run; saved = run.saved }
 
-pub stage_together-requires : goal.stage_together-requires
-stage_together-requires g c κs within =
+pub stage_together-requires-clause-staged : goal.stage_together-requires-clause-staged
+stage_together-requires-clause-staged g c κs within =
     let prepared = c.in-Ok-Stages.ensures.prepared in
     let staged = subst (IsPrepared c.args.command prepared.bytes) c.in-Ok-Stages.field-0-is prepared.prepared in
     record { command = c.args.command; who = c.requires; asked = staged.asked; can = can_be_staged staged.elastic c.in-Ok-Stages.work staged.can }
