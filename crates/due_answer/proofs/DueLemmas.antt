@@ -22,6 +22,7 @@ use Rattle.due_parts.specs.Served.{IsTypedTree}
 use Rattle.due_parts.specs.Services.{IsDueService}
 use Rattle.due_parts.proofs.DueLemmas.{sized_long}
 use Rattle.due_points.specs.Resumed.{IsDueResumed}
+use Rattle.due_stages.specs.Elastic.{IsDueElastic}
 use Rattle.due_replay.specs.Replayed.{IsDueReplayed}
 use Rattle.due_answer.specs.Due.{IsDue, IsListedCode, IsOnlyDue, IsPrinted, IsToldFor, approved}
 
@@ -34,8 +35,8 @@ only_listed tree typed program t c = record {
 
 -- a command that reads its input is told so where there is too much of it
 pub only_too_large : (c : Command) (bytes : List ℕ) → reads_input c ≡ true → input_bytes c < length bytes → IsOnlyDue c bytes too_large_input
-only_too_large (Run places crew) bytes reads long = sized_long INPUT_BYTES (IsDueScripted (Reports (Listing places))) bytes long
-only_too_large (Seq places) bytes reads long = sized_long INPUT_BYTES (IsDueScripted (Reports (Listing places))) bytes long
+only_too_large (Run places crew) bytes reads long = sized_long INPUT_BYTES (IsDueElastic places) bytes long
+only_too_large (Seq places) bytes reads long = sized_long INPUT_BYTES (IsDueElastic places) bytes long
 only_too_large (Trace places crew) bytes reads long = sized_long INPUT_BYTES (IsDueScripted (Traces places crew)) bytes long
 only_too_large (Save crew) bytes reads long = sized_long INPUT_BYTES (IsDueScripted (Reports Point)) bytes long
 only_too_large (Resume places crew) bytes reads long = sized_long LONG_INPUT_BYTES (IsDueResumed (Reports (Listing places))) bytes long

@@ -22,13 +22,16 @@ use Rattle.due_parts.specs.Served.{IsServed}
 use Rattle.due_parts.specs.Services.{IsDueService}
 use Rattle.due_parts.proofs.DueLemmas.{refused_served, sized_fine}
 use Rattle.due_points.specs.Resumed.{IsDueResumed}
+use Rattle.due_stages.specs.declared.work.StagedWork.{StagedWork}
+use Rattle.due_stages.specs.Accepted.{IsAcceptedElastic}
+use Rattle.due_stages.specs.Elastic.{IsDueElastic, listed_of}
 use Rattle.due_answer.specs.declared.prepared.Prepared.{Prepared}
-use Rattle.due_answer.specs.declared.prepared.Prepared.TheVariants.{Given, Run}
+use Rattle.due_answer.specs.declared.prepared.Prepared.TheVariants.{Given, Run, Stages}
 use Rattle.due_answer.specs.declared.task.Engine.{Engine}
 use Rattle.due_answer.specs.declared.task.Task.{Task}
 use Rattle.due_answer.specs.Due.{IsToldFor}
 use Rattle.due_answer.specs.Prepared.{IsFound, Tells, given}
-use Rattle.due_answer.specs.Tasks.{engine_of, task_of}
+use Rattle.due_answer.specs.Tasks.{engine_of, staged_of, task_of}
 use Rattle.due_answer.specs.inner.Ready.{AreReady}
 
 module _ (c : Command) (bytes : List ℕ) where
@@ -52,6 +55,7 @@ module _ (c : Command) (bytes : List ℕ) where
   pub reported_found : (text : List ℕ) (report : Report) (engine : Engine) (r : Result Prepared Refusal) → task_of c ≡ Some (record { telling = Reports report; engine = engine })
       → ((due : Answer) → Only (IsDueScripted (Reports report) text) due → IsToldFor c bytes due) → AreReady (Reports report) engine text r → IsFound c bytes r
   reported_found text report engine (Ok (Given answer)) asked lift h = absurd h
+  reported_found text report engine (Ok (Stages places by work)) asked lift h = absurd h
   reported_found text report engine (Ok (Run task work)) asked lift h = record {
     asked = asked ∙ ap Some (sym h.task_is);
     can_run = h.ready.can_run;
@@ -65,6 +69,7 @@ module _ (c : Command) (bytes : List ℕ) where
   pub traced_found : (places : Places) (crew : Crew) (engine : Engine) (r : Result Prepared Refusal) → task_of c ≡ Some (record { telling = Traces places crew; engine = engine })
       → ((due : Answer) → IsDueScripted (Traces places crew) bytes due → IsToldFor c bytes due) → AreReady (Traces places crew) engine bytes r → IsFound c bytes r
   traced_found places crew engine (Ok (Given answer)) asked also h = absurd h
+  traced_found places crew engine (Ok (Stages places' by work)) asked also h = absurd h
   traced_found places crew engine (Ok (Run task work)) asked also h = record {
     asked = asked ∙ ap Some (sym h.task_is);
     can_run = h.ready.can_run;
@@ -73,6 +78,21 @@ module _ (c : Command) (bytes : List ℕ) where
   }
   traced_found places crew engine (Err (Due answer)) asked also h = also answer h.is_due
   traced_found places crew engine (Err (OutOfMemory refused)) asked also h = tt
+
+  -- a script with policies that is listed
+  pub staged_found : (places : Places) (engine : Engine) (work : StagedWork) → staged_of c ≡ Some (places, engine) → ((due : Answer) → Only (IsDueElastic places bytes) due → IsToldFor c bytes due)
+      → IsAcceptedElastic bytes (Ok work) → IsFound c bytes (Ok (Stages places engine work))
+  staged_found places engine work asked lift h = record {
+    asked = asked;
+    elastic = h.elastic;
+    can = h.can;
+    due = λ a is. subst (IsToldFor c bytes) (sym is) (lift (listed_of work.program.shape work.service h.elastic places) (h.due places));
+  }
+
+  -- and a refusal of it
+  pub staged_refused : (places : Places) (refusal : Refusal) → ((due : Answer) → Only (IsDueElastic places bytes) due → IsToldFor c bytes due) → IsAcceptedElastic bytes (Err refusal) → IsFound c bytes (Err refusal)
+  staged_refused places (Due answer) lift h = lift answer (h places)
+  staged_refused places (OutOfMemory refused) lift h = tt
 
 -- ---- the parts of a command
 

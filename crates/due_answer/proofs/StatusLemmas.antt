@@ -10,13 +10,15 @@ use Rattle.mace_ast.specs.Decls.{ServiceTree}
 use Rattle.input_parts.specs.Parts.{service_of, script_of}
 use Rattle.service_reader.specs.declared.fault.TextFault.{TextFault}
 use Rattle.script_reader.specs.declared.earlier.Earlier.{Earlier}
+use Rattle.script_reader.specs.declared.elastic.Elastic.{Elastic}
 use Rattle.script_reader.specs.declared.error.ScriptError.{ScriptError}
 use Rattle.script_reader.specs.Judged.{nothing_earlier, script_earlier}
 use Rattle.type_rules.specs.declared.error.TypeError.{TypeError}
 use Rattle.type_rules.specs.Demands.{first_wrong}
 use Rattle.type_rules.specs.Services.{service_demands}
 use Rattle.type_rules.specs.Known.{shape_of}
-use Rattle.wave_meaning.specs.Meaning.{results_at}
+use Rattle.wave_meaning.specs.Meaning.{results_at, results_of}
+use Rattle.elastic_meaning.specs.Walks.{expanded}
 use Rattle.wave_labels.specs.declared.label.Label.{Label}
 use Rattle.wave_gen.specs.Load.{load_text}
 use Rattle.checkpoint_store.specs.declared.error.CheckError.{CheckError}
@@ -28,6 +30,7 @@ use Rattle.journal_replay.specs.declared.replaying.Replayed.{Replayed}
 use Rattle.command_words.specs.declared.command.Command.{Command}
 use Rattle.command_words.specs.declared.command.Command.TheVariants.{Run, Seq, Trace, Save, Resume, Replay, Check, Print, Code, Gen, Load}
 use Rattle.command_words.specs.declared.command.Crew.{Crew}
+use Rattle.command_words.specs.declared.command.Places.{Places}
 use Rattle.due_parts.specs.declared.answer.Answer.{Answer}
 use Rattle.due_parts.specs.declared.report.Report.TheVariants.{Listing, Summary, Point}
 use Rattle.due_parts.specs.declared.telling.Telling.{Telling}
@@ -36,6 +39,7 @@ use Rattle.due_parts.specs.Scripts.{IsDueBehind, IsDueBehindBoth, IsDueLines, Is
 use Rattle.due_parts.specs.Services.{IsDueOf, IsDueService, IsDueTyped}
 use Rattle.due_parts.specs.Told.{IsDueFirst, IsDueTold, any_trap}
 use Rattle.due_points.specs.Resumed.{IsDueChecked, IsDueFrom, IsDuePoint, IsDueResumed}
+use Rattle.due_stages.specs.Elastic.{IsDueElastic, IsDueElasticLines, IsDueElasticRead, IsDueElasticScript, IsDueExpansion}
 use Rattle.due_replay.specs.Replayed.{IsDueJournal, IsDueOutcome, IsDueReplay, IsDueReplayed}
 use Rattle.due_replay.specs.Replayed.{IsDueRead as IsDueJournalRead}
 use Rattle.due_answer.specs.Due.{IsDue, IsListedCode, IsPrinted, approved}
@@ -102,6 +106,20 @@ scripted telling bytes due =
     behind (IsDueScript (IsDueFirst telling)) (service_of bytes) (script_of bytes) due
     (λ rest tree. short (IsDueLines (IsDueFirst telling tree) (shape_of tree) nothing_earlier) rest due (lines (IsDueFirst telling tree) (shape_of tree) nothing_earlier rest due (λ s. told telling tree (first_start (shape_of tree)) s due)))
 
+-- ---- scripts with policies
+
+expansion : (places : Places) (tree : ServiceTree) (e : Elastic) (due : Answer) → IsDueExpansion places tree e due → HasOwn due
+expansion places tree e due h = of_answer due _ h.due_is (by_traps (any_trap (results_of (shape_of tree) h.service (expanded (shape_of tree) h.service e)).results))
+
+elastic_read : (P : Elastic → Answer → Type 0) (r : Result Elastic ScriptError) (due : Answer) → ((e : Elastic) → P e due → HasOwn due) → IsDueElasticRead P r due → HasOwn due
+elastic_read P (Err e) due f h = of_answer due _ h refl
+elastic_read P (Ok e) due f h = f e h
+
+elastic : (places : Places) (bytes : List ℕ) (due : Answer) → IsDueElastic places bytes due → HasOwn due
+elastic places bytes due =
+    behind (IsDueElasticScript places) (service_of bytes) (script_of bytes) due
+    (λ rest tree. short (IsDueElasticLines (IsDueExpansion places tree) (shape_of tree)) rest due (λ h. elastic_read (IsDueExpansion places tree) h.read due (λ e. expansion places tree e due) h.due_is))
+
 -- ---- checkpoints
 
 checked : (P : Checkpoint → Answer → Type 0) (r : Result Checkpoint CheckError) (due : Answer) → ((point : Checkpoint) → P point due → HasOwn due) → IsDueChecked P r due → HasOwn due
@@ -138,8 +156,8 @@ approves : (due : Answer) → due ≡ approved → HasOwn due
 approves due h = of_answer due approved h refl
 
 pub statuses : (c : Command) (bytes : List ℕ) (due : Answer) → IsDue c bytes due → HasOwn due
-statuses (Run places crew) bytes due h = sized INPUT_BYTES (IsDueScripted (Reports (Listing places))) bytes due (scripted (Reports (Listing places)) bytes due) h
-statuses (Seq places) bytes due h = sized INPUT_BYTES (IsDueScripted (Reports (Listing places))) bytes due (scripted (Reports (Listing places)) bytes due) h
+statuses (Run places crew) bytes due h = sized INPUT_BYTES (IsDueElastic places) bytes due (elastic places bytes due) h
+statuses (Seq places) bytes due h = sized INPUT_BYTES (IsDueElastic places) bytes due (elastic places bytes due) h
 statuses (Trace places crew) bytes due h = sized INPUT_BYTES (IsDueScripted (Traces places crew)) bytes due (scripted (Traces places crew) bytes due) h
 statuses (Save crew) bytes due h = sized INPUT_BYTES (IsDueScripted (Reports Point)) bytes due (scripted (Reports Point) bytes due) h
 statuses (Resume places crew) bytes due h = sized LONG_INPUT_BYTES (IsDueResumed (Reports (Listing places))) bytes due (resumed (Reports (Listing places)) bytes due) h

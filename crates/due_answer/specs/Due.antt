@@ -24,6 +24,7 @@ use Rattle.due_parts.specs.Answers.{Only, written}
 use Rattle.due_parts.specs.Scripts.{IsDueScripted, IsDueSized}
 use Rattle.due_parts.specs.Services.{IsDueService}
 use Rattle.due_points.specs.Resumed.{IsDueResumed}
+use Rattle.due_stages.specs.Elastic.{IsDueElastic}
 use Rattle.due_replay.specs.Replayed.{IsDueReplayed}
 
 -- a service that is typed is told so
@@ -54,12 +55,12 @@ pub record IsListedCode (tree : ServiceTree) (due : Answer) : Type 0 where
 abbrev pub IsDueInput : Command → (List ℕ → Answer → Type 0) → List ℕ → Answer → Type 0
 IsDueInput c P bytes due = IsDueSized (input_bytes c) P bytes due
 
--- What runs a script, and how many workers or which schedule, is nothing to what `run`, `seq` and `resume` owe; but `trace` tells the run of its
--- crew, and `replay` what a crew of so many can take. `gen` writes the load of a number, and `load` runs it and sums it up, whatever the input is; all
+-- `run` and `seq` take scripts with policies, and all others know none. What runs a script, and how many workers or which schedule, is nothing to what
+-- `run`, `seq` and `resume` owe; but `trace` tells the run of its crew, and `replay` what a crew of so many can take. `gen` writes the load of a number, and `load` runs it and sums it up, whatever the input is; all
 -- others are about their input.
 abbrev pub IsDue : Command → List ℕ → Answer → Type 0
-IsDue (Run places crew) bytes due = IsDueInput (Run places crew) (IsDueScripted (Reports (Listing places))) bytes due
-IsDue (Seq places) bytes due = IsDueInput (Seq places) (IsDueScripted (Reports (Listing places))) bytes due
+IsDue (Run places crew) bytes due = IsDueInput (Run places crew) (IsDueElastic places) bytes due
+IsDue (Seq places) bytes due = IsDueInput (Seq places) (IsDueElastic places) bytes due
 IsDue (Trace places crew) bytes due = IsDueInput (Trace places crew) (IsDueScripted (Traces places crew)) bytes due
 IsDue (Save crew) bytes due = IsDueInput (Save crew) (IsDueScripted (Reports Point)) bytes due
 IsDue (Resume places crew) bytes due = IsDueInput (Resume places crew) (IsDueResumed (Reports (Listing places))) bytes due

@@ -1,5 +1,7 @@
-use crate::task::Task;
+use crate::task::{Engine, Task};
+use command_words::Places;
 use due_parts::{Answer, Work};
+use due_stages::StagedWork;
 
 /// What a command comes to before anything is run.
 #[derive(Debug, Drop)]
@@ -8,4 +10,6 @@ pub enum Prepared {
     Given(Answer),
     /// A script to run, and for what.
     Run(Task, Work),
+    /// A script with policies to run piece by piece and to list: with the places of the contexts or without, and by what.
+    Stages(Places, Engine, StagedWork),
 }

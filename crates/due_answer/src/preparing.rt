@@ -1,7 +1,8 @@
 //! What a command comes to before anything is run: the answer that is due, or a script to run.
 
-ghost use Rattle.std.specs.Prelude.{◌≡◌, ◌≤◌, ℕ, List, length, All, IfOk};
+ghost use Rattle.std.specs.Prelude.{◌≡◌, ◌≤◌, ℕ, List, length, All, IfOk, Some};
 ghost use Rattle.command_words.specs.Inputs.{input_bytes};
+ghost use Rattle.command_words.specs.declared.command.Command.{Command};
 ghost use Rattle.command_words.specs.declared.command.Command.TheVariants as command;
 ghost use Rattle.input_parts.specs.Parts.{service_of};
 ghost use Rattle.mace_ast.specs.Decls.{service_tree};
@@ -11,8 +12,11 @@ ghost use Rattle.wave_base.specs.declared.limits.TheConstants.{LONG_INPUT_BYTES}
 ghost use Rattle.due_parts.specs.Accepted.{IsOnlyDueOf};
 ghost use Rattle.due_parts.specs.Answers.{Only, written};
 ghost use Rattle.due_parts.specs.Services.{IsDueService};
-ghost use Rattle.due_answer.specs.Due.{IsListedCode, IsPrinted, approved};
+ghost use Rattle.due_parts.specs.declared.answer.Answer.{Answer};
+ghost use Rattle.due_stages.specs.Elastic.{IsDueElastic};
+ghost use Rattle.due_answer.specs.Due.{IsListedCode, IsPrinted, IsToldFor, approved};
 ghost use Rattle.due_answer.specs.Prepared.{IsFound, IsPrepared, given};
+ghost use Rattle.due_answer.specs.Tasks.{staged_of};
 ghost use Rattle.due_answer.specs.inner.Ready.{AreReady};
 
 use crate::prepared::Prepared;
@@ -21,6 +25,7 @@ use command_words::{Command, Crew, Places};
 use due_parts::{Answer, Refusal, Report, Telling, accept, served, too_large, written};
 use due_points::accept_resumed;
 use due_replay::judge_replay;
+use due_stages::accept_elastic;
 use input_parts::parts_of;
 use mace_ast::Service;
 use mace_printer::print;
@@ -47,14 +52,8 @@ fn find(alloc: Global, command: Command, input: &[u8]) -> Result<Prepared, Refus
     ensures { IsFound command input.now result }
 {
     match command {
-        Command::Run(places, crew) => {
-            let telling = Telling::Reports(Report::Listing(places));
-            ready(alloc, telling, Engine::of_crew(crew), input)
-        }
-        Command::Seq(places) => {
-            let telling = Telling::Reports(Report::Listing(places));
-            ready(alloc, telling, Engine::Evaluator, input)
-        }
+        Command::Run(places, crew) => staged(alloc, places, Engine::of_crew(crew), input),
+        Command::Seq(places) => staged(alloc, places, Engine::Evaluator, input),
         Command::Trace(places, crew) => {
             let telling = Telling::Traces(places, crew);
             ready(alloc, telling, Engine::of_crew(crew), input)
@@ -89,6 +88,16 @@ fn ready(alloc: Global, telling: Telling, engine: Engine, input: &[u8]) -> Resul
 {
     match accept(alloc, input) {
         Ok(work) => Ok(Prepared::Run(Task { telling, engine }, work)),
+        Err(refusal) => Err(refusal),
+    }
+}
+
+// A service and a script with policies that are to be run piece by piece by an engine, and listed.
+fn staged(alloc: Global, places: Places, engine: Engine, input: &[u8]) -> Result<Prepared, Refusal>
+    ensures { (c : Command) → staged_of c ≡ Some (places, engine) → ((due : Answer) → Only (IsDueElastic places input.now) due → IsToldFor c input.now due) → IsFound c input.now result }
+{
+    match accept_elastic(alloc, input) {
+        Ok(work) => Ok(Prepared::Stages(places, engine, work)),
         Err(refusal) => Err(refusal),
     }
 }

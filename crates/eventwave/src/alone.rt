@@ -14,6 +14,7 @@ use crate::engines::run_alone;
 use crate::giving::give;
 use crate::pouring::pour;
 use crate::reading::prepare_input;
+use crate::staged::stage_alone;
 use command_words::Command;
 use due_answer::{Prepared, Task};
 use due_parts::Work;
@@ -33,6 +34,9 @@ pub fn perform<S: Source, K: Sink>(
     match prepare_input(alloc, command, input) {
         Ok(Prepared::Given(answer)) => give(out, answer),
         Ok(Prepared::Run(task, work)) => run_task(alloc, task, work, out),
+        Ok(Prepared::Stages(places, engine, work)) => {
+            stage_alone(alloc, engine, places, work, out)
+        }
         Err(ending) => ending,
     }
 }

@@ -10,6 +10,7 @@ mod made;
 mod pouring;
 mod reading;
 mod response;
+mod staged;
 mod team;
 mod together;
 mod top;

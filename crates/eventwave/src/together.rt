@@ -14,6 +14,7 @@ use crate::engines::run_together;
 use crate::giving::give;
 use crate::pouring::{pour, told_at_once};
 use crate::reading::prepare_input;
+use crate::staged::stage_together;
 use crate::team::Team;
 use command_words::Command;
 use due_answer::{Prepared, Task};
@@ -36,6 +37,9 @@ pub fn perform_together<R: Threads + Wait + Sync, S: Source, K: Sink + Send, G: 
     match prepare_input(team.alloc, command, input) {
         Ok(Prepared::Given(answer)) => give(out, answer),
         Ok(Prepared::Run(task, work)) => run_task(team, task, work, out),
+        Ok(Prepared::Stages(places, engine, work)) => {
+            stage_together(team, engine, places, work, out)
+        }
         Err(ending) => ending,
     }
 }

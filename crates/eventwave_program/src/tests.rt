@@ -10,4 +10,5 @@ mod rows;
 mod scripts;
 mod second;
 mod services;
+mod stages;
 mod tables;

@@ -10,7 +10,7 @@ use Rattle.due_parts.specs.Accepted.{IsReady, point_of}
 use Rattle.due_parts.specs.Answers.{Only}
 use Rattle.due_parts.specs.Scripts.{IsDueScripted}
 use Rattle.due_answer.specs.declared.prepared.Prepared.{Prepared}
-use Rattle.due_answer.specs.declared.prepared.Prepared.TheVariants.{Given, Run}
+use Rattle.due_answer.specs.declared.prepared.Prepared.TheVariants.{Given, Run, Stages}
 use Rattle.due_answer.specs.declared.task.Engine.{Engine}
 use Rattle.due_answer.specs.declared.task.Task.{Task}
 
@@ -23,5 +23,6 @@ pub record IsReadyFor (telling : Telling) (engine : Engine) (bytes : List ℕ) (
 abbrev pub AreReady : Telling → Engine → List ℕ → Result Prepared Refusal → Type 0
 AreReady telling engine bytes (Ok (Run task work)) = IsReadyFor telling engine bytes task work
 AreReady telling engine bytes (Ok (Given answer)) = ⊥
+AreReady telling engine bytes (Ok (Stages places by work)) = ⊥
 AreReady telling engine bytes (Err (Due answer)) = Only (IsDueScripted telling bytes) answer
 AreReady telling engine bytes (Err (OutOfMemory refused)) = Unit {0}

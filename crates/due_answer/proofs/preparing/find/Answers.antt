@@ -1,16 +1,17 @@
-use Rattle.std.proofs.Common.{◌≡◌, ◌≤◌, inr, length, refl, sym, subst}
+use Rattle.std.proofs.Common.{◌≡◌, ◌≤◌, Some, ap, inr, length, refl, sym, subst}
 use Rattle.input_parts.specs.Parts.{service_of}
 use Rattle.command_words.specs.declared.command.Command.TheVariants.{Run, Seq, Trace, Save, Resume, Replay, Check, Print, Code, Gen}
 use Rattle.command_words.specs.Inputs.{input_bytes}
 use Rattle.wave_gen.specs.Load.{load_text}
-use Rattle.due_parts.specs.declared.report.Report.TheVariants.{Listing, Point}
+use Rattle.due_parts.specs.declared.report.Report.TheVariants.{Point}
 use Rattle.due_parts.specs.declared.telling.Telling.TheVariants.{Reports, Traces}
 use Rattle.due_parts.specs.Answers.{Only, written}
 use Rattle.due_parts.specs.Scripts.{IsDueScripted}
 use Rattle.due_parts.specs.Services.{IsDueService}
 use Rattle.due_parts.proofs.DueLemmas.{only_same, sized_fine}
+use Rattle.due_stages.specs.Elastic.{IsDueElastic}
 use Rattle.due_replay.specs.Replayed.{IsDueReplayed}
-use Rattle.due_answer.specs.declared.task.Engine.TheVariants.{Evaluator, Workers}
+use Rattle.due_answer.specs.declared.task.Engine.TheVariants.{Workers}
 use Rattle.due_answer.specs.Due.{IsListedCode, IsPrinted, approved}
 use Rattle.due_answer.specs.Prepared.{IsFound}
 use Rattle.due_answer.specs.Tasks.{engine_of}
@@ -21,30 +22,29 @@ use Rattle.due_answer.proofs.preparing.find.Goals as goal
 pub returns-in-Run : goal.returns-in-Run
 returns-in-Run c =
     let bytes = c.args.input.now in
-    let k = Run c.in-Run.places c.in-Run.crew in
+    let places = c.in-Run.places in
+    let k = Run places c.in-Run.crew in
     let small : length bytes ≤ input_bytes k = subst (λ x. length bytes ≤ input_bytes x) c.in-Run.is c.requires in
-    let ready = subst (λ e. AreReady (Reports (Listing c.in-Run.places)) e bytes c.ready.result) c.of_crew.ensures c.ready.ensures in
-    subst (λ x. IsFound x bytes c.ready.result) (sym c.in-Run.is)
-    (reported_found k bytes bytes (Listing c.in-Run.places) (engine_of c.in-Run.crew) c.ready.result refl
-    (λ due o. sized_fine (input_bytes k) (IsDueScripted (Reports (Listing c.in-Run.places))) bytes due small o) ready)
+    subst (λ x. IsFound x bytes c.staged.result) (sym c.in-Run.is)
+    (c.staged.ensures k (ap (λ e. Some (places, e)) (sym c.of_crew.ensures)) (λ due o. sized_fine (input_bytes k) (IsDueElastic places) bytes due small o))
 
 pub returns-in-Seq : goal.returns-in-Seq
 returns-in-Seq c =
     let bytes = c.args.input.now in
-    let k = Seq c.in-Seq.places in
+    let places = c.in-Seq.places in
+    let k = Seq places in
     let small : length bytes ≤ input_bytes k = subst (λ x. length bytes ≤ input_bytes x) c.in-Seq.is c.requires in
-    subst (λ x. IsFound x bytes c.ready-in-Seq.result) (sym c.in-Seq.is)
-    (reported_found k bytes bytes (Listing c.in-Seq.places) Evaluator c.ready-in-Seq.result refl
-    (λ due o. sized_fine (input_bytes k) (IsDueScripted (Reports (Listing c.in-Seq.places))) bytes due small o) c.ready-in-Seq.ensures)
+    subst (λ x. IsFound x bytes c.staged-in-Seq.result) (sym c.in-Seq.is)
+    (c.staged-in-Seq.ensures k refl (λ due o. sized_fine (input_bytes k) (IsDueElastic places) bytes due small o))
 
 pub returns-in-Trace : goal.returns-in-Trace
 returns-in-Trace c =
     let bytes = c.args.input.now in
     let k = Trace c.in-Trace.places c.in-Trace.crew in
     let small : length bytes ≤ input_bytes k = subst (λ x. length bytes ≤ input_bytes x) c.in-Trace.is c.requires in
-    let ready = subst (λ e. AreReady (Traces c.in-Trace.places c.in-Trace.crew) e bytes c.ready-in-Trace.result) c.of_crew-in-Trace.ensures c.ready-in-Trace.ensures in
-    subst (λ x. IsFound x bytes c.ready-in-Trace.result) (sym c.in-Trace.is)
-    (traced_found k bytes c.in-Trace.places c.in-Trace.crew (engine_of c.in-Trace.crew) c.ready-in-Trace.result refl (λ due t. inr (small, t)) ready)
+    let ready = subst (λ e. AreReady (Traces c.in-Trace.places c.in-Trace.crew) e bytes c.ready.result) c.of_crew-in-Trace.ensures c.ready.ensures in
+    subst (λ x. IsFound x bytes c.ready.result) (sym c.in-Trace.is)
+    (traced_found k bytes c.in-Trace.places c.in-Trace.crew (engine_of c.in-Trace.crew) c.ready.result refl (λ due t. inr (small, t)) ready)
 
 pub returns-in-Save : goal.returns-in-Save
 returns-in-Save c =

@@ -1,9 +1,12 @@
-use Rattle.std.proofs.Common.{◌≡◌, subst}
+use Rattle.std.proofs.Common.{◌≡◌, ◌∙◌, subst}
 use Rattle.std.proofs.KnownBytes.{Keeps-refl}
+use Rattle.due_parts.specs.declared.answer.Answer.{Answer}
 use Rattle.due_answer.specs.Due.{IsToldFor}
 use Rattle.due_answer.specs.Prepared.{IsPrepared, Tells}
 use Rattle.eventwave.specs.Ends.{Change, change}
+use Rattle.eventwave.specs.inner.Stages.{listing_of}
 use Rattle.eventwave.proofs.GivingLemmas.{did_give, did_nothing, gives_as, gives_it}
+use Rattle.eventwave.proofs.StageLemmas.{can_be_staged, its_listing}
 use Rattle.eventwave.proofs.alone.perform.Goals as goal
 
 pub run_task-requires : goal.run_task-requires
@@ -11,6 +14,12 @@ run_task-requires g c =
     let prepared = c.in-Ok-Run.ensures.prepared in
     let run = subst (IsPrepared c.args.command prepared.bytes) c.in-Ok-Run.field-0-is prepared.prepared in
     record { command = c.args.command; who = c.requires; asked = run.asked; can_run = run.can_run; saved = run.saved }
+
+pub stage_alone-requires : goal.stage_alone-requires
+stage_alone-requires g c =
+    let prepared = c.in-Ok-Stages.ensures.prepared in
+    let staged = subst (IsPrepared c.args.command prepared.bytes) c.in-Ok-Stages.field-0-is prepared.prepared in
+    record { command = c.args.command; who = c.requires; asked = staged.asked; can = can_be_staged staged.elastic c.in-Ok-Stages.work staged.can }
 
 pub returns-in-Ok-Given : goal.returns-in-Ok-Given
 returns-in-Ok-Given g c = λ words accepted.
@@ -29,6 +38,18 @@ returns-in-Ok-Run g c = λ words accepted.
     let run = subst (IsPrepared c.args.command prepared.bytes) c.in-Ok-Run.field-0-is prepared.prepared in
     did_give words c.args.command accepted input out prepared.bytes prepared.input c.in-Ok-Run.ensures.end c.prepare_input.ensures.unread c.run_task.result
     (gives_as out.bytes out.bytes_now (Tells c.in-Ok-Run.task.telling c.in-Ok-Run.work) (IsToldFor c.args.command prepared.bytes) c.run_task.result run.due c.run_task.ensures.gave) c.run_task.ensures.fault
+
+pub returns-in-Ok-Stages : goal.returns-in-Ok-Stages
+returns-in-Ok-Stages g c = λ words accepted.
+    let input : Change = change (g.S.Source.faults c.args.input.now) (g.S.Source.faults c.prepare_input.new.input) (g.S.Source.left c.args.input.now) (g.S.Source.left c.prepare_input.new.input) in
+    let out : Change = change (g.K.Sink.faults c.args.out.now) (g.K.Sink.faults c.stage_alone.new.out) (g.K.Sink.written c.args.out.now) (g.K.Sink.written c.stage_alone.new.out) in
+    let prepared = c.in-Ok-Stages.ensures.prepared in
+    let staged = subst (IsPrepared c.args.command prepared.bytes) c.in-Ok-Stages.field-0-is prepared.prepared in
+    let places = c.in-Ok-Stages.places in
+    let work = c.in-Ok-Stages.work in
+    did_give words c.args.command accepted input out prepared.bytes prepared.input c.in-Ok-Stages.ensures.end c.prepare_input.ensures.unread c.stage_alone.result
+    (gives_as out.bytes out.bytes_now (λ (a : Answer). a ≡ listing_of work places) (IsToldFor c.args.command prepared.bytes) c.stage_alone.result (λ a is. staged.due a (is ∙ its_listing staged.elastic work places staged.can)) c.stage_alone.ensures.gave)
+    c.stage_alone.ensures.fault
 
 pub returns-in-Err : goal.returns-in-Err
 returns-in-Err g c = λ words accepted.
