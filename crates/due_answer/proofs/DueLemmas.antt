@@ -35,6 +35,7 @@ only_listed tree typed program t c = record {
 
 -- a command that reads its input is told so where there is too much of it
 pub only_too_large : (c : Command) (bytes : List ℕ) → reads_input c ≡ true → input_bytes c < length bytes → IsOnlyDue c bytes too_large_input
+unfolding IsDue
 only_too_large (Run places crew) bytes reads long = sized_long INPUT_BYTES (IsDueElastic places) bytes long
 only_too_large (Seq places) bytes reads long = sized_long INPUT_BYTES (IsDueElastic places) bytes long
 only_too_large (Trace places crew) bytes reads long = sized_long INPUT_BYTES (IsDueScripted (Traces places crew)) bytes long

@@ -62,9 +62,11 @@ short : length service ≤ INPUT_BYTES
 short = omega arith
 
 save_asks : (crew : Crew) → IsOnlyDue (Save crew) service no_script
+unfolding IsDue
 save_asks crew = record { is_due = inr (short, refl); only = λ other due. elim due [ inl long ↦ absurd (omega (arith, short, long.0)) | inr h ↦ h.1 ] }
 
 trace_asks : (places : Places) (crew : Crew) → IsOnlyDue (Trace places crew) service no_script
+unfolding IsDue
 trace_asks places crew = record { is_due = inr (short, refl); only = λ other due. elim due [ inl long ↦ absurd (omega (arith, short, long.0)) | inr h ↦ h.1 ] }
 
 -- a checkpoint alone is not enough to go on from
@@ -72,14 +74,17 @@ short_enough : length with_script ≤ LONG_INPUT_BYTES
 short_enough = omega arith
 
 resume_asks : (places : Places) (crew : Crew) → IsOnlyDue (Resume places crew) with_script no_script
+unfolding IsDue
 resume_asks places crew = record { is_due = inr (short_enough, refl); only = λ other due. elim due [ inl long ↦ absurd (omega (arith, short_enough, long.0)) | inr h ↦ h.1 ] }
 
 -- ---- too many bytes: of the input, or of the service in it
 
 much : (crew : Crew) (bytes : List ℕ) → INPUT_BYTES < length bytes → IsDue (Save crew) bytes too_large_input
+unfolding IsDue
 much crew bytes long = inl (long, refl)
 
 much_service : (bytes : List ℕ) → length bytes ≤ INPUT_BYTES → SERVICE_BYTES < length (service_of bytes) → IsDue Check bytes (refusal 3 (codes "TooLarge service"))
+unfolding IsDue
 much_service bytes within long = inr (within, record { read = Err TooLarge; parses = long; due_is = refl })
 
 -- ---- what is written, and with which status
@@ -89,6 +94,7 @@ approved_is = refl
 
 -- of the number alone, whatever the input is
 gen : (n : ℕ) (bytes : List ℕ) → IsOnlyDue (Gen n) bytes (record { status = 0; note = []; text = load_text n })
+unfolding IsDue
 gen n bytes = record { is_due = refl; only = λ other e. e }
 
 -- ---- reports of a run from the first Start, whose events are all the first one

@@ -29,7 +29,7 @@ use Rattle.due_answer.specs.declared.prepared.Prepared.{Prepared}
 use Rattle.due_answer.specs.declared.prepared.Prepared.TheVariants.{Given, Run, Stages}
 use Rattle.due_answer.specs.declared.task.Engine.{Engine}
 use Rattle.due_answer.specs.declared.task.Task.{Task}
-use Rattle.due_answer.specs.Due.{IsToldFor}
+use Rattle.due_answer.specs.Due.{IsDue, IsToldFor}
 use Rattle.due_answer.specs.Prepared.{IsFound, Tells, given}
 use Rattle.due_answer.specs.Tasks.{engine_of, staged_of, task_of}
 use Rattle.due_answer.specs.inner.Ready.{AreReady}
@@ -108,6 +108,7 @@ refused_due P text found (OutOfMemory refused) e s = tt
 
 module _ (places : Places) (crew : Crew) (bytes : List ℕ) where
   resumed_lift : length bytes ≤ LONG_INPUT_BYTES → (due : Answer) → Only (IsDueResumed (Reports (Listing places)) bytes) due → IsToldFor (Resume places crew) bytes due
+  unfolding IsDue
   resumed_lift small due o = sized_fine LONG_INPUT_BYTES (IsDueResumed (Reports (Listing places))) bytes due small o
 
   -- a script that is run from a checkpoint

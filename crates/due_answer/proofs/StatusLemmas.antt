@@ -156,6 +156,7 @@ approves : (due : Answer) → due ≡ approved → HasOwn due
 approves due h = of_answer due approved h refl
 
 pub statuses : (c : Command) (bytes : List ℕ) (due : Answer) → IsDue c bytes due → HasOwn due
+unfolding IsDue
 statuses (Run places crew) bytes due h = sized INPUT_BYTES (IsDueElastic places) bytes due (elastic places bytes due) h
 statuses (Seq places) bytes due h = sized INPUT_BYTES (IsDueElastic places) bytes due (elastic places bytes due) h
 statuses (Trace places crew) bytes due h = sized INPUT_BYTES (IsDueScripted (Traces places crew)) bytes due (scripted (Traces places crew) bytes due) h

@@ -57,8 +57,9 @@ IsDueInput c P bytes due = IsDueSized (input_bytes c) P bytes due
 
 -- `run` and `seq` take scripts with policies, and all others know none. What runs a script, and how many workers or which schedule, is nothing to what
 -- `run`, `seq` and `resume` owe; but `trace` tells the run of its crew, and `replay` what a crew of so many can take. `gen` writes the load of a number, and `load` runs it and sums it up, whatever the input is; all
--- others are about their input.
-abbrev pub IsDue : Command → List ℕ → Answer → Type 0
+-- others are about their input. Who calls the top call is told that an answer is due, and need not know what all commands owe: this is looked into only
+-- where it is asked for.
+unfoldable pub IsDue : Command → List ℕ → Answer → Type 0
 IsDue (Run places crew) bytes due = IsDueInput (Run places crew) (IsDueElastic places) bytes due
 IsDue (Seq places) bytes due = IsDueInput (Seq places) (IsDueElastic places) bytes due
 IsDue (Trace places crew) bytes due = IsDueInput (Trace places crew) (IsDueScripted (Traces places crew)) bytes due

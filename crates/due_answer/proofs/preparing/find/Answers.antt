@@ -1,4 +1,4 @@
-use Rattle.std.proofs.Common.{◌≡◌, ◌≤◌, Some, ap, inr, length, refl, sym, subst}
+use Rattle.std.proofs.Common.{◌≡◌, ◌≤◌, Some, ap, inr, length, refl, rules, sym, subst}
 use Rattle.input_parts.specs.Parts.{service_of}
 use Rattle.command_words.specs.declared.command.Command.TheVariants.{Run, Seq, Trace, Save, Resume, Replay, Check, Print, Code, Gen}
 use Rattle.command_words.specs.Inputs.{input_bytes}
@@ -12,7 +12,7 @@ use Rattle.due_parts.proofs.DueLemmas.{only_same, sized_fine}
 use Rattle.due_stages.specs.Elastic.{IsDueElastic}
 use Rattle.due_replay.specs.Replayed.{IsDueReplayed}
 use Rattle.due_answer.specs.declared.task.Engine.TheVariants.{Workers}
-use Rattle.due_answer.specs.Due.{IsListedCode, IsPrinted, approved}
+use Rattle.due_answer.specs.Due.{IsDue, IsListedCode, IsPrinted, approved}
 use Rattle.due_answer.specs.Prepared.{IsFound}
 use Rattle.due_answer.specs.Tasks.{engine_of}
 use Rattle.due_answer.specs.inner.Ready.{AreReady}
@@ -20,6 +20,7 @@ use Rattle.due_answer.proofs.FoundLemmas.{given_found, reported_found, traced_fo
 use Rattle.due_answer.proofs.preparing.find.Goals as goal
 
 pub returns-in-Run : goal.returns-in-Run
+unfolding IsDue
 returns-in-Run c =
     let bytes = c.args.input.now in
     let places = c.in-Run.places in
@@ -29,6 +30,7 @@ returns-in-Run c =
     (c.staged.ensures k (ap (λ e. Some (places, e)) (sym c.of_crew.ensures)) (λ due o. sized_fine (input_bytes k) (IsDueElastic places) bytes due small o))
 
 pub returns-in-Seq : goal.returns-in-Seq
+unfolding IsDue
 returns-in-Seq c =
     let bytes = c.args.input.now in
     let places = c.in-Seq.places in
@@ -38,6 +40,7 @@ returns-in-Seq c =
     (c.staged-in-Seq.ensures k refl (λ due o. sized_fine (input_bytes k) (IsDueElastic places) bytes due small o))
 
 pub returns-in-Trace : goal.returns-in-Trace
+unfolding IsDue
 returns-in-Trace c =
     let bytes = c.args.input.now in
     let k = Trace c.in-Trace.places c.in-Trace.crew in
@@ -47,6 +50,7 @@ returns-in-Trace c =
     (traced_found k bytes c.in-Trace.places c.in-Trace.crew (engine_of c.in-Trace.crew) c.ready.result refl (λ due t. inr (small, t)) ready)
 
 pub returns-in-Save : goal.returns-in-Save
+unfolding IsDue
 returns-in-Save c =
     let bytes = c.args.input.now in
     let k = Save c.in-Save.crew in
@@ -65,6 +69,7 @@ pub judge_replay-requires : goal.judge_replay-requires
 judge_replay-requires c = subst (λ x. length c.args.input.now ≤ input_bytes x) c.in-Replay.is c.requires
 
 pub returns-in-Replay : goal.returns-in-Replay
+unfolding IsDue
 returns-in-Replay c =
     let bytes = c.args.input.now in
     let k = Replay c.in-Replay.show c.in-Replay.crew in
@@ -75,6 +80,7 @@ returns-in-Replay c =
     (given_found k bytes (P bytes) c.judge_replay.result (λ due o. sized_fine (input_bytes k) P bytes due small o) c.judge_replay.ensures))
 
 pub returns-in-Check : goal.returns-in-Check
+unfolding IsDue
 returns-in-Check c =
     let bytes = c.args.input.now in
     let small : length bytes ≤ input_bytes Check = subst (λ x. length bytes ≤ input_bytes x) c.in-Check.is c.requires in
@@ -84,6 +90,7 @@ returns-in-Check c =
     (λ due o. sized_fine (input_bytes Check) (λ b. IsDueService (λ tree a. a ≡ approved) (service_of b)) bytes due small o) c.checked.ensures))
 
 pub returns-in-Print : goal.returns-in-Print
+unfolding IsDue
 returns-in-Print c =
     let bytes = c.args.input.now in
     let small : length bytes ≤ input_bytes Print = subst (λ x. length bytes ≤ input_bytes x) c.in-Print.is c.requires in
@@ -93,6 +100,7 @@ returns-in-Print c =
     (λ due o. sized_fine (input_bytes Print) (λ b. IsDueService IsPrinted (service_of b)) bytes due small o) c.printed.ensures))
 
 pub returns-in-Code : goal.returns-in-Code
+unfolding IsDue
 returns-in-Code c =
     let bytes = c.args.input.now in
     let small : length bytes ≤ input_bytes Code = subst (λ x. length bytes ≤ input_bytes x) c.in-Code.is c.requires in
@@ -103,3 +111,7 @@ returns-in-Code c =
 
 pub returns-in-Load : goal.returns-in-Load
 returns-in-Load c = subst (λ x. IsFound x c.args.input.now c.loaded.result) (sym c.in-Load.is) (c.loaded.ensures c.args.input.now)
+
+pub returns-in_ok-generate-in-Gen : goal.returns-in_ok-generate-in-Gen
+unfolding IsDue
+returns-in_ok-generate-in-Gen = search rules
