@@ -74,7 +74,7 @@ def mutated(draw, journal):
 
 def crew(draw):
     workers = ["--workers", str(draw.randint(1, 16))]
-    schedule = draw.choice(([], [], ["--schedule", draw.choice(("oldest", "newest", "movers", "mail-last", str(draw.randrange(1000))))]))
+    schedule = draw.choice(([], [], ["--schedule", draw.choice(("oldest", "newest", "movers", "maillast", str(draw.randrange(1000))))]))
     return workers, [*workers, *schedule]
 
 
