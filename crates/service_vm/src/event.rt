@@ -110,6 +110,13 @@ impl EventBox {
         self.ticket
     }
 
+    /// The ticks that it has left.
+    pub fn ticks(&self) -> u32
+        ensures { result ≡ self.now.event.box.ticks }
+    {
+        self.run.ticks
+    }
+
     /// Whether it stands after its function's last Go, and from there on only looks: its next segment changes no field,
     /// goes into no child, and ends it.
     pub fn peeking(&self) -> bool

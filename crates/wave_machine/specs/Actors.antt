@@ -24,6 +24,12 @@ peeks_now (Service e) = e.peeking
 peeks_now (Mover m) = false
 peeks_now (Walker w) = false
 
+-- the ticks that it has left: a move and a snapshot have none
+abbrev pub ticks_now : Actor → ℕ
+ticks_now (Service e) = e.event.box.ticks
+ticks_now (Mover m) = 0
+ticks_now (Walker w) = 0
+
 -- it stands for one of the theory, and is marked as the theory has it
 pub record IsActor (program : Program) (a : Actor) (b : theory.Actor) : Type 0 where
   pub same : b ≡ actor_of a

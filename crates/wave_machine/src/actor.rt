@@ -16,7 +16,7 @@ pub enum Actor {
 }
 
 impl Actor {
-    ghost use Rattle.wave_machine.specs.Actors.{peeks_now};
+    ghost use Rattle.wave_machine.specs.Actors.{peeks_now, ticks_now};
 
     /// Whether all that is left of it only looks at the one context where it is, or where it goes next.
     pub fn peeking(&self) -> bool
@@ -25,6 +25,16 @@ impl Actor {
         match self {
             Actor::Service(event) => event.peeking(),
             Actor::Mover(_) | Actor::Walker(_) => false,
+        }
+    }
+
+    /// The ticks that an event has left; a move and a snapshot have none. What a segment takes of them tells how heavy it was.
+    pub fn ticks(&self) -> u32
+        ensures { result ≡ ticks_now self.now }
+    {
+        match self {
+            Actor::Service(event) => event.ticks(),
+            Actor::Mover(_) | Actor::Walker(_) => 0,
         }
     }
 }
