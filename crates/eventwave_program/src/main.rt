@@ -1,9 +1,6 @@
 //! Runs a service: reads a service and a script from standard input, and writes what its events answer.
 #![tactic(auto)]
 
-#[cfg(test)]
-mod tests;
-
 use eventwave::start;
 use std::env;
 use std::process::ExitCode;

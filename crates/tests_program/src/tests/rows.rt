@@ -1,5 +1,7 @@
 //! Runs of the top call, and what each has to come to.
 
+ghost use Rattle.std.specs.Prelude.{◌<◌};
+
 use eventwave::{eventwave, eventwave_alone, start};
 use std::alloc::Global;
 use std::process::Abort;
@@ -206,4 +208,31 @@ pub fn all_hold<R: Abort + Threads + Wait + Sync>(
         holds(rt, alloc, &row)?;
     }
     Ok(())
+}
+
+/// The status of a run in writes of at most so many bytes, of which one fails, what it wrote, and its note.
+pub fn broken<R: Threads + Wait + Sync>(
+    rt: &R,
+    alloc: Global,
+    text: &str,
+    input: &[u8],
+    piece: usize,
+    failing_write: u64,
+) -> Result<(u8, MemSink, MemSink), OutOfMemory>
+    requires { 0 < piece }
+{
+    let words = words(alloc, text)?;
+    let mut source = MemSource::new(bytes(alloc, input)?, 4096, Seq::new(alloc));
+    let mut out = MemSink::new(alloc, 10_000, piece, calls(alloc, &[failing_write])?)?;
+    let mut notes = MemSink::new(alloc, 100, 100, Seq::new(alloc))?;
+    let status = call(
+        rt,
+        alloc,
+        &words,
+        &mut source,
+        &mut out,
+        &mut notes,
+        &OpenGate,
+    );
+    Ok((status, out, notes))
 }

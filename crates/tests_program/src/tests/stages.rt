@@ -1,14 +1,13 @@
 //! Scripts with policies, which are run piece by piece.
 
-use super::rows::{Case, all_hold, bytes, call, calls, holds, joined, plain, refuses, words};
+use super::rows::{Case, all_hold, broken, holds, joined, plain, refuses};
 use super::services::{CHAIN, EDGE, MARKET};
 use std::alloc::Global;
 use std::process::Abort;
 use std::sync::Wait;
 use std::test::Fail;
 use std::thread::Threads;
-use wave_base::{OutOfMemory, Seq};
-use wave_io::{MemSink, MemSource, OpenGate};
+use wave_base::OutOfMemory;
 
 /// Who runs a script, without the places and with them.
 const ENGINES: [(&str, &str); 5] = [
@@ -333,30 +332,6 @@ fn policies_are_refused_in_order(rt: HostRuntime) -> Result<(), Fail> {
     Ok(())
 }
 
-// The status of a run one of whose writes fails, what it wrote, and its note.
-fn broken<R: Threads + Wait + Sync>(
-    rt: &R,
-    alloc: Global,
-    text: &str,
-    input: &[u8],
-    failing_write: u64,
-) -> Result<(u8, MemSink, MemSink), OutOfMemory> {
-    let words = words(alloc, text)?;
-    let mut source = MemSource::new(bytes(alloc, input)?, 4096, Seq::new(alloc));
-    let mut out = MemSink::new(alloc, 10_000, 16, calls(alloc, &[failing_write])?)?;
-    let mut notes = MemSink::new(alloc, 100, 100, Seq::new(alloc))?;
-    let status = call(
-        rt,
-        alloc,
-        &words,
-        &mut source,
-        &mut out,
-        &mut notes,
-        &OpenGate,
-    );
-    Ok((status, out, notes))
-}
-
 #[test]
 fn each_write_of_a_script_with_policies_fails(rt: HostRuntime) -> Result<(), Fail> {
     let alloc = rt.alloc();
@@ -366,7 +341,14 @@ fn each_write_of_a_script_with_policies_fails(rt: HostRuntime) -> Result<(), Fai
     for (_, words) in ENGINES {
         let mut written = 0;
         for failing_write in 1..(whole.len() as u64).div_ceil(16) + 1 {
-            let (status, out, notes) = broken(&rt, alloc, words, input.as_slice(), failing_write)?;
+            let (status, out, notes) = broken(
+                &rt,
+                alloc,
+                words,
+                input.as_slice(),
+                16,
+                failing_write,
+            )?;
             assert_eq!(rt; status, 6);
             assert_eq!(rt; notes.bytes(), note);
             assert!(rt; whole.as_slice().starts_with(out.bytes()));

@@ -1,16 +1,10 @@
 //! Tables: each read and each write of a run that fails, each rule that picks, and the limits of events.
 
 use super::crews::{LOOKED, LOOKS, MOVED, MOVES, TO_AND_FRO, WENT_TO_AND_FRO};
-use super::rows::{
-    Row, all_hold, bytes, call, calls, holds, joined, plain, ran_on, traps, words, works,
-};
+use super::rows::{Row, all_hold, broken, holds, joined, plain, ran_on, traps, works};
 use super::services::{CHAIN, MARKET};
-use std::alloc::Global;
-use std::sync::Wait;
 use std::test::Fail;
-use std::thread::Threads;
-use wave_base::{OutOfMemory, Seq};
-use wave_io::{MemSink, MemSource, OpenGate};
+use wave_io::OpenGate;
 
 const THREE: &[u8] = b"request buy(1,1,3)\nrequest buy(1,2,4)\nrequest pair(1)\n";
 
@@ -45,30 +39,6 @@ fn each_read_fails(rt: HostRuntime) -> Result<(), Fail> {
     Ok(())
 }
 
-// The status of a run in writes of at most four bytes, of which one fails, and what it wrote.
-fn ran_to<R: Threads + Wait + Sync>(
-    rt: &R,
-    alloc: Global,
-    text: &str,
-    input: &[u8],
-    failing: u64,
-) -> Result<(u8, MemSink, MemSink), OutOfMemory> {
-    let words = words(alloc, text)?;
-    let mut source = MemSource::new(bytes(alloc, input)?, 4096, Seq::new(alloc));
-    let mut out = MemSink::new(alloc, 10_000, 4, calls(alloc, &[failing])?)?;
-    let mut notes = MemSink::new(alloc, 100, 100, Seq::new(alloc))?;
-    let status = call(
-        rt,
-        alloc,
-        &words,
-        &mut source,
-        &mut out,
-        &mut notes,
-        &OpenGate,
-    );
-    Ok((status, out, notes))
-}
-
 /// Each write up to the last fails once: what stands there is a front of what is due, and no longer than the writes before it. With 76
 /// bytes there are 19 writes at least.
 #[test]
@@ -78,7 +48,7 @@ fn each_write_fails(rt: HostRuntime) -> Result<(), Fail> {
     assert_eq!(rt; THREE_LISTED.len(), 76);
     for words in ["run", "run --workers 4", "seq", "run --schedule 5"] {
         for before in 0..29 {
-            let (status, out, notes) = ran_to(&rt, alloc, words, input.as_slice(), before + 1)?;
+            let (status, out, notes) = broken(&rt, alloc, words, input.as_slice(), 4, before + 1)?;
             let written = out.bytes();
             assert!(rt; THREE_LISTED.starts_with(written));
             if status == 6 {
@@ -91,7 +61,7 @@ fn each_write_fails(rt: HostRuntime) -> Result<(), Fail> {
                 assert_eq!(rt; notes.bytes(), b"".as_slice());
             }
         }
-        let (status, _, _) = ran_to(&rt, alloc, words, input.as_slice(), 30)?;
+        let (status, _, _) = broken(&rt, alloc, words, input.as_slice(), 4, 30)?;
         assert_eq!(rt; status, 0);
     }
     Ok(())
