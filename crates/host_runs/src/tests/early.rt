@@ -32,7 +32,7 @@ impl<'a> Sink for Telling<'a> {
     }
 }
 
-// Looks, where ticket 41 comes to it, whether the sink has taken something.
+// Looks, where ticket 71 comes to it, whether the sink has taken something.
 #[derive(Drop)]
 struct Looking<'a> {
     taken: &'a AtomicU64,
@@ -41,23 +41,23 @@ struct Looking<'a> {
 
 impl<'a> Gate for Looking<'a> {
     fn reach(&self, ticket: Ticket, _path: &Path) {
-        if ticket.0 == 41 && self.taken.load(Ordering::SeqCst) == 0 {
+        if ticket.0 == 71 && self.taken.load(Ordering::SeqCst) == 0 {
             self.too_late.store(1, Ordering::SeqCst);
         }
     }
 }
 
-// Forty sales, and one more after them.
+// Seventy sales, and one more after them.
 fn sales(alloc: Global) -> Result<String, OutOfMemory> {
     let mut script = String::new(alloc);
-    for _ in 0..40u8 {
+    for _ in 0..70u8 {
         script.push_str("request buy(1,1,1)\n")?;
     }
     script.push_str("settle\nrequest buy(1,1,1)\n")?;
     Ok(script)
 }
 
-// Of a run by one worker, whether the sink had taken nothing before ticket 41.
+// Of a run by one worker, whether the sink had taken nothing before ticket 71.
 fn too_late<R: Threads + Wait + Sync + Abort>(rt: &R, alloc: Global, script: &str) -> u64 {
     let case = Case {
         service: MARKET,
