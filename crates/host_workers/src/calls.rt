@@ -35,8 +35,8 @@ pub(crate) fn leave(
     ensures { IsNoted board.old board.new }
 {
     crew.place(number, seat_after(told));
-    if let (Some(written), Ok(Offer::Lines(lines))) = (written, told) {
-        crew.tell(written.saturating_add(lines.len() as u32));
+    if let Some(written) = written {
+        crew.tell(written.saturating_add(lines_in(told)));
     }
     let wakes = if has_ended(told) {
         Wakes::All
@@ -51,6 +51,14 @@ pub(crate) fn leave(
     };
     board.set_crew(crew);
     wakes
+}
+
+// How many lines it leaves with.
+fn lines_in(told: &Result<Offer, OutOfMemory>) -> u32 {
+    match told {
+        Ok(Offer::Lines(lines)) => lines.len() as u32,
+        _ => 0,
+    }
 }
 
 fn has_ended(told: &Result<Offer, OutOfMemory>) -> bool {

@@ -107,7 +107,7 @@ pub(crate) fn carry_out<'l, 'p, R: Wait, G: Gate>(
 {
     match task {
         Task::Again => Ok(None),
-        Task::Segment(lease) => match run_out(post, pass, lease) {
+        Task::Segment(lease) => match run_out(post, &*pass, lease) {
             Ok(packet) => Ok(Some(packet)),
             Err(refused) => Err(give_up(post, pass, refused)),
         },
