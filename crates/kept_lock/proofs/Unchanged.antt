@@ -1,11 +1,12 @@
 -- What a leave leaves that adds nothing, and one behind another.
-use Rattle.std.proofs.Common.{◌≡◌, ◌∙◌, ℕ, Option, Some, List, [], ◌++◌, ap, subst, sym, append-nil}
+use Rattle.std.proofs.Common.{◌≡◌, ◌∙◌, ℕ, Option, Some, List, [], ◌++◌, ap, subst, sym, append-nil, append_assoc}
 use Rattle.std.specs.Prelude.{IfSome}
 use Rattle.std.proofs.Math.Seq.{drop-length}
-use Rattle.std.proofs.lemmas.List.Elements.{All-nil}
+use Rattle.std.proofs.lemmas.List.Elements.{All-append}
 use Rattle.kept_lock.specs.declared.view.Known.{Known}
-use Rattle.kept_lock.specs.History.{Adds}
+use Rattle.kept_lock.specs.History.{Adds, later_than}
 use Rattle.kept_lock.specs.Knowing.{entered, left_at}
+use Rattle.kept_lock.proofs.Entries.{later_than-append}
 
 -- what a clause says of the value of a guard, said of that value
 pub at_value : {V : Type 0} → (P : V → Type 0) (o : Option V) (y : V) → o ≡ Some y → IfSome o P → P y

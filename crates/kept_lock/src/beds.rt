@@ -1,4 +1,6 @@
 // Where passes nap.
+ghost use Rattle.std.specs.Prelude.{◌<◌};
+
 use crate::bed::Bed;
 use crate::wakes::Wakes;
 use std::sync::Wait;

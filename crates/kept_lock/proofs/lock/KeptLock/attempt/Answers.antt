@@ -11,17 +11,17 @@ use denote.MutBor.{at_last}
 use Rattle.kept_lock.proofs.lock.KeptLock.attempt.Given as given
 use Rattle.kept_lock.proofs.lock.KeptLock.attempt.Goals as goal
 
-meets : (g : given.Over) (c : goal.After-work-result g) → Meets g.V.Kept.history g.V.Kept.owner g.V.Kept.stands (name_of c.args.self.now) (known c.args.pass.now) c.get_mut.result.now
+meets : (g : given.Over) (c : goal.After-guard-2-1 g) → Meets g.V.Kept.history g.V.Kept.owner g.V.Kept.stands (name_of c.args.self.now) (known c.args.pass.now) c.get_mut.result.now
 meets g c = let e = c.enter-guard.ensures in let is = c.get_mut.ensures.value in let y = c.get_mut.result.now in record {
   stands_for_name = at_value (λ z. g.V.Kept.stands z (name_of c.args.self.now)) _ y is e.stands;
   agrees = at_value (λ z. Agrees g.V.Kept.owner (known c.args.pass.now) (g.V.Kept.history z)) _ y is e.agrees;
   accounts = at_value (λ z. Accounts g.V.Kept.owner (known c.args.pass.now) (g.V.Kept.history z)) _ y is e.accounts;
 }
 
-entered_there : (g : given.Over) (c : goal.After-work-result g) → known (pass_in c.enter-guard.result) ≡ entered (known c.args.pass.now) (g.V.Kept.history c.get_mut.result.now)
+entered_there : (g : given.Over) (c : goal.After-guard-2-1 g) → known (pass_in c.enter-guard.result) ≡ entered (known c.args.pass.now) (g.V.Kept.history c.get_mut.result.now)
 entered_there g c = at_value (λ z. known (pass_in c.enter-guard.result) ≡ entered (known c.args.pass.now) (g.V.Kept.history z)) _ c.get_mut.result.now c.get_mut.ensures.value c.enter-guard.ensures.entered
 
-did : (g : given.Over) (c : goal.After-work-result g) → FnOnceReturnsAtMut g.F.FnOnce c.args.work c.get_mut.result.now c.work-result.result c.work-result.new.arg2
+did : (g : given.Over) (c : goal.After-guard-2-1 g) → FnOnceReturnsAtMut g.F.FnOnce c.args.work c.get_mut.result.now c.work-result.result c.work-result.new.arg2
 did g c = record { shown = c.get_mut.result; shows = refl; left = at_last c.get_mut.result c.work-result.new.arg2; met = c.work-result.ensures; leaves = refl }
 
 pub leave_as-requires-clause-stands : goal.leave_as-requires-clause-stands
