@@ -79,7 +79,9 @@ impl Crew {
 
     /// A segment was run, which took so many ticks.
     pub fn note(&mut self, ticks: u32)
-        ensures { self.new ≡ record self.old { pace = self.old.pace - self.old.pace / 8 + ticks } }
+        ensures pace { self.new.pace ≡ self.old.pace - self.old.pace / 8 + ticks }
+        ensures seats { self.new.seats ≡ self.old.seats }
+        ensures told { self.new.told ≡ self.old.told }
     {
         self.pace = self.pace - self.pace / 8 + ticks as u64;
     }
