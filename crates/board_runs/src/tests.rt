@@ -1,5 +1,6 @@
 //! Boards of plans of texts.
 
+mod crews;
 mod ends;
 mod halts;
 mod shares;

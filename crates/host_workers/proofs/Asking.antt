@@ -4,11 +4,9 @@ use Rattle.std.specs.Prelude.{All, Contains, option_map}
 use Rattle.std.proofs.lemmas.List.Elements.{All-nil, All-cons, All-append}
 use Rattle.wave_base.specs.declared.memory.OutOfMemory.{OutOfMemory}
 use Rattle.wave_base.specs.declared.numbers.Worker.{Worker}
-use Rattle.kept_lock.specs.declared.attempt.Attempt.{Attempt}
-use Rattle.kept_lock.specs.declared.attempt.Attempt.TheVariants as attempt
 use Rattle.kept_lock.specs.declared.view.Known.{Known}
 use Rattle.kept_lock.specs.Knowing.{entered, left_at}
-use Rattle.kept_lock.specs.Visits.{AddsAsTold, Meets}
+use Rattle.kept_lock.specs.History.{Adds}
 use Rattle.wave_labels.specs.Labels.{act_of}
 use Rattle.wave_states.specs.Labels as theory
 use Rattle.wave_machine.specs.declared.lease.Lease.{Lease}
@@ -23,47 +21,46 @@ use Rattle.wave_board.specs.declared.origin.Origin.{Origin}
 use Rattle.wave_board.specs.declared.trail.StopCause.{StopCause}
 use Rattle.wave_board.specs.declared.trail.Trail.{Trail}
 use Rattle.wave_board.specs.declared.trail.Trail.TheVariants.{Step, Halt}
-use Rattle.wave_board.specs.declared.work.Work.{Work}
-use Rattle.wave_board.specs.declared.work.Work.TheVariants.{Stepped, Segment, Nothing, Finished, Stopped}
+use Rattle.wave_board.specs.declared.work.Work.TheVariants as work
 use Rattle.wave_board.specs.Boards.{InEachState, IsAt, IsWord, StandsFor, StandsStill, WordStands, history_of, labels_in, labels_of, owner_of}
 use Rattle.wave_board.specs.Taking.{AreEven, IsFinished, Took, begins, ends}
 use Rattle.wave_board.proofs.Staying.{labels_are}
+use Rattle.host_workers.specs.declared.task.Task.{Task}
+use Rattle.host_workers.specs.declared.task.Task.TheVariants.{Segment, Again, Rest, Finished, Stopped}
 use Rattle.host_workers.specs.Endings.{IsFinishedRun, IsHaltedBy}
 use Rattle.host_workers.specs.Passes.{GoesOn, IsReady, NoHalts}
 use Rattle.host_workers.specs.inner.Rounds.{Asked, HasLease}
 use Rattle.host_workers.specs.inner.Visits.{HasTaken, Walked}
 use Rattle.host_workers.proofs.Entries.{no_halt_more, odd_start, own_contains, word_halts, word_why}
-use Rattle.host_workers.proofs.Visiting.{Left, left, left_owns, left_same, made_same}
+use Rattle.host_workers.proofs.Visiting.{Finds, Left, adds_none, left, left_owns, left_same, made_same}
+use Rattle.host_workers.proofs.Rounding.{is_calm}
 use Rattle.host_workers.proofs.Walking.{even_steps, no_halt_steps, own_steps}
 
-module _ (o : Origin) (k : Known Trail) (w : Worker) (ready : IsReady o k w) (y : Board) (meets : Meets history_of owner_of StandsFor o k y) where
+module _ (o : Origin) (k : Known Trail) (w : Worker) (ready : IsReady o k w) (y : Board) (meets : Finds o k y) where
   module _ (z : Board) (still : StandsStill y z) where
     pub stands_after : StandsFor z o
     stands_after = still o meets.stands_for_name
 
     -- where a segment came behind some labels, its Start stands behind them
-    leased_history : (lease : Lease) (mid : Board) (walked : Walked y w mid) (t : Took mid w z (Segment lease)) → history_of z ≡ history_of y ++ (map Step walked.labels ++ Step t.0 ∷ [])
+    leased_history : (lease : Lease) (mid : Board) (walked : Walked y w mid) (t : Took mid w z (work.Segment lease)) → history_of z ≡ history_of y ++ (map Step walked.labels ++ Step t.0 ∷ [])
     leased_history lease mid walked t = t.1.history ∙ ap (λ h. h ++ Step t.0 ∷ []) walked.history ∙ append_assoc (history_of y) (map Step walked.labels) (Step t.0 ∷ [])
 
-    leased_own : (lease : Lease) (mid : Board) (walked : Walked y w mid) (t : Took mid w z (Segment lease)) → All (λ e. owner_of e ≡ k.number) (map Step walked.labels ++ Step t.0 ∷ [])
+    leased_own : (lease : Lease) (mid : Board) (walked : Walked y w mid) (t : Took mid w z (work.Segment lease)) → All (λ e. owner_of e ≡ k.number) (map Step walked.labels ++ Step t.0 ∷ [])
     leased_own lease mid walked t =
         All-append (λ e. owner_of e ≡ k.number) (map Step walked.labels) (Step t.0 ∷ []) (own_steps k.number w walked.labels (sym ready.number) walked.own)
         (All-cons (λ e. owner_of e ≡ k.number) (Step t.0) [] (ap (λ (v : Worker). v.0) t.2 ∙ sym ready.number) (All-nil (λ e. owner_of e ≡ k.number)))
 
     -- what was appended is the worker's
-    pub adds : (told : Attempt (Result Work OutOfMemory)) → HasTaken y w z told → AddsAsTold owner_of k.number told (history_of y) (history_of z)
-    adds (attempt.Added (Ok (Stepped l))) h = (map Step h.labels, h.history, own_steps k.number w h.labels (sym ready.number) h.own)
-    adds (attempt.Added (Ok (Segment lease))) h = (map Step h.1.labels ++ Step h.2.0 ∷ [], leased_history lease h.0 h.1 h.2, leased_own lease h.0 h.1 h.2)
-    adds (attempt.Added (Ok Nothing)) h = absurd h
-    adds (attempt.Added (Ok Finished)) h = absurd h
-    adds (attempt.Added (Ok (Stopped why))) h = absurd h
-    adds (attempt.Added (Err e)) h = absurd h
-    adds (attempt.Nothing (Ok (Stepped l))) h = absurd (h.0 tt)
-    adds (attempt.Nothing (Ok (Segment lease))) h = absurd (h.0 tt)
-    adds (attempt.Nothing (Ok Nothing)) h = h.1.3
-    adds (attempt.Nothing (Ok Finished)) h = h.1.2
-    adds (attempt.Nothing (Ok (Stopped why))) h = h.1.1
-    adds (attempt.Nothing (Err e)) h = h
+    walks : Walked y w z → Adds owner_of k.number (history_of y) (history_of z)
+    walks h = (map Step h.labels, h.history, own_steps k.number w h.labels (sym ready.number) h.own)
+
+    pub adds : (r : Result Task OutOfMemory) → HasTaken y w z r → Adds owner_of k.number (history_of y) (history_of z)
+    adds (Ok (Segment lease)) h = (map Step h.1.labels ++ Step h.2.0 ∷ [], leased_history lease h.0 h.1 h.2, leased_own lease h.0 h.1 h.2)
+    adds (Ok Again) h = walks h
+    adds (Ok Rest) h = walks h
+    adds (Ok Finished) h = adds_none k.number (history_of y) (history_of z) h.2
+    adds (Ok (Stopped why)) h = adds_none k.number (history_of y) (history_of z) h.1
+    adds (Err e) h = adds_none k.number (history_of y) (history_of z) h
 
     module _ (k' : Known Trail) (is : k' ≡ left_at (entered k (history_of y)) (history_of z)) where
       same : history_of z ≡ history_of y → Left k k' z []
@@ -106,7 +103,7 @@ module _ (o : Origin) (k : Known Trail) (w : Worker) (ready : IsReady o k w) (y 
           }
 
       -- a segment is out
-      leased : (lease : Lease) (mid : Board) → Walked y w mid → Took mid w z (Segment lease) → HasLease o k' w lease
+      leased : (lease : Lease) (mid : Board) → Walked y w mid → Took mid w z (work.Segment lease) → HasLease o k' w lease
       leased lease mid walked t =
           let l = t.0 in
           let more = map Step walked.labels ++ Step l ∷ [] in
@@ -135,9 +132,9 @@ module _ (o : Origin) (k : Known Trail) (w : Worker) (ready : IsReady o k w) (y 
           at_plan : (s : TheState) → IsAt z o s → (lease : Lease) → lease.worker ≡ w → IsInHand z.machine.kept.plan.program lease (s.hands lease.worker.0) → IsInHand o.plan.now.program lease (s.hands w.0)
           at_plan s at lease same i = subst (λ (v : Worker). IsInHand o.plan.now.program lease (s.hands v.0)) same (subst (λ (p : Plan). IsInHand p.program lease (s.hands lease.worker.0)) at.plan i)
 
-      -- of a visit that added something
-      pub asked_added : (r : Result Work OutOfMemory) → HasTaken y w z (attempt.Added r) → GoesOn k k' × Asked o k' w r
-      asked_added (Ok (Stepped l)) h =
+      -- it is ready where labels were taken
+      walked_on : Walked y w z → GoesOn k k' × IsReady o k' w
+      walked_on h =
           let x = left k k' y z (map Step h.labels) is h.history meets.agrees.0 in (
             x.on,
             record {
@@ -147,17 +144,11 @@ module _ (o : Origin) (k : Known Trail) (w : Worker) (ready : IsReady o k w) (y 
               no_halts = subst NoHalts (sym x.made) (no_halt_steps h.labels k.made ready.no_halts);
             },
           )
-      asked_added (Ok (Segment lease)) h = ((left k k' y z (map Step h.1.labels ++ Step h.2.0 ∷ []) is (leased_history lease h.0 h.1 h.2) meets.agrees.0).on, leased lease h.0 h.1 h.2)
-      asked_added (Ok Nothing) h = absurd h
-      asked_added (Ok Finished) h = absurd h
-      asked_added (Ok (Stopped why)) h = absurd h
-      asked_added (Err e) h = absurd h
 
-      -- and of one that added nothing
-      pub asked_nothing : (r : Result Work OutOfMemory) → HasTaken y w z (attempt.Nothing r) → GoesOn k k' × Asked o k' w r
-      asked_nothing (Ok (Stepped l)) h = absurd (h.0 tt)
-      asked_nothing (Ok (Segment lease)) h = absurd (h.0 tt)
-      asked_nothing (Ok Nothing) h = ((same h.1.3).on, ready_still h.1.3)
-      asked_nothing (Ok Finished) h = ((same h.1.2).on, (ready_still h.1.2, over h.1.2 h.1.1))
-      asked_nothing (Ok (Stopped why)) h = ((same h.1.1).on, (ready_still h.1.1, by_other why h.1.1 h.1.0))
-      asked_nothing (Err e) h = ((same h).on, ready_still h)
+      pub asked : (r : Result Task OutOfMemory) → HasTaken y w z r → GoesOn k k' × Asked o k' w r
+      asked (Ok (Segment lease)) h = ((left k k' y z (map Step h.1.labels ++ Step h.2.0 ∷ []) is (leased_history lease h.0 h.1 h.2) meets.agrees.0).on, leased lease h.0 h.1 h.2)
+      asked (Ok Again) h = walked_on h
+      asked (Ok Rest) h = walked_on h
+      asked (Ok Finished) h = ((same h.2).on, (ready_still h.2, over h.2 h.1))
+      asked (Ok (Stopped why)) h = ((same h.1).on, (ready_still h.1, by_other why h.1 h.0))
+      asked (Err e) h = ((same h).on, is_calm o k' w (ready_still h))

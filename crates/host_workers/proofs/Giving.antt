@@ -1,14 +1,12 @@
 -- What a worker knows when it has given a segment back, or stopped the workers.
-use Rattle.std.proofs.Common.{◌≡◌, ◌∙◌, List, [], ◌∷◌, ◌++◌, Option, Some, None, Ok, Err, Result, refl, sym, ap, subst, lit<, map}
-use Rattle.std.specs.Prelude.{Contains, IsSome}
-use Rattle.std.proofs.lemmas.List.Elements.{Contains-append_right}
-use Rattle.wave_base.specs.declared.memory.OutOfMemory.{OutOfMemory}
+use Rattle.std.proofs.Common.{◌≡◌, ◌∙◌, List, [], ◌∷◌, ◌++◌, Option, Some, None, refl, sym, ap, subst, lit<, map}
+use Rattle.std.specs.Prelude.{All, Contains, IsSome}
+use Rattle.std.proofs.lemmas.List.Elements.{All-nil, All-cons, Contains-append_right}
 use Rattle.wave_base.specs.declared.numbers.Worker.{Worker}
 use Rattle.wave_base.specs.declared.pause.Pause.{Pause}
 use Rattle.kept_lock.specs.declared.view.Known.{Known}
 use Rattle.kept_lock.specs.History.{Adds}
 use Rattle.kept_lock.specs.Knowing.{entered, left_at}
-use Rattle.kept_lock.specs.Visits.{Meets}
 use Rattle.kept_lock.proofs.Entries.{starts_whole}
 use Rattle.wave_states.specs.Labels as theory
 use Rattle.plan_actors.specs.Plans.{Plan}
@@ -21,17 +19,17 @@ use Rattle.wave_board.specs.declared.trail.StopCause.{StopCause}
 use Rattle.wave_board.specs.declared.trail.Trail.{Trail}
 use Rattle.wave_board.specs.declared.trail.Trail.TheVariants.{Step, Halt}
 use Rattle.wave_board.specs.Boards.{StandsFor, history_of, owner_of}
-use Rattle.wave_board.specs.Giving.{CanGive, IsGiven, MayGive}
+use Rattle.wave_board.specs.Giving.{CanGive, Gives, IsGiven, MayGive}
 use Rattle.wave_board.specs.Staying.{LeasesStay}
 use Rattle.wave_board.specs.Taking.{AreEven}
 use Rattle.host_workers.specs.Endings.{IsHalted}
-use Rattle.host_workers.specs.Passes.{GoesOn, NoHalts, OnlyHalts}
-use Rattle.host_workers.specs.inner.Rounds.{HasOut, HasPaused, HasRun, IsCalm}
-use Rattle.host_workers.specs.inner.Visits.{HasGiven, HasStopped}
+use Rattle.host_workers.specs.Passes.{GoesOn, IsReady, NoHalts, OnlyHalts}
+use Rattle.host_workers.specs.inner.Rounds.{HasOut, HasPaused, IsCalm}
+use Rattle.host_workers.specs.inner.Visits.{HasStopped}
 use Rattle.host_workers.proofs.Entries.{even_stop, no_halt_more, only_more, only_none, word_halts}
-use Rattle.host_workers.proofs.Visiting.{adds_none, adds_one, left, left_same, made_same}
+use Rattle.host_workers.proofs.Visiting.{Finds, adds_none, adds_one, left, left_same, made_same}
 
-module _ (o : Origin) (k : Known Trail) (w : Worker) (y : Board) (meets : Meets history_of owner_of StandsFor o k y) where
+module _ (o : Origin) (k : Known Trail) (w : Worker) (y : Board) (meets : Finds o k y) where
   module _ (stay : LeasesStay) (lease : Lease) (why : Pause) (paused : HasPaused o k w lease why) where
     abbrev pub out : HasOut o k w
     out = paused.out
@@ -57,35 +55,27 @@ module _ (o : Origin) (k : Known Trail) (w : Worker) (y : Board) (meets : Meets 
     pub can_give : CanGive y lease why
     can_give = record { origin = o; state = meets.stands_for_name.0; may = may_give }
 
-    module _ (z : Board) where
-      pub stands_given : (r : Result (Unit {0}) OutOfMemory) → HasGiven y lease why z r → StandsFor z o
-      stands_given (Ok u) h = h.0 o meets.stands_for_name.0 may_give
-      stands_given (Err e) h = h.0 o meets.stands_for_name
+    module _ (z : Board) (gives : Gives y lease why z) (h : IsGiven y z lease) where
+      pub stands_given : StandsFor z o
+      stands_given = gives o meets.stands_for_name.0 may_give
 
-      mine : (h : IsGiven y z lease) → h.label.worker.0 ≡ k.number
-      mine h = ap (λ (l : theory.Label). l.worker) h.is_stop ∙ ap (λ (v : Worker). v.0) paused.worker_is ∙ sym out.calm.number
+      mine : h.label.worker.0 ≡ k.number
+      mine = ap (λ (l : theory.Label). l.worker) h.is_stop ∙ ap (λ (v : Worker). v.0) paused.worker_is ∙ sym out.calm.number
 
-      pub adds_given : (r : Result (Unit {0}) OutOfMemory) → HasGiven y lease why z r → Adds owner_of k.number (history_of y) (history_of z)
-      adds_given (Ok u) h = adds_one k.number (history_of y) (history_of z) (Step h.1.label) h.1.history (mine h.1)
-      adds_given (Err e) h = adds_none k.number (history_of y) (history_of z) h.1
+      pub own_given : All (λ e. owner_of e ≡ k.number) (Step h.label ∷ [])
+      own_given = All-cons (λ e. owner_of e ≡ k.number) (Step h.label) [] mine (All-nil (λ e. owner_of e ≡ k.number))
 
-      pub given : (k' : Known Trail) → k' ≡ left_at (entered k (history_of y)) (history_of z) → (r : Result (Unit {0}) OutOfMemory) → HasGiven y lease why z r → GoesOn k k' × HasRun o k' w r
-      given k' is (Ok u) h =
-          let x = left k k' y z (Step h.1.label ∷ []) is h.1.history meets.agrees.0 in
-          let act = ap (λ (l : theory.Label). l.act) h.1.is_stop in (
-            x.on,
-            record {
-              number = x.number ∙ out.calm.number;
-              is_worker = out.is_worker;
-              even = subst AreEven (sym x.made) (even_stop k.made h.1.label (ap theory.is_start act) (ap theory.is_stop act) out.odd);
-              no_halts = subst NoHalts (sym x.made) (no_halt_more k.made h.1.label out.calm.no_halts);
-            },
-          )
-      given k' is (Err e) h =
-          let x = left_same k k' y z is h.1 meets.agrees.0 in (
-            x.on,
-            record { number = x.number ∙ out.calm.number; no_halts = subst NoHalts (sym (made_same k k' z x)) out.calm.no_halts },
-          )
+      -- the worker has given back each segment then
+      pub ready_given : (k' : Known Trail) → k' ≡ left_at (entered k (history_of y)) (history_of z) → IsReady o k' w
+      ready_given k' is =
+          let x = left k k' y z (Step h.label ∷ []) is h.history meets.agrees.0 in
+          let act = ap (λ (l : theory.Label). l.act) h.is_stop in
+          record {
+            number = x.number ∙ out.calm.number;
+            is_worker = out.is_worker;
+            even = subst AreEven (sym x.made) (even_stop k.made h.label (ap theory.is_start act) (ap theory.is_stop act) out.odd);
+            no_halts = subst NoHalts (sym x.made) (no_halt_more k.made h.label out.calm.no_halts);
+          }
 
   module _ (calm : IsCalm o k w) (why : StopCause) (z : Board) (stopped : HasStopped y w why z) where
     pub stands_stopped : StandsFor z o

@@ -4,6 +4,7 @@ pub mod Walking
 pub mod Asking
 pub mod Giving
 pub mod Offering
+pub mod Turning
 pub mod Visited
 pub mod Rounding
 pub mod Writing

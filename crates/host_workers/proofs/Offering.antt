@@ -1,5 +1,5 @@
 -- What the worker that writes knows when it has asked for lines.
-use Rattle.std.proofs.Common.{◌≡◌, ◌∙◌, ◌↔◌, ◌<◌, ◌≤◌, ◌+◌, ◌^◌, inl, inr, ℕ, List, [], Some, Ok, Err, Result, sym, ap, subst, length, arith}
+use Rattle.std.proofs.Common.{◌≡◌, ◌∙◌, ◌↔◌, ◌<◌, ◌≤◌, ◌+◌, ◌^◌, inl, inr, ℕ, List, [], Option, Some, None, Ok, Err, Result, sym, ap, subst, length, arith}
 use Rattle.std.specs.Prelude.{option_and_then}
 use Rattle.std.specs.Option.{option_map_or}
 use Rattle.std.proofs.lemmas.Bool.{cases_lt}
@@ -11,12 +11,9 @@ use Rattle.wave_base.specs.declared.script.Line.{Line}
 use Rattle.wave_base.specs.declared.shown.Shown.{Shown}
 use Rattle.wave_base.specs.declared.start.Start.{Start}
 use Rattle.wave_base.specs.Fold.{Head}
-use Rattle.kept_lock.specs.declared.attempt.Attempt.{Attempt}
-use Rattle.kept_lock.specs.declared.attempt.Attempt.TheVariants as attempt
 use Rattle.kept_lock.specs.declared.view.Known.{Known}
-use Rattle.kept_lock.specs.History.{StartsWith}
+use Rattle.kept_lock.specs.History.{Adds, StartsWith}
 use Rattle.kept_lock.specs.Knowing.{entered, left_at}
-use Rattle.kept_lock.specs.Visits.{AddsAsTold, Meets}
 use Rattle.listing_out.specs.Parts.{IsShownAt}
 use Rattle.script_fold.specs.Runs.{finished_of}
 use Rattle.plan_actors.specs.Calls.{code_ran}
@@ -31,17 +28,18 @@ use Rattle.wave_machine.specs.Showing.{IsLineOf}
 use Rattle.wave_board.specs.declared.board.Board.{Board}
 use Rattle.wave_board.specs.declared.origin.Origin.{Origin}
 use Rattle.wave_board.specs.declared.trail.Trail.{Trail}
-use Rattle.wave_board.specs.declared.work.Work.TheVariants.{Stepped, Segment, Nothing, Finished, Stopped}
-use Rattle.wave_board.specs.Boards.{IsAt, StandsFor, StandsStill, history_of, labels_of, owner_of}
+use Rattle.wave_board.specs.Boards.{IsAt, StandsStill, history_of, labels_of, owner_of}
 use Rattle.wave_board.specs.Fresh.{TellsFresh}
 use Rattle.wave_board.specs.Staying.{ResultsStay}
 use Rattle.wave_board.specs.Taking.{IsFinished}
 use Rattle.host_workers.specs.declared.offer.Offer.{Offer}
 use Rattle.host_workers.specs.declared.offer.Offer.TheVariants.{Lines, Task}
+use Rattle.host_workers.specs.declared.task.Task.TheVariants.{Segment, Again, Rest, Finished, Stopped}
 use Rattle.host_workers.specs.Passes.{GoesOn, IsReady}
-use Rattle.host_workers.specs.inner.Visits.{HasFound}
-use Rattle.host_workers.specs.inner.Writing.{AreCommitted, AreNext, Offered, told_of}
+use Rattle.host_workers.specs.inner.Visits.{HasFound, TellsTo}
+use Rattle.host_workers.specs.inner.Writing.{AreCommitted, AreNext, AreToldOf, MayWrite, Offered, WroteAll, told_of}
 use Rattle.host_workers.proofs.Asking as asking
+use Rattle.host_workers.proofs.Visiting.{Finds, adds_none}
 
 -- what the laws say that an offer rests on
 pub record Laws : Type 0 where
@@ -60,7 +58,7 @@ line_stands done i x h = record {
   made = ap (λ m. option_map_or (λ ts. ts) m []) h.made;
 }
 
-module _ (laws : Laws) (o : Origin) (k : Known Trail) (w : Worker) (ready : IsReady o k w) (written : ℕ) (there : AreCommitted o k written) (y : Board) (meets : Meets history_of owner_of StandsFor o k y) where
+module _ (laws : Laws) (o : Origin) (k : Known Trail) (w : Worker) (ready : IsReady o k w) (written : ℕ) (there : AreCommitted o k written) (y : Board) (meets : Finds o k y) where
   abbrev pub s : TheState
   s = meets.stands_for_name.0
 
@@ -94,54 +92,55 @@ module _ (laws : Laws) (o : Origin) (k : Known Trail) (w : Worker) (ready : IsRe
       (ap (λ (p : Plan). finished_of (code_ran p.program) p.program.shape o.start.now p.script) (sym at.plan)) in
       told.count
 
-  module _ (z : Board) (still : StandsStill y z) where
-    pub adds_found : (told : Attempt (Result Offer OutOfMemory)) → HasFound y w z written told → AddsAsTold owner_of k.number told (history_of y) (history_of z)
-    adds_found (attempt.Added (Ok (Lines lines))) h = absurd h
-    adds_found (attempt.Added (Ok (Task work))) h = asking.adds o k w ready y meets z still (attempt.Added (Ok work)) h.1
-    adds_found (attempt.Added (Err e)) h = absurd h
-    adds_found (attempt.Nothing (Ok (Lines lines))) h = h.1
-    adds_found (attempt.Nothing (Ok (Task work))) h = asking.adds o k w ready y meets z still (attempt.Nothing (Ok work)) h.1
-    adds_found (attempt.Nothing (Err e)) h = h
+  -- the next lines
+  next : (k' : Known Trail) (z : Board) → k'.seen ≡ history_of z → (lines : List Shown) → TellsFresh y written (Some lines) → history_of z ≡ history_of y → AreNext o k' written lines
+  next k' z seen_is lines tells h =
+      let t = tells o s at in
+      let due : written < s.head.done = t.0.0 in
+      let count = t.1.count in
+      let more : written + length lines ≤ s.head.done = omega (arith, count, due) in
+      let from = head.first in
+      record {
+        shown = λ i x e. line_stands (told_of o) (written + i) x (t.1.each i x e);
+        committed = λ b s' at' on. (let stays = laws.results o y b s s' at at' (subst (StartsWith (history_of b)) (seen_is ∙ h) on) in omega (arith, stays, more));
+        some = omega (arith, count, due);
+        from_one = omega (arith, from);
+        few = (let f = few in omega (arith, f, more));
+      }
 
-    module _ (k' : Known Trail) (is : k' ≡ left_at (entered k (history_of y)) (history_of z)) where
-      seen_is : k'.seen ≡ history_of z
-      seen_is = ap (λ (x : Known Trail). x.seen) is
+  -- where it is finished and no lines are due all are written
+  all_told : TellsFresh y written None → IsFinished y s → written ≡ length (told_of o).results
+  all_told tells finished =
+      let none : s.head.done ≤ written = not_below written s.head.done (λ l. tells o s at (l, inr finished)) in
+      let count = all_done finished in
+      let c = committed in
+      omega (arith, none, count, c)
 
-      next : (lines : List Shown) → TellsFresh y written (Some lines) → history_of z ≡ history_of y → AreNext o k' written lines
-      next lines tells h =
-          let t = tells o s at in
-          let due : written < s.head.done = t.0.0 in
-          let count = t.1.count in
-          let more : written + length lines ≤ s.head.done = omega (arith, count, due) in
-          let from = head.first in
-          record {
-            shown = λ i x e. line_stands (told_of o) (written + i) x (t.1.each i x e);
-            committed = λ b s' at' on. (let stays = laws.results o y b s s' at at' (subst (StartsWith (history_of b)) (seen_is ∙ h) on) in omega (arith, stays, more));
-            some = omega (arith, count, due);
-            from_one = omega (arith, from);
-            few = (let f = few in omega (arith, f, more));
-          }
+no_lines : (lines : List Shown) → Some lines ≡ None → ⊥
+no_lines lines e = cc
 
-      pub offered_added : (r : Result Offer OutOfMemory) → HasFound y w z written (attempt.Added r) → GoesOn k k' × Offered o k' w written r
-      offered_added (Ok (Lines lines)) h = absurd h
-      offered_added (Ok (Task (Stepped l))) h = asking.asked_added o k w ready y meets z still k' is (Ok (Stepped l)) h.1
-      offered_added (Ok (Task (Segment lease))) h = asking.asked_added o k w ready y meets z still k' is (Ok (Segment lease)) h.1
-      offered_added (Ok (Task Nothing)) h = absurd h.1
-      offered_added (Ok (Task Finished)) h = absurd h.1
-      offered_added (Ok (Task (Stopped why))) h = absurd h.1
-      offered_added (Err e) h = absurd h
+module _ (laws : Laws) (o : Origin) (k : Known Trail) (w : Worker) (ready : IsReady o k w) (y : Board) (meets : Finds o k y) (z : Board) (still : StandsStill y z) where
+  pub adds_found : (written : Option ℕ) (r : Result Offer OutOfMemory) → HasFound y w z written r → Adds owner_of k.number (history_of y) (history_of z)
+  adds_found written (Ok (Lines lines)) h = adds_none k.number (history_of y) (history_of z) h.1
+  adds_found written (Ok (Task task)) h = asking.adds o k w ready y meets z still (Ok task) h.1
+  adds_found written (Err e) h = adds_none k.number (history_of y) (history_of z) h
 
-      pub offered_nothing : (r : Result Offer OutOfMemory) → HasFound y w z written (attempt.Nothing r) → GoesOn k k' × Offered o k' w written r
-      offered_nothing (Ok (Lines lines)) h = (let g = asking.goes_still o k w ready y meets z still k' is h.1 in (g.0, (g.1, next lines h.0 h.1)))
-      offered_nothing (Ok (Task (Stepped l))) h = absurd (h.1.0 tt)
-      offered_nothing (Ok (Task (Segment lease))) h = absurd (h.1.0 tt)
-      offered_nothing (Ok (Task Nothing)) h = asking.asked_nothing o k w ready y meets z still k' is (Ok Nothing) h.1
-      offered_nothing (Ok (Task Finished)) h =
-          let asked = asking.asked_nothing o k w ready y meets z still k' is (Ok Finished) h.1 in
-          let finished : IsFinished y s = h.1.1.1 o s at in
-          let none : s.head.done ≤ written = not_below written s.head.done (λ l. h.0 o s at (l, inr finished)) in
-          let count = all_done finished in
-          let c = committed in
-          (asked.0, (asked.1, omega (arith, none, count, c)))
-      offered_nothing (Ok (Task (Stopped why))) h = asking.asked_nothing o k w ready y meets z still k' is (Ok (Stopped why)) h.1
-      offered_nothing (Err e) h = asking.asked_nothing o k w ready y meets z still k' is (Err e) h
+  module _ (k' : Known Trail) (is : k' ≡ left_at (entered k (history_of y)) (history_of z)) where
+    may_write : (written : Option ℕ) → AreToldOf o k written → (lines : List Shown) → TellsTo y written (Some lines) → history_of z ≡ history_of y → MayWrite o k' written lines
+    may_write None there lines tells h = no_lines lines tells
+    may_write (Some n) there lines tells h = next laws o k w ready n there y meets k' z (ap (λ (x : Known Trail). x.seen) is) lines tells h
+
+    wrote_all : (written : Option ℕ) → AreToldOf o k written → TellsTo y written None → IsFinished y meets.stands_for_name.0 → WroteAll o written
+    wrote_all None there tells finished = tt
+    wrote_all (Some n) there tells finished = all_told laws o k w ready n there y meets tells finished
+
+    pub offered : (written : Option ℕ) → AreToldOf o k written → (r : Result Offer OutOfMemory) → HasFound y w z written r → GoesOn k k' × Offered o k' w written r
+    offered written there (Ok (Lines lines)) h = (let g = asking.goes_still o k w ready y meets z still k' is h.1 in (g.0, (g.1, may_write written there lines h.0 h.1)))
+    offered written there (Ok (Task (Segment lease))) h = asking.asked o k w ready y meets z still k' is (Ok (Segment lease)) h.1
+    offered written there (Ok (Task Again)) h = asking.asked o k w ready y meets z still k' is (Ok Again) h.1
+    offered written there (Ok (Task Rest)) h = asking.asked o k w ready y meets z still k' is (Ok Rest) h.1
+    offered written there (Ok (Task Finished)) h =
+        let a = asking.asked o k w ready y meets z still k' is (Ok Finished) h.1 in
+        (a.0, (a.1, wrote_all written there h.0 (h.1.1 o meets.stands_for_name.0 meets.stands_for_name.1)))
+    offered written there (Ok (Task (Stopped why))) h = asking.asked o k w ready y meets z still k' is (Ok (Stopped why)) h.1
+    offered written there (Err e) h = asking.asked o k w ready y meets z still k' is (Err e) h

@@ -8,8 +8,14 @@ use Rattle.kept_lock.specs.Knowing.{Agrees, entered, left_at}
 use Rattle.kept_lock.proofs.Entries.{grown_own, later_than-append, starts_longer}
 use Rattle.wave_board.specs.declared.board.Board.{Board}
 use Rattle.wave_board.specs.declared.trail.Trail.{Trail}
-use Rattle.wave_board.specs.Boards.{history_of, owner_of}
+use Rattle.wave_board.specs.declared.origin.Origin.{Origin}
+use Rattle.wave_board.specs.Boards.{StandsFor, history_of, owner_of}
 use Rattle.host_workers.specs.Passes.{GoesOn}
+
+-- a board that a pass finds: it stands for the name, and its history agrees with the pass
+pub record Finds (o : Origin) (k : Known Trail) (y : Board) : Type 0 where
+  pub stands_for_name : StandsFor y o
+  pub agrees : Agrees owner_of k (history_of y)
 
 -- the pass after a visit that added these entries
 pub record Left (k k' : Known Trail) (z : Board) (more : List Trail) : Type 0 where
@@ -52,3 +58,10 @@ adds_one n before after t h o = (t ∷ [], h, All-cons (λ e. owner_of e ≡ n) 
 
 pub adds_none : (n : ℕ) (before after : List Trail) → after ≡ before → Adds owner_of n before after
 adds_none n before after h = ([], h ∙ sym (append-nil before), All-nil (λ e. owner_of e ≡ n))
+
+-- one going on and then another
+pub goes_on : (k mid k' : Known Trail) → GoesOn k mid → GoesOn mid k' → GoesOn k k'
+goes_on k mid k' first second = record {
+  number = second.number ∙ first.number;
+  seen = subst (λ ts. StartsWith ts k.seen) (sym second.seen.1) (starts_longer mid.seen second.seen.0 k.seen first.seen);
+}

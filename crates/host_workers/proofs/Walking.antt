@@ -1,5 +1,5 @@
 -- Labels that a worker took one after the other in one visit.
-use Rattle.std.proofs.Common.{◌≡◌, ◌∙◌, ℕ, true, List, [], ◌∷◌, ◌++◌, map, ◌<◌, refl, sym, ap, subst, append_assoc, append-nil}
+use Rattle.std.proofs.Common.{◌≡◌, ◌∙◌, ℕ, true, Ok, List, [], ◌∷◌, ◌++◌, map, ◌<◌, refl, sym, ap, subst, append_assoc, append-nil}
 use Rattle.std.specs.Prelude.{All}
 use Rattle.std.proofs.lemmas.List.{map-append}
 use Rattle.std.proofs.lemmas.List.Elements.{All-nil, All-cons, All-head, All-tail, All-append, All-map}
@@ -12,12 +12,13 @@ use Rattle.wave_machine.specs.Prepared.{is_step}
 use Rattle.wave_board.specs.declared.board.Board.{Board}
 use Rattle.wave_board.specs.declared.trail.Trail.{Trail}
 use Rattle.wave_board.specs.declared.trail.Trail.TheVariants.{Step}
-use Rattle.wave_board.specs.declared.work.Work.{Work}
-use Rattle.wave_board.specs.declared.work.Work.TheVariants.{Stepped, Segment, Nothing, Finished, Stopped}
+use Rattle.wave_board.specs.declared.work.Work.TheVariants.{Stepped}
 use Rattle.wave_board.specs.Boards.{IsStanding, StandsStill, history_of, owner_of}
 use Rattle.wave_board.specs.Taking.{AreEven, MayTake, Took}
+use Rattle.host_workers.specs.declared.task.Task.{Task}
+use Rattle.host_workers.specs.declared.task.Task.TheVariants.{Segment, Again, Rest, Finished, Stopped}
 use Rattle.host_workers.specs.Passes.{NoHalts}
-use Rattle.host_workers.specs.inner.Visits.{HasWalked, Walked}
+use Rattle.host_workers.specs.inner.Visits.{HasTaken, HasWalked, Walked}
 use Rattle.host_workers.proofs.Entries.{even_step, no_halt_more}
 
 -- Starts and Stops are as many as before, and there is no Halt
@@ -90,10 +91,10 @@ module _ (a b : Board) (w : Worker) (walked : Walked a w b) where
     history = more.history ∙ ap (λ h. h ++ map Step more.labels) walked.history ∙ append_assoc (history_of a) (map Step walked.labels) (map Step more.labels) ∙ ap (λ h. history_of a ++ h) (sym (map-append Step walked.labels more.labels));
   }
 
-  pub took_on : (c : Board) (work : Work) → HasWalked b w c work → HasWalked a w c work
-  took_on c (Stepped l) h = walked_on c h
+  pub took_on : (c : Board) (task : Task) → HasWalked b w c task → HasTaken a w c (Ok task)
   took_on c (Segment lease) h = (h.0, walked_on h.0 h.1, h.2)
-  took_on c Nothing h = absurd h
+  took_on c Again h = walked_on c h
+  took_on c Rest h = walked_on c h
   took_on c Finished h = absurd h
   took_on c (Stopped why) h = absurd h
 

@@ -1,5 +1,5 @@
 -- How far the lines of a run are written.
-use Rattle.std.proofs.Common.{◌≡◌, ◌≢◌, ◌∙◌, ◌+◌, ◌≤◌, ℕ, List, [], ◌++◌, Option, Ok, Err, length, refl, sym, ap, subst, append_assoc, append-nil, arith}
+use Rattle.std.proofs.Common.{◌≡◌, ◌≢◌, ◌∙◌, ◌+◌, ◌≤◌, ℕ, List, [], ◌++◌, Option, Some, None, Ok, Err, length, refl, sym, ap, subst, append_assoc, append-nil, arith}
 use Rattle.std.specs.Io.KnownBytes.{Appends}
 use Rattle.std.specs.List.{concat}
 use Rattle.wave_base.specs.declared.numbers.Worker.{Worker}
@@ -18,15 +18,16 @@ use Rattle.wave_machine.specs.declared.plan.Plan.{Plan}
 use Rattle.wave_board.specs.declared.origin.Origin.{Origin}
 use Rattle.wave_board.specs.declared.trail.StopCause.TheVariants.{SinkFault}
 use Rattle.wave_board.specs.declared.trail.Trail.{Trail}
-use Rattle.wave_board.specs.declared.work.Work.{Work}
-use Rattle.wave_board.specs.declared.work.Work.TheVariants.{Stepped, Segment, Nothing, Finished, Stopped}
 use Rattle.host_workers.specs.declared.ending.Ending.{Ending}
 use Rattle.host_workers.specs.declared.ending.Ending.TheVariants as ending
-use Rattle.host_workers.specs.declared.offer.Offer.TheVariants.{Task}
+use Rattle.host_workers.specs.declared.offer.Offer.TheVariants as offer
+use Rattle.host_workers.specs.declared.packet.Packet.{Packet}
+use Rattle.host_workers.specs.declared.task.Task.{Task}
+use Rattle.host_workers.specs.declared.task.Task.TheVariants.{Segment, Again, Rest, Finished, Stopped}
 use Rattle.host_workers.specs.Endings.{Ended, IsHalted}
 use Rattle.host_workers.specs.Lines.{event_lines}
 use Rattle.host_workers.specs.Passes.{GoesOn, IsReady, OnlyHalts}
-use Rattle.host_workers.specs.inner.Rounds.{Asked}
+use Rattle.host_workers.specs.inner.Rounds.{Asked, Brings}
 use Rattle.host_workers.specs.inner.Writing.{AreCommitted, AreNext, BreaksOff, HasWritten, Offered, WritesUpTo, lines_of, told_of}
 use Rattle.wave_base.specs.Memory.{the_refusal}
 
@@ -116,22 +117,22 @@ module _ (o : Origin) (written : ℕ) (part : List Shown) (shown : AreShownFrom 
 
 -- the next lines came whole
 pub part_written : (o : Origin) (k : Known Trail) (w : Worker) (written : ℕ) (part : List Shown) (shape : Shape) (first n : ℕ) (a b : Option (List ℕ)) (f g : ℕ) → IsReady o k w → AreNext o k written part
-    → shape ≡ o.plan.now.program.shape → first ≡ o.start.now.next.0 + written → n ≡ length part → Appends a b (concat (lines_from shape first part)) → HasWritten o k w written a b f g (Ok (written + n))
+    → shape ≡ o.plan.now.program.shape → first ≡ o.start.now.next.0 + written → n ≡ length part → Appends a b (concat (lines_from shape first part)) → HasWritten o k w written a b f g (Ok (None, written + n))
 part_written o k w written part shape first n a b f g ready next same from count came =
-    subst (λ m. HasWritten o k w written a b f g (Ok (written + m))) (sym count) (ready, next.committed, part_came o written part next.shown shape first same from a b came)
+    subst (λ m. HasWritten o k w written a b f g (Ok (None, written + m))) (sym count) (ready, next.committed, part_came o written part next.shown shape first same from a b came)
+
+-- the task that was offered, as it was asked for
+pub offered_task : (o : Origin) (k : Known Trail) (w : Worker) (written : Option ℕ) (task : Task) → Offered o k w written (Ok (offer.Task task)) → Asked o k w (Ok task)
+offered_task o k w written (Segment lease) h = h
+offered_task o k w written Again h = h
+offered_task o k w written Rest h = h
+offered_task o k w written Finished h = h.0
+offered_task o k w written (Stopped why) h = h
 
 module _ (o : Origin) (k : Known Trail) (w : Worker) (written : ℕ) where
-  -- the work that was offered, as it was asked for
-  pub offered_task : (work : Work) → Offered o k w written (Ok (Task work)) → Asked o k w (Ok work)
-  offered_task (Stepped l) h = h
-  offered_task (Segment lease) h = h
-  offered_task Nothing h = h
-  offered_task Finished h = h.0
-  offered_task (Stopped why) h = h
-
   -- where it is finished all lines are written
-  pub offered_all : (work : Work) → Offered o k w written (Ok (Task work)) → work ≡ Finished → written ≡ length (told_of o).results
-  offered_all work h is = (subst (λ x. Offered o k w written (Ok (Task x))) is h).1
+  pub offered_all : (task : Task) → Offered o k w (Some written) (Ok (offer.Task task)) → task ≡ Finished → written ≡ length (told_of o).results
+  offered_all task h is = (subst (λ x. Offered o k w (Some written) (Ok (offer.Task x))) is h).1
 
   module _ (a b : Option (List ℕ)) (f g : ℕ) where
     -- the sink failed
@@ -150,8 +151,8 @@ module _ (o : Origin) (k : Known Trail) (w : Worker) (written : ℕ) where
 
   module _ (a : Option (List ℕ)) (f g : ℕ) where
     -- nothing was written
-    pub nothing_came : IsReady o k w → AreCommitted o k written → HasWritten o k w written a a f g (Ok written)
-    nothing_came ready there = (ready, there, stays o written a)
+    pub nothing_came : (packet : Option Packet) → Brings o k w packet → AreCommitted o k written → HasWritten o k w written a a f g (Ok (packet, written))
+    nothing_came packet brings there = (brings, there, stays o written a)
 
     pub ends_so : (e : Ending) → k.number ≡ w.0 → Ended o k e → e ≢ ending.WriteFault → (e ≡ ending.Finished → written ≡ length (told_of o).results) → HasWritten o k w written a a f g (Err e)
     ends_so e number ended no_sink all = (number, ended, breaks_here o written a, (λ is. (all is, all_written a a [] [] (nothing_written a []) refl)), (λ sink. absurd (no_sink sink)))

@@ -1,12 +1,16 @@
 //! The workers of a plan, each in a thread of its own, round one board under a lock.
 #![tactic(auto)]
 
+mod calls;
 mod ending;
 mod offer;
-mod offers;
+mod packet;
 mod post;
 mod run;
+mod takes;
+mod task;
 mod team;
+mod turns;
 mod visits;
 mod working;
 mod writer;

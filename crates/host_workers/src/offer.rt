@@ -1,11 +1,11 @@
+use crate::task::Task;
 use wave_base::{Seq, Shown};
-use wave_board::Work;
 
-/// What a visit of the worker that writes comes to.
+/// What a visit comes to.
 #[derive(Drop)]
 pub(crate) enum Offer {
-    /// These lines are to be written first.
+    /// These lines are to be written first: to the worker that writes alone.
     Lines(Seq<Shown>),
-    /// There is no line to write, and this was taken.
-    Task(Work),
+    /// There is no line to write, and this is to be done.
+    Task(Task),
 }

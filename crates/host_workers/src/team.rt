@@ -55,7 +55,7 @@ fn seated<'l, 'p, R, G>(
     Helper { post, pass }
 }
 
-/// Runs worker 0, which writes, beside the others. Where no thread can be made it runs last, and finishes alone.
+/// Runs worker 0, which writes, beside the others; where there are none, or no thread can be made, it does all.
 pub(crate) fn run_team<'l, 'p, R: Threads + Wait + Sync, G: Gate + Sync, K: Sink + Send>(
     post: &Post<'l, 'p, R, G>,
     first: &mut Pass<Board<'p>>,
@@ -71,13 +71,16 @@ pub(crate) fn run_team<'l, 'p, R: Threads + Wait + Sync, G: Gate + Sync, K: Sink
     ensures of_lock { IsPassOf post.now.lock.now first.new }
     ensures ended { HasEnded (name_of post.now.lock.now) post.now.plan.now (known first.new) (K.written out.old) (K.written out.new) (K.faults out.old) (K.faults out.new) result }
 {
+    if helpers.is_empty() {
+        return write_at(post, first, from, out);
+    }
     let mut helpers = Some(helpers);
-    let (ending, ()) = join_mut(
+    let ((), ending) = join_mut(
         post.rt,
-        &mut || write_at(post, first, from, out),
         &mut ||
             requires { IsSync R.row × IsSync G.row }
         { help(post.rt, helpers.take()) },
+        &mut || write_at(post, first, from, out),
     );
     ending
 }

@@ -1,23 +1,26 @@
-ghost use Rattle.std.specs.Prelude.{◌≡◌, ◌≢◌, Ok, Some};
+ghost use Rattle.std.specs.Prelude.{◌≡◌, ◌≢◌, Err, IfOk, Ok};
 ghost use Rattle.kept_lock.specs.Locks.{name_of, known, IsPassOf};
 ghost use Rattle.host_workers.specs.Endings.{Ended};
 ghost use Rattle.host_workers.specs.Passes.{GoesOn, IsReady};
-ghost use Rattle.host_workers.specs.inner.Rounds.{Asked, HasLease, HasRun, IsCalm, Rounded};
+ghost use Rattle.host_workers.specs.inner.Rounds.{Asked, Brings, HasLease, HasPaused, IsCalm, Rounded};
 ghost use Rattle.wave_base.specs.Memory.{the_refusal};
 
 use crate::ending::Ending;
+use crate::offer::Offer;
+use crate::packet::Packet;
 use crate::post::Post;
-use crate::visits::{ask, give_back, halt};
+use crate::task::Task;
+use crate::visits::{halt, visit};
 use kept_lock::{KeptLock, Pass};
 use std::alloc::Global;
 use std::sync::Wait;
 use wave_base::{OutOfMemory, Worker};
-use wave_board::{Board, StopCause, Work};
+use wave_board::{Board, StopCause};
 use wave_io::Gate;
 use wave_machine::{Lease, Plan, run_lease};
 
-/// Takes what can be done and runs segments until all is done, or somebody stops the workers. A segment is run outside the lock. Where there
-/// is nothing to do the worker naps.
+/// Takes what can be done and runs segments until all is done, or somebody stops the workers. A segment is run outside the lock, and given
+/// back at the visit that asks for the next. Where there is nothing to do, or others do it, the worker naps.
 pub fn worker<'p, R: Wait, G: Gate>(
     rt: &R,
     alloc: Global,
@@ -59,76 +62,83 @@ pub(crate) fn work_at<'l, 'p, R: Wait, G: Gate>(
     ensures ended { Ended (name_of post.now.lock.now) (known pass.new) result }
     ensures no_sink { result ≢ Ending.WriteFault }
 {
+    let mut packet = None;
     for _ in post.rt.forever() {
-        if let Some(ending) = round(post, pass) {
-            return ending;
+        match round(post, pass, packet) {
+            Ok(next) => packet = next,
+            Err(ending) => return ending,
         }
     }
     unreachable!()
 }
 
-// One round of a worker: it asks for work, and does it.
+// One round of a worker: it gives back what it brings, asks for work, and does it.
 fn round<'l, 'p, R: Wait, G: Gate>(
     post: &Post<'l, 'p, R, G>,
     pass: &mut Pass<Board<'p>>,
-) -> Option<Ending>
+    packet: Option<Packet>,
+) -> Result<Option<Packet>, Ending>
     requires of_lock { IsPassOf post.now.lock.now pass.old }
     requires plan { (name_of post.now.lock.now).plan.now ≡ post.now.plan.now }
-    requires ready { IsReady (name_of post.now.lock.now) (known pass.old) post.now.number }
+    requires brings { Brings (name_of post.now.lock.now) (known pass.old) post.now.number packet }
     ensures of_lock { IsPassOf post.now.lock.now pass.new }
     ensures rounded { Rounded (name_of post.now.lock.now) (known pass.new) post.now.number result }
 {
-    match ask(post, pass) {
-        Ok(work) => carry_out(post, pass, work),
-        Err(refused) => Some(give_up(post, pass, refused)),
+    match visit(post, pass, packet, None) {
+        Ok(Offer::Task(task)) => carry_out(post, pass, task),
+        Ok(Offer::Lines(_)) => unreachable!(),
+        Err(refused) => Err(give_up(post, pass, refused)),
     }
 }
 
-/// Does what a worker got.
+/// Does what a worker got, and tells what it brings to its next visit.
 pub(crate) fn carry_out<'l, 'p, R: Wait, G: Gate>(
     post: &Post<'l, 'p, R, G>,
     pass: &mut Pass<Board<'p>>,
-    work: Work,
-) -> Option<Ending>
+    task: Task,
+) -> Result<Option<Packet>, Ending>
     requires of_lock { IsPassOf post.now.lock.now pass.old }
     requires plan { (name_of post.now.lock.now).plan.now ≡ post.now.plan.now }
-    requires asked { Asked (name_of post.now.lock.now) (known pass.old) post.now.number (Ok work) }
+    requires asked { Asked (name_of post.now.lock.now) (known pass.old) post.now.number (Ok task) }
     ensures of_lock { IsPassOf post.now.lock.now pass.new }
     ensures on { GoesOn (known pass.old) (known pass.new) }
     ensures rounded { Rounded (name_of post.now.lock.now) (known pass.new) post.now.number result }
-    ensures finished { result ≡ Some Ending.Finished → work ≡ Work.Finished }
+    ensures finished { result ≡ Err Ending.Finished → task ≡ Task.Finished }
 {
-    match work {
-        Work::Stepped(_) => None,
-        Work::Segment(lease) => match run_out(post, pass, lease) {
-            Ok(()) => None,
-            Err(refused) => Some(give_up(post, pass, refused)),
+    match task {
+        Task::Again => Ok(None),
+        Task::Segment(lease) => match run_out(post, &*pass, lease) {
+            Ok(packet) => Ok(Some(packet)),
+            Err(refused) => Err(give_up(post, pass, refused)),
         },
-        Work::Nothing => {
+        Task::Rest => {
             post.lock.nap(post.rt, pass);
-            None
+            Ok(None)
         }
-        Work::Finished => Some(Ending::Finished),
-        Work::Stopped(why) => Some(Ending::Stopped(why)),
+        Task::Finished => Err(Ending::Finished),
+        Task::Stopped(why) => Err(Ending::Stopped(why)),
     }
 }
 
-// Runs a segment outside the lock, once the gate lets it through, and gives it back.
+// Runs a segment outside the lock, once the gate lets it through.
 fn run_out<'l, 'p, R: Wait, G: Gate>(
     post: &Post<'l, 'p, R, G>,
-    pass: &mut Pass<Board<'p>>,
+    pass: &Pass<Board<'p>>,
     mut lease: Lease,
-) -> Result<(), OutOfMemory>
-    requires of_lock { IsPassOf post.now.lock.now pass.old }
+) -> Result<Packet, OutOfMemory>
     requires plan { (name_of post.now.lock.now).plan.now ≡ post.now.plan.now }
-    requires leased { HasLease (name_of post.now.lock.now) (known pass.old) post.now.number lease }
-    ensures of_lock { IsPassOf post.now.lock.now pass.new }
-    ensures on { GoesOn (known pass.old) (known pass.new) }
-    ensures run { HasRun (name_of post.now.lock.now) (known pass.new) post.now.number result }
+    requires leased { HasLease (name_of post.now.lock.now) (known pass.now) post.now.number lease }
+    ensures { IfOk result (λ p. HasPaused (name_of post.now.lock.now) (known pass.now) post.now.number p.lease p.pause) }
 {
     post.gate.reach(lease.ticket, &lease.path);
+    let before = lease.actor.ticks();
     let pause = run_lease(post.alloc, &post.plan.program, &mut lease)?;
-    give_back(post, pass, lease, pause)
+    let ticks = before.saturating_sub(lease.actor.ticks());
+    Ok(Packet {
+        lease,
+        pause,
+        ticks,
+    })
 }
 
 /// Stops the workers for want of memory.

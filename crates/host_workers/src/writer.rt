@@ -6,14 +6,15 @@ ghost use Rattle.kept_lock.specs.Locks.{name_of, known, IsPassOf};
 ghost use Rattle.host_workers.specs.Endings.{Ended};
 ghost use Rattle.host_workers.specs.Lines.{event_lines};
 ghost use Rattle.host_workers.specs.Passes.{IsReady};
+ghost use Rattle.host_workers.specs.inner.Rounds.{Brings};
 ghost use Rattle.host_workers.specs.inner.Teams.{HasEnded};
 ghost use Rattle.host_workers.specs.inner.Writing.{AreCommitted, AreNext, HasWritten};
 
 use crate::ending::Ending;
 use crate::offer::Offer;
-use crate::offers::ask_for_lines;
+use crate::packet::Packet;
 use crate::post::Post;
-use crate::visits::halt;
+use crate::visits::{halt, visit};
 use crate::working::{carry_out, give_up};
 use kept_lock::{KeptLock, Pass};
 use listing_out::{ListError, parts_make_a_listing, write_lines};
@@ -73,39 +74,45 @@ pub(crate) fn write_at<'l, 'p, R: Wait, G: Gate, K: Sink>(
     ensures of_lock { IsPassOf post.now.lock.now pass.new }
     ensures ended { HasEnded (name_of post.now.lock.now) post.now.plan.now (known pass.new) (K.written out.old) (K.written out.new) (K.faults out.old) (K.faults out.new) result }
 {
+    let mut packet = None;
     let mut written = 0;
     for _ in post.rt.forever() {
-        match writing_round(post, pass, from, written, out) {
-            Ok(more) => written = more,
+        match writing_round(post, pass, packet, from, written, out) {
+            Ok((next, more)) => {
+                packet = next;
+                written = more;
+            }
             Err(ending) => return ending,
         }
     }
     unreachable!()
 }
 
-// One round of the worker that writes: new lines, or else some work. It gives how many tickets' lines are written then.
+// One round of the worker that writes: new lines, or else some work. It gives what it brings to its next visit, and of how many tickets lines
+// are written then.
 fn writing_round<'l, 'p, R: Wait, G: Gate, K: Sink>(
     post: &Post<'l, 'p, R, G>,
     pass: &mut Pass<Board<'p>>,
+    packet: Option<Packet>,
     from: Ticket,
     written: u32,
     out: &mut K,
-) -> Result<u32, Ending>
+) -> Result<(Option<Packet>, u32), Ending>
     requires of_lock { IsPassOf post.now.lock.now pass.old }
     requires plan { (name_of post.now.lock.now).plan.now ≡ post.now.plan.now }
     requires from { (name_of post.now.lock.now).start.now.next ≡ from }
-    requires ready { IsReady (name_of post.now.lock.now) (known pass.old) post.now.number }
+    requires brings { Brings (name_of post.now.lock.now) (known pass.old) post.now.number packet }
     requires committed { AreCommitted (name_of post.now.lock.now) (known pass.old) written }
     requires writer { post.now.number.0 ≡ 0 }
     ensures of_lock { IsPassOf post.now.lock.now pass.new }
     ensures written { HasWritten (name_of post.now.lock.now) (known pass.new) post.now.number written (K.written out.old) (K.written out.new) (K.faults out.old) (K.faults out.new) result }
     ensures later { K.faults out.old ≤ K.faults out.new }
 {
-    match ask_for_lines(post, pass, written) {
+    match visit(post, pass, packet, Some(written)) {
         Ok(Offer::Lines(lines)) => write_part(post, pass, from, written, &lines, out),
-        Ok(Offer::Task(work)) => match carry_out(post, pass, work) {
-            None => Ok(written),
-            Some(ending) => Err(ending),
+        Ok(Offer::Task(task)) => match carry_out(post, pass, task) {
+            Ok(next) => Ok((next, written)),
+            Err(ending) => Err(ending),
         },
         Err(refused) => Err(give_up(post, pass, refused)),
     }
@@ -119,7 +126,7 @@ fn write_part<'l, 'p, R: Wait, G, K: Sink>(
     written: u32,
     lines: &Seq<Shown>,
     out: &mut K,
-) -> Result<u32, Ending>
+) -> Result<(Option<Packet>, u32), Ending>
     requires of_lock { IsPassOf post.now.lock.now pass.old }
     requires plan { (name_of post.now.lock.now).plan.now ≡ post.now.plan.now }
     requires from { (name_of post.now.lock.now).start.now.next ≡ from }
@@ -134,7 +141,7 @@ fn write_part<'l, 'p, R: Wait, G, K: Sink>(
     let shape = &post.plan.program.program().shape;
     let next = Ticket(from.0 + written);
     match write_lines(post.alloc, out, shape, next, lines) {
-        Ok(()) => Ok(written + lines.len() as u32),
+        Ok(()) => Ok((None, written + lines.len() as u32)),
         Err(ListError::WriteFault) => {
             halt(post, pass, StopCause::SinkFault);
             Err(Ending::WriteFault)

@@ -1,35 +1,27 @@
-// A visit that may find nothing to do.
+// A visit that says whom it wakes.
 ghost use Rattle.std.specs.Prelude.{◌≡◌};
 ghost use Rattle.std.specs.Fn.{FnOnceTakesAtMut, FnOnceReturnsAtMut};
 ghost use Rattle.kept_lock.specs.History.{Adds};
 ghost use Rattle.kept_lock.specs.Knowing.{entered, left_at};
 ghost use Rattle.kept_lock.specs.Locks.{name_of, known, IsPassOf};
-ghost use Rattle.kept_lock.specs.Visits.{Meets, AddsAsTold};
+ghost use Rattle.kept_lock.specs.Visits.{Meets};
 
 use crate::kept::Kept;
 use crate::lock::{KeptLock, Pass};
+use crate::wakes::Wakes;
 use std::sync::Wait;
 
 /// What an attempt came to.
 #[derive(Debug, Drop)]
-pub enum Attempt<T> {
-    /// The history may have grown: those who nap are woken.
-    Added(T),
-    /// The history is as it was: nobody who naps is woken.
-    Nothing(T),
-}
-
-impl<T> Attempt<T> {
-    fn has_added(&self) -> bool {
-        match self {
-            Attempt::Added(_) => true,
-            Attempt::Nothing(_) => false,
-        }
-    }
+pub struct Attempt<T> {
+    /// What it tells.
+    pub told: T,
+    /// Whom it wakes as it leaves.
+    pub wakes: Wakes,
 }
 
 impl<V: Kept> KeptLock<V> {
-    /// As `visit`, but only where the work says that it added something are those who nap woken.
+    /// As `visit`, but the work says which of those who nap are woken.
     /// In the clauses y is the value that the work met, and z what it made of it.
     pub fn attempt<R: Wait, T, F: FnOnce(&mut V) -> Attempt<T>>(
         &self,
@@ -42,7 +34,7 @@ impl<V: Kept> KeptLock<V> {
             → FnOnceTakesAtMut F.FnOnce work y }
         requires keeps { (y : V) (r : Attempt T) (z : V) → Meets V.history V.owner V.stands (name_of self.now) (known pass.old) y
             → FnOnceReturnsAtMut F.FnOnce work y r z
-            → V.stands z (name_of self.now) × AddsAsTold V.owner (known pass.old).number r (V.history y) (V.history z) }
+            → V.stands z (name_of self.now) × Adds V.owner (known pass.old).number (V.history y) (V.history z) }
         ensures pass { IsPassOf self.now pass.new }
         ensures done { (y : V) × (z : V) × Meets V.history V.owner V.stands (name_of self.now) (known pass.old) y
             × FnOnceReturnsAtMut F.FnOnce work y result z
@@ -50,8 +42,8 @@ impl<V: Kept> KeptLock<V> {
     {
         let mut guard = self.enter(rt, pass);
         let result = work(guard.get_mut());
-        let adds = result.has_added();
-        guard.leave_as(adds);
+        let wakes = result.wakes;
+        guard.leave_as(wakes);
         result
     }
 }

@@ -20,12 +20,12 @@ impl<V: Kept> KeptLock<V> {
         ensures agrees { Agrees V.owner (known pass) (V.history result) }
         ensures accounts { Accounts V.owner (known pass) (V.history result) }
     {
-        let (mut seat, _) = pass.into_parts();
+        let (mut seat, _, _) = pass.into_parts();
         self.shut(rt, &mut seat);
         let KeptLock {
             table,
             bell: _,
-            news: _,
+            beds: _,
         } = self;
         let mut closed = table.close_with(seat);
         let value = closed.take(0).unwrap();

@@ -13,6 +13,7 @@ use crate::kept::Kept;
 use crate::lock::{KeptLock, Pass};
 use crate::plays::{Claim, Release};
 use crate::view::View;
+use crate::wakes::Wakes;
 use atomic_table::Seat;
 use std::sync::Wait;
 
@@ -63,22 +64,22 @@ impl<V: Kept> KeptLock<V> {
         unreachable!()
     }
 
-    // Puts the value back, gives up the word, and rings; those who nap too, where the pass has added something.
-    pub(crate) fn put_back(&self, pass: &mut Pass<V>, adds: bool)
+    // Puts the value back, gives up the word, rings, and wakes these of those who nap.
+    pub(crate) fn put_back(&self, pass: &mut Pass<V>, wakes: Wakes)
         requires inside { IsInside self.now pass.old }
         requires stands { IfSome (value_of pass.old) (λ y. V.stands y (name_of self.now)) }
         requires adds { IfSome (value_of pass.old) (λ y. Adds V.owner (known pass.old).number (known pass.old).seen (V.history y)) }
         ensures outside { IsPassOf self.now pass.new }
         ensures left { IfSome (value_of pass.old) (λ y. known pass.new ≡ left_at (known pass.old) (V.history y)) }
     {
-        let told = self.news.count_at(adds);
+        let called = self.beds.call(wakes, pass.bed);
         let value = pass.out.take().unwrap();
         let shared = &self.table.shared;
         let empty = shared.exchange(&mut pass.seat, 0, Some(value));
         let None = empty else { unreachable!() };
         shared.fetch_add::<Release>(&mut pass.seat, 0, 1);
-        pass.last = Some(told);
+        pass.last = Some(called);
         self.bell.ring();
-        self.news.ring_if(adds);
+        self.beds.wake(wakes);
     }
 }

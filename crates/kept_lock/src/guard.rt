@@ -6,6 +6,7 @@ ghost use Rattle.kept_lock.specs.Locks.{name_of, known, IsPassOf, IsInside, valu
 
 use crate::kept::Kept;
 use crate::lock::{KeptLock, Pass};
+use crate::wakes::Wakes;
 
 /// The right to the value, which is out with the pass. It has no `Drop`, so it ends in `leave`.
 pub struct Guard<'a, V: Kept> {
@@ -29,7 +30,7 @@ impl<'a, V: Kept> Guard<'a, V> {
         }
     }
 
-    /// Puts the value back, and wakes those who nap. It stands for the name, and its history grew by entries of this pass alone.
+    /// Puts the value back, and wakes all who nap. It stands for the name, and its history grew by entries of this pass alone.
     pub fn leave(self)
         requires inside { IsInside (lock_in self) (pass_in self) }
         requires stands { IfSome (value_in self) (λ y. V.stands y (name_of (lock_in self))) }
@@ -40,7 +41,7 @@ impl<'a, V: Kept> Guard<'a, V> {
         ensures left { IfSome (value_in self.entry) (λ y. known self.exit.1.0.now ≡ left_at (known (pass_in self.entry)) (V.history y)) }
     {
         let Guard { lock, pass } = self;
-        lock.put_back(pass, true);
+        lock.put_back(pass, Wakes::All);
     }
 
     /// Puts the value back with the history that it had, and wakes nobody who naps. It stands for the name.
@@ -53,11 +54,11 @@ impl<'a, V: Kept> Guard<'a, V> {
         ensures left { IfSome (value_in self.entry) (λ y. known self.exit.1.0.now ≡ left_at (known (pass_in self.entry)) (V.history y)) }
     {
         let Guard { lock, pass } = self;
-        lock.put_back(pass, false);
+        lock.put_back(pass, Wakes::Nobody);
     }
 
-    // By either way, as the pass has added something or not.
-    pub(crate) fn leave_as(self, adds: bool)
+    // Puts the value back, and wakes these of those who nap.
+    pub(crate) fn leave_as(self, wakes: Wakes)
         requires inside { IsInside (lock_in self) (pass_in self) }
         requires stands { IfSome (value_in self) (λ y. V.stands y (name_of (lock_in self))) }
         requires adds { IfSome (value_in self) (λ y. Adds V.owner (known (pass_in self)).number (known (pass_in self)).seen (V.history y)) }
@@ -66,6 +67,6 @@ impl<'a, V: Kept> Guard<'a, V> {
         ensures left { IfSome (value_in self.entry) (λ y. known self.exit.1.0.now ≡ left_at (known (pass_in self.entry)) (V.history y)) }
     {
         let Guard { lock, pass } = self;
-        lock.put_back(pass, adds);
+        lock.put_back(pass, wakes);
     }
 }

@@ -2,11 +2,13 @@
 //!
 //! `KeptLock::new` gives a lock and its first pass, and `split` makes a pass for each further thread. A thread goes to the value by `enter`, `get_mut` and `leave`,
 //! or by `visit`, which is all three in one. Each time it finds a value that stands for the lock's name and whose history goes on from what its pass has seen;
-//! it leaves one whose history has grown by entries of its own alone. `nap` waits for another to leave with something added, which `look` and an `attempt` that
-//! finds nothing to do never are. At the end `join` puts passes together, and `close` gives the value.
+//! it leaves one whose history has grown by entries of its own alone. `nap` waits for another whose leave wakes this pass: a `leave` and a `visit` wake all who nap,
+//! a `look` nobody, and an `attempt` whom it says. At the end `join` puts passes together, and `close` gives the value.
 #![tactic(auto)]
 
 mod attempt;
+mod bed;
+mod beds;
 mod bell;
 mod close;
 mod enter;
@@ -16,13 +18,13 @@ mod law;
 mod lends;
 mod lock;
 mod look;
-mod news;
 mod open;
 mod passes;
 mod plays;
 mod view;
 mod visit;
 mod wait;
+mod wakes;
 
 pub use attempt::Attempt;
 pub use guard::Guard;
@@ -30,3 +32,4 @@ pub use kept::Kept;
 pub use law::passes_share_one_history;
 pub use lock::{KeptLock, Pass};
 pub use view::{Account, Known};
+pub use wakes::Wakes;

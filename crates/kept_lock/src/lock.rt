@@ -1,9 +1,9 @@
 // The lock and its passes.
 ghost use Rattle.std.specs.Prelude.{◌≡◌, None};
 
+use crate::beds::Beds;
 use crate::bell::Bell;
 use crate::kept::Kept;
-use crate::news::News;
 use crate::plays::Keeping;
 use crate::view::View;
 use atomic_table::{Seat, Table};
@@ -17,8 +17,8 @@ pub struct KeptLock<V: Kept> {
     pub(crate) table: Table<Option<V>, View<V::Name, V::Entry>, V::Name, Keeping<V>, Global>,
     // Rung at each release of the word.
     pub(crate) bell: Bell,
-    /// The leaves that added something.
-    pub(crate) news: News,
+    /// Where passes nap.
+    pub(crate) beds: Beds,
     ghost sized: { (table.shared.table_id.words ≡ 1) × (table.shared.table_id.slots ≡ 1) },
 }
 
@@ -27,20 +27,27 @@ pub struct KeptLock<V: Kept> {
 pub struct Pass<V: Kept> {
     /// Its seat at the lock's table.
     pub(crate) seat: Seat<Option<V>, View<V::Name, V::Entry>>,
-    // The count of news at its last leave.
+    /// The number of its bed.
+    pub(crate) bed: u32,
+    // How often it was called there until its last leave.
     pub(crate) last: Option<u64>,
     // The value, while the pass is inside.
     pub(crate) out: Option<V>,
 }
 
 impl<V: Kept> Pass<V> {
-    /// Its seat at the table, and the count of news at its last leave.
-    pub(crate) fn into_parts(self) -> (Seat<Option<V>, View<V::Name, V::Entry>>, Option<u64>)
+    /// Its seat at the table, its bed, and how often it was called there until its last leave.
+    pub(crate) fn into_parts(self) -> (Seat<Option<V>, View<V::Name, V::Entry>>, u32, Option<u64>)
         requires { self.out ≡ None }
-        ensures { (result.0 ≡ self.seat) × (result.1 ≡ self.last) }
+        ensures { (result.0 ≡ self.seat) × (result.1 ≡ self.bed) × (result.2 ≡ self.last) }
     {
-        let Pass { seat, last, out } = self;
+        let Pass {
+            seat,
+            bed,
+            last,
+            out,
+        } = self;
         let None = out else { unreachable!() };
-        (seat, last)
+        (seat, bed, last)
     }
 }

@@ -3,10 +3,10 @@ ghost use Rattle.std.specs.Prelude.{◌≡◌, [], IfOk, IfErr};
 ghost use Rattle.kept_lock.specs.Knowing.{first};
 ghost use Rattle.kept_lock.specs.Locks.{name_of, known, IsPassOf};
 
+use crate::beds::Beds;
 use crate::bell::Bell;
 use crate::kept::Kept;
 use crate::lock::{KeptLock, Pass};
-use crate::news::News;
 use atomic_table::Table;
 use std::alloc::Global;
 use wave_base::OutOfMemory;
@@ -35,10 +35,11 @@ impl<V: Kept> KeptLock<V> {
                 let lock = KeptLock {
                     table,
                     bell: Bell::new(),
-                    news: News::new(),
+                    beds: Beds::new(),
                 };
                 let pass = Pass {
                     seat,
+                    bed: 0,
                     last: None,
                     out: None,
                 };

@@ -24,8 +24,10 @@ impl<V: Kept> KeptLock<V> {
         ensures next { known result ≡ next_pass (known pass.old) }
     {
         let seat = self.table.shared.split_seat::<Cut>(&mut pass.seat);
+        let bed = self.beds.next();
         Pass {
             seat,
+            bed,
             last: None,
             out: None,
         }
@@ -41,12 +43,13 @@ impl<V: Kept> KeptLock<V> {
         ensures this { StartsWith (known result).seen (known into).seen }
         ensures that { StartsWith (known result).seen (known other).seen }
     {
-        let (mut seat, last) = into.into_parts();
-        let (other, _) = other.into_parts();
+        let (mut seat, bed, last) = into.into_parts();
+        let (other, _, _) = other.into_parts();
         self.table.shared.join_seat::<Tell>(&mut seat, other);
         self.hear(&mut seat);
         Pass {
             seat,
+            bed,
             last,
             out: None,
         }

@@ -11,7 +11,7 @@ use crate::lock::{KeptLock, Pass};
 use std::sync::Wait;
 
 impl<V: Kept> KeptLock<V> {
-    /// Waits as `enter` does, does the work on the value, and leaves. In the clauses y is the value that the work met, and z what it made of it.
+    /// Waits as `enter` does, does the work on the value, and leaves, which wakes all who nap. In the clauses y is the value that the work met, and z what it made of it.
     pub fn visit<R: Wait, T, F: FnOnce(&mut V) -> T>(
         &self,
         rt: &R,

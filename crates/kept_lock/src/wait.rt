@@ -41,7 +41,7 @@ impl<V: Kept> KeptLock<V> {
         None
     }
 
-    /// Waits until another pass has added something since this one last left. It may return at any time, and does so at once where this one never left.
+    /// Waits until a leave of another pass wakes this one, since this one last left. It may return at any time, and does so at once where this one never left.
     pub fn nap<R: Wait>(&self, rt: &R, pass: &mut Pass<V>)
         requires { IsPassOf self.now pass.old }
         ensures { pass.new ≡ pass.old }
@@ -49,6 +49,6 @@ impl<V: Kept> KeptLock<V> {
         let Some(last) = pass.last else {
             return;
         };
-        self.news.sleep_at(rt, last);
+        self.beds.sleep_at(rt, pass.bed, last);
     }
 }

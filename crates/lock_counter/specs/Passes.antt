@@ -1,8 +1,6 @@
 -- What a thread's pass knows before and after its work.
-use Rattle.std.specs.Prelude.{◌≡◌, ℕ, ◌++◌, ◌∷◌, [], List, Result, Ok, Err, replicate}
+use Rattle.std.specs.Prelude.{◌≡◌, ℕ, ◌++◌, ◌∷◌, [], Bool, true, false, List, Result, Ok, Err, replicate}
 use Rattle.wave_base.specs.declared.memory.OutOfMemory.{OutOfMemory}
-use Rattle.kept_lock.specs.declared.attempt.Attempt.{Attempt}
-use Rattle.kept_lock.specs.declared.attempt.Attempt.TheVariants.{Added, Nothing}
 use Rattle.kept_lock.specs.declared.view.Known.{Known}
 use Rattle.kept_lock.specs.History.{StartsWith}
 use Rattle.lock_counter.specs.declared.counter.Addition.{Addition}
@@ -25,13 +23,13 @@ abbrev pub HasAdded : Known Addition → ℕ → ℕ → ℕ → Type 0
 HasAdded pass number amount times = (pass.number ≡ number) × (pass.made ≡ replicate times (addition number amount)) × (pass.accounts ≡ [])
 
 -- what an attempt to add adds: one entry, or none, where there is no memory or nothing was to be added
-abbrev pub entries_told : Addition → Attempt (Result (Unit {0}) OutOfMemory) → List Addition
-entries_told entry (Added (Ok tt)) = entry ∷ []
-entries_told entry (Added (Err e)) = []
-entries_told entry (Nothing r) = []
+abbrev pub entries_told : Addition → Result Bool OutOfMemory → List Addition
+entries_told entry (Ok true) = entry ∷ []
+entries_told entry (Ok false) = []
+entries_told entry (Err e) = []
 
-abbrev pub AddedAsTold : List Addition → Addition → Attempt (Result (Unit {0}) OutOfMemory) → List Addition → Type 0
+abbrev pub AddedAsTold : List Addition → Addition → Result Bool OutOfMemory → List Addition → Type 0
 AddedAsTold before entry told after = after ≡ before ++ entries_told entry told
 
-abbrev pub MadeAsTold : Known Addition → Known Addition → Addition → Attempt (Result (Unit {0}) OutOfMemory) → Type 0
+abbrev pub MadeAsTold : Known Addition → Known Addition → Addition → Result Bool OutOfMemory → Type 0
 MadeAsTold before after entry told = Made before after (entries_told entry told)

@@ -10,7 +10,7 @@ use crate::{
     Addition, Counter, Done, Job, Order, Plan, Turn, add, add_again, add_below, add_by_four,
     add_by_two, add_one, run, run_all, total, wait_for,
 };
-use kept_lock::{Attempt, KeptLock, Pass};
+use kept_lock::{KeptLock, Pass, Wakes};
 use std::hint::spin_loop;
 use std::sync::Wait;
 use std::test::Fail;
@@ -130,6 +130,75 @@ fn one_naps_until_the_other_is_done(rt: HostRuntime) -> Result<(), Fail> {
     let counter = lock.close(&rt, pass);
     assert_eq!(rt; share(counter.log.as_slice(), 1), (5000, 15_000));
     assert_eq!(rt; counter.log.len(), 5000);
+    Ok(())
+}
+
+// Adds once, after a while, and wakes the first pass alone.
+fn add_for_one<'l, 'p, R: Wait>(rt: &R, job: Job<'l, 'p>) -> bool
+    requires { IsReady job }
+{
+    let Job {
+        lock,
+        mut pass,
+        me,
+        amount,
+        times: _,
+    } = job;
+    for _ in 0..2_000_000u32 {
+        spin_loop();
+    }
+    matches!(
+        add_below(rt, lock, &mut pass, me, amount, 1, Wakes::One(0)),
+        Ok(true)
+    )
+}
+
+// The first waits for what the other adds once.
+fn wait_for_one<'l, 'p, R: Threads + Wait + Sync>(
+    rt: &R,
+    one: Job<'l, 'p>,
+    other: Job<'l, 'p>,
+) -> (u64, bool)
+    requires one { IsReady one }
+    requires other { IsReady other }
+{
+    join(
+        rt,
+        move ||
+            requires { IsReady one }
+        { wait(rt, one).1 },
+        move ||
+            requires { IsReady other }
+        { add_for_one(rt, other) },
+    )
+}
+
+#[test]
+fn one_naps_until_it_is_woken_alone(rt: HostRuntime) -> Result<(), Fail> {
+    let plan = Plan { label: 7 };
+    let alloc = rt.alloc();
+    let Ok((lock, mut first)) = KeptLock::new(alloc, &plan, Counter::new(alloc, &plan)) else {
+        return Err("memory".into());
+    };
+    let second = lock.split(&mut first);
+    let (amount, times) = (3, 1);
+    let one = Job {
+        lock: &lock,
+        pass: first,
+        me: 0,
+        amount,
+        times,
+    };
+    let other = Job {
+        lock: &lock,
+        pass: second,
+        me: 1,
+        amount,
+        times,
+    };
+    let (visits, added) = wait_for_one(&rt, one, other);
+    assert!(rt; added);
+    assert!(rt; visits <= 3, "{visits} looks");
     Ok(())
 }
 
@@ -275,10 +344,10 @@ fn one_after_another(rt: HostRuntime) -> Result<(), Fail> {
         notes: Vec::new(alloc),
     };
     assert!(rt; add_again(&rt, &lock, &mut pass, 0, order).is_ok());
-    let below = add_below(&rt, &lock, &mut pass, 0, 9, 12);
-    assert!(rt; matches!(below, Attempt::Added(Ok(()))));
-    let full = add_below(&rt, &lock, &mut pass, 0, 9, 12);
-    assert!(rt; matches!(full, Attempt::Nothing(Ok(()))));
+    let below = add_below(&rt, &lock, &mut pass, 0, 9, 12, Wakes::All);
+    assert!(rt; matches!(below, Ok(true)));
+    let full = add_below(&rt, &lock, &mut pass, 0, 9, 12, Wakes::All);
+    assert!(rt; matches!(full, Ok(false)));
     assert_eq!(rt; add_one(&rt, &lock, &mut pass, 0), 4);
     let counter = lock.close(&rt, pass);
     assert_eq!(rt; counter.plan.label, 5);

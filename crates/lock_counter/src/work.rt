@@ -5,7 +5,7 @@ ghost use Rattle.lock_counter.specs.Counters.{StandsFor, Added, addition};
 ghost use Rattle.lock_counter.specs.Passes.{Made, MadeAsTold, AddedAsTold};
 
 use crate::counter::Counter;
-use kept_lock::{Attempt, KeptLock, Pass};
+use kept_lock::{Attempt, KeptLock, Pass, Wakes};
 use std::sync::Wait;
 use wave_base::OutOfMemory;
 
@@ -70,7 +70,7 @@ pub fn total<'p, R: Wait>(rt: &R, lock: &KeptLock<Counter<'p>>, pass: &mut Pass<
     )
 }
 
-/// Adds under the lock where the total is still below `most`, and tells whether it did.
+/// Adds under the lock where the total is still below `most`, and tells whether it did. Where it did it wakes these of those who nap.
 pub fn add_below<'p, R: Wait>(
     rt: &R,
     lock: &KeptLock<Counter<'p>>,
@@ -78,26 +78,40 @@ pub fn add_below<'p, R: Wait>(
     me: u64,
     amount: u64,
     most: u64,
-) -> Attempt<Result<(), OutOfMemory>>
+    wakes: Wakes,
+) -> Result<bool, OutOfMemory>
     requires pass { IsPassOf lock.now pass.old }
     requires number { (known pass.old).number ≡ me }
     ensures pass { IsPassOf lock.now pass.new }
     ensures made { MadeAsTold (known pass.old) (known pass.new) (addition me amount) result }
 {
-    lock.attempt(
+    let tried = lock.attempt(
         rt,
         pass,
-        |counter: &mut Counter| -> Attempt<Result<(), OutOfMemory>>
+        |counter: &mut Counter| -> Attempt<Result<bool, OutOfMemory>>
             requires { StandsFor counter.now counter.now.plan }
-            ensures { StandsFor counter.exit.now counter.entry.now.plan × AddedAsTold counter.entry.now.log.items (addition me amount) result counter.exit.now.log.items }
+            ensures { StandsFor counter.exit.now counter.entry.now.plan × AddedAsTold counter.entry.now.log.items (addition me amount) result.told counter.exit.now.log.items }
         {
             if counter.total < most {
-                Attempt::Added(counter.add(me, amount))
+                match counter.add(me, amount) {
+                    Ok(()) => Attempt {
+                        told: Ok(true),
+                        wakes,
+                    },
+                    Err(refused) => Attempt {
+                        told: Err(refused),
+                        wakes: Wakes::Nobody,
+                    },
+                }
             } else {
-                Attempt::Nothing(Ok(()))
+                Attempt {
+                    told: Ok(false),
+                    wakes: Wakes::Nobody,
+                }
             }
         },
-    )
+    );
+    tried.told
 }
 
 /// Naps until the total is at least `least`, and counts its looks.

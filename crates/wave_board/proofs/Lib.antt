@@ -1,3 +1,4 @@
+pub mod Readying
 pub mod Standing
 pub mod Segments
 pub mod Staying

@@ -36,10 +36,10 @@ module _ (b : Board) (o : Origin) (s : TheState) (written new : ℕ) (less : wri
   )
 
   -- before it many
-  pub due_before_end : (IsFinished b s → ⊥) → IsTrue (nat_le 32 new) ↔ IsDue b o s written
+  pub due_before_end : (IsFinished b s → ⊥) → IsTrue (nat_le 64 new) ↔ IsDue b o s written
   due_before_end goes_on = (
-    (λ t. (let many : 32 ≤ new = leb-true 32 new t in omega (arith, many, is, less), let many : 32 ≤ new = leb-true 32 new t in inl (omega (arith, many, is, less)))),
-    (λ due. elim due.1 [ inl many ↦ le-leb 32 new (omega (arith, many, is, less)) | inr finished ↦ absurd (goes_on finished) ]),
+    (λ t. (let many : 64 ≤ new = leb-true 64 new t in omega (arith, many, is, less), let many : 64 ≤ new = leb-true 64 new t in inl (omega (arith, many, is, less)))),
+    (λ due. elim due.1 [ inl many ↦ le-leb 64 new (omega (arith, many, is, less)) | inr finished ↦ absurd (goes_on finished) ]),
   )
 
 -- lines of the machine are new lines

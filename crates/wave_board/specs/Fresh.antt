@@ -18,9 +18,9 @@ pub record CanTell (b : Board) (written : ℕ) : Type 0 where
   pub committed : written ≤ state.head.done
 
 module _ (b : Board) (o : Origin) (s : TheState) (written : ℕ) where
-  -- some are new, and 32 of them or all that will be
+  -- some are new, and 64 of them or all that will be
   abbrev pub IsDue : Type 0
-  IsDue = (written < s.head.done) × ((written + 32 ≤ s.head.done) ⊎ IsFinished b s)
+  IsDue = (written < s.head.done) × ((written + 64 ≤ s.head.done) ⊎ IsFinished b s)
 
   -- the first 64 that are new, or all of them, each as the whole run gives it
   pub record AreNew (lines : List Shown) : Type 0 where

@@ -6,6 +6,7 @@ ghost use Rattle.wave_board.specs.declared.origin.Origin.{Origin};
 ghost use Rattle.wave_board.specs.declared.trail.Trail.TheVariants.{Halt};
 ghost use Rattle.wave_board.specs.Boards.{StandsFor, StandsStill, history_of};
 
+use crate::crew::Crew;
 use crate::origin::Origin;
 use crate::trail::{StopCause, Trail};
 use kept_lock::Kept;
@@ -32,6 +33,8 @@ pub struct Board<'p> {
     pub(crate) machine: Machine<'p>,
     pub(crate) journal: Vec<Label>,
     pub(crate) word: Option<StopWord>,
+    // What its workers left for each other.
+    pub(crate) crew: Crew,
 }
 
 impl<'p> Kept for Board<'p> {
@@ -61,6 +64,7 @@ impl<'p> Board<'p> {
             machine,
             journal: Vec::new(alloc),
             word: None,
+            crew: Crew::nobody(),
         })
     }
 
@@ -77,6 +81,7 @@ impl<'p> Board<'p> {
             machine,
             journal: Vec::new(alloc),
             word: None,
+            crew: Crew::nobody(),
         })
     }
 

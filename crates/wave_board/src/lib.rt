@@ -3,11 +3,14 @@
 
 mod always;
 mod board;
+mod crew;
+mod crewing;
 mod giving;
 mod known;
 mod laws;
 mod origin;
 mod parts;
+mod seat;
 mod showing;
 mod taking;
 mod trail;
@@ -15,7 +18,9 @@ mod work;
 
 pub use always::{boards_go_on, journals_are_short, workers_wait_for_segments};
 pub use board::{Board, StopWord};
+pub use crew::Crew;
 pub use laws::{finished_stays, leases_stay, results_stay};
 pub use origin::Origin;
+pub use seat::Seat;
 pub use trail::{StopCause, Trail};
 pub use work::Work;

@@ -25,6 +25,7 @@ impl<'p> Board<'p> {
             machine,
             journal,
             word,
+            crew,
         } = self;
         match machine.into_finished() {
             Ok(finished) => Ok((finished, Seq::from_vec(journal))),
@@ -34,6 +35,7 @@ impl<'p> Board<'p> {
                     machine,
                     journal,
                     word,
+                    crew,
                 },
                 error,
             )),

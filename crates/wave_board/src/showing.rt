@@ -10,12 +10,12 @@ use crate::board::Board;
 use wave_base::{OutOfMemory, Seq, Shown};
 
 // How many new lines are worth a writing, and how many are written at a time.
-const ENOUGH: usize = 32;
+const ENOUGH: usize = 64;
 
 const MOST: usize = 64;
 
 impl<'p> Board<'p> {
-    /// The results committed in this run that stand after the first `written` are new. None exactly where none is, or fewer than 32 are
+    /// The results committed in this run that stand after the first `written` are new. None exactly where none is, or fewer than 64 are
     /// and the run isn't finished; else copies of the first 64 new ones, or of all.
     pub fn fresh(&self, written: u32) -> Result<Option<Seq<Shown>>, OutOfMemory>
         requires { CanTell self.now written }

@@ -12,8 +12,8 @@ use std::sync::atomic::{AtomicU64, Ordering};
 use std::test::Fail;
 use std::thread::Threads;
 use text_plans::MARKET;
-use wave_base::{OutOfMemory, Path, Ticket};
-use wave_io::{Failed, Gate, Sink};
+use wave_base::{OutOfMemory, Path, Seq, Ticket};
+use wave_io::{Failed, Gate, MemSink, OpenGate, Sink};
 
 // A sink that takes everything, and counts its calls where a gate sees the count.
 #[derive(Drop)]
@@ -32,7 +32,7 @@ impl<'a> Sink for Telling<'a> {
     }
 }
 
-// Looks, where ticket 41 comes to it, whether the sink has taken something.
+// Looks, where ticket 71 comes to it, whether the sink has taken something.
 #[derive(Drop)]
 struct Looking<'a> {
     taken: &'a AtomicU64,
@@ -41,28 +41,33 @@ struct Looking<'a> {
 
 impl<'a> Gate for Looking<'a> {
     fn reach(&self, ticket: Ticket, _path: &Path) {
-        if ticket.0 == 41 && self.taken.load(Ordering::SeqCst) == 0 {
+        if ticket.0 == 71 && self.taken.load(Ordering::SeqCst) == 0 {
             self.too_late.store(1, Ordering::SeqCst);
         }
     }
 }
 
-// Forty sales, and one more after them.
-fn sales(alloc: Global) -> Result<String, OutOfMemory> {
+// So many sales, and one more after them.
+fn sales(alloc: Global, count: u8) -> Result<String, OutOfMemory> {
     let mut script = String::new(alloc);
-    for _ in 0..40u8 {
+    for _ in 0..count {
         script.push_str("request buy(1,1,1)\n")?;
     }
     script.push_str("settle\nrequest buy(1,1,1)\n")?;
     Ok(script)
 }
 
-// Of a run by one worker, whether the sink had taken nothing before ticket 41.
-fn too_late<R: Threads + Wait + Sync + Abort>(rt: &R, alloc: Global, script: &str) -> u64 {
+// Of a run by so many workers, whether the sink had taken nothing before ticket 71, and how often it was written to.
+fn looked<R: Threads + Wait + Sync + Abort>(
+    rt: &R,
+    alloc: Global,
+    script: &str,
+    workers: u8,
+) -> (u64, u64) {
     let case = Case {
         service: MARKET,
         script: script.as_bytes(),
-        workers: 1,
+        workers,
     };
     let plan = plan_for(rt, alloc, &case);
     let taken = AtomicU64::new(0);
@@ -74,13 +79,54 @@ fn too_late<R: Threads + Wait + Sync + Abort>(rt: &R, alloc: Global, script: &st
     if ran(rt, alloc, &plan, &gate, &mut sink).is_err() {
         panic!(rt; "no run");
     }
-    gate.too_late.load(Ordering::SeqCst)
+    let late = gate.too_late.load(Ordering::SeqCst);
+    (late, taken.load(Ordering::SeqCst))
 }
 
 #[test]
 fn lines_are_written_while_the_workers_run(rt: HostRuntime) -> Result<(), Fail> {
     let alloc = rt.alloc();
-    let script = sales(alloc)?;
-    assert_eq!(rt; too_late(&rt, alloc, script.as_str()), 0);
+    let script = sales(alloc, 70)?;
+    assert_eq!(rt; looked(&rt, alloc, script.as_str(), 1), (0, 2));
+    Ok(())
+}
+
+// Lines go out 64 at a time, however many workers there are.
+#[test]
+fn lines_are_written_in_few_parts(rt: HostRuntime) -> Result<(), Fail> {
+    let alloc = rt.alloc();
+    let script = sales(alloc, 199)?;
+    let (_, alone) = looked(&rt, alloc, script.as_str(), 1);
+    assert_eq!(rt; alone, 4);
+    let (_, together) = looked(&rt, alloc, script.as_str(), 4);
+    assert_eq!(rt; together, 4);
+    Ok(())
+}
+
+fn written_by<R: Threads + Wait + Sync + Abort>(
+    rt: &R,
+    alloc: Global,
+    script: &str,
+    workers: u8,
+) -> Result<MemSink, OutOfMemory> {
+    let case = Case {
+        service: MARKET,
+        script: script.as_bytes(),
+        workers,
+    };
+    let plan = plan_for(rt, alloc, &case);
+    let mut sink = MemSink::new(alloc, 10_000, 100, Seq::new(alloc))?;
+    assert!(rt; ran(rt, alloc, &plan, &OpenGate, &mut sink).is_ok());
+    Ok(sink)
+}
+
+// Light events, which one worker carries out while the others rest.
+#[test]
+fn many_workers_carry_out_sales_in_a_row(rt: HostRuntime) -> Result<(), Fail> {
+    let alloc = rt.alloc();
+    let script = sales(alloc, 40)?;
+    let alone = written_by(&rt, alloc, script.as_str(), 1)?;
+    let together = written_by(&rt, alloc, script.as_str(), 4)?;
+    assert!(rt; alone.bytes() == together.bytes());
     Ok(())
 }

@@ -13,12 +13,13 @@ use Rattle.wave_machine.specs.Running.{IsBack, IsInHand}
 use Rattle.wave_board.specs.declared.board.Board.{Board}
 use Rattle.wave_board.specs.declared.origin.Origin.{Origin}
 use Rattle.wave_board.specs.declared.trail.Trail.{Trail}
-use Rattle.wave_board.specs.declared.work.Work.{Work}
-use Rattle.wave_board.specs.declared.work.Work.TheVariants as work
 use Rattle.wave_board.specs.Boards.{IsAt, history_of, labels_in, owner_of}
 use Rattle.wave_board.specs.Taking.{begins, ends}
 use Rattle.host_workers.specs.declared.ending.Ending.{Ending}
 use Rattle.host_workers.specs.declared.ending.Ending.TheVariants as ending
+use Rattle.host_workers.specs.declared.packet.Packet.{Packet}
+use Rattle.host_workers.specs.declared.task.Task.{Task}
+use Rattle.host_workers.specs.declared.task.Task.TheVariants.{Segment, Again, Rest, Finished, Stopped}
 use Rattle.host_workers.specs.Endings.{Ended, IsFinishedRun, IsHaltedBy}
 use Rattle.host_workers.specs.Passes.{IsReady, NoHalts}
 
@@ -52,21 +53,21 @@ module _ (origin : Origin) (pass : Known Trail) (worker : Worker) where
     pub worker_is : lease.worker ≡ worker
     pub back : IsBack origin.plan.now.program out.state lease why
 
+  -- what the worker brings to its next visit: a segment that was run, or nothing
+  abbrev pub Brings : Option Packet → Type 0
+  Brings None = IsReady origin pass worker
+  Brings (Some p) = HasPaused p.lease p.pause
+
   -- what a worker got, and what its pass knows then
-  abbrev pub Asked : Result Work OutOfMemory → Type 0
-  Asked (Ok (work.Stepped l)) = IsReady origin pass worker
-  Asked (Ok (work.Segment lease)) = HasLease lease
-  Asked (Ok work.Nothing) = IsReady origin pass worker
-  Asked (Ok work.Finished) = IsReady origin pass worker × IsFinishedRun origin.plan.now origin.start.now (labels_in pass.seen)
-  Asked (Ok (work.Stopped why)) = IsReady origin pass worker × IsHaltedBy pass.number why pass.seen
-  Asked (Err e) = IsReady origin pass worker
+  abbrev pub Asked : Result Task OutOfMemory → Type 0
+  Asked (Ok (Segment lease)) = HasLease lease
+  Asked (Ok Again) = IsReady origin pass worker
+  Asked (Ok Rest) = IsReady origin pass worker
+  Asked (Ok Finished) = IsReady origin pass worker × IsFinishedRun origin.plan.now origin.start.now (labels_in pass.seen)
+  Asked (Ok (Stopped why)) = IsReady origin pass worker × IsHaltedBy pass.number why pass.seen
+  Asked (Err e) = IsCalm
 
-  -- a segment was given back, or there was no memory
-  abbrev pub HasRun : Result (Unit {0}) OutOfMemory → Type 0
-  HasRun (Ok u) = IsReady origin pass worker
-  HasRun (Err e) = IsCalm
-
-  -- the worker goes on, or has ended
-  abbrev pub Rounded : Option Ending → Type 0
-  Rounded None = IsReady origin pass worker
-  Rounded (Some e) = (pass.number ≡ worker.0) × Ended origin pass e × (e ≢ ending.WriteFault)
+  -- the worker goes on with what it brings, or has ended
+  abbrev pub Rounded : Result (Option Packet) Ending → Type 0
+  Rounded (Ok packet) = Brings packet
+  Rounded (Err e) = (pass.number ≡ worker.0) × Ended origin pass e × (e ≢ ending.WriteFault)

@@ -1,5 +1,5 @@
 -- What the worker that writes knows of its lines.
-use Rattle.std.specs.Prelude.{◌≡◌, ◌+◌, ◌≤◌, ◌<◌, ◌^◌, ◌++◌, ℕ, List, [], length, Option, Result, Ok, Err}
+use Rattle.std.specs.Prelude.{◌≡◌, ◌+◌, ◌≤◌, ◌<◌, ◌^◌, ◌++◌, ℕ, List, [], length, Option, Some, None, Result, Ok, Err}
 use Rattle.std.specs.Io.KnownBytes.{Appends}
 use Rattle.wave_base.specs.declared.finished.Finished as declared
 use Rattle.wave_base.specs.declared.memory.OutOfMemory.{OutOfMemory}
@@ -14,16 +14,17 @@ use Rattle.wave_machine.specs.Machines.{TheState}
 use Rattle.wave_board.specs.declared.board.Board.{Board}
 use Rattle.wave_board.specs.declared.origin.Origin.{Origin}
 use Rattle.wave_board.specs.declared.trail.Trail.{Trail}
-use Rattle.wave_board.specs.declared.work.Work.TheVariants.{Stepped, Segment, Nothing, Finished, Stopped}
 use Rattle.wave_board.specs.Boards.{IsAt, history_of}
 use Rattle.host_workers.specs.declared.ending.Ending.{Ending}
 use Rattle.host_workers.specs.declared.ending.Ending.TheVariants as ending
 use Rattle.host_workers.specs.declared.offer.Offer.{Offer}
 use Rattle.host_workers.specs.declared.offer.Offer.TheVariants.{Lines, Task}
+use Rattle.host_workers.specs.declared.packet.Packet.{Packet}
+use Rattle.host_workers.specs.declared.task.Task.TheVariants.{Segment, Again, Rest, Finished, Stopped}
 use Rattle.host_workers.specs.Endings.{Ended}
 use Rattle.host_workers.specs.Lines.{told_by, event_lines}
 use Rattle.host_workers.specs.Passes.{IsReady}
-use Rattle.host_workers.specs.inner.Rounds.{Asked}
+use Rattle.host_workers.specs.inner.Rounds.{Asked, Brings, IsCalm}
 
 -- what the origin's run gives
 abbrev pub told_of : Origin → declared.Finished
@@ -45,16 +46,31 @@ pub record AreNext (origin : Origin) (pass : Known Trail) (written : ℕ) (lines
   pub from_one : 1 ≤ origin.start.now.next.0
   pub few : origin.start.now.next.0 + (written + length lines) ≤ 2 ^ 32
 
-module _ (origin : Origin) (pass : Known Trail) (worker : Worker) (written : ℕ) where
-  -- what the worker that writes was offered: where it is finished, all lines are written
+-- of the worker that writes: so many tickets are committed; of another nothing is said
+abbrev pub AreToldOf : Origin → Known Trail → Option ℕ → Type 0
+AreToldOf origin pass None = Unit {0}
+AreToldOf origin pass (Some written) = AreCommitted origin pass written
+
+-- it alone is offered lines, those that come next
+abbrev pub MayWrite : Origin → Known Trail → Option ℕ → List Shown → Type 0
+MayWrite origin pass None lines = ⊥
+MayWrite origin pass (Some written) lines = AreNext origin pass written lines
+
+-- and it has written all of them
+abbrev pub WroteAll : Origin → Option ℕ → Type 0
+WroteAll origin None = Unit {0}
+WroteAll origin (Some written) = written ≡ length (told_of origin).results
+
+module _ (origin : Origin) (pass : Known Trail) (worker : Worker) (written : Option ℕ) where
+  -- what a worker was offered: where it is finished, all lines are written
   abbrev pub Offered : Result Offer OutOfMemory → Type 0
-  Offered (Ok (Lines lines)) = IsReady origin pass worker × AreNext origin pass written lines
-  Offered (Ok (Task (Stepped l))) = Asked origin pass worker (Ok (Stepped l))
+  Offered (Ok (Lines lines)) = IsReady origin pass worker × MayWrite origin pass written lines
   Offered (Ok (Task (Segment lease))) = Asked origin pass worker (Ok (Segment lease))
-  Offered (Ok (Task Nothing)) = Asked origin pass worker (Ok Nothing)
-  Offered (Ok (Task Finished)) = Asked origin pass worker (Ok Finished) × (written ≡ length (told_of origin).results)
+  Offered (Ok (Task Again)) = Asked origin pass worker (Ok Again)
+  Offered (Ok (Task Rest)) = Asked origin pass worker (Ok Rest)
+  Offered (Ok (Task Finished)) = Asked origin pass worker (Ok Finished) × WroteAll origin written
   Offered (Ok (Task (Stopped why))) = Asked origin pass worker (Ok (Stopped why))
-  Offered (Err e) = IsReady origin pass worker
+  Offered (Err e) = IsCalm origin pass worker
 
 -- behind the lines of so many tickets came those up to another number
 pub record WritesUpTo (origin : Origin) (written more : ℕ) (old new : Option (List ℕ)) : Type 0 where
@@ -68,9 +84,9 @@ pub record BreaksOff (origin : Origin) (written : ℕ) (old new : Option (List �
   pub all : lines_of origin written ++ rest ≡ event_lines origin.plan.now origin.start.now
   pub front : AppendsFront old new rest
 
--- a round of the worker that writes: how many tickets' lines are written then, or how it ended
-abbrev pub HasWritten : Origin → Known Trail → Worker → ℕ → Option (List ℕ) → Option (List ℕ) → ℕ → ℕ → Result ℕ Ending → Type 0
-HasWritten origin pass worker written old new faults faults' (Ok more) = IsReady origin pass worker × AreCommitted origin pass more × WritesUpTo origin written more old new
+-- a round of the worker that writes: what it brings then, and how many tickets' lines are written; or how it ended
+abbrev pub HasWritten : Origin → Known Trail → Worker → ℕ → Option (List ℕ) → Option (List ℕ) → ℕ → ℕ → Result (Option Packet × ℕ) Ending → Type 0
+HasWritten origin pass worker written old new faults faults' (Ok r) = Brings origin pass worker r.0 × AreCommitted origin pass r.1 × WritesUpTo origin written r.1 old new
 HasWritten origin pass worker written old new faults faults' (Err e) =
     (pass.number ≡ worker.0) × Ended origin pass e × BreaksOff origin written old new
     × (e ≡ ending.Finished → (written ≡ length (told_of origin).results) × Appends old new [])

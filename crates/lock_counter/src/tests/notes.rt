@@ -4,7 +4,7 @@ ghost use Rattle.std.specs.Prelude.{◌≡◌, ◌++◌, ◌∷◌, [], MatchRes
 ghost use Rattle.kept_lock.specs.Locks.{known, IsPassOf};
 
 use super::cross::{sent_lock, sent_pass, shared_lock};
-use kept_lock::{Attempt, Kept, KeptLock, Pass, passes_share_one_history};
+use kept_lock::{Attempt, Kept, KeptLock, Pass, Wakes, passes_share_one_history};
 use std::alloc::Global;
 use std::sync::Wait;
 use std::test::Fail;
@@ -175,15 +175,40 @@ fn a_joined_pass_keeps_its_own_last_leave(rt: HostRuntime) -> Result<(), Fail> {
     Ok(())
 }
 
+// An attempt that changes nothing, and wakes these.
+fn call<R: Wait>(rt: &R, lock: &KeptLock<Notes>, pass: &mut Pass<Notes>, wakes: Wakes) -> u8
+    requires { IsPassOf lock.now pass.old }
+    ensures pass { IsPassOf lock.now pass.new }
+    ensures number { (known pass.new).number ≡ (known pass.old).number }
+{
+    let called = lock.attempt(rt, pass, |_notes: &mut Notes| -> Attempt<u8> {
+        Attempt { told: 7, wakes }
+    });
+    called.told
+}
+
+// A pass that was called since its last leave does not sleep, whoever was called since.
+#[test]
+fn a_pass_that_was_called_does_not_nap(rt: HostRuntime) -> Result<(), Fail> {
+    let Ok((lock, mut first)) = KeptLock::new(rt.alloc(), 12, Notes::new(rt.alloc(), 12)) else {
+        return Err("memory".into());
+    };
+    let mut second = lock.split(&mut first);
+    assert_eq!(rt; look(&rt, &lock, &mut second), (12, 0));
+    assert_eq!(rt; call(&rt, &lock, &mut first, Wakes::One(1)), 7);
+    assert_eq!(rt; call(&rt, &lock, &mut first, Wakes::One(2)), 7);
+    lock.nap(&rt, &mut second);
+    drop(second);
+    assert_eq!(rt; lock.close(&rt, first).title, 12);
+    Ok(())
+}
+
 #[test]
 fn looks_and_attempts_give_what_their_work_gives(rt: HostRuntime) -> Result<(), Fail> {
     let Ok((lock, mut pass)) = KeptLock::new(rt.alloc(), 11, Notes::new(rt.alloc(), 11)) else {
         return Err("memory".into());
     };
-    let full = lock.attempt(&rt, &mut pass, |_notes: &mut Notes| -> Attempt<u8> {
-        Attempt::Nothing(7)
-    });
-    assert!(rt; matches!(full, Attempt::Nothing(7)));
+    assert_eq!(rt; call(&rt, &lock, &mut pass, Wakes::Nobody), 7);
     let title = lock.look(&rt, &mut pass, |notes: &Notes| -> u64 { notes.title });
     assert_eq!(rt; title, 11);
     let guard = lock.enter(&rt, &mut pass);

@@ -1,5 +1,5 @@
 use Rattle.host_workers.proofs.Rounding as rounding
 use Rattle.host_workers.proofs.working.run_out.Goals as goal
 
-pub give_back-requires-clause-paused : goal.give_back-requires-clause-paused
-give_back-requires-clause-paused g c = rounding.paused _ _ _ _ c.requires.leased _ c.requires.plan _ _ c.in_ok-pause.ensures.worker c.in_ok-pause.ensures.segment
+pub returns : goal.returns
+returns g c = rounding.paused _ _ _ _ c.requires.leased _ c.requires.plan _ _ c.in_ok-pause.ensures.worker c.in_ok-pause.ensures.segment

@@ -6,7 +6,7 @@ use Rattle.host_workers.proofs.writer.write_at.Goals as goal
 pub loop-init : goal.loop-init
 loop-init g c = record {
   of_lock = c.requires.of_lock;
-  ready = c.requires.ready;
+  brings = c.requires.ready;
   committed = none_committed (name_of c.args.post.now.lock.now) (known c.args.pass.now);
   lines = none_written (name_of c.args.post.now.lock.now) _;
   later = omega arith;
@@ -18,7 +18,7 @@ loop-preserved g c =
     let later = c.in-Ok.ensures.later in
     record {
       of_lock = c.in-Ok.ensures.of_lock;
-      ready = h.0;
+      brings = h.0;
       committed = h.1;
       lines = goes_further (name_of c.args.post.now.lock.now) c.loop.written _ _ c.loop.invariant.lines _ _ h.2;
       later = omega (arith, c.loop.invariant.later, later);

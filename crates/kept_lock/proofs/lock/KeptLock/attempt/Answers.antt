@@ -6,22 +6,22 @@ use Rattle.kept_lock.specs.Knowing.{Agrees, Accounts, entered, left_at}
 use Rattle.kept_lock.specs.Locks.{name_of, known}
 use Rattle.kept_lock.specs.Guards.{pass_in}
 use Rattle.kept_lock.specs.Visits.{Meets}
-use Rattle.kept_lock.proofs.Unchanged.{at_value, told_adds}
+use Rattle.kept_lock.proofs.Unchanged.{at_value}
 use denote.MutBor.{at_last}
 use Rattle.kept_lock.proofs.lock.KeptLock.attempt.Given as given
 use Rattle.kept_lock.proofs.lock.KeptLock.attempt.Goals as goal
 
-meets : (g : given.Over) (c : goal.After-has_added-adds g) → Meets g.V.Kept.history g.V.Kept.owner g.V.Kept.stands (name_of c.args.self.now) (known c.args.pass.now) c.get_mut.result.now
+meets : (g : given.Over) (c : goal.After-guard-2-1 g) → Meets g.V.Kept.history g.V.Kept.owner g.V.Kept.stands (name_of c.args.self.now) (known c.args.pass.now) c.get_mut.result.now
 meets g c = let e = c.enter-guard.ensures in let is = c.get_mut.ensures.value in let y = c.get_mut.result.now in record {
   stands_for_name = at_value (λ z. g.V.Kept.stands z (name_of c.args.self.now)) _ y is e.stands;
   agrees = at_value (λ z. Agrees g.V.Kept.owner (known c.args.pass.now) (g.V.Kept.history z)) _ y is e.agrees;
   accounts = at_value (λ z. Accounts g.V.Kept.owner (known c.args.pass.now) (g.V.Kept.history z)) _ y is e.accounts;
 }
 
-entered_there : (g : given.Over) (c : goal.After-has_added-adds g) → known (pass_in c.enter-guard.result) ≡ entered (known c.args.pass.now) (g.V.Kept.history c.get_mut.result.now)
+entered_there : (g : given.Over) (c : goal.After-guard-2-1 g) → known (pass_in c.enter-guard.result) ≡ entered (known c.args.pass.now) (g.V.Kept.history c.get_mut.result.now)
 entered_there g c = at_value (λ z. known (pass_in c.enter-guard.result) ≡ entered (known c.args.pass.now) (g.V.Kept.history z)) _ c.get_mut.result.now c.get_mut.ensures.value c.enter-guard.ensures.entered
 
-did : (g : given.Over) (c : goal.After-has_added-adds g) → FnOnceReturnsAtMut g.F.FnOnce c.args.work c.get_mut.result.now c.work-result.result c.work-result.new.arg2
+did : (g : given.Over) (c : goal.After-guard-2-1 g) → FnOnceReturnsAtMut g.F.FnOnce c.args.work c.get_mut.result.now c.work-result.result c.work-result.new.arg2
 did g c = record { shown = c.get_mut.result; shows = refl; left = at_last c.get_mut.result c.work-result.new.arg2; met = c.work-result.ensures; leaves = refl }
 
 pub leave_as-requires-clause-stands : goal.leave_as-requires-clause-stands
@@ -31,7 +31,7 @@ leave_as-requires-clause-stands g c =
 
 pub leave_as-requires-clause-adds : goal.leave_as-requires-clause-adds
 leave_as-requires-clause-adds g c = subst (λ (k : Known g.row.V-Entry.Denot). Adds g.V.Kept.owner k.number k.seen (g.V.Kept.history c.work-result.new.arg2)) (sym (entered_there g c))
-    (told_adds g.V.Kept.owner (known c.args.pass.now).number c.work-result.result _ _ (c.requires.keeps c.get_mut.result.now c.work-result.result c.work-result.new.arg2 (meets g c) (did g c)).1)
+    (c.requires.keeps c.get_mut.result.now c.work-result.result c.work-result.new.arg2 (meets g c) (did g c)).1
 
 pub returns-clause-done : goal.returns-clause-done
 returns-clause-done g c =

@@ -1,6 +1,6 @@
 use Rattle.std.proofs.Common.{refl}
 use Rattle.host_workers.proofs.Walking.{may_go_on, not_walked, stands_on, walked_more, walked_still}
-use Rattle.host_workers.proofs.visits.walk.Goals as goal
+use Rattle.host_workers.proofs.takes.walk.Goals as goal
 
 pub loop-init : goal.loop-init
 loop-init c = record {
@@ -17,7 +17,7 @@ take-requires-clause-may c = c.loop.invariant.may
 
 pub loop-preserved : goal.loop-preserved
 loop-preserved c =
-    let walked = walked_more c.args.board.now c.loop.board c.take.new.self c.args.number c.in-Ok-Stepped.label c.loop.invariant.walked c.in-Ok-Stepped.ensures.stands (rw c.in-Ok-Stepped.field-0-is at c.in-Ok-Stepped.ensures.took) in
+    let walked = walked_more c.args.board.now c.loop.board c.take.new.self c.args.number _ c.loop.invariant.walked c.in-Ok-Stepped.ensures.stands (rw c.in-Ok-Stepped.field-0-is at c.in-Ok-Stepped.ensures.took) in
     record {
       standing = stands_on c.args.board.now c.take.new.self c.args.number c.requires.stands walked;
       may = may_go_on c.args.board.now c.take.new.self c.args.number c.requires.stands walked c.requires.may;

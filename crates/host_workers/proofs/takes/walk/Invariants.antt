@@ -1,7 +1,7 @@
 use Rattle.wave_board.specs.Boards.{IsStanding}
 use Rattle.wave_board.specs.Taking.{MayTake}
 use Rattle.host_workers.specs.inner.Visits.{Walked}
-use Rattle.host_workers.proofs.visits.walk.Given as goal
+use Rattle.host_workers.proofs.takes.walk.Given as goal
 
 abbrev pub invariant-loop : goal.invariant-loop
 invariant-loop l = record {

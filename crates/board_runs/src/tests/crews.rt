@@ -1,0 +1,35 @@
+//! What workers leave for each other.
+
+use std::test::Fail;
+use wave_base::Worker;
+use wave_board::{Crew, Seat};
+
+#[test]
+fn a_crew_tells_who_naps(rt: HostRuntime) -> Result<(), Fail> {
+    let mut crew = Crew::nobody();
+    assert_eq!(rt; crew.other(Worker(0), Seat::Napping), None);
+    crew.place(Worker(0), Seat::Awake);
+    crew.place(Worker(2), Seat::Napping);
+    assert_eq!(rt; crew.other(Worker(0), Seat::Awake), None);
+    assert_eq!(rt; crew.other(Worker(0), Seat::Napping), Some(Worker(2)));
+    assert_eq!(rt; crew.other(Worker(2), Seat::Awake), Some(Worker(0)));
+    assert_eq!(rt; crew.seat(Worker(1)), Seat::Away);
+    Ok(())
+}
+
+// The first segments count as heavy, and then those are that take 256 ticks.
+#[test]
+fn a_crew_tells_how_heavy_segments_are(rt: HostRuntime) -> Result<(), Fail> {
+    let mut crew = Crew::nobody();
+    let mut segments = 0u32;
+    for _ in 0..100u32 {
+        if crew.is_heavy() {
+            segments += 1;
+            crew.note(9);
+        }
+    }
+    assert!(rt; segments > 15 && segments < 25);
+    crew.note(2048);
+    assert!(rt; crew.is_heavy());
+    Ok(())
+}

@@ -1,0 +1,13 @@
+use wave_base::Pause;
+use wave_machine::Lease;
+
+/// What a worker brings back to the board: a segment that was run.
+#[derive(Drop)]
+pub(crate) struct Packet {
+    /// The segment, with what it made of its actor and its context.
+    pub lease: Lease,
+    /// Why it paused.
+    pub pause: Pause,
+    /// The ticks that it took.
+    pub ticks: u32,
+}
