@@ -56,7 +56,7 @@ pub(crate) fn leave(
 // How many lines it leaves with.
 fn lines_in(told: &Result<Offer, OutOfMemory>) -> u32 {
     match told {
-        Ok(Offer::Lines(lines)) => lines.len() as u32,
+        Ok(Offer::Lines(lines)) => lines.len().min(DUE) as u32,
         _ => 0,
     }
 }
