@@ -136,7 +136,7 @@ module _ (stay : LeasesStay) (o : Origin) (k : Known Trail) (w : Worker) (y : Bo
         turned k' is =
             let late = adds_later in
             let again : k' ≡ left_at (entered mid (history_of t.given)) (history_of t.left) =
-                is ∙ ap (λ h. left_at (entered k (history_of y)) h) (noted_history t.left z t.noted) ∙ left_twice k (history_of y) (history_of t.given) (history_of t.left) b.more late.0 b.history late.1 in
+            is ∙ ap (λ h. left_at (entered k (history_of y)) h) (noted_history t.left z t.noted) ∙ left_twice k (history_of y) (history_of t.given) (history_of t.left) b.more late.0 b.history late.1 in
             let x = offering.offered laws o mid w b.ready t.given b.finds t.left t.stands k' again written (told_there written there mid b.on) r t.found in
             (goes_on k mid k' b.on x.0, x.1)
 

@@ -62,10 +62,7 @@ fn lines_in(told: &Result<Offer, OutOfMemory>) -> u32 {
 }
 
 fn has_ended(told: &Result<Offer, OutOfMemory>) -> bool {
-    matches!(
-        told,
-        Ok(Offer::Task(Task::Finished | Task::Stopped(_)))
-    )
+    matches!(told, Ok(Offer::Task(Task::Finished | Task::Stopped(_))))
 }
 
 fn seat_after(told: &Result<Offer, OutOfMemory>) -> Seat {
