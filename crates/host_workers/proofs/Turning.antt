@@ -1,5 +1,5 @@
 -- What a pass knows after a visit in which its worker gave something back, and then found something.
-use Rattle.std.proofs.Common.{◌≡◌, ◌∙◌, inl, inr, ℕ, List, [], ◌∷◌, ◌++◌, Option, Some, None, Ok, Err, Result, refl, sym, ap, subst, append-nil, ⊎_elim}
+use Rattle.std.proofs.Common.{◌≡◌, ◌∙◌, inl, inr, ℕ, List, [], ◌∷◌, ◌++◌, ◌<◌, Option, Some, None, Ok, Err, Result, refl, sym, ap, subst, append-nil, ⊎_elim}
 use Rattle.std.specs.Prelude.{All}
 use Rattle.std.proofs.lemmas.List.Elements.{All-nil}
 use Rattle.wave_base.specs.declared.memory.OutOfMemory.{OutOfMemory}
@@ -130,13 +130,13 @@ module _ (stay : LeasesStay) (o : Origin) (k : Known Trail) (w : Worker) (y : Bo
 
         turned_adds : Adds owner_of k.number (history_of y) (history_of z)
         turned_adds = subst (λ ts. Adds owner_of k.number (history_of y) ts) (sym (noted_history t.left z t.noted))
-            (adds_twice owner_of k.number (history_of y) (history_of t.given) (history_of t.left) (b.more, (b.history, b.own)) adds_later)
+            (adds_twice owner_of k.number (history_of y) (history_of t.given) (history_of t.left) (b.more, b.history, b.own) adds_later)
 
         turned : (k' : Known Trail) → k' ≡ left_at (entered k (history_of y)) (history_of z) → GoesOn k k' × Offered o k' w written r
         turned k' is =
             let late = adds_later in
             let again : k' ≡ left_at (entered mid (history_of t.given)) (history_of t.left) =
-                is ∙ ap (λ h. left_at (entered k (history_of y)) h) (noted_history t.left z t.noted) ∙ left_twice k (history_of y) (history_of t.given) (history_of t.left) b.more late.0 b.history late.1 in
+            is ∙ ap (λ h. left_at (entered k (history_of y)) h) (noted_history t.left z t.noted) ∙ left_twice k (history_of y) (history_of t.given) (history_of t.left) b.more late.0 b.history late.1 in
             let x = offering.offered laws o mid w b.ready t.given b.finds t.left t.stands k' again written (told_there written there mid b.on) r t.found in
             (goes_on k mid k' b.on x.0, x.1)
 

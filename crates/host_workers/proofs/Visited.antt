@@ -31,7 +31,7 @@ at_shown P y y' e p = subst P (sym e) p
 
 -- the work was shown the board that the visit met, and left the one that the visit left
 module _ (o : Origin) (k : Known Trail) (w : Worker) (y y' : Board) (shows : y' ≡ y) (meets : Meets history_of owner_of StandsFor o k y) where
-  finds : Finds o k y
+  abbrev pub finds : Finds o k y
   finds = record { stands_for_name = meets.stands_for_name; agrees = meets.agrees }
 
   module _ (stay : LeasesStay) (packet : Option Packet) (brings : Brings o k w packet) (written : Option ℕ) (there : AreToldOf o k written) where

@@ -56,16 +56,13 @@ pub(crate) fn leave(
 // How many lines it leaves with.
 fn lines_in(told: &Result<Offer, OutOfMemory>) -> u32 {
     match told {
-        Ok(Offer::Lines(lines)) => lines.len() as u32,
+        Ok(Offer::Lines(lines)) => lines.len().min(DUE) as u32,
         _ => 0,
     }
 }
 
 fn has_ended(told: &Result<Offer, OutOfMemory>) -> bool {
-    matches!(
-        told,
-        Ok(Offer::Task(Task::Finished | Task::Stopped(_)))
-    )
+    matches!(told, Ok(Offer::Task(Task::Finished | Task::Stopped(_))))
 }
 
 fn seat_after(told: &Result<Offer, OutOfMemory>) -> Seat {

@@ -47,11 +47,13 @@ fn bring(board: &mut Board, packet: Option<Packet>) -> Result<Option<u32>, OutOf
 {
     match packet {
         None => Ok(None),
-        Some(Packet {
-            lease,
-            pause,
-            ticks,
-        }) => match board.give(lease, pause) {
+        Some(
+            Packet {
+                lease,
+                pause,
+                ticks,
+            },
+        ) => match board.give(lease, pause) {
             Ok(()) => Ok(Some(ticks)),
             Err(refused) => Err(refused.error),
         },
