@@ -22,9 +22,9 @@ fn a_crew_tells_who_naps(rt: HostRuntime) -> Result<(), Fail> {
 fn a_crew_tells_how_heavy_segments_are(rt: HostRuntime) -> Result<(), Fail> {
     let mut crew = Crew::nobody();
     let mut segments = 0u32;
-    for _ in 0..100u32 {
+    for number in 1..100u32 {
         if crew.is_heavy() {
-            segments += 1;
+            segments = number;
             crew.note(9);
         }
     }
