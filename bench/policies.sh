@@ -1,10 +1,10 @@
 #!/usr/bin/env bash
-# bench/policies.sh [POLICIES [CONTEXTS [RUNS]]]: a script with so many policy lines (2,000) over a tree of so many contexts (1,000), by `seq` and by `run`; and the
+# bench/policies.sh [POLICIES [CONTEXTS [RUNS]]]: a script with so many policy lines (600) over a tree of so many contexts (300), by `seq` and by `run`; and the
 # script without them, in which the moves that they made stand as `move` lines, each batch as before. It prints the median times in milliseconds and the
-# quotient of the two. Policies by turns balance a load that leans to host 0 and drain a host.
+# quotient of the two. Policies by turns balance a load that leans to host 0 and drain a host; moves and requests are 4,000 lines at most.
 set -eu
 cd "$(dirname "$0")/.."
-policies=${1:-2000} contexts=${2:-1000} runs=${3:-5} own=''
+policies=${1:-600} contexts=${2:-300} runs=${3:-5} own=''
 . bench/reference.sh
 folder=$(mktemp -d); trap 'rm -rf "$folder"' EXIT
 median() { sort -n | awk '{ all[NR] = $1 } END { print all[int((NR + 1) / 2)] }'; }
