@@ -73,7 +73,7 @@ fn seat_after(told: &Result<Offer, OutOfMemory>) -> Seat {
     }
 }
 
-// The worker that writes, where lines are due to it; else one that naps, where something is ready for it that is worth it.
+// The worker that writes, where lines are due to it, and it is not this one, which naps then until another leaves; else one that naps, where something is ready for it that is worth it.
 fn whom(
     board: &Board,
     crew: &Crew,
@@ -81,7 +81,7 @@ fn whom(
     told: &Result<Offer, OutOfMemory>,
 ) -> Option<Worker> {
     let due = board.committed().saturating_sub(crew.told() as usize) >= DUE;
-    if due && crew.seat(Worker(0)) == Seat::Napping {
+    if due && number != Worker(0) && crew.seat(Worker(0)) == Seat::Napping {
         return Some(Worker(0));
     }
     if is_worth_a_call(crew, number, told) && board.has_ready() {
