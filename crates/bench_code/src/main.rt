@@ -6,16 +6,12 @@
 ghost use Rattle.wave_base.specs.Scripts.{IsScript};
 ghost use Rattle.code_runner.specs.Coded.{IsCode};
 
-mod coded;
-#[cfg(test)]
-mod tests;
-
 use code_meaning::run_script;
-use coded::{Coded, coded_input};
 use listing_out::write_listing;
 use std::alloc::Global;
 use std::time::{Clock, Instant};
 use std::{env, io};
+use tests_code::{Coded, coded_input};
 use wave_base::INPUT_BYTES;
 use wave_io::{Sink, StdSink, StdSource, read_all};
 

@@ -1,3 +1,5 @@
+//! A run that is timed: one call of the counting event.
+
 ghost use Rattle.std.specs.Prelude.{◌≡◌, [], ◌∷◌, IfOk};
 ghost use Rattle.wave_base.specs.declared.value.Value.TheVariants as v;
 ghost use Rattle.service_vm.specs.Spin.{spin};

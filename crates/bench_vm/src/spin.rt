@@ -1,3 +1,5 @@
+//! The program that is timed, as instructions.
+
 ghost use Rattle.std.specs.Prelude.{◌≡◌, IfOk};
 ghost use Rattle.service_vm.specs.Spin.{spin};
 

@@ -1,8 +1,10 @@
+//! Checkpoints are written, read back and refused line by line.
+
 ghost use Rattle.std.specs.Prelude.{◌≤◌, length};
 ghost use Rattle.wave_base.specs.Names.{HasNames};
 ghost use Rattle.wave_base.specs.Shapes.{IsShape};
 
-use crate::snapshots::market_shape;
+use crate::shapes::market_shape;
 use checkpoint_store::{CheckError, read_checkpoint, write_checkpoint};
 use std::alloc::Global;
 use std::test::Fail;

@@ -1,3 +1,5 @@
+//! Words of command lines, with what they ask for.
+
 use command_words::{Command, Crew, Places, Schedule, command_of};
 use std::alloc::Global;
 use std::process::Abort;

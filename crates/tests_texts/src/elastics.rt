@@ -3,7 +3,7 @@
 ghost use Rattle.std.specs.Prelude.{◌≤◌, length};
 ghost use Rattle.wave_base.specs.Shapes.{IsShape};
 
-use crate::scripts::shape;
+use crate::shapes::event_shape;
 use script_reader::{Elastic, Part, ScriptError, read_elastic, read_script};
 use std::alloc::Global;
 use std::test::Fail;
@@ -65,7 +65,7 @@ fn wanted(alloc: Global) -> Result<Elastic, OutOfMemory> {
 #[test]
 fn a_part_begins_at_each_policy(rt: HostRuntime) -> Result<(), Fail> {
     let alloc = rt.alloc();
-    let shape = shape(alloc)?;
+    let shape = event_shape(alloc)?;
     assert!(rt; read_elastic(alloc, &shape, TEXT) == Ok(wanted(alloc)?));
     let empty = read_elastic(alloc, &shape, b"")?;
     assert_eq!(rt; empty.hosts, 1);
@@ -83,7 +83,7 @@ fn refusal(alloc: Global, shape: &Shape, text: &[u8]) -> Option<ScriptError>
 #[test]
 fn a_policy_has_its_form(rt: HostRuntime) -> Result<(), Fail> {
     let alloc = rt.alloc();
-    let shape = shape(alloc)?;
+    let shape = event_shape(alloc)?;
     let unknown = Some(ScriptError::UnknownCommand { line: 2 });
     assert!(rt; refusal(alloc, &shape, b"\nbalance 1") == unknown);
     assert!(rt; refusal(alloc, &shape, b"\nbalance by -1") == unknown);
@@ -98,7 +98,7 @@ fn a_policy_has_its_form(rt: HostRuntime) -> Result<(), Fail> {
 #[test]
 fn refuses_each_fault_of_a_policy(rt: HostRuntime) -> Result<(), Fail> {
     let alloc = rt.alloc();
-    let shape = shape(alloc)?;
+    let shape = event_shape(alloc)?;
     let count = Some(ScriptError::CountRange { line: 1 });
     assert!(rt; refusal(alloc, &shape, b"balance by 0") == count);
     assert!(rt; refusal(alloc, &shape, b"balance by 4001") == count);
@@ -133,7 +133,7 @@ fn after_4000(alloc: Global, shape: &Shape, line: &[u8]) -> Result<Option<Script
 #[test]
 fn a_policy_is_an_event_line(rt: HostRuntime) -> Result<(), Fail> {
     let alloc = rt.alloc();
-    let shape = shape(alloc)?;
+    let shape = event_shape(alloc)?;
     let many = Some(ScriptError::TooMany { line: 8_001 });
     assert!(rt; after_4000(alloc, &shape, b"settle")?.is_none());
     assert!(rt; after_4000(alloc, &shape, b"snapshot")? == many);

@@ -1,3 +1,5 @@
+//! What is held goes out in few writes, and stays where the sink fails.
+
 use std::alloc::Global;
 use std::test::Fail;
 use wave_base::{OutOfMemory, Seq};

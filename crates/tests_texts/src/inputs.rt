@@ -1,3 +1,5 @@
+//! Inputs are parted.
+
 use input_parts::parts_of;
 use std::test::Fail;
 

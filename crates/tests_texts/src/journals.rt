@@ -1,42 +1,15 @@
-ghost use Rattle.std.specs.Prelude.{◌≡◌, ◌≤◌, ◌∷◌, [], codes, length, IfOk};
+//! Journals are written, read back and refused line by line.
+
+ghost use Rattle.std.specs.Prelude.{◌≤◌, length};
 ghost use Rattle.wave_base.specs.Names.{HasNames};
 ghost use Rattle.wave_base.specs.Shapes.{IsShape};
-ghost use Rattle.wave_base.specs.Text.{IsText};
-ghost use Rattle.path_text.specs.Sample.{hall_shape};
 
+use crate::shapes::hall_shape;
 use journal_text::{JournalError, read_journal, write_journal};
 use std::alloc::Global;
 use std::test::Fail;
-use wave_base::{Class, ClassInfo, Host, OutOfMemory, Path, Seq, Shape, Step, Ticket, Txt, Worker};
+use wave_base::{Class, Host, OutOfMemory, Path, Seq, Shape, Step, Ticket, Worker};
 use wave_labels::{Act, Label, MailId};
-
-fn class(alloc: Global, name: &[u8], parent: Option<Class>) -> Result<ClassInfo, OutOfMemory>
-    requires { IsText name.now }
-    ensures { IfOk result (λ c. c ≡ record { name = name.now; parent = parent; fields = [] }) }
-{
-    Ok(ClassInfo {
-        name: Txt::from_bytes(alloc, name)?,
-        parent,
-        fields: Seq::new(alloc),
-    })
-}
-
-// A root, and a Hall in it.
-fn hall_shape(alloc: Global) -> Result<Shape, OutOfMemory>
-    ensures same { IfOk result (λ s. s ≡ hall_shape) }
-    ensures shape { IfOk result IsShape }
-    ensures names { IfOk result HasNames }
-{
-    let root = class(alloc, b"Market", None)?;
-    let hall = class(alloc, b"Hall", Some(Class(0)))?;
-    let mut classes = Vec::new(alloc);
-    classes.push(root)?;
-    classes.push(hall)?;
-    Ok(Shape {
-        classes: Seq::from_vec(classes),
-        events: Seq::new(alloc),
-    })
-}
 
 // The text of what is read of a text.
 fn again(alloc: Global, shape: &Shape, text: &[u8]) -> Result<Seq<u8>, JournalError>

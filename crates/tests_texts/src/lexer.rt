@@ -1,3 +1,5 @@
+//! Tokens, and the faults of texts.
+
 ghost use Rattle.std.specs.Prelude.{◌≤◌, length};
 ghost use Rattle.wave_base.specs.declared.limits.TheConstants.{PLACED_BYTES};
 

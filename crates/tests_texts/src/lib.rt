@@ -33,6 +33,8 @@ mod scripts;
 #[cfg(test)]
 mod services;
 #[cfg(test)]
+mod shapes;
+#[cfg(test)]
 mod snapshots;
 #[cfg(test)]
 mod stages;

@@ -1,36 +1,13 @@
+//! Code as a text.
+
 ghost use Rattle.std.specs.Prelude.{◌≡◌, ◌<◌, length, IfOk};
 ghost use Rattle.service_code.specs.Listing.{CanList};
 
 use service_code::{Function, Instr, Program, code_listing};
 use std::alloc::Global;
 use std::test::Fail;
-use wave_base::{
-    Class, ClassInfo, EventInfo, FieldInfo, Kind, OutOfMemory, Seq, Shape, Span, Txt, Value,
-};
-
-fn tick_shape(alloc: Global) -> Result<Shape, OutOfMemory>
-    ensures { IfOk result (λ s. length s.classes ≡ 1) }
-{
-    let field = FieldInfo {
-        name: Txt::from_bytes(alloc, b"n")?,
-        kind: Kind::Int,
-        initial: Value::Int(0),
-    };
-    let class = ClassInfo {
-        name: Txt::from_bytes(alloc, b"Tick")?,
-        parent: None,
-        fields: Seq::from_vec(vec![in alloc; field]?),
-    };
-    let event = EventInfo {
-        name: Txt::from_bytes(alloc, b"hit")?,
-        params: Seq::new(alloc),
-        reply: Some(Kind::Int),
-    };
-    Ok(Shape {
-        classes: Seq::from_vec(vec![in alloc; class]?),
-        events: Seq::from_vec(vec![in alloc; event]?),
-    })
-}
+use tests_services::tick_shape;
+use wave_base::{Class, Kind, OutOfMemory, Seq, Shape, Span, Txt};
 
 fn at(col: u32) -> Span {
     Span { line: 1, col }

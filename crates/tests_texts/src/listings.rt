@@ -1,13 +1,15 @@
+//! Listings of runs: each kind of line, and sinks that fail.
+
 ghost use Rattle.std.specs.Prelude.{◌≡◌, ◌≤◌, ◌-◌, ◌^◌, length, IfOk};
 ghost use Rattle.wave_base.specs.Text.{IsText};
 
 use listing_out::{ListError, listing, write_end, write_lines, write_listing, write_listing_at};
 use std::alloc::Global;
 use std::test::Fail;
+use tests_services::{class, event, hall, number};
 use wave_base::{
-    Class, ClassInfo, EventInfo, EventResult, FieldInfo, Finished, Host, Kind, Message,
-    OutOfMemory, Outcome, Path, Place, Seq, Shape, Shot, Shown, Span, Step, Table, Ticket, Trap,
-    TrapKind, Txt, Value,
+    Class, EventResult, Finished, Host, Message, OutOfMemory, Outcome, Path, Place, Seq, Shape,
+    Shot, Shown, Span, Table, Ticket, Trap, TrapKind, Txt, Value,
 };
 use wave_io::MemSink;
 
@@ -25,52 +27,16 @@ fn two_pairs(alloc: Global) -> Value {
     Value::Map(table)
 }
 
-fn field(alloc: Global, name: &[u8]) -> Result<FieldInfo, OutOfMemory>
-    requires { IsText name.now }
-{
-    Ok(FieldInfo {
-        name: Txt::from_bytes(alloc, name)?,
-        kind: Kind::Int,
-        initial: Value::Int(0),
-    })
-}
-
-fn class(
-    alloc: Global,
-    name: &[u8],
-    parent: Option<Class>,
-    fields: Seq<FieldInfo>,
-) -> Result<ClassInfo, OutOfMemory>
-    requires { IsText name.now }
-{
-    Ok(ClassInfo {
-        name: Txt::from_bytes(alloc, name)?,
-        parent,
-        fields,
-    })
-}
-
 // A root with a field, a Hall with two, and an event.
 fn shape(alloc: Global) -> Result<Shape, OutOfMemory> {
-    let seen = vec![in alloc; field(alloc, b"seen")?]?;
-    let two = vec![in alloc; field(alloc, b"count")?, field(alloc, b"tag")?]?;
-    let root = class(alloc, b"Market", None, Seq::from_vec(seen))?;
-    let hall = class(alloc, b"Hall", Some(Class(0)), Seq::from_vec(two))?;
-    let event = EventInfo {
-        name: Txt::from_bytes(alloc, b"buy")?,
-        params: Seq::new(alloc),
-        reply: None,
-    };
+    let seen = vec![in alloc; number(alloc, b"seen", 0)?]?;
+    let two = vec![in alloc; number(alloc, b"count", 0)?, number(alloc, b"tag", 0)?]?;
+    let root = class(alloc, b"Market", None, seen)?;
+    let hall = class(alloc, b"Hall", Some(Class(0)), two)?;
+    let event = event(alloc, b"buy", Vec::new(alloc), None)?;
     Ok(Shape {
         classes: Seq::from_vec(vec![in alloc; root, hall]?),
         events: Seq::from_vec(vec![in alloc; event]?),
-    })
-}
-
-fn hall(key: i64) -> Path {
-    Path::root().child(Step {
-        class: Class(1),
-        key,
     })
 }
 

@@ -1,3 +1,5 @@
+//! Generated loads, and the sums of runs.
+
 use std::alloc::Global;
 use std::test::Fail;
 use wave_base::{EventResult, Host, Outcome, Path, Seq, Span, Trap, TrapKind, Value};

@@ -1,3 +1,5 @@
+//! The places of expressions.
+
 use mace_ast::{BinaryOp, Expr, Name, Node, UnaryOp};
 use std::test::Fail;
 use wave_base::{Span, Txt};

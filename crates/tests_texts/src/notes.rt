@@ -1,3 +1,5 @@
+//! What is told of faults.
+
 use fault_notes::{lex_note, script_note, text_note, type_note};
 use mace_lexer::LexError;
 use mace_parser::ParseError;

@@ -1,41 +1,11 @@
-ghost use Rattle.std.specs.Prelude.{◌≡◌, ◌∷◌, [], codes, IfOk};
-ghost use Rattle.wave_base.specs.Text.{IsText};
-ghost use Rattle.wave_base.specs.Shapes.{IsShape};
-ghost use Rattle.path_text.specs.Sample.{hall_shape};
+//! Paths are written, read and looked up.
 
+use crate::shapes::hall_shape;
 use path_text::{
     ClassNames, PathError, parse_path, put_shot, resolve_steps, write_path, written_steps,
 };
-use std::alloc::Global;
 use std::test::Fail;
-use wave_base::{Class, ClassInfo, OutOfMemory, Path, Seq, Shape, Shot, Step, Txt};
-
-fn class(alloc: Global, name: &[u8], parent: Option<Class>) -> Result<ClassInfo, OutOfMemory>
-    requires { IsText name.now }
-    ensures { IfOk result (λ c. c ≡ record { name = name.now; parent = parent; fields = [] }) }
-{
-    Ok(ClassInfo {
-        name: Txt::from_bytes(alloc, name)?,
-        parent,
-        fields: Seq::new(alloc),
-    })
-}
-
-// A root, and a Hall in it.
-fn hall_shape(alloc: Global) -> Result<Shape, OutOfMemory>
-    ensures same { IfOk result (λ s. s ≡ hall_shape) }
-    ensures shape { IfOk result IsShape }
-{
-    let root = class(alloc, b"Market", None)?;
-    let hall = class(alloc, b"Hall", Some(Class(0)))?;
-    let mut classes = Vec::new(alloc);
-    classes.push(root)?;
-    classes.push(hall)?;
-    Ok(Shape {
-        classes: Seq::from_vec(classes),
-        events: Seq::new(alloc),
-    })
-}
+use wave_base::{Class, Path, Seq, Shot, Step};
 
 #[test]
 fn reads_what_it_writes(rt: HostRuntime) -> Result<(), Fail> {

@@ -1,77 +1,16 @@
-ghost use Rattle.std.specs.Prelude.{◌≡◌, ◌≤◌, ◌∷◌, [], length, IfOk};
-ghost use Rattle.wave_base.specs.Shapes.{IsShape};
-ghost use Rattle.wave_base.specs.Text.{IsText};
-ghost use Rattle.path_text.specs.Sample.{market_class, hall_class};
+//! Scripts: each form of line, and each fault.
 
+ghost use Rattle.std.specs.Prelude.{◌≤◌, length, IfOk};
+ghost use Rattle.wave_base.specs.Shapes.{IsShape};
+
+use crate::shapes::{event_shape, shape_with};
 use script_reader::{ScriptError, read_script, read_script_at};
 use std::alloc::Global;
 use std::test::Fail;
+use tests_services::{event, hall};
 use wave_base::{
-    Call, Class, ClassInfo, EventInfo, Host, Kind, Line, OutOfMemory, PLACED_BYTES, Path, Script,
-    Seq, Shape, Step, Txt, Value,
+    Call, Host, Kind, Line, OutOfMemory, PLACED_BYTES, Path, Script, Seq, Shape, Txt, Value,
 };
-
-fn class(alloc: Global, name: &[u8], parent: Option<Class>) -> Result<ClassInfo, OutOfMemory>
-    requires { IsText name.now }
-    ensures { IfOk result (λ c. c ≡ record { name = name.now; parent = parent; fields = [] }) }
-{
-    Ok(ClassInfo {
-        name: Txt::from_bytes(alloc, name)?,
-        parent,
-        fields: Seq::new(alloc),
-    })
-}
-
-fn event(alloc: Global, name: &[u8], params: Vec<Kind>) -> Result<EventInfo, OutOfMemory>
-    requires { IsText name.now }
-{
-    Ok(EventInfo {
-        name: Txt::from_bytes(alloc, name)?,
-        params: Seq::from_vec(params),
-        reply: None,
-    })
-}
-
-// A root, and a Hall in it.
-fn classes(alloc: Global) -> Result<Seq<ClassInfo>, OutOfMemory>
-    ensures { IfOk result (λ cs. cs ≡ market_class ∷ hall_class ∷ []) }
-{
-    let root = class(alloc, b"Market", None)?;
-    let hall = class(alloc, b"Hall", Some(Class(0)))?;
-    let mut classes = Vec::new(alloc);
-    classes.push(root)?;
-    classes.push(hall)?;
-    Ok(Seq::from_vec(classes))
-}
-
-// put(int, text, bool), and pair(int)
-fn events(alloc: Global) -> Result<Seq<EventInfo>, OutOfMemory>
-    ensures { IfOk result (λ es. length es ≤ 2) }
-{
-    let three = vec![in alloc; Kind::Int, Kind::Text, Kind::Bool]?;
-    let put = event(alloc, b"put", three)?;
-    let pair = event(alloc, b"pair", vec![in alloc; Kind::Int]?)?;
-    let mut events = Vec::new(alloc);
-    events.push(put)?;
-    events.push(pair)?;
-    Ok(Seq::from_vec(events))
-}
-
-pub(crate) fn shape(alloc: Global) -> Result<Shape, OutOfMemory>
-    ensures { IfOk result IsShape }
-{
-    Ok(Shape {
-        classes: classes(alloc)?,
-        events: events(alloc)?,
-    })
-}
-
-fn hall(key: i64) -> Path {
-    Path::root().child(Step {
-        class: Class(1),
-        key,
-    })
-}
 
 const TEXT: &[u8] = b" # a remark \"\r
 \thosts 2
@@ -106,7 +45,7 @@ fn wanted(alloc: Global) -> Result<Script, OutOfMemory> {
 #[test]
 fn reads_every_form(rt: HostRuntime) -> Result<(), Fail> {
     let alloc = rt.alloc();
-    let shape = shape(alloc)?;
+    let shape = event_shape(alloc)?;
     assert!(rt; read_script(alloc, &shape, TEXT) == Ok(wanted(alloc)?));
     let empty = read_script(alloc, &shape, b"")?;
     assert_eq!(rt; empty.hosts, 1);
@@ -124,7 +63,7 @@ fn refusal(alloc: Global, shape: &Shape, text: &[u8]) -> Option<ScriptError>
 #[test]
 fn refuses_each_fault_with_its_line(rt: HostRuntime) -> Result<(), Fail> {
     let alloc = rt.alloc();
-    let shape = shape(alloc)?;
+    let shape = event_shape(alloc)?;
     let unknown = Some(ScriptError::UnknownCommand { line: 2 });
     assert!(rt; refusal(alloc, &shape, b"\nrequest pair(- 5)") == unknown);
     assert!(rt; refusal(alloc, &shape, b"\nrequest pair(1,)") == unknown);
@@ -146,7 +85,7 @@ fn refuses_each_fault_with_its_line(rt: HostRuntime) -> Result<(), Fail> {
 #[test]
 fn refuses_hosts_with_its_line(rt: HostRuntime) -> Result<(), Fail> {
     let alloc = rt.alloc();
-    let shape = shape(alloc)?;
+    let shape = event_shape(alloc)?;
     let range = Some(ScriptError::HostRange { line: 1 });
     assert!(rt; refusal(alloc, &shape, b"hosts 0") == range);
     assert!(rt; refusal(alloc, &shape, b"hosts 99999999999999999999") == range);
@@ -176,7 +115,7 @@ fn after_4000(alloc: Global, shape: &Shape, line: &[u8]) -> Result<Option<Script
 #[test]
 fn refuses_the_line_past_4000(rt: HostRuntime) -> Result<(), Fail> {
     let alloc = rt.alloc();
-    let shape = shape(alloc)?;
+    let shape = event_shape(alloc)?;
     let many = Some(ScriptError::TooMany { line: 4001 });
     assert!(rt; after_4000(alloc, &shape, b"settle")?.is_none());
     assert!(rt; after_4000(alloc, &shape, b"snapshot")? == many);
@@ -204,7 +143,7 @@ fn with_text(alloc: Global, shape: &Shape, len: usize) -> Result<Option<ScriptEr
 #[test]
 fn refuses_a_text_past_200_bytes(rt: HostRuntime) -> Result<(), Fail> {
     let alloc = rt.alloc();
-    let shape = shape(alloc)?;
+    let shape = event_shape(alloc)?;
     assert!(rt; with_text(alloc, &shape, 200)?.is_none());
     assert!(rt; with_text(alloc, &shape, 201)? == Some(ScriptError::ArgType { line: 1 }));
     Ok(())
@@ -213,7 +152,7 @@ fn refuses_a_text_past_200_bytes(rt: HostRuntime) -> Result<(), Fail> {
 #[test]
 fn reads_a_text_past_what_an_input_may_have(rt: HostRuntime) -> Result<(), Fail> {
     let alloc = rt.alloc();
-    let shape = shape(alloc)?;
+    let shape = event_shape(alloc)?;
     let mut text = vec![in alloc; b' '; 1_048_577]?;
     text.extend_from_slice(b"\nsnapshot")?;
     if text.len() <= PLACED_BYTES {
@@ -226,7 +165,7 @@ fn reads_a_text_past_what_an_input_may_have(rt: HostRuntime) -> Result<(), Fail>
 #[test]
 fn goes_on_after_a_script(rt: HostRuntime) -> Result<(), Fail> {
     let alloc = rt.alloc();
-    let shape = shape(alloc)?;
+    let shape = event_shape(alloc)?;
     let text = b"move / to 2\nsnapshot";
     let script = read_script_at(alloc, &shape, text, 3, 3998)?;
     assert_eq!(rt; script.hosts, 3);
@@ -239,30 +178,18 @@ fn goes_on_after_a_script(rt: HostRuntime) -> Result<(), Fail> {
 }
 
 // Two events of one name: look(int), and look().
-fn namesakes(alloc: Global) -> Result<Seq<EventInfo>, OutOfMemory>
-    ensures { IfOk result (λ es. length es ≤ 2) }
-{
-    let first = event(alloc, b"look", vec![in alloc; Kind::Int]?)?;
-    let second = event(alloc, b"look", Vec::new(alloc))?;
-    let mut events = Vec::new(alloc);
-    events.push(first)?;
-    events.push(second)?;
-    Ok(Seq::from_vec(events))
-}
-
-fn shape_of_namesakes(alloc: Global) -> Result<Shape, OutOfMemory>
+fn namesakes(alloc: Global) -> Result<Shape, OutOfMemory>
     ensures { IfOk result IsShape }
 {
-    Ok(Shape {
-        classes: classes(alloc)?,
-        events: namesakes(alloc)?,
-    })
+    let first = event(alloc, b"look", vec![in alloc; Kind::Int]?, None)?;
+    let second = event(alloc, b"look", Vec::new(alloc), None)?;
+    shape_with(alloc, vec![in alloc; first, second]?)
 }
 
 #[test]
 fn the_first_event_of_a_name_is_called(rt: HostRuntime) -> Result<(), Fail> {
     let alloc = rt.alloc();
-    let shape = shape_of_namesakes(alloc)?;
+    let shape = namesakes(alloc)?;
     assert!(rt; refusal(alloc, &shape, b"request look(1)").is_none());
     let count = Some(ScriptError::ArgCount { line: 1 });
     assert!(rt; refusal(alloc, &shape, b"request look()") == count);
@@ -275,7 +202,7 @@ fn the_first_event_of_a_name_is_called(rt: HostRuntime) -> Result<(), Fail> {
 #[test]
 fn classes_are_found_in_their_parents(rt: HostRuntime) -> Result<(), Fail> {
     let alloc = rt.alloc();
-    let shape = shape(alloc)?;
+    let shape = event_shape(alloc)?;
     assert!(rt; refusal(alloc, &shape, b"move /Hall[1] to 0").is_none());
     let path = Some(ScriptError::BadPath { line: 1 });
     assert!(rt; refusal(alloc, &shape, b"move /Hall[1]/Hall[1] to 0") == path);

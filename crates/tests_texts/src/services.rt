@@ -1,3 +1,5 @@
+//! Services as they are read, and which fault is told.
+
 use mace_lexer::LexError;
 use mace_parser::ParseError;
 use service_reader::{TextFault, parse_text};

@@ -1,95 +1,17 @@
-ghost use Rattle.std.specs.Prelude.{◌≡◌, ◌≤◌, length, IfOk};
+//! Snapshots are written, read back and refused line by line.
+
+ghost use Rattle.std.specs.Prelude.{◌≤◌, length};
 ghost use Rattle.wave_base.specs.Names.{HasNames};
 ghost use Rattle.wave_base.specs.Shapes.{IsShape};
-ghost use Rattle.wave_base.specs.Text.{IsText};
-ghost use Rattle.snapshot_text.specs.Sample as sample;
 
+use crate::shapes::market_shape;
 use snapshot_text::{ShotError, read_snapshot, write_snapshot};
 use std::alloc::Global;
 use std::test::Fail;
-use wave_base::{
-    Class, ClassInfo, FieldInfo, Kind, OutOfMemory, Path, Seq, Shape, Shot, Step, Table, Txt, Value,
-};
+use wave_base::{Class, OutOfMemory, Path, Seq, Shape, Shot, Step, Table, Txt, Value};
 
 // More bytes than any text here has.
 const ENOUGH: usize = 100_000;
-
-fn field(alloc: Global, name: &[u8], kind: Kind, initial: Value) -> Result<FieldInfo, OutOfMemory>
-    requires { IsText name.now }
-    ensures { IfOk result (λ f. f ≡ record { name = name.now; kind = kind; initial = initial }) }
-{
-    Ok(FieldInfo {
-        name: Txt::from_bytes(alloc, name)?,
-        kind,
-        initial,
-    })
-}
-
-fn class(
-    alloc: Global,
-    name: &[u8],
-    parent: Option<Class>,
-    fields: Vec<FieldInfo>,
-) -> Result<ClassInfo, OutOfMemory>
-    requires { IsText name.now }
-    ensures { IfOk result (λ c. c ≡ record { name = name.now; parent = parent; fields = fields.items }) }
-{
-    Ok(ClassInfo {
-        name: Txt::from_bytes(alloc, name)?,
-        parent,
-        fields: Seq::from_vec(fields),
-    })
-}
-
-fn market_class(alloc: Global) -> Result<ClassInfo, OutOfMemory>
-    ensures { IfOk result (λ c. c ≡ sample.market_class) }
-{
-    let mut fields = Vec::new(alloc);
-    fields.push(field(alloc, b"seen", Kind::Int, Value::Int(0))?)?;
-    class(alloc, b"Market", None, fields)
-}
-
-fn hall_class(alloc: Global) -> Result<ClassInfo, OutOfMemory>
-    ensures { IfOk result (λ c. c ≡ sample.hall_class) }
-{
-    let mut fields = Vec::new(alloc);
-    fields.push(field(alloc, b"count", Kind::Int, Value::Int(0))?)?;
-    class(alloc, b"Hall", Some(Class(0)), fields)
-}
-
-fn stall_class(alloc: Global) -> Result<ClassInfo, OutOfMemory>
-    ensures { IfOk result (λ c. c ≡ sample.stall_class) }
-{
-    let mut fields = Vec::new(alloc);
-    let empty = Txt::from_bytes(alloc, b"")?;
-    fields.push(field(alloc, b"open", Kind::Bool, Value::Bool(false))?)?;
-    fields.push(field(alloc, b"label", Kind::Text, Value::Str(empty))?)?;
-    fields.push(field(alloc, b"best", Kind::Map, Value::Map(Table::new(alloc)))?)?;
-    class(alloc, b"Stall", Some(Class(1)), fields)
-}
-
-fn cell_class(alloc: Global) -> Result<ClassInfo, OutOfMemory>
-    ensures { IfOk result (λ c. c ≡ sample.cell_class) }
-{
-    class(alloc, b"Cell", Some(Class(0)), Vec::new(alloc))
-}
-
-// A root with a number, a Hall in it with a number, a Stall in that with one of each other kind, and a Cell with none.
-pub(crate) fn market_shape(alloc: Global) -> Result<Shape, OutOfMemory>
-    ensures same { IfOk result (λ s. s ≡ sample.market_shape) }
-    ensures shape { IfOk result IsShape }
-    ensures names { IfOk result HasNames }
-{
-    let mut classes = Vec::new(alloc);
-    classes.push(market_class(alloc)?)?;
-    classes.push(hall_class(alloc)?)?;
-    classes.push(stall_class(alloc)?)?;
-    classes.push(cell_class(alloc)?)?;
-    Ok(Shape {
-        classes: Seq::from_vec(classes),
-        events: Seq::new(alloc),
-    })
-}
 
 const WHOLE: &[u8] = b"snapshot 7
 at / seen=-9223372036854775808

@@ -2,7 +2,7 @@
 
 ghost use Rattle.std.specs.Prelude.{◌≡◌, ◌∷◌, [], length, IfOk};
 
-use crate::scripts::shape;
+use crate::shapes::event_shape;
 use elastic_policy::Stages;
 use script_reader::read_elastic;
 use std::alloc::Global;
@@ -47,7 +47,7 @@ fn line(piece: &Option<Script>) -> Option<&Line> {
 #[test]
 fn pieces_come_one_after_the_other(rt: HostRuntime) -> Result<(), Fail> {
     let alloc = rt.alloc();
-    let shape = shape(alloc)?;
+    let shape = event_shape(alloc)?;
     let text = b"hosts 2\nbalance by 2\nsnapshot\nsettle\ndrain 0 to 1";
     let elastic = read_elastic(alloc, &shape, text)?;
     let mut stages = Stages::first(alloc, &shape, elastic)?;

@@ -1,3 +1,5 @@
+//! Sources and sinks, and what is said where one fails.
+
 ghost use Rattle.std.specs.Prelude.{◌≡◌, IfOk};
 
 use std::alloc::Global;

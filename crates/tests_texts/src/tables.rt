@@ -1,3 +1,5 @@
+//! Declarations by their names.
+
 ghost use Rattle.wave_base.specs.Text.{IsText};
 
 use mace_ast::{BinaryOp, Name, Param, UnaryOp};

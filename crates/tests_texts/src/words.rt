@@ -1,3 +1,5 @@
+//! Words, lines, quoted texts and values in any text.
+
 use std::alloc::Global;
 use std::test::Fail;
 use wave_base::{OutOfMemory, Span, Table, Txt, Value};

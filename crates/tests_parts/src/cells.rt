@@ -1,0 +1,136 @@
+//! Cells, call by call.
+
+use event_cells::{Cell, Envelope, Hold, JobKind, Status};
+use migration_core::Letter;
+use std::alloc::Global;
+use std::test::Fail;
+use tests_services::hall;
+use wave_base::{Host, OutOfMemory, Path, Ticket};
+
+fn at(host: u8) -> Hold {
+    Hold {
+        host: Host(host),
+        peek: false,
+    }
+}
+
+// The actor of the seventh ticket is the number 5.
+fn seventh(alloc: Global) -> Result<Cell<u8>, OutOfMemory> {
+    Cell::new(alloc, Ticket(7), JobKind::Event(2), 5, false)
+}
+
+fn is_release(mail: Option<&Envelope>, to: u8, path: Path) -> bool {
+    match mail {
+        Some(mail) => {
+            mail.to == Host(to) && mail.path == path && matches!(mail.letter, Letter::Release)
+        }
+        None => false,
+    }
+}
+
+fn is_enter(mail: Option<&Envelope>, entry: u64) -> bool {
+    match mail {
+        Some(mail) => match mail.letter {
+            Letter::Enter {
+                number,
+                followed,
+                peek,
+            } => {
+                mail.to == Host(0)
+                    && mail.path == Path::root()
+                    && number == entry
+                    && followed == 0
+                    && !peek
+            }
+            _ => false,
+        },
+        None => false,
+    }
+}
+
+#[test]
+fn an_admitted_event_enters_the_root(rt: HostRuntime) -> Result<(), Fail> {
+    let mut cell = seventh(rt.alloc())?;
+    assert!(rt; cell.outbox.sent() == 1);
+    let mail = cell.take_mail(1);
+    assert!(rt; is_enter(mail.as_ref(), 7));
+    assert!(rt; cell.take_mail(1).is_none());
+    assert!(rt; cell.outbox.as_slice().is_empty());
+    assert!(rt; cell.kind == JobKind::Event(2));
+    Ok(())
+}
+
+#[test]
+fn a_go_gives_up_what_is_outside(rt: HostRuntime) -> Result<(), Fail> {
+    let mut cell = seventh(rt.alloc())?;
+    let root = Path::root();
+    cell.reserve(3)?;
+    cell.set_status(Status::Waiting(root));
+    cell.let_in(root, at(2));
+    assert!(rt; cell.status == Status::Ready(root));
+    assert!(rt; cell.hold(&root) == Some(at(2)));
+    assert!(rt; cell.start(root) == Some(5));
+    assert!(rt; cell.status == Status::Running(root) && cell.actor.is_none());
+    cell.put_back(6);
+    assert!(rt; cell.status == Status::Travelling && cell.actor == Some(6));
+    assert!(rt; cell.held.as_slice().len() == 1);
+    assert!(rt; cell.outbox.sent() == 1);
+    cell.reserve(2)?;
+    cell.send(Envelope {
+        to: Host(1),
+        path: hall(-3),
+        letter: Letter::Visit,
+    });
+    cell.release_outside(&hall(-3));
+    assert!(rt; matches!(cell.outbox.get(2), Some(mail) if mail.to == Host(1)));
+    assert!(rt; is_release(cell.outbox.get(3), 2, root));
+    assert!(rt; cell.held.as_slice().is_empty());
+    Ok(())
+}
+
+#[test]
+fn what_is_over_gives_up_all_in_path_order(rt: HostRuntime) -> Result<(), Fail> {
+    let mut cell = seventh(rt.alloc())?;
+    let root = Path::root();
+    cell.reserve(0)?;
+    cell.let_in(hall(-3), at(1));
+    cell.reserve(0)?;
+    cell.let_in(root, at(2));
+    let mails = cell.held.as_slice().len();
+    assert!(rt; mails == 2);
+    assert!(rt; cell.outbox.sent() == 1);
+    cell.reserve(mails)?;
+    cell.end();
+    assert!(rt; cell.actor.is_none() && cell.status == Status::Ended);
+    assert!(rt; cell.outbox.sent() == 3);
+    assert!(rt; is_release(cell.outbox.get(2), 2, root));
+    assert!(rt; is_release(cell.outbox.get(3), 1, hall(-3)));
+    for number in [2, 1, 3] {
+        assert!(rt; !cell.is_done());
+        assert!(rt; cell.take_mail(number).is_some());
+    }
+    assert!(rt; cell.is_done());
+    Ok(())
+}
+
+#[test]
+fn a_context_is_let_go_without_a_release(rt: HostRuntime) -> Result<(), Fail> {
+    let mut cell = seventh(rt.alloc())?;
+    cell.reserve(0)?;
+    cell.let_in(hall(-3), at(1));
+    cell.let_go(&hall(-3));
+    assert!(rt; cell.hold(&hall(-3)).is_none());
+    assert!(rt; cell.outbox.sent() == 1);
+    if cell.outbox.get(1).is_some() {
+        cell.redirect(
+            1,
+            Envelope {
+                to: Host(3),
+                path: hall(-3),
+                letter: Letter::Back,
+            },
+        );
+    }
+    assert!(rt; matches!(cell.outbox.get(1), Some(mail) if mail.to == Host(3)));
+    Ok(())
+}
