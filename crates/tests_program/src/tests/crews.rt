@@ -1,12 +1,13 @@
 //! Rows by one worker and by many, whose output is the same; and the journal that stands behind it.
 
 use super::rows::{Case, all_hold, holds, joined, plain, ran_on, traps, works};
-use super::services::{EDGE, MARKET, TICK};
+use super::services::{EDGE, TICK};
 use std::alloc::Global;
 use std::process::Abort;
 use std::sync::Wait;
 use std::test::Fail;
 use std::thread::Threads;
+use tests_services::MARKET;
 use wave_io::OpenGate;
 
 /// A script for the market: a hall moves between two purchases.

@@ -2,13 +2,13 @@
 
 use super::crews::{MOVED, MOVES};
 use super::rows::{joined, ran_on};
-use super::services::MARKET;
 use std::alloc::Global;
 use std::hint::spin_loop;
 use std::sync::Wait;
 use std::sync::atomic::{AtomicU64, Ordering};
 use std::test::Fail;
 use std::thread::Threads;
+use tests_services::MARKET;
 use wave_base::{Class, OutOfMemory, Path, Step, Ticket};
 use wave_io::Gate;
 

@@ -1,12 +1,12 @@
 //! Checkpoints: a run whose point is saved, and runs that go on from one.
 
 use super::rows::{Row, holds, joined, plain, ran_on};
-use super::services::{CHAIN, MARKET};
 use std::alloc::Global;
 use std::process::Abort;
 use std::sync::Wait;
 use std::test::Fail;
 use std::thread::Threads;
+use tests_services::{CHAIN, MARKET};
 use wave_base::OutOfMemory;
 use wave_io::OpenGate;
 

@@ -1,12 +1,13 @@
 //! Journals that are replayed.
 
 use super::rows::{holds, plain, ran_on};
-use super::services::{CHAIN, MARKET, TICK};
+use super::services::TICK;
 use std::alloc::Global;
 use std::process::Abort;
 use std::sync::Wait;
 use std::test::Fail;
 use std::thread::Threads;
+use tests_services::{CHAIN, MARKET};
 use wave_base::OutOfMemory;
 use wave_io::OpenGate;
 

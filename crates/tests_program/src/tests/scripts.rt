@@ -1,8 +1,9 @@
 //! Scripts on services: what they come to.
 
 use super::rows::{all_hold, refuses, traps, works};
-use super::services::{CALC, CHAIN, EDGE, LONG, LOOP, MARKET, SENDS, WIDE};
+use super::services::{CALC, EDGE, LONG, LOOP, SENDS, WIDE};
 use std::test::Fail;
+use tests_services::{CHAIN, MARKET};
 
 /// Requests alone, with one worker and more, and none at all.
 #[test]

@@ -4,28 +4,6 @@
 pub const TICK: &[u8] =
     b"service Tick { var n: int = 0; event hit(): int { here { n = n + 1; } reply n; } }\n----\nrequest hit()\n";
 
-/// Halls with stalls: purchases go down to a stall, and some ask two stalls of a hall.
-pub const MARKET: &[u8] = b"service Market {
-  var seen: int = 0;
-  context Hall[int] {
-    var count: int = 0;
-    context Stall[int] {
-      var stock: int = 10;
-      method take(n: int): int { stock = stock - n; return stock; }
-    }
-    method both(a: int, b: int): int { return Stall[a].take(1) + Stall[b].take(1); }
-  }
-  event buy(h: int, s: int, n: int): int {
-    here { seen = seen + 1; }
-    down Hall[h] { count = count + n; }
-    down Stall[s] { let left = take(n); send \"till\", Hall.count; }
-    reply left;
-  }
-  event pair(h: int): int { down Hall[h] { let t = both(1, 2); } reply t; }
-  event same(h: int): int { down Hall[h] { let t = both(1, 1); } reply t; }
-}
-";
-
 /// A hall whose number is at the end of its range, so that one more traps.
 pub const EDGE: &[u8] = b"service Edge {
   var seen: int = 0;
@@ -37,18 +15,6 @@ pub const EDGE: &[u8] = b"service Edge {
     down Hall[h] { top = top + 1; }
     reply top;
   }
-}
-";
-
-/// Events that create events, one of them without end.
-pub const CHAIN: &[u8] = b"service Chain {
-  var n: int = 0;
-  event two(): int {
-    here { n = n + 1; spawn one(); spawn one(); }
-    reply n;
-  }
-  event one(): int { here { n = n + 10; } reply n; }
-  event again() { here { n = n + 1; spawn again(); } }
 }
 ";
 

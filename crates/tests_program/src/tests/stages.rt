@@ -1,12 +1,13 @@
 //! Scripts with policies, which are run piece by piece.
 
 use super::rows::{Case, all_hold, broken, holds, joined, plain, refuses};
-use super::services::{CHAIN, EDGE, MARKET};
+use super::services::EDGE;
 use std::alloc::Global;
 use std::process::Abort;
 use std::sync::Wait;
 use std::test::Fail;
 use std::thread::Threads;
+use tests_services::{CHAIN, MARKET};
 use wave_base::OutOfMemory;
 
 /// Who runs a script, without the places and with them.

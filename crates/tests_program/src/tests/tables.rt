@@ -2,8 +2,8 @@
 
 use super::crews::{LOOKED, LOOKS, MOVED, MOVES, TO_AND_FRO, WENT_TO_AND_FRO};
 use super::rows::{Row, all_hold, broken, holds, joined, plain, ran_on, traps, works};
-use super::services::{CHAIN, MARKET};
 use std::test::Fail;
+use tests_services::{CHAIN, MARKET};
 use wave_io::OpenGate;
 
 const THREE: &[u8] = b"request buy(1,1,3)\nrequest buy(1,2,4)\nrequest pair(1)\n";
