@@ -3,10 +3,7 @@
 use std::alloc::Global;
 use std::test::Fail;
 use wave_base::{OutOfMemory, Seq};
-use wave_io::{Failed, HeldBytes, MemSink};
-
-// How many bytes are held at most.
-const MOST: usize = 65_536;
+use wave_io::{Failed, HELD_BYTES, HeldBytes, MemSink};
 
 fn many(alloc: Global, n: usize) -> Result<Vec<u8>, OutOfMemory> {
     let mut bytes = Vec::new(alloc);
@@ -51,25 +48,25 @@ fn what_a_failing_sink_did_not_take_is_still_held(rt: HostRuntime) -> Result<(),
 #[test]
 fn what_does_not_fit_is_written_behind_what_is_held(rt: HostRuntime) -> Result<(), Fail> {
     let alloc = rt.alloc();
-    let mut sink = MemSink::new(alloc, 4 * MOST, MOST, Seq::new(alloc))?;
+    let mut sink = MemSink::new(alloc, 4 * HELD_BYTES, HELD_BYTES, Seq::new(alloc))?;
     let mut held = HeldBytes::new(alloc)?;
     assert_eq!(rt;
-        held.write_all(&mut sink, many(alloc, MOST)?.as_slice()),
+        held.write_all(&mut sink, many(alloc, HELD_BYTES)?.as_slice()),
         Ok(())
     );
     assert!(rt; sink.bytes().is_empty());
     assert_eq!(rt; held.write_all(&mut sink, b"ab"), Ok(()));
-    assert_eq!(rt; sink.bytes().len(), MOST);
+    assert_eq!(rt; sink.bytes().len(), HELD_BYTES);
     assert_eq!(rt;
-        held.write_all(&mut sink, many(alloc, MOST + 1)?.as_slice()),
+        held.write_all(&mut sink, many(alloc, HELD_BYTES + 1)?.as_slice()),
         Ok(())
     );
     let bytes = sink.bytes();
-    assert!(rt; bytes.len() == 2 * MOST + 3);
-    assert_eq!(rt; bytes[MOST], b'a');
-    assert_eq!(rt; bytes[MOST + 2], b'x');
+    assert!(rt; bytes.len() == 2 * HELD_BYTES + 3);
+    assert_eq!(rt; bytes[HELD_BYTES], b'a');
+    assert_eq!(rt; bytes[HELD_BYTES + 2], b'x');
     assert_eq!(rt; held.flush(&mut sink), Ok(()));
-    assert_eq!(rt; sink.bytes().len(), 2 * MOST + 3);
+    assert_eq!(rt; sink.bytes().len(), 2 * HELD_BYTES + 3);
     Ok(())
 }
 
@@ -80,14 +77,14 @@ fn a_front_of_a_large_piece_is_taken_where_the_sink_fails(rt: HostRuntime) -> Re
     let mut held = HeldBytes::new(alloc)?;
     assert_eq!(rt; held.write_all(&mut full, b"ab"), Ok(()));
     assert_eq!(rt;
-        held.write_all(&mut full, many(alloc, MOST + 1)?.as_slice()),
+        held.write_all(&mut full, many(alloc, HELD_BYTES + 1)?.as_slice()),
         Err(Failed)
     );
     assert_eq!(rt; full.bytes(), b"abxxxxxxx".as_slice());
     let mut second_fails = MemSink::new(alloc, 9, 4, Seq::from_slice(alloc, &[2])?)?;
     assert_eq!(rt; held.write_all(&mut second_fails, b"abcdefgh"), Ok(()));
     assert_eq!(rt;
-        held.write_all(&mut second_fails, many(alloc, MOST)?.as_slice()),
+        held.write_all(&mut second_fails, many(alloc, HELD_BYTES)?.as_slice()),
         Err(Failed)
     );
     assert_eq!(rt; second_fails.bytes(), b"abcd".as_slice());

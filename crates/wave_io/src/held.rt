@@ -4,13 +4,11 @@ ghost use Rattle.wave_io.specs.Causes.{HasCause};
 ghost use Rattle.wave_io.specs.Held.{Takes, TakesFront};
 
 use crate::ends::{Failed, Sink};
+use crate::room::HELD_BYTES;
 use crate::whole::{write_all, write_front};
 use std::alloc::Global;
 use std::marker::Model;
 use wave_base::OutOfMemory;
-
-// How many bytes are held at most.
-const MOST: usize = 65_536;
 
 /// Bytes on their way to a sink, which is the same one at each call. The memory for them is taken when this is made, and none later.
 ///
@@ -38,7 +36,7 @@ impl HeldBytes {
     pub fn new(alloc: Global) -> Result<HeldBytes, OutOfMemory>
         ensures { IfOk result (λ held. held ≡ []) }
     {
-        let bytes = Vec::with_capacity(alloc, MOST)?;
+        let bytes = Vec::with_capacity(alloc, HELD_BYTES)?;
         Ok(HeldBytes { bytes, sent: 0 })
     }
 
@@ -47,7 +45,7 @@ impl HeldBytes {
         ensures held { result ≡ true → self.new ≡ self.old ++ bytes.now }
         ensures not_held { result ≡ false → self.new ≡ self.old }
     {
-        if bytes.len() > MOST - self.bytes.len() {
+        if bytes.len() > HELD_BYTES - self.bytes.len() {
             return false;
         }
         self.bytes.extend_from_slice(bytes).unwrap();
