@@ -1,10 +1,13 @@
 -- Lines of an input, and the first one of dashes.
 use Rattle.std.proofs.Common.{◌≡◌, ℕ, suc, ◌+◌, ◌-◌, ◌<◌, ◌≤◌, ◌⊎◌, inl, inr, ⊎_elim, Bool, true, false, cond, not, Option, Some, None, List, [], ◌∷◌, ◌++◌, length, take, drop, get_or, refl, sym, ◌∙◌, ap, subst, arith, eqb-true, append_assoc, append-nil, length-append, add-one, drop-cons}
-use Rattle.std.specs.Prelude.{◌==◌}
+use Rattle.std.specs.Prelude.{◌==◌, nat_lt}
 use Rattle.std.specs.List.{join_with_byte, prefix_len}
 use Rattle.std.proofs.lemmas.Grind.{flat_map-append}
 use Rattle.std.proofs.lemmas.List.{take-append-drop, take_at}
-use Rattle.std.proofs.lemmas.List.Sums.{prefix_len_stops}
+use Rattle.std.proofs.lemmas.List.Sums.{prefix_len_stops, prefix_len-le-length}
+use Rattle.std.proofs.lemmas.Bool.Decides.{nat_tests}
+use Rattle.wave_text.specs.Splits.{HasNone, ArePartsAt}
+use Rattle.wave_text.proofs.SplitLemmas.{front_passes, is_nowhere}
 use Rattle.wave_text.specs.Lines.{is_inside, onto_first, cut_lines}
 use Rattle.wave_text.proofs.LineLemmas.{cut_first, cut_last}
 use Rattle.input_parts.specs.inner.Firsts.{IsFirst}
@@ -25,14 +28,30 @@ whole_of text n e h =
     let cells : drop n text ≡ 10 ∷ drop (n + 1) text = drop-cons text n 0 h ∙ rw (is_ten (get_or text n 0) stops, add-one) refl in
     sym (take-append-drop n text) ∙ ap (λ z. take n text ++ z) cells
 
-pub ends : (text : List ℕ) (n : ℕ) → n ≡ prefix_len is_inside text → n < length text → IsFirst text (take n text) (drop (n + 1) text)
+ends : (text : List ℕ) (n : ℕ) → n ≡ prefix_len is_inside text → n < length text → IsFirst text (take n text) (drop (n + 1) text)
 ends text n e h = inl (record {
   whole = whole_of text n e h;
   lines = cut_first text (omega (arith, e)) ∙ (λ i. take (sym e i) text ∷ cut_lines (drop (suc (sym e i)) text)) ∙ rw add-one refl;
 })
 
-pub is_last : (text : List ℕ) (n : ℕ) → n ≡ prefix_len is_inside text → n ≤ length text → length text ≤ n → IsFirst text text []
+is_last : (text : List ℕ) (n : ℕ) → n ≡ prefix_len is_inside text → n ≤ length text → length text ≤ n → IsFirst text text []
 is_last text n e within all = inr (record { whole = refl; lines = cut_last text (omega (arith, e)); none = refl })
+
+-- the parts at the first line feed
+first_by : (text line rest : List ℕ) (n : ℕ) (t : Bool) → n ≡ prefix_len is_inside text → nat_lt n (length text) ≡ t → ArePartsAt 10 text line rest → IsFirst text line rest
+first_by text line rest n true e h p =
+    let short : n < length text = grind (arith, nat_tests) in
+    let none : HasNone 10 (take n text) = subst (λ k. HasNone 10 (take k text)) (sym e) (front_passes is_inside text) in
+    let same = p.cut (take n text) (drop (n + 1) text) none (whole_of text n e short) in
+    subst (λ l. IsFirst text l rest) (sym same.0) (subst (λ r. IsFirst text (take n text) r) (sym same.1) (ends text n e short))
+first_by text line rest n false e h p =
+    let all : length text ≤ n = grind (arith, nat_tests) in
+    let within : n ≤ length text = omega (arith, e, prefix_len-le-length is_inside text) in
+    let same = p.whole (is_nowhere 10 n text e (omega (arith, within, all))) in
+    subst (λ l. IsFirst text l rest) (sym same.0) (subst (λ r. IsFirst text text r) (sym same.1) (is_last text n e within all))
+
+pub is_first : (text line rest : List ℕ) → ArePartsAt 10 text line rest → IsFirst text line rest
+is_first text line rest p = first_by text line rest (prefix_len is_inside text) (nat_lt (prefix_len is_inside text) (length text)) refl refl p
 
 -- ---- lines joined again
 

@@ -1,7 +1,8 @@
 ghost use Rattle.std.specs.Prelude.{◌≡◌, Some, None, IfSome, IfNone};
 ghost use Rattle.input_parts.specs.Parts.{service_of, script_of};
 
-use crate::lines::{first_line, is_dashes};
+use crate::dashes::is_dashes;
+use wave_text::parts_at;
 
 /// The text of the service, and the script, where the input has a line of four dashes.
 ///
@@ -14,7 +15,7 @@ pub fn parts_of(input: &[u8]) -> (&[u8], Option<&[u8]>)
 {
     let mut rest = input;
     while !rest.is_empty() {
-        let (line, behind) = first_line(rest);
+        let (line, behind) = parts_at(rest, b'\n');
         if is_dashes(line) {
             return (&input[..input.len() - rest.len()], Some(behind));
         }

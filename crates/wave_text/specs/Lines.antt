@@ -1,9 +1,10 @@
 -- The lines of a text.
-use Rattle.std.specs.Prelude.{ℕ, Bool, not, ◌==◌, if◌then◌else◌, List, [], ◌∷◌, map}
+use Rattle.std.specs.Prelude.{ℕ, Bool, ◌==◌, if◌then◌else◌, List, [], ◌∷◌, map}
+use Rattle.wave_text.specs.Splits.{is_other}
 
 -- no line feed
 abbrev pub is_inside : ℕ → Bool
-is_inside b = not (b == 10)
+is_inside = is_other 10
 
 abbrev pub onto_first : ℕ → List (List ℕ) → List (List ℕ)
 onto_first b [] = (b ∷ []) ∷ []

@@ -1,6 +1,7 @@
-ghost use Rattle.std.specs.Prelude.{◌≡◌, ◌<◌, ◌≤◌, [], ◌∷◌, length, IfSome, IfNone};
-ghost use Rattle.std.specs.List.{prefix_len};
-ghost use Rattle.wave_text.specs.Lines.{is_inside, lines_of, without_return};
+ghost use Rattle.std.specs.Prelude.{◌≡◌, ◌<◌, [], ◌∷◌, length, IfSome, IfNone};
+ghost use Rattle.wave_text.specs.Lines.{lines_of, without_return};
+
+use crate::split::count_before;
 
 fn without_return(line: &[u8]) -> &[u8]
     ensures { result.now ≡ without_return line.now }
@@ -11,21 +12,13 @@ fn without_return(line: &[u8]) -> &[u8]
     }
 }
 
-/// The number of bytes before the first line feed.
-pub fn line_len(text: &[u8]) -> usize
-    ensures len { result ≡ prefix_len is_inside text.now }
-    ensures within { result ≤ length text.now }
-{
-    text.iter().take_while(|b| **b != b'\n').count()
-}
-
 /// The first line, without its end, and the text behind its line feed, where it has one.
 pub fn first_line(text: &[u8]) -> (&[u8], Option<&[u8]>)
     ensures more { IfSome result.1 (λ rest. lines_of text.now ≡ result.0.now ∷ lines_of rest.now) }
     ensures last { IfNone result.1 (lines_of text.now ≡ result.0.now ∷ []) }
     ensures shorter { IfSome result.1 (λ rest. length rest.now < length text.now) }
 {
-    let len = line_len(text);
+    let len = count_before(text, b'\n');
     let line = without_return(&text[..len]);
     if len == text.len() {
         return (line, None);

@@ -2,8 +2,8 @@ ghost use Rattle.std.specs.Prelude.{◌≡◌, ◌-◌, ◌≤◌, length, IfSom
 ghost use Rattle.std.specs.List.{prefix_len};
 ghost use Rattle.wave_text.specs.Splits.{is_other, HasNone, IsSplit, ArePartsAt};
 
-// The number of bytes before the first one like this.
-fn count_before(text: &[u8], end: u8) -> usize
+/// The number of bytes before the first one like this.
+pub(crate) fn count_before(text: &[u8], end: u8) -> usize
     ensures count { result ≡ prefix_len (is_other end) text.now }
     ensures within { result ≤ length text.now }
 {
