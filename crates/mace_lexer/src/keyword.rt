@@ -1,6 +1,8 @@
-ghost use Rattle.std.specs.Prelude.{◌≡◌, ◌<◌, [], Some, length, map, slice_index_or};
+ghost use Rattle.std.specs.Prelude.{◌≡◌, Some};
 ghost use Rattle.mace_lexer.specs.Codes.{key_code};
 ghost use Rattle.mace_lexer.specs.Words.{keyword, keyword_bytes};
+
+use crate::entry::entry_bytes;
 
 /// A word that no name may be.
 #[derive(Clone, Copy, Debug, PartialEq, Eq)]
@@ -108,12 +110,4 @@ impl Keyword {
     {
         entry_bytes(&KEYWORDS, usize::from(self.code()))
     }
-}
-
-// How the entry at a place of a table is written.
-fn entry_bytes(table: &[(&'static [u8], Keyword)], place: usize) -> &'static [u8]
-    requires { place < length table.now }
-    ensures { result.now ≡ slice_index_or (map (λ e. e.0.now) table.now) place [] }
-{
-    table[place].0
 }

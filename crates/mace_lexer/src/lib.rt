@@ -2,6 +2,7 @@
 #![tactic(auto)]
 
 mod cut;
+mod entry;
 mod fault;
 mod keyword;
 mod place;

@@ -1,6 +1,8 @@
-ghost use Rattle.std.specs.Prelude.{◌≡◌, ◌<◌, [], Some, length, map, slice_index_or};
+ghost use Rattle.std.specs.Prelude.{◌≡◌, Some};
 ghost use Rattle.mace_lexer.specs.Codes.{sign_code};
 ghost use Rattle.mace_lexer.specs.Words.{sign, sign_bytes};
+
+use crate::entry::entry_bytes;
 
 /// A sign of one or two bytes.
 #[derive(Clone, Copy, Debug, PartialEq, Eq)]
@@ -102,12 +104,4 @@ impl Sign {
     {
         entry_bytes(&SIGNS, usize::from(self.code()))
     }
-}
-
-// How the entry at a place of a table is written.
-fn entry_bytes(table: &[(&'static [u8], Sign)], place: usize) -> &'static [u8]
-    requires { place < length table.now }
-    ensures { result.now ≡ slice_index_or (map (λ e. e.0.now) table.now) place [] }
-{
-    table[place].0
 }
