@@ -126,7 +126,7 @@ module _ (shape : Shape) (names : HasNames shape) where
   place_form x path wide =
       subst IsPlaceLine (sym (place_words x path wide)) (record {
         word_is = refl;
-        path_is = record { steps = map (written_step shape) x.path; spelled = refl; plain = steps_plain shape names 0 x.path path.path path.keys };
+        path_is = record { steps = map (written_step shape) x.path; spelled = refl; plain = steps_plain shape names 0 x.path path.path path.keys.keys };
         host_is = plain_decimal x.host.0 wide;
       })
 

@@ -12,7 +12,7 @@ use Rattle.wave_base.specs.Shapes.{is_path}
 use Rattle.wave_base.specs.Starts.{IsStart, start_tree, shown_fields}
 use Rattle.wave_base.specs.Tree.{there}
 use Rattle.wave_base.specs.Trees.{HasKinds, FitsShape}
-use Rattle.journal_text.specs.Fits.{HasKeys}
+use Rattle.path_text.specs.Found.{HasKeys}
 use Rattle.snapshot_text.specs.Shots.{IsValue, IsShot, AreShots, paths_of}
 use Rattle.checkpoint_store.proofs.OrderLemmas.{rec_both, rec_weaker, in_order_sorted, in_order_parents, in_order_root, sorted_in_order}
 use Rattle.checkpoint_store.proofs.ShownLemmas.{kinds_shown, shown_kinds, shown_absent}
@@ -34,7 +34,7 @@ module _ (shape : Shape) (start : Start) where
       let sorted = in_order_sorted (paths_of start.shots) h.order in
       record {
         ordered = sorted;
-        paths = All-from_recursion (λ p. is_path shape p ≡ true) (paths_of start.shots) (over_paths (λ p. is_path shape p ≡ true) start.shots (rec_weaker (IsShot shape) (λ (s : Shot). is_path shape s.path ≡ true) (λ s k. k.path) start.shots each));
+        paths = All-from_recursion (λ p. is_path shape p ≡ true) (paths_of start.shots) (over_paths (λ p. is_path shape p ≡ true) start.shots (rec_weaker (IsShot shape) (λ (s : Shot). is_path shape s.path ≡ true) (λ s k. k.path.path) start.shots each));
         parents = All-from_recursion (λ p. there (start_tree shape start) (parent_of p) ≡ true) (paths_of start.shots) (in_order_parents (paths_of start.shots) h.order);
         kinds = All-from_recursion (λ p. HasKinds shape p (shown_fields shape start.shots p)) (paths_of start.shots)
             (kinds_shown shape start.shots sorted (rec_weaker (IsShot shape) (λ (s : Shot). HasKinds shape s.path s.fields) (λ s k. k.kinds) start.shots each));
@@ -70,7 +70,7 @@ module _ (shape : Shape) (start : Start) where
   pub are_shots : (hosts : ℕ) → IsStart shape hosts start → All (λ (s : Shot). All IsValue s.fields) start.shots → All (λ (s : Shot). HasKeys s.path) start.shots → AreShots shape start.shots
   are_shots hosts h values keys = record {
     some = λ e. no_root start.shots e h.root;
-    each = All-from_recursion (IsShot shape) start.shots (rec_both IsHalf IsWhole (IsShot shape) (λ s a b. record { path = a.path; short = b.keys.short; keys = b.keys.keys; kinds = a.kinds; values = b.values }) start.shots half whole);
+    each = All-from_recursion (IsShot shape) start.shots (rec_both IsHalf IsWhole (IsShot shape) (λ s a b. record { path = record { path = a.path; keys = b.keys }; kinds = a.kinds; values = b.values }) start.shots half whole);
     order = sorted_in_order (paths_of start.shots) h.tree.ordered (recursion_from_All (λ p. there (start_tree shape start) (parent_of p) ≡ true) (paths_of start.shots) h.tree.parents) h.root;
   }
     where

@@ -35,7 +35,7 @@ use Rattle.checkpoint_store.proofs.TailLemmas.{one_tail, tail_goes, one_wrong_ta
 -- the paths of shots are paths
 pub shot_paths : (shape : Shape) (ss : List Shot) → AllByRecursion (IsShot shape) ss → AllByRecursion (IsPath shape) (paths_of ss)
 shot_paths shape [] h = tt
-shot_paths shape (s ∷ ss) h = (record { path = h.0.path; short = h.0.short; keys = h.0.keys }, shot_paths shape ss h.1)
+shot_paths shape (s ∷ ss) h = (h.0.path, shot_paths shape ss h.1)
 
 few_hosts : (n : Numbers) → AreInRange n → n.hosts ≤ 256
 few_hosts n h = omega (arith, h.few_hosts)

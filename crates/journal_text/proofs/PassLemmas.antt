@@ -12,7 +12,8 @@ use Rattle.wave_labels.specs.declared.label.Act.TheVariants as act
 use Rattle.wave_labels.specs.declared.label.MailId.{MailId}
 use Rattle.path_text.specs.PathTexts.{path_text}
 use Rattle.journal_text.specs.declared.verb.Verb.TheVariants.{Pass}
-use Rattle.journal_text.specs.Fits.{IsMail, HasKeys}
+use Rattle.journal_text.specs.Fits.{IsMail}
+use Rattle.path_text.specs.Found.{HasKeys}
 use Rattle.journal_text.specs.LabelTexts.{spaced, mail_text}
 use Rattle.journal_text.specs.inner.Parts.{IsWordOf}
 use Rattle.journal_text.specs.inner.Verbs.{verb_in}

@@ -20,7 +20,8 @@ use Rattle.wave_text.specs.Splits.{is_other, HasNone}
 use Rattle.path_text.specs.PathTexts.{path_text}
 use Rattle.path_text.specs.Steps.{is_key, is_step, step_text, steps_text, written_text}
 use Rattle.path_text.proofs.Again.{path_again}
-use Rattle.journal_text.specs.Fits.{HasKeys, IsTicket, IsMail}
+use Rattle.journal_text.specs.Fits.{IsTicket, IsMail}
+use Rattle.path_text.specs.Found.{HasKeys}
 use Rattle.journal_text.specs.LabelTexts.{ticket_text, mail_text}
 
 -- above the space

@@ -1,12 +1,9 @@
 -- What a label may be: its numbers lie in their types, and its path is one of the shape.
-use Rattle.std.specs.Prelude.{◌≡◌, ◌<◌, ◌≤◌, ◌^◌, true, length, All, FitsSigned}
-use Rattle.std.specs.Int.{w64}
-use Rattle.wave_base.specs.declared.limits.TheConstants.{CLASS_DEPTH}
+use Rattle.std.specs.Prelude.{◌≡◌, ◌<◌, ◌^◌, true}
 use Rattle.wave_base.specs.declared.numbers.Ticket.{Ticket}
-use Rattle.wave_base.specs.declared.path.Path.{Path}
-use Rattle.wave_base.specs.declared.path.Step.{Step}
 use Rattle.wave_base.specs.declared.shape.Shape.{Shape}
 use Rattle.wave_base.specs.Shapes.{is_path}
+use Rattle.path_text.specs.Found.{HasKeys}
 use Rattle.wave_labels.specs.declared.label.Act.{Act}
 use Rattle.wave_labels.specs.declared.label.Act.TheVariants.{Admit, Queue, Grant, Visit, Start, Stop, Free, Pass, Land, Commit}
 use Rattle.wave_labels.specs.declared.label.Label.{Label}
@@ -33,10 +30,6 @@ IsTicket t = t.0 < 2 ^ 32
 pub record IsMail (m : MailId) : Type 0 where
   pub ticket : IsTicket m.ticket
   pub number : m.number < 2 ^ 32
-
-pub record HasKeys (p : Path) : Type 0 where
-  pub short : length p ≤ CLASS_DEPTH
-  pub keys : All (λ (s : Step). FitsSigned w64 s.key) p
 
 abbrev pub HasNumbers : Act → Type 0
 HasNumbers (Admit t) = IsTicket t

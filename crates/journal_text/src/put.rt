@@ -1,7 +1,8 @@
 ghost use Rattle.std.specs.Prelude.{◌≡◌, ◌<◌, ◌^◌, ◌++◌, ◌∷◌, [], OnOk};
 ghost use Rattle.std.specs.Fmt.{decimal};
 ghost use Rattle.path_text.specs.PathTexts.{path_text};
-ghost use Rattle.journal_text.specs.Fits.{IsTicket, IsMail, HasKeys, HasNumbers};
+ghost use Rattle.journal_text.specs.Fits.{IsTicket, IsMail, HasNumbers};
+ghost use Rattle.path_text.specs.Found.{HasKeys};
 ghost use Rattle.journal_text.specs.LabelTexts.{spaced, ticket_text, mail_text, act_words, label_text, line_text};
 
 use path_text::put_path;

@@ -73,7 +73,7 @@ steps_fit shape (s ∷ ss) c p e =
 pub path_fits : (shape : Shape) (steps : List Written) (p : Path) → path_of shape steps ≡ Some p → IsPath shape p
 path_fits shape steps p e =
     elim (nat_le (length steps) 8) as (λ t. nat_le (length steps) 8 ≡ t → cond t (steps_below shape 0 steps) None ≡ Some p → IsPath shape p) [
-      | true ↦ λ h k. (let f = steps_fit shape steps 0 p k in let few : length steps ≤ 8 = grind (arith, nat_tests) in record { path = path_is shape steps (Some p) (sym e); short = omega (arith, f.0, few); keys = f.1 })
+      | true ↦ λ h k. (let f = steps_fit shape steps 0 p k in let few : length steps ≤ 8 = grind (arith, nat_tests) in record { path = path_is shape steps (Some p) (sym e); keys = record { short = omega (arith, f.0, few); keys = f.1 } })
       | false ↦ λ h k. cc
     ] refl e
 
@@ -81,7 +81,7 @@ path_fits shape steps p e =
 
 module _ (shape : Shape) (names : HasNames shape) (text : List ℕ) where
   verdict : (p : Path) → IsPath shape p → text ≡ path_text shape p → IsVerdict shape text (Ok p)
-  verdict p h e = path_again shape names p text h.path h.short h.keys e
+  verdict p h e = path_again shape names p text h.path h.keys.short h.keys.keys e
 
   pub path_found : (q : Path) → IsOnlyVerdict shape text (Ok q) → IsPathOf shape text (Some q)
   path_found q only p h e = (let same = only.1 (Ok p) (verdict p h e) in cc)

@@ -8,11 +8,15 @@ use Rattle.wave_base.specs.declared.shape.Shape.{Shape}
 use Rattle.wave_base.specs.Shapes.{is_path}
 use Rattle.path_text.specs.PathTexts.{path_text}
 
--- a path of the shape, with keys of 64 bits
-pub record IsPath (shape : Shape) (p : Path) : Type 0 where
-  pub path : is_path shape p ≡ true
+-- as the types of the program have it: no more steps than may be, with keys of 64 bits
+pub record HasKeys (p : Path) : Type 0 where
   pub short : length p ≤ CLASS_DEPTH
   pub keys : All (λ (s : Step). FitsSigned w64 s.key) p
+
+-- a path of the shape
+pub record IsPath (shape : Shape) (p : Path) : Type 0 where
+  pub path : is_path shape p ≡ true
+  pub keys : HasKeys p
 
 -- where the text is written for a path, this one is found
 abbrev pub IsPathOf : Shape → List ℕ → Option Path → Type 0

@@ -36,7 +36,6 @@ use Rattle.snapshot_text.specs.Forms.{Literal, Number, Truth, Text, Map, IsLiter
 use Rattle.snapshot_text.specs.Shots.{IsValue, IsShot}
 use Rattle.snapshot_text.proofs.BelowLemmas.{plain_again, below_again}
 use Rattle.snapshot_text.proofs.FitLemmas.{field_words}
-use Rattle.journal_text.specs.Fits.{HasKeys}
 use Rattle.journal_text.proofs.SolidLemmas.{solid_has_none, path_solid}
 use Rattle.snapshot_text.specs.inner.Fronts.{IsRun}
 use Rattle.snapshot_text.specs.Verdicts.{IsLineOf, HasUnknownPath}
@@ -139,7 +138,7 @@ module _ (shape : Shape) (names : HasNames shape) where
   has_form s h = record {
     fields = fields_of (declared_fields shape (class_of s.path)) s.fields;
     spelled = ap (λ z. codes "at " ++ (path_text shape s.path ++ z)) (fields_as (declared_fields shape (class_of s.path)) s.fields);
-    steps_are = steps_plain 0 s.path h.path h.keys;
+    steps_are = steps_plain 0 s.path h.path.path h.path.keys.keys;
     fields_are = fields_are (declared_fields shape (class_of s.path)) s.fields (field_words shape names (class_of s.path)) h.values;
   }
 
@@ -188,12 +187,11 @@ module _ (shape : Shape) (names : HasNames shape) where
   -- the path of a line of a shot is one of the shape
   pub known_path : (line : List ℕ) (s : Shot) → IsLineOf shape line s → HasUnknownPath shape line → ⊥
   known_path line s l h =
-      let keys : HasKeys s.path = record { short = l.fits.short; keys = l.fits.keys } in
       let fields : List ℕ = fields_text (declared_fields shape (class_of s.path)) s.fields in
-      let solid : HasNone 32 (path_text shape s.path) = solid_has_none 32 (lit< tt) (path_text shape s.path) (path_solid shape names s.path l.fits.path keys) in
+      let solid : HasNone 32 (path_text shape s.path) = solid_has_none 32 (lit< tt) (path_text shape s.path) (path_solid shape names s.path l.fits.path.path l.fits.path.keys) in
       let run : IsRun (path_text shape s.path ++ fields) (path_text shape s.path) fields = record { spelled = refl; solid = solid; ends = ends_fields (declared_fields shape (class_of s.path)) s.fields } in
       let parts = form_parts line (path_text shape s.path ++ fields) (path_text shape s.path) fields l.spelled run h.steps h.form in
-      let again = path_again shape names s.path (path_text shape s.path) l.fits.path l.fits.short l.fits.keys refl in
+      let again = path_again shape names s.path (path_text shape s.path) l.fits.path.path l.fits.path.keys.short l.fits.path.keys.keys refl in
       let same = one_path (path_text shape s.path) h.steps again.steps parts.0 again.spelled in
       let found : None ≡ Some s.path = sym h.path_is ∙ ap (path_of shape) same ∙ again.path in
       cc

@@ -21,7 +21,6 @@ use Rattle.path_text.specs.Found.{IsPath, IsPathOf}
 use Rattle.path_text.specs.PathTexts.{path_text}
 use Rattle.path_text.specs.ShotTexts.{field_text, fields_text, shot_text}
 use Rattle.wave_text.proofs.SplitLemmas.{one_split, none-append}
-use Rattle.journal_text.specs.Fits.{HasKeys}
 use Rattle.journal_text.proofs.SolidLemmas.{solid_has_none, path_solid, word_solid}
 use Rattle.snapshot_text.specs.Shots.{IsValue, IsShot}
 use Rattle.snapshot_text.specs.Verdicts.{IsLineOf}
@@ -68,12 +67,10 @@ fields_no_feed (f ∷ fs) (v ∷ vs) w h =
 
 module _ (shape : Shape) (names : HasNames shape) where
   pub path_has_none : (b : ℕ) → b < 33 → (p : Path) → IsPath shape p → HasNone b (path_text shape p)
-  path_has_none b low p h =
-      let keys : HasKeys p = record { short = h.short; keys = h.keys } in
-      solid_has_none b low (path_text shape p) (path_solid shape names p h.path keys)
+  path_has_none b low p h = solid_has_none b low (path_text shape p) (path_solid shape names p h.path h.keys)
 
   pub path_in : (s : Shot) → IsShot shape s → IsPath shape s.path
-  path_in s h = record { path = h.path; short = h.short; keys = h.keys }
+  path_in s h = h.path
 
   pub shot_no_feed : (s : Shot) → IsShot shape s → HasNone 10 (shot_text shape s)
   shot_no_feed s h =

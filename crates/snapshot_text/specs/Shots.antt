@@ -1,18 +1,16 @@
 -- What the shots of a snapshot may be.
-use Rattle.std.specs.Prelude.{◌≡◌, ◌≤◌, ℤ, Bool, true, false, ◌&&◌, List, [], ◌∷◌, ◌++◌, length, map, All, FitsSigned}
+use Rattle.std.specs.Prelude.{◌≡◌, ℤ, Bool, true, false, ◌&&◌, List, [], ◌∷◌, ◌++◌, map, All, FitsSigned}
 use Rattle.std.specs.Int.{w64}
 use Rattle.std.specs.List.{list_any}
 use Rattle.std.specs.declared.cmp.Ordering.{Ordering}
 use Rattle.std.specs.declared.cmp.Ordering.TheVariants.{Less}
-use Rattle.wave_base.specs.declared.limits.TheConstants.{CLASS_DEPTH}
 use Rattle.wave_base.specs.declared.path.Path.{Path}
-use Rattle.wave_base.specs.declared.path.Step.{Step}
 use Rattle.wave_base.specs.declared.shape.Shape.{Shape}
 use Rattle.wave_base.specs.declared.shot.Shot.{Shot}
 use Rattle.wave_base.specs.declared.value.Value.{Value}
 use Rattle.wave_base.specs.declared.value.Value.TheVariants as value
 use Rattle.wave_base.specs.Paths.{path_cmp, path_eq, parent_of}
-use Rattle.wave_base.specs.Shapes.{is_path}
+use Rattle.path_text.specs.Found.{IsPath}
 use Rattle.wave_base.specs.Tables.{IsTable}
 use Rattle.wave_base.specs.Text.{IsText}
 use Rattle.wave_base.specs.Trees.{HasKinds}
@@ -28,9 +26,7 @@ IsValue (value.Map pairs) = IsTable pairs × All (λ (p : ℤ × ℤ). FitsSigne
 
 -- a path of the shape, and a value of its kind for each field of the class
 pub record IsShot (shape : Shape) (s : Shot) : Type 0 where
-  pub path : is_path shape s.path ≡ true
-  pub short : length s.path ≤ CLASS_DEPTH
-  pub keys : All (λ (t : Step). FitsSigned w64 t.key) s.path
+  pub path : IsPath shape s.path
   pub kinds : HasKinds shape s.path s.fields
   pub values : All IsValue s.fields
 

@@ -1,7 +1,7 @@
 ghost use Rattle.std.specs.Prelude.{ℤ, All, FitsSigned};
 ghost use Rattle.std.specs.Int.{w64};
 ghost use Rattle.wave_base.specs.declared.shot.Shot.{Shot};
-ghost use Rattle.journal_text.specs.Fits.{HasKeys};
+ghost use Rattle.path_text.specs.Found.{HasKeys};
 ghost use Rattle.snapshot_text.specs.Shots.{IsValue};
 
 use wave_base::{Path, Shot, Value};

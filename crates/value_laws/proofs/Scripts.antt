@@ -28,7 +28,7 @@ use Rattle.service_verify.proofs.Classes.{short_path}
 use Rattle.script_fold.proofs.LeftLemmas.{All-drop_head, Next, done_next, grown, next_keeps}
 use Rattle.script_fold.specs.Lines.{line_by, most_jobs}
 use Rattle.script_fold.specs.Runs.{after_jobs, hosts_after, place_of, whole_run}
-use Rattle.journal_text.specs.Fits.{HasKeys}
+use Rattle.path_text.specs.Found.{HasKeys}
 use Rattle.snapshot_text.specs.Shots.{AreShots, IsValue}
 use Rattle.checkpoint_store.proofs.PointLemmas.{are_shots}
 use Rattle.wave_meaning.specs.Meaning.{call_ran, results_at}

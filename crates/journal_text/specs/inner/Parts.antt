@@ -11,7 +11,8 @@ use Rattle.wave_labels.specs.declared.label.MailId.{MailId}
 use Rattle.path_text.specs.PathTexts.{path_text}
 use Rattle.wave_text.specs.Splits.{HasNone}
 use Rattle.journal_text.specs.declared.verb.Verb.{Verb}
-use Rattle.journal_text.specs.Fits.{IsTicket, IsMail, HasKeys, HasPath, HasNumbers, IsLabel}
+use Rattle.journal_text.specs.Fits.{IsTicket, IsMail, HasPath, HasNumbers, IsLabel}
+use Rattle.path_text.specs.Found.{HasKeys}
 use Rattle.journal_text.specs.LabelTexts.{spaced, ticket_text, mail_text, act_words, line_text}
 use Rattle.journal_text.specs.inner.Verbs.{verb_in, operands}
 

@@ -23,7 +23,7 @@ returns-in_default-clause-err c =
 pub place_of-requires-clause-path : goal.place_of-requires-clause-path
 place_of-requires-clause-path c =
     let shot : IsShot c.args.shape.now c.shot-item.result = subst (IsShot c.args.shape.now) (sym c.shot-item.is) (c.requires.shots c.loop-shot.shot-index c.shot-item.result c.loop-shot-test.true) in
-    record { path = shot.path; short = shot.short; keys = shot.keys }
+    shot.path
 
 pub returns-in_err-place-clause-err : goal.returns-in_err-place-clause-err
 returns-in_err-place-clause-err c =

@@ -3,7 +3,7 @@ use Rattle.std.proofs.lemmas.List.{take_all}
 use Rattle.std.proofs.lemmas.List.Elements.{All-more}
 use Rattle.wave_base.specs.declared.shot.Shot.{Shot}
 use Rattle.wave_base.specs.declared.value.Value.{Value}
-use Rattle.journal_text.specs.Fits.{HasKeys}
+use Rattle.path_text.specs.Found.{HasKeys}
 use Rattle.snapshot_text.specs.Shots.{IsValue}
 use Rattle.snapshot_text.proofs.fits.values_fit.Goals as goal
 

@@ -1,6 +1,6 @@
 use Rattle.std.proofs.Common.{All, take}
 use Rattle.wave_base.specs.declared.shot.Shot.{Shot}
-use Rattle.journal_text.specs.Fits.{HasKeys}
+use Rattle.path_text.specs.Found.{HasKeys}
 use Rattle.snapshot_text.specs.Shots.{IsValue}
 use Rattle.snapshot_text.proofs.fits.values_fit.Given as goal
 
