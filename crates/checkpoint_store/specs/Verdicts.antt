@@ -5,6 +5,7 @@ use Rattle.wave_base.specs.declared.path.Path.{Path}
 use Rattle.wave_base.specs.declared.shape.Shape.{Shape}
 use Rattle.wave_base.specs.declared.shot.Shot.{Shot}
 use Rattle.wave_text.specs.Splits.{HasNone, IsSplit}
+use Rattle.wave_text.specs.Verdicts.{IsOnly}
 use Rattle.snapshot_text.specs.declared.error.Fault.{Fault as ShotFault}
 use Rattle.snapshot_text.specs.declared.error.Fault.TheVariants as snapshot
 use Rattle.snapshot_text.specs.Shots.{paths_of}
@@ -113,4 +114,4 @@ IsVerdict shape text (Err (error.OutOfMemory _)) = ⊥
 -- it says so, and nothing else is to be said; want of memory says nothing
 abbrev pub IsOnlyVerdict : Shape → List ℕ → Result Checkpoint CheckError → Type 0
 IsOnlyVerdict shape text (Err (error.OutOfMemory _)) = Unit {0}
-IsOnlyVerdict shape text r = IsVerdict shape text r × ((other : Result Checkpoint CheckError) → IsVerdict shape text other → other ≡ r)
+IsOnlyVerdict shape text r = IsOnly (IsVerdict shape text) r

@@ -1,6 +1,7 @@
 -- What the replay of a journal comes to: the run that the journal is, or its first label that can't be taken.
 use Rattle.std.specs.Prelude.{◌≡◌, ◌↔◌, ◌+◌, ℕ, List, ◌∷◌, ◌++◌, length, map, min, take, IsTrue, None, Result, Ok, Err}
 use Rattle.wave_base.specs.Starts.{first_start}
+use Rattle.wave_text.specs.Verdicts.{IsOnly}
 use Rattle.wave_labels.specs.declared.label.Label.{Label}
 use Rattle.wave_labels.specs.Labels.{label_of}
 use Rattle.wave_states.specs.Canonical as canonical
@@ -50,4 +51,4 @@ module _ (plan : Plan) where
   -- it comes to that, and to nothing else; want of memory says nothing
   abbrev pub IsOnlyOutcome : List Label → ℕ → Result Replayed ReplayError → Type 0
   IsOnlyOutcome journal show (Err (OutOfMemory _)) = Unit {0}
-  IsOnlyOutcome journal show r = IsOutcome journal show r × ((other : Result Replayed ReplayError) → IsOutcome journal show other → other ≡ r)
+  IsOnlyOutcome journal show r = IsOnly (IsOutcome journal show) r

@@ -7,9 +7,9 @@ use Rattle.wave_base.specs.Names.{HasNames}
 use Rattle.wave_labels.specs.declared.label.Label.{Label}
 use Rattle.journal_text.specs.declared.error.JournalError.{JournalError}
 use Rattle.journal_text.specs.declared.error.JournalError.TheVariants.{Syntax, OutOfMemory}
-use Rattle.wave_text.specs.Counted.{IsBehindHead, line_count}
+use Rattle.wave_text.specs.Counted.{HasNoHead, IsBehindHead, line_count}
 use Rattle.journal_text.specs.JournalTexts.{IsJournalText, head_text, labels_text}
-use Rattle.journal_text.specs.Verdicts.{HasNoHead, StopsAfter, IsVerdict, IsOnlyVerdict}
+use Rattle.journal_text.specs.Verdicts.{StopsAfter, IsVerdict, IsOnlyVerdict}
 use Rattle.journal_text.specs.inner.Tails.{IsParted, IsOnlyParted, AreRead}
 use Rattle.journal_text.proofs.HeadLemmas.{lines_are, labels_many}
 use Rattle.journal_text.proofs.TailLemmas.{nothing_left}
@@ -73,7 +73,7 @@ module _ (shape : Shape) (names : HasNames shape) (text : List ℕ) (short : len
 
   -- ---- there is no head
 
-  pub headless : HasNoHead text → IsOnlyVerdict shape text (Err (Syntax 1))
+  pub headless : HasNoHead (codes "journal ") text → IsOnlyVerdict shape text (Err (Syntax 1))
   headless none = (inl (none, refl), only)
     where
       only : (other : Result (List Label) JournalError) → IsVerdict shape text other → other ≡ Err (Syntax 1)

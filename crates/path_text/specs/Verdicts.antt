@@ -1,7 +1,8 @@
 -- What a text is to a reader of paths.
-use Rattle.std.specs.Prelude.{◌≡◌, List, ℕ, Result, Ok, Err}
+use Rattle.std.specs.Prelude.{List, ℕ, Result, Ok, Err}
 use Rattle.wave_base.specs.declared.path.Path.{Path}
 use Rattle.wave_base.specs.declared.shape.Shape.{Shape}
+use Rattle.wave_text.specs.Verdicts.{IsOnly}
 use Rattle.path_text.specs.declared.parse.PathError.{PathError}
 use Rattle.path_text.specs.declared.parse.PathError.TheVariants.{Syntax, UnknownClass, OutOfMemory}
 use Rattle.path_text.specs.PathTexts.{IsPathText, IsUnknownPath}
@@ -17,4 +18,4 @@ IsVerdict shape text (Err (OutOfMemory _)) = ⊥
 -- it says so, and nothing else is to be said; want of memory says nothing
 abbrev pub IsOnlyVerdict : Shape → List ℕ → Result Path PathError → Type 0
 IsOnlyVerdict shape text (Err (OutOfMemory _)) = Unit {0}
-IsOnlyVerdict shape text r = IsVerdict shape text r × ((other : Result Path PathError) → IsVerdict shape text other → other ≡ r)
+IsOnlyVerdict shape text r = IsOnly (IsVerdict shape text) r

@@ -5,14 +5,14 @@ use Rattle.wave_base.specs.declared.shape.Shape.{Shape}
 use Rattle.wave_base.specs.declared.shot.Shot.{Shot}
 use Rattle.wave_base.specs.Names.{HasNames}
 use Rattle.path_text.specs.ShotTexts.{shot_text}
-use Rattle.wave_text.specs.Counted.{IsBehindHead, line_count}
+use Rattle.wave_text.specs.Counted.{HasNoHead, IsBehindHead, line_count}
 use Rattle.snapshot_text.specs.declared.error.Fault.{Fault}
 use Rattle.snapshot_text.specs.declared.error.Fault.TheVariants as fault
 use Rattle.snapshot_text.specs.declared.error.ShotError.{ShotError}
 use Rattle.snapshot_text.specs.declared.error.ShotError.TheVariants as error
 use Rattle.snapshot_text.specs.Refusals.{refused}
 use Rattle.snapshot_text.specs.SnapshotTexts.{IsSnapshotText, head_text, shots_text}
-use Rattle.snapshot_text.specs.Verdicts.{HasNoHead, IsEmpty, BeginsWithFault, StopsAfter, IsRefused, IsVerdict, IsOnlyVerdict}
+use Rattle.snapshot_text.specs.Verdicts.{IsEmpty, BeginsWithFault, StopsAfter, IsRefused, IsVerdict, IsOnlyVerdict}
 use Rattle.snapshot_text.specs.inner.Tails.{IsParted, IsOnlyParted, StopsWith, AreRead}
 use Rattle.snapshot_text.proofs.HeadLemmas.{lines_are}
 
@@ -56,7 +56,7 @@ module _ (shape : Shape) (names : HasNames shape) (text : List ℕ) where
 
   -- ---- there is no head
 
-  pub headless : HasNoHead text → IsOnlyVerdict shape text (Err (error.Syntax 1))
+  pub headless : HasNoHead (codes "snapshot ") text → IsOnlyVerdict shape text (Err (error.Syntax 1))
   headless none = (inl (none, refl, refl), only)
     where
       refusal : (f : Fault) (n : ℕ) → IsRefused shape text f n → ◌≡◌ {A = Result (List Shot) ShotError} (Err (refused f n)) (Err (error.Syntax 1))

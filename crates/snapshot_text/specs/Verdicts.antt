@@ -1,5 +1,5 @@
 -- What a text is to a reader of snapshots.
-use Rattle.std.specs.Prelude.{◌≡◌, ℕ, ◌+◌, ◌⊎◌, true, false, List, [], ◌∷◌, ◌++◌, length, All, Result, Ok, Err, Some, None}
+use Rattle.std.specs.Prelude.{◌≡◌, ℕ, ◌+◌, ◌⊎◌, true, false, List, [], ◌∷◌, ◌++◌, length, codes, All, Result, Ok, Err, Some, None}
 use Rattle.wave_base.specs.declared.path.Path.{Path}
 use Rattle.wave_base.specs.declared.shape.Shape.{Shape}
 use Rattle.wave_base.specs.declared.shot.Shot.{Shot}
@@ -7,7 +7,8 @@ use Rattle.path_text.specs.declared.written.Written.{Written}
 use Rattle.wave_text.specs.Splits.{HasNone}
 use Rattle.path_text.specs.Paths.{path_of}
 use Rattle.path_text.specs.ShotTexts.{shot_text}
-use Rattle.wave_text.specs.Counted.{line_count}
+use Rattle.wave_text.specs.Counted.{counted, HasNoHead}
+use Rattle.wave_text.specs.Verdicts.{IsOnly}
 use Rattle.snapshot_text.specs.declared.error.Fault.{Fault}
 use Rattle.snapshot_text.specs.declared.error.Fault.TheVariants as fault
 use Rattle.snapshot_text.specs.declared.error.ShotError.{ShotError}
@@ -55,10 +56,6 @@ IsFault shape before line fault.Order = IsOutOfOrder shape before line
 
 -- ---- the text
 
--- no head that tells the number of lines behind it begins the text
-abbrev pub HasNoHead : List ℕ → Type 0
-HasNoHead text = (rest : List ℕ) → text ≡ head_text (line_count rest) ++ 10 ∷ rest → ⊥
-
 -- a head that tells that no lines follow, and none do
 abbrev pub IsEmpty : List ℕ → Type 0
 IsEmpty text = text ≡ head_text 0 ++ 10 ∷ []
@@ -71,7 +68,7 @@ BeginsWithFault shape before rest f =
 -- behind the lines of these shots stands one that has a fault
 pub record StopsAfter (shape : Shape) (text : List ℕ) (before : List Shot) (f : Fault) : Type 0 where
   pub rest : List ℕ
-  pub spelled : text ≡ head_text (line_count (shots_text shape before ++ rest)) ++ 10 ∷ (shots_text shape before ++ rest)
+  pub spelled : text ≡ counted (codes "snapshot ") (shots_text shape before ++ rest)
   pub each : All (IsShot shape) before
   pub order : are_in_order [] (paths_of before) ≡ true
   pub wrong : BeginsWithFault shape before rest f
@@ -79,7 +76,7 @@ pub record StopsAfter (shape : Shape) (text : List ℕ) (before : List Shot) (f 
 -- line n is the first that is not as it has to be, and this is wrong with it
 abbrev pub IsRefused : Shape → List ℕ → Fault → ℕ → Type 0
 IsRefused shape text f n =
-    (HasNoHead text × (f ≡ fault.Syntax) × (n ≡ 1)) ⊎ ((IsEmpty text × (f ≡ fault.Order) × (n ≡ 1)) ⊎ ((before : List Shot) × StopsAfter shape text before f × (n ≡ length before + 2)))
+    (HasNoHead (codes "snapshot ") text × (f ≡ fault.Syntax) × (n ≡ 1)) ⊎ ((IsEmpty text × (f ≡ fault.Order) × (n ≡ 1)) ⊎ ((before : List Shot) × StopsAfter shape text before f × (n ≡ length before + 2)))
 
 abbrev pub IsVerdict : Shape → List ℕ → Result (List Shot) ShotError → Type 0
 IsVerdict shape text (Ok shots) = IsSnapshotText shape text shots
@@ -92,4 +89,4 @@ IsVerdict shape text (Err (error.OutOfMemory _)) = ⊥
 -- it says so, and nothing else is to be said; want of memory says nothing
 abbrev pub IsOnlyVerdict : Shape → List ℕ → Result (List Shot) ShotError → Type 0
 IsOnlyVerdict shape text (Err (error.OutOfMemory _)) = Unit {0}
-IsOnlyVerdict shape text r = IsVerdict shape text r × ((other : Result (List Shot) ShotError) → IsVerdict shape text other → other ≡ r)
+IsOnlyVerdict shape text r = IsOnly (IsVerdict shape text) r

@@ -6,4 +6,5 @@ pub mod Places
 pub mod Quotes
 pub mod Splits
 pub mod ValueTexts
+pub mod Verdicts
 pub mod Words

@@ -4,15 +4,14 @@ use Rattle.path_text.proofs.StepLemmas.{is_nil}
 use Rattle.std.specs.Prelude.{codes}
 use Rattle.wave_base.specs.Names.{HasNames}
 use Rattle.wave_base.specs.Shapes.{IsShape}
-use Rattle.wave_text.specs.Counted.{IsBehindHead}
-use Rattle.snapshot_text.specs.Verdicts.{HasNoHead}
+use Rattle.wave_text.specs.Counted.{HasNoHead, IsBehindHead}
 use Rattle.snapshot_text.specs.inner.Tails.{AreRead}
 use Rattle.snapshot_text.proofs.VerdictLemmas.{headless, nothing_follows, read_verdict}
 use Rattle.snapshot_text.proofs.read.read_snapshot.Goals as goal
 
 pub returns-in_default : goal.returns-in_default
 returns-in_default c =
-    headless c.args.shape.now c.requires.names c.args.text.now (subst (λ o. IfNone o (HasNoHead c.args.text.now)) c.in_default.is c.in_ok-tail.ensures.none)
+    headless c.args.shape.now c.requires.names c.args.text.now (subst (λ o. IfNone o (HasNoHead (codes "snapshot ") c.args.text.now)) c.in_default.is c.in_ok-tail.ensures.none)
 
 pub returns-then-is_empty : goal.returns-then-is_empty
 returns-then-is_empty c =
