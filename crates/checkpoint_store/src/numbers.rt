@@ -1,11 +1,11 @@
 ghost use Rattle.std.specs.Prelude.{◌≡◌, ◌++◌, IsTrue, ◌↔◌, OnOk, IfOk, IfSome, IfNone};
 ghost use Rattle.checkpoint_store.specs.CheckpointTexts.{numbers_text};
 ghost use Rattle.checkpoint_store.specs.Points.{AreInRange};
-ghost use Rattle.checkpoint_store.specs.inner.Steps.{IsNumberOf, AreNumbersOf, IsNumbersLine, HasNoNumbers};
+ghost use Rattle.checkpoint_store.specs.inner.Steps.{AreNumbersOf, IsNumbersLine, HasNoNumbers};
 
 use std::alloc::Global;
 use wave_base::{EVENT_LINES, HOSTS, OutOfMemory, SAVED_TICKET};
-use wave_text::{parts_at, put_bytes, put_number};
+use wave_text::{byte_of, parts_at, put_bytes, put_number, u32_of};
 
 /// What the second line of a checkpoint tells.
 #[derive(Clone, Copy, Debug, PartialEq, Eq)]
@@ -44,26 +44,6 @@ fn are_in_range(numbers: Numbers) -> bool
         && numbers.next <= SAVED_TICKET
 }
 
-// The number that a text is written for.
-fn number_of(text: &[u8]) -> Option<u32>
-    ensures { IsNumberOf 32 text.now result }
-{
-    match std::str::from_utf8(text) {
-        Ok(text) => text.parse::<u32>().ok(),
-        Err(_) => None,
-    }
-}
-
-/// The same for a number of one byte.
-pub(crate) fn byte_of(text: &[u8]) -> Option<u8>
-    ensures { IsNumberOf 8 text.now result }
-{
-    match std::str::from_utf8(text) {
-        Ok(text) => text.parse::<u8>().ok(),
-        Err(_) => None,
-    }
-}
-
 // The numbers in range that a line can be written for.
 fn numbers_in(line: &[u8]) -> Option<Numbers>
     ensures { AreNumbersOf line.now result }
@@ -74,8 +54,8 @@ fn numbers_in(line: &[u8]) -> Option<Numbers>
     let (lines, rest) = parts_at(rest, b' ');
     let (_, next) = parts_at(rest, b' ');
     let hosts = byte_of(hosts)?;
-    let lines = number_of(lines)?;
-    let next = number_of(next)?;
+    let lines = u32_of(lines)?;
+    let next = u32_of(next)?;
     Some(Numbers { hosts, lines, next })
 }
 

@@ -3,11 +3,10 @@ ghost use Rattle.wave_base.specs.Names.{HasNames};
 ghost use Rattle.path_text.specs.Found.{IsPath};
 ghost use Rattle.checkpoint_store.specs.inner.Steps.{IsHostOf, IsPlaceLineOf, HasNoPlace};
 
-use crate::numbers::byte_of;
 use path_text::put_place;
 use std::alloc::Global;
 use wave_base::{Host, OutOfMemory, Path, Place, Shape};
-use wave_text::parts_at;
+use wave_text::{byte_of, parts_at};
 
 // The host that a line can be written for.
 fn host_in(line: &[u8]) -> Option<u8>

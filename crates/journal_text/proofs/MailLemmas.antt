@@ -5,8 +5,9 @@ use Rattle.wave_base.specs.declared.numbers.Ticket.{Ticket}
 use Rattle.wave_labels.specs.declared.label.MailId.{MailId}
 use Rattle.journal_text.specs.Fits.{IsMail}
 use Rattle.journal_text.specs.LabelTexts.{ticket_text, mail_text}
+use Rattle.wave_text.specs.Numbers.{IsNumberOf}
 use Rattle.wave_text.specs.Splits.{ArePartsAt}
-use Rattle.journal_text.specs.inner.Parts.{IsNumberOf, IsTicketOf}
+use Rattle.journal_text.specs.inner.Parts.{IsTicketOf}
 use Rattle.journal_text.proofs.SolidLemmas.{ticket_no_dot}
 
 module _ (text front rest : List ℕ) where

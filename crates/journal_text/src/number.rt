@@ -1,28 +1,8 @@
-ghost use Rattle.journal_text.specs.inner.Parts.{IsNumberOf, IsMarkedOf, IsTicketOf, IsMailOf};
+ghost use Rattle.journal_text.specs.inner.Parts.{IsMarkedOf, IsTicketOf, IsMailOf};
 
 use wave_base::Ticket;
 use wave_labels::MailId;
-use wave_text::parts_at;
-
-// The number that a text is written for.
-fn number_of(text: &[u8]) -> Option<u32>
-    ensures { IsNumberOf 32 text.now result }
-{
-    match std::str::from_utf8(text) {
-        Ok(text) => text.parse::<u32>().ok(),
-        Err(_) => None,
-    }
-}
-
-/// The same for a number of one byte.
-pub(crate) fn byte_of(text: &[u8]) -> Option<u8>
-    ensures { IsNumberOf 8 text.now result }
-{
-    match std::str::from_utf8(text) {
-        Ok(text) => text.parse::<u8>().ok(),
-        Err(_) => None,
-    }
-}
+use wave_text::{byte_of, parts_at, u32_of};
 
 /// The number of one byte behind a mark.
 pub(crate) fn marked_byte(text: &[u8]) -> Option<u8>
@@ -39,7 +19,7 @@ fn marked_number(text: &[u8]) -> Option<u32>
     ensures { IsMarkedOf 32 text.now result }
 {
     match text {
-        [_, digits @ ..] => number_of(digits),
+        [_, digits @ ..] => u32_of(digits),
         [] => None,
     }
 }
@@ -60,6 +40,6 @@ pub(crate) fn mail_of(text: &[u8]) -> Option<MailId>
 {
     let (ticket, number) = parts_at(text, b'.');
     let ticket = ticket_of(ticket)?;
-    let number = number_of(number)?;
+    let number = u32_of(number)?;
     Some(MailId { ticket, number })
 }

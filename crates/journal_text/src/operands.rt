@@ -5,13 +5,14 @@ ghost use Rattle.journal_text.specs.Fits.{HasPath};
 ghost use Rattle.journal_text.specs.declared.verb.Verb.TheVariants.{Pass};
 ghost use Rattle.journal_text.specs.inner.Parts.{IsTicketAtOf, IsMailAtOf, IsOperandsOf};
 
-use crate::number::{byte_of, mail_of, ticket_of};
+use crate::number::{mail_of, ticket_of};
 use crate::verb::Verb;
 use crate::word::word_of;
 use path_text::{ClassNames, path_for};
 use std::alloc::Global;
 use wave_base::{Host, OutOfMemory, Path, Ticket};
 use wave_labels::{Act, MailId};
+use wave_text::byte_of;
 
 // A ticket and a path.
 fn ticket_at(

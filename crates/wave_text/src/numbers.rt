@@ -2,7 +2,7 @@ ghost use Rattle.std.specs.Prelude.{◌≡◌, ◌≤◌, ℤ, true, Some, lengt
 ghost use Rattle.std.specs.Fmt.{signed_decimal};
 ghost use Rattle.std.specs.Int.{w64};
 ghost use Rattle.wave_text.specs.Words.{is_whole, without_minus};
-ghost use Rattle.wave_text.specs.Numbers.{whole_of};
+ghost use Rattle.wave_text.specs.Numbers.{whole_of, IsNumberOf};
 
 /// The number that an optional `-` and digits stand for; none where it does not fit.
 pub fn whole_of(text: &[u8]) -> Option<i64>
@@ -11,6 +11,26 @@ pub fn whole_of(text: &[u8]) -> Option<i64>
 {
     match std::str::from_utf8(text) {
         Ok(text) => text.parse::<i64>().ok(),
+        Err(_) => None,
+    }
+}
+
+/// The number of 32 bits that a text is written for.
+pub fn u32_of(text: &[u8]) -> Option<u32>
+    ensures { IsNumberOf 32 text.now result }
+{
+    match std::str::from_utf8(text) {
+        Ok(text) => text.parse::<u32>().ok(),
+        Err(_) => None,
+    }
+}
+
+/// The same for a number of one byte.
+pub fn byte_of(text: &[u8]) -> Option<u8>
+    ensures { IsNumberOf 8 text.now result }
+{
+    match std::str::from_utf8(text) {
+        Ok(text) => text.parse::<u8>().ok(),
         Err(_) => None,
     }
 }

@@ -1,6 +1,5 @@
 -- The lines of a checkpoint, as its reader goes through them.
 use Rattle.std.specs.Prelude.{◌≡◌, ◌<◌, ◌^◌, ◌⊎◌, ◌+◌, ℕ, true, List, [], ◌++◌, map, All, Option, Some, Err, codes}
-use Rattle.std.specs.Fmt.{decimal}
 use Rattle.wave_base.specs.Memory.{the_refusal}
 use Rattle.wave_base.specs.declared.finished.Place.{Place}
 use Rattle.wave_base.specs.declared.path.Path.{Path}
@@ -26,10 +25,6 @@ use Rattle.checkpoint_store.specs.Refusals.{refused}
 use Rattle.checkpoint_store.specs.Verdicts.{Begins, BeginsWrong, StopsAt, IsWrongTail}
 
 -- ---- numbers
-
--- where the text is that of a number of so many bits, this one is found
-abbrev pub IsNumberOf : ℕ → List ℕ → Option ℕ → Type 0
-IsNumberOf bits text o = (n : ℕ) → n < 2 ^ bits → text ≡ decimal n → o ≡ Some n
 
 abbrev pub AreNumbersOf : List ℕ → Option Numbers → Type 0
 AreNumbersOf line o = (n : Numbers) → AreInRange n → line ≡ numbers_text n → o ≡ Some n

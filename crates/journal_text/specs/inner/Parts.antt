@@ -20,9 +20,6 @@ use Rattle.journal_text.specs.inner.Verbs.{verb_in, operands}
 abbrev pub IsWordOf : List ℕ → List ℕ → List ℕ → Type 0
 IsWordOf text word rest = (w : List ℕ) (ws : List (List ℕ)) → HasNone 32 w → text ≡ spaced (w ∷ ws) → (word ≡ w) × (rest ≡ spaced ws)
 
-abbrev pub IsNumberOf : ℕ → List ℕ → Option ℕ → Type 0
-IsNumberOf bits text o = (n : ℕ) → n < 2 ^ bits → text ≡ decimal n → o ≡ Some n
-
 -- behind a mark of one byte
 abbrev pub IsMarkedOf : ℕ → List ℕ → Option ℕ → Type 0
 IsMarkedOf bits text o = (mark n : ℕ) → n < 2 ^ bits → text ≡ mark ∷ decimal n → o ≡ Some n
