@@ -8,7 +8,7 @@ use Rattle.clap.specs.Simple.{on_top}
 use Rattle.clap.specs.declared.error.kind.ErrorKind.{ErrorKind}
 use Rattle.clap.specs.declared.error.kind.ErrorKind.TheVariants as kind
 use Rattle.clap.proofs.OnLiterals.{clap_on_literals}
-use Rattle.command_words.specs.Choice.{chosen}
+use Rattle.command_words.specs.Choice.{choice_of}
 use Rattle.command_words.specs.Reading.{asked_by, bare, command_line, command_of, places_of}
 
 -- the switches of the command, one after the other
@@ -54,7 +54,7 @@ none_asked rows e = rw e refl
 
 pub some_asked : (rows : List Row) (name : List ℕ) (number workers schedule flag : Option (List ℕ)) → first_of (codes "command") rows ≡ Some name
     → number ≡ first_of (codes "number") rows → workers ≡ first_of (codes "workers") rows → schedule ≡ first_of (codes "schedule") rows
-    → flag ≡ first_of (codes "map") rows → chosen name number workers schedule (places_of flag) ≡ asked_by rows
+    → flag ≡ first_of (codes "map") rows → choice_of name number workers schedule (places_of flag) ≡ asked_by rows
 some_asked rows name number workers schedule flag e n w s m = rw (e, n, w, s, m) refl
 
 -- one word more

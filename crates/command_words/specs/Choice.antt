@@ -52,7 +52,7 @@ given read None = Some None
 given read (Some word) = option_map Some (read word)
 
 -- the command of this name, with the number, the workers, the schedule and the places that are given
-abbrev pub chosen : List ℕ → Option (List ℕ) → Option (List ℕ) → Option (List ℕ) → Places → Option Command
-chosen name number workers schedule places =
+abbrev pub choice_of : List ℕ → Option (List ℕ) → Option (List ℕ) → Option (List ℕ) → Places → Option Command
+choice_of name number workers schedule places =
     option_and_then (λ v. option_and_then (λ n. option_and_then (λ w. option_and_then (λ s. command_with v n w s places)
     (given schedule_of schedule)) (given workers_of workers)) (given number_of number)) (verb_of name)

@@ -7,7 +7,7 @@ use Rattle.clap.specs.declared.builder.action.ArgAction.TheVariants.{SetTrue}
 use Rattle.command_words.specs.declared.command.Command.{Command}
 use Rattle.command_words.specs.declared.command.Places.{Places}
 use Rattle.command_words.specs.declared.command.Places.TheVariants.{Unlisted, Listed}
-use Rattle.command_words.specs.Choice.{chosen}
+use Rattle.command_words.specs.Choice.{choice_of}
 
 -- ---- the command line
 
@@ -44,7 +44,7 @@ places_of (Some word) = if same_bytes word (codes "true") then Listed else Unlis
 
 abbrev pub asked : Option (List ℕ) → Option (List ℕ) → Option (List ℕ) → Option (List ℕ) → Option (List ℕ) → Option Command
 asked None number workers schedule map = None
-asked (Some name) number workers schedule map = chosen name number workers schedule (places_of map)
+asked (Some name) number workers schedule map = choice_of name number workers schedule (places_of map)
 
 -- what the values that were found ask for
 abbrev pub asked_by : List Row → Option Command

@@ -1,6 +1,6 @@
 ghost use Rattle.std.specs.Prelude.{◌≡◌, option_map};
 ghost use Rattle.command_words.specs.Values.{number_of, schedule_of, workers_of};
-ghost use Rattle.command_words.specs.Choice.{chosen, crew_of, verb_of, given, command_with};
+ghost use Rattle.command_words.specs.Choice.{choice_of, crew_of, verb_of, given, command_with};
 
 use crate::command::{Command, Crew, Places, Schedule};
 use crate::values::{number_of, schedule_of, workers_of};
@@ -136,14 +136,14 @@ fn given_schedule(word: Option<&str>) -> Option<Option<Schedule>>
 }
 
 /// The command of this name with what is given, where each word stands for something and the command takes it.
-pub fn chosen(
+pub fn choice_of(
     name: &str,
     number: Option<&str>,
     workers: Option<&str>,
     schedule: Option<&str>,
     places: Places,
 ) -> Option<Command>
-    ensures { result ≡ chosen name.now (option_map (λ w. w.now) number.entry) (option_map (λ w. w.now) workers.entry)
+    ensures { result ≡ choice_of name.now (option_map (λ w. w.now) number.entry) (option_map (λ w. w.now) workers.entry)
         (option_map (λ w. w.now) schedule.entry) places }
 {
     let verb = verb_of(name)?;

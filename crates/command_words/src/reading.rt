@@ -3,7 +3,7 @@ ghost use Rattle.clap.specs.Words.{app_of, found_of, rows_of};
 ghost use Rattle.command_words.specs.ByHand.{AreKept, by_hand};
 ghost use Rattle.command_words.specs.Reading.{asked_by, command_line, command_of, places_of};
 
-use crate::choice::chosen;
+use crate::choice::choice_of;
 use crate::command::{Command, Places};
 use clap::{Arg, ArgAction, ArgMatches};
 use std::alloc::Global;
@@ -47,7 +47,7 @@ fn asked_by(matches: &ArgMatches) -> Option<Command>
     ensures { result ≡ asked_by (rows_of (found_of matches.now)) }
 {
     let name = matches.get_str("command")?;
-    chosen(
+    choice_of(
         name,
         matches.get_str("number"),
         matches.get_str("workers"),
