@@ -7,11 +7,11 @@ use Rattle.wave_base.specs.declared.outcome.Outcome.{Outcome}
 use Rattle.wave_base.specs.declared.outcome.Outcome.TheVariants.{Reply, Trapped, Moved, Absent}
 use Rattle.wave_base.specs.declared.value.Value.{Value}
 use Rattle.wave_base.specs.declared.value.Value.TheVariants.{Int}
-use Rattle.wave_gen.specs.declared.summary.Ending.{Ending}
-use Rattle.wave_gen.specs.declared.summary.Ending.TheVariants as ending
+use Rattle.wave_gen.specs.declared.summary.CountedEnd.{CountedEnd}
+use Rattle.wave_gen.specs.declared.summary.CountedEnd.TheVariants as ending
 
 -- it ended in this way
-abbrev pub ended_so : Ending → Outcome → Bool
+abbrev pub ended_so : CountedEnd → Outcome → Bool
 ended_so ending.Replied (Reply v) = true
 ended_so ending.Trapped (Trapped t) = true
 ended_so ending.Moved (Moved path host) = true
@@ -19,7 +19,7 @@ ended_so ending.Absent (Absent path) = true
 ended_so _ _ = false
 
 -- how many ended so
-abbrev pub tally : Ending → List EventResult → ℕ
+abbrev pub tally : CountedEnd → List EventResult → ℕ
 tally how rs = count_by (λ (r : EventResult). ended_so how r.outcome) rs
 
 -- a whole number that was replied counts, and nothing else does

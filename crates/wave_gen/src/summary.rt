@@ -9,27 +9,27 @@ use wave_text::put_bytes;
 
 // How an event ended, where that is counted.
 #[derive(Clone, Copy)]
-enum Ending {
+enum CountedEnd {
     Replied,
     Trapped,
     Moved,
     Absent,
 }
 
-fn ended_so(outcome: &Outcome, ending: Ending) -> bool
+fn ended_so(outcome: &Outcome, ending: CountedEnd) -> bool
     ensures { result ≡ ended_so ending outcome.now }
 {
     match outcome {
-        Outcome::Reply(_) => matches!(ending, Ending::Replied),
-        Outcome::Trapped(_) => matches!(ending, Ending::Trapped),
-        Outcome::Moved(_, _) => matches!(ending, Ending::Moved),
-        Outcome::Absent(_) => matches!(ending, Ending::Absent),
+        Outcome::Reply(_) => matches!(ending, CountedEnd::Replied),
+        Outcome::Trapped(_) => matches!(ending, CountedEnd::Trapped),
+        Outcome::Moved(_, _) => matches!(ending, CountedEnd::Moved),
+        Outcome::Absent(_) => matches!(ending, CountedEnd::Absent),
         Outcome::Done | Outcome::Shots(_) => false,
     }
 }
 
 // How many ended so.
-fn tally(results: &[EventResult], ending: Ending) -> usize
+fn tally(results: &[EventResult], ending: CountedEnd) -> usize
     ensures { result ≡ tally ending results.now }
 {
     let mut count = 0;
@@ -87,10 +87,10 @@ pub fn summarize(alloc: Global, results: &[EventResult]) -> Result<Seq<u8>, OutO
 {
     let mut text = Vec::new(alloc);
     put_count(&mut text, b"events", results.len())?;
-    put_count(&mut text, b"replies", tally(results, Ending::Replied))?;
-    put_count(&mut text, b"traps", tally(results, Ending::Trapped))?;
-    put_count(&mut text, b"moved", tally(results, Ending::Moved))?;
-    put_count(&mut text, b"absent", tally(results, Ending::Absent))?;
+    put_count(&mut text, b"replies", tally(results, CountedEnd::Replied))?;
+    put_count(&mut text, b"traps", tally(results, CountedEnd::Trapped))?;
+    put_count(&mut text, b"moved", tally(results, CountedEnd::Moved))?;
+    put_count(&mut text, b"absent", tally(results, CountedEnd::Absent))?;
     let mut buffer = Buffer::new();
     put_entry(&mut text, b"total", buffer.format(total(results)))?;
     Ok(Seq::from_vec(text))
