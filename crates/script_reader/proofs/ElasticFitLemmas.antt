@@ -31,7 +31,7 @@ use Rattle.script_reader.specs.declared.worded.Worded.{Worded}
 use Rattle.script_reader.specs.declared.worded.Worded.TheVariants as worded
 use Rattle.script_reader.specs.Elastics.{as_plain, as_policed, IsPart, lines_in, IsElastic}
 use Rattle.script_reader.specs.Judged.{requested, move_to, as_event, judged_event}
-use Rattle.script_reader.specs.Policies.{balanced, drained, asked, first_in_batch, judged_policy}
+use Rattle.script_reader.specs.Policies.{balance_policy, drain_policy, policy_of, first_in_batch, judged_policy}
 use Rattle.script_reader.specs.Scripts.{judged}
 use Rattle.script_reader.specs.inner.ElasticProgressed.{elastic_progress_of, with_told, part_with, elastic_with}
 use Rattle.script_reader.specs.inner.ElasticSteps.{judged_now, IsElasticStep}
@@ -68,7 +68,7 @@ start_fits shape = record {
 
 -- ---- a policy
 
-drain_fits : (hosts h g : ℕ) (q : Policy) → drained hosts h g ≡ Ok q → IsPolicy hosts q
+drain_fits : (hosts h g : ℕ) (q : Policy) → drain_policy hosts h g ≡ Ok q → IsPolicy hosts q
 drain_fits hosts h g q e =
     elim (nat_lt h hosts && (nat_lt g hosts && not (h == g)))
     as (λ t. (nat_lt h hosts && (nat_lt g hosts && not (h == g))) ≡ t → cond t (Ok (policy.Drain (record { 0 = h }) (record { 0 = g }))) (Err HostRange) ≡ Ok q → IsPolicy hosts q) [
@@ -83,7 +83,7 @@ drain_fits hosts h g q e =
     other : not (h == g) ≡ true → h ≢ g
     other n s = grind (arith, nat_tests)
 
-balance_fits : (hosts n : ℕ) (q : Policy) → balanced n ≡ Ok q → IsPolicy hosts q
+balance_fits : (hosts n : ℕ) (q : Policy) → balance_policy n ≡ Ok q → IsPolicy hosts q
 balance_fits hosts n q e =
     elim (nat_le 1 n && nat_le n EVENT_LINES) as (λ t. (nat_le 1 n && nat_le n EVENT_LINES) ≡ t → cond t (Ok (policy.Balance n)) (Err CountRange) ≡ Ok q → IsPolicy hosts q) [
       | true ↦ λ c k.
@@ -93,17 +93,17 @@ balance_fits hosts n q e =
       | false ↦ λ c k. cc
     ] refl e
 
-asked_fits : (hosts : ℕ) (f : PolicyForm) (q : Policy) → asked hosts f ≡ Ok q → IsPolicy hosts q
+asked_fits : (hosts : ℕ) (f : PolicyForm) (q : Policy) → policy_of hosts f ≡ Ok q → IsPolicy hosts q
 asked_fits hosts (Balance n) q e = balance_fits hosts (number_of n) q e
 asked_fits hosts (Drain h g) q e = drain_fits hosts (number_of h) (number_of g) q e
 
-first_fits : (hosts : ℕ) (late : Bool) (f : PolicyForm) (q : Policy) → first_in_batch late (asked hosts f) ≡ Ok q → IsPolicy hosts q
+first_fits : (hosts : ℕ) (late : Bool) (f : PolicyForm) (q : Policy) → first_in_batch late (policy_of hosts f) ≡ Ok q → IsPolicy hosts q
 first_fits hosts true f q e = cc
 first_fits hosts false f q e = asked_fits hosts f q e
 
 policy_fits : (hosts events : ℕ) (late : Bool) (f : PolicyForm) (q : Policy) → judged_policy hosts events late f ≡ Ok q → (events < EVENT_LINES) × IsPolicy hosts q
 policy_fits hosts events late f q e =
-    elim (nat_lt events EVENT_LINES) as (λ t. nat_lt events EVENT_LINES ≡ t → cond t (first_in_batch late (asked hosts f)) (Err TooMany) ≡ Ok q → (events < EVENT_LINES) × IsPolicy hosts q) [
+    elim (nat_lt events EVENT_LINES) as (λ t. nat_lt events EVENT_LINES ≡ t → cond t (first_in_batch late (policy_of hosts f)) (Err TooMany) ≡ Ok q → (events < EVENT_LINES) × IsPolicy hosts q) [
       | true ↦ λ c k. (grind (arith, nat_tests), first_fits hosts late f q k)
       | false ↦ λ c k. cc
     ] refl e

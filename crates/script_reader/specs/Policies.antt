@@ -40,16 +40,16 @@ HasNoPolicyForm line = (form : PolicyForm) → HasPolicyForm line form → ⊥
 -- ---- what is asked for, of so many hosts
 
 -- 1 to 4,000 moves
-abbrev pub balanced : ℕ → Result Policy Fault
-balanced n = if nat_le 1 n && nat_le n EVENT_LINES then Ok (policy.Balance n) else Err CountRange
+abbrev pub balance_policy : ℕ → Result Policy Fault
+balance_policy n = if nat_le 1 n && nat_le n EVENT_LINES then Ok (policy.Balance n) else Err CountRange
 
 -- two hosts below their count, and not the same one
-abbrev pub drained : ℕ → ℕ → ℕ → Result Policy Fault
-drained hosts h g = if nat_lt h hosts && (nat_lt g hosts && not (h == g)) then Ok (policy.Drain (record { 0 = h }) (record { 0 = g })) else Err HostRange
+abbrev pub drain_policy : ℕ → ℕ → ℕ → Result Policy Fault
+drain_policy hosts h g = if nat_lt h hosts && (nat_lt g hosts && not (h == g)) then Ok (policy.Drain (record { 0 = h }) (record { 0 = g })) else Err HostRange
 
-abbrev pub asked : ℕ → PolicyForm → Result Policy Fault
-asked hosts (Balance n) = balanced (number_of n)
-asked hosts (Drain h g) = drained hosts (number_of h) (number_of g)
+abbrev pub policy_of : ℕ → PolicyForm → Result Policy Fault
+policy_of hosts (Balance n) = balance_policy (number_of n)
+policy_of hosts (Drain h g) = drain_policy hosts (number_of h) (number_of g)
 
 -- ---- the line, where so many hosts and event lines stand before, and perhaps an event line of its batch
 
@@ -59,4 +59,4 @@ first_in_batch late p = if late then Err PolicyLate else p
 
 -- an event line past the last one that may be is refused before all else that is wrong with it
 abbrev pub judged_policy : ℕ → ℕ → Bool → PolicyForm → Result Policy Fault
-judged_policy hosts events late form = if nat_lt events EVENT_LINES then first_in_batch late (asked hosts form) else Err TooMany
+judged_policy hosts events late form = if nat_lt events EVENT_LINES then first_in_batch late (policy_of hosts form) else Err TooMany

@@ -4,7 +4,7 @@ ghost use Rattle.wave_base.specs.Shapes.{IsShape};
 ghost use Rattle.wave_base.specs.declared.limits.TheConstants.{EVENT_LINES};
 ghost use Rattle.wave_text.specs.Numbers.{number_of};
 ghost use Rattle.script_reader.specs.Elastics.{judged_worded};
-ghost use Rattle.script_reader.specs.Policies.{is_policy_form, balanced, drained, asked, judged_policy};
+ghost use Rattle.script_reader.specs.Policies.{is_policy_form, balance_policy, drain_policy, policy_of, judged_policy};
 ghost use Rattle.script_reader.specs.inner.Gives.{Gives};
 ghost use Rattle.script_reader.specs.inner.ElasticProgressed.{IsWellWorded};
 
@@ -33,9 +33,9 @@ fn count_of(digits: &[u8]) -> Option<u32>
     }
 }
 
-fn balanced(digits: &[u8]) -> Result<Policy, Fault>
+fn balance_policy(digits: &[u8]) -> Result<Policy, Fault>
     requires { is_digits digits.now ≡ true }
-    ensures { result ≡ balanced (number_of digits.now) }
+    ensures { result ≡ balance_policy (number_of digits.now) }
 {
     match count_of(digits) {
         Some(n) if 1 <= n => Ok(Policy::Balance(n)),
@@ -56,10 +56,10 @@ fn host_of(hosts: u8, digits: &[u8]) -> Option<u8>
     }
 }
 
-fn drained(hosts: u8, from: &[u8], to: &[u8]) -> Result<Policy, Fault>
+fn drain_policy(hosts: u8, from: &[u8], to: &[u8]) -> Result<Policy, Fault>
     requires from { is_digits from.now ≡ true }
     requires to { is_digits to.now ≡ true }
-    ensures { result ≡ drained hosts (number_of from.now) (number_of to.now) }
+    ensures { result ≡ drain_policy hosts (number_of from.now) (number_of to.now) }
 {
     match (host_of(hosts, from), host_of(hosts, to)) {
         (Some(from), Some(to)) if from != to => Ok(Policy::Drain(Host(from), Host(to))),
@@ -67,13 +67,13 @@ fn drained(hosts: u8, from: &[u8], to: &[u8]) -> Result<Policy, Fault>
     }
 }
 
-fn asked(hosts: u8, form: &PolicyForm) -> Result<Policy, Fault>
+fn policy_of(hosts: u8, form: &PolicyForm) -> Result<Policy, Fault>
     requires { is_policy_form form.now ≡ true }
-    ensures { result ≡ asked hosts form.now }
+    ensures { result ≡ policy_of hosts form.now }
 {
     match form {
-        PolicyForm::Balance(count) => balanced(count.as_slice()),
-        PolicyForm::Drain(from, to) => drained(hosts, from.as_slice(), to.as_slice()),
+        PolicyForm::Balance(count) => balance_policy(count.as_slice()),
+        PolicyForm::Drain(from, to) => drain_policy(hosts, from.as_slice(), to.as_slice()),
     }
 }
 
@@ -88,7 +88,7 @@ fn judged_policy(before: &ElasticProgress, form: &PolicyForm) -> Result<Policy, 
     if before.under_way {
         return Err(Fault::PolicyLate);
     }
-    asked(before.plain.hosts, form)
+    policy_of(before.plain.hosts, form)
 }
 
 /// What a line is, after the lines before: taken, or refused.
