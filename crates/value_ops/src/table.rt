@@ -58,7 +58,7 @@ pub fn find<const N: usize>(table: &OpTable<N>, name: &[u8]) -> Option<usize>
 }
 
 // A row by its operator, whether it is written as a call, and the kind that it gives.
-fn kept(operator: usize, builtin: bool, gives: Kind) -> KeptRow
+fn kept_row(operator: usize, builtin: bool, gives: Kind) -> KeptRow
     requires { operator < OPERATORS }
     ensures { kept_row result ≡ record { name = name_of_operator operator; builtin = builtin; takes = three (takes_of operator); gives = gives } }
 {
@@ -83,7 +83,7 @@ macro_rules! builtin {
 // Rows by their operator, how they are written, and the kind that they give.
 macro_rules! rows {
     ($($operator:ident $written:ident $gives:ident;)*) => {
-        [$(kept($operator, builtin!($written), Kind::$gives)),*]
+        [$(kept_row($operator, builtin!($written), Kind::$gives)),*]
     };
 }
 

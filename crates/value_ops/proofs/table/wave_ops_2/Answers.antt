@@ -5,4 +5,4 @@ use Rattle.value_ops.proofs.table.wave_ops_2.Goals as goal
 
 pub returns : goal.returns
 unfolding wave_rows_2 operators takes_of
-returns c = rw (c.kept.ensures, c.kept-2.ensures, c.kept-3.ensures, c.kept-4.ensures, c.kept-5.ensures, c.kept-6.ensures, c.kept-7.ensures, c.kept-8.ensures, c.kept-9.ensures, c.kept-10.ensures, c.kept-11.ensures, c.kept-12.ensures, c.kept-13.ensures, c.kept-14.ensures, c.kept-15.ensures, c.kept-16.ensures, c.kept-17.ensures, c.kept-18.ensures, c.kept-19.ensures, c.kept-20.ensures, c.kept-21.ensures, c.kept-22.ensures, c.kept-23.ensures, c.kept-24.ensures, c.kept-25.ensures, c.kept-26.ensures, c.kept-27.ensures, c.kept-28.ensures, c.kept-29.ensures, c.kept-30.ensures, c.kept-31.ensures, c.kept-32.ensures, c.kept-33.ensures, c.kept-34.ensures) refl
+returns c = rw (c.kept_row.ensures, c.kept_row-2.ensures, c.kept_row-3.ensures, c.kept_row-4.ensures, c.kept_row-5.ensures, c.kept_row-6.ensures, c.kept_row-7.ensures, c.kept_row-8.ensures, c.kept_row-9.ensures, c.kept_row-10.ensures, c.kept_row-11.ensures, c.kept_row-12.ensures, c.kept_row-13.ensures, c.kept_row-14.ensures, c.kept_row-15.ensures, c.kept_row-16.ensures, c.kept_row-17.ensures, c.kept_row-18.ensures, c.kept_row-19.ensures, c.kept_row-20.ensures, c.kept_row-21.ensures, c.kept_row-22.ensures, c.kept_row-23.ensures, c.kept_row-24.ensures, c.kept_row-25.ensures, c.kept_row-26.ensures, c.kept_row-27.ensures, c.kept_row-28.ensures, c.kept_row-29.ensures, c.kept_row-30.ensures, c.kept_row-31.ensures, c.kept_row-32.ensures, c.kept_row-33.ensures, c.kept_row-34.ensures) refl
