@@ -14,7 +14,7 @@ use Rattle.wave_base.specs.declared.value.Value.{Value}
 use Rattle.wave_base.specs.Fold.{Head, Ran, Progress, begun, next_batch, next_job, first_head, with_done, first_progress, with_result, with_job, one_more, is_over, created_lines}
 use Rattle.wave_base.specs.Tree.{Tree}
 use Rattle.script_fold.specs.Lines.{Meaning, line_by}
-use Rattle.script_fold.specs.Moves.{is_other, with_batch, without_moves, other_results, jobs_run, MovesAside}
+use Rattle.script_fold.specs.Moves.{is_no_move, with_batch, without_moves, other_results, jobs_run, MovesAside}
 use Rattle.script_fold.proofs.LeftLemmas.{next_is}
 use Rattle.script_fold.proofs.StepLemmas.{any_ticket}
 
@@ -83,10 +83,10 @@ begin_batch [] bs = refl
 begin_batch (l ∷ ls) bs = refl
 
 -- what is left without the moves
-norm_others : (xs : List Line) (bs : List (List Line)) → norm (filter is_other (norm xs bs).0) (without_moves (norm xs bs).1) ≡ norm (filter is_other xs) (without_moves bs)
+norm_others : (xs : List Line) (bs : List (List Line)) → norm (filter is_no_move (norm xs bs).0) (without_moves (norm xs bs).1) ≡ norm (filter is_no_move xs) (without_moves bs)
 norm_others (l ∷ ls) bs = refl
 norm_others [] [] = refl
-norm_others [] (b ∷ bs) = sym (begin_batch (filter is_other b) (without_moves bs))
+norm_others [] (b ∷ bs) = sym (begin_batch (filter is_no_move b) (without_moves bs))
 
 abbrev Full : List (List Line) → Type 0
 Full bs = All (λ (b : List Line). 0 < length b) bs
@@ -103,7 +103,7 @@ norm_settled [] (b ∷ bs) h e =
     let some : 0 < length b = All-head (λ (b : List Line). 0 < length b) b bs h in
     let none : length b ≡ 0 = ap length e in absurd (omega (arith, some, none))
 
-requests_kept : (cs : List Call) → filter is_other (map (λ c. Request c) cs) ≡ map (λ c. Request c) cs
+requests_kept : (cs : List Call) → filter is_no_move (map (λ c. Request c) cs) ≡ map (λ c. Request c) cs
 requests_kept [] = refl
 requests_kept (c ∷ cs) = ap (λ ls. Request c ∷ ls) (requests_kept cs)
 
@@ -133,7 +133,7 @@ none_left (x ∷ xs) (suc i) e = none_left xs i e
 -- ---- the results of the others
 
 abbrev one_other : Line → EventResult → List EventResult
-one_other j r = if is_other j then r ∷ [] else []
+one_other j r = if is_no_move j then r ∷ [] else []
 
 nothing : (js : List Line) → other_results js [] ≡ []
 nothing [] = refl
@@ -141,12 +141,12 @@ nothing (j ∷ js) = refl
 
 others_push : (js : List Line) (rs : List EventResult) (j : Line) (r : EventResult) (more : List Line) → slice_get js (length rs) ≡ Some j → other_results (js ++ more) (rs ++ r ∷ []) ≡ other_results js rs ++ one_other j r
 others_push [] rs j r more e = cc
-others_push (x ∷ js) [] j r more e = let same : x ≡ j = cc in ap (λ x. if is_other x then r ∷ other_results (js ++ more) [] else other_results (js ++ more) []) same ∙ by_test (is_other j)
+others_push (x ∷ js) [] j r more e = let same : x ≡ j = cc in ap (λ x. if is_no_move x then r ∷ other_results (js ++ more) [] else other_results (js ++ more) []) same ∙ by_test (is_no_move j)
   where
     by_test : (b : Bool) → (if b then r ∷ other_results (js ++ more) [] else other_results (js ++ more) []) ≡ (if b then r ∷ [] else [])
     by_test true = ap (λ rs. r ∷ rs) (nothing (js ++ more))
     by_test false = nothing (js ++ more)
-others_push (x ∷ js) (s ∷ rs) j r more e = by_test (is_other x) (others_push js rs j r more e)
+others_push (x ∷ js) (s ∷ rs) j r more e = by_test (is_no_move x) (others_push js rs j r more e)
   where
     by_test : (b : Bool) → other_results (js ++ more) (rs ++ r ∷ []) ≡ other_results js rs ++ one_other j r → (if b then s ∷ other_results (js ++ more) (rs ++ r ∷ []) else other_results (js ++ more) (rs ++ r ∷ [])) ≡ (if b then s ∷ other_results js rs else other_results js rs) ++ one_other j r
     by_test true later = ap (λ rs. s ∷ rs) later
@@ -159,7 +159,7 @@ record Beside (w v : Progress (List Value) EventResult Line) : Type 0 where
   results : v.results ≡ other_results w.head.known w.results
   count : length w.results ≡ w.head.done
   within : w.head.done ≤ length w.head.known
-  left : (wait v.head, v.head.later) ≡ norm (filter is_other (wait w.head)) (without_moves w.head.later)
+  left : (wait v.head, v.head.later) ≡ norm (filter is_no_move (wait w.head)) (without_moves w.head.later)
   full : Full w.head.later
   settled : wait w.head ≡ [] → w.head.later ≡ []
 
@@ -184,7 +184,7 @@ module _ (meaning : Meaning) (first : ℕ) where
   rest_of w = drop (suc w.head.done) w.head.known
 
   next_beside : (w v u : P) (j : Line) → Beside w v → next_job w.head ≡ Some j → u.tree ≡ (ran w j).tree → u.results ≡ v.results ++ one_other j (ran w j).result
-      → (wait u.head, u.head.later) ≡ norm (filter is_other (rest_of w ++ created_lines (ran w j).result)) (without_moves w.head.later) → Beside (after_ran w j) u
+      → (wait u.head, u.head.later) ≡ norm (filter is_no_move (rest_of w ++ created_lines (ran w j).result)) (without_moves w.head.later) → Beside (after_ran w j) u
   next_beside w v u j b is tree results left =
       let created : List Line = created_lines (ran w j).result in
       let d : Done w.head (with_done w.head created) created = done_job w.head j created is in
@@ -196,7 +196,7 @@ module _ (meaning : Meaning) (first : ℕ) where
         results = results ∙ ap (λ rs. rs ++ one_other j (ran w j).result) b.results ∙ sym (others_push w.head.known w.results j (ran w j).result d.more here) ∙ ap (λ ks. other_results ks (w.results ++ (ran w j).result ∷ [])) (sym d.grows);
         count = omega (arith, d.done, b.count, length-append w.results ((ran w j).result ∷ []));
         within = d.within;
-        left = left ∙ sym (norm_others (rest_of w ++ created) w.head.later) ∙ (λ i. norm (filter is_other (sym wait_is i)) (without_moves (sym later_is i)));
+        left = left ∙ sym (norm_others (rest_of w ++ created) w.head.later) ∙ (λ i. norm (filter is_no_move (sym wait_is i)) (without_moves (sym later_is i)));
         full = subst Full (sym later_is) (norm_full (rest_of w ++ created) w.head.later b.full);
         settled = λ e. later_is ∙ norm_settled (rest_of w ++ created) w.head.later b.full (sym wait_is ∙ e);
       }
@@ -205,20 +205,20 @@ module _ (meaning : Meaning) (first : ℕ) where
   moved : (w v : P) (p : Path) (h : Host) → Beside w v → next_job w.head ≡ Some (Move p h) → Beside (after_ran w (Move p h)) v
   moved w v p h b is =
       next_beside w v v (Move p h) b is b.tree (sym (append-nil v.results))
-      (b.left ∙ ap (λ ls. norm (filter is_other ls) (without_moves w.head.later)) (next_is w.head.known w.head.done (Move p h) is) ∙ ap (λ ls. norm (filter is_other ls) (without_moves w.head.later)) (sym (append-nil (rest_of w))))
+      (b.left ∙ ap (λ ls. norm (filter is_no_move ls) (without_moves w.head.later)) (next_is w.head.known w.head.done (Move p h) is) ∙ ap (λ ls. norm (filter is_no_move ls) (without_moves w.head.later)) (sym (append-nil (rest_of w))))
 
   -- any other job is done there too
-  module _ (w v : P) (j : Line) (b : Beside w v) (is : next_job w.head ≡ Some j) (other : is_other j ≡ true) where
-    pair : ◌≡◌ {A = Two} (wait v.head, v.head.later) (j ∷ filter is_other (rest_of w), without_moves w.head.later)
+  module _ (w v : P) (j : Line) (b : Beside w v) (is : next_job w.head ≡ Some j) (other : is_no_move j ≡ true) where
+    pair : ◌≡◌ {A = Two} (wait v.head, v.head.later) (j ∷ filter is_no_move (rest_of w), without_moves w.head.later)
     pair =
-        b.left ∙ ap (λ ls. norm (filter is_other ls) (without_moves w.head.later)) (next_is w.head.known w.head.done j is)
-        ∙ ap (λ t. norm (if t then j ∷ filter is_other (rest_of w) else filter is_other (rest_of w)) (without_moves w.head.later)) other
+        b.left ∙ ap (λ ls. norm (filter is_no_move ls) (without_moves w.head.later)) (next_is w.head.known w.head.done j is)
+        ∙ ap (λ t. norm (if t then j ∷ filter is_no_move (rest_of w) else filter is_no_move (rest_of w)) (without_moves w.head.later)) other
 
-    waits : wait v.head ≡ j ∷ filter is_other (rest_of w)
+    waits : wait v.head ≡ j ∷ filter is_no_move (rest_of w)
     waits = ap (λ (x : Two). x.0) pair
 
     comes_next : next_job v.head ≡ Some j
-    comes_next = next_from v.head.known v.head.done j (filter is_other (rest_of w)) waits
+    comes_next = next_from v.head.known v.head.done j (filter is_no_move (rest_of w)) waits
 
     same_ran : ran v j ≡ ran w j
     same_ran = any_ticket meaning (first + v.head.done) (first + w.head.done) v.tree j ∙ ap (λ t. line_by meaning (first + w.head.done) t j) b.tree
@@ -226,11 +226,11 @@ module _ (meaning : Meaning) (first : ℕ) where
     both : Beside (after_ran w j) (after_ran v j)
     both =
         let d : Done v.head (with_done v.head (created_lines (ran v j).result)) (created_lines (ran v j).result) = done_job v.head j (created_lines (ran v j).result) comes_next in
-        let rest : rest_of v ≡ filter is_other (rest_of w) = rest_from v.head.known v.head.done j (filter is_other (rest_of w)) waits in
+        let rest : rest_of v ≡ filter is_no_move (rest_of w) = rest_from v.head.known v.head.done j (filter is_no_move (rest_of w)) waits in
         let later : v.head.later ≡ without_moves w.head.later = ap (λ (x : Two). x.1) pair in
         let created : created_lines (ran v j).result ≡ created_lines (ran w j).result = ap (λ (x : Ran (List Value) EventResult). created_lines x.result) same_ran in
-        let kept : filter is_other (rest_of w) ++ created_lines (ran w j).result ≡ filter is_other (rest_of w ++ created_lines (ran w j).result) =
-        sym (filter-append is_other (rest_of w) (created_lines (ran w j).result) ∙ ap (λ cs. filter is_other (rest_of w) ++ cs) (requests_kept (ran w j).result.created)) in
+        let kept : filter is_no_move (rest_of w) ++ created_lines (ran w j).result ≡ filter is_no_move (rest_of w ++ created_lines (ran w j).result) =
+        sym (filter-append is_no_move (rest_of w) (created_lines (ran w j).result) ∙ ap (λ cs. filter is_no_move (rest_of w) ++ cs) (requests_kept (ran w j).result.created)) in
         next_beside w v (after_ran v j) j b is (ap (λ (x : Ran (List Value) EventResult). x.tree) same_ran)
         (ap (λ (x : Ran (List Value) EventResult). v.results ++ x.result ∷ []) same_ran ∙ sym (ap (λ t. v.results ++ (if t then (ran w j).result ∷ [] else [])) other))
         (d.left ∙ (λ i. norm (rest i ++ created i) (later i)) ∙ ap (λ ls. norm ls (without_moves w.head.later)) kept)
@@ -247,7 +247,7 @@ module _ (meaning : Meaning) (first : ℕ) where
           results = sym (nothing (first_head batches).known);
           count = sym t.done;
           within = t.within;
-          left = u.left ∙ sym (norm_others [] batches) ∙ (λ i. norm (filter is_other (sym wait_is i)) (without_moves (sym later_is i)));
+          left = u.left ∙ sym (norm_others [] batches) ∙ (λ i. norm (filter is_no_move (sym wait_is i)) (without_moves (sym later_is i)));
           full = subst Full (sym later_is) (norm_full [] batches full);
           settled = λ e. later_is ∙ norm_settled [] batches full (sym wait_is ∙ e);
         }
@@ -258,7 +258,7 @@ module _ (meaning : Meaning) (first : ℕ) where
     beside_more : (w : P) (m : ℕ) → Beside w (others m) → (k : ℕ) × Beside (one_more first (line_by meaning) created_lines w) (others k)
     beside_more w m b = by_job (next_job w.head) refl
       where
-        done_too : (j : Line) (is : next_job w.head ≡ Some j) (other : is_other j ≡ true) → (k : ℕ) × Beside (after_ran w j) (others k)
+        done_too : (j : Line) (is : next_job w.head ≡ Some j) (other : is_no_move j ≡ true) → (k : ℕ) × Beside (after_ran w j) (others k)
         done_too j is other = (suc m, subst (Beside (after_ran w j)) (sym (ap (with_job first (line_by meaning) created_lines (others m)) (comes_next w (others m) j b is other))) (both w (others m) j b is other))
 
         by_job : (o : Option Line) → next_job w.head ≡ o → (k : ℕ) × Beside (with_job first (line_by meaning) created_lines w o) (others k)
@@ -280,7 +280,7 @@ module _ (meaning : Meaning) (first : ℕ) where
         let b = so_far.1 in
         let none : wait w.head ≡ [] = none_left w.head.known w.head.done (no_job (next_job w.head) over) in
         let last : w.head.later ≡ [] = b.settled none in
-        let left : ◌≡◌ {A = Two} (wait (others so_far.0).head, (others so_far.0).head.later) ([], []) = b.left ∙ (λ i. norm (filter is_other (none i)) (without_moves (last i))) in
+        let left : ◌≡◌ {A = Two} (wait (others so_far.0).head, (others so_far.0).head.later) ([], []) = b.left ∙ (λ i. norm (filter is_no_move (none i)) (without_moves (last i))) in
         let waits_none : wait (others so_far.0).head ≡ [] = ap (λ (x : Two). x.0) left in
         record {
           count = so_far.0;

@@ -8,10 +8,10 @@ use Rattle.wave_base.specs.Fold.{Progress, first_progress, fold_jobs, is_over, c
 use Rattle.wave_base.specs.Tree.{Tree}
 use Rattle.script_fold.specs.Lines.{Meaning, line_by}
 
-abbrev pub is_other : Line → Bool
-is_other (Request call) = true
-is_other (Move p h) = false
-is_other Snapshot = true
+abbrev pub is_no_move : Line → Bool
+is_no_move (Request call) = true
+is_no_move (Move p h) = false
+is_no_move Snapshot = true
 
 -- a batch that is left empty is left out
 abbrev pub with_batch : List Line → List (List Line) → List (List Line)
@@ -20,13 +20,13 @@ with_batch (l ∷ ls) bs = (l ∷ ls) ∷ bs
 
 abbrev pub without_moves : List (List Line) → List (List Line)
 without_moves [] = []
-without_moves (b ∷ bs) = with_batch (filter is_other b) (without_moves bs)
+without_moves (b ∷ bs) = with_batch (filter is_no_move b) (without_moves bs)
 
 -- the results of the jobs that are no moves
 abbrev pub other_results : List Line → List EventResult → List EventResult
 other_results [] rs = []
 other_results (j ∷ js) [] = []
-other_results (j ∷ js) (r ∷ rs) = if is_other j then r ∷ other_results js rs else other_results js rs
+other_results (j ∷ js) (r ∷ rs) = if is_no_move j then r ∷ other_results js rs else other_results js rs
 
 -- so many jobs of these batches, from this ticket and tree on
 abbrev pub jobs_run : Meaning → ℕ → Tree (List Value) → List (List Line) → ℕ → Progress (List Value) EventResult Line
