@@ -3,9 +3,9 @@ use Rattle.std.proofs.Common.{◌≡◌, ◌≢◌, ◌+◌, ◌==◌, ℕ, suc,
 use Rattle.std.proofs.lemmas.Bool.{eqb-false}
 use Rattle.wave_base.specs.declared.numbers.Host.{Host}
 use Rattle.script_fold.specs.declared.visits.Visit.{Visit}
-use Rattle.script_fold.specs.inner.Visiting.{IsSeen, counted, unseen}
+use Rattle.script_fold.specs.inner.Visiting.{IsSeen, with_job, unseen}
 
-pub seen_counted : (n base : ℕ) (m : Bool) (v : Visit) → IsSeen n base m v → IsSeen n base true (counted (suc n) v)
+pub seen_counted : (n base : ℕ) (m : Bool) (v : Visit) → IsSeen n base m v → IsSeen n base true (with_job (suc n) v)
 seen_counted n base m v h = by_last (v.last == suc n) refl
   where
     by_last : (b : Bool) → (v.last == suc n) ≡ b → IsSeen n base true (record { host = v.host; load = if b then v.load else v.load + 1; last = suc n })

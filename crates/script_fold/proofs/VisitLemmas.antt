@@ -16,7 +16,7 @@ use Rattle.wave_base.specs.PathLaws.{path_eq_ties, path_eq_equiv, path_eq_decide
 use Rattle.wave_base.specs.Places.{with_context, with_contexts, load_of}
 use Rattle.wave_base.specs.Tree.{Tree, there, enter, put}
 use Rattle.script_fold.specs.declared.visits.Visit.{Visit}
-use Rattle.script_fold.specs.inner.Visiting.{Entries, IsSeen, IsVisited, found, visit_at, visit_of, visit_by, counted, unseen}
+use Rattle.script_fold.specs.inner.Visiting.{Entries, IsSeen, IsVisited, found, visit_at, visit_of, visit_by, with_job, unseen}
 use Rattle.script_fold.proofs.SeenLemmas.{seen_counted, seen_new, seen_elsewhere}
 
 pub parent_last : (p : List Step) (s : Step) → parent_of (p ++ s ∷ []) ≡ p
@@ -74,20 +74,20 @@ Sets es after p v = (q : Path) → found after q ≡ cond (is_at (path_cmp p) q)
 module _ (hosts : Tree ℕ) (earlier : List (List Path)) (now : List Path) (es after : Entries) (job : ℕ) (p : Path) (at : job ≡ suc (length earlier)) (h : IsVisited hosts earlier now es)
     (keys : keys_of after ≡ insert_key path_cmp (keys_of es) p) where
   -- a job enters a context that is there
-  entered_there : (u : Visit) → found es p ≡ Some u → Sets es after p (counted job u) → IsVisited (with_context hosts p) earlier (now ++ p ∷ []) after
+  entered_there : (u : Visit) → found es p ≡ Some u → Sets es after p (with_job job u) → IsVisited (with_context hosts p) earlier (now ++ p ∷ []) after
   entered_there u f set =
       let t : there hosts p ≡ true = sym (there_is hosts es p h.paths) ∙ ap is_some f in
       let same : with_context hosts p ≡ hosts = ap (λ b. if b then hosts else put (enter hosts p) p (hosts.fields (parent_of p))) t in
       let u_is : visit_at es p ≡ u = ap (λ o. unwrap_or o unseen) f in
-      let seen_here : IsSeen (length earlier) (load_of earlier p) true (counted (suc (length earlier)) u) =
+      let seen_here : IsSeen (length earlier) (load_of earlier p) true (with_job (suc (length earlier)) u) =
       seen_counted (length earlier) (load_of earlier p) (list_any (path_eq p) now) u (subst (IsSeen (length earlier) (load_of earlier p) (list_any (path_eq p) now)) u_is (h.seen p)) in
-      let here : IsSeen (length earlier) (load_of earlier p) (list_any (path_eq p) (now ++ p ∷ [])) (counted job u) =
-      subst₂ (λ m j. IsSeen (length earlier) (load_of earlier p) m (counted j u)) (sym (any_push_yes (path_eq p) now p (path_eq_equiv.refl p))) (sym at) seen_here in
+      let here : IsSeen (length earlier) (load_of earlier p) (list_any (path_eq p) (now ++ p ∷ [])) (with_job job u) =
+      subst₂ (λ m j. IsSeen (length earlier) (load_of earlier p) m (with_job j u)) (sym (any_push_yes (path_eq p) now p (path_eq_equiv.refl p))) (sym at) seen_here in
       let visited : IsVisited hosts earlier (now ++ p ∷ []) after = record {
         paths = keys ∙ ap (λ ks. insert_key path_cmp ks p) h.paths ∙ ap (λ (t : Tree ℕ). t.paths) (enter_there hosts p h.sorted t);
         sorted = h.sorted;
-        host = changed_by es after p (counted job u) set (λ q v. v.host.0 ≡ hosts.fields q) (ap (λ (v : Visit). v.host.0) (sym u_is) ∙ h.host p) (λ q e. h.host q);
-        seen = changed_by es after p (counted job u) set (λ q v. IsSeen (length earlier) (load_of earlier q) (list_any (path_eq q) (now ++ p ∷ [])) v) here
+        host = changed_by es after p (with_job job u) set (λ q v. v.host.0 ≡ hosts.fields q) (ap (λ (v : Visit). v.host.0) (sym u_is) ∙ h.host p) (λ q e. h.host q);
+        seen = changed_by es after p (with_job job u) set (λ q v. IsSeen (length earlier) (load_of earlier q) (list_any (path_eq q) (now ++ p ∷ [])) v) here
             (λ q e. subst (λ m. IsSeen (length earlier) (load_of earlier q) m (visit_at es q)) (sym (any_push_no (path_eq q) now p e)) (h.seen q));
       } in
       subst (λ (t : Tree ℕ). IsVisited t earlier (now ++ p ∷ []) after) (sym same) visited

@@ -7,7 +7,7 @@ ghost use Rattle.wave_base.specs.Paths.{path_cmp, parent_of};
 ghost use Rattle.wave_base.specs.Places.{with_context, with_contexts, after_job, move_in};
 ghost use Rattle.wave_base.specs.Starts.{start_places};
 ghost use Rattle.wave_base.specs.Tree.{Tree, put, there};
-ghost use Rattle.script_fold.specs.inner.Visiting.{IsVisited, IsMoveWithin, visit_at, visit_by, counted, place_in};
+ghost use Rattle.script_fold.specs.inner.Visiting.{IsVisited, IsMoveWithin, visit_at, visit_by, with_job, place_in};
 
 use std::alloc::Global;
 use std::collections::BTreeMap;
@@ -32,10 +32,10 @@ pub struct Visits {
 
 impl Visit {
     // It is entered by this job, which counts once.
-    fn counted(&self, job: u64) -> Visit
+    fn with_job(&self, job: u64) -> Visit
         requires few { self.now.load ≤ self.now.last }
         requires last { self.now.last ≤ job }
-        ensures { result ≡ counted job self.now }
+        ensures { result ≡ with_job job self.now }
     {
         if self.last == job {
             return *self;
@@ -82,7 +82,7 @@ impl Visits {
         ensures { result ≡ visit_by self.now.contexts.entries job path.now }
     {
         match self.contexts.get(path) {
-            Some(visit) => visit.counted(job),
+            Some(visit) => visit.with_job(job),
             None => Visit {
                 host: self.host_of(&parent(path)),
                 load: 1,

@@ -26,11 +26,11 @@ abbrev pub visit_at : Entries → Path → Visit
 visit_at es p = unwrap_or (found es p) unseen
 
 -- a job that enters counts once
-abbrev pub counted : ℕ → Visit → Visit
-counted job v = record { host = v.host; load = if v.last == job then v.load else v.load + 1; last = job }
+abbrev pub with_job : ℕ → Visit → Visit
+with_job job v = record { host = v.host; load = if v.last == job then v.load else v.load + 1; last = job }
 
 abbrev pub visit_of : Entries → ℕ → Path → Option Visit → Visit
-visit_of es job p (Some v) = counted job v
+visit_of es job p (Some v) = with_job job v
 visit_of es job p None = record { host = (visit_at es (parent_of p)).host; load = 1; last = job }
 
 -- a context as a job enters it: a new one is where its parent is
