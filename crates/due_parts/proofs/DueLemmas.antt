@@ -8,7 +8,7 @@ use Rattle.mace_ast.specs.Decls.{ServiceTree}
 use Rattle.resolved_service.specs.declared.service.Resolved.{Resolved}
 use Rattle.type_rules.specs.Known.{shape_of}
 use Rattle.type_rules.specs.Views.{resolved_view}
-use Rattle.meaning_views.proofs.SameMeaning.{same_calls}
+use Rattle.meaning_laws.proofs.SameMeaning.{same_calls}
 use Rattle.script_fold.specs.Runs.{finished_of}
 use Rattle.wave_meaning.specs.Meaning.{results_at, IsWholeAt}
 use Rattle.context_types.specs.declared.Typed.{Typed}

@@ -20,7 +20,7 @@ use Rattle.resolved_service.specs.Fits.{FitsService}
 use Rattle.type_rules.specs.Known.{shape_of}
 use Rattle.type_rules.specs.Services.{resolve_service}
 use Rattle.type_rules.specs.Views.{resolved_view}
-use Rattle.meaning_views.proofs.SameMeaning.{same_calls}
+use Rattle.meaning_laws.proofs.SameMeaning.{same_calls}
 use Rattle.context_types.specs.declared.Typed.{Typed}
 use Rattle.script_fold.specs.Lines.{Meaning, name_of, most_jobs}
 use Rattle.script_fold.specs.Runs.{finished_of, start_after, ticket_of, whole_run, IsFew}

@@ -1,3 +1,4 @@
 pub mod Keeping
 pub mod Safely
 pub mod Keeps
+pub mod SameMeaning
