@@ -8,7 +8,7 @@ use wave_base::{OutOfMemory, Record, Seq, Value};
 pub type Level = Seq<(usize, Value)>;
 
 /// Copies the kept fields of a context, and no others.
-pub fn copied(alloc: Global, body: &Record, kept: &Seq<bool>) -> Result<Level, OutOfMemory>
+pub fn kept_copies(alloc: Global, body: &Record, kept: &Seq<bool>) -> Result<Level, OutOfMemory>
     requires { length kept.now ≡ length body.now.fields }
     ensures { IfOk result (λ l. l ≡ kept_level kept.now body.now.fields) }
 {

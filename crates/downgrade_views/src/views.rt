@@ -5,7 +5,7 @@ ghost use Rattle.wave_base.specs.declared.value.Value.TheVariants as v;
 ghost use Rattle.wave_base.specs.Values.{TakesMemory};
 ghost use Rattle.downgrade_views.specs.Levels.{field_at, HasField, kept_level};
 
-use crate::level::{Level, copied, value_of};
+use crate::level::{Level, kept_copies, value_of};
 use std::alloc::Global;
 use std::marker::Model;
 use wave_base::{OutOfMemory, Record, Seq, Value};
@@ -43,7 +43,7 @@ impl Views {
         ensures ok { OnOk result (self.new ≡ self.old ++ kept_level kept.now body.now.fields ∷ []) }
         ensures err { OnErr result (self.new ≡ self.old) }
     {
-        let level = copied(self.alloc, body, kept)?;
+        let level = kept_copies(self.alloc, body, kept)?;
         self.levels.push(level)?;
         Ok(())
     }

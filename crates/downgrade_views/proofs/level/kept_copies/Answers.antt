@@ -2,8 +2,8 @@ use Rattle.std.proofs.Common.{false, true, arith}
 use Rattle.std.proofs.lemmas.Grind.{common_steps}
 use Rattle.wave_base.specs.declared.value.Value.TheVariants as v
 use Rattle.downgrade_views.proofs.Finding.{kept_step}
-use Rattle.downgrade_views.proofs.level.copied.Goals as goal
-use Rattle.downgrade_views.proofs.level.copied.Goals.{then-marks-i+in_ok-copy+in_ok-push, else-marks-i}
+use Rattle.downgrade_views.proofs.level.kept_copies.Goals as goal
+use Rattle.downgrade_views.proofs.level.kept_copies.Goals.{then-marks-i+in_ok-copy+in_ok-push, else-marks-i}
 
 pub loop-i-preserved : goal.loop-i-preserved
 loop-i-preserved c =

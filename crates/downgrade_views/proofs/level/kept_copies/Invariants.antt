@@ -1,6 +1,6 @@
 use Rattle.std.proofs.Common.{◌≡◌, ◌++◌, drop}
 use Rattle.downgrade_views.specs.Levels.{kept_from, kept_level}
-use Rattle.downgrade_views.proofs.level.copied.Given as goal
+use Rattle.downgrade_views.proofs.level.kept_copies.Given as goal
 
 -- the kept ones so far, and those to come
 abbrev pub invariant-loop-i : goal.invariant-loop-i
