@@ -14,7 +14,7 @@ use Rattle.service_code.specs.declared.program.Function.{Function}
 use Rattle.service_code.specs.declared.program.Program.{Program}
 use Rattle.service_code.specs.Listing.{function_name, program_text}
 use Rattle.code_scheme.specs.Programs.{IsTooLong, scheme_program}
-use Rattle.code_views.proofs.SameCode.{same_programs}
+use Rattle.typed_code.proofs.SameCode.{same_programs}
 use Rattle.due_parts.specs.declared.answer.Answer.{Answer}
 use Rattle.due_parts.specs.Coded.{IsCoded}
 use Rattle.due_parts.specs.Answers.{Only, refusal, written}

@@ -12,7 +12,7 @@ use Rattle.context_types.specs.declared.Typed.{Typed}
 use Rattle.service_code.specs.declared.program.Program.{Program}
 use Rattle.code_scheme.specs.Programs.{scheme_program}
 use Rattle.code_scheme.proofs.Made.{program_shape}
-use Rattle.code_views.proofs.SameCode.{same_programs}
+use Rattle.typed_code.proofs.SameCode.{same_programs}
 use Rattle.command_words.specs.declared.command.Crew.{Crew}
 use Rattle.plan_actors.specs.Plans.{Plan}
 use Rattle.wave_labels.specs.declared.label.Label.{Label}

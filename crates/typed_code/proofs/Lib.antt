@@ -6,3 +6,5 @@ pub mod Simple
 pub mod Blocks
 pub mod Functions
 pub mod Services
+pub mod Gives
+pub mod SameCode

@@ -23,7 +23,7 @@ use Rattle.code_scheme.specs.Heights.{tree_height, steps_height, last_height, ph
 use Rattle.code_scheme.specs.Programs.{method_function, event_function, event_functions, numbers_from, functions_with, scheme_program}
 use Rattle.code_scheme.specs.Scheme.{line, gives_in, body_then, tree_code, steps_code, return_code, reply_code, phases_code, method_code, event_code}
 use Rattle.code_scheme.specs.Texts.{Text, with_texts, tree_uses, steps_uses, last_uses, phases_uses, methods_uses, events_uses, service_texts}
-use Rattle.code_views.proofs.Gives.{SameGives, same_tree, same_steps, tall_tree, tall_steps}
+use Rattle.typed_code.proofs.Gives.{SameGives, same_tree, same_steps, tall_tree, tall_steps}
 
 -- ---- the texts
 
