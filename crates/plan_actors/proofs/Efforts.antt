@@ -17,7 +17,7 @@ use Rattle.script_fold.specs.Runs.{after_jobs, whole_run, hosts_after}
 use Rattle.script_fold.proofs.LeftLemmas.{All-drop_head}
 use Rattle.script_fold.proofs.StepLemmas.{any_ticket}
 use Rattle.wave_states.specs.Alone.{run_alone, segments_of, fold_alone, job_after, places_alone}
-use Rattle.wave_states.specs.Work.{Work, moves_away, work_after, work_of_job}
+use Rattle.wave_states.specs.Work.{WorkNumbers, moves_away, work_after, work_of_job}
 use Rattle.wave_theory.proofs.Places.{old_same}
 use Rattle.code_actor.specs.CodeActors as code
 use Rattle.code_actor.specs.CodeActors.{Fields}
@@ -47,7 +47,7 @@ module _ (plan : Plan) (fits : Fits plan) (start : Start) (begins : FitsStart pl
   moves_same ticket hosts tree alike is (Move p h) job = move_same hosts (move_ran tree p h).entered p h (there tree p) (alike p)
   moves_same ticket hosts tree alike is Snapshot job = refl
 
-  one_same : (n : ℕ) (x : Work) (o : Option Line) → next_job (at n).head ≡ o → work_of_job (plan_actors plan.program) (begin_in plan start) plan.script.batches n x o ≡ work_with plan start (at n) x o
+  one_same : (n : ℕ) (x : WorkNumbers) (o : Option Line) → next_job (at n).head ≡ o → work_of_job (plan_actors plan.program) (begin_in plan start) plan.script.batches n x o ≡ work_with plan start (at n) x o
   one_same n x None e = refl
   one_same n x (Some l) e =
       let t : ℕ = suc (start.next.0 - 1) + n in

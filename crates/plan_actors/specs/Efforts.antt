@@ -9,7 +9,7 @@ use Rattle.wave_base.specs.Places.{move_of}
 use Rattle.script_fold.specs.Lines.{line_by, most_jobs}
 use Rattle.script_fold.specs.Runs.{after_jobs, hosts_after}
 use Rattle.wave_states.specs.Begins.{has_moved}
-use Rattle.wave_states.specs.Work.{Work, no_work, moves_away}
+use Rattle.wave_states.specs.Work.{WorkNumbers, no_work, moves_away}
 use Rattle.code_actor.specs.CodeActors.{Fields}
 use Rattle.plan_actors.specs.Calls.{code_ran, segments_on}
 use Rattle.plan_actors.specs.Plans.{Plan, begin_in}
@@ -20,7 +20,7 @@ module _ (plan : Plan) (start : Start) where
   after n = after_jobs (code_ran plan.program) plan.program.shape start plan.script n
 
   -- with one job more, on the tree and over the hosts as they are then
-  abbrev pub work_with : Progress Fields EventResult Line → Work → Option Line → Work
+  abbrev pub work_with : Progress Fields EventResult Line → WorkNumbers → Option Line → WorkNumbers
   work_with w x None = x
   work_with w x (Some l) =
       let ran : Ran Fields EventResult = line_by (code_ran plan.program) (start.next.0 + w.head.done) w.tree l in
@@ -32,12 +32,12 @@ module _ (plan : Plan) (start : Start) where
       }
 
   -- of the first n jobs
-  abbrev pub work_of : ℕ → Work
+  abbrev pub work_of : ℕ → WorkNumbers
   work_of zero = no_work
   work_of (suc n) = work_with (after n) (work_of n) (next_job (after n).head)
 
   -- of all jobs
-  unfoldable pub whole_work : Work
+  unfoldable pub whole_work : WorkNumbers
   whole_work = work_of (most_jobs plan.script.batches)
 
   -- how often a context is sent on at most: once more than the jobs move one where the root begins elsewhere than on host 0

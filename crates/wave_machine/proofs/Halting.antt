@@ -27,7 +27,7 @@ use Rattle.wave_states.specs.Kinds.{Kind}
 use Rattle.wave_states.specs.Labels.{Label}
 use Rattle.wave_states.specs.States.{Entry, Running, Ended}
 use Rattle.wave_states.specs.Steps.{step}
-use Rattle.wave_states.specs.Work.{Work, moves_away, work_after, work_of_job}
+use Rattle.wave_states.specs.Work.{WorkNumbers, moves_away, work_after, work_of_job}
 use Rattle.wave_theory.proofs.Basics.{none_not, some_not, options}
 use Rattle.wave_theory.specs.Hands.{CanStop}
 use Rattle.wave_theory.specs.Trails.{IsTrail, IsUnborn}
@@ -53,7 +53,7 @@ module _ {A F R J : Type 0} (kind : Kind A F R J) (b : Begin F) (batches : List 
       by_test true = omega arith
       by_test false = omega arith
 
-  one_more : (n : ℕ) (x : Work) (o : Option J) → (x.tickets ≤ n) × (x.moves ≤ n) → ((work_of_job kind.system b batches n x o).tickets ≤ suc n) × ((work_of_job kind.system b batches n x o).moves ≤ suc n)
+  one_more : (n : ℕ) (x : WorkNumbers) (o : Option J) → (x.tickets ≤ n) × (x.moves ≤ n) → ((work_of_job kind.system b batches n x o).tickets ≤ suc n) × ((work_of_job kind.system b batches n x o).moves ≤ suc n)
   one_more n x None h = (omega (arith, h.0), omega (arith, h.1))
   one_more n x (Some j) h =
       let tree : Tree F = (fold_alone kind.system b batches n).tree in

@@ -8,13 +8,13 @@ use Rattle.wave_states.specs.Begins.{Begin}
 use Rattle.wave_states.specs.Alone.{run_alone, segments_of, fold_alone, job_after, places_alone}
 
 -- the tickets, their segments, the paths that they entered, and the moves to a host where the context wasn't
-pub record Work : Type 0 where
+pub record WorkNumbers : Type 0 where
   pub tickets : ℕ
   pub segments : ℕ
   pub entered : ℕ
   pub moves : ℕ
 
-abbrev pub no_work : Work
+abbrev pub no_work : WorkNumbers
 no_work = record { tickets = 0; segments = 0; entered = 0; moves = 0 }
 
 -- a move that changes its context's place, where the contexts are there
@@ -23,7 +23,7 @@ moves_away places None = 0
 moves_away places (Some m) = if nat_eq (places.fields m.0) m.1 then 0 else 1
 
 module _ {A F R J : Type 0} (sys : Actors A F R J) (b : Begin F) (batches : List (List J)) where
-  abbrev pub work_of_job : ℕ → Work → Option J → Work
+  abbrev pub work_of_job : ℕ → WorkNumbers → Option J → WorkNumbers
   work_of_job n w None = w
   work_of_job n w (Some j) =
       let tree : Tree F = (fold_alone sys b batches n).tree in
@@ -36,6 +36,6 @@ module _ {A F R J : Type 0} (sys : Actors A F R J) (b : Begin F) (batches : List
       }
 
   -- of the first n jobs
-  abbrev pub work_after : ℕ → Work
+  abbrev pub work_after : ℕ → WorkNumbers
   work_after zero = no_work
   work_after (suc n) = work_of_job n (work_after n) (job_after sys b batches n)

@@ -12,7 +12,7 @@ use Rattle.wave_states.specs.Steps.{child_or_new}
 use Rattle.wave_states.specs.Labels.{Label}
 use Rattle.wave_states.specs.Runs.{run}
 use Rattle.wave_states.specs.Alone.{fold_alone, job_after}
-use Rattle.wave_states.specs.Work.{Work, work_after, work_of_job}
+use Rattle.wave_states.specs.Work.{WorkNumbers, work_after, work_of_job}
 use Rattle.wave_states.specs.Begins.{Begin, start_state, is_root}
 use Rattle.wave_states.specs.Owes.{Owes, IsBegin}
 use Rattle.wave_theory.proofs.Basics.{none_not, options, bool_cases}
@@ -75,7 +75,7 @@ module _ {A F R J : Type 0} (kind : Kind A F R J) (owes : Owes kind) (b : Begin 
   abbrev at : ℕ → Progress F R J
   at n = fold_alone kind.system b batches n
 
-  abbrev work : ℕ → Work
+  abbrev work : ℕ → WorkNumbers
   work n = work_after kind.system b batches n
 
   -- the tickets of the first jobs

@@ -7,7 +7,7 @@ use Rattle.wave_states.specs.States.{State, Entry}
 use Rattle.wave_states.specs.Labels.{Act, Label, Pass, is_pass}
 use Rattle.wave_states.specs.Runs.{Finished}
 use Rattle.wave_states.specs.Alone.{job_after}
-use Rattle.wave_states.specs.Work.{Work, work_after}
+use Rattle.wave_states.specs.Work.{WorkNumbers, work_after}
 use Rattle.wave_states.specs.Begins.{Begin, has_moved}
 use Rattle.wave_theory.specs.Numbers.{HasEntry}
 
@@ -22,7 +22,7 @@ passed [] = 0
 passed (l ∷ ls) = if is_pass l.act then suc (passed ls) else passed ls
 
 -- two for each ticket, three for each segment, two for each context that a ticket enters
-abbrev pub size : Work → ℕ
+abbrev pub size : WorkNumbers → ℕ
 size x = 2 * x.tickets + 3 * x.segments + 2 * x.entered
 
 module _ {A F R J : Type 0} (kind : Kind A F R J) where
@@ -42,7 +42,7 @@ passed_to t p [] = 0
 passed_to t p (l ∷ ls) = if is_pass_of t p l.act then suc (passed_to t p ls) else passed_to t p ls
 
 -- how often a context is sent on at most: as often as the jobs move one, and once more where the root does not begin on host 0
-abbrev pub most_moves : {F : Type 0} → Begin F → Work → ℕ
+abbrev pub most_moves : {F : Type 0} → Begin F → WorkNumbers → ℕ
 most_moves b x = x.moves + (if has_moved b [] then 1 else 0)
 
 module _ {A F R J : Type 0} (kind : Kind A F R J) where

@@ -9,7 +9,7 @@ use Rattle.wave_states.specs.Kinds.{Kind}
 use Rattle.wave_states.specs.States.{State}
 use Rattle.wave_states.specs.Labels.{Label}
 use Rattle.wave_states.specs.Alone.{run_alone, job_after}
-use Rattle.wave_states.specs.Work.{Work, work_after}
+use Rattle.wave_states.specs.Work.{WorkNumbers, work_after}
 use Rattle.wave_states.specs.Begins.{Begin}
 use Rattle.wave_states.specs.Owes.{IsBegin}
 use Rattle.wave_theory.specs.Counted.{size, most_moves}
@@ -19,7 +19,7 @@ abbrev pub worth_of : {J : Type 0} → (J → ℕ) → List (List J) → ℕ
 worth_of worth batches = sum_by (sum_by worth) batches
 
 -- so many labels may be taken for so much work
-abbrev pub most_labels : {F : Type 0} → Begin F → Work → ℕ
+abbrev pub most_labels : {F : Type 0} → Begin F → WorkNumbers → ℕ
 most_labels b x = size x + x.entered * most_moves b x
 
 module _ {A F R J : Type 0} (kind : Kind A F R J) where

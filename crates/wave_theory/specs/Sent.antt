@@ -8,7 +8,7 @@ use Rattle.wave_base.specs.Tree.{Tree}
 use Rattle.wave_states.specs.Kinds.{Kind}
 use Rattle.wave_states.specs.States.{State, Ask, Claim, Entry, Event, Mail, Mark, Record, Ended, Enter}
 use Rattle.wave_states.specs.Alone.{run_alone, segments_of, fold_alone, job_after}
-use Rattle.wave_states.specs.Work.{Work, work_after}
+use Rattle.wave_states.specs.Work.{WorkNumbers, work_after}
 use Rattle.wave_states.specs.Begins.{Begin}
 use Rattle.wave_theory.specs.Numbers.{HasEntry}
 use Rattle.wave_theory.specs.Counted.{most_moves}
@@ -32,7 +32,7 @@ module _ {A F R J : Type 0} (kind : Kind A F R J) where
   Sent b batches s = (index : ℕ) (event : Event A) → (s.cells (suc b.before + index)).event ≡ Some event → IsSent b batches index event
 
   -- no number of the state is larger than this much work has it
-  pub record IsWithin (b : Begin F) (s : State A F R J) (x : Work) : Type 0 where
+  pub record IsWithin (b : Begin F) (s : State A F R J) (x : WorkNumbers) : Type 0 where
     pub admitted : s.admitted ≤ x.tickets
     pub known : length s.head.known ≤ x.tickets
     pub sent : (t : ℕ) (event : Event A) → (s.cells t).event ≡ Some event → event.sent ≤ x.segments + x.entered

@@ -3,7 +3,7 @@ use Rattle.wave_base.specs.declared.outcome.EventResult.{EventResult}
 use Rattle.wave_base.specs.declared.script.Line.{Line}
 use Rattle.wave_base.specs.Fold.{Progress, next_job}
 use Rattle.script_fold.specs.Lines.{most_jobs}
-use Rattle.wave_states.specs.Work.{Work}
+use Rattle.wave_states.specs.Work.{WorkNumbers}
 use Rattle.wave_theory.specs.Counted.{size, passed, most_moves}
 use Rattle.code_actor.specs.CodeActors.{Fields}
 use Rattle.plan_actors.specs.Plans.{Setting, begin_in}
@@ -16,7 +16,7 @@ use Rattle.plan_actors.proofs.laws.runs_are_short.Goals as goal
 pub returns-clause-most : goal.returns-clause-most
 returns-clause-most c = λ plan start fits begins labels s run.
     let k : Setting = setting_of plan.program fits.fit fits.verified plan.script.hosts in
-    subst (λ (x : Work). length labels ≤ size x + x.entered * most_moves (begin_in plan start) x) (work_same plan fits start begins (most_jobs plan.script.batches) ∙ sym (whole_is plan fits start begins))
+    subst (λ (x : WorkNumbers). length labels ≤ size x + x.entered * most_moves (begin_in plan start) x) (work_same plan fits start begins (most_jobs plan.script.batches) ∙ sym (whole_is plan fits start begins))
     ((c.bounded.ensures k plan.workers (begin_in plan start) plan.script.batches (begin_fits plan fits start begins) (plan_fits plan fits) labels s run).within (most_jobs plan.script.batches) (none_after plan fits start begins))
 
 pub returns-clause-finished : goal.returns-clause-finished
@@ -28,4 +28,4 @@ returns-clause-finished c = λ plan start fits begins labels s run finished.
     (c.results.ensures k plan.workers (begin_in plan start) plan.script.batches (begin_fits plan fits start begins) (plan_fits plan fits) labels s run)
     (c.loads.ensures k plan.workers (begin_in plan start) plan.script.batches (begin_fits plan fits start begins) (plan_fits plan fits) labels s run finished) in
     (c.bounded.ensures k plan.workers (begin_in plan start) plan.script.batches (begin_fits plan fits start begins) (plan_fits plan fits) labels s run).exactly finished
-    ∙ ap (λ (x : Work). size x + passed labels) (work_same plan fits start begins s.head.done ∙ work_over plan fits start begins s.head.done (ap (λ (w : Progress Fields EventResult Line). next_job w.head) (sym (folds_meet plan fits start begins s.head.done)) ∙ none))
+    ∙ ap (λ (x : WorkNumbers). size x + passed labels) (work_same plan fits start begins s.head.done ∙ work_over plan fits start begins s.head.done (ap (λ (w : Progress Fields EventResult Line). next_job w.head) (sym (folds_meet plan fits start begins s.head.done)) ∙ none))
