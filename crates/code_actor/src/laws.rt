@@ -1,6 +1,6 @@
 //! Laws of the events of fit verified programs: each is the contract of a function that does nothing.
 
-ghost use Rattle.std.specs.Prelude.{◌≡◌, ℕ, suc, None};
+ghost use Rattle.std.specs.Prelude.{ℕ};
 ghost use Rattle.wave_base.specs.declared.call.Call.{Call};
 ghost use Rattle.wave_base.specs.Tree.{Tree};
 ghost use Rattle.service_code.specs.declared.program.Program.{Program};
@@ -8,12 +8,12 @@ ghost use Rattle.service_verify.specs.Copies.{trip_after, first_trip};
 ghost use Rattle.service_verify.specs.Fit.{IsFit};
 ghost use Rattle.service_verify.specs.Points.{IsVerified};
 ghost use Rattle.service_verify.specs.Standing.{HasFields, HasTree};
-ghost use Rattle.service_verify.specs.Tours.{tour_after, first_tour, code_tour};
+ghost use Rattle.service_verify.specs.Tours.{code_tour};
 ghost use Rattle.wave_states.specs.Alone.{after_segments, first_alone, run_alone, segments_of};
 ghost use Rattle.wave_states.specs.Owes.{Owes};
 ghost use Rattle.code_actor.specs.CodeActors.{code_kind, Fields, code_actors, IsJob, IsFine};
 ghost use Rattle.code_actor.specs.Follows.{Follows, IsWhole};
-ghost use Rattle.code_actor.specs.Locks.{Locks};
+ghost use Rattle.code_actor.specs.Locks.{KeepsLocks};
 
 /// Events keep the tree protocol: they owe all that the machine asks of an actor, however many hosts there are.
 pub fn events_owe()
@@ -22,7 +22,7 @@ pub fn events_owe()
 
 /// An event enters a context only while it holds the one above, and none twice; and what it gave up it never holds again.
 pub fn events_lock()
-    ensures { (program : Program) (call : Call) (tree : Tree Fields) → IsFit program → IsVerified program → IsJob program call → HasTree program tree → (n : ℕ) → (tour_after program n (first_tour program call tree)).result ≡ None → Locks (tour_after program n (first_tour program call tree)) (tour_after program (suc n) (first_tour program call tree)) }
+    ensures { (program : Program) (call : Call) (tree : Tree Fields) → IsFit program → IsVerified program → IsJob program call → HasTree program tree → KeepsLocks program call tree }
 {}
 
 /// After any number of segments an event alone is where its code has led it, and it holds and has entered the same paths.

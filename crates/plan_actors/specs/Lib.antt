@@ -4,3 +4,4 @@ pub mod Finishing
 pub mod PlanActors
 pub mod Plans
 pub mod Renamed
+pub mod Runs

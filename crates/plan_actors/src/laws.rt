@@ -1,6 +1,6 @@
 //! Laws of the actors of a plan: each is the contract of a function that does nothing.
 
-ghost use Rattle.std.specs.Prelude.{◌≡◌, ◌≢◌, ◌↔◌, ◌≤◌, ◌+◌, ◌^◌, ℕ, suc, List, length, sum_by, Some, None};
+ghost use Rattle.std.specs.Prelude.{◌≡◌, ◌≢◌, ◌↔◌, ◌≤◌, ◌+◌, ◌^◌, ℕ, suc, length, sum_by, None};
 ghost use Rattle.wave_base.specs.declared.finished.Finished.{Finished};
 ghost use Rattle.wave_base.specs.declared.outcome.EventResult.{EventResult};
 ghost use Rattle.wave_base.specs.declared.script.Line.{Line};
@@ -13,11 +13,8 @@ ghost use Rattle.service_code.specs.declared.program.Program.{Program};
 ghost use Rattle.service_verify.specs.Fit.{IsFit};
 ghost use Rattle.service_verify.specs.Points.{IsVerified};
 ghost use Rattle.wave_states.specs.Alone.{run_alone, segments_of, fold_alone, job_after, places_alone};
-ghost use Rattle.wave_states.specs.Begins.{start_state};
-ghost use Rattle.wave_states.specs.Labels.{Label};
 ghost use Rattle.wave_states.specs.Owes.{Owes, IsBegin, IsPlan};
 ghost use Rattle.wave_states.specs.Runs as runs;
-ghost use Rattle.wave_states.specs.States.{State};
 ghost use Rattle.wave_states.specs.Work.{work_after};
 ghost use Rattle.wave_theory.specs.Counted.{passed};
 ghost use Rattle.wave_theory.specs.Drives.{Picks, HasDrive};
@@ -28,6 +25,7 @@ ghost use Rattle.plan_actors.specs.Efforts.{work_of, whole_work, least_labels, m
 ghost use Rattle.plan_actors.specs.Finishing.{Tells};
 ghost use Rattle.plan_actors.specs.PlanActors.{Actor, plan_actors, plan_kind};
 ghost use Rattle.plan_actors.specs.Plans.{Plan, Fits, FitsStart, begin_in};
+ghost use Rattle.plan_actors.specs.Runs.{OfRuns, OfWholeRuns};
 
 use crate::actors::PlanActors;
 use wave_theory::{bounded, complete, driven, loads, results, tickets};
@@ -70,7 +68,8 @@ pub fn folds_meet()
 /// It is over after as many jobs as the lines may make at most; and where it is over it is the script's whole run.
 pub fn folds_end()
     ensures most { (plan : Plan) (start : Start) → Fits plan → FitsStart plan start → job_after (plan_actors plan.program) (begin_in plan start) plan.script.batches (most_jobs plan.script.batches) ≡ None }
-    ensures whole { (plan : Plan) (start : Start) (n : ℕ) → Fits plan → FitsStart plan start → job_after (plan_actors plan.program) (begin_in plan start) plan.script.batches n ≡ None → fold_alone (plan_actors plan.program) (begin_in plan start) plan.script.batches n ≡ whole_run (code_ran plan.program) plan.program.shape start plan.script }
+    ensures whole { (plan : Plan) (start : Start) (n : ℕ) → Fits plan → FitsStart plan start → job_after (plan_actors plan.program) (begin_in plan start) plan.script.batches n ≡ None
+        → fold_alone (plan_actors plan.program) (begin_in plan start) plan.script.batches n ≡ whole_run (code_ran plan.program) plan.program.shape start plan.script }
 {}
 
 /// The jobs that are known, and the lines that are still to come, have tickets of 32 bits.
@@ -88,7 +87,7 @@ pub fn work_is()
 /// What a finished state tells is exactly what the script gives with calls run by their code: results, tickets of created calls, names,
 /// places, shots and loads.
 pub fn finished_states_tell()
-    ensures { (plan : Plan) (start : Start) → Fits plan → FitsStart plan start → (labels : List Label) (s : State Actor Fields EventResult Line) → runs.run (plan_actors plan.program) plan.workers (start_state (begin_in plan start) plan.script.batches) labels ≡ Some s → runs.Finished (plan_actors plan.program) plan.workers s → (f : Finished) → Tells s start plan.script.batches f ↔ (f ≡ finished_of (code_ran plan.program) plan.program.shape start plan.script) }
+    ensures { OfWholeRuns (λ plan start labels s. (f : Finished) → Tells s start plan.script.batches f ↔ (f ≡ finished_of (code_ran plan.program) plan.program.shape start plan.script)) }
 {
     complete::<PlanActors>();
     loads::<PlanActors>();
@@ -98,8 +97,8 @@ pub fn finished_states_tell()
 
 /// A run has at most 2T + 3S + 2E + E * M labels, and a finished one 2T + 3S + 2E besides its Passes.
 pub fn runs_are_short()
-    ensures most { (plan : Plan) (start : Start) → Fits plan → FitsStart plan start → (labels : List Label) (s : State Actor Fields EventResult Line) → runs.run (plan_actors plan.program) plan.workers (start_state (begin_in plan start) plan.script.batches) labels ≡ Some s → length labels ≤ most_labels plan start }
-    ensures finished { (plan : Plan) (start : Start) → Fits plan → FitsStart plan start → (labels : List Label) (s : State Actor Fields EventResult Line) → runs.run (plan_actors plan.program) plan.workers (start_state (begin_in plan start) plan.script.batches) labels ≡ Some s → runs.Finished (plan_actors plan.program) plan.workers s → length labels ≡ least_labels plan start + passed labels }
+    ensures most { OfRuns (λ plan start labels s. length labels ≤ most_labels plan start) }
+    ensures finished { OfWholeRuns (λ plan start labels s. length labels ≡ least_labels plan start + passed labels) }
 {
     bounded::<PlanActors>();
     complete::<PlanActors>();

@@ -1,10 +1,8 @@
 //! Laws of plans whose program is the code of a service: each is the contract of a function that does nothing.
 
-ghost use Rattle.std.specs.Prelude.{◌≡◌, ◌≤◌, ◌-◌, ◌^◌, ◌↔◌, List, Some, length, suc};
+ghost use Rattle.std.specs.Prelude.{◌≡◌, ◌≤◌, ◌-◌, ◌^◌, ◌↔◌, List, length, suc};
 ghost use Rattle.wave_base.specs.declared.call.Call.{Call};
 ghost use Rattle.wave_base.specs.declared.finished.Finished.{Finished};
-ghost use Rattle.wave_base.specs.declared.outcome.EventResult.{EventResult};
-ghost use Rattle.wave_base.specs.declared.script.Line.{Line};
 ghost use Rattle.wave_base.specs.declared.script.Script.{Script};
 ghost use Rattle.wave_base.specs.declared.start.Start.{Start};
 ghost use Rattle.wave_base.specs.Scripts.{IsScript};
@@ -18,16 +16,13 @@ ghost use Rattle.script_fold.specs.Runs.{finished_of, IsFew};
 ghost use Rattle.service_code.specs.declared.program.Program.{Program};
 ghost use Rattle.service_verify.specs.Tours.{code_tour};
 ghost use Rattle.wave_meaning.specs.Meaning.{call_ran, results_at, IsWholeAt};
-ghost use Rattle.wave_states.specs.Begins.{start_state};
 ghost use Rattle.wave_states.specs.Labels.{Label};
-ghost use Rattle.wave_states.specs.Runs as runs;
-ghost use Rattle.wave_states.specs.States.{State};
 ghost use Rattle.code_actor.specs.CodeActors.{Fields};
 ghost use Rattle.code_runner.specs.Coded.{IsCode, IsTree, IsJob};
 ghost use Rattle.plan_actors.specs.Calls.{code_ran};
 ghost use Rattle.plan_actors.specs.Finishing.{Tells};
-ghost use Rattle.plan_actors.specs.PlanActors.{Actor, plan_actors};
-ghost use Rattle.plan_actors.specs.Plans.{Plan, Fits, FitsStart, begin_in};
+ghost use Rattle.plan_actors.specs.Plans.{Plan, Fits, FitsStart};
+ghost use Rattle.plan_actors.specs.Runs.{IsOver, IsRunTo, PlanState};
 
 use plan_actors::finished_states_tell;
 
@@ -50,7 +45,8 @@ pub fn plans_end()
 
 /// What a finished state of the machine tells is exactly what the script means for the service.
 pub fn finished_states_mean()
-    ensures { (service : Resolved) (plan : Plan) (start : Start) → IsCode service plan.program → Fits plan → FitsStart plan start → (labels : List Label) (s : State Actor Fields EventResult Line) → runs.run (plan_actors plan.program) plan.workers (start_state (begin_in plan start) plan.script.batches) labels ≡ Some s → runs.Finished (plan_actors plan.program) plan.workers s → (f : Finished) → Tells s start plan.script.batches f ↔ (f ≡ results_at plan.program.shape service start plan.script) }
+    ensures { (service : Resolved) (plan : Plan) (start : Start) → IsCode service plan.program → Fits plan → FitsStart plan start → (labels : List Label) (s : PlanState) → IsRunTo plan start labels s → IsOver plan s
+        → (f : Finished) → Tells s start plan.script.batches f ↔ (f ≡ results_at plan.program.shape service start plan.script) }
 {
     finished_states_tell();
 }

@@ -38,7 +38,8 @@ pub fn instructions_meet_the_rules()
 
 /// Two lists of levels that agree on the kept fields give the same segment.
 pub fn kept_fields_are_enough()
-    ensures { (program : Program) (p : Path) (n : ℕ) (b : Box) (levels others : List Level) (fields : List Value) → IsFit program → IsVerified program → RunsAt program p n b → HasLevels program p levels → Agree program p levels others → HasFields program.shape p fields → segment program levels b fields ≡ segment program others b fields }
+    ensures { (program : Program) (p : Path) (n : ℕ) (b : Box) (levels others : List Level) (fields : List Value) → IsFit program → IsVerified program → RunsAt program p n b → HasLevels program p levels → Agree program p levels others → HasFields program.shape p fields
+        → segment program levels b fields ≡ segment program others b fields }
 {}
 
 /// A segment of a peeking event leaves the context's fields as they are, and ends the event.

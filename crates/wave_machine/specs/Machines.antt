@@ -18,7 +18,6 @@ use Rattle.wave_states.specs.States as theory
 use Rattle.wave_states.specs.States.{State, Event, Hand}
 use Rattle.wave_states.specs.Desks.{Desk}
 use Rattle.wave_states.specs.Steps.{step}
-use Rattle.wave_states.specs.Begins.{start_state}
 use Rattle.wave_states.specs.Labels.{Label}
 use Rattle.wave_states.specs.Runs.{run}
 use Rattle.wave_theory.specs.Agree.{Agree}
@@ -27,6 +26,7 @@ use Rattle.code_actor.specs.CodeActors.{Fields}
 use Rattle.plan_actors.specs.PlanActors as actors
 use Rattle.plan_actors.specs.PlanActors.{plan_actors, plan_kind}
 use Rattle.plan_actors.specs.Plans.{Plan, Fits, FitsStart, begin_in}
+use Rattle.plan_actors.specs.Runs.{IsRunTo}
 use Rattle.wave_machine.specs.declared.actor.Actor.{Actor}
 use Rattle.wave_machine.specs.declared.kept.Out.{Out}
 use Rattle.wave_machine.specs.declared.kept.Settled.{Settled}
@@ -126,7 +126,7 @@ module _ (m : Kept) (s : TheState) where
 
 -- what is known of a state that labels lead to
 abbrev pub IsReached : Plan → Start → List Label → TheState → Type 0
-IsReached plan start labels s = run (plan_actors plan.program) plan.workers (start_state (begin_in plan start) plan.script.batches) labels ≡ Some s
+IsReached plan start labels s = IsRunTo plan start labels s
 
 -- The machine stands for a state that some list of labels leads to from what a Start says; plan and Start fit.
 pub record Stands (m : Kept) (start : Start) (s : TheState) : Type 0 where

@@ -2,11 +2,10 @@
 
 ghost use Rattle.std.specs.Prelude.{◌≡◌, ℕ, Some, None, map, slice_get};
 ghost use Rattle.wave_base.specs.declared.start.Start.{Start};
-ghost use Rattle.wave_states.specs.Canonical.{enabled_for, taken_as};
-ghost use Rattle.plan_actors.specs.PlanActors.{plan_actors};
+ghost use Rattle.wave_states.specs.Canonical.{taken_as};
 ghost use Rattle.wave_machine.specs.Machines.{Stands, TheState};
 ghost use Rattle.wave_machine.specs.Picks.{IsOneOf};
-ghost use Rattle.wave_machine.specs.Readies.{choice_of, ready_in};
+ghost use Rattle.wave_machine.specs.Readies.{choice_of, enabled_by, ready_in};
 ghost use Rattle.wave_machine.specs.inner.Index.{IsListed, IsPickOf};
 
 use crate::index::place;
@@ -24,7 +23,7 @@ impl<'p> Listed<'p> {
     pub(crate) fn ready(&self) -> &[Ready]
         requires { IsListed self.now }
         ensures ready { (start : Start) (s : TheState) → Stands (kept_of self.now.engine) start s → map choice_of result.now ≡ ready_in (kept_of self.now.engine).plan s }
-        ensures taken { (w : ℕ) (start : Start) (s : TheState) → slice_get self.now.engine.hands.items w ≡ Some None → Stands (kept_of self.now.engine) start s → map (λ r. taken_as w (choice_of r)) result.now ≡ enabled_for (plan_actors (kept_of self.now.engine).plan.program) (kept_of self.now.engine).plan.workers (kept_of self.now.engine).plan.script.hosts s w }
+        ensures taken { (w : ℕ) (start : Start) (s : TheState) → slice_get self.now.engine.hands.items w ≡ Some None → Stands (kept_of self.now.engine) start s → map (λ r. taken_as w (choice_of r)) result.now ≡ enabled_by (kept_of self.now.engine).plan s w }
     {
         states_list();
         self.index.as_slice()
@@ -35,7 +34,7 @@ impl<'p> Listed<'p> {
     pub(crate) fn some_for(&self, worker: Worker) -> Option<Label>
         requires listed { IsListed self.now }
         requires idle { slice_get self.now.engine.hands.items worker.0 ≡ Some None }
-        ensures { (start : Start) (s : TheState) → Stands (kept_of self.now.engine) start s → IsOneOf (enabled_for (plan_actors (kept_of self.now.engine).plan.program) (kept_of self.now.engine).plan.workers (kept_of self.now.engine).plan.script.hosts s worker.0) result }
+        ensures { (start : Start) (s : TheState) → Stands (kept_of self.now.engine) start s → IsOneOf (enabled_by (kept_of self.now.engine).plan s worker.0) result }
     {
         states_list();
         match one_of_last(&self.index) {

@@ -12,13 +12,13 @@ ghost use Rattle.plan_actors.specs.Plans.{Fits, FitsStart, begin_in};
 ghost use Rattle.wave_machine.specs.Plans.{plan_of};
 ghost use Rattle.wave_machine.specs.declared.rules.PickRule.TheVariants as rule;
 ghost use Rattle.wave_labels.specs.Labels.{label_of};
-ghost use Rattle.wave_states.specs.Canonical.{enabled};
 ghost use Rattle.wave_states.specs.Labels.{Stop};
 ghost use Rattle.plan_actors.specs.PlanActors.{plan_actors};
 ghost use Rattle.wave_machine.specs.Keeping.{kept_of};
 ghost use Rattle.wave_machine.specs.Lengths.{IsMeasured};
 ghost use Rattle.wave_machine.specs.Machines.{Stands, TheState};
 ghost use Rattle.wave_machine.specs.Prepared.{is_start, is_step};
+ghost use Rattle.wave_machine.specs.Readies.{enabled_in};
 ghost use Rattle.wave_machine.specs.Rules.{number_of, rule_of};
 ghost use Rattle.wave_machine.specs.inner.Driving.{IsTaking, Leads, first_state};
 ghost use Rattle.wave_machine.specs.inner.Index.{IsListed};
@@ -46,14 +46,14 @@ use wave_theory::{empty_at_end, rules_pick};
 fn next(listed: &Listed, rule: PickRule, draw: &mut u64) -> Result<Option<Label>, OutOfMemory>
     requires stands { (start : start.Start) × (s : TheState) × Stands (kept_of listed.now.engine) start s }
     requires listed { IsListed listed.now }
-    ensures { IfOk result (λ o. (start : start.Start) (s : TheState) → Stands (kept_of listed.now.engine) start s → rule_of rule draw.old s (enabled (plan_actors (kept_of listed.now.engine).plan.program) (kept_of listed.now.engine).plan.workers (kept_of listed.now.engine).plan.script.hosts s) ≡ (draw.new, option_map label_of o)) }
+    ensures { IfOk result (λ o. (start : start.Start) (s : TheState) → Stands (kept_of listed.now.engine) start s → rule_of rule draw.old s (enabled_in (kept_of listed.now.engine).plan s) ≡ (draw.new, option_map label_of o)) }
 {
     let labels = listed.enabled()?;
     Ok(pick(&listed.engine, rule, draw, labels.as_slice()))
 }
 
 fn pick(engine: &Engine, rule: PickRule, draw: &mut u64, labels: &[Label]) -> Option<Label>
-    ensures { (start : start.Start) (s : TheState) → Stands (kept_of engine.now) start s → map label_of labels.now ≡ enabled (plan_actors (kept_of engine.now).plan.program) (kept_of engine.now).plan.workers (kept_of engine.now).plan.script.hosts s → rule_of rule draw.old s (map label_of labels.now) ≡ (draw.new, option_map label_of result) }
+    ensures { (start : start.Start) (s : TheState) → Stands (kept_of engine.now) start s → map label_of labels.now ≡ enabled_in (kept_of engine.now).plan s → rule_of rule draw.old s (map label_of labels.now) ≡ (draw.new, option_map label_of result) }
 {
     states_are_known();
     states_drive();

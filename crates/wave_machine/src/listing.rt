@@ -4,11 +4,10 @@ ghost use Rattle.std.specs.Prelude.{◌≡◌, ◌≤◌, ◌<◌, ◌+◌, ◌-
 ghost use Rattle.wave_base.specs.declared.start.Start.{Start};
 ghost use Rattle.wave_base.specs.Fold.{tickets_from};
 ghost use Rattle.wave_labels.specs.Labels.{label_of};
-ghost use Rattle.wave_states.specs.Canonical.{enabled, enabled_for, taken_as};
-ghost use Rattle.plan_actors.specs.PlanActors.{plan_actors};
+ghost use Rattle.wave_states.specs.Canonical.{taken_as};
 ghost use Rattle.wave_machine.specs.Keeping.{kept_of};
 ghost use Rattle.wave_machine.specs.Machines.{Stands, TheState};
-ghost use Rattle.wave_machine.specs.Readies.{choice_of};
+ghost use Rattle.wave_machine.specs.Readies.{choice_of, enabled_by, enabled_in};
 ghost use Rattle.wave_machine.specs.inner.Asking.{asked_in, by_taker, in_order, stop_labels, stops_labels, IsListable};
 ghost use Rattle.wave_machine.specs.inner.Done.{AreDone};
 ghost use Rattle.wave_machine.specs.inner.Index.{IsListed};
@@ -34,7 +33,7 @@ impl<'p> Listed<'p> {
     pub(crate) fn enabled(&self) -> Result<Seq<Label>, OutOfMemory>
         requires stands { (start : Start) × (s : TheState) × Stands (kept_of self.now.engine) start s }
         requires listed { IsListed self.now }
-        ensures { IfOk result (λ ls. (start : Start) (s : TheState) → Stands (kept_of self.now.engine) start s → map label_of ls ≡ enabled (plan_actors (kept_of self.now.engine).plan.program) (kept_of self.now.engine).plan.workers (kept_of self.now.engine).plan.script.hosts s) }
+        ensures { IfOk result (λ ls. (start : Start) (s : TheState) → Stands (kept_of self.now.engine) start s → map label_of ls ≡ enabled_in (kept_of self.now.engine).plan s) }
     {
         states_are_known();
         heads_are_known();
@@ -51,7 +50,7 @@ impl<'p> Listed<'p> {
     pub(crate) fn enabled_for(&self, worker: Worker) -> Result<Seq<Label>, OutOfMemory>
         requires stands { (start : Start) × (s : TheState) × Stands (kept_of self.now.engine) start s }
         requires listed { IsListed self.now }
-        ensures { IfOk result (λ ls. (start : Start) (s : TheState) → Stands (kept_of self.now.engine) start s → map label_of ls ≡ enabled_for (plan_actors (kept_of self.now.engine).plan.program) (kept_of self.now.engine).plan.workers (kept_of self.now.engine).plan.script.hosts s worker.0) }
+        ensures { IfOk result (λ ls. (start : Start) (s : TheState) → Stands (kept_of self.now.engine) start s → map label_of ls ≡ enabled_by (kept_of self.now.engine).plan s worker.0) }
     {
         states_are_known();
         heads_are_known();

@@ -4,7 +4,7 @@ ghost use Rattle.wave_base.specs.declared.start.Start.{Start};
 ghost use Rattle.wave_base.specs.Starts.{first_start};
 ghost use Rattle.wave_labels.specs.Labels.{label_of};
 ghost use Rattle.wave_states.specs.Begins.{start_state};
-ghost use Rattle.wave_states.specs.Canonical.{enabled, enabled_for, taken_as};
+ghost use Rattle.wave_states.specs.Canonical.{taken_as};
 ghost use Rattle.wave_states.specs.Runs as runs;
 ghost use Rattle.wave_states.specs.Steps.{step};
 ghost use Rattle.plan_actors.specs.Calls.{code_ran};
@@ -17,7 +17,7 @@ ghost use Rattle.wave_machine.specs.Prepared.{IsStood, is_start, is_step};
 ghost use Rattle.wave_machine.specs.Running.{CanStop, IsStopping, Leases, Stops, stop_of};
 ghost use Rattle.wave_machine.specs.Actors.{MayRun};
 ghost use Rattle.wave_machine.specs.Picks.{IsOneOf};
-ghost use Rattle.wave_machine.specs.Readies.{choice_of, ready_in};
+ghost use Rattle.wave_machine.specs.Readies.{choice_of, enabled_by, enabled_in, ready_in};
 ghost use Rattle.wave_machine.specs.Showing.{IsLineOf};
 
 use crate::glance::Glance;
@@ -95,21 +95,21 @@ impl<'p> Machine<'p> {
     /// label, and takes no memory.
     pub fn index(&self) -> &[Ready]
         ensures ready { (start : Start) (s : TheState) → Stands self.now.kept start s → map choice_of result.now ≡ ready_in self.now.kept.plan s }
-        ensures taken { (w : ℕ) (start : Start) (s : TheState) → slice_get self.now.kept.hands w ≡ Some None → Stands self.now.kept start s → map (λ r. taken_as w (choice_of r)) result.now ≡ enabled_for (plan_actors self.now.kept.plan.program) self.now.kept.plan.workers self.now.kept.plan.script.hosts s w }
+        ensures taken { (w : ℕ) (start : Start) (s : TheState) → slice_get self.now.kept.hands w ≡ Some None → Stands self.now.kept start s → map (λ r. taken_as w (choice_of r)) result.now ≡ enabled_by self.now.kept.plan s w }
     {
         self.listed.ready()
     }
 
     /// What can be done, in the canonical order: all but the Stops by the lowest idle worker.
     pub fn enabled(&self) -> Result<Seq<Label>, OutOfMemory>
-        ensures { IfOk result (λ ls. (start : Start) (s : TheState) → Stands self.now.kept start s → map label_of ls ≡ enabled (plan_actors self.now.kept.plan.program) self.now.kept.plan.workers self.now.kept.plan.script.hosts s) }
+        ensures { IfOk result (λ ls. (start : Start) (s : TheState) → Stands self.now.kept start s → map label_of ls ≡ enabled_in self.now.kept.plan s) }
     {
         self.listed.enabled()
     }
 
     /// What a worker can do, in the same order. For a worker past the plan's number there is nothing.
     pub fn enabled_for(&self, worker: Worker) -> Result<Seq<Label>, OutOfMemory>
-        ensures { IfOk result (λ ls. (start : Start) (s : TheState) → Stands self.now.kept start s → map label_of ls ≡ enabled_for (plan_actors self.now.kept.plan.program) self.now.kept.plan.workers self.now.kept.plan.script.hosts s worker.0) }
+        ensures { IfOk result (λ ls. (start : Start) (s : TheState) → Stands self.now.kept start s → map label_of ls ≡ enabled_by self.now.kept.plan s worker.0) }
     {
         self.listed.enabled_for(worker)
     }
@@ -117,7 +117,7 @@ impl<'p> Machine<'p> {
     /// One of what a worker can do that has no segment out, read off the index, without memory; none where there is nothing.
     pub fn some_for(&self, worker: Worker) -> Option<Label>
         requires { slice_get self.now.kept.hands worker.0 ≡ Some None }
-        ensures { (start : Start) (s : TheState) → Stands self.now.kept start s → IsOneOf (enabled_for (plan_actors self.now.kept.plan.program) self.now.kept.plan.workers self.now.kept.plan.script.hosts s worker.0) result }
+        ensures { (start : Start) (s : TheState) → Stands self.now.kept start s → IsOneOf (enabled_by self.now.kept.plan s worker.0) result }
     {
         self.listed.some_for(worker)
     }
