@@ -36,13 +36,20 @@ pub fn plan_moves(
     ensures places { IfOk result (FollowsInTree (zip places.now loads.now)) }
 {
     match *policy {
-        Policy::Balance(most) => balanced(alloc, places.as_slice(), loads.as_slice(), hosts, most),
-        Policy::Drain(from, to) => drained(alloc, places.as_slice(), from, to),
+        Policy::Balance(most) => {
+            balance_moves(alloc, places.as_slice(), loads.as_slice(), hosts, most)
+        }
+        Policy::Drain(from, to) => drain_moves(alloc, places.as_slice(), from, to),
     }
 }
 
 // A drain asks for no loads.
-fn drained(alloc: Global, places: &[Place], from: Host, to: Host) -> Result<Seq<Line>, OutOfMemory>
+fn drain_moves(
+    alloc: Global,
+    places: &[Place],
+    from: Host,
+    to: Host,
+) -> Result<Seq<Line>, OutOfMemory>
     ensures { IfOk result (λ ms. ms ≡ drained_moves from.0 to.0 places.now) }
 {
     let on_host = places.iter().filter(|place| place.host == from);
@@ -51,7 +58,7 @@ fn drained(alloc: Global, places: &[Place], from: Host, to: Host) -> Result<Seq<
 }
 
 // At each move the host of its context is written, and the loads of two hosts.
-fn balanced(
+fn balance_moves(
     alloc: Global,
     places: &[Place],
     loads: &[u64],

@@ -14,48 +14,48 @@ pub returns-in-Balance-clause-fits : goal.returns-in-Balance-clause-fits
 returns-in-Balance-clause-fits c =
     let same = ap (λ (ps : List Place). balance c.args.hosts c.in-Balance.most (zip ps c.as_slice-in-Balance.result.now)) c.as_slice.ensures
     ∙ ap (λ (ls : List ℕ). balance c.args.hosts c.in-Balance.most (zip c.args.places.now ls)) c.as_slice-in-Balance.ensures in
-    IfOk-weaker c.balanced.result (λ (ms : List Line). ms ≡ balance c.args.hosts c.in-Balance.most (zip c.as_slice.result.now c.as_slice-in-Balance.result.now)) (FitsScript c.args.hosts c.args.places.now)
+    IfOk-weaker c.balance_moves.result (λ (ms : List Line). ms ≡ balance c.args.hosts c.in-Balance.most (zip c.as_slice.result.now c.as_slice-in-Balance.result.now)) (FitsScript c.args.hosts c.args.places.now)
     (λ ms e. balanced_fits c.args.hosts c.in-Balance.most c.args.policy.now c.args.places.now c.args.loads.now ms c.in-Balance.is c.requires.paired c.requires.some_host c.requires.policy (e ∙ same))
-    c.balanced.ensures
+    c.balance_moves.ensures
 
 pub returns-in-Balance-clause-even : goal.returns-in-Balance-clause-even
 returns-in-Balance-clause-even c =
     let same = ap (λ (ps : List Place). balance c.args.hosts c.in-Balance.most (zip ps c.as_slice-in-Balance.result.now)) c.as_slice.ensures
     ∙ ap (λ (ls : List ℕ). balance c.args.hosts c.in-Balance.most (zip c.args.places.now ls)) c.as_slice-in-Balance.ensures in
-    IfOk-weaker c.balanced.result (λ (ms : List Line). ms ≡ balance c.args.hosts c.in-Balance.most (zip c.as_slice.result.now c.as_slice-in-Balance.result.now))
+    IfOk-weaker c.balance_moves.result (λ (ms : List Line). ms ≡ balance c.args.hosts c.in-Balance.most (zip c.as_slice.result.now c.as_slice-in-Balance.result.now))
     (IsEven c.args.hosts c.args.policy.now (zip c.args.places.now c.args.loads.now))
     (λ ms e. balanced_even c.args.hosts c.in-Balance.most c.args.policy.now c.args.places.now c.args.loads.now ms c.in-Balance.is c.requires.paired c.requires.some_host c.requires.ordered (e ∙ same))
-    c.balanced.ensures
+    c.balance_moves.ensures
 
 pub returns-in-Drain-clause-moves : goal.returns-in-Drain-clause-moves
 returns-in-Drain-clause-moves c =
     let same = ap (λ (ps : List Place). drained_moves c.in-Drain.from.0 c.in-Drain.to.0 ps) c.as_slice-in-Drain.ensures in
-    IfOk-weaker c.drained.result (λ (ms : List Line). ms ≡ drained_moves c.in-Drain.from.0 c.in-Drain.to.0 c.as_slice-in-Drain.result.now)
+    IfOk-weaker c.drain_moves.result (λ (ms : List Line). ms ≡ drained_moves c.in-Drain.from.0 c.in-Drain.to.0 c.as_slice-in-Drain.result.now)
     (λ (ms : List Line). ms ≡ moves_of c.args.hosts c.args.policy.now (zip c.args.places.now c.args.loads.now))
     (λ ms e. drained_moves_of c.args.hosts c.in-Drain.from c.in-Drain.to c.args.policy.now c.args.places.now c.args.loads.now ms c.in-Drain.is c.requires.paired (e ∙ same))
-    c.drained.ensures
+    c.drain_moves.ensures
 
 pub returns-in-Drain-clause-fits : goal.returns-in-Drain-clause-fits
 returns-in-Drain-clause-fits c =
     let same = ap (λ (ps : List Place). drained_moves c.in-Drain.from.0 c.in-Drain.to.0 ps) c.as_slice-in-Drain.ensures in
-    IfOk-weaker c.drained.result (λ (ms : List Line). ms ≡ drained_moves c.in-Drain.from.0 c.in-Drain.to.0 c.as_slice-in-Drain.result.now) (FitsScript c.args.hosts c.args.places.now)
+    IfOk-weaker c.drain_moves.result (λ (ms : List Line). ms ≡ drained_moves c.in-Drain.from.0 c.in-Drain.to.0 c.as_slice-in-Drain.result.now) (FitsScript c.args.hosts c.args.places.now)
     (λ ms e. drained_fits c.args.hosts c.in-Drain.from c.in-Drain.to c.args.policy.now c.args.places.now c.args.loads.now ms c.in-Drain.is c.requires.paired c.requires.policy (e ∙ same))
-    c.drained.ensures
+    c.drain_moves.ensures
 
 pub returns-in-Drain-clause-drained : goal.returns-in-Drain-clause-drained
 returns-in-Drain-clause-drained c =
     let same = ap (λ (ps : List Place). drained_moves c.in-Drain.from.0 c.in-Drain.to.0 ps) c.as_slice-in-Drain.ensures in
-    IfOk-weaker c.drained.result (λ (ms : List Line). ms ≡ drained_moves c.in-Drain.from.0 c.in-Drain.to.0 c.as_slice-in-Drain.result.now)
+    IfOk-weaker c.drain_moves.result (λ (ms : List Line). ms ≡ drained_moves c.in-Drain.from.0 c.in-Drain.to.0 c.as_slice-in-Drain.result.now)
     (IsDrained c.args.policy.now (zip c.args.places.now c.args.loads.now))
     (λ ms e. drained_clears c.args.hosts c.in-Drain.from c.in-Drain.to c.args.policy.now c.args.places.now c.args.loads.now ms c.in-Drain.is c.requires.paired c.requires.policy (e ∙ same))
-    c.drained.ensures
+    c.drain_moves.ensures
 
 pub returns-in-Balance-clause-places : goal.returns-in-Balance-clause-places
 returns-in-Balance-clause-places c =
-    IfOk-weaker c.balanced.result (λ (ms : List Line). ms ≡ balance c.args.hosts c.in-Balance.most (zip c.as_slice.result.now c.as_slice-in-Balance.result.now))
-    (FollowsInTree (zip c.args.places.now c.args.loads.now)) (λ ms e. follows_in_tree (zip c.args.places.now c.args.loads.now) ms) c.balanced.ensures
+    IfOk-weaker c.balance_moves.result (λ (ms : List Line). ms ≡ balance c.args.hosts c.in-Balance.most (zip c.as_slice.result.now c.as_slice-in-Balance.result.now))
+    (FollowsInTree (zip c.args.places.now c.args.loads.now)) (λ ms e. follows_in_tree (zip c.args.places.now c.args.loads.now) ms) c.balance_moves.ensures
 
 pub returns-in-Drain-clause-places : goal.returns-in-Drain-clause-places
 returns-in-Drain-clause-places c =
-    IfOk-weaker c.drained.result (λ (ms : List Line). ms ≡ drained_moves c.in-Drain.from.0 c.in-Drain.to.0 c.as_slice-in-Drain.result.now)
-    (FollowsInTree (zip c.args.places.now c.args.loads.now)) (λ ms e. follows_in_tree (zip c.args.places.now c.args.loads.now) ms) c.drained.ensures
+    IfOk-weaker c.drain_moves.result (λ (ms : List Line). ms ≡ drained_moves c.in-Drain.from.0 c.in-Drain.to.0 c.as_slice-in-Drain.result.now)
+    (FollowsInTree (zip c.args.places.now c.args.loads.now)) (λ ms e. follows_in_tree (zip c.args.places.now c.args.loads.now) ms) c.drain_moves.ensures

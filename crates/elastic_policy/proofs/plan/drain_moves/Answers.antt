@@ -7,7 +7,7 @@ use borrow.Author.Tests.{tests}
 use Rattle.wave_base.specs.declared.finished.Place.{Place}
 use Rattle.wave_base.specs.declared.script.Line.TheVariants.{Move}
 use Rattle.elastic_policy.specs.inner.Turns.{drained_moves}
-use Rattle.elastic_policy.proofs.plan.drained.Goals as goal
+use Rattle.elastic_policy.proofs.plan.drain_moves.Goals as goal
 
 pub returns : goal.returns
 returns c =

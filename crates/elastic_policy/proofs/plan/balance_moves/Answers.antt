@@ -7,7 +7,7 @@ use Rattle.wave_base.specs.declared.numbers.Host.{Host}
 use Rattle.elastic_policy.specs.Moves.{load_on}
 use Rattle.elastic_policy.specs.inner.Turns.{next_index}
 use Rattle.elastic_policy.proofs.Balances.{is_under_way, start_is, start_rest, turn_leaves, turn_fits, turn_sums, turn_written, turn_over}
-use Rattle.elastic_policy.proofs.plan.balanced.Goals as goal
+use Rattle.elastic_policy.proofs.plan.balance_moves.Goals as goal
 
 pub loop-turn-init : goal.loop-turn-init
 loop-turn-init c =
