@@ -17,7 +17,7 @@ use Rattle.checkpoint_store.specs.Dues.{front_dues}
 use Rattle.checkpoint_store.specs.Points.{AreInRange, IsPoint}
 use Rattle.checkpoint_store.specs.Refusals.{refused}
 use Rattle.checkpoint_store.specs.Verdicts.{snapshot_part, behind_part, HasFront, HasTail, IsWrongTail, IsOnlyVerdict}
-use Rattle.checkpoint_store.specs.inner.Steps.{moved, StopsWith, IsTailRefusal, IsShotRefusal}
+use Rattle.checkpoint_store.specs.inner.Steps.{refusal_behind, StopsWith, IsTailRefusal, IsShotRefusal}
 use Rattle.checkpoint_store.proofs.PartLemmas.{part_short}
 use Rattle.checkpoint_store.proofs.PointLemmas.{is_start}
 use Rattle.checkpoint_store.proofs.VerdictLemmas.{stops_front, stops_snapshot, stops_tail, is_read}
@@ -38,7 +38,7 @@ module _ (shape : Shape) (is : IsShape shape) (names : HasNames shape) (text : L
   module _ (n : Numbers) (rest : List ℕ) (front : HasFront shape n text rest) where
     pub shots_said : (part : List ℕ) → part ≡ snapshot_part rest → (before : ℕ) → before ≡ 3 + length shape.classes → (e : CheckError) → IsShotRefusal shape part before e → IsSaid e
     shots_said part same before at e r =
-        subst IsSaid (sym (r.2 ∙ ap (λ b. moved r.0 b) at)) (stops_snapshot shape is names text n rest front r.0 (subst (λ p. IsOnlySnapshot shape p (Err r.0)) same r.1))
+        subst IsSaid (sym (r.2 ∙ ap (λ b. refusal_behind r.0 b) at)) (stops_snapshot shape is names text n rest front r.0 (subst (λ p. IsOnlySnapshot shape p (Err r.0)) same r.1))
 
     module _ (part : List ℕ) (part_is : part ≡ snapshot_part rest) (shots : List Shot) (read : IsOnlySnapshot shape part (Ok shots)) (tail : List ℕ) (tail_is : tail ≡ behind_part rest) where
       read_here : IsOnlySnapshot shape (snapshot_part rest) (Ok shots)

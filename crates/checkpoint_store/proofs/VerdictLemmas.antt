@@ -27,7 +27,7 @@ use Rattle.checkpoint_store.specs.Dues.{front_dues}
 use Rattle.checkpoint_store.specs.Points.{AreInRange, IsPoint, numbers_of}
 use Rattle.checkpoint_store.specs.Refusals.{refused}
 use Rattle.checkpoint_store.specs.Verdicts.{StopsAt, snapshot_part, behind_part, fault_of, HasFront, HasTail, IsWrongTail, IsRefusedShot, IsRefusedTail, IsRefused, IsVerdict, IsOnlyVerdict}
-use Rattle.checkpoint_store.specs.inner.Steps.{moved}
+use Rattle.checkpoint_store.specs.inner.Steps.{refusal_behind}
 use Rattle.checkpoint_store.proofs.FrontLemmas.{one_front, front_goes, one_front_stop}
 use Rattle.checkpoint_store.proofs.PartLemmas.{part_whole, written_part, tail_begins}
 use Rattle.checkpoint_store.proofs.TailLemmas.{one_tail, tail_goes, one_wrong_tail}
@@ -115,7 +115,7 @@ module _ (shape : Shape) (is : IsShape shape) (names : HasNames shape) (text : L
     shot_verdict snapshot.Field n h = h
     shot_verdict snapshot.Order n h = h
 
-    moved_is : (f : ShotFault) (n b : ℕ) → moved (refused_shot f n) b ≡ refused (fault_of f) (b + n)
+    moved_is : (f : ShotFault) (n b : ℕ) → refusal_behind (refused_shot f n) b ≡ refused (fault_of f) (b + n)
     moved_is snapshot.Syntax n b = refl
     moved_is snapshot.Class n b = refl
     moved_is snapshot.Field n b = refl
@@ -136,7 +136,7 @@ module _ (shape : Shape) (is : IsShape shape) (names : HasNames shape) (text : L
           sole (Err (refused_shot h.wrong h.line)) (shot_verdict h.wrong h.line (subst (λ r. IsRefusedSnapshot shape (snapshot_part r) h.wrong h.line) same.1 h.refused)) in
           let inside : refused_shot h.wrong h.line ≡ refused_shot f n = cc in
           same_error g (fault_of h.wrong) m (before + h.line) h.fault_is h.line_is
-          ∙ ap (λ e. Err e) (sym (moved_is h.wrong h.line before) ∙ ap (λ e. moved e before) inside ∙ moved_is f n before)
+          ∙ ap (λ e. Err e) (sym (moved_is h.wrong h.line before) ∙ ap (λ e. refusal_behind e before) inside ∙ moved_is f n before)
       shot_refusal g m (inr (inr h)) = absurd (no_shots h.shots h.rest (same_front h.numbers h.rest h.front).1 h.snapshot)
 
       stops_shot : IsOnlyVerdict shape text (Err (refused (fault_of f) (before + n)))
@@ -149,7 +149,7 @@ module _ (shape : Shape) (is : IsShape shape) (names : HasNames shape) (text : L
           only (Ok p) v = (let parts = has_parts p v in absurd (no_shots p.start.shots parts.rest (same_front (numbers_of p) parts.rest parts.front).1 parts.snapshot))
           only (Err e) v = other_errors (Err (refused (fault_of f) (before + n))) shot_refusal e v
 
-    pub stops_snapshot : (s : ShotError) → IsOnlySnapshot shape (snapshot_part rest) (Err s) → IsOnlyVerdict shape text (Err (moved s before))
+    pub stops_snapshot : (s : ShotError) → IsOnlySnapshot shape (snapshot_part rest) (Err s) → IsOnlyVerdict shape text (Err (refusal_behind s before))
     stops_snapshot (shot.Syntax n) h = stops_shot snapshot.Syntax n h.0 h.1
     stops_snapshot (shot.Class n) h = stops_shot snapshot.Class n h.0 h.1
     stops_snapshot (shot.Field n) h = stops_shot snapshot.Field n h.0 h.1

@@ -4,7 +4,7 @@ ghost use Rattle.wave_base.specs.Names.{HasNames};
 ghost use Rattle.wave_base.specs.Shapes.{IsShape};
 ghost use Rattle.snapshot_text.specs.Verdicts.{IsOnlyVerdict as IsOnlySnapshot};
 ghost use Rattle.checkpoint_store.specs.Verdicts.{begins_at, snapshot_part, behind_part};
-ghost use Rattle.checkpoint_store.specs.inner.Steps.{line_in, moved, IsShotRefusal};
+ghost use Rattle.checkpoint_store.specs.inner.Steps.{line_in, refusal_behind, IsShotRefusal};
 
 use crate::error::CheckError;
 use snapshot_text::{ShotError, read_snapshot};
@@ -37,9 +37,9 @@ pub(crate) fn snapshot_parts(text: &[u8]) -> (&[u8], &[u8])
 }
 
 // What a refusal of a snapshot is here, where so many lines stand before it.
-fn moved(error: ShotError, before: u32) -> CheckError
+fn refusal_behind(error: ShotError, before: u32) -> CheckError
     requires { line_in error + before < 2 ^ 32 }
-    ensures { result ≡ moved error before }
+    ensures { result ≡ refusal_behind error before }
 {
     match error {
         ShotError::Syntax { line } => CheckError::Syntax {
@@ -71,6 +71,6 @@ pub(crate) fn read_shots(
 {
     match read_snapshot(alloc, shape, text) {
         Ok(shots) => Ok(shots),
-        Err(error) => Err(moved(error, before)),
+        Err(error) => Err(refusal_behind(error, before)),
     }
 }

@@ -133,16 +133,16 @@ line_in (shot.Order n) = n
 line_in (shot.OutOfMemory _) = 0
 
 -- what such an error is here
-abbrev pub moved : ShotError → ℕ → CheckError
-moved (shot.Syntax n) before = error.Syntax (before + n)
-moved (shot.Class n) before = error.Tree (before + n)
-moved (shot.Field n) before = error.Tree (before + n)
-moved (shot.Order n) before = error.Tree (before + n)
-moved (shot.OutOfMemory w) before = error.OutOfMemory w
+abbrev pub refusal_behind : ShotError → ℕ → CheckError
+refusal_behind (shot.Syntax n) before = error.Syntax (before + n)
+refusal_behind (shot.Class n) before = error.Tree (before + n)
+refusal_behind (shot.Field n) before = error.Tree (before + n)
+refusal_behind (shot.Order n) before = error.Tree (before + n)
+refusal_behind (shot.OutOfMemory w) before = error.OutOfMemory w
 
 -- the snapshot is refused, and `before` lines stand before it
 abbrev pub IsShotRefusal : Shape → List ℕ → ℕ → CheckError → Type 0
-IsShotRefusal shape part before e = (s : ShotError) × IsOnlySnapshot shape part (Err s) × (e ≡ moved s before)
+IsShotRefusal shape part before e = (s : ShotError) × IsOnlySnapshot shape part (Err s) × (e ≡ refusal_behind s before)
 
 -- ---- the last line
 
