@@ -19,20 +19,20 @@ use Rattle.type_rules.specs.declared.error.TypeError.{TypeError}
 use Rattle.type_rules.specs.declared.error.TypeError.TheVariants as wrong
 
 -- what it is, and line:column
-abbrev pub placed : List ℕ → Span → List ℕ
-placed name at = name ++ (32 ∷ place_text at)
+abbrev pub note_at : List ℕ → Span → List ℕ
+note_at name at = name ++ (32 ∷ place_text at)
 
 abbrev pub lex_note : LexError → List ℕ
-lex_note (lex.BadByte at) = placed (codes "L1 BadByte") at
-lex_note (lex.NumberRange at) = placed (codes "L2 NumberRange") at
-lex_note (lex.OpenText at) = placed (codes "L3 OpenText") at
-lex_note (lex.NameLong at) = placed (codes "L4 NameLong") at
-lex_note (lex.TextLong at) = placed (codes "L5 TextLong") at
+lex_note (lex.BadByte at) = note_at (codes "L1 BadByte") at
+lex_note (lex.NumberRange at) = note_at (codes "L2 NumberRange") at
+lex_note (lex.OpenText at) = note_at (codes "L3 OpenText") at
+lex_note (lex.NameLong at) = note_at (codes "L4 NameLong") at
+lex_note (lex.TextLong at) = note_at (codes "L5 TextLong") at
 lex_note (lex.OutOfMemory _) = []
 
 abbrev pub parse_note : ParseError → List ℕ
-parse_note (parse.Expected token at) = placed (codes "P1 Expected") at
-parse_note (parse.TooDeep token at) = placed (codes "P2 TooDeep") at
+parse_note (parse.Expected token at) = note_at (codes "P1 Expected") at
+parse_note (parse.TooDeep token at) = note_at (codes "P2 TooDeep") at
 parse_note (parse.OutOfMemory _) = []
 
 -- of a text that is no service
@@ -43,15 +43,15 @@ text_note (fault.Parse e) = parse_note e
 text_note (fault.OutOfMemory _) = []
 
 abbrev pub type_note : TypeError → List ℕ
-type_note (wrong.UnknownName at) = placed (codes "Y1 UnknownName") at
-type_note (wrong.Duplicate at) = placed (codes "Y2 Duplicate") at
-type_note (wrong.Mismatch at) = placed (codes "Y3 Mismatch") at
-type_note (wrong.ArgCount at) = placed (codes "Y4 ArgCount") at
-type_note (wrong.NotDownward at) = placed (codes "Y5 NotDownward") at
-type_note (wrong.CalleeLater at) = placed (codes "Y6 CalleeLater") at
-type_note (wrong.MissingReply at) = placed (codes "Y7 MissingReply") at
-type_note (wrong.Limit which at) = placed (codes "Y8 Limit") at
-type_note (wrong.Unreachable at) = placed (codes "Y10 Unreachable") at
+type_note (wrong.UnknownName at) = note_at (codes "Y1 UnknownName") at
+type_note (wrong.Duplicate at) = note_at (codes "Y2 Duplicate") at
+type_note (wrong.Mismatch at) = note_at (codes "Y3 Mismatch") at
+type_note (wrong.ArgCount at) = note_at (codes "Y4 ArgCount") at
+type_note (wrong.NotDownward at) = note_at (codes "Y5 NotDownward") at
+type_note (wrong.CalleeLater at) = note_at (codes "Y6 CalleeLater") at
+type_note (wrong.MissingReply at) = note_at (codes "Y7 MissingReply") at
+type_note (wrong.Limit which at) = note_at (codes "Y8 Limit") at
+type_note (wrong.Unreachable at) = note_at (codes "Y10 Unreachable") at
 type_note (wrong.OutOfMemory _) = []
 
 -- what it is, and the line of the script, the checkpoint or the journal

@@ -8,7 +8,7 @@ ghost use Rattle.journal_text.specs.declared.error.JournalError.{JournalError};
 ghost use Rattle.script_reader.specs.declared.error.ScriptError.{ScriptError};
 ghost use Rattle.service_reader.specs.declared.fault.TextFault.{TextFault};
 ghost use Rattle.type_rules.specs.declared.error.TypeError.{TypeError};
-ghost use Rattle.fault_notes.specs.Notes.{placed, on_line, lex_note, parse_note, text_note, type_note, script_note, check_note, journal_note};
+ghost use Rattle.fault_notes.specs.Notes.{note_at, on_line, lex_note, parse_note, text_note, type_note, script_note, check_note, journal_note};
 ghost use Rattle.wave_base.specs.Memory.{the_refusal};
 
 use checkpoint_store::CheckError;
@@ -23,8 +23,8 @@ use wave_base::{OutOfMemory, Span};
 use wave_text::{put_bytes, put_number, put_place};
 
 /// What it is, and its line and column.
-pub fn placed(alloc: Global, name: &[u8], at: Span) -> Result<Vec<u8>, OutOfMemory>
-    ensures { IfOk result (λ note. note.items ≡ placed name.now at) }
+pub fn note_at(alloc: Global, name: &[u8], at: Span) -> Result<Vec<u8>, OutOfMemory>
+    ensures { IfOk result (λ note. note.items ≡ note_at name.now at) }
 {
     let mut note = Vec::new(alloc);
     put_bytes(&mut note, name)?;
@@ -39,11 +39,11 @@ pub fn lex_note(alloc: Global, error: &LexError) -> Result<Vec<u8>, OutOfMemory>
     ensures told { IfOk result (λ _. error.now ≢ LexError.OutOfMemory the_refusal) }
 {
     match error {
-        LexError::BadByte(at) => placed(alloc, b"L1 BadByte", *at),
-        LexError::NumberRange(at) => placed(alloc, b"L2 NumberRange", *at),
-        LexError::OpenText(at) => placed(alloc, b"L3 OpenText", *at),
-        LexError::NameLong(at) => placed(alloc, b"L4 NameLong", *at),
-        LexError::TextLong(at) => placed(alloc, b"L5 TextLong", *at),
+        LexError::BadByte(at) => note_at(alloc, b"L1 BadByte", *at),
+        LexError::NumberRange(at) => note_at(alloc, b"L2 NumberRange", *at),
+        LexError::OpenText(at) => note_at(alloc, b"L3 OpenText", *at),
+        LexError::NameLong(at) => note_at(alloc, b"L4 NameLong", *at),
+        LexError::TextLong(at) => note_at(alloc, b"L5 TextLong", *at),
         LexError::OutOfMemory(refused) => Err(*refused),
     }
 }
@@ -54,8 +54,8 @@ pub fn parse_note(alloc: Global, error: &ParseError) -> Result<Vec<u8>, OutOfMem
     ensures told { IfOk result (λ _. error.now ≢ ParseError.OutOfMemory the_refusal) }
 {
     match error {
-        ParseError::Expected { at, .. } => placed(alloc, b"P1 Expected", *at),
-        ParseError::TooDeep { at, .. } => placed(alloc, b"P2 TooDeep", *at),
+        ParseError::Expected { at, .. } => note_at(alloc, b"P1 Expected", *at),
+        ParseError::TooDeep { at, .. } => note_at(alloc, b"P2 TooDeep", *at),
         ParseError::OutOfMemory(refused) => Err(*refused),
     }
 }
@@ -79,15 +79,15 @@ pub fn type_note(alloc: Global, error: &TypeError) -> Result<Vec<u8>, OutOfMemor
     ensures told { IfOk result (λ _. error.now ≢ TypeError.OutOfMemory the_refusal) }
 {
     match error {
-        TypeError::UnknownName(at) => placed(alloc, b"Y1 UnknownName", *at),
-        TypeError::Duplicate(at) => placed(alloc, b"Y2 Duplicate", *at),
-        TypeError::Mismatch(at) => placed(alloc, b"Y3 Mismatch", *at),
-        TypeError::ArgCount(at) => placed(alloc, b"Y4 ArgCount", *at),
-        TypeError::NotDownward(at) => placed(alloc, b"Y5 NotDownward", *at),
-        TypeError::CalleeLater(at) => placed(alloc, b"Y6 CalleeLater", *at),
-        TypeError::MissingReply(at) => placed(alloc, b"Y7 MissingReply", *at),
-        TypeError::Limit(_, at) => placed(alloc, b"Y8 Limit", *at),
-        TypeError::Unreachable(at) => placed(alloc, b"Y10 Unreachable", *at),
+        TypeError::UnknownName(at) => note_at(alloc, b"Y1 UnknownName", *at),
+        TypeError::Duplicate(at) => note_at(alloc, b"Y2 Duplicate", *at),
+        TypeError::Mismatch(at) => note_at(alloc, b"Y3 Mismatch", *at),
+        TypeError::ArgCount(at) => note_at(alloc, b"Y4 ArgCount", *at),
+        TypeError::NotDownward(at) => note_at(alloc, b"Y5 NotDownward", *at),
+        TypeError::CalleeLater(at) => note_at(alloc, b"Y6 CalleeLater", *at),
+        TypeError::MissingReply(at) => note_at(alloc, b"Y7 MissingReply", *at),
+        TypeError::Limit(_, at) => note_at(alloc, b"Y8 Limit", *at),
+        TypeError::Unreachable(at) => note_at(alloc, b"Y10 Unreachable", *at),
         TypeError::OutOfMemory(refused) => Err(*refused),
     }
 }
