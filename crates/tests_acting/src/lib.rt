@@ -6,7 +6,7 @@ ghost use Rattle.wave_base.specs.declared.call.Call.{Call};
 ghost use Rattle.wave_states.specs.Begins.{Begin};
 ghost use Rattle.wave_theory.specs.Always.{Always};
 ghost use Rattle.code_actor.specs.CodeActors.{Fields, code_kind};
-ghost use Rattle.code_acting.specs.Codes.{FitCode, MayRunSegment};
+ghost use Rattle.tests_acting.specs.Codes.{FitCode, MayRunSegment};
 
 use wave_theory::{Acting, may_run};
 
@@ -18,7 +18,7 @@ impl Acting for CodeEvents {
     ghost use Rattle.wave_base.specs.declared.outcome.EventResult.{EventResult};
     ghost use Rattle.service_verify.specs.Segments.{Event};
     ghost use Rattle.code_actor.specs.CodeActors.{Fields as TheFields, code_kind};
-    ghost use Rattle.code_acting.specs.Codes.{FitCode, events_owe};
+    ghost use Rattle.tests_acting.specs.Codes.{FitCode, events_owe};
 
     ghost Code = { FitCode };
 
