@@ -1,3 +1,5 @@
+//! The lines of a checkpoint that tell which classes its service has, so that it fits no other service.
+
 ghost use Rattle.std.specs.Prelude.{◌≡◌, ◌++◌, map, OnOk, IfOk};
 ghost use Rattle.checkpoint_store.specs.CheckpointTexts.{kind_text, fields_text, parent_text, class_text, count_text};
 

@@ -1,3 +1,5 @@
+//! Why a text is no checkpoint of a service.
+
 ghost use Rattle.std.specs.Prelude.{◌≡◌};
 ghost use Rattle.checkpoint_store.specs.Refusals.{refused};
 

@@ -1,3 +1,5 @@
+//! What a line of a checkpoint looks like, whatever it tells: this parts a line out of form from one that tells something else.
+
 ghost use Rattle.std.specs.Prelude.{◌≡◌, ◌↔◌, IsTrue, IfOk};
 ghost use Rattle.std.specs.List.{list_all};
 ghost use Rattle.checkpoint_store.specs.Forms.{cut_at, is_numbers, is_count, is_parent, is_kind, is_named_kind, is_field, is_class_line, HasPlainSteps, IsPlaceLine};

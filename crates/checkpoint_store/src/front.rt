@@ -1,3 +1,5 @@
+//! The lines before the snapshot, as they are read.
+
 ghost use Rattle.std.specs.Prelude.{◌≡◌, ◌<◌, ◌^◌, ◌++◌, length, map, IfOk, IfErr};
 ghost use Rattle.wave_base.specs.declared.shape.Shape.{Shape};
 ghost use Rattle.wave_text.specs.Splits.{IsSplit};

@@ -1,3 +1,5 @@
+//! The line of a checkpoint's numbers: hosts, next ticket, event lines.
+
 ghost use Rattle.std.specs.Prelude.{◌≡◌, ◌++◌, IsTrue, ◌↔◌, OnOk, IfOk, IfSome, IfNone};
 ghost use Rattle.checkpoint_store.specs.CheckpointTexts.{numbers_text};
 ghost use Rattle.checkpoint_store.specs.Points.{AreInRange};

@@ -1,3 +1,5 @@
+//! The line of a context's host, as it is read.
+
 ghost use Rattle.std.specs.Prelude.{IfOk, IfSome, IfNone};
 ghost use Rattle.wave_base.specs.Names.{HasNames};
 ghost use Rattle.path_text.specs.Found.{IsPath};

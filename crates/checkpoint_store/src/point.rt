@@ -1,3 +1,5 @@
+//! What a checkpoint keeps.
+
 use wave_base::Start;
 
 /// A point of a run from which another run can go on.

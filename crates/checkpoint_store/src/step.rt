@@ -1,3 +1,5 @@
+//! A line of a checkpoint that has to be this one, and what is said of another in its place.
+
 ghost use Rattle.std.specs.Prelude.{◌≡◌, IfOk, IfErr};
 ghost use Rattle.wave_text.specs.Splits.{IsSplit};
 ghost use Rattle.checkpoint_store.specs.inner.Steps.{other_of, BeginsWrongBy, IsRefusalBy, IsRefusalFor};

@@ -1,3 +1,5 @@
+//! The lines behind the snapshot, as they are read.
+
 ghost use Rattle.std.specs.Prelude.{◌+◌, ◌<◌, ◌^◌, [], length, codes, All, OnOk, IfOk, IfErr};
 ghost use Rattle.wave_base.specs.Names.{HasNames};
 ghost use Rattle.wave_text.specs.Splits.{IsSplit};

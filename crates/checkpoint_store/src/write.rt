@@ -1,3 +1,5 @@
+//! A whole checkpoint, as it is written.
+
 ghost use Rattle.std.specs.Prelude.{◌≡◌, ◌++◌, IfOk, OnOk, map};
 ghost use Rattle.path_text.specs.PlaceTexts.{place_text};
 ghost use Rattle.checkpoint_store.specs.CheckpointTexts.{ended, class_text, front_text, tail_text, IsCheckpointText};

@@ -1,3 +1,5 @@
+//! The one who runs a script's calls by the code of their service.
+
 use code_runner::run_call;
 use context_tree::Tree;
 use resolved_service::Resolved;

@@ -1,3 +1,5 @@
+//! A whole call by its code.
+
 ghost use Rattle.std.specs.Prelude.{◌≡◌, ◌≤◌, [], true, Some, All, IfOk, OnOk};
 ghost use Rattle.context_tree.specs.Contexts.{tree_of, is_there};
 ghost use Rattle.wave_base.specs.declared.path.Path.{Path};

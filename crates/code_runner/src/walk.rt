@@ -1,3 +1,5 @@
+//! A call by its code, a segment at a time.
+
 ghost use Rattle.std.specs.Prelude.{◌≡◌, ◌<◌, ◌≤◌, ◌^◌, suc, [], ◌∷◌, true, None, IfOk, OnOk};
 ghost use Rattle.std.specs.List.{list_any};
 ghost use Rattle.context_tree.specs.Contexts.{tree_of, is_there};

@@ -1,3 +1,5 @@
+//! What the scheme gives for a part of a service: instructions with their places in its text.
+
 use service_code::Instr;
 use wave_base::Span;
 

@@ -1,3 +1,5 @@
+//! Which command a name and options ask for, and which of them go together.
+
 ghost use Rattle.std.specs.Prelude.{◌≡◌, option_map};
 ghost use Rattle.command_words.specs.Values.{number_of, schedule_of, workers_of};
 ghost use Rattle.command_words.specs.Choice.{choice_of, crew_of, verb_of, given, command_with};

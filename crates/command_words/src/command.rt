@@ -1,3 +1,5 @@
+//! What the words of a command line ask for.
+
 ghost use Rattle.std.specs.Prelude.{◌≡◌};
 ghost use Rattle.command_words.specs.Inputs.{input_bytes, is_free, reads_input, runs_workers};
 

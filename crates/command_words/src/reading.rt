@@ -1,3 +1,5 @@
+//! The words of a command line, as they are read.
+
 ghost use Rattle.std.specs.Prelude.{◌≡◌, List, ℕ, Some, IfOk, map, option_map};
 ghost use Rattle.clap.specs.Words.{app_of, found_of, rows_of};
 ghost use Rattle.command_words.specs.ByHand.{AreKept, by_hand};

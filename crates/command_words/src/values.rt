@@ -1,3 +1,5 @@
+//! What single words stand for: numbers, workers, schedules.
+
 ghost use Rattle.std.specs.Prelude.{◌≡◌};
 ghost use Rattle.command_words.specs.Values.{number_of, schedule_of, workers_of};
 

@@ -1,3 +1,5 @@
+//! Results that came in any order, given out in the order of their tickets.
+
 ghost use Rattle.std.specs.Prelude.{◌≡◌, ◌+◌, ◌≤◌, ◌<◌, None, OnOk, is_some, option_copied, option_map, if◌then◌else◌};
 ghost use Rattle.std.specs.FinMap as map;
 ghost use Rattle.commit_order.specs.Commits.{ready_result, next_committed};

@@ -1,3 +1,5 @@
+//! A context at its host: its record, who holds it and who waits for it.
+
 ghost use Rattle.std.specs.Prelude.{◌≡◌, ◌≤◌, ◌+◌, ◌<◌, ◌^◌, List, [], Some, None, IsNone, IfSome, OnOk, is_none, option_map, true, false};
 ghost use Rattle.std.specs.FinMap as map;
 ghost use Rattle.std.specs.FinSet as set;

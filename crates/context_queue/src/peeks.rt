@@ -1,3 +1,5 @@
+//! Those who hold a context beside one another.
+
 ghost use Rattle.std.specs.Prelude.{◌≡◌, ◌≤◌, ◌+◌, OnOk};
 ghost use Rattle.std.specs.FinSet as set;
 ghost use Rattle.context_queue.specs.Lines.{is_nobody};

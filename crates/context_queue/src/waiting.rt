@@ -1,3 +1,5 @@
+//! Those who wait at a context.
+
 ghost use Rattle.std.specs.Prelude.{◌≡◌, ◌≤◌, ◌<◌, ◌+◌, ◌^◌, OnOk, IfSome};
 ghost use Rattle.std.specs.FinMap as map;
 

@@ -1,3 +1,5 @@
+//! The contexts that there are, with the values of their fields.
+
 ghost use Rattle.std.specs.Prelude.{◌≡◌, ◌<◌, ◌↔◌, ◌∷◌, [], length, map, position, true, false, IsTrue, IsOk, IsNone, IfSome, IfOk, OnOk, OnErr, Some, slice_get};
 ghost use Rattle.std.specs.List.{IsDistinct};
 ghost use Rattle.context_tree.specs.Contexts.{tree_of, as_pair, paths_of, is_there, with_field, joins, HasField, IsOrdered};

@@ -1,3 +1,5 @@
+//! Calls: who is called, and with what.
+
 ghost use Rattle.std.specs.Prelude.{◌≡◌, ◌==◌, [], ◌∷◌, map, length, is_some, Some};
 ghost use Rattle.mace_ast.specs.Exprs.{expr_tree, exprs_of};
 ghost use Rattle.resolved_service.specs.View.{tree_of, trees_of};

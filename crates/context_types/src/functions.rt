@@ -1,3 +1,5 @@
+//! Methods and events, each as a whole.
+
 ghost use Rattle.std.specs.Prelude.{◌≡◌, ◌+◌, ◌&&◌, is_none, length, map};
 ghost use Rattle.std.specs.Option.{option_map, option_map_or};
 ghost use Rattle.value_ops.specs.Rows.{first_builtin};

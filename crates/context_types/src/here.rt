@@ -1,3 +1,5 @@
+//! Where in a service a judgement stands, and what can be named there.
+
 ghost use Rattle.std.specs.Prelude.{◌≡◌, ◌+◌, IfSome};
 ghost use Rattle.std.specs.Option.{option_copied};
 ghost use Rattle.type_rules.specs.Here as rules;

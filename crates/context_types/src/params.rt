@@ -1,3 +1,5 @@
+//! Parameters as the first locals.
+
 ghost use Rattle.std.specs.Prelude.{◌≡◌};
 ghost use Rattle.type_rules.specs.Demands.{Judges};
 ghost use Rattle.type_rules.specs.Here.{declared};

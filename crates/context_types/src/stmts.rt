@@ -1,3 +1,5 @@
+//! Statements that have others inside, or declare a local; and statements one after the other.
+
 ghost use Rattle.std.specs.Prelude.{◌≡◌, map, length};
 ghost use Rattle.std.specs.Option.{option_map};
 ghost use Rattle.mace_ast.specs.Exprs.{expr_tree};

@@ -1,3 +1,5 @@
+//! What an event sends and creates, which counts only once it has ended well.
+
 ghost use Rattle.std.specs.Prelude.{◌≡◌, ◌≢◌, ◌↔◌, [], length, Err, IfErr, OnOk, OnErr};
 ghost use Rattle.deferred_out.specs.Kept.{nothing, with_message, with_call, IsKept};
 ghost use Rattle.deferred_out.specs.Refused.{message_of, call_of};

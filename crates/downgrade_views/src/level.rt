@@ -1,3 +1,5 @@
+//! Copies of a context's fields that are read from below, after the event has left it.
+
 ghost use Rattle.std.specs.Prelude.{◌≡◌, length, Some, IsSome, IfOk};
 ghost use Rattle.downgrade_views.specs.Levels.{value_in, kept_level};
 

@@ -1,3 +1,5 @@
+//! Copies of all the contexts that an event came down through.
+
 ghost use Rattle.std.specs.Prelude.{◌≡◌, ◌<◌, ◌++◌, ◌∷◌, [], length, true, false, Some, IsSome, IfOk, OnOk, OnErr};
 ghost use Rattle.wave_base.specs.declared.value.Kind.{Kind};
 ghost use Rattle.wave_base.specs.declared.value.Kind.TheVariants as k;

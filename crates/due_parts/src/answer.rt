@@ -1,3 +1,5 @@
+//! An answer that needs no run.
+
 ghost use Rattle.std.specs.Prelude.{◌≡◌, [], IfOk};
 ghost use Rattle.due_parts.specs.Answers.{refusal, too_large_input, written};
 

@@ -1,3 +1,5 @@
+//! What becomes of an input that is not accepted.
+
 use crate::answer::Answer;
 use wave_base::OutOfMemory;
 

@@ -1,3 +1,5 @@
+//! What a command tells of a run that is over.
+
 use command_words::Places;
 
 /// What is told of a run.

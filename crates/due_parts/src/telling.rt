@@ -1,3 +1,5 @@
+//! What a command tells of a run, and by whom it is run.
+
 use crate::report::Report;
 use command_words::{Crew, Places};
 

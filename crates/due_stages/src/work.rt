@@ -1,3 +1,5 @@
+//! What a script with policies asks to be run.
+
 use elastic_policy::Stages;
 use resolved_service::Resolved;
 use service_verify::Verified;

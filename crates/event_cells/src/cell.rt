@@ -1,3 +1,5 @@
+//! An admitted ticket: what the machine knows of its event until it is committed.
+
 ghost use Rattle.std.specs.Prelude.{◌≡◌, ◌≤◌, ◌<◌, ◌+◌, ◌^◌, ◌&&◌, [], length, List, map, Some, None, IsSome, IfOk, OnOk, false, option_copied, option_map};
 ghost use Rattle.std.specs.BTreeMap.{insert_entry};
 ghost use Rattle.event_cells.specs.Keeps.{mail_in, is_empty};

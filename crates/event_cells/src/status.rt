@@ -1,3 +1,5 @@
+//! How far an admitted event has come.
+
 use wave_base::Path;
 
 /// How far an event has come.

@@ -1,3 +1,5 @@
+//! The jobs that are not admitted yet, and the tickets that they get.
+
 ghost use Rattle.std.specs.Prelude.{◌≡◌, ◌+◌, ◌≤◌, ◌<◌, ◌^◌, [], ◌∷◌, ◌++◌, List, map, length, Some, IsTrue, ◌↔◌, IsNone, vec_len, vec_capacity, IsSome, OnOk, IfOk, option_copied, slice_get};
 ghost use Rattle.std.specs.VecDeque.{deque_len, deque_capacity};
 ghost use Rattle.wave_base.specs.Fold.{first_head, next_batch, with_done, tickets_of, tickets_from};

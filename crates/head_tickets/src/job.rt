@@ -1,3 +1,5 @@
+//! What a ticket is given for.
+
 ghost use Rattle.std.specs.Prelude.{◌≡◌};
 ghost use Rattle.head_tickets.specs.Heads.{line_of};
 

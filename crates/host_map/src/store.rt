@@ -1,3 +1,5 @@
+//! The contexts at a host, and where those went that left it.
+
 ghost use Rattle.std.specs.Prelude.{◌≡◌, ◌≤◌, ◌+◌, OnOk, IfOk, option_copied, option_map, position, length, IfSome, ◌<◌};
 ghost use Rattle.std.specs.List.{list_any, IsDistinct};
 ghost use Rattle.std.specs.FinMap as map;

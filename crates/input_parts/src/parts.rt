@@ -1,3 +1,5 @@
+//! The parts of an input.
+
 ghost use Rattle.std.specs.Prelude.{◌≡◌, Some, None, IfSome, IfNone};
 ghost use Rattle.input_parts.specs.Parts.{service_of, script_of};
 

@@ -1,3 +1,5 @@
+//! Why a journal is no run of a plan.
+
 use thiserror::Error;
 use wave_base::{OutOfMemory, Seq};
 use wave_labels::Label;

@@ -1,3 +1,5 @@
+//! A journal taken label by label, from a plan's first state.
+
 ghost use Rattle.std.specs.Prelude.{◌<◌, ◌^◌, length, IfErr, IfOk, Ok};
 ghost use Rattle.plan_actors.specs.Plans.{Fits};
 ghost use Rattle.wave_machine.specs.Plans.{plan_of};

@@ -1,3 +1,5 @@
+//! Why a text is no journal of a service.
+
 use thiserror::Error;
 use wave_base::OutOfMemory;
 

@@ -1,3 +1,5 @@
+//! A line of a journal with its number, as it is read.
+
 ghost use Rattle.std.specs.Prelude.{◌<◌, ◌^◌, IfOk, IfSome, IfNone};
 ghost use Rattle.wave_base.specs.Names.{HasNames};
 ghost use Rattle.wave_base.specs.Shapes.{IsShape};

@@ -1,3 +1,5 @@
+//! Numbers in labels, as they are read: hosts, workers, tickets, mails.
+
 ghost use Rattle.journal_text.specs.inner.Parts.{IsMarkedOf, IsTicketOf, IsMailOf};
 
 use wave_base::Ticket;

@@ -1,3 +1,5 @@
+//! What stands behind the word of an act, as it is read.
+
 ghost use Rattle.std.specs.Prelude.{◌≡◌, true, IfOk, IfSome};
 ghost use Rattle.wave_base.specs.Names.{HasNames};
 ghost use Rattle.wave_base.specs.Shapes.{IsShape, is_path};

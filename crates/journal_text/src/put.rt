@@ -1,3 +1,5 @@
+//! A label, as it is written.
+
 ghost use Rattle.std.specs.Prelude.{◌≡◌, ◌<◌, ◌^◌, ◌++◌, ◌∷◌, [], OnOk};
 ghost use Rattle.std.specs.Fmt.{decimal};
 ghost use Rattle.path_text.specs.PathTexts.{path_text};

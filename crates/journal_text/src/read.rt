@@ -1,3 +1,5 @@
+//! A whole journal, as it is read.
+
 ghost use Rattle.std.specs.Prelude.{◌≡◌, ◌≤◌, length};
 ghost use Rattle.wave_base.specs.declared.limits.TheConstants.{PLACED_BYTES};
 ghost use Rattle.wave_base.specs.Names.{HasNames};

@@ -1,3 +1,5 @@
+//! The words of the acts.
+
 ghost use Rattle.std.specs.Prelude.{◌≡◌};
 ghost use Rattle.journal_text.specs.inner.Verbs.{verb_of};
 

@@ -1,3 +1,5 @@
+//! Words within a line.
+
 ghost use Rattle.journal_text.specs.inner.Parts.{IsWordOf};
 
 use wave_text::parts_at;

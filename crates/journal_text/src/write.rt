@@ -1,3 +1,5 @@
+//! A whole journal, as it is written.
+
 ghost use Rattle.std.specs.Prelude.{All, IfOk};
 ghost use Rattle.wave_labels.specs.declared.label.Label.{Label};
 ghost use Rattle.journal_text.specs.Fits.{HasPath};

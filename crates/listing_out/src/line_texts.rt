@@ -1,3 +1,5 @@
+//! The lines of a listing, each by itself.
+
 ghost use Rattle.std.specs.Prelude.{◌≡◌, ◌++◌, ◌∷◌, [], OnOk, IfOk, codes};
 ghost use Rattle.std.specs.Fmt.{decimal};
 ghost use Rattle.wave_text.specs.Places.{place_text};

@@ -1,3 +1,5 @@
+//! The lines of a ticket, and those at the end of a listing.
+
 ghost use Rattle.std.specs.Prelude.{◌≡◌, ◌++◌, map, option_copied, OnOk, IfOk};
 ghost use Rattle.path_text.specs.ShotTexts.{shot_text};
 ghost use Rattle.listing_out.specs.LineTexts.{message_text, made_text, ticket_line, place_line};

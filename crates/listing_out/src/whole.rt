@@ -1,3 +1,5 @@
+//! A whole listing as a text.
+
 ghost use Rattle.std.specs.Prelude.{◌≡◌, ◌++◌, ◌+◌, ◌-◌, ◌^◌, ◌≤◌, ◌<◌, length, option_copied, IfOk, OnOk};
 ghost use Rattle.std.specs.List.{concat};
 ghost use Rattle.listing_out.specs.Listing.{name_at, made_at, places_of, last_ticket, listing};

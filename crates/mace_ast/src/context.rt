@@ -1,3 +1,5 @@
+//! Classes of contexts, as they are written.
+
 ghost use Rattle.std.specs.Prelude.{◌≡◌, map};
 ghost use Rattle.mace_ast.specs.Decls.{Context, context_tree, contexts_of, method_tree};
 

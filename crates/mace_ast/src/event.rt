@@ -1,3 +1,5 @@
+//! Events, as they are written.
+
 use crate::expr::Expr;
 use crate::method::{Last, Param};
 use crate::name::Name;

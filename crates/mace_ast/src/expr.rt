@@ -1,3 +1,5 @@
+//! Expressions, as they are written.
+
 ghost use Rattle.std.specs.Prelude.{◌≡◌, map, IfOk};
 ghost use Rattle.mace_ast.specs.Exprs as tree;
 ghost use Rattle.mace_ast.specs.Exprs.{expr_tree, exprs_of, place_of};

@@ -1,3 +1,5 @@
+//! Fields, as they are written.
+
 use crate::name::Name;
 use wave_base::{Kind, Span, Txt};
 

@@ -1,3 +1,5 @@
+//! Methods, as they are written.
+
 use crate::expr::Expr;
 use crate::name::Name;
 use crate::stmt::Stmt;

@@ -1,3 +1,5 @@
+//! Names, as they are written.
+
 use wave_base::{Span, Txt};
 
 /// A name, with the place of its token.

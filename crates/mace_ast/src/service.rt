@@ -1,3 +1,5 @@
+//! A whole service, as it is written.
+
 use crate::context::ContextDecl;
 use crate::event::EventDecl;
 use crate::field::VarDecl;

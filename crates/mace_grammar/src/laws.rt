@@ -1,3 +1,5 @@
+//! A law of the grammar: no text can be read in two ways.
+
 ghost use Rattle.std.specs.Prelude.{List};
 ghost use Rattle.mace_lexer.specs.declared.token.Word.{Word};
 ghost use Rattle.mace_ast.specs.Decls.{ServiceTree, SameUpToSpans};

@@ -1,3 +1,5 @@
+//! The next piece of a service text: blanks, a comment, or a token.
+
 ghost use Rattle.std.specs.Prelude.{◌≡◌, ◌<◌, ◌≤◌, length, map, take, true, All, IfOk, IfSome, IfNone, slice_index};
 ghost use Rattle.std.specs.List.{prefix_len};
 ghost use Rattle.mace_lexer.specs.Words as words;

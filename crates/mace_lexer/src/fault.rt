@@ -1,3 +1,5 @@
+//! What can be wrong with the tokens of a text, and where.
+
 use thiserror::Error;
 use wave_base::{OutOfMemory, Span};
 

@@ -1,3 +1,5 @@
+//! The words that no name may be.
+
 ghost use Rattle.std.specs.Prelude.{◌≡◌, Some};
 ghost use Rattle.mace_lexer.specs.Codes.{key_code};
 ghost use Rattle.mace_lexer.specs.Words.{keyword, keyword_bytes};

@@ -1,3 +1,5 @@
+//! Texts in quotes, as they stand in a service.
+
 ghost use Rattle.std.specs.Prelude.{◌≡◌, ◌<◌, length, IfOk};
 ghost use Rattle.mace_lexer.specs.Texts.{escape_of, inside_of};
 ghost use Rattle.wave_base.specs.Text.{escaped_byte};

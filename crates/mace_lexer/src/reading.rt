@@ -1,3 +1,5 @@
+//! All tokens of a text.
+
 ghost use Rattle.std.specs.Prelude.{◌≡◌, ◌≤◌, List, length, All, IfOk, IfErr, Ok, Err};
 ghost use Rattle.wave_base.specs.declared.span.Span.{Span};
 ghost use Rattle.wave_base.specs.declared.limits.TheConstants.{PLACED_BYTES};

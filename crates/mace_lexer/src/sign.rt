@@ -1,3 +1,5 @@
+//! The signs of the language.
+
 ghost use Rattle.std.specs.Prelude.{◌≡◌, Some};
 ghost use Rattle.mace_lexer.specs.Codes.{sign_code};
 ghost use Rattle.mace_lexer.specs.Words.{sign, sign_bytes};

@@ -1,3 +1,5 @@
+//! What the lexer gives: words with their places.
+
 use crate::keyword::Keyword;
 use crate::sign::Sign;
 use wave_base::{Span, Txt};

@@ -1,3 +1,5 @@
+//! Why tokens are no service, and what a reader gives.
+
 use mace_lexer::Token;
 use thiserror::Error;
 use wave_base::{OutOfMemory, Span};

@@ -1,3 +1,5 @@
+//! Laws of printing: what is printed reads as the same service, and how many words that takes at the least.
+
 ghost use Rattle.std.specs.Prelude.{◌≡◌, ◌≤◌, ◌+◌, ◌*◌, ◌∷◌, ◌++◌, List, length};
 ghost use Rattle.mace_lexer.specs.declared.sign.Sign.TheVariants as sign;
 ghost use Rattle.mace_lexer.specs.declared.token.Word.{Word};

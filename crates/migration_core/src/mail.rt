@@ -1,3 +1,5 @@
+//! Mails between hosts.
+
 use context_queue::Entry;
 use wave_base::{Host, Path};
 use wave_labels::MailId;

@@ -1,3 +1,5 @@
+//! The code of a move.
+
 ghost use Rattle.std.specs.Prelude.{◌≡◌, ◌<◌, [], length, drop};
 ghost use Rattle.migration_core.specs.Movers.{pause_of, start_of};
 ghost use Rattle.migration_core.specs.inner.Next.{without_first};

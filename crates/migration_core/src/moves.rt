@@ -1,3 +1,5 @@
+//! A context that leaves a host, and one that arrives.
+
 ghost use Rattle.std.specs.Prelude.{ℕ, suc, ◌≡◌, ◌≢◌, ◌≤◌, ◌<◌, ◌+◌, ◌^◌, List, [], IfSome, true};
 ghost use Rattle.std.specs.FinMap as map;
 ghost use Rattle.context_queue.specs.Entries.{StandsFor};

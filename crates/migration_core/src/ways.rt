@@ -1,3 +1,5 @@
+//! The way of a mail to a context that may have moved.
+
 ghost use Rattle.std.specs.Prelude.{ℕ, ◌≡◌, List, IsSome, IfSome};
 ghost use Rattle.host_map.specs.Stores.{IsAt};
 ghost use Rattle.migration_core.specs.Letters.{asked, route_of};

@@ -1,3 +1,5 @@
+//! Numbers by name.
+
 ghost use Rattle.std.specs.Prelude.{◌≡◌, [], OnOk, OnErr};
 ghost use Rattle.name_table.specs.Numbers.{first_number, noted};
 

@@ -1,3 +1,5 @@
+//! Classes below a class, by their names.
+
 ghost use Rattle.std.specs.Prelude.{◌≡◌, ◌<◌, ◌^◌, length, IfOk, IfSome, OnOk};
 ghost use Rattle.wave_base.specs.Shapes.{IsShape};
 ghost use Rattle.name_table.specs.Numbers.{TellFirst};

@@ -1,3 +1,5 @@
+//! The fields of the context at a path.
+
 ghost use Rattle.std.specs.Prelude.{◌≡◌};
 ghost use Rattle.wave_base.specs.Shapes.{class_of, declared_fields};
 

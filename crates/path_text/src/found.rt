@@ -1,3 +1,5 @@
+//! The path that a text was written for.
+
 ghost use Rattle.std.specs.Prelude.{IfOk, IfSome};
 ghost use Rattle.wave_base.specs.Names.{HasNames};
 ghost use Rattle.wave_base.specs.Shapes.{IsShape};

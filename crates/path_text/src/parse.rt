@@ -1,3 +1,5 @@
+//! The path that a text stands for, in whatever way its numbers are written.
+
 ghost use Rattle.wave_base.specs.Shapes.{IsShape};
 ghost use Rattle.path_text.specs.Verdicts.{IsOnlyVerdict};
 

@@ -1,3 +1,5 @@
+//! Paths, and contexts with their fields or their hosts, as they are written.
+
 ghost use Rattle.std.specs.Prelude.{◌≡◌, ◌≤◌, ◌++◌, true, length, All, IfOk, OnOk, FitsSigned};
 ghost use Rattle.std.specs.Int.{w64};
 ghost use Rattle.wave_base.specs.Names.{HasNames};

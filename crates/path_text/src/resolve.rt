@@ -1,3 +1,5 @@
+//! Steps with names as steps of a shape.
+
 ghost use Rattle.std.specs.Prelude.{◌≡◌, ◌<◌, ◌^◌, true, length, IfSome};
 ghost use Rattle.std.specs.List.{list_all};
 ghost use Rattle.wave_base.specs.Shapes.{IsShape, is_path};

@@ -1,3 +1,5 @@
+//! The steps of a path as they are written, before a shape is asked.
+
 ghost use Rattle.std.specs.Prelude.{◌≡◌, ◌∷◌, ◌&&◌, [], ℕ, List, IsTrue, ◌↔◌, IfOk, IfSome, IfNone};
 ghost use Rattle.wave_base.specs.Names.{is_word};
 ghost use Rattle.path_text.specs.Steps.{is_key, HasSteps, HasSomeSteps, HasOnlySteps, HasNoSteps};

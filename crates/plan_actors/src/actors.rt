@@ -1,3 +1,5 @@
+//! The kind of actors that plans have, with what they owe the machine.
+
 ghost use Rattle.wave_base.specs.declared.outcome.EventResult.{EventResult};
 ghost use Rattle.wave_base.specs.declared.script.Line.{Line};
 ghost use Rattle.code_actor.specs.CodeActors.{Fields};

@@ -1,3 +1,5 @@
+//! Statements behind which nothing is run.
+
 ghost use Rattle.std.specs.Prelude.{◌≡◌};
 ghost use Rattle.resolved_service.specs.Steps as steps;
 ghost use Rattle.resolved_service.specs.Steps.{step_of, steps_in};

@@ -1,3 +1,5 @@
+//! Expressions with their names resolved.
+
 use wave_base::{Class, Span, Value};
 
 /// An expression, with the place where it starts.

@@ -1,3 +1,5 @@
+//! A whole service with its names resolved.
+
 use crate::expr::Expr;
 use crate::stmt::Stmt;
 use wave_base::{Class, Kind, Seq, Span, Txt};

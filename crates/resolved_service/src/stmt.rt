@@ -1,3 +1,5 @@
+//! Statements with their names resolved.
+
 use crate::expr::Expr;
 use wave_base::{Span, Txt};
 

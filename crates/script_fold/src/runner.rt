@@ -1,3 +1,5 @@
+//! Who runs the calls of a script: the evaluator does, and so does code.
+
 ghost use Rattle.std.specs.Prelude.{◌≡◌, List, OnOk, IfOk};
 ghost use Rattle.context_tree.specs.Contexts.{tree_of};
 ghost use Rattle.wave_base.specs.declared.call.Call.{Call};

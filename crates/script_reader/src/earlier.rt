@@ -1,3 +1,5 @@
+//! What a script goes on from, where it is not the first piece of its run.
+
 /// What was said before the text of a script.
 #[derive(Clone, Copy, Debug, PartialEq, Eq)]
 pub struct Earlier {

@@ -1,3 +1,5 @@
+//! What is read of a script with policies.
+
 use wave_base::{Line, Policy, Seq};
 
 /// A script with policies: the number of hosts, and its parts in order. A policy begins a part, and the first part has none.

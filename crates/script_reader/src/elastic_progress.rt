@@ -1,3 +1,5 @@
+//! How far the reading of a script with policies has come.
+
 ghost use Rattle.std.specs.Prelude.{◌≡◌, ◌+◌, ◌<◌, ◌^◌, [], OnOk, IfOk};
 ghost use Rattle.script_reader.specs.inner.ElasticProgressed.{elastic_progress_of, with_told, elastic_with};
 ghost use Rattle.script_reader.specs.declared.told.Told.TheVariants.{Plain, Policed};

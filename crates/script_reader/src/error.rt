@@ -1,3 +1,5 @@
+//! Why a text is no script of a service.
+
 ghost use Rattle.std.specs.Prelude.{◌≡◌};
 ghost use Rattle.script_reader.specs.Scripts.{refused};
 

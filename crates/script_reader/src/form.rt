@@ -1,3 +1,5 @@
+//! The forms of script lines, before a shape is asked.
+
 use crate::quote::Quote;
 use path_text::Written;
 use wave_base::Seq;

@@ -1,3 +1,5 @@
+//! What a line's form means for a shape, or why it means nothing.
+
 ghost use Rattle.std.specs.Prelude.{◌≡◌, ◌<◌, ◌≤◌, true, Some, is_some, IfOk, IfSome, IfNone};
 ghost use Rattle.std.specs.List.{list_all};
 ghost use Rattle.wave_base.specs.Names.{is_digits};

@@ -1,3 +1,5 @@
+//! A shape in which names are looked up.
+
 ghost use Rattle.std.specs.Prelude.{◌≡◌, ◌<◌, ◌^◌, true, length, position, slice_get, IfOk};
 ghost use Rattle.std.specs.List.{list_all};
 ghost use Rattle.wave_base.specs.Shapes.{IsShape};

@@ -1,3 +1,5 @@
+//! What script lines consist of.
+
 use crate::quote::Quote;
 use wave_base::Seq;
 

@@ -1,3 +1,5 @@
+//! What a policy line means, or why it means nothing.
+
 ghost use Rattle.std.specs.Prelude.{◌≡◌, ◌<◌, ◌≤◌, true, IfSome, IfNone};
 ghost use Rattle.wave_base.specs.Names.{is_digits};
 ghost use Rattle.wave_base.specs.Shapes.{IsShape};

@@ -1,3 +1,5 @@
+//! The forms of policy lines.
+
 use wave_base::Seq;
 
 /// A policy line as it is written.

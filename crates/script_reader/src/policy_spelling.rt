@@ -1,3 +1,5 @@
+//! The form that a policy line's pieces spell.
+
 ghost use Rattle.std.specs.Prelude.{◌≡◌, codes, IfOk, IfSome, IfNone};
 ghost use Rattle.script_reader.specs.inner.PolicyParts.{is_policy_word, IsBy, IsNotBy, AreTwoHosts, AreNoTwoHosts, IsOnlyPolicyOf, HasNoPolicyOf, SpellsOnlyPolicy, SpellsNoPolicy};
 

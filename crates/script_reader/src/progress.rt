@@ -1,3 +1,5 @@
+//! How far the reading of a script has come.
+
 ghost use Rattle.std.specs.Prelude.{◌≡◌, ◌+◌, ◌<◌, ◌^◌, [], OnOk, IfOk};
 ghost use Rattle.script_reader.specs.inner.Progressed.{progress_of, with_taken};
 ghost use Rattle.script_reader.specs.Scripts.{with_batch, script_with};

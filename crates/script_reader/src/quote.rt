@@ -1,3 +1,5 @@
+//! A text in quotes that may be longer than a value can be.
+
 ghost use Rattle.std.specs.Prelude.{◌≡◌, All, IfOk};
 ghost use Rattle.wave_base.specs.Text.{IsPrintable};
 

@@ -1,3 +1,5 @@
+//! What becomes of a line that is not taken.
+
 ghost use Rattle.std.specs.Prelude.{◌≡◌};
 ghost use Rattle.script_reader.specs.inner.Steps.{stopped};
 

@@ -1,3 +1,5 @@
+//! What a line says: nothing, a form, or a fault.
+
 ghost use Rattle.std.specs.Prelude.{◌≡◌, IfOk};
 ghost use Rattle.script_reader.specs.Forms.{is_skipped};
 ghost use Rattle.script_reader.specs.Scripts.{IsOnlySaid};

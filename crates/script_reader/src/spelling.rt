@@ -1,3 +1,5 @@
+//! The form that a line's pieces spell.
+
 ghost use Rattle.std.specs.Prelude.{◌≡◌, ◌∷◌, ◌↔◌, [], List, ℕ, true, IsTrue, IsFalse, codes, IfOk, IfSome, IfNone};
 ghost use Rattle.script_reader.specs.inner.Behind.{behind_of};
 ghost use Rattle.script_reader.specs.Forms.{IsOnlyFormOf, HasNoFormOf};

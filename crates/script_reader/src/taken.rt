@@ -1,3 +1,5 @@
+//! What a line is, once it is taken.
+
 use wave_base::Line;
 
 /// A script line that was taken.

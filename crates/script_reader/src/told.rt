@@ -1,3 +1,5 @@
+//! What a line of a script with policies is, once it is taken.
+
 use crate::taken::Taken;
 use wave_base::Policy;
 

@@ -1,3 +1,5 @@
+//! What a line of a script with policies says.
+
 ghost use Rattle.std.specs.Prelude.{IfOk};
 ghost use Rattle.script_reader.specs.Elastics.{IsOnlyWorded};
 

@@ -1,3 +1,5 @@
+//! The instructions.
+
 ghost use Rattle.std.specs.Prelude.{◌≡◌};
 ghost use Rattle.service_code.specs.Instructions.{name_of};
 

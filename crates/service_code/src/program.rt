@@ -1,3 +1,5 @@
+//! Functions and programs.
+
 use crate::instr::Instr;
 use wave_base::{Class, Kind, Seq, Shape, Span, Txt};
 

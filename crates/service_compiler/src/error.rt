@@ -1,3 +1,5 @@
+//! Why a service has no code.
+
 use thiserror::Error;
 use wave_base::OutOfMemory;
 

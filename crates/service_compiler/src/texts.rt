@@ -1,3 +1,5 @@
+//! The texts of a program, numbered.
+
 ghost use Rattle.std.specs.Prelude.{◌≡◌, ◌<◌, ◌^◌, [], length, IfOk, OnOk, OnErr};
 ghost use Rattle.code_scheme.specs.Texts.{with_text, place_of_text};
 

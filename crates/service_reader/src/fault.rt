@@ -1,3 +1,5 @@
+//! Why a text is no service, from whichever part this comes.
+
 use mace_lexer::LexError;
 use mace_parser::ParseError;
 use thiserror::Error;

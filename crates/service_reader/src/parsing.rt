@@ -1,3 +1,5 @@
+//! A service, as it is read: from bytes to declarations.
+
 ghost use Rattle.std.specs.Prelude.{◌≤◌, length, IfOk};
 ghost use Rattle.wave_base.specs.declared.limits.TheConstants.{SERVICE_BYTES};
 ghost use Rattle.mace_lexer.specs.Lexed.{AreTokens};

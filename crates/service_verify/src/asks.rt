@@ -1,3 +1,5 @@
+//! What each instruction asks of the stack, and what it gives.
+
 ghost use Rattle.std.specs.Prelude.{◌≡◌, ◌≤◌, Some, None, length, slice_get, option_map};
 ghost use Rattle.value_ops.specs.Rows.{wave_rows_2};
 ghost use Rattle.wave_base.specs.Shapes.{kinds_of_class};

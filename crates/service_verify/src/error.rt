@@ -1,3 +1,5 @@
+//! The rules of the verifier, and which of them a program breaks.
+
 use thiserror::Error;
 use wave_base::OutOfMemory;
 

@@ -1,3 +1,5 @@
+//! A function, judged from its first instruction to its last.
+
 ghost use Rattle.std.specs.Prelude.{◌≡◌, ◌<◌, ◌≤◌, ◌^◌, length, Some, Ok, Err, IfOk, IfErr, MatchResult, slice_get};
 ghost use Rattle.value_ops.specs.Rows.{wave_rows_2};
 ghost use Rattle.service_verify.specs.inner.Asks.{Judges, Leaves, IsUnreached};

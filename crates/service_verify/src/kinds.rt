@@ -1,3 +1,5 @@
+//! Kinds on the stack.
+
 ghost use Rattle.std.specs.Prelude.{◌≡◌, ◌≤◌, [], ◌∷◌, ◌++◌, Some, length, map};
 ghost use Rattle.service_verify.specs.inner.Asks.{takes_in, row_operands, Leaves};
 ghost use Rattle.service_verify.specs.Rules.{kind_eq, suits, operands, left_below};

@@ -1,3 +1,5 @@
+//! What is known before an instruction.
+
 ghost use Rattle.std.specs.Prelude.{◌≡◌, length, IfOk, MatchResult, Ok, Err};
 ghost use Rattle.std.specs.Cmp.Lexicographic.{pointwise};
 ghost use Rattle.service_verify.specs.Points.{agreed};

@@ -1,3 +1,5 @@
+//! The stack of the verifier.
+
 ghost use Rattle.std.specs.Prelude.{◌≡◌, ◌≤◌, ◌↔◌, [], ◌∷◌, ◌++◌, length, reverse, take, drop, option_to_list, IsNone, IfOk, OnOk, OnErr};
 
 use std::alloc::Global;

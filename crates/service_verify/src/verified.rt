@@ -1,3 +1,5 @@
+//! Programs that keep all rules, with what the machine asks of them.
+
 ghost use Rattle.std.specs.Prelude.{◌≡◌, ◌<◌, ◌↔◌, ℕ, Some, true, length, slice_get, IfOk, IfErr};
 ghost use Rattle.service_verify.specs.Faults.{Names};
 ghost use Rattle.service_verify.specs.Fit.{IsSmall};

@@ -1,3 +1,5 @@
+//! An event between its segments.
+
 ghost use Rattle.std.specs.Prelude.{◌≡◌, ◌<◌, ◌≤◌, ℕ, [], length, map, drop, Some, IsSome, IfOk, IfErr, OnOk, OnErr, slice_get};
 ghost use Rattle.wave_base.specs.declared.path.Path.{Path};
 ghost use Rattle.wave_base.specs.declared.limits.TheConstants.{GENERATION};

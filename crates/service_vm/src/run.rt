@@ -1,3 +1,5 @@
+//! All that an event has while it runs.
+
 ghost use Rattle.std.specs.Prelude.{◌≡◌, ◌<◌, ◌^◌, ◌∷◌, [], List, Some, None, true, false, suc, nat_lt, Err, IfOk, IfErr, OnOk};
 ghost use Rattle.std.specs.BTreeSet.{insert_key};
 ghost use Rattle.wave_base.specs.declared.limits.TheConstants.{CONTEXTS, TICKS};

@@ -1,3 +1,5 @@
+//! The code of a snapshot.
+
 ghost use Rattle.std.specs.Prelude.{◌≡◌, ◌<◌, ◌≤◌, ◌++◌, ◌∷◌, [], length, Some, None, IfOk, OnOk};
 ghost use Rattle.snapshot_events.specs.Walks.{pause_of};
 ghost use Rattle.wave_states.specs.States.{steps_of};

@@ -1,3 +1,5 @@
+//! Why a text is no snapshot of a service.
+
 ghost use Rattle.std.specs.Prelude.{◌≡◌};
 ghost use Rattle.snapshot_text.specs.Refusals.{refused};
 

@@ -1,3 +1,5 @@
+//! What holds of the values of contexts by their types, said for the proofs above.
+
 ghost use Rattle.std.specs.Prelude.{ℤ, All, FitsSigned};
 ghost use Rattle.std.specs.Int.{w64};
 ghost use Rattle.wave_base.specs.declared.shot.Shot.{Shot};

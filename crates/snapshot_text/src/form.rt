@@ -1,3 +1,5 @@
+//! What a line of a snapshot looks like, whatever it tells.
+
 ghost use Rattle.std.specs.Prelude.{◌≡◌, ◌∷◌, ◌↔◌, true, IsTrue, IfOk, IfSome, IfNone};
 ghost use Rattle.std.specs.List.{list_all};
 ghost use Rattle.snapshot_text.specs.Forms.{is_plain_key, HasNoForm};

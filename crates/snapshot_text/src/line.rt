@@ -1,3 +1,5 @@
+//! The next line of a snapshot, as it is read.
+
 ghost use Rattle.std.specs.Prelude.{◌≡◌, true, [], List, IfOk, IfErr};
 ghost use Rattle.wave_base.specs.Names.{HasNames};
 ghost use Rattle.wave_base.specs.Shapes.{IsShape};

@@ -1,3 +1,5 @@
+//! The values in a line, as they look.
+
 ghost use Rattle.std.specs.Prelude.{◌≡◌, ◌∷◌, IfOk, IfSome, IfNone};
 ghost use Rattle.snapshot_text.specs.inner.Fronts.{BeginsNot, IsRun, is_bare, HasLiteral, OnlyBehindLiteral, HasNoLiteral};
 

@@ -1,3 +1,5 @@
+//! Maps, as they are read.
+
 ghost use Rattle.std.specs.Prelude.{IfOk, IfSome};
 ghost use Rattle.wave_base.specs.declared.value.Value.TheVariants as value;
 ghost use Rattle.snapshot_text.specs.Shots.{IsValue};

@@ -1,3 +1,5 @@
+//! Numbers of any length, as they look and as they are ordered.
+
 ghost use Rattle.std.specs.Prelude.{◌≡◌};
 ghost use Rattle.snapshot_text.specs.Forms.{is_plain_digits, is_zero, is_plain, is_fewer, has_minus, is_below};
 

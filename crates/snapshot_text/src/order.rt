@@ -1,3 +1,5 @@
+//! The order of the contexts in a snapshot.
+
 ghost use Rattle.std.specs.Prelude.{◌≡◌, true, []};
 ghost use Rattle.snapshot_text.specs.Shots.{are_in_order, comes_next, paths_of};
 

@@ -1,3 +1,5 @@
+//! The pairs of a map, as they look.
+
 ghost use Rattle.std.specs.Prelude.{◌≡◌, ◌∷◌, ◌&&◌, ◌↔◌, IsTrue, IfSome, IfNone};
 ghost use Rattle.snapshot_text.specs.Forms.{is_plain};
 ghost use Rattle.snapshot_text.specs.inner.Fronts.{BeginsNot, IsPairOf, IsNoPair, IsFirstPair, IsNoFirstPair, IsMapText, IsMapTextBehind};

@@ -1,3 +1,5 @@
+//! A context with its fields, as it is read.
+
 ghost use Rattle.std.specs.Prelude.{◌≡◌, true, map, All, IfOk, IfSome, IfNone};
 ghost use Rattle.std.specs.List.{list_all};
 ghost use Rattle.wave_base.specs.Names.{HasNames, is_word};

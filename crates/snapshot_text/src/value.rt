@@ -1,3 +1,5 @@
+//! The values of fields, as they are read.
+
 ghost use Rattle.std.specs.Prelude.{◌≡◌, ◌≤◌, length, IfOk, IfSome, IfNone, FitsSigned};
 ghost use Rattle.std.specs.Int.{w64};
 ghost use Rattle.wave_base.specs.declared.value.Kind.TheVariants as kinds;

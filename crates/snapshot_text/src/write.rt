@@ -1,3 +1,5 @@
+//! A whole snapshot, as it is written.
+
 ghost use Rattle.std.specs.Prelude.{IfOk};
 ghost use Rattle.snapshot_text.specs.Shots.{AreShots};
 ghost use Rattle.snapshot_text.specs.SnapshotTexts.{IsSnapshotText};

@@ -1,3 +1,5 @@
+//! What follows for a service that keeps the rules of types.
+
 ghost use Rattle.std.specs.Prelude.{◌≡◌, ◌<◌, ◌^◌, length};
 ghost use Rattle.wave_base.specs.Shapes.{IsShape};
 ghost use Rattle.mace_ast.specs.Decls.{ServiceTree};

@@ -1,3 +1,5 @@
+//! Why a service breaks a rule of types.
+
 use thiserror::Error;
 use wave_base::{OutOfMemory, Span};
 

@@ -1,3 +1,5 @@
+//! What the rules of types ask about what a service declares.
+
 use wave_base::{Kind, Seq, Shape, Txt, Version};
 
 /// What a call of a method has to know: the class it belongs to, and the kinds that it takes and gives.

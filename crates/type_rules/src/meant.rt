@@ -1,3 +1,5 @@
+//! What names stand for.
+
 use wave_base::{Kind, Txt};
 
 /// A local that may be named, with its kind and its slot.

@@ -1,3 +1,5 @@
+//! Declarations, as they are gathered from a service.
+
 ghost use Rattle.std.specs.Prelude.{◌≡◌, ◌+◌, ◌<◌, ◌^◌, ◌∷◌, ◌++◌, [], length, map, OnOk, IfOk};
 ghost use Rattle.mace_ast.specs.Counts.{class_count, classes_count, method_count, methods_count, IsFew};
 ghost use Rattle.mace_ast.specs.Decls.{method_tree, event_tree, context_tree, contexts_of, service_tree};

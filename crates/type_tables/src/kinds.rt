@@ -1,3 +1,5 @@
+//! Kinds, and the rows that each sign may mean.
+
 ghost use Rattle.std.specs.Prelude.{◌≡◌, All, ◌<◌};
 ghost use Rattle.type_rules.specs.Kinds as rules;
 ghost use Rattle.type_tables.specs.Rows.{IsRow};

@@ -1,3 +1,5 @@
+//! Operators and builtins, by name and by operands.
+
 ghost use Rattle.std.specs.Prelude.{◌≡◌, ◌≤◌, All, take, find, IfSome};
 ghost use Rattle.value_ops.specs.Operators.{takes_of, gives_of};
 ghost use Rattle.value_ops.specs.Rows.{wave_rows, wave_rows_2, first_builtin};

@@ -1,3 +1,5 @@
+//! The kinds of parameters.
+
 ghost use Rattle.std.specs.Prelude.{◌≡◌, IfOk};
 ghost use Rattle.type_rules.specs.Known as known;
 

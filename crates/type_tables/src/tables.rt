@@ -1,3 +1,5 @@
+//! All that a service declares, found by name.
+
 ghost use Rattle.std.specs.Prelude.{◌≡◌, ◌<◌, ◌^◌, IfOk, IfSome, length};
 ghost use Rattle.std.specs.Option.{option_map};
 ghost use Rattle.wave_base.specs.Shapes.{declared_fields, is_child_class};

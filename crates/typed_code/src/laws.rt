@@ -1,3 +1,5 @@
+//! A law of types: a typed service has code.
+
 ghost use Rattle.std.specs.Prelude.{◌≡◌};
 ghost use Rattle.wave_base.specs.declared.shape.Shape.{Shape};
 ghost use Rattle.wave_base.specs.Shapes.{IsShape};

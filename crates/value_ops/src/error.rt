@@ -1,3 +1,5 @@
+//! Why an operator gives no value.
+
 use thiserror::Error;
 use wave_base::{OutOfMemory, TrapKind};
 

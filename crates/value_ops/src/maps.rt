@@ -1,3 +1,5 @@
+//! Operators on maps and keys.
+
 ghost use Rattle.std.specs.Prelude.{◌≡◌, ◌≢◌, ◌↔◌, ◌∷◌, [], Ok, Err, None, OnOk, OnErr};
 ghost use Rattle.value_ops.specs.Answers.{Answers};
 ghost use Rattle.value_ops.specs.Kinds.{answer_of};

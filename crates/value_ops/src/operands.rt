@@ -1,3 +1,5 @@
+//! Operands of a known kind.
+
 ghost use Rattle.std.specs.Prelude.{◌≡◌, map, Some, slice_get};
 ghost use Rattle.wave_base.specs.declared.value.Kind.{Kind};
 ghost use Rattle.wave_base.specs.declared.value.Value.{Value};

@@ -1,3 +1,5 @@
+//! What a table says of an operator.
+
 ghost use Rattle.std.specs.Prelude.{◌≡◌, ◌<◌};
 ghost use Rattle.wave_base.specs.declared.operators.TheConstants.{OPERATORS};
 

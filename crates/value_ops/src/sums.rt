@@ -1,3 +1,5 @@
+//! Sums over maps.
+
 ghost use Rattle.std.specs.Prelude.{◌≡◌, FitsSigned};
 ghost use Rattle.std.specs.Int.{w64};
 ghost use Rattle.value_ops.specs.Kinds.{answer_of};

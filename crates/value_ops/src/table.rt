@@ -1,3 +1,5 @@
+//! The tables of the operators, one for each version of the language.
+
 ghost use Rattle.std.specs.Prelude.{◌≡◌, ◌<◌, length, map, Some, slice_get};
 ghost use Rattle.value_ops.specs.Operators.{takes_of};
 ghost use Rattle.value_ops.specs.Rows.{row_of, kept_row, three, wave_rows, wave_rows_2, first_builtin};

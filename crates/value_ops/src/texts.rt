@@ -1,3 +1,5 @@
+//! Operators on texts.
+
 ghost use Rattle.std.specs.Prelude.{◌≡◌, ◌≤◌, ◌+◌, ◌∷◌, ◌++◌, [], length, Ok, IfOk};
 ghost use Rattle.value_ops.specs.Answers.{Answers};
 ghost use Rattle.std.specs.Option.{option_copied};

@@ -1,3 +1,5 @@
+//! An operator on values of whatever kinds it takes.
+
 ghost use Rattle.std.specs.Prelude.{◌≡◌, ◌<◌, ◌↔◌, ◌∷◌, [], map, Ok, Err};
 ghost use Rattle.value_ops.specs.Answers.{Answers};
 ghost use Rattle.value_ops.specs.Operators.{takes_of, apply_row};

@@ -1,3 +1,5 @@
+//! What an event asks for: calls of events, and messages.
+
 ghost use Rattle.std.specs.Prelude.{◌≡◌, IfOk};
 
 use crate::copied::Copied;

@@ -1,3 +1,5 @@
+//! Drawn numbers, the same for each machine.
+
 ghost use Rattle.std.specs.Prelude.{◌≡◌, ◌%◌, ◌<◌};
 ghost use Rattle.wave_base.specs.Draws.{next_draw, drawn};
 

@@ -1,3 +1,5 @@
+//! What is left of a run that is over.
+
 use crate::copied::Copied;
 use crate::memory::OutOfMemory;
 use crate::numbers::{Host, Ticket};

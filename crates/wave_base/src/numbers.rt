@@ -1,3 +1,5 @@
+//! Numbers that are not to be mixed up: tickets, hosts, workers.
+
 use crate::copied::Copied;
 use crate::memory::OutOfMemory;
 use std::alloc::Global;

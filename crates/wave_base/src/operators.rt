@@ -1,3 +1,5 @@
+//! How many operators there are, and their names.
+
 ghost use Rattle.std.specs.Prelude.{◌≡◌, ◌<◌};
 ghost use Rattle.wave_base.specs.Operators.{name_of_operator};
 

@@ -1,3 +1,5 @@
+//! How events end.
+
 ghost use Rattle.std.specs.Prelude.{◌≡◌, IfOk};
 
 use crate::call::{Call, Message};

@@ -1,3 +1,5 @@
+//! Where an actor stops between its segments.
+
 use crate::outcome::EventResult;
 use crate::path::Step;
 

@@ -1,3 +1,5 @@
+//! Policies of scripts.
+
 use crate::numbers::Host;
 
 /// How contexts are moved between hosts before a batch is run.

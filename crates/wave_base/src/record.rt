@@ -1,3 +1,5 @@
+//! A context as its host keeps it.
+
 ghost use Rattle.std.specs.Prelude.{◌≡◌, ◌<◌, [], length, IfOk, map};
 ghost use Rattle.wave_base.specs.Shapes.{fields_of_class};
 

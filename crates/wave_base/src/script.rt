@@ -1,3 +1,5 @@
+//! Scripts.
+
 ghost use Rattle.std.specs.Prelude.{◌≡◌, IfOk};
 
 use crate::call::Call;

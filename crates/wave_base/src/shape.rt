@@ -1,3 +1,5 @@
+//! The declarations of a service that paths, scripts and texts are read by.
+
 ghost use Rattle.std.specs.Prelude.{◌≡◌, IfOk};
 
 use crate::copied::Copied;

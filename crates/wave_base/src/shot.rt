@@ -1,3 +1,5 @@
+//! A context as a snapshot shows it.
+
 ghost use Rattle.std.specs.Prelude.{◌≡◌, IfOk};
 
 use crate::copied::Copied;

@@ -1,3 +1,5 @@
+//! What a listing tells of a committed ticket.
+
 use crate::numbers::Ticket;
 use crate::outcome::EventResult;
 use crate::seq::Seq;

@@ -1,3 +1,5 @@
+//! Places in texts.
+
 /// A place in a text: line and column from 1, columns in bytes.
 #[derive(Clone, Copy, Debug, PartialEq, Eq)]
 pub struct Span {

@@ -1,3 +1,5 @@
+//! Where a run begins.
+
 ghost use Rattle.std.specs.Prelude.{◌≡◌, ◌<◌, length, IfOk};
 ghost use Rattle.wave_base.specs.Starts.{first_start};
 

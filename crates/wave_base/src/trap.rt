@@ -1,3 +1,5 @@
+//! Traps.
+
 use crate::span::Span;
 
 /// Why an event ended before its end.

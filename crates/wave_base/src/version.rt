@@ -1,3 +1,5 @@
+//! The versions of the language.
+
 /// A version of the language.
 #[derive(Clone, Copy, Debug, PartialEq, Eq)]
 pub enum Version {

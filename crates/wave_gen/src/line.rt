@@ -1,3 +1,5 @@
+//! A drawn line of a load.
+
 ghost use Rattle.std.specs.Prelude.{◌≡◌, ◌++◌, ◌<◌, ◌≤◌, OnOk};
 ghost use Rattle.std.specs.Fmt.{decimal};
 ghost use Rattle.wave_base.specs.Draws.{after};

@@ -1,3 +1,5 @@
+//! A generated load.
+
 ghost use Rattle.std.specs.Prelude.{◌≡◌, ◌++◌, IfOk, OnOk};
 ghost use Rattle.wave_gen.specs.Load.{drawn_text, load_text, market};
 

@@ -1,3 +1,5 @@
+//! What is counted of a run.
+
 ghost use Rattle.std.specs.Prelude.{◌≡◌, ◌++◌, codes, IfOk, OnOk};
 ghost use Rattle.std.specs.Fmt.{decimal};
 ghost use Rattle.wave_gen.specs.Summary.{ended_so, tally, worth, total, entry, summary_text};

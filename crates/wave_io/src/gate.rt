@@ -1,3 +1,5 @@
+//! A gate before each segment, where a test can stop a worker.
+
 use wave_base::{Path, Ticket};
 
 /// What a worker tells before it runs a segment, so that a test can hold it there.

@@ -1,3 +1,5 @@
+//! Labels: who did what, and where.
+
 ghost use Rattle.wave_labels.specs.Labels.{mail_eq, act_eq, label_eq};
 ghost use Rattle.wave_labels.specs.LabelLaws.{mail_equiv, act_equiv, label_equiv};
 ghost use Rattle.std.specs.Prelude.{◌++◌};

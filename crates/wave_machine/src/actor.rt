@@ -1,3 +1,5 @@
+//! The code of a ticket.
+
 ghost use Rattle.std.specs.Prelude.{◌≡◌};
 
 use migration_core::Mover;

@@ -1,3 +1,5 @@
+//! A segment that is given back.
+
 use crate::lease::Lease;
 use wave_base::Pause;
 

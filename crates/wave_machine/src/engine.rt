@@ -1,3 +1,5 @@
+//! What a machine keeps, in parts that labels change.
+
 use crate::actor::Actor;
 use crate::kept::{Out, Settled};
 use crate::plan::Plan;

@@ -1,3 +1,5 @@
+//! What is read off an entry, a mail or a mark.
+
 ghost use Rattle.std.specs.Prelude.{◌≡◌, Some, IsSome, is_some, option_copied, option_map, true};
 ghost use Rattle.code_actor.specs.CodeActors.{Fields};
 ghost use Rattle.context_queue.specs.Entries.{StandsFor, next_in};

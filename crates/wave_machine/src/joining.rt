@@ -1,3 +1,5 @@
+//! A ticket that comes to a context.
+
 ghost use Rattle.std.specs.FinMap as table;
 ghost use Rattle.wave_machine.specs.Rooms.{RoomInLine};
 ghost use Rattle.wave_machine.specs.inner.Joins.{LinesUp};

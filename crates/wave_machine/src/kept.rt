@@ -1,3 +1,5 @@
+//! What a machine keeps of segments that are out and of tickets that are committed.
+
 use wave_base::{EventResult, Path, Seq, Ticket};
 
 /// The ticket and the context of a segment that is out.

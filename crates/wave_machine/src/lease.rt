@@ -1,3 +1,5 @@
+//! A segment that is given to a worker.
+
 use crate::actor::Actor;
 use wave_base::{Path, Record, Ticket, Worker};
 

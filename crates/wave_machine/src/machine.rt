@@ -1,3 +1,5 @@
+//! The machine, and what can be asked of it.
+
 ghost use Rattle.std.specs.Prelude.{◌≡◌, ◌↔◌, ◌≤◌, ◌+◌, ◌-◌, ℕ, true, length, map, min, slice_get, Some, None, is_some, IsTrue, IfErr, IfOk, OnErr, OnOk};
 ghost use Rattle.script_fold.specs.Runs.{finished_of};
 ghost use Rattle.wave_base.specs.declared.start.Start.{Start};

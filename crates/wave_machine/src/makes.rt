@@ -1,3 +1,5 @@
+//! The actors of jobs, as they are made.
+
 ghost use Rattle.std.specs.Prelude.{◌≡◌, IfOk};
 ghost use Rattle.script_fold.specs.Lines.{FitsJob};
 ghost use Rattle.service_verify.specs.Fit.{IsFit};

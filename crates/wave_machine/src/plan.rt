@@ -1,3 +1,5 @@
+//! What a machine runs.
+
 use service_verify::Verified;
 use wave_base::Script;
 

@@ -1,3 +1,5 @@
+//! All memory that a label takes, taken before anything changes.
+
 ghost use Rattle.std.specs.Prelude.{◌≡◌, Some, IsSome};
 ghost use Rattle.wave_machine.specs.inner.Taken.{calls_in, cell_in, copy_in, entry_in};
 

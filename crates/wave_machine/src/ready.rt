@@ -1,3 +1,5 @@
+//! What can be done, whoever does it.
+
 ghost use Rattle.std.specs.Prelude.{◌≡◌};
 
 use wave_base::{Host, Worker};

@@ -1,3 +1,5 @@
+//! What a refused Stop gives back.
+
 use crate::lease::Lease;
 use wave_base::{OutOfMemory, Pause};
 

@@ -1,3 +1,5 @@
+//! A segment, run apart from the machine.
+
 ghost use Rattle.std.specs.Prelude.{◌≡◌, IfOk};
 ghost use Rattle.service_verify.specs.Fit.{IsFit};
 ghost use Rattle.wave_states.specs.States.{Hand};

@@ -1,3 +1,5 @@
+//! The one who runs a script's calls as the language means them.
+
 use context_tree::Tree;
 use resolved_service::Resolved;
 use script_fold::Runner;

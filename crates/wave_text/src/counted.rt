@@ -1,3 +1,5 @@
+//! Texts with a head that tells how many lines stand behind it.
+
 ghost use Rattle.std.specs.Prelude.{◌≡◌, ◌≤◌, ◌++◌, OnOk, IfOk, IfSome, IfNone, count_by, ◌==◌};
 ghost use Rattle.std.specs.Fmt.{decimal};
 ghost use Rattle.wave_text.specs.Counted.{left_over, line_count, IsBehindHead, HasNoHead};

@@ -1,3 +1,5 @@
+//! The lines of a text, one by one.
+
 ghost use Rattle.std.specs.Prelude.{◌≡◌, ◌<◌, [], ◌∷◌, length, IfSome, IfNone};
 ghost use Rattle.wave_text.specs.Lines.{lines_of, without_return};
 

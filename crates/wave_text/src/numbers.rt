@@ -1,3 +1,5 @@
+//! Whole numbers in a text.
+
 ghost use Rattle.std.specs.Prelude.{◌≡◌, ◌≤◌, ℤ, true, Some, length, FitsSigned};
 ghost use Rattle.std.specs.Fmt.{signed_decimal};
 ghost use Rattle.std.specs.Int.{w64};

@@ -1,3 +1,5 @@
+//! Numbers, places and values, as they are written.
+
 ghost use Rattle.std.specs.Prelude.{◌≡◌, ◌++◌, OnOk};
 ghost use Rattle.std.specs.Fmt.{decimal, signed_decimal};
 ghost use Rattle.wave_base.specs.Text.{escaped, quoted};

@@ -1,3 +1,5 @@
+//! Quoted texts, as they are read.
+
 ghost use Rattle.std.specs.Prelude.{◌≡◌, IfOk, IfSome, IfNone};
 ghost use Rattle.wave_text.specs.Quotes.{Quotes, QuotesNone, QuotesOnly, next_in, next_escaped};
 ghost use Rattle.wave_text.specs.NextSeen.{next_of};

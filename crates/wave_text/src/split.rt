@@ -1,3 +1,5 @@
+//! Texts that are split at a byte.
+
 ghost use Rattle.std.specs.Prelude.{◌≡◌, ◌-◌, ◌≤◌, length, IfSome, IfNone};
 ghost use Rattle.std.specs.List.{prefix_len};
 ghost use Rattle.wave_text.specs.Splits.{is_other, HasNone, IsSplit, ArePartsAt};

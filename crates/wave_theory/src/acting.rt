@@ -1,3 +1,5 @@
+//! The kind of actors that the laws of the machine are proved for.
+
 ghost use Rattle.wave_states.specs.Kinds.{Kind};
 ghost use Rattle.wave_states.specs.Owes.{Owes};
 

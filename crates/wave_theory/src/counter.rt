@@ -1,3 +1,5 @@
+//! A kind of actors with one context: a counter.
+
 ghost use Rattle.std.specs.Prelude.{ℕ};
 ghost use Rattle.wave_states.proofs.Counting.{counter_owes};
 ghost use Rattle.wave_states.specs.Counter.{counter_kind};

@@ -1,3 +1,5 @@
+//! What a machine's code is given by the theory, step by step.
+
 ghost use Rattle.wave_theory.specs.Agree.{Agree};
 ghost use Rattle.wave_theory.specs.Always.{Always, AlwaysBy, AlwaysOf};
 ghost use Rattle.wave_theory.specs.Doable.{Doable};

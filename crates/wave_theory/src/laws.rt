@@ -1,3 +1,5 @@
+//! The laws of the machine, for each kind of actors.
+
 ghost use Rattle.wave_theory.specs.Always.{Always, AlwaysBy, AlwaysOf};
 ghost use Rattle.wave_theory.specs.Bounds.{Bounds};
 ghost use Rattle.wave_theory.specs.Came.{Came};

@@ -1,3 +1,5 @@
+//! Two kinds of actors without events: movers and walkers.
+
 ghost use Rattle.std.specs.Prelude.{ℕ, List};
 ghost use Rattle.wave_base.specs.declared.path.Path.{Path};
 ghost use Rattle.wave_states.specs.Movers.{Move, Mover, MoveEnd};

@@ -1,3 +1,5 @@
+//! The laws, shown at the kinds of actors that stand here.
+
 ghost use Rattle.std.specs.Prelude.{◌≡◌, ℕ, List, None, All};
 ghost use Rattle.wave_states.specs.Alone.{job_after};
 ghost use Rattle.wave_states.specs.Begins.{Begin};
