@@ -8,7 +8,7 @@ use Rattle.context_types.specs.declared.Typed.{Typed}
 use Rattle.service_code.specs.declared.program.Program.{Program}
 use Rattle.service_code.specs.Listing.{program_text}
 use Rattle.code_scheme.specs.Programs.{scheme_program}
-use Rattle.code_views.proofs.SameCode.{same_programs}
+use Rattle.typed_code.proofs.SameCode.{same_programs}
 use Rattle.command_words.specs.declared.command.Command.{Command}
 use Rattle.command_words.specs.declared.command.Command.TheVariants.{Run, Seq, Trace, Save, Resume, Replay, Check, Print, Code, Gen, Load}
 use Rattle.command_words.specs.Inputs.{input_bytes, reads_input}

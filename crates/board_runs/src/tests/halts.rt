@@ -11,7 +11,7 @@ use std::alloc::Global;
 use std::process::Abort;
 use std::test::Fail;
 use std::thread::{Threads, join};
-use text_plans::TICK;
+use tests_services::TICK;
 use wave_base::{OutOfMemory, Start, Worker};
 use wave_board::{Board, StopCause, Work};
 use wave_machine::Plan;

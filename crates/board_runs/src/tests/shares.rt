@@ -11,7 +11,7 @@ use super::turns::{find_nothing, first_of, give_back, opened, plan_for, take_seg
 use std::alloc::Global;
 use std::process::Abort;
 use std::test::Fail;
-use text_plans::TICK;
+use tests_services::TICK;
 use wave_base::{OutOfMemory, Seq, Start, Worker};
 use wave_board::Board;
 use wave_labels::Label;

@@ -9,7 +9,7 @@ ghost use Rattle.board_runs.specs.inner.Ready.{HasRun, IsOut, IsReady};
 use plan_actors::PlanActors;
 use std::alloc::Global;
 use std::process::Abort;
-use text_plans::plan_of_texts;
+use tests_machine::plan_of_texts;
 use wave_base::{OutOfMemory, Pause, Start, WORKERS, Worker};
 use wave_board::{Board, Work};
 use wave_machine::{Lease, Plan, Refused, run_lease};

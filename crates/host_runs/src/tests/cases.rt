@@ -8,7 +8,7 @@ use std::alloc::Global;
 use std::process::Abort;
 use std::sync::Wait;
 use std::thread::Threads;
-use text_plans::plan_of_texts;
+use tests_machine::plan_of_texts;
 use wave_base::{Finished, WORKERS};
 use wave_io::{Gate, Sink};
 use wave_machine::Plan;

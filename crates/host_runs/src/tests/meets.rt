@@ -9,7 +9,7 @@ use std::sync::Wait;
 use std::sync::atomic::{AtomicU64, Ordering};
 use std::test::Fail;
 use std::thread::Threads;
-use text_plans::{LOOK, MARKET};
+use tests_services::{LOOK, MARKET};
 use wave_base::{OutOfMemory, Path, Seq, Ticket};
 use wave_io::{Gate, MemSink};
 

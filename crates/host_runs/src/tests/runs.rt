@@ -9,7 +9,7 @@ use std::process::Abort;
 use std::sync::Wait;
 use std::test::Fail;
 use std::thread::Threads;
-use text_plans::{CHAIN, MARKET, TICK};
+use tests_services::{CHAIN, MARKET, TICK};
 use wave_base::{Finished, OutOfMemory, Seq};
 use wave_io::{MemSink, OpenGate};
 use wave_machine::Plan;
