@@ -31,7 +31,7 @@ returns-in-None-clause-only c a v =
     (λ m p g hp h e.
     let words = pass_words c.args.classes.now c.requires.names c.args.text.now c.word_of.result.0.now c.word_of.result.1.now c.word_of-2.result.0.now c.word_of-2.result.1.now c.word_of-3.result.0.now c.word_of-3.result.1.now
     c.word_of.ensures c.word_of-2.ensures c.word_of-3.ensures m p g hp h.0 h.1 e in
-    let found = c.in_ok-path.ensures.only p (record { path = hp; short = h.1.short; keys = h.1.keys }) words.path in
+    let found = c.in_ok-path.ensures.only p (record { path = hp; keys = h.1 }) words.path in
     cc (found, c.in-None.is))
 
 pub returns-in-Some-2-clause-only : goal.returns-in-Some-2-clause-only
@@ -41,6 +41,6 @@ returns-in-Some-2-clause-only c a v =
     let words = pass_words c.args.classes.now c.requires.names c.args.text.now c.word_of.result.0.now c.word_of.result.1.now c.word_of-2.result.0.now c.word_of-2.result.1.now c.word_of-3.result.0.now c.word_of-3.result.1.now
     c.word_of.ensures c.word_of-2.ensures c.word_of-3.ensures m p g hp h.0 h.1 e in
     let mail : c.in-Some.mail ≡ m = cc (c.mail_of.ensures m h.0 words.mail, c.in-Some.is) in
-    let path : c.in-Some-2.path ≡ p = cc (c.in_ok-path.ensures.only p (record { path = hp; short = h.1.short; keys = h.1.keys }) words.path, c.in-Some-2.is) in
+    let path : c.in-Some-2.path ≡ p = cc (c.in_ok-path.ensures.only p (record { path = hp; keys = h.1 }) words.path, c.in-Some-2.is) in
     let host : c.in-Some-byte_of.host ≡ g.0 = cc (c.byte_of.ensures g.0 h.2 words.host, c.in-Some-byte_of.is) in
     pass_found c.in-Some.mail m c.in-Some-2.path p (record { 0 = c.in-Some-byte_of.host }) g mail path (λ i. record { 0 = host i }))

@@ -16,11 +16,11 @@ pub returns-in-Some-2-clause-only : goal.returns-in-Some-2-clause-only
 returns-in-Some-2-clause-only c x p hx hp hk e =
     let words = two_words c.args.text.now c.word_of.result.0.now c.word_of.result.1.now c.word_of-2.result.0.now c.word_of-2.result.1.now c.word_of.ensures c.word_of-2.ensures
     (ticket_text x) (path_text c.args.classes.now p) [] (solid_has_none 32 (lit< tt) (ticket_text x) (ticket_solid x hx)) (solid_has_none 32 (lit< tt) (path_text c.args.classes.now p) (path_solid c.args.classes.now c.requires.names p hp hk)) e in
-    both_found c.ticket_of.result c.in_ok-path.field-0 c.in-Some.ticket x c.in-Some-2.path p c.in-Some.is (c.ticket_of.ensures x hx words.0) c.in-Some-2.is (c.in_ok-path.ensures.only p (record { path = hp; short = hk.short; keys = hk.keys }) words.2)
+    both_found c.ticket_of.result c.in_ok-path.field-0 c.in-Some.ticket x c.in-Some-2.path p c.in-Some.is (c.ticket_of.ensures x hx words.0) c.in-Some-2.is (c.in_ok-path.ensures.only p (record { path = hp; keys = hk }) words.2)
 
 pub returns-in-None-clause-only : goal.returns-in-None-clause-only
 returns-in-None-clause-only c x p hx hp hk e =
     let words = two_words c.args.text.now c.word_of.result.0.now c.word_of.result.1.now c.word_of-2.result.0.now c.word_of-2.result.1.now c.word_of.ensures c.word_of-2.ensures
     (ticket_text x) (path_text c.args.classes.now p) [] (solid_has_none 32 (lit< tt) (ticket_text x) (ticket_solid x hx)) (solid_has_none 32 (lit< tt) (path_text c.args.classes.now p) (path_solid c.args.classes.now c.requires.names p hp hk)) e in
-    let found = c.in_ok-path.ensures.only p (record { path = hp; short = hk.short; keys = hk.keys }) words.2 in
+    let found = c.in_ok-path.ensures.only p (record { path = hp; keys = hk }) words.2 in
     cc (found, c.in-None.is)
