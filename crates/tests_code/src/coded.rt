@@ -72,10 +72,11 @@ fn script_of(alloc: Global, program: &Verified, text: &[u8]) -> Option<Script>
     ensures script { IfSome result (IsScript program.now.shape) }
     ensures verified { IsVerified program.now }
 {
+    let shape = &program.program().shape;
     if text.len() > SCRIPT_BYTES {
         return None;
     }
-    match read_script(alloc, &program.program().shape, text) {
+    match read_script(alloc, shape, text) {
         Ok(script) => Some(script),
         Err(_) => None,
     }
