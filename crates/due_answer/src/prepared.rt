@@ -1,3 +1,5 @@
+//! What a command comes to before anything is run.
+
 use crate::task::{Engine, Task};
 use command_words::Places;
 use due_parts::{Answer, Work};

@@ -1,3 +1,5 @@
+//! How the top call ends.
+
 ghost use Rattle.std.specs.Prelude.{◌≡◌};
 ghost use Rattle.eventwave.specs.inner.Parts.{broken_off};
 

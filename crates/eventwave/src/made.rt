@@ -1,3 +1,5 @@
+//! What an engine gives back of a plan.
+
 use wave_base::{Finished, Seq};
 use wave_labels::Label;
 

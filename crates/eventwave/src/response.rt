@@ -1,3 +1,5 @@
+//! What comes of the words, before it is written.
+
 use crate::ending::Ending;
 use command_words::Command;
 

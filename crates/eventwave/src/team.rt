@@ -1,3 +1,5 @@
+//! What the workers of a call are run with.
+
 use std::alloc::Global;
 
 /// Where workers are run: what makes their threads, the allocator, and what they come to before each segment.

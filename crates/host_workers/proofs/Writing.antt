@@ -28,15 +28,11 @@ use Rattle.host_workers.specs.Endings.{Ended, IsHalted}
 use Rattle.host_workers.specs.Lines.{event_lines}
 use Rattle.host_workers.specs.Passes.{GoesOn, IsReady, OnlyHalts}
 use Rattle.host_workers.specs.inner.Rounds.{Asked, Brings}
-use Rattle.host_workers.specs.inner.Writing.{AreCommitted, AreNext, BreaksOff, HasWritten, Offered, WritesUpTo, lines_of, told_of}
+use Rattle.host_workers.specs.inner.Writing.{AreCommitted, AreNext, AreWritten, BreaksOff, HasWritten, Offered, WritesUpTo, lines_of, told_of}
 use Rattle.wave_base.specs.Memory.{the_refusal}
 
 abbrev pub all_of : Origin → List ℕ
 all_of o = event_lines o.plan.now o.start.now
-
--- the lines of so many tickets are written
-abbrev pub AreWritten : Origin → ℕ → Option (List ℕ) → Option (List ℕ) → Type 0
-AreWritten o written old new = Appends old new (lines_of o written)
 
 module _ (o : Origin) (written : ℕ) where
   rest : (left : List ℕ) × (lines_of o written ++ left ≡ all_of o)

@@ -1,4 +1,6 @@
 // Whom a worker wakes.
+ghost use Rattle.std.specs.Prelude.{◌≡◌, ◌≢◌, ◌↔◌, ℕ, false, IfSome, IsTrue};
+ghost use Rattle.host_workers.specs.inner.Calls.{has_ended, is_busy, seat_after};
 ghost use Rattle.host_workers.specs.inner.Visits.{IsNoted};
 
 use crate::offer::Offer;
@@ -24,15 +26,44 @@ pub(crate) fn noted(mut crew: Crew, ticks: Option<u32>) -> Crew {
     crew
 }
 
-/// Notes how a worker leaves, and says whom it wakes.
+/// Whether there is something for another that is worth a call: where segments are heavy, or where this worker writes and nobody else is awake. Who
+/// rests, or has ended, leaves nothing that others have not been called for.
+pub(crate) fn is_for_another(
+    board: &Board,
+    crew: &Crew,
+    number: Worker,
+    told: &Result<Offer, OutOfMemory>,
+) -> bool
+    ensures { is_busy told.now ≡ false → result ≡ false }
+{
+    is_worth_a_call(crew, number, told) && board.has_ready()
+}
+
+// Whether a worker that leaves with something to do would call another.
+fn is_worth_a_call(crew: &Crew, number: Worker, told: &Result<Offer, OutOfMemory>) -> bool
+    ensures { is_busy told.now ≡ false → result ≡ false }
+{
+    match told {
+        Ok(Offer::Task(Task::Segment(_))) => crew.is_heavy(),
+        Ok(Offer::Lines(_)) => crew.is_heavy() || crew.other(number, Seat::Awake).is_none(),
+        _ => false,
+    }
+}
+
+/// Notes how a worker leaves, and says whom it wakes: all, where the run has ended; else the worker that writes, where lines are due to it; or another, if
+/// there is more than this one will have done at once.
 pub(crate) fn leave(
     board: &mut Board,
     number: Worker,
     written: Option<u32>,
     mut crew: Crew,
     told: &Result<Offer, OutOfMemory>,
+    more: bool,
 ) -> Wakes
-    ensures { IsNoted board.old board.new }
+    ensures noted { IsNoted board.old board.new }
+    ensures over { IsTrue (has_ended told.now) ↔ (result ≡ Wakes.All) }
+    ensures other { (w : ℕ) → result ≡ Wakes.One w → w ≢ number.0 }
+    ensures idle { more ≡ false → (w : ℕ) → result ≡ Wakes.One w → w ≡ 0 }
 {
     crew.place(number, seat_after(told));
     if let Some(written) = written {
@@ -41,7 +72,7 @@ pub(crate) fn leave(
     let wakes = if has_ended(told) {
         Wakes::All
     } else {
-        match whom(board, &crew, number, told) {
+        match whom(board, &crew, number, more) {
             Some(other) => {
                 crew.place(other, Seat::Awake);
                 Wakes::One(other.0 as u32)
@@ -61,11 +92,15 @@ fn lines_in(told: &Result<Offer, OutOfMemory>) -> u32 {
     }
 }
 
-fn has_ended(told: &Result<Offer, OutOfMemory>) -> bool {
+fn has_ended(told: &Result<Offer, OutOfMemory>) -> bool
+    ensures { result ≡ has_ended told.now }
+{
     matches!(told, Ok(Offer::Task(Task::Finished | Task::Stopped(_))))
 }
 
-fn seat_after(told: &Result<Offer, OutOfMemory>) -> Seat {
+fn seat_after(told: &Result<Offer, OutOfMemory>) -> Seat
+    ensures { result ≡ seat_after told.now }
+{
     match told {
         Ok(Offer::Task(Task::Rest)) => Seat::Napping,
         Ok(Offer::Task(Task::Finished | Task::Stopped(_))) => Seat::Away,
@@ -73,29 +108,19 @@ fn seat_after(told: &Result<Offer, OutOfMemory>) -> Seat {
     }
 }
 
-// The worker that writes, where lines are due to it, and it is not this one, which naps then until another leaves; else one that naps, where something is ready for it that is worth it.
-fn whom(
-    board: &Board,
-    crew: &Crew,
-    number: Worker,
-    told: &Result<Offer, OutOfMemory>,
-) -> Option<Worker> {
+// The worker that writes, where lines are due to it and it naps; else one that naps, where there is more to do. Nobody calls itself: a worker that writes, and is
+// about to nap, naps until another leaves.
+fn whom(board: &Board, crew: &Crew, number: Worker, more: bool) -> Option<Worker>
+    ensures other { IfSome result (λ w. w ≢ number) }
+    ensures idle { more ≡ false → IfSome result (λ w. w.0 ≡ 0) }
+{
     let due = board.committed().saturating_sub(crew.told() as usize) >= DUE;
     if due && number != Worker(0) && crew.seat(Worker(0)) == Seat::Napping {
         return Some(Worker(0));
     }
-    if is_worth_a_call(crew, number, told) && board.has_ready() {
+    if more {
         crew.other(number, Seat::Napping)
     } else {
         None
-    }
-}
-
-// Whether a worker that leaves with something to do calls another: where segments are heavy; and with lines, where nobody else is awake.
-fn is_worth_a_call(crew: &Crew, number: Worker, told: &Result<Offer, OutOfMemory>) -> bool {
-    match told {
-        Ok(Offer::Task(Task::Segment(_))) => crew.is_heavy(),
-        Ok(Offer::Lines(_)) => crew.is_heavy() || crew.other(number, Seat::Awake).is_none(),
-        _ => false,
     }
 }

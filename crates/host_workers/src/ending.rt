@@ -1,3 +1,5 @@
+//! How workers end, and why a plan was not run to its end.
+
 use thiserror::Error;
 use wave_base::OutOfMemory;
 use wave_board::StopCause;

@@ -1,6 +1,7 @@
 //! The workers of a plan, each in a thread of its own, round one board under a lock.
 #![tactic(auto)]
 
+mod begun;
 mod calls;
 mod ending;
 mod offer;
@@ -10,6 +11,7 @@ mod run;
 mod takes;
 mod task;
 mod team;
+mod told;
 mod turns;
 mod visits;
 mod working;

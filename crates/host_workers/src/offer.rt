@@ -1,3 +1,5 @@
+//! What the worker that writes takes from a visit.
+
 use crate::task::Task;
 use wave_base::{Seq, Shown};
 

@@ -1,3 +1,5 @@
+//! What a worker brings to its next visit.
+
 use wave_base::Pause;
 use wave_machine::Lease;
 

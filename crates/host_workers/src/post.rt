@@ -1,3 +1,5 @@
+//! Where a worker works.
+
 use kept_lock::KeptLock;
 use std::alloc::Global;
 use wave_base::Worker;

@@ -1,3 +1,5 @@
+//! A plan run by its workers, from a Start to the end.
+
 ghost use Rattle.std.specs.Prelude.{◌≡◌, ◌≤◌, IfOk, OnErr, OnOk, IsErrOf};
 ghost use Rattle.std.specs.Io.KnownBytes.{Appends};
 ghost use Rattle.wave_base.specs.Starts.{first_start};

@@ -1,3 +1,5 @@
+//! What is to be done next by a worker.
+
 use wave_board::StopCause;
 use wave_machine::Lease;
 

@@ -1,14 +1,16 @@
 // The workers of a plan, each in a thread of its own where one can be made.
-ghost use Rattle.std.specs.Prelude.{◌≡◌, ◌≢◌};
+ghost use Rattle.std.specs.Prelude.{◌≡◌, ◌≢◌, ℕ, IfSome, IsSome, List, Option};
 ghost use Rattle.std.specs.Thread.{IsSync};
 ghost use Rattle.kept_lock.specs.Locks.{name_of, known, IsPassOf};
 ghost use Rattle.host_workers.specs.Passes.{IsReady};
 ghost use Rattle.host_workers.specs.inner.Teams.{HasEnded, IsSeated};
+ghost use Rattle.host_workers.specs.inner.Writing.{AreWritten, Stands};
 
+use crate::begun::Begun;
 use crate::ending::Ending;
 use crate::post::Post;
 use crate::working::work_at;
-use crate::writer::write_at;
+use crate::writer::{write_alone, write_at, write_on};
 use kept_lock::Pass;
 use std::sync::Wait;
 use std::thread::{Threads, join_mut, map_vec};
@@ -55,7 +57,7 @@ fn seated<'l, 'p, R, G>(
     Helper { post, pass }
 }
 
-/// Runs worker 0, which writes, beside the others; where there are none, or no thread can be made, it does all.
+/// Runs worker 0, which writes. The others begin once there is more than it will have done at once; where there are none, or no thread can be made, it does all.
 pub(crate) fn run_team<'l, 'p, R: Threads + Wait + Sync, G: Gate + Sync, K: Sink + Send>(
     post: &Post<'l, 'p, R, G>,
     first: &mut Pass<Board<'p>>,
@@ -74,15 +76,64 @@ pub(crate) fn run_team<'l, 'p, R: Threads + Wait + Sync, G: Gate + Sync, K: Sink
     if helpers.is_empty() {
         return write_at(post, first, from, out);
     }
+    match write_alone(post, first, from, out) {
+        Ok(begun) => write_beside(post, first, helpers, from, begun, out),
+        Err(ending) => ending,
+    }
+}
+
+// Worker 0 goes on, and the others begin, each in a thread of its own where one can be made.
+fn write_beside<'l, 'p, R: Threads + Wait + Sync, G: Gate + Sync, K: Sink + Send>(
+    post: &Post<'l, 'p, R, G>,
+    first: &mut Pass<Board<'p>>,
+    helpers: Vec<Helper<'l, 'p, R, G>>,
+    from: Ticket,
+    begun: Begun,
+    out: &mut K,
+) -> Ending
+    requires of_lock { IsPassOf post.now.lock.now first.old }
+    requires plan { (name_of post.now.lock.now).plan.now ≡ post.now.plan.now }
+    requires from { (name_of post.now.lock.now).start.now.next ≡ from }
+    requires stands { Stands (name_of post.now.lock.now) (known first.old) post.now.number begun }
+    requires writer { post.now.number.0 ≡ 0 }
+    ensures of_lock { IsPassOf post.now.lock.now first.new }
+    ensures ended { (before : Option (List ℕ)) → AreWritten (name_of post.now.lock.now) begun.written before (K.written out.old)
+        → HasEnded (name_of post.now.lock.now) post.now.plan.now (known first.new) before (K.written out.new) (K.faults out.old) (K.faults out.new) result }
+{
     let mut helpers = Some(helpers);
+    let mut begun = Some(begun);
     let ((), ending) = join_mut(
         post.rt,
         &mut ||
             requires { IsSync R.row × IsSync G.row }
         { help(post.rt, helpers.take()) },
-        &mut || write_at(post, first, from, out),
+        &mut || write_begun(post, first, from, &mut begun, out),
     );
     ending
+}
+
+// Worker 0 goes on from where it stands.
+fn write_begun<'l, 'p, R: Wait, G: Gate, K: Sink>(
+    post: &Post<'l, 'p, R, G>,
+    first: &mut Pass<Board<'p>>,
+    from: Ticket,
+    begun: &mut Option<Begun>,
+    out: &mut K,
+) -> Ending
+    requires of_lock { IsPassOf post.now.lock.now first.old }
+    requires plan { (name_of post.now.lock.now).plan.now ≡ post.now.plan.now }
+    requires from { (name_of post.now.lock.now).start.now.next ≡ from }
+    requires some { IsSome begun.old }
+    requires stands { IfSome begun.old (Stands (name_of post.now.lock.now) (known first.old) post.now.number) }
+    requires writer { post.now.number.0 ≡ 0 }
+    ensures of_lock { IsPassOf post.now.lock.now first.new }
+    ensures ended { IfSome begun.old (λ b. (before : Option (List ℕ)) → AreWritten (name_of post.now.lock.now) b.written before (K.written out.old)
+        → HasEnded (name_of post.now.lock.now) post.now.plan.now (known first.new) before (K.written out.new) (K.faults out.old) (K.faults out.new) result) }
+{
+    let Some(begun) = begun.take() else {
+        unreachable!()
+    };
+    write_on(post, first, from, begun, out)
 }
 
 // Runs these workers. Where there is no memory for them the first does all.

@@ -4,11 +4,12 @@ ghost use Rattle.wave_board.specs.Boards.{IsStanding, StandsStill, history_of};
 ghost use Rattle.wave_board.specs.Taking.{MayTake};
 ghost use Rattle.host_workers.specs.inner.Visits.{CanBring, CanTellTo, HasFound, HasTurned, IsBrought, MayTurn, TellsTo};
 
-use crate::calls::{leave, may_rest, noted};
+use crate::calls::{is_for_another, leave, may_rest, noted};
 use crate::offer::Offer;
 use crate::packet::Packet;
 use crate::takes::take;
 use crate::task::Task;
+use crate::told::Told;
 use kept_lock::{Attempt, Wakes};
 use wave_base::{OutOfMemory, Seq, Shown, Worker};
 use wave_board::{Board, Crew};
@@ -20,19 +21,24 @@ pub(crate) fn turn(
     number: Worker,
     packet: Option<Packet>,
     written: Option<u32>,
-) -> Attempt<Result<Offer, OutOfMemory>>
+) -> Attempt<Told>
     requires { MayTurn board.old number packet written }
-    ensures { HasTurned board.old number packet written board.new result.told }
+    ensures { HasTurned board.old number packet written board.new result.told.offer }
 {
     match bring(board, packet) {
         Ok(ticks) => {
             let crew = noted(board.crew(), ticks);
-            let told = find(board, number, written, &crew);
-            let wakes = leave(board, number, written, crew, &told);
+            let offer = find(board, number, written, &crew);
+            let more = is_for_another(board, &crew, number, &offer);
+            let wakes = leave(board, number, written, crew, &offer, more);
+            let told = Told { offer, more };
             Attempt { told, wakes }
         }
         Err(refused) => Attempt {
-            told: Err(refused),
+            told: Told {
+                offer: Err(refused),
+                more: false,
+            },
             wakes: Wakes::Nobody,
         },
     }

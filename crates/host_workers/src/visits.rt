@@ -7,14 +7,13 @@ ghost use Rattle.host_workers.specs.inner.Rounds.{Brings, IsCalm};
 ghost use Rattle.host_workers.specs.inner.Visits.{HasStopped, HasTurned, MayTurn};
 ghost use Rattle.host_workers.specs.inner.Writing.{AreToldOf, Offered};
 
-use crate::offer::Offer;
 use crate::packet::Packet;
 use crate::post::Post;
+use crate::told::Told;
 use crate::turns::turn;
 use kept_lock::{Attempt, Pass};
 use plan_actors::finished_states_tell;
 use std::sync::Wait;
-use wave_base::OutOfMemory;
 use wave_board::{Board, StopCause, leases_stay, results_stay};
 use wave_machine::heads_are_known;
 
@@ -24,13 +23,13 @@ pub(crate) fn visit<'l, 'p, R: Wait, G>(
     pass: &mut Pass<Board<'p>>,
     packet: Option<Packet>,
     written: Option<u32>,
-) -> Result<Offer, OutOfMemory>
+) -> Told
     requires of_lock { IsPassOf post.now.lock.now pass.old }
     requires brings { Brings (name_of post.now.lock.now) (known pass.old) post.now.number packet }
     requires committed { AreToldOf (name_of post.now.lock.now) (known pass.old) written }
     ensures of_lock { IsPassOf post.now.lock.now pass.new }
     ensures on { GoesOn (known pass.old) (known pass.new) }
-    ensures offered { Offered (name_of post.now.lock.now) (known pass.new) post.now.number written result }
+    ensures offered { Offered (name_of post.now.lock.now) (known pass.new) post.now.number written result.offer }
 {
     finished_states_tell();
     heads_are_known();
@@ -40,9 +39,9 @@ pub(crate) fn visit<'l, 'p, R: Wait, G>(
     let left = post.lock.attempt(
         post.rt,
         pass,
-        move |board: &mut Board| -> Attempt<Result<Offer, OutOfMemory>>
+        move |board: &mut Board| -> Attempt<Told>
             requires { MayTurn board.now number packet written }
-            ensures { HasTurned board.entry.now number packet written board.exit.now result.told }
+            ensures { HasTurned board.entry.now number packet written board.exit.now result.told.offer }
         { turn(board, number, packet, written) },
     );
     left.told

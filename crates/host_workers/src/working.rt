@@ -1,3 +1,5 @@
+//! A worker, from its first visit to its last.
+
 ghost use Rattle.std.specs.Prelude.{◌≡◌, ◌≢◌, Err, IfOk, Ok};
 ghost use Rattle.kept_lock.specs.Locks.{name_of, known, IsPassOf};
 ghost use Rattle.host_workers.specs.Endings.{Ended};
@@ -84,7 +86,7 @@ fn round<'l, 'p, R: Wait, G: Gate>(
     ensures of_lock { IsPassOf post.now.lock.now pass.new }
     ensures rounded { Rounded (name_of post.now.lock.now) (known pass.new) post.now.number result }
 {
-    match visit(post, pass, packet, None) {
+    match visit(post, pass, packet, None).offer {
         Ok(Offer::Task(task)) => carry_out(post, pass, task),
         Ok(Offer::Lines(_)) => unreachable!(),
         Err(refused) => Err(give_up(post, pass, refused)),

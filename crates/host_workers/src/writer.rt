@@ -1,4 +1,6 @@
-ghost use Rattle.std.specs.Prelude.{◌≡◌, ◌≤◌};
+//! The worker that writes lines while it works.
+
+ghost use Rattle.std.specs.Prelude.{◌≡◌, ◌≤◌, ℕ, IfErr, IfOk, List, Option, Some};
 ghost use Rattle.std.specs.Io.KnownBytes.{Appends};
 ghost use Rattle.wave_io.specs.Causes.{Rose};
 ghost use Rattle.wave_io.specs.Streams.{AppendsFront};
@@ -6,14 +8,15 @@ ghost use Rattle.kept_lock.specs.Locks.{name_of, known, IsPassOf};
 ghost use Rattle.host_workers.specs.Endings.{Ended};
 ghost use Rattle.host_workers.specs.Lines.{event_lines};
 ghost use Rattle.host_workers.specs.Passes.{IsReady};
-ghost use Rattle.host_workers.specs.inner.Rounds.{Brings};
 ghost use Rattle.host_workers.specs.inner.Teams.{HasEnded};
-ghost use Rattle.host_workers.specs.inner.Writing.{AreCommitted, AreNext, HasWritten};
+ghost use Rattle.host_workers.specs.inner.Writing.{AreCommitted, AreNext, AreWritten, HasBegun, HasWritten, Offered, Stands};
 
+use crate::begun::Begun;
 use crate::ending::Ending;
 use crate::offer::Offer;
 use crate::packet::Packet;
 use crate::post::Post;
+use crate::told::Told;
 use crate::visits::{halt, visit};
 use crate::working::{carry_out, give_up};
 use kept_lock::{KeptLock, Pass};
@@ -74,13 +77,75 @@ pub(crate) fn write_at<'l, 'p, R: Wait, G: Gate, K: Sink>(
     ensures of_lock { IsPassOf post.now.lock.now pass.new }
     ensures ended { HasEnded (name_of post.now.lock.now) post.now.plan.now (known pass.new) (K.written out.old) (K.written out.new) (K.faults out.old) (K.faults out.new) result }
 {
+    match write_alone(post, pass, from, out) {
+        Ok(begun) => write_on(post, pass, from, begun, out),
+        Err(ending) => ending,
+    }
+}
+
+/// Works alone, until there is more than this worker will have done at once.
+pub(crate) fn write_alone<'l, 'p, R: Wait, G: Gate, K: Sink>(
+    post: &Post<'l, 'p, R, G>,
+    pass: &mut Pass<Board<'p>>,
+    from: Ticket,
+    out: &mut K,
+) -> Result<Begun, Ending>
+    requires of_lock { IsPassOf post.now.lock.now pass.old }
+    requires plan { (name_of post.now.lock.now).plan.now ≡ post.now.plan.now }
+    requires from { (name_of post.now.lock.now).start.now.next ≡ from }
+    requires ready { IsReady (name_of post.now.lock.now) (known pass.old) post.now.number }
+    requires writer { post.now.number.0 ≡ 0 }
+    ensures of_lock { IsPassOf post.now.lock.now pass.new }
+    ensures begun { IfOk result (λ b. HasBegun (name_of post.now.lock.now) (known pass.new) post.now.number b (K.written out.old) (K.written out.new)) }
+    ensures ended { IfErr result (HasEnded (name_of post.now.lock.now) post.now.plan.now (known pass.new) (K.written out.old) (K.written out.new) (K.faults out.old) (K.faults out.new)) }
+    ensures later { K.faults out.old ≤ K.faults out.new }
+{
     let mut packet = None;
     let mut written = 0;
     for _ in post.rt.forever() {
-        match writing_round(post, pass, packet, from, written, out) {
-            Ok((next, more)) => {
+        let Told { offer, more } = visit(post, pass, packet, Some(written));
+        if more {
+            return Ok(Begun { offer, written });
+        }
+        match follow(post, pass, from, offer, written, out) {
+            Ok((next, count)) => {
                 packet = next;
-                written = more;
+                written = count;
+            }
+            Err(ending) => return Err(ending),
+        }
+    }
+    unreachable!()
+}
+
+/// Goes on from there to the end, whoever works beside it.
+pub(crate) fn write_on<'l, 'p, R: Wait, G: Gate, K: Sink>(
+    post: &Post<'l, 'p, R, G>,
+    pass: &mut Pass<Board<'p>>,
+    from: Ticket,
+    begun: Begun,
+    out: &mut K,
+) -> Ending
+    requires of_lock { IsPassOf post.now.lock.now pass.old }
+    requires plan { (name_of post.now.lock.now).plan.now ≡ post.now.plan.now }
+    requires from { (name_of post.now.lock.now).start.now.next ≡ from }
+    requires stands { Stands (name_of post.now.lock.now) (known pass.old) post.now.number begun }
+    requires writer { post.now.number.0 ≡ 0 }
+    ensures of_lock { IsPassOf post.now.lock.now pass.new }
+    ensures ended { (first : Option (List ℕ)) → AreWritten (name_of post.now.lock.now) begun.written first (K.written out.old)
+        → HasEnded (name_of post.now.lock.now) post.now.plan.now (known pass.new) first (K.written out.new) (K.faults out.old) (K.faults out.new) result }
+{
+    let Begun { offer, written } = begun;
+    let (mut packet, mut written) = match follow(post, pass, from, offer, written, out) {
+        Ok(next) => next,
+        Err(ending) => return ending,
+    };
+    for _ in post.rt.forever() {
+        let told = visit(post, pass, packet, Some(written));
+        match follow(post, pass, from, told.offer, written, out) {
+            Ok((next, count)) => {
+                packet = next;
+                written = count;
             }
             Err(ending) => return ending,
         }
@@ -88,27 +153,27 @@ pub(crate) fn write_at<'l, 'p, R: Wait, G: Gate, K: Sink>(
     unreachable!()
 }
 
-// One round of the worker that writes: new lines, or else some work. It gives what it brings to its next visit, and of how many tickets lines
-// are written then.
-fn writing_round<'l, 'p, R: Wait, G: Gate, K: Sink>(
+// Does what the worker that writes was offered: new lines, or else some work. It gives what it brings to its next visit, and of how many tickets
+// lines are written then.
+fn follow<'l, 'p, R: Wait, G: Gate, K: Sink>(
     post: &Post<'l, 'p, R, G>,
     pass: &mut Pass<Board<'p>>,
-    packet: Option<Packet>,
     from: Ticket,
+    offer: Result<Offer, OutOfMemory>,
     written: u32,
     out: &mut K,
 ) -> Result<(Option<Packet>, u32), Ending>
     requires of_lock { IsPassOf post.now.lock.now pass.old }
     requires plan { (name_of post.now.lock.now).plan.now ≡ post.now.plan.now }
     requires from { (name_of post.now.lock.now).start.now.next ≡ from }
-    requires brings { Brings (name_of post.now.lock.now) (known pass.old) post.now.number packet }
+    requires offered { Offered (name_of post.now.lock.now) (known pass.old) post.now.number (Some written) offer }
     requires committed { AreCommitted (name_of post.now.lock.now) (known pass.old) written }
     requires writer { post.now.number.0 ≡ 0 }
     ensures of_lock { IsPassOf post.now.lock.now pass.new }
     ensures written { HasWritten (name_of post.now.lock.now) (known pass.new) post.now.number written (K.written out.old) (K.written out.new) (K.faults out.old) (K.faults out.new) result }
     ensures later { K.faults out.old ≤ K.faults out.new }
 {
-    match visit(post, pass, packet, Some(written)) {
+    match offer {
         Ok(Offer::Lines(lines)) => write_part(post, pass, from, written, &lines, out),
         Ok(Offer::Task(task)) => match carry_out(post, pass, task) {
             Ok(next) => Ok((next, written)),

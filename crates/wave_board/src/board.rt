@@ -1,3 +1,5 @@
+//! A machine with its journal.
+
 ghost use Rattle.std.specs.Prelude.{◌≡◌, ◌++◌, ◌∷◌, [], None, IfOk, IsSome};
 ghost use Rattle.wave_base.specs.Starts.{first_start};
 ghost use Rattle.plan_actors.specs.Plans.{Fits, FitsStart};

@@ -1,6 +1,6 @@
 //! What the workers of a board leave for each other.
 
-ghost use Rattle.std.specs.Prelude.{◌≡◌, ◌≢◌, ◌↔◌, ◌≤◌, ◌<◌, ◌+◌, ◌-◌, ◌*◌, ◌/◌, ◌%◌, ◌^◌, IfSome, IsTrue, min, replicate, slice_get, slice_set};
+ghost use Rattle.std.specs.Prelude.{◌≡◌, ◌≢◌, ◌↔◌, ◌≤◌, ◌<◌, ◌+◌, ◌-◌, ◌*◌, ◌/◌, ◌%◌, ◌^◌, ℕ, IfNone, IfSome, IsTrue, Some, min, replicate, slice_get, slice_set};
 ghost use Rattle.wave_board.specs.declared.seat.Seat.TheVariants.{Away};
 
 use crate::seat::Seat;
@@ -53,7 +53,8 @@ impl Crew {
 
     /// Another worker that is there, if one is.
     pub fn other(&self, worker: Worker, seat: Seat) -> Option<Worker>
-        ensures { IfSome result (λ w. (slice_get self.now.seats w.0 ≡ Some seat) × (w ≢ worker)) }
+        ensures some { IfSome result (λ w. (slice_get self.now.seats w.0 ≡ Some seat) × (w ≢ worker)) }
+        ensures none { IfNone result ((j : ℕ) → j < SEATS → j ≢ worker.0 → slice_get self.now.seats j ≢ Some seat) }
     {
         for number in 0..SEATS as u8 {
             if number != worker.0 && self.seats[number as usize] == seat {

@@ -1,3 +1,5 @@
+//! What a board's run begins with.
+
 use wave_base::Start;
 use wave_machine::Plan;
 

@@ -1,3 +1,5 @@
+//! The entries of a board's history.
+
 use wave_base::{OutOfMemory, Worker};
 use wave_labels::Label;
 

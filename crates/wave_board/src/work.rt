@@ -1,3 +1,5 @@
+//! What a worker gets from a board.
+
 use crate::trail::StopCause;
 use wave_labels::Label;
 use wave_machine::Lease;

@@ -15,6 +15,7 @@ use Rattle.wave_board.specs.declared.board.Board.{Board}
 use Rattle.wave_board.specs.declared.origin.Origin.{Origin}
 use Rattle.wave_board.specs.declared.trail.Trail.{Trail}
 use Rattle.wave_board.specs.Boards.{IsAt, history_of}
+use Rattle.host_workers.specs.declared.begun.Begun.{Begun}
 use Rattle.host_workers.specs.declared.ending.Ending.{Ending}
 use Rattle.host_workers.specs.declared.ending.Ending.TheVariants as ending
 use Rattle.host_workers.specs.declared.offer.Offer.{Offer}
@@ -71,6 +72,20 @@ module _ (origin : Origin) (pass : Known Trail) (worker : Worker) (written : Opt
   Offered (Ok (Task Finished)) = Asked origin pass worker (Ok Finished) × WroteAll origin written
   Offered (Ok (Task (Stopped why))) = Asked origin pass worker (Ok (Stopped why))
   Offered (Err e) = IsCalm origin pass worker
+
+-- the lines of so many tickets are written
+abbrev pub AreWritten : Origin → ℕ → Option (List ℕ) → Option (List ℕ) → Type 0
+AreWritten origin written old new = Appends old new (lines_of origin written)
+
+-- so the worker that writes stands, at something that it was offered
+pub record Stands (origin : Origin) (pass : Known Trail) (worker : Worker) (begun : Begun) : Type 0 where
+  pub offered : Offered origin pass worker (Some begun.written) begun.offer
+  pub committed : AreCommitted origin pass begun.written
+
+-- and so it came there
+pub record HasBegun (origin : Origin) (pass : Known Trail) (worker : Worker) (begun : Begun) (old new : Option (List ℕ)) : Type 0 where
+  pub stands : Stands origin pass worker begun
+  pub written : AreWritten origin begun.written old new
 
 -- behind the lines of so many tickets came those up to another number
 pub record WritesUpTo (origin : Origin) (written more : ℕ) (old new : Option (List ℕ)) : Type 0 where

@@ -92,17 +92,23 @@ impl Gate for Crowd {
     }
 }
 
-// Whether four events that buy at four stalls miss each other, and how many came: by workers they meet.
-fn four_buy<R: Threads + Wait + Sync>(
+const FOUR: &[u8] =
+    b"request buy(1,1,1)\nrequest buy(1,2,1)\nrequest buy(1,3,1)\nrequest buy(1,4,1)\n";
+
+const SIXTEEN: &[u8] =
+    b"request buy(1,1,1)\nrequest buy(1,2,1)\nrequest buy(1,3,1)\nrequest buy(1,4,1)\nrequest buy(1,5,1)\nrequest buy(1,6,1)\nrequest buy(1,7,1)\nrequest buy(1,8,1)\nrequest buy(1,9,1)\nrequest buy(1,10,1)\nrequest buy(1,11,1)\nrequest buy(1,12,1)\nrequest buy(1,13,1)\nrequest buy(1,14,1)\nrequest buy(1,15,1)\nrequest buy(1,16,1)\n";
+
+// Whether so many events that buy at stalls of their own miss each other, and how many came: by workers they meet.
+fn many_buy<R: Threads + Wait + Sync>(
     rt: &R,
     alloc: Global,
     words: &str,
+    script: &[u8],
+    many: u32,
 ) -> Result<(u64, u64), OutOfMemory> {
-    let script =
-        b"request buy(1,1,1)\nrequest buy(1,2,1)\nrequest buy(1,3,1)\nrequest buy(1,4,1)\n";
     let input = joined(alloc, MARKET, script)?;
     let gate = Crowd {
-        many: 4,
+        many,
         come: AtomicU64::new(0),
         missed: AtomicU64::new(0),
     };
@@ -120,8 +126,19 @@ fn four_segments_are_out_at_once(rt: HostRuntime) -> Result<(), Fail> {
         "run",
         "trace --workers 16",
     ] {
-        assert_eq!(rt; four_buy(&rt, alloc, words)?, (0, 4));
+        assert_eq!(rt; many_buy(&rt, alloc, words, FOUR, 4)?, (0, 4));
     }
+    Ok(())
+}
+
+/// As many workers as are asked for: sixteen of them are out at once.
+#[test]
+fn sixteen_segments_are_out_at_once(rt: HostRuntime) -> Result<(), Fail> {
+    let alloc = rt.alloc();
+    assert_eq!(rt;
+        many_buy(&rt, alloc, "run --workers 16", SIXTEEN, 16)?,
+        (0, 16)
+    );
     Ok(())
 }
 
@@ -135,7 +152,7 @@ fn a_schedule_has_no_workers(rt: HostRuntime) -> Result<(), Fail> {
         "run --workers 16 --schedule newest",
         "trace --schedule 5",
     ] {
-        assert_eq!(rt; four_buy(&rt, alloc, words)?, (0, 0));
+        assert_eq!(rt; many_buy(&rt, alloc, words, FOUR, 4)?, (0, 0));
     }
     Ok(())
 }
