@@ -5,6 +5,7 @@ ghost use Rattle.kept_lock.specs.Seats.{IsPass};
 ghost use Rattle.kept_lock.specs.Plays.{Shut};
 ghost use Rattle.kept_lock.specs.Locks.{name_of, known, IsPassOf};
 
+use crate::held::Held;
 use crate::kept::Kept;
 use crate::lock::{KeptLock, Pass};
 use crate::plays::Close;
@@ -30,11 +31,11 @@ impl<V: Kept> KeptLock<V> {
         let mut closed = table.close_with(seat);
         let value = closed.take(0).unwrap();
         closed.free();
-        value
+        value.into_inner()
     }
 
     // Claims the word for good, and leaves the value in its place.
-    fn shut<R: Wait>(&self, rt: &R, seat: &mut Seat<Option<V>, View<V::Name, V::Entry>>)
+    fn shut<R: Wait>(&self, rt: &R, seat: &mut Seat<Option<Held<V>>, View<V::Name, V::Entry>>)
         requires { IsPass self.now.table.shared.table_id (name_of self.now) seat.old }
         ensures same { seat.new.table_id ≡ seat.old.table_id }
         ensures shut { Shut V.owner seat.old.me seat.new.me }

@@ -9,6 +9,7 @@ ghost use Rattle.kept_lock.specs.Guards.{lock_ref, pass_borrow, pass_in, value_i
 ghost use Rattle.kept_lock.specs.declared.view.Place.TheVariants.{Inside};
 
 use crate::guard::Guard;
+use crate::held::Held;
 use crate::kept::Kept;
 use crate::lock::{KeptLock, Pass};
 use crate::plays::{Claim, Release};
@@ -36,7 +37,11 @@ impl<V: Kept> KeptLock<V> {
     }
 
     // Claims the word, and takes the value out.
-    fn take<R: Wait>(&self, rt: &R, seat: &mut Seat<Option<V>, View<V::Name, V::Entry>>) -> V
+    fn take<R: Wait>(
+        &self,
+        rt: &R,
+        seat: &mut Seat<Option<Held<V>>, View<V::Name, V::Entry>>,
+    ) -> Held<V>
         requires { IsPass self.now.table.shared.table_id (name_of self.now) seat.old }
         ensures inside { IsIn self.now.table.shared.table_id (name_of self.now) seat.new }
         ensures placed { seat.new.me.0 ≡ placed_at seat.old.me.0 Inside (V.history result) }
@@ -49,7 +54,7 @@ impl<V: Kept> KeptLock<V> {
     }
 
     // Claims the word, as often as it takes.
-    fn claim<R: Wait>(&self, rt: &R, seat: &mut Seat<Option<V>, View<V::Name, V::Entry>>)
+    fn claim<R: Wait>(&self, rt: &R, seat: &mut Seat<Option<Held<V>>, View<V::Name, V::Entry>>)
         requires { IsPass self.now.table.shared.table_id (name_of self.now) seat.old }
         ensures same { seat.new.table_id ≡ seat.old.table_id }
         ensures won { Won V.history V.owner V.stands seat.old.me seat.new.me }

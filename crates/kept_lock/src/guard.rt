@@ -25,7 +25,7 @@ impl<'a, V: Kept> Guard<'a, V> {
         ensures { value_in self.now ≡ Some result.now }
     {
         match &self.pass.out {
-            Some(value) => value,
+            Some(value) => value.get(),
             None => unreachable!(),
         }
     }

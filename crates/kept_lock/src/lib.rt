@@ -13,6 +13,7 @@ mod bell;
 mod close;
 mod enter;
 mod guard;
+mod held;
 mod kept;
 mod law;
 mod lends;

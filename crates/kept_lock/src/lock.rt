@@ -3,6 +3,7 @@ ghost use Rattle.std.specs.Prelude.{◌≡◌, None};
 
 use crate::beds::Beds;
 use crate::bell::Bell;
+use crate::held::Held;
 use crate::kept::Kept;
 use crate::plays::Keeping;
 use crate::view::View;
@@ -14,7 +15,7 @@ use std::alloc::Global;
 /// Contracts see its name, which is the table's key.
 #[derive(Drop)]
 pub struct KeptLock<V: Kept> {
-    pub(crate) table: Table<Option<V>, View<V::Name, V::Entry>, V::Name, Keeping<V>, Global>,
+    pub(crate) table: Table<Option<Held<V>>, View<V::Name, V::Entry>, V::Name, Keeping<V>, Global>,
     // Rung at each release of the word.
     pub(crate) bell: Bell,
     /// Where passes nap.
@@ -26,18 +27,24 @@ pub struct KeptLock<V: Kept> {
 #[derive(Drop)]
 pub struct Pass<V: Kept> {
     /// Its seat at the lock's table.
-    pub(crate) seat: Seat<Option<V>, View<V::Name, V::Entry>>,
+    pub(crate) seat: Seat<Option<Held<V>>, View<V::Name, V::Entry>>,
     /// The number of its bed.
     pub(crate) bed: u32,
     // How often it was called there until its last leave.
     pub(crate) last: Option<u64>,
     // The value, while the pass is inside.
-    pub(crate) out: Option<V>,
+    pub(crate) out: Option<Held<V>>,
 }
 
 impl<V: Kept> Pass<V> {
     /// Its seat at the table, its bed, and how often it was called there until its last leave.
-    pub(crate) fn into_parts(self) -> (Seat<Option<V>, View<V::Name, V::Entry>>, u32, Option<u64>)
+    pub(crate) fn into_parts(
+        self,
+    ) -> (
+        Seat<Option<Held<V>>, View<V::Name, V::Entry>>,
+        u32,
+        Option<u64>,
+    )
         requires { self.out ≡ None }
         ensures { (result.0 ≡ self.seat) × (result.1 ≡ self.bed) × (result.2 ≡ self.last) }
     {

@@ -5,6 +5,7 @@ ghost use Rattle.kept_lock.specs.Locks.{name_of, known, IsPassOf};
 
 use crate::beds::Beds;
 use crate::bell::Bell;
+use crate::held::Held;
 use crate::kept::Kept;
 use crate::lock::{KeptLock, Pass};
 use atomic_table::Table;
@@ -25,11 +26,15 @@ impl<V: Kept> KeptLock<V> {
         ensures first { IfOk result (λ r. known r.1 ≡ first) }
         ensures back { IfErr result (λ r. r.0 ≡ value) }
     {
+        let held = match Held::new(alloc, value) {
+            Ok(held) => held,
+            Err(refused) => return Err(OutOfMemory::parted(refused)),
+        };
         let mut slots = match Vec::with_capacity(alloc, 1) {
             Ok(slots) => slots,
-            Err(refused) => return Err((value, OutOfMemory::from(refused))),
+            Err(refused) => return Err((held.into_inner(), OutOfMemory::from(refused))),
         };
-        slots.push_reserved(Some(value));
+        slots.push_reserved(Some(held));
         match Table::new(alloc, &[0], slots, &name) {
             Ok((table, seat)) => {
                 let lock = KeptLock {
@@ -47,9 +52,9 @@ impl<V: Kept> KeptLock<V> {
             }
             Err(refused) => {
                 let (mut slots, refused) = OutOfMemory::of_table(refused);
-                let value = slots.pop().unwrap().unwrap();
+                let held = slots.pop().unwrap().unwrap();
                 slots.destroy_empty();
-                Err((value, refused))
+                Err((held.into_inner(), refused))
             }
         }
     }

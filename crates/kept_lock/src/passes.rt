@@ -6,6 +6,7 @@ ghost use Rattle.kept_lock.specs.Plays.{Hears};
 ghost use Rattle.kept_lock.specs.Locks.{name_of, known, IsPassOf};
 ghost use Rattle.kept_lock.specs.declared.view.Place.TheVariants.{Outside};
 
+use crate::held::Held;
 use crate::kept::Kept;
 use crate::lock::{KeptLock, Pass};
 use crate::plays::{Cut, Hear, Tell};
@@ -56,7 +57,7 @@ impl<V: Kept> KeptLock<V> {
     }
 
     // A look at the word, by which the pass has seen what it was told of.
-    fn hear(&self, seat: &mut Seat<Option<V>, View<V::Name, V::Entry>>)
+    fn hear(&self, seat: &mut Seat<Option<Held<V>>, View<V::Name, V::Entry>>)
         requires table { seat.old.table_id ≡ self.now.table.shared.table_id }
         requires live { seat.old.me.0.name ≡ Some (name_of self.now) }
         requires outside { seat.old.me.0.place ≡ Outside }
