@@ -1,9 +1,15 @@
-// A bell, by which a thread that leaves the lock wakes those that wait.
+// A bell, by which a thread that leaves the lock wakes one that waits.
 use std::sync::Wait;
 use std::sync::atomic::{AtomicU64, Ordering};
 
 /// Whoever waits listens first, then looks whether it still has to wait, and only then sleeps. Whoever changes what is waited for rings afterwards.
 /// So either the look sees the change, or the ring comes after the listening, and ends the sleep. Where no one listens a ring costs one load.
+///
+/// A ring wakes one of those who sleep, since only one gets in, and whoever slept listens again before it looks. So the others are not forgotten: while
+/// anyone sleeps, the count is odd, or a ring is about to wake one of them, or one that was woken is about to listen. For nobody falls asleep but at an
+/// odd count; the ring that makes it even finds those who sleep asleep already, and wakes one; and this one makes the count odd, if no other has by
+/// then, before it goes in. Nor does a count stay odd: whoever made it so looks at the lock afterwards, and then goes in itself, or finds another inside,
+/// or another is faster; and whoever is inside rings as it leaves. A sleep that ends for no reason ends like any other, at worst with a ring too many.
 #[derive(Drop)]
 pub(crate) struct Bell {
     // Twice the number of rings, and one more where someone listens for the next.
@@ -37,7 +43,7 @@ impl Bell {
         self.rings.park(rt, (asked % (1 << 32)) as u32);
     }
 
-    /// Wakes all who listen.
+    /// Wakes one of those who sleep, where someone listens.
     pub(crate) fn ring(&self) {
         let found = self.rings.load(Ordering::SeqCst);
         if found % 2 == 1 {
@@ -46,7 +52,7 @@ impl Bell {
                 .rings
                 .compare_exchange(found, next, Ordering::SeqCst, Ordering::SeqCst);
             if seen.is_ok() {
-                self.rings.wake_all();
+                self.rings.wake_one();
             }
         }
     }

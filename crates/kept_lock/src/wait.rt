@@ -22,6 +22,8 @@ impl<V: Kept> KeptLock<V> {
             let asked = self.bell.listen();
             if self.table.shared.peek(0) % 2 == 1 {
                 self.bell.sleep(rt, asked);
+                // For those who still sleep: the next leave is to wake one of them.
+                let _ = self.bell.listen();
             }
         }
         unreachable!()
