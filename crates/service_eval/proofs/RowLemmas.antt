@@ -1,5 +1,5 @@
 -- Values that a row doesn't take.
-use Rattle.std.proofs.Common.{◌≡◌, ℕ, zero, suc, ◌<◌, ◌≤◌, Bool, true, false, ◌&&◌, nat_le, List, [], ◌∷◌, length, map, Some, Result, Err, refl, sym, ap, subst, ◌∙◌, arith}
+use Rattle.std.proofs.Common.{◌≡◌, ℕ, zero, suc, ◌<◌, ◌≤◌, Bool, true, false, ◌&&◌, nat_le, nat_lt, List, [], ◌∷◌, length, map, Some, Result, Err, refl, sym, ap, subst, ◌∙◌, arith}
 use mathlib.Core.Bool.{true≢false}
 use Rattle.std.proofs.lemmas.Bool.Decides.{nat_tests}
 use Rattle.std.proofs.lemmas.List.{get_or_past}
@@ -145,6 +145,15 @@ from_few row e = grind (arith, nat_tests)
 pub few_kinds : (row : ℕ) → row < 34 → length (takes_of row) ≤ 3
 unfolding takes_of operators
 few_kinds row h = from_few row (below 34 few refl row h)
+
+-- the rows that give the lesser and the greater of two ints
+pub lesser_or_greater : (row : ℕ) → 28 ≤ row → row < 30 → takes_of row ≡ k.Int ∷ k.Int ∷ []
+unfolding takes_of operators
+lesser_or_greater row low high =
+    elim (nat_lt row 29) as (λ b. nat_lt row 29 ≡ b → takes_of row ≡ k.Int ∷ k.Int ∷ []) [
+      | true ↦ λ e. let same : row ≡ 28 = grind (arith, nat_tests) in ap takes_of same
+      | false ↦ λ e. let same : row ≡ 29 = grind (arith, nat_tests) in ap takes_of same
+    ] refl
 
 -- past the table nothing is given
 none_of : (o : Operator) (vs : List Value) → o ≡ no_operator → answer_of o.gives (at_values o.takes o.does vs) ≡ Err Absent

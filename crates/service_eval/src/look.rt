@@ -10,11 +10,10 @@ use crate::code::Code;
 use crate::fields::{field, item};
 use crate::machine::Machine;
 use crate::operand::{Operand, is_true};
-use crate::rows::{apply_any, apply_three, apply_two};
+use crate::rows::{apply_one, apply_three, apply_two};
 use crate::stop::Stop;
 use context_tree::Tree;
 use resolved_service::{Expr, Node};
-use std::slice;
 use wave_base::{Path, Span, Value};
 
 /// Where an expression's value is looked up: the code, the contexts, and the machine with its locals and its place.
@@ -102,8 +101,7 @@ fn look_one<'v, 's>(
     match look(view, a) {
         Ok(Some(a)) => {
             let first = a.value();
-            let values = slice::from_ref(first);
-            made(apply_any(view.code.alloc, row as usize, values, at))
+            made(apply_one(view.code.alloc, row as usize, first, at))
         }
         Ok(None) => Ok(None),
         Err(e) => Err(e),

@@ -12,10 +12,11 @@ ghost use Rattle.wave_base.specs.Values.{kind_of};
 
 use crate::stop::Stop;
 use std::alloc::Global;
-use value_ops::rows::{ADD, CUT, DIV, EQ, GE, GT, LE, LT, MUL, NE, PUT, REM, SUB};
+use std::slice;
+use value_ops::rows::{ADD, CUT, DIV, EQ, GE, GT, LE, LT, MAX, MIN, MUL, NE, PUT, REM, SUB};
 use value_ops::{
     OpError, Takes, apply, apply_ints, apply_texts, compare_flags, part, put_pair, read_map,
-    takes_of,
+    read_text, sum_up, takes_of,
 };
 use wave_base::{Kind, OPERATORS, Span, TABLE_PAIRS, Table, Trap, TrapKind, Value};
 
@@ -61,6 +62,21 @@ fn is_kind(kind: Option<Kind>, value: &Value) -> bool
         (Some(Kind::Text), Value::Str(_)) => true,
         (Some(Kind::Map), Value::Map(_)) => true,
         _ => false,
+    }
+}
+
+/// What a row gives of one value, which is looked at where it is.
+pub fn apply_one(alloc: Global, row: usize, a: &Value, at: Span) -> Result<Value, Stop>
+    ensures { Gives (apply_row row (a.now ∷ [])) at result }
+{
+    if row >= OPERATORS {
+        return trapping(Err(TrapKind::Absent), at);
+    }
+    match (takes_of(row), a) {
+        (Takes::Bool, Value::Bool(p)) => Ok(Value::Bool(!*p)),
+        (Takes::Map, Value::Map(m)) => trapping(sum_up(row, m), at),
+        (Takes::Text, Value::Str(t)) => trapping(read_text(row, t), at),
+        _ => apply_any(alloc, row, slice::from_ref(a), at),
     }
 }
 
@@ -167,6 +183,7 @@ fn is_ints(row: usize) -> bool
     match row {
         ADD | SUB | MUL | DIV | REM => true,
         EQ | NE | LT | LE | GT | GE => true,
+        MIN | MAX => true,
         _ => false,
     }
 }

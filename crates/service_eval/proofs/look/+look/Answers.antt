@@ -4,11 +4,10 @@ use Rattle.resolved_service.specs.Meaning.{value, called, Done}
 use Rattle.resolved_service.specs.World.{read_field, read_above, nothing}
 use Rattle.wave_base.specs.declared.limits.TheConstants.{TICKS}
 use Rattle.wave_base.specs.Starts.{shown_fields}
-use Rattle.value_ops.specs.Operators.{apply_row}
 use Rattle.service_eval.proofs.LookLemmas.{decided_true, decided_false, is_false, holds, one, two, three}
 use Rattle.resolved_service.specs.View as r
 use Rattle.resolved_service.specs.View.{Tree, node_tree, tree_of, trees_of}
-use Rattle.service_eval.specs.Answers.{Looks, Gives}
+use Rattle.service_eval.specs.Answers.{Looks}
 use Rattle.service_eval.specs.Machines.{state_of}
 use Rattle.service_eval.specs.Wants.{WhereWanting, MayWant}
 use Rattle.service_eval.proofs.WantLemmas.{for_made, said_of}
@@ -71,12 +70,12 @@ look_one-returns-in-Ok-Some-clause-sees t c =
     let st = state_of (shown c.args.view.code.shape.now c.args.view.contexts.now) c.args.view.m.now in
     let found_a = rw c.in-Ok-Some.field-0-is at c.in-Ok-Some.ensures.sees in
     subst (Looks (value (called c.args.view.code.methods.now TICKS) c.args.view.m.now.path (r.Op c.args.at c.args.row (r.tree (tree_of c.args.a.now) r.no_trees)) st) st) (sym c.made.ensures)
-    (one (called c.args.view.code.methods.now TICKS) c.args.view.m.now.path c.args.at c.args.row st c.apply_any.result (tree_of c.args.a.now) _ c.value-first.result.now found_a c.value-first.ensures (subst (λ vs. Gives (apply_row c.args.row vs) c.args.at c.apply_any.result) c.from_ref-values.ensures.value c.apply_any.ensures))
+    (one (called c.args.view.code.methods.now TICKS) c.args.view.m.now.path c.args.at c.args.row st c.apply_one.result (tree_of c.args.a.now) _ c.value-first.result.now found_a c.value-first.ensures c.apply_one.ensures)
 
 pub look_one-returns-in-Ok-Some-clause-memory : goal.look_one-returns-in-Ok-Some-clause-memory
 look_one-returns-in-Ok-Some-clause-memory t c =
     let P = MayWant (r.Op c.args.at c.args.row (r.tree (tree_of c.args.a.now) r.no_trees)) in
-    subst (λ o. WhereWanting o P) (sym c.made.ensures) (for_made c.args.row _ {P = P} c.args.at c.apply_any.result inl c.apply_any.ensures)
+    subst (λ o. WhereWanting o P) (sym c.made.ensures) (for_made c.args.row _ {P = P} c.args.at c.apply_one.result inl c.apply_one.ensures)
 
 pub look_two-returns-in-Ok-Some-operand-clause-sees : goal.look_two-returns-in-Ok-Some-operand-clause-sees
 look_two-returns-in-Ok-Some-operand-clause-sees t c =
