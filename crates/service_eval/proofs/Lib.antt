@@ -22,6 +22,7 @@ pub mod FinishLemmas
 pub mod FinishTurns
 pub mod EditLemmas
 pub mod OnceLemmas
+pub mod AheadLemmas
 pub mod ChangeLemmas
 pub mod BlockTurns
 pub mod SendTurns

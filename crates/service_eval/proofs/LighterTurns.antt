@@ -159,8 +159,8 @@ module _ (methods : List Method) (m : Mach) where
   pub counts_lighter : (at : Span) (counter : ℕ) (body : Steps) → left m < left (on_top (Counts at counter body) m)
   counts_lighter at counter body = lighter methods (on_top (Counts at counter body) m) m (omega arith) (omega arith)
 
-  pub again_lighter : (at : Span) (counter : ℕ) (body : Steps) (locals : List Value) → left (on_top (Counts at counter body) (in_state (record { locals = locals; world = m.state.world }) m)) ≤ left (on_top (Again at counter body) m)
-  again_lighter at counter body locals = no_heavier methods (on_top (Again at counter body) m) (on_top (Counts at counter body) (in_state (record { locals = locals; world = m.state.world }) m)) (omega arith) (omega arith)
+  pub again_lighter : (at : Span) (counter : ℕ) (body : Steps) (locals : List Value) → left (on_top (Counts at counter body) (in_state (record { locals = locals; world = m.state.world }) m)) < left (on_top (Again at counter body) m)
+  again_lighter at counter body locals = lighter methods (on_top (Again at counter body) m) (on_top (Counts at counter body) (in_state (record { locals = locals; world = m.state.world }) m)) (omega arith) (omega arith)
 
   -- ---- a tick is taken
 

@@ -48,6 +48,12 @@ GoOn code contexts m items result contexts' m' =
     let before = before_all items (mach code contexts m) in
     Follows code.shape.now code.methods.now (comes_to code.methods.now before) (suc (load code.methods.now before)) result (mach code contexts' m')
 
+-- they were done, and other things are to be done next; or all that was to be done of them was
+abbrev pub GoesTo : Code → Contexts → Machine → List Item → List Item → Result Bool Stop → Contexts → Machine → Type 0
+GoesTo code contexts m items next (Ok true) contexts' m' = Turned code.shape.now code.methods.now (before_all items (mach code contexts m)) (Ok tt) (before_all next (mach code contexts' m'))
+GoesTo code contexts m items next (Ok false) contexts' m' = Turned code.shape.now code.methods.now (before_all items (mach code contexts m)) (Ok tt) (mach code contexts' m')
+GoesTo code contexts m items next (Err e) contexts' m' = Turned code.shape.now code.methods.now (before_all items (mach code contexts m)) (Err e) (mach code contexts' m')
+
 -- the rest of what is running is left out
 abbrev pub Leaves : Code → Contexts → Machine → Leave → Result (Unit {0}) Stop → Contexts → Machine → Type 0
 Leaves code contexts m why result contexts' m' =

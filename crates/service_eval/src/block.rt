@@ -9,7 +9,8 @@ ghost use Rattle.service_eval.specs.Items.{end_of, else_steps, else_in};
 ghost use Rattle.service_eval.specs.Items as i;
 ghost use Rattle.service_eval.specs.Turns.{IsNext, Goes, AreNext, GoOn};
 
-use crate::assignments::{assignment_in, at_once, begin_assignment};
+use crate::ahead::{as_far, else_of, first_of};
+use crate::assignments::{assignment_in, begin_assignment};
 use crate::calls::give_back;
 use crate::code::Code;
 use crate::eval::found;
@@ -21,7 +22,7 @@ use context_tree::Tree;
 use resolved_service::{Action, Expr, Stmt};
 use wave_base::Span;
 
-/// Some statements: those that can be done at once, up to the first that can't.
+/// Some statements: those that can be done at once, and then the first that can't.
 pub fn block<'s>(
     code: Code<'s>,
     contexts: &mut Tree,
@@ -31,21 +32,25 @@ pub fn block<'s>(
     requires { IsNext code contexts.old m.old (i.Block (steps_in stmts.now)) }
     ensures { Goes code.entry contexts.old m.old (i.Block (steps_in stmts.now)) result contexts.new m.new }
 {
-    let mut rest = stmts;
-    'statements: loop {
-        match first_of(rest) {
-            None => return Ok(()),
-            Some((first, others)) => match at_once(code, contexts, m, first) {
-                Ok(done) => {
-                    if done {
-                        rest = others;
-                    } else {
-                        return begin_first(code, contexts, m, first, others);
-                    }
-                }
-                Err(e) => return Err(e),
-            },
-        }
+    match as_far(code, contexts, m, stmts) {
+        Ok(rest) => begin_rest(code, contexts, m, rest),
+        Err(e) => Err(e),
+    }
+}
+
+/// The first of the statements that are left, and then the others.
+pub fn begin_rest<'s>(
+    code: Code<'s>,
+    contexts: &mut Tree,
+    m: &mut Machine<'s>,
+    rest: &'s [Stmt],
+) -> Result<(), Stop>
+    requires { IsNext code contexts.old m.old (i.Block (steps_in rest.now)) }
+    ensures { Goes code.entry contexts.old m.old (i.Block (steps_in rest.now)) result contexts.new m.new }
+{
+    match first_of(rest) {
+        None => Ok(()),
+        Some((first, others)) => begin_first(code, contexts, m, first, others),
     }
 }
 
@@ -66,16 +71,6 @@ fn begin_first<'s>(
             Ok(()) => begin(code, contexts, m, first),
             Err(e) => Err(e),
         },
-    }
-}
-
-fn first_of(stmts: &[Stmt]) -> Option<(&Stmt, &[Stmt])>
-    ensures none { IsNone result → stmts.now ≡ [] }
-    ensures some { IfSome result (λ parts. stmts.now ≡ parts.0.now ∷ parts.1.now) }
-{
-    match stmts {
-        [] => None,
-        [first, others @ ..] => Some((first, others)),
     }
 }
 
@@ -196,16 +191,6 @@ fn begin_finish<'s>(
     match value {
         Some(e) => begin_one(code, contexts, m, at, e, Ending::Finish),
         None => Err(Stop::Ended(None)),
-    }
-}
-
-// The statements of an `else`, if there is one.
-fn else_of(other: &Option<Vec<Stmt>>) -> &[Stmt]
-    ensures { steps_in result.now ≡ else_steps (else_in other.now) }
-{
-    match other {
-        Some(stmts) => stmts.as_slice(),
-        None => &[],
     }
 }
 

@@ -1,6 +1,7 @@
 //! The events of a resolved service, run.
 #![tactic(auto)]
 
+mod ahead;
 mod assignments;
 mod block;
 mod calls;

@@ -4,12 +4,15 @@ ghost use Rattle.std.specs.Prelude.{◌≡◌, ◌<◌, ◌+◌, ◌^◌, ◌∷
 ghost use Rattle.resolved_service.specs.Meaning.{row_add, row_lt};
 ghost use Rattle.resolved_service.specs.World.{nothing, is_true};
 ghost use Rattle.service_eval.specs.Answers.{Gives};
+ghost use Rattle.resolved_service.specs.Steps.{steps_in};
+ghost use Rattle.service_eval.specs.Items as i;
 ghost use Rattle.service_eval.specs.Items.{turns_of, check_of, counts_of, again_of};
-ghost use Rattle.service_eval.specs.Turns.{IsNext, Goes};
+ghost use Rattle.service_eval.specs.Turns.{IsNext, Goes, AreNext, GoesTo};
 ghost use Rattle.value_ops.specs.Operators.{apply_row};
 ghost use Rattle.wave_base.specs.declared.value.Value.TheVariants.{Int};
 
-use crate::block::block;
+use crate::ahead::{as_far, first_of};
+use crate::block::begin_rest;
 use crate::code::Code;
 use crate::eval::found;
 use crate::fields::item;
@@ -19,6 +22,7 @@ use crate::rows::apply_two;
 use crate::stop::Stop;
 use crate::work::{ForLoop, WhileLoop, Work};
 use context_tree::Tree;
+use resolved_service::Stmt;
 use value_ops::rows::{ADD, LT};
 use wave_base::{Span, Value};
 
@@ -67,7 +71,7 @@ pub fn check<'s>(
     }
 }
 
-/// A turn of a loop over numbers, where the counter is below the bound.
+/// The turns of a loop over numbers, one after the other, as long as their statements can be done at once.
 pub fn counts<'s>(
     code: Code<'s>,
     contexts: &mut Tree,
@@ -77,12 +81,56 @@ pub fn counts<'s>(
     requires { IsNext code contexts.old m.old (counts_of cycle) }
     ensures { Goes code.entry contexts.old m.old (counts_of cycle.entry) result contexts.new m.new }
 {
+    'turns: loop {
+        match one_turn(code, contexts, m, cycle) {
+            Ok(more) => {
+                if !more {
+                    return Ok(());
+                }
+            }
+            Err(e) => return Err(e),
+        }
+    }
+}
+
+// A turn, where one is due. True where it is done, and the loop goes on.
+fn one_turn<'s>(
+    code: Code<'s>,
+    contexts: &mut Tree,
+    m: &mut Machine<'s>,
+    cycle: ForLoop<'s>,
+) -> Result<bool, Stop>
+    requires { IsNext code contexts.old m.old (counts_of cycle) }
+    ensures { GoesTo code.entry contexts.old m.old (counts_of cycle.entry ∷ []) (counts_of cycle.entry ∷ []) result contexts.new m.new }
+{
+    match begin_turn(code, contexts, m, cycle) {
+        Ok(due) => {
+            if due {
+                turn_body(code, contexts, m, cycle)
+            } else {
+                Ok(false)
+            }
+        }
+        Err(e) => Err(e),
+    }
+}
+
+// Where the counter is below the bound, a tick is taken and the name has the counter's number.
+fn begin_turn<'s>(
+    code: Code<'s>,
+    contexts: &Tree,
+    m: &mut Machine<'s>,
+    cycle: ForLoop<'s>,
+) -> Result<bool, Stop>
+    requires { IsNext code contexts.now m.old (counts_of cycle) }
+    ensures { GoesTo code.entry contexts.now m.old (counts_of cycle.entry ∷ []) (i.Block (steps_in cycle.entry.body.now) ∷ again_of cycle.entry ∷ []) result contexts.now m.new }
+{
     match is_below(code, m, cycle.at, cycle.counter as usize) {
         Ok(value) => {
             if is_true(&value) {
-                count(code, contexts, m, cycle, value)
+                name_turn(code, contexts, m, cycle, value)
             } else {
-                Ok(())
+                Ok(false)
             }
         }
         Err(e) => Err(e),
@@ -90,17 +138,17 @@ pub fn counts<'s>(
 }
 
 // The turn that was found to be due, by what the test gave.
-fn count<'s>(
+fn name_turn<'s>(
     code: Code<'s>,
-    contexts: &mut Tree,
+    contexts: &Tree,
     m: &mut Machine<'s>,
     cycle: ForLoop<'s>,
     value: Value,
-) -> Result<(), Stop>
-    requires next { IsNext code contexts.old m.old (counts_of cycle) }
+) -> Result<bool, Stop>
+    requires next { IsNext code contexts.now m.old (counts_of cycle) }
     requires test { apply_row row_lt (get_or m.old.locals.items cycle.counter nothing ∷ get_or m.old.locals.items (cycle.counter + 1) nothing ∷ []) ≡ Ok value }
     requires holds { is_true value ≡ true }
-    ensures { Goes code.entry contexts.old m.old (counts_of cycle.entry) result contexts.new m.new }
+    ensures { GoesTo code.entry contexts.now m.old (counts_of cycle.entry ∷ []) (i.Block (steps_in cycle.entry.body.now) ∷ again_of cycle.entry ∷ []) result contexts.now m.new }
 {
     match m.trace.tick(cycle.at) {
         Ok(()) => {}
@@ -110,12 +158,90 @@ fn count<'s>(
     match item(m.locals.as_slice(), slot).owned(code.alloc) {
         Ok(number) => {
             m.set_local(slot + 2, number);
-            match m.push(Work::Counts(cycle, true)) {
-                Ok(()) => block(code, contexts, m, cycle.body),
-                Err(e) => Err(e),
-            }
+            Ok(true)
         }
         Err(refused) => Err(Stop::OutOfMemory(refused)),
+    }
+}
+
+// The statements of a turn: at once, and then the counter goes on; or as far as they can be.
+fn turn_body<'s>(
+    code: Code<'s>,
+    contexts: &mut Tree,
+    m: &mut Machine<'s>,
+    cycle: ForLoop<'s>,
+) -> Result<bool, Stop>
+    requires { AreNext code contexts.old m.old (i.Block (steps_in cycle.body.now) ∷ again_of cycle ∷ []) }
+    ensures { GoesTo code.entry contexts.old m.old (i.Block (steps_in cycle.entry.body.now) ∷ again_of cycle.entry ∷ []) (counts_of cycle.entry ∷ []) result contexts.new m.new }
+{
+    match as_far(code, contexts, m, cycle.body) {
+        Ok(rest) => match first_of(rest) {
+            None => go_on(code, contexts, m, cycle),
+            Some(_) => leave_turn(code, contexts, m, cycle, rest),
+        },
+        Err(e) => Err(e),
+    }
+}
+
+// The statements that are left of a turn, and then the loop goes on.
+fn leave_turn<'s>(
+    code: Code<'s>,
+    contexts: &mut Tree,
+    m: &mut Machine<'s>,
+    cycle: ForLoop<'s>,
+    rest: &'s [Stmt],
+) -> Result<bool, Stop>
+    requires { AreNext code contexts.old m.old (i.Block (steps_in rest.now) ∷ again_of cycle ∷ []) }
+    ensures { GoesTo code.entry contexts.old m.old (i.Block (steps_in rest.now) ∷ again_of cycle.entry ∷ []) (counts_of cycle.entry ∷ []) result contexts.new m.new }
+{
+    match m.push(Work::Counts(cycle, true)) {
+        Ok(()) => match begin_rest(code, contexts, m, rest) {
+            Ok(()) => Ok(false),
+            Err(e) => Err(e),
+        },
+        Err(e) => Err(e),
+    }
+}
+
+/// The counter goes on by one, and so does the loop.
+pub fn again<'s>(
+    code: Code<'s>,
+    contexts: &mut Tree,
+    m: &mut Machine<'s>,
+    cycle: ForLoop<'s>,
+) -> Result<(), Stop>
+    requires { IsNext code contexts.old m.old (again_of cycle) }
+    ensures { Goes code.entry contexts.old m.old (again_of cycle.entry) result contexts.new m.new }
+{
+    match go_on(code, contexts, m, cycle) {
+        Ok(more) => {
+            if more {
+                counts(code, contexts, m, cycle)
+            } else {
+                Ok(())
+            }
+        }
+        Err(e) => Err(e),
+    }
+}
+
+// The counter goes on by one.
+#[inline(always)]
+fn go_on<'s>(
+    code: Code<'s>,
+    contexts: &Tree,
+    m: &mut Machine<'s>,
+    cycle: ForLoop<'s>,
+) -> Result<bool, Stop>
+    requires { IsNext code contexts.now m.old (again_of cycle) }
+    ensures { GoesTo code.entry contexts.now m.old (again_of cycle.entry ∷ []) (counts_of cycle.entry ∷ []) result contexts.now m.new }
+{
+    match one_more(code, m, cycle.at, cycle.counter as usize) {
+        Ok(number) => {
+            m.set_local(cycle.counter as usize, number);
+            Ok(true)
+        }
+        Err(e) => Err(e),
     }
 }
 
@@ -132,25 +258,6 @@ fn is_below(code: Code<'_>, m: &Machine<'_>, at: Span, slot: usize) -> Result<Va
     match (counter.value(), bound.value()) {
         (Value::Int(counter), Value::Int(bound)) => Ok(Value::Bool(*counter < *bound)),
         (counter, bound) => apply_two(code.alloc, LT, counter, bound, at),
-    }
-}
-
-/// The counter goes on by one, and so does the loop.
-pub fn again<'s>(
-    code: Code<'s>,
-    contexts: &mut Tree,
-    m: &mut Machine<'s>,
-    cycle: ForLoop<'s>,
-) -> Result<(), Stop>
-    requires { IsNext code contexts.old m.old (again_of cycle) }
-    ensures { Goes code.entry contexts.old m.old (again_of cycle.entry) result contexts.new m.new }
-{
-    match one_more(code, m, cycle.at, cycle.counter as usize) {
-        Ok(number) => {
-            m.set_local(cycle.counter as usize, number);
-            counts(code, contexts, m, cycle)
-        }
-        Err(e) => Err(e),
     }
 }
 

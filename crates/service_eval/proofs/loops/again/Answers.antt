@@ -1,34 +1,20 @@
-use Rattle.std.proofs.Common.{sym, ap, subst, ◌∙◌, ◌≤◌, slice_set}
-use Rattle.context_tree.specs.Contexts.{tree_of as shown}
-use Rattle.resolved_service.specs.Steps.{steps_in}
-use Rattle.service_eval.specs.Items.{Again, Counts}
-use Rattle.service_eval.specs.Machines.{Mach, on_top, comes_to}
-use Rattle.service_eval.specs.Ready.{Ready}
+use Rattle.std.proofs.Common.{arith}
+use Rattle.service_eval.specs.Items.{again_of, counts_of}
+use Rattle.service_eval.specs.Machines.{on_top}
 use Rattle.service_eval.specs.Turns.{mach}
-use Rattle.service_eval.specs.inner.Weight.{load}
-use Rattle.service_eval.proofs.LighterTurns.{again_lighter}
-use Rattle.service_eval.proofs.FinishLemmas as l
-use Rattle.service_eval.proofs.FinishTurns.{same_world, ready_in, goes_from}
+use Rattle.service_eval.proofs.FinishTurns.{goes_from}
 use Rattle.service_eval.proofs.loops.again.Goals as goal
 
 pub counts-requires : goal.counts-requires
 counts-requires c =
-    let T = shown c.args.code.shape.now c.args.contexts.now in
-    let m = (mach c.args.code c.args.contexts.now c.args.m.now) in
-    subst (λ (x : Mach). Ready c.args.code.shape.now c.args.code.methods.now (on_top (Counts c.args.cycle.at c.args.cycle.counter (steps_in c.args.cycle.body.now)) x)) (sym (c.set_local.ensures T))
-    (ready_in _ _ m _ _ _ _ c.requires c.requires.items (same_world m.state.world))
+    let on = rw c.if-more.true at c.in-Ok.ensures in
+    on.1
 
-pub returns-in-Ok : goal.returns-in-Ok
-returns-in-Ok c =
-    let T = shown c.args.code.shape.now c.args.contexts.now in
-    let m = (mach c.args.code c.args.contexts.now c.args.m.now) in
-    let body = steps_in c.args.cycle.body.now in
-    goes_from c.args.code (on_top (Again c.args.cycle.at c.args.cycle.counter body) m) (on_top (Counts c.args.cycle.at c.args.cycle.counter body) (mach c.args.code c.args.contexts.now c.set_local.new.self)) c.counts.result (mach c.args.code c.counts.new.contexts c.counts.new.m)
-    (l.again_is c.args.code.methods.now m c.args.cycle.at c.args.cycle.counter body c.in-Ok.number c.in-Ok.ensures
-    ∙ ap (λ (x : Mach). comes_to c.args.code.methods.now (on_top (Counts c.args.cycle.at c.args.cycle.counter body) x)) (sym (c.set_local.ensures T)))
-    c.counts.ensures
-    (subst (λ (x : Mach). load c.args.code.methods.now (on_top (Counts c.args.cycle.at c.args.cycle.counter body) x) ≤ load c.args.code.methods.now (on_top (Again c.args.cycle.at c.args.cycle.counter body) m)) (sym (c.set_local.ensures T))
-    (again_lighter c.args.code.methods.now m c.args.cycle.at c.args.cycle.counter body (slice_set m.state.locals c.args.cycle.counter c.in-Ok.number)))
+pub returns-then-more : goal.returns-then-more
+returns-then-more c =
+    let code = c.args.code in
+    let on = rw c.if-more.true at c.in-Ok.ensures in
+    goes_from code (on_top (again_of c.args.cycle) (mach code c.args.contexts.now c.args.m.now)) (on_top (counts_of c.args.cycle) (mach code c.args.contexts.now c.go_on.new.m)) c.counts.result (mach code c.counts.new.contexts c.counts.new.m) on.0 c.counts.ensures (omega (arith, on.2))
 
-pub returns-in-Err : goal.returns-in-Err
-returns-in-Err c = (l.again_fails c.args.code.methods.now (mach c.args.code c.args.contexts.now c.args.m.now) c.args.cycle.at c.args.cycle.counter (steps_in c.args.cycle.body.now) c.in-Err.e c.in-Err.ensures, c.requires.holds)
+pub returns-else-more : goal.returns-else-more
+returns-else-more c = rw c.if-more.false at c.in-Ok.ensures

@@ -1,20 +1,35 @@
-use Rattle.std.proofs.Common.{sym, ◌∙◌}
-use Rattle.resolved_service.specs.Steps.{steps_in}
+use Rattle.std.proofs.Common.{Ok, Err, refl, ◌∙◌, arith}
+use Rattle.service_eval.specs.Items.{counts_of}
+use Rattle.service_eval.specs.Machines.{on_top}
 use Rattle.service_eval.specs.Turns.{mach}
-use Rattle.service_eval.proofs.LighterTurns.{counts_lighter}
-use Rattle.service_eval.proofs.FinishLemmas as l
-use Rattle.service_eval.proofs.ReadyLemmas.{ready_with}
+use Rattle.service_eval.proofs.FinishTurns.{goes_from}
 use Rattle.service_eval.proofs.loops.counts.Goals as goal
 
-pub count-requires-clause-holds : goal.count-requires-clause-holds
-count-requires-clause-holds c = sym c.is_true.ensures ∙ c.if-is_true.true
+pub turns-init : goal.turns-init
+turns-init c = record { same = refl; less = omega arith; ready = c.requires }
 
-pub returns-else-is_true : goal.returns-else-is_true
-returns-else-is_true c = (
-  l.counts_false c.args.code.methods.now (mach c.args.code c.args.contexts.now c.args.m.now) c.args.cycle.at c.args.cycle.counter (steps_in c.args.cycle.body.now) c.requires.few c.in-Ok.value c.in-Ok.ensures (sym c.is_true.ensures ∙ c.if-is_true.false),
-  ready_with _ _ _ _ _ c.requires c.requires.items.1,
-  counts_lighter c.args.code.methods.now (mach c.args.code c.args.contexts.now c.args.m.now) c.args.cycle.at c.args.cycle.counter (steps_in c.args.cycle.body.now),
-)
+pub one_turn-requires : goal.one_turn-requires
+one_turn-requires c = c.turns.invariant.ready
+
+pub returns-then-not-more : goal.returns-then-not-more
+returns-then-not-more c =
+    let code = c.args.code in
+    let item = counts_of c.args.cycle in
+    let done = rw c.if-not-more.true at c.in-Ok.ensures in
+    goes_from code (on_top item (mach code c.args.contexts.now c.args.m.now)) (on_top item (mach code c.turns.contexts c.turns.m)) (Ok tt) (mach code c.one_turn.new.contexts c.one_turn.new.m) c.turns.invariant.same done c.turns.invariant.less
+
+pub turns-preserved : goal.turns-preserved
+turns-preserved c =
+    let done = rw c.if-not-more.false at c.in-Ok.ensures in
+    record { same = c.turns.invariant.same ∙ done.0; less = omega (arith, done.2, c.turns.invariant.less); ready = done.1 }
+
+pub turns-smaller : goal.turns-smaller
+turns-smaller c =
+    let done = rw c.if-not-more.false at c.in-Ok.ensures in
+    done.2
 
 pub returns-in-Err : goal.returns-in-Err
-returns-in-Err c = (l.counts_wrong c.args.code.methods.now (mach c.args.code c.args.contexts.now c.args.m.now) c.args.cycle.at c.args.cycle.counter (steps_in c.args.cycle.body.now) c.requires.few c.in-Err.e c.in-Err.ensures, c.requires.holds)
+returns-in-Err c =
+    let code = c.args.code in
+    let item = counts_of c.args.cycle in
+    goes_from code (on_top item (mach code c.args.contexts.now c.args.m.now)) (on_top item (mach code c.turns.contexts c.turns.m)) (Err c.in-Err.e) (mach code c.one_turn.new.contexts c.one_turn.new.m) c.turns.invariant.same c.in-Err.ensures c.turns.invariant.less
