@@ -1,5 +1,5 @@
 -- What each turn leaves to do weighs less than what it did.
-use Rattle.std.proofs.Common.{◌≡◌, ℕ, zero, suc, ◌+◌, ◌≤◌, ◌<◌, Bool, List, [], ◌∷◌, ◌++◌, length, Option, Some, None, refl, sym, ap, subst, ◌∙◌, arith}
+use Rattle.std.proofs.Common.{◌≡◌, ℕ, suc, ◌+◌, ◌≤◌, ◌<◌, Bool, List, [], ◌∷◌, Option, Some, None, refl, ap, arith}
 use Rattle.std.specs.Prelude.{slice_get}
 use Rattle.wave_base.specs.declared.path.Path.{Path}
 use Rattle.wave_base.specs.declared.span.Span.{Span}
@@ -9,12 +9,12 @@ use Rattle.resolved_service.specs.declared.service.Method.{Method}
 use Rattle.resolved_service.specs.Meaning.{State}
 use Rattle.resolved_service.specs.Steps as s
 use Rattle.resolved_service.specs.Steps.{Step, Steps, step, Else, no_else, otherwise, steps_in}
-use Rattle.resolved_service.specs.View.{Tree, Trees, no_trees, tree, tree_of, Op, And, Or, Call as CallOf, Child as ChildOf}
+use Rattle.resolved_service.specs.View.{Tree, Trees, no_trees, tree, Op, And, Or, Call as CallOf, Child as ChildOf}
 use Rattle.service_eval.specs.declared.work.Caller.{Caller}
 use Rattle.service_eval.specs.Items as i
 use Rattle.service_eval.specs.Items.{Item, Eval, Evals, Apply, AndThen, OrElse, Invoke, Child, Block, Begin, Finish, Turns, Check, Counts, Again, Return, End, Branch, else_steps, return_of, to_return}
-use Rattle.service_eval.specs.Machines.{Mach, on_top, before_all, with_value, cut_to, in_state, back_to, started, with_last}
-use Rattle.service_eval.specs.inner.Weight.{tree_weight, trees_weight, step_weight, steps_weight, else_weight, item_weight, items_weight, last_weight, methods_weight, load}
+use Rattle.service_eval.specs.Machines.{Mach, on_top, with_value, cut_to, in_state, back_to, started, with_last}
+use Rattle.service_eval.specs.inner.Weight.{tree_weight, step_weight, steps_weight, else_weight, item_weight, items_weight, last_weight, methods_weight, load}
 use Rattle.service_eval.proofs.WeightLemmas.{tree_weighs, items_less, lighter, no_heavier, lighter_ticked, method_weighs, turn_weighs}
 
 end_weighs : (ticks : ℕ) (at : Span) (what : End) (base : ℕ) → 0 < item_weight ticks (Finish at what base)

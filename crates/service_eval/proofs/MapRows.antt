@@ -1,5 +1,5 @@
 -- The rows that give maps: what they give, and that memory may be wanting for it.
-use Rattle.std.proofs.Common.{◌≡◌, ℤ, Bool, true, false, List, [], ◌∷◌, ◌↔◌, if◌then◌else◌, Result, Ok, Err, refl, sym, ap, subst, ◌∙◌}
+use Rattle.std.proofs.Common.{◌≡◌, ℤ, Bool, true, false, List, [], ◌∷◌, ◌↔◌, if◌then◌else◌, Result, Ok, Err, refl, ap}
 use Rattle.wave_base.specs.declared.trap.TrapKind.{TrapKind}
 use Rattle.wave_base.specs.declared.trap.TrapKind.TheVariants.{Full}
 use Rattle.wave_base.specs.declared.value.Kind.TheVariants as k

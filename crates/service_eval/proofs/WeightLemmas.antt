@@ -1,8 +1,7 @@
 -- What is left to do gets less.
-use Rattle.std.proofs.Common.{◌≡◌, ℕ, zero, suc, ◌+◌, ◌*◌, ◌≤◌, ◌<◌, List, [], ◌∷◌, ◌++◌, Option, Some, None, refl, sym, ap, subst, ◌∙◌, arith}
+use Rattle.std.proofs.Common.{◌≡◌, ℕ, zero, suc, ◌+◌, ◌*◌, ◌≤◌, ◌<◌, List, [], ◌∷◌, Some, sym, subst, arith}
 use Rattle.std.specs.Prelude.{slice_get}
 use Rattle.std.proofs.lemmas.Nat.{mul-le}
-use Rattle.resolved_service.specs.declared.service.Last.{Last}
 use Rattle.resolved_service.specs.declared.service.Method.{Method}
 use Rattle.resolved_service.specs.Steps as s
 use Rattle.resolved_service.specs.Steps.{Step, Steps, no_steps, step, Else, no_else, otherwise, steps_in}
@@ -11,7 +10,7 @@ use Rattle.resolved_service.specs.View.{Tree, Trees, no_trees, tree, tree_of}
 use Rattle.service_eval.specs.Items as i
 use Rattle.service_eval.specs.Items.{Item, Eval, Evals, Apply, AndThen, OrElse, Invoke, Child, Block, Begin, Finish, Turns, Check, Counts, Again, Return, End, Branch}
 use Rattle.service_eval.specs.Machines.{Mach}
-use Rattle.service_eval.specs.inner.Weight.{tree_weight, trees_weight, maybe_weight, turns_weight, step_weight, steps_weight, else_weight, item_weight, items_weight, last_weight, methods_weight, load}
+use Rattle.service_eval.specs.inner.Weight.{tree_weight, turns_weight, step_weight, steps_weight, else_weight, item_weight, items_weight, last_weight, methods_weight, load}
 
 pub tree_weighs : (t : Tree) → 0 < tree_weight t
 tree_weighs (r.Const at v) = omega arith

@@ -1,12 +1,12 @@
 -- How much is left to do: each turn leaves less of it. What loops and calls may do goes by the ticks that are left.
-use Rattle.std.specs.Prelude.{ℕ, suc, ◌+◌, ◌*◌, ◌≤◌, ◌<◌, List, [], ◌∷◌, Option, Some, None}
+use Rattle.std.specs.Prelude.{ℕ, ◌+◌, ◌*◌, List, [], ◌∷◌, Option, Some, None}
 use Rattle.resolved_service.specs.declared.service.Last.{Last}
 use Rattle.resolved_service.specs.declared.service.Method.{Method}
 use Rattle.resolved_service.specs.Steps as s
 use Rattle.resolved_service.specs.Steps.{Step, Steps, no_steps, step, Else, no_else, otherwise, steps_in}
 use Rattle.resolved_service.specs.View as r
 use Rattle.resolved_service.specs.View.{Tree, Trees, no_trees, tree, tree_of}
-use Rattle.service_eval.specs.Items.{End, Branch, Item, Eval, Evals, AndThen, OrElse, Block, Begin, Finish, Turns, Check, Counts, Again}
+use Rattle.service_eval.specs.Items.{Branch, Item, Eval, Evals, AndThen, OrElse, Block, Begin, Finish, Turns, Check, Counts, Again}
 use Rattle.service_eval.specs.Machines.{Mach}
 
 -- an expression: more than its parts and what is done with their values

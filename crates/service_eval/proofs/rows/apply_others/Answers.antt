@@ -1,4 +1,4 @@
-use Rattle.std.proofs.Common.{◌≡◌, false, [], ◌∷◌, sym, subst, ◌∙◌}
+use Rattle.std.proofs.Common.{◌≡◌, false, [], ◌∷◌, sym, subst}
 use Rattle.wave_base.specs.declared.value.Kind.TheVariants.{Int, Bool, Text, Map}
 use Rattle.value_ops.specs.Operators.{takes_of}
 use Rattle.value_ops.specs.Rows.{three}
