@@ -17,11 +17,12 @@ use Rattle.resolved_service.specs.World.{is_true}
 use Rattle.service_eval.specs.declared.code.Code.{Code}
 use Rattle.service_eval.specs.declared.machine.Machine.{Machine}
 use Rattle.service_eval.specs.declared.stop.Stop.{Stop}
-use Rattle.service_eval.specs.Items.{Item, Block, else_steps}
-use Rattle.service_eval.specs.Machines.{Mach, before_all, in_state, come_of, comes_to}
-use Rattle.service_eval.specs.Ready.{FitsItems, Ready, Turned}
-use Rattle.service_eval.specs.Turns.{mach, Does, AtOnce, GoesTo}
-use Rattle.service_eval.specs.Worlds.{Holds, Traps}
+use Rattle.service_eval.specs.inner.Items.{Item, Block, else_steps}
+use Rattle.service_eval.specs.inner.Machines.{Mach, before_all, in_state, come_of, comes_to}
+use Rattle.service_eval.specs.inner.Ready.{FitsItems, Ready, Turned}
+use Rattle.service_eval.specs.inner.Turns.{mach, Does, AtOnce, GoesTo}
+use Rattle.service_eval.specs.Worlds.{Holds}
+use Rattle.service_eval.specs.inner.Traces.{Traps}
 use Rattle.service_eval.specs.inner.Ahead.{Advances, AdvancesBy, StopsIn, Stands, Chooses}
 use Rattle.service_eval.specs.inner.Weight.{steps_weight, else_weight, load}
 use Rattle.service_eval.proofs.FinishTurns.{goes_from}

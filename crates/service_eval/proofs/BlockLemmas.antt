@@ -10,8 +10,8 @@ use Rattle.resolved_service.specs.Steps as s
 use Rattle.resolved_service.specs.Steps.{Step, Steps, no_steps, step, Else, no_else, otherwise}
 use Rattle.resolved_service.specs.View.{Tree, Trees}
 use Rattle.resolved_service.specs.World.{is_true, spawning}
-use Rattle.service_eval.specs.Items.{End, SetLocal, SetField, PutLocal, PutField, CutLocal, CutField, Branch, Require, Send, Spawn, Drop, Returns, Finishes, Eval, Evals, Block, Begin, Finish, Counts, else_steps}
-use Rattle.service_eval.specs.Machines.{Mach, Rest, on_top, act, finish, come_of, comes_to}
+use Rattle.service_eval.specs.inner.Items.{End, SetLocal, SetField, PutLocal, PutField, CutLocal, CutField, Branch, Require, Send, Spawn, Drop, Returns, Finishes, Eval, Evals, Block, Begin, Finish, Counts, else_steps}
+use Rattle.service_eval.specs.inner.Machines.{Mach, Rest, on_top, act, finish, come_of, comes_to}
 use Rattle.service_eval.proofs.Outcomes.{assoc, feeds, below, upon}
 
 module _ (methods : List Method) (m : Mach) where

@@ -12,10 +12,10 @@ use Rattle.service_eval.specs.declared.code.Code.{Code}
 use Rattle.service_eval.specs.declared.machine.Machine.{Machine}
 use Rattle.service_eval.specs.declared.stop.Stop.{Stop}
 use Rattle.service_eval.specs.declared.stop.Stop.TheVariants as stop
-use Rattle.service_eval.specs.Items.{Item, Eval, Begin}
-use Rattle.service_eval.specs.Machines.{Mach, mach_of, state_of, on_top, before_all, with_value, comes_to}
-use Rattle.service_eval.specs.Ready.{Ready, Follows, Turned}
-use Rattle.service_eval.specs.Turns.{mach, IsNext, Goes}
+use Rattle.service_eval.specs.inner.Items.{Item, Eval, Begin}
+use Rattle.service_eval.specs.inner.Machines.{Mach, mach_of, state_of, on_top, before_all, with_value, comes_to}
+use Rattle.service_eval.specs.inner.Ready.{Ready, Follows, Turned}
+use Rattle.service_eval.specs.inner.Turns.{mach, IsNext, Goes}
 use Rattle.service_eval.proofs.EvalLemmas.{found_value}
 use Rattle.service_eval.specs.inner.Weight.{load}
 use Rattle.service_eval.proofs.FinishTurns.{goes_from}

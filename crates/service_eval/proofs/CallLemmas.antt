@@ -14,9 +14,9 @@ use Rattle.resolved_service.specs.View.{tree_of}
 use Rattle.resolved_service.specs.World.{World, key_of, child, changed, ticking, entering}
 use Rattle.service_eval.specs.declared.stop.Stop.{Stop}
 use Rattle.service_eval.specs.declared.stop.Stop.TheVariants as stop
-use Rattle.service_eval.specs.Items.{Eval, Invoke, Child, Block, Return}
-use Rattle.service_eval.specs.Machines.{Mach, Rest, on_top, cut_to, in_world, own, act, path_after, returned, come_of, comes_to, with_last, started}
-use Rattle.service_eval.specs.Worlds.{Changes, Traps, Fails}
+use Rattle.service_eval.specs.inner.Items.{Eval, Invoke, Child, Block, Return}
+use Rattle.service_eval.specs.inner.Machines.{Mach, Rest, on_top, cut_to, in_world, own, act, path_after, returned, come_of, comes_to, with_last, started}
+use Rattle.service_eval.specs.inner.Traces.{Changes, Traps, Fails}
 use Rattle.service_eval.proofs.CallTurns.{ticked}
 use Rattle.service_eval.proofs.ItemLikeness.{come_like}
 use Rattle.service_eval.proofs.Likeness.{Same, counted, Like, weaker, then_like, give_like, run_like}

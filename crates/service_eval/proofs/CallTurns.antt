@@ -26,10 +26,10 @@ use Rattle.service_eval.specs.declared.machine.Machine.{Machine}
 use Rattle.service_eval.specs.declared.stop.Stop.{Stop}
 use Rattle.service_eval.specs.declared.stop.Stop.TheVariants as stop
 use Rattle.service_eval.specs.declared.work.Caller.{Caller}
-use Rattle.service_eval.specs.Items.{Item, Invoke, Child, Block, Return, return_of}
-use Rattle.service_eval.specs.Machines.{Mach, mach_of, on_top, cut_to, in_world, own, back_to, with_last, started, comes_to}
-use Rattle.service_eval.specs.Ready.{FitsItems, Ready}
-use Rattle.service_eval.specs.Turns.{mach, IsNext, Goes}
+use Rattle.service_eval.specs.inner.Items.{Item, Invoke, Child, Block, Return, return_of}
+use Rattle.service_eval.specs.inner.Machines.{Mach, mach_of, on_top, cut_to, in_world, own, back_to, with_last, started, comes_to}
+use Rattle.service_eval.specs.inner.Ready.{FitsItems, Ready}
+use Rattle.service_eval.specs.inner.Turns.{mach, IsNext, Goes}
 use Rattle.service_eval.specs.Worlds.{Holds}
 use Rattle.service_eval.proofs.LighterTurns.{back_lighter}
 use Rattle.service_eval.proofs.PathLemmas.{class_of-child, parent_of-child, is_path-child, is_path-parent, parent_there, enter_holds, all_there, entered_there, still_there}

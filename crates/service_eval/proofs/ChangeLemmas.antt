@@ -25,13 +25,13 @@ use Rattle.service_eval.specs.declared.stop.Stop.{Stop}
 use Rattle.service_eval.specs.declared.work.Ending.TheVariants as ending
 use Rattle.service_eval.specs.declared.work.Variable.{Variable}
 use Rattle.service_eval.specs.declared.work.Variable.TheVariants as variable
-use Rattle.service_eval.specs.Changes.{changing, step_in, IsOther}
-use Rattle.service_eval.specs.Items as i
-use Rattle.service_eval.specs.Items.{End, Item, Eval, Begin, Finish, end_of}
-use Rattle.service_eval.specs.Machines.{Mach, finish, on_top, before_all, cut_to, in_state, comes_to}
-use Rattle.service_eval.specs.Ready.{FitsItems}
-use Rattle.service_eval.specs.Turns.{mach, Goes, Does}
-use Rattle.service_eval.specs.Worlds.{Traps}
+use Rattle.service_eval.specs.inner.Changes.{changing, step_in, IsOther}
+use Rattle.service_eval.specs.inner.Items as i
+use Rattle.service_eval.specs.inner.Items.{End, Item, Eval, Begin, Finish, end_of}
+use Rattle.service_eval.specs.inner.Machines.{Mach, finish, on_top, before_all, cut_to, in_state, comes_to}
+use Rattle.service_eval.specs.inner.Ready.{FitsItems}
+use Rattle.service_eval.specs.inner.Turns.{mach, Goes, Does}
+use Rattle.service_eval.specs.inner.Traces.{Traps}
 use Rattle.service_eval.proofs.BlockLemmas as l
 use Rattle.service_eval.specs.inner.Weight.{load}
 use Rattle.service_eval.proofs.FinishLemmas.{finished, not_finished}

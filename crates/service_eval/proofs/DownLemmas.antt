@@ -12,8 +12,8 @@ use Rattle.wave_base.specs.Tree.{there}
 use Rattle.resolved_service.specs.declared.service.Method.{Method}
 use Rattle.resolved_service.specs.Fits.{IsChildClass}
 use Rattle.resolved_service.specs.World.{World, key_of, child, changed, entering, releasing}
-use Rattle.service_eval.specs.Machines.{Mach}
-use Rattle.service_eval.specs.Ready.{FitsItems, Ready}
+use Rattle.service_eval.specs.inner.Machines.{Mach}
+use Rattle.service_eval.specs.inner.Ready.{FitsItems, Ready}
 use Rattle.service_eval.proofs.CallTurns.{Entered, entered}
 use Rattle.service_eval.proofs.PathLemmas.{is_path-child, parent_of-child}
 

@@ -15,7 +15,7 @@ use Rattle.resolved_service.specs.Meaning.{row_put, row_cut}
 use Rattle.resolved_service.specs.World.{nothing}
 use Rattle.service_eval.specs.declared.stop.Stop.{Stop}
 use Rattle.service_eval.specs.declared.stop.Stop.TheVariants as stop
-use Rattle.service_eval.specs.Turns.{Alters}
+use Rattle.service_eval.specs.inner.Turns.{Alters}
 
 -- ---- rows
 

@@ -13,10 +13,10 @@ use Rattle.resolved_service.specs.View.{Tree, Trees, no_trees, tree, Op, And, Or
 use Rattle.resolved_service.specs.World.{World, is_true, child}
 use Rattle.service_eval.specs.declared.stop.Stop.{Stop}
 use Rattle.service_eval.specs.declared.stop.Stop.TheVariants as stop
-use Rattle.service_eval.specs.Answers.{Gives}
-use Rattle.service_eval.specs.Worlds.{Traps, Fails}
-use Rattle.service_eval.specs.Items.{Eval, Evals, Apply, AndThen, OrElse, Invoke, Child}
-use Rattle.service_eval.specs.Machines.{Mach, Rest, on_top, with_value, cut_to, own, act, come_of, comes_to}
+use Rattle.service_eval.specs.inner.Answers.{Gives}
+use Rattle.service_eval.specs.inner.Traces.{Traps, Fails}
+use Rattle.service_eval.specs.inner.Items.{Eval, Evals, Apply, AndThen, OrElse, Invoke, Child}
+use Rattle.service_eval.specs.inner.Machines.{Mach, Rest, on_top, with_value, cut_to, own, act, come_of, comes_to}
 use Rattle.service_eval.proofs.Outcomes.{assoc, regroup, feeds, traps_then, fails_through, below, upon, first_upon, rest_upon}
 
 module _ (methods : List Method) (m : Mach) where

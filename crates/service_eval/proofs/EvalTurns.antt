@@ -10,9 +10,9 @@ use Rattle.service_eval.specs.declared.code.Code.{Code}
 use Rattle.service_eval.specs.declared.machine.Machine.{Machine}
 use Rattle.service_eval.specs.declared.stop.Stop.{Stop}
 use Rattle.service_eval.specs.declared.stop.Stop.TheVariants as stop
-use Rattle.service_eval.specs.Items.{Eval, Evals, Apply, AndThen, OrElse, Invoke, Child}
-use Rattle.service_eval.specs.Machines.{Mach, mach_of, on_top}
-use Rattle.service_eval.specs.Turns.{mach, IsNext, Goes}
+use Rattle.service_eval.specs.inner.Items.{Eval, Evals, Apply, AndThen, OrElse, Invoke, Child}
+use Rattle.service_eval.specs.inner.Machines.{Mach, mach_of, on_top}
+use Rattle.service_eval.specs.inner.Turns.{mach, IsNext, Goes}
 use Rattle.service_eval.proofs.EvalLemmas as e
 use Rattle.service_eval.proofs.LighterTurns.{and_lighter, or_lighter, op_lighter, call_lighter, child_lighter, first_lighter}
 use Rattle.service_eval.proofs.ReadyLemmas.{ready_with, turned}

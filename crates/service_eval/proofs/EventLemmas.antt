@@ -12,11 +12,12 @@ use Rattle.service_eval.specs.declared.code.Code.{Code}
 use Rattle.service_eval.specs.declared.machine.Machine.{Machine}
 use Rattle.service_eval.specs.declared.stop.Stop.{Stop}
 use Rattle.service_eval.specs.declared.stop.Stop.TheVariants as stop
-use Rattle.service_eval.specs.Events.{Rests, Comes}
-use Rattle.service_eval.specs.Items.{Eval, Block}
-use Rattle.service_eval.specs.Machines.{Mach, Rest, rest_at, state_of, on_top, come_of, comes_to}
-use Rattle.service_eval.specs.Turns.{mach, Ran}
-use Rattle.service_eval.specs.Worlds.{uncounted, plain, Fails, Holds}
+use Rattle.service_eval.specs.inner.Parts.{Rests, Comes}
+use Rattle.service_eval.specs.inner.Items.{Eval, Block}
+use Rattle.service_eval.specs.inner.Machines.{Mach, Rest, rest_at, state_of, on_top, come_of, comes_to}
+use Rattle.service_eval.specs.inner.Turns.{mach, Ran}
+use Rattle.service_eval.specs.Worlds.{Holds}
+use Rattle.service_eval.specs.inner.Traces.{uncounted, plain, Fails}
 
 -- the values that an outcome leaves, at a place
 abbrev at_end : {A : Type 0} → Path → (A → List Value) → Outcome A → Outcome Rest

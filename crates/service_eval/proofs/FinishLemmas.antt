@@ -14,10 +14,10 @@ use Rattle.resolved_service.specs.View.{Tree}
 use Rattle.resolved_service.specs.World.{World, nothing, is_true, ticking}
 use Rattle.service_eval.specs.declared.stop.Stop.{Stop}
 use Rattle.service_eval.specs.declared.stop.Stop.TheVariants as stop
-use Rattle.service_eval.specs.Answers.{Gives}
-use Rattle.service_eval.specs.Items.{End, Branch, Eval, Block, Finish, Turns, Check, Counts, Again}
-use Rattle.service_eval.specs.Machines.{Mach, on_top, cut_to, in_world, in_state, own, act, finish, turn_on, next, come_of, comes_to}
-use Rattle.service_eval.specs.Worlds.{Changes, Traps, Fails}
+use Rattle.service_eval.specs.inner.Answers.{Gives}
+use Rattle.service_eval.specs.inner.Items.{End, Branch, Eval, Block, Finish, Turns, Check, Counts, Again}
+use Rattle.service_eval.specs.inner.Machines.{Mach, on_top, cut_to, in_world, in_state, own, act, finish, turn_on, next, come_of, comes_to}
+use Rattle.service_eval.specs.inner.Traces.{Changes, Traps, Fails}
 use Rattle.service_eval.proofs.CallLemmas.{world_fails}
 use Rattle.service_eval.proofs.ItemLikeness.{come_like}
 use Rattle.service_eval.proofs.Likeness.{then_like, give_like, while_turn, for_turn}

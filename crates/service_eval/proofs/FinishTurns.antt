@@ -15,10 +15,10 @@ use Rattle.resolved_service.specs.World.{World, ticking, sending, spawning, set_
 use Rattle.service_eval.specs.declared.code.Code.{Code}
 use Rattle.service_eval.specs.declared.machine.Machine.{Machine}
 use Rattle.service_eval.specs.declared.stop.Stop.{Stop}
-use Rattle.service_eval.specs.Items.{Item}
-use Rattle.service_eval.specs.Machines.{Mach, on_top, comes_to}
-use Rattle.service_eval.specs.Ready.{FitsItems, Ready, Turned}
-use Rattle.service_eval.specs.Turns.{mach, Goes}
+use Rattle.service_eval.specs.inner.Items.{Item}
+use Rattle.service_eval.specs.inner.Machines.{Mach, on_top, comes_to}
+use Rattle.service_eval.specs.inner.Ready.{FitsItems, Ready, Turned}
+use Rattle.service_eval.specs.inner.Turns.{mach, Goes}
 use Rattle.service_eval.specs.inner.Weight.{load}
 use Rattle.service_eval.proofs.CallTurns.{ticked}
 use Rattle.service_eval.proofs.LeaveTurns.{follows_from}

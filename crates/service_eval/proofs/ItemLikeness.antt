@@ -11,9 +11,9 @@ use Rattle.resolved_service.specs.Meaning.{Returned, Finished, Outcome, Done, Tr
 use Rattle.resolved_service.specs.Steps.{Steps}
 use Rattle.resolved_service.specs.View.{Tree}
 use Rattle.resolved_service.specs.World.{nothing, is_true, child, read_field, set_field}
-use Rattle.service_eval.specs.Items.{End, SetLocal, SetField, PutLocal, PutField, CutLocal, CutField, Branch, Require, Send, Spawn, Drop, Returns, Finishes, Item, Eval, Evals, Apply, AndThen, OrElse, Invoke, Child, Block, Begin, Finish, Turns, Check, Counts, Again, Return}
-use Rattle.service_eval.specs.Machines.{rest_at, own, act, finish, turn_on, next, path_after, returned, come_of}
-use Rattle.service_eval.specs.Worlds.{plain}
+use Rattle.service_eval.specs.inner.Items.{End, SetLocal, SetField, PutLocal, PutField, CutLocal, CutField, Branch, Require, Send, Spawn, Drop, Returns, Finishes, Item, Eval, Evals, Apply, AndThen, OrElse, Invoke, Child, Block, Begin, Finish, Turns, Check, Counts, Again, Return}
+use Rattle.service_eval.specs.inner.Machines.{rest_at, own, act, finish, turn_on, next, path_after, returned, come_of}
+use Rattle.service_eval.specs.inner.Traces.{plain}
 use Rattle.service_eval.proofs.Likeness.{Few, Same, counted, Like, then_like, give_like, choose_like, answered, answer_like, tick_like, enter_like, send_like, spawn_like, demand_like, calls, same_value, same_values, same_effect, same_effects, same_while, same_for}
 
 module _ (methods : List Method) (p : Path) where

@@ -8,7 +8,7 @@ use Rattle.value_ops.specs.declared.takes.Takes.{Takes}
 use Rattle.value_ops.specs.declared.takes.Takes.TheVariants as o
 use Rattle.value_ops.specs.Rows.{three}
 use Rattle.value_ops.specs.Takes.{kinds_in}
-use Rattle.service_eval.specs.Answers.{is_kind, are_kinds}
+use Rattle.service_eval.specs.inner.Answers.{is_kind, are_kinds}
 
 pub no_int : (x : Value) → ((n : ℤ) → x ≡ v.Int n → ⊥) → is_kind (Some k.Int) x ≡ false
 no_int (v.Int n) h = absurd (h n refl)

@@ -13,12 +13,13 @@ use Rattle.service_eval.specs.declared.machine.Machine.{Machine}
 use Rattle.service_eval.specs.declared.stop.Stop.{Stop}
 use Rattle.service_eval.specs.declared.stop.Stop.TheVariants as stop
 use Rattle.service_eval.specs.declared.work.Caller.{Caller}
-use Rattle.service_eval.specs.Items as i
-use Rattle.service_eval.specs.Items.{Item, Eval, Invoke, Child, Block, Return, return_of, to_return}
-use Rattle.service_eval.specs.Machines.{Mach, Rest, items_of, mach_of, on_top, back_to, come_of, comes_to}
-use Rattle.service_eval.specs.Ready.{FitsItems, Ready, Follows}
-use Rattle.service_eval.specs.Turns.{mach, Leaves}
-use Rattle.service_eval.specs.Worlds.{uncounted, Holds, Ends, Fails}
+use Rattle.service_eval.specs.inner.Items as i
+use Rattle.service_eval.specs.inner.Items.{Item, Eval, Invoke, Child, Block, Return, return_of, to_return}
+use Rattle.service_eval.specs.inner.Machines.{Mach, Rest, items_of, mach_of, on_top, back_to, come_of, comes_to}
+use Rattle.service_eval.specs.inner.Ready.{FitsItems, Ready, Follows}
+use Rattle.service_eval.specs.inner.Turns.{mach, Leaves}
+use Rattle.service_eval.specs.Worlds.{Holds}
+use Rattle.service_eval.specs.inner.Traces.{uncounted, Ends, Fails}
 use Rattle.service_eval.specs.inner.Weight.{load}
 use Rattle.service_eval.proofs.CallTurns.{ready_back}
 use Rattle.service_eval.proofs.LighterTurns.{left_lighter}

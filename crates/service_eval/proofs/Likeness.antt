@@ -16,7 +16,7 @@ use Rattle.resolved_service.specs.Meaning.{State, Returned, Finished, Outcome, D
 use Rattle.resolved_service.specs.Steps.{Step, SetLocal, SetField, PutLocal, PutField, CutLocal, CutField, If, While, For, Require, Send, Spawn, Do, Return, Finish, Steps, no_steps, step, Else, no_else, otherwise, steps_in}
 use Rattle.resolved_service.specs.View.{Tree, Const, Local, Field, Above, Op, And, Or, Call, Child, Trees, no_trees, tree, tree_of}
 use Rattle.resolved_service.specs.World.{nothing, is_true, child, took, changed, with_entered, has, entering, sending, spawning, read_field, read_above, set_field}
-use Rattle.service_eval.specs.Worlds.{uncounted, plain}
+use Rattle.service_eval.specs.inner.Traces.{uncounted, plain}
 
 -- at most so many ticks are left
 abbrev pub Few : {A : Type 0} → ℕ → Outcome A → Type 0

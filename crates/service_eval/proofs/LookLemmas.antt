@@ -12,7 +12,7 @@ use Rattle.resolved_service.specs.World.{is_true}
 use Rattle.service_eval.specs.declared.operand.Operand.{Operand}
 use Rattle.service_eval.specs.declared.stop.Stop.{Stop}
 use Rattle.service_eval.specs.declared.stop.Stop.TheVariants as stop
-use Rattle.service_eval.specs.Answers.{Gives, Looks, made}
+use Rattle.service_eval.specs.inner.Answers.{Gives, Looks, made}
 
 module _ (o : Outcome Value) (x y : Act Value) (a b : Value) (st : State) (r : Result (Option Operand) Stop) (found : o ≡ Done a st) (same : b ≡ a) where
   pub decided_true : is_true b ≡ true → Looks (x st) st r → Looks (and_then o (λ a. choose (is_true a) x y)) st r

@@ -19,12 +19,13 @@ use Rattle.service_eval.specs.declared.code.Code.{Code}
 use Rattle.service_eval.specs.declared.machine.Machine.{Machine}
 use Rattle.service_eval.specs.declared.stop.Stop.{Stop}
 use Rattle.service_eval.specs.declared.stop.Stop.TheVariants as stop
-use Rattle.service_eval.specs.Answers.{told}
-use Rattle.service_eval.specs.Items.{Block}
-use Rattle.service_eval.specs.Machines.{Mach, on_top, in_state, come_of, comes_to}
-use Rattle.service_eval.specs.Ready.{Ready}
-use Rattle.service_eval.specs.Turns.{mach, Alters, Does, AtOnce}
-use Rattle.service_eval.specs.Worlds.{Holds, Traps, Fails}
+use Rattle.service_eval.specs.inner.Answers.{told}
+use Rattle.service_eval.specs.inner.Items.{Block}
+use Rattle.service_eval.specs.inner.Machines.{Mach, on_top, in_state, come_of, comes_to}
+use Rattle.service_eval.specs.inner.Ready.{Ready}
+use Rattle.service_eval.specs.inner.Turns.{mach, Alters, Does, AtOnce}
+use Rattle.service_eval.specs.Worlds.{Holds}
+use Rattle.service_eval.specs.inner.Traces.{Traps, Fails}
 use Rattle.service_eval.proofs.EditLemmas.{field_same}
 use Rattle.service_eval.proofs.FinishLemmas.{gives_fails}
 use Rattle.service_eval.proofs.FinishTurns.{Same, same_world, same_field}

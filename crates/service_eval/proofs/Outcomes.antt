@@ -10,9 +10,9 @@ use Rattle.resolved_service.specs.Meaning.{State, Returned, Finished, Outcome, D
 use Rattle.resolved_service.specs.World.{World, nothing}
 use Rattle.service_eval.specs.declared.stop.Stop.{Stop}
 use Rattle.service_eval.specs.declared.stop.Stop.TheVariants as stop
-use Rattle.service_eval.specs.Items.{Item, Eval, Evals, Apply, AndThen, OrElse, Invoke, Child, Block, Begin, Finish, Turns, Check, Counts, Again, Return, to_return}
-use Rattle.service_eval.specs.Machines.{resume, come_of, own}
-use Rattle.service_eval.specs.Worlds.{uncounted, plain, Traps, Ends, Fails}
+use Rattle.service_eval.specs.inner.Items.{Item, Eval, Evals, Apply, AndThen, OrElse, Invoke, Child, Block, Begin, Finish, Turns, Check, Counts, Again, Return, to_return}
+use Rattle.service_eval.specs.inner.Machines.{resume, come_of, own}
+use Rattle.service_eval.specs.inner.Traces.{uncounted, plain, Traps, Ends, Fails}
 
 pub assoc : {A B C : Type 0} (o : Outcome A) (f : A → Act B) (g : B → Act C) → and_then (and_then o f) g ≡ and_then o (λ a st. and_then (f a st) g)
 assoc (Done a st) f g = refl

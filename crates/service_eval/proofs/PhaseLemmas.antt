@@ -11,8 +11,8 @@ use Rattle.resolved_service.specs.Steps.{steps_in}
 use Rattle.resolved_service.specs.View.{tree_of}
 use Rattle.resolved_service.specs.World.{World, child}
 use Rattle.service_eval.specs.declared.stop.Stop.{Stop}
-use Rattle.service_eval.specs.Events.{Comes, went_down}
-use Rattle.service_eval.specs.Worlds.{plain, Fails}
+use Rattle.service_eval.specs.inner.Parts.{Comes, went_down}
+use Rattle.service_eval.specs.inner.Traces.{plain, Fails}
 use Rattle.service_eval.proofs.Likeness.{counted, Like, then_like, enter_like, same_value, same_effects, same_phases}
 use Rattle.service_eval.proofs.Outcomes.{assoc, regroup, fails_then}
 

@@ -12,10 +12,10 @@ use Rattle.service_eval.specs.declared.code.Code.{Code}
 use Rattle.service_eval.specs.declared.machine.Machine.{Machine}
 use Rattle.service_eval.specs.declared.stop.Stop.{Stop}
 use Rattle.service_eval.specs.declared.stop.Stop.TheVariants as stop
-use Rattle.service_eval.specs.Items.{Item, Eval}
-use Rattle.service_eval.specs.Machines.{Mach, mach_of, state_of, on_top, with_value, comes_to}
-use Rattle.service_eval.specs.Ready.{FitsItems, Ready, Follows}
-use Rattle.service_eval.specs.Turns.{mach, IsNext, Goes}
+use Rattle.service_eval.specs.inner.Items.{Item, Eval}
+use Rattle.service_eval.specs.inner.Machines.{Mach, mach_of, state_of, on_top, with_value, comes_to}
+use Rattle.service_eval.specs.inner.Ready.{FitsItems, Ready, Follows}
+use Rattle.service_eval.specs.inner.Turns.{mach, IsNext, Goes}
 use Rattle.service_eval.specs.Worlds.{Holds}
 use Rattle.service_eval.specs.inner.Weight.{load}
 use Rattle.service_eval.proofs.EvalLemmas.{found_value}

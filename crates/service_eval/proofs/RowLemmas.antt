@@ -14,7 +14,7 @@ use Rattle.value_ops.specs.declared.error.OpError.{OpError}
 use Rattle.value_ops.specs.Kinds.{Answer, From, answer_of, at_values}
 use Rattle.value_ops.specs.Operators.{Operator, no_operator, operators, operator_at, takes_of, apply_row}
 use Rattle.value_ops.specs.Rows.{three}
-use Rattle.service_eval.specs.Answers.{is_kind, are_kinds}
+use Rattle.service_eval.specs.inner.Answers.{is_kind, are_kinds}
 
 and_left : (a b : Bool) → (a && b) ≡ true → a ≡ true
 and_left true b e = refl

@@ -11,10 +11,10 @@ use Rattle.service_eval.specs.declared.machine.Machine.{Machine}
 use Rattle.service_eval.specs.declared.stop.Stop.{Stop}
 use Rattle.service_eval.specs.declared.stop.Stop.TheVariants as stop
 use Rattle.service_eval.specs.declared.trace.Trace.{Trace}
-use Rattle.service_eval.specs.Items.{End, Finish}
-use Rattle.service_eval.specs.Machines.{mach_of, cut_to, in_world, finish}
-use Rattle.service_eval.specs.Turns.{mach, IsNext, Goes}
-use Rattle.service_eval.specs.Worlds.{world_of, Changes, Traps}
+use Rattle.service_eval.specs.inner.Items.{End, Finish}
+use Rattle.service_eval.specs.inner.Machines.{mach_of, cut_to, in_world, finish}
+use Rattle.service_eval.specs.inner.Turns.{mach, IsNext, Goes}
+use Rattle.service_eval.specs.inner.Traces.{world_of, Changes, Traps}
 use Rattle.service_eval.proofs.FinishLemmas.{finished, not_finished}
 use Rattle.service_eval.proofs.LighterTurns.{finished_lighter}
 use Rattle.service_eval.proofs.FinishTurns.{Same, ready_in, did}

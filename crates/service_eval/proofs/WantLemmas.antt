@@ -23,12 +23,12 @@ use Rattle.service_eval.specs.declared.stop.Stop.TheVariants as stop
 use Rattle.service_eval.specs.declared.work.Ending.TheVariants as ending
 use Rattle.service_eval.specs.declared.work.Variable.{Variable}
 use Rattle.service_eval.specs.declared.work.Variable.TheVariants as variable
-use Rattle.service_eval.specs.Answers.{Gives, made, told}
-use Rattle.service_eval.specs.Changes.{step_in}
-use Rattle.service_eval.specs.Items.{end_of}
-use Rattle.service_eval.specs.Machines.{Mach, own, cut_to, state_of}
-use Rattle.service_eval.specs.Turns.{mach}
-use Rattle.service_eval.specs.Wants.{WhereWanting, MayWantToFind, MayWantAtOnce, MayWantAtEnd, IsNewKey, FindsNewKey, value_of}
+use Rattle.service_eval.specs.inner.Answers.{Gives, made, told}
+use Rattle.service_eval.specs.inner.Changes.{step_in}
+use Rattle.service_eval.specs.inner.Items.{end_of}
+use Rattle.service_eval.specs.inner.Machines.{Mach, own, cut_to, state_of}
+use Rattle.service_eval.specs.inner.Turns.{mach}
+use Rattle.service_eval.specs.inner.Wants.{WhereWanting, MayWantToFind, MayWantAtOnce, MayWantAtEnd, IsNewKey, FindsNewKey, value_of}
 
 -- memory is wanting for what a row gives only where it gives texts or maps
 module _ (row : ℕ) (values : List Value) where

@@ -7,9 +7,9 @@ use Rattle.resolved_service.specs.Steps as s
 use Rattle.resolved_service.specs.Steps.{Step, Steps, no_steps, step, Else, no_else, otherwise, steps_in}
 use Rattle.resolved_service.specs.View as r
 use Rattle.resolved_service.specs.View.{Tree, Trees, no_trees, tree, tree_of}
-use Rattle.service_eval.specs.Items as i
-use Rattle.service_eval.specs.Items.{Item, Eval, Evals, Apply, AndThen, OrElse, Invoke, Child, Block, Begin, Finish, Turns, Check, Counts, Again, Return, End, Branch}
-use Rattle.service_eval.specs.Machines.{Mach}
+use Rattle.service_eval.specs.inner.Items as i
+use Rattle.service_eval.specs.inner.Items.{Item, Eval, Evals, Apply, AndThen, OrElse, Invoke, Child, Block, Begin, Finish, Turns, Check, Counts, Again, Return, End, Branch}
+use Rattle.service_eval.specs.inner.Machines.{Mach}
 use Rattle.service_eval.specs.inner.Weight.{tree_weight, turns_weight, step_weight, steps_weight, else_weight, item_weight, items_weight, last_weight, methods_weight, load}
 
 pub tree_weighs : (t : Tree) → 0 < tree_weight t

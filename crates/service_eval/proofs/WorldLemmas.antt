@@ -10,7 +10,7 @@ use Rattle.value_ops.specs.Kinds.{Answer}
 use Rattle.resolved_service.specs.World.{World, has, changed, with_entered, entering, sending, spawning}
 use Rattle.service_eval.specs.declared.stop.Stop.{Stop}
 use Rattle.service_eval.specs.declared.stop.Stop.TheVariants.{Trapped}
-use Rattle.service_eval.specs.Worlds.{Changes, Enters}
+use Rattle.service_eval.specs.inner.Traces.{Changes, Enters}
 
 pub below_is : (a b : ℕ) → a < b → nat_lt a b ≡ true
 below_is a b h = grind (arith, nat_tests)

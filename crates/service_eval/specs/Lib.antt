@@ -1,10 +1,3 @@
-pub mod Items
-pub mod Machines
-pub mod Ready
 pub mod Worlds
-pub mod Answers
-pub mod Turns
-pub mod Wants
-pub mod Changes
 pub mod Events
 pub mod inner

@@ -1,2 +1,11 @@
-pub mod Ahead
+pub mod Items
+pub mod Traces
+pub mod Machines
 pub mod Weight
+pub mod Ready
+pub mod Answers
+pub mod Turns
+pub mod Wants
+pub mod Changes
+pub mod Ahead
+pub mod Parts

@@ -4,10 +4,10 @@ ghost use Rattle.std.specs.Prelude.{◌≡◌, [], ◌∷◌, OnOk, IfErr, IsNon
 ghost use Rattle.std.specs.Option.{option_map};
 ghost use Rattle.resolved_service.specs.Steps.{For, Return, Finish, step, step_of, steps_in};
 ghost use Rattle.resolved_service.specs.View.{tree_of};
-ghost use Rattle.service_eval.specs.Changes.{IsOther};
-ghost use Rattle.service_eval.specs.Items.{end_of, else_steps, else_in};
-ghost use Rattle.service_eval.specs.Items as i;
-ghost use Rattle.service_eval.specs.Turns.{IsNext, Goes, AreNext, GoOn};
+ghost use Rattle.service_eval.specs.inner.Changes.{IsOther};
+ghost use Rattle.service_eval.specs.inner.Items.{end_of, else_steps, else_in};
+ghost use Rattle.service_eval.specs.inner.Items as i;
+ghost use Rattle.service_eval.specs.inner.Turns.{IsNext, Goes, AreNext, GoOn};
 
 use crate::ahead::{as_far, else_of, first_of};
 use crate::assignments::{assignment_in, begin_assignment};

@@ -1,10 +1,10 @@
 //! Variables changed: locals of the function that runs, and fields of its context.
 
-ghost use Rattle.service_eval.specs.Changes.{changing};
+ghost use Rattle.service_eval.specs.inner.Changes.{changing};
 ghost use Rattle.service_eval.specs.declared.work.Variable.TheVariants as variable;
-ghost use Rattle.service_eval.specs.Ready.{Ready};
-ghost use Rattle.service_eval.specs.Turns.{mach, Does};
-ghost use Rattle.service_eval.specs.Wants.{WhereWanting, PutsNewKey, value_of};
+ghost use Rattle.service_eval.specs.inner.Ready.{Ready};
+ghost use Rattle.service_eval.specs.inner.Turns.{mach, Does};
+ghost use Rattle.service_eval.specs.inner.Wants.{WhereWanting, PutsNewKey, value_of};
 
 use crate::code::Code;
 use crate::edits::Edit;

@@ -3,9 +3,9 @@
 ghost use Rattle.std.specs.Prelude.{◌≡◌, ◌∷◌, [], Err, get_or};
 ghost use Rattle.resolved_service.specs.Meaning.{row_put, row_cut};
 ghost use Rattle.service_eval.specs.declared.stop.Stop.{Stop};
-ghost use Rattle.service_eval.specs.Turns.{Alters};
-ghost use Rattle.service_eval.specs.Changes.{edited, Revises};
-ghost use Rattle.service_eval.specs.Wants.{WhereWanting, IsNewKey, PutsNewKey};
+ghost use Rattle.service_eval.specs.inner.Turns.{Alters};
+ghost use Rattle.service_eval.specs.inner.Changes.{edited, Revises};
+ghost use Rattle.service_eval.specs.inner.Wants.{WhereWanting, IsNewKey, PutsNewKey};
 ghost use Rattle.resolved_service.specs.World.{nothing};
 ghost use Rattle.value_ops.specs.Operators.{apply_row};
 ghost use Rattle.wave_base.specs.declared.trap.TrapKind.{TrapKind};

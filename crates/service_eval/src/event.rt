@@ -8,8 +8,9 @@ ghost use Rattle.resolved_service.specs.Meaning.{called, effects, value, last_va
 ghost use Rattle.resolved_service.specs.Steps.{steps_in};
 ghost use Rattle.resolved_service.specs.View.{tree_of};
 ghost use Rattle.resolved_service.specs.World.{child, key_of};
-ghost use Rattle.service_eval.specs.Events.{Means, Rests, Comes, performed, went_down};
-ghost use Rattle.service_eval.specs.Machines.{mach_of, state_of};
+ghost use Rattle.service_eval.specs.Events.{Means};
+ghost use Rattle.service_eval.specs.inner.Parts.{Rests, Comes, performed, went_down};
+ghost use Rattle.service_eval.specs.inner.Machines.{mach_of, state_of};
 ghost use Rattle.service_eval.specs.Worlds.{Holds};
 ghost use Rattle.wave_base.specs.declared.limits.TheConstants.{GENERATION, TICKS};
 ghost use Rattle.wave_base.specs.declared.outcome.Outcome.{Outcome};

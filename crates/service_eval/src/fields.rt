@@ -2,7 +2,7 @@
 
 ghost use Rattle.std.specs.Prelude.{◌≡◌, ℕ, ◌<◌, ◌↔◌, true, IsTrue, List};
 ghost use Rattle.context_tree.specs.Contexts.{Contexts, tree_of, is_there, with_field, HasField};
-ghost use Rattle.service_eval.specs.Answers.{value_in};
+ghost use Rattle.service_eval.specs.inner.Answers.{value_in};
 ghost use Rattle.wave_base.specs.declared.shape.Shape.{Shape};
 ghost use Rattle.resolved_service.specs.World.{nothing};
 ghost use Rattle.wave_base.specs.Shapes.{initial_fields, class_of};

@@ -1,12 +1,12 @@
 //! What statements do once their expressions have their values.
 
 ghost use Rattle.resolved_service.specs.Steps.{steps_in};
-ghost use Rattle.service_eval.specs.Machines.{own};
-ghost use Rattle.service_eval.specs.Wants.{WhereWanting, IsNewKey, MayWantAtEnd, value_of};
+ghost use Rattle.service_eval.specs.inner.Machines.{own};
+ghost use Rattle.service_eval.specs.inner.Wants.{WhereWanting, IsNewKey, MayWantAtEnd, value_of};
 ghost use Rattle.service_eval.specs.declared.work.Ending.TheVariants as ending;
-ghost use Rattle.service_eval.specs.Items as i;
-ghost use Rattle.service_eval.specs.Items.{end_of};
-ghost use Rattle.service_eval.specs.Turns.{IsNext, Goes};
+ghost use Rattle.service_eval.specs.inner.Items as i;
+ghost use Rattle.service_eval.specs.inner.Items.{end_of};
+ghost use Rattle.service_eval.specs.inner.Turns.{IsNext, Goes};
 
 use crate::calls::give_back;
 use crate::changes::change;

@@ -2,9 +2,9 @@
 
 ghost use Rattle.std.specs.Prelude.{◌≡◌, map, take};
 ghost use Rattle.resolved_service.specs.View.{Op, And, Or, tree, no_trees, tree_of, trees_of};
-ghost use Rattle.service_eval.specs.Answers.{made};
-ghost use Rattle.service_eval.specs.Turns.{Sees};
-ghost use Rattle.service_eval.specs.Wants.{WhereWanting, MayWant};
+ghost use Rattle.service_eval.specs.inner.Answers.{made};
+ghost use Rattle.service_eval.specs.inner.Turns.{Sees};
+ghost use Rattle.service_eval.specs.inner.Wants.{WhereWanting, MayWant};
 
 use crate::code::Code;
 use crate::fields::{field, item};

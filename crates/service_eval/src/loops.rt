@@ -3,11 +3,11 @@
 ghost use Rattle.std.specs.Prelude.{◌≡◌, ◌<◌, ◌+◌, ◌^◌, ◌∷◌, [], pos, true, Ok, get_or};
 ghost use Rattle.resolved_service.specs.Meaning.{row_add, row_lt};
 ghost use Rattle.resolved_service.specs.World.{nothing, is_true};
-ghost use Rattle.service_eval.specs.Answers.{Gives};
+ghost use Rattle.service_eval.specs.inner.Answers.{Gives};
 ghost use Rattle.resolved_service.specs.Steps.{steps_in};
-ghost use Rattle.service_eval.specs.Items as i;
-ghost use Rattle.service_eval.specs.Items.{turns_of, check_of, counts_of, again_of};
-ghost use Rattle.service_eval.specs.Turns.{IsNext, Goes, AreNext, GoesTo};
+ghost use Rattle.service_eval.specs.inner.Items as i;
+ghost use Rattle.service_eval.specs.inner.Items.{turns_of, check_of, counts_of, again_of};
+ghost use Rattle.service_eval.specs.inner.Turns.{IsNext, Goes, AreNext, GoesTo};
 ghost use Rattle.value_ops.specs.Operators.{apply_row};
 ghost use Rattle.wave_base.specs.declared.value.Value.TheVariants.{Int};
 

@@ -1,8 +1,8 @@
 ghost use Rattle.std.specs.Prelude.{◌≡◌, ◌<◌, ◌≤◌, ◌^◌, suc, length, drop, get_or, slice_set, [], ◌∷◌, OnOk, OnErr, IfOk, IfErr, IsNone, IfSome};
 ghost use Rattle.resolved_service.specs.World.{nothing, is_true, key_of};
 ghost use Rattle.service_eval.specs.declared.stop.Stop.{Stop};
-ghost use Rattle.service_eval.specs.Items.{item_of, return_of, to_return};
-ghost use Rattle.service_eval.specs.Machines.{items_of, mach_of, on_top, with_value, cut_to, own, risen};
+ghost use Rattle.service_eval.specs.inner.Items.{item_of, return_of, to_return};
+ghost use Rattle.service_eval.specs.inner.Machines.{items_of, mach_of, on_top, with_value, cut_to, own, risen};
 ghost use Rattle.wave_base.specs.Memory.{the_refusal};
 
 use crate::operand::is_true;

@@ -1,6 +1,6 @@
 ghost use Rattle.std.specs.Prelude.{◌≡◌, IfOk, OnErr};
 ghost use Rattle.resolved_service.specs.World.{is_true};
-ghost use Rattle.service_eval.specs.Answers.{value_in};
+ghost use Rattle.service_eval.specs.inner.Answers.{value_in};
 ghost use Rattle.wave_base.specs.Values.{kind_of, TakesMemory};
 
 use std::alloc::Global;

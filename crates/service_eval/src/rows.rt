@@ -1,5 +1,5 @@
 ghost use Rattle.std.specs.Prelude.{◌≡◌, ◌<◌, ◌∷◌, [], map, false, Err, IsTrue};
-ghost use Rattle.service_eval.specs.Answers.{Gives, is_kind, are_kinds};
+ghost use Rattle.service_eval.specs.inner.Answers.{Gives, is_kind, are_kinds};
 ghost use Rattle.value_ops.specs.Answers.{Answers};
 ghost use Rattle.value_ops.specs.Kinds.{Answer};
 ghost use Rattle.value_ops.specs.Operators.{takes_of, gives_of, apply_row};

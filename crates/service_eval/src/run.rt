@@ -3,9 +3,9 @@
 ghost use Rattle.std.specs.Prelude.{◌≡◌, All};
 ghost use Rattle.context_tree.specs.Contexts.{tree_of as shown};
 ghost use Rattle.resolved_service.specs.Fits.{FitsMethod};
-ghost use Rattle.service_eval.specs.Items.{item_of};
-ghost use Rattle.service_eval.specs.Ready.{Ready};
-ghost use Rattle.service_eval.specs.Turns.{mach, IsNext, Goes, Ran};
+ghost use Rattle.service_eval.specs.inner.Items.{item_of};
+ghost use Rattle.service_eval.specs.inner.Ready.{Ready};
+ghost use Rattle.service_eval.specs.inner.Turns.{mach, IsNext, Goes, Ran};
 ghost use Rattle.wave_base.specs.Shapes.{IsShape};
 
 use crate::block::block;

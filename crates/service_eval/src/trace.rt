@@ -1,7 +1,7 @@
 ghost use Rattle.std.specs.Prelude.{◌≡◌, ◌≤◌, ◌<◌, length, Err};
 ghost use Rattle.resolved_service.specs.World.{has, ticking, releasing, sending, spawning};
-ghost use Rattle.service_eval.specs.Wants.{WhereWanting};
-ghost use Rattle.service_eval.specs.Worlds.{world_of, Changes};
+ghost use Rattle.service_eval.specs.inner.Wants.{WhereWanting};
+ghost use Rattle.service_eval.specs.inner.Traces.{world_of, Changes};
 ghost use Rattle.wave_base.specs.declared.limits.TheConstants.{GENERATION};
 ghost use Rattle.service_eval.specs.declared.stop.Stop.{Stop};
 

@@ -13,10 +13,10 @@ use Rattle.resolved_service.specs.Steps.{Step, Steps, steps_in}
 use Rattle.service_eval.specs.declared.code.Code.{Code}
 use Rattle.service_eval.specs.declared.machine.Machine.{Machine}
 use Rattle.service_eval.specs.declared.stop.Stop.{Stop}
-use Rattle.service_eval.specs.Machines.{in_state}
-use Rattle.service_eval.specs.Ready.{Ready}
-use Rattle.service_eval.specs.Turns.{mach, Does}
-use Rattle.service_eval.specs.Worlds.{Traps}
+use Rattle.service_eval.specs.inner.Machines.{in_state}
+use Rattle.service_eval.specs.inner.Ready.{Ready}
+use Rattle.service_eval.specs.inner.Turns.{mach, Does}
+use Rattle.service_eval.specs.inner.Traces.{Traps}
 use Rattle.service_eval.specs.inner.Weight.{step_weight, steps_weight}
 
 -- some statements were done, and those that are left come to what all of them do

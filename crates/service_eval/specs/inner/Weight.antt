@@ -6,8 +6,8 @@ use Rattle.resolved_service.specs.Steps as s
 use Rattle.resolved_service.specs.Steps.{Step, Steps, no_steps, step, Else, no_else, otherwise, steps_in}
 use Rattle.resolved_service.specs.View as r
 use Rattle.resolved_service.specs.View.{Tree, Trees, no_trees, tree, tree_of}
-use Rattle.service_eval.specs.Items.{Branch, Item, Eval, Evals, AndThen, OrElse, Block, Begin, Finish, Turns, Check, Counts, Again}
-use Rattle.service_eval.specs.Machines.{Mach}
+use Rattle.service_eval.specs.inner.Items.{Branch, Item, Eval, Evals, AndThen, OrElse, Block, Begin, Finish, Turns, Check, Counts, Again}
+use Rattle.service_eval.specs.inner.Machines.{Mach}
 
 -- an expression: more than its parts and what is done with their values
 abbrev mutual

@@ -2,7 +2,7 @@ use Rattle.std.proofs.Common.{◌<◌, sym, ap, subst}
 use Rattle.resolved_service.specs.Fits.{FitsSteps}
 use Rattle.resolved_service.specs.Steps.{step, step_of, steps_in}
 use Rattle.wave_base.specs.Shapes.{class_of}
-use Rattle.service_eval.specs.Machines.{Mach}
+use Rattle.service_eval.specs.inner.Machines.{Mach}
 use Rattle.service_eval.specs.inner.Ahead.{Advances, StopsIn}
 use Rattle.service_eval.specs.inner.Weight.{steps_weight}
 use Rattle.service_eval.proofs.AheadLemmas.{not_yet, further, nothing_more, stops_after}

@@ -3,9 +3,9 @@ use Rattle.wave_base.specs.declared.limits.TheConstants.{TICKS}
 use Rattle.resolved_service.specs.Meaning.{effect, called}
 use Rattle.resolved_service.specs.Steps.{Step, If, action_step, steps_in}
 use Rattle.resolved_service.specs.View.{tree_of}
-use Rattle.service_eval.specs.Items.{else_in}
-use Rattle.service_eval.specs.Turns.{mach}
-use Rattle.service_eval.specs.Worlds.{Traps}
+use Rattle.service_eval.specs.inner.Items.{else_in}
+use Rattle.service_eval.specs.inner.Turns.{mach}
+use Rattle.service_eval.specs.inner.Traces.{Traps}
 use Rattle.service_eval.specs.inner.Ahead.{Stands}
 use Rattle.service_eval.proofs.AheadLemmas.{body_stands, other_stands, test_stops}
 use Rattle.service_eval.proofs.StepRows.{if_step}

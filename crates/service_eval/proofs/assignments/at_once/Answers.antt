@@ -1,8 +1,8 @@
 use Rattle.std.proofs.Common.{sym, ap, subst, ◌∙◌}
 use Rattle.resolved_service.specs.Steps.{Step}
-use Rattle.service_eval.specs.Changes.{step_in}
-use Rattle.service_eval.specs.Turns.{AtOnce}
-use Rattle.service_eval.specs.Wants.{WhereWanting, MayWantAtOnce}
+use Rattle.service_eval.specs.inner.Changes.{step_in}
+use Rattle.service_eval.specs.inner.Turns.{AtOnce}
+use Rattle.service_eval.specs.inner.Wants.{WhereWanting, MayWantAtOnce}
 use Rattle.service_eval.proofs.assignments.at_once.Goals as goal
 
 pub returns-in-Some-Set-clause-does : goal.returns-in-Some-Set-clause-does

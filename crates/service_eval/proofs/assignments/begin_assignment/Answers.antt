@@ -1,8 +1,8 @@
 use Rattle.std.proofs.Common.{length, ap}
 use Rattle.service_eval.specs.declared.assignments.Assignment.TheVariants as assignment
-use Rattle.service_eval.specs.Changes.{step_in}
-use Rattle.service_eval.specs.Machines.{Mach, before_all}
-use Rattle.service_eval.specs.Turns.{mach}
+use Rattle.service_eval.specs.inner.Changes.{step_in}
+use Rattle.service_eval.specs.inner.Machines.{Mach, before_all}
+use Rattle.service_eval.specs.inner.Turns.{mach}
 use Rattle.service_eval.proofs.BlockTurns.{step_turn, at_step}
 use Rattle.service_eval.proofs.ChangeLemmas.{begun_lighter, begun, begun_parts, begun_fits}
 use Rattle.service_eval.proofs.ReadyLemmas.{ready_with}

@@ -3,12 +3,12 @@ use Rattle.wave_base.specs.declared.limits.TheConstants.{TICKS}
 use Rattle.resolved_service.specs.Meaning.{called}
 use Rattle.service_eval.specs.declared.assignments.Assignment.TheVariants as assignment
 use Rattle.service_eval.specs.declared.edits.Edit.TheVariants as edit
-use Rattle.service_eval.specs.Changes.{changing, step_in}
-use Rattle.service_eval.specs.Machines.{Mach}
-use Rattle.service_eval.specs.Turns.{mach, AtOnce}
+use Rattle.service_eval.specs.inner.Changes.{changing, step_in}
+use Rattle.service_eval.specs.inner.Machines.{Mach}
+use Rattle.service_eval.specs.inner.Turns.{mach, AtOnce}
 use Rattle.resolved_service.specs.View.{tree_of}
 use Rattle.service_eval.proofs.ChangeLemmas.{set_means}
-use Rattle.service_eval.specs.Wants.{WhereWanting, MayWantAtOnce}
+use Rattle.service_eval.specs.inner.Wants.{WhereWanting, MayWantAtOnce}
 use Rattle.service_eval.proofs.WantLemmas.{said_of, told_said, set_wants}
 use Rattle.service_eval.proofs.OnceLemmas.{one_found, one_fails, told_once}
 use Rattle.service_eval.proofs.assignments.set.Goals as goal

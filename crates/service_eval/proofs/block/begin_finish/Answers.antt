@@ -2,10 +2,10 @@ use Rattle.std.proofs.Common.{suc, ◌<◌, [], ◌∷◌, length, None, Some, r
 use Rattle.std.specs.Option.{option_map}
 use Rattle.resolved_service.specs.Steps.{Finish}
 use Rattle.resolved_service.specs.View.{tree_of}
-use Rattle.service_eval.specs.Items as i
-use Rattle.service_eval.specs.Machines.{on_top, before_all, comes_to}
-use Rattle.service_eval.specs.Turns.{mach, Goes}
-use Rattle.service_eval.specs.Worlds.{Ends}
+use Rattle.service_eval.specs.inner.Items as i
+use Rattle.service_eval.specs.inner.Machines.{on_top, before_all, comes_to}
+use Rattle.service_eval.specs.inner.Turns.{mach, Goes}
+use Rattle.service_eval.specs.inner.Traces.{Ends}
 use Rattle.service_eval.specs.inner.Weight.{load}
 use Rattle.service_eval.proofs.BlockLemmas as l
 use Rattle.service_eval.proofs.LeaveTurns.{follows_from}

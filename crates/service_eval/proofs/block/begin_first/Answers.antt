@@ -1,10 +1,10 @@
 use Rattle.std.proofs.Common.{refl, sym, ap, subst, ◌∙◌, ◌≤◌, arith}
 use Rattle.context_tree.specs.Contexts.{tree_of as shown}
 use Rattle.resolved_service.specs.Steps.{step, step_of, steps_in}
-use Rattle.service_eval.specs.Items.{Block, Begin}
-use Rattle.service_eval.specs.Machines.{Mach, on_top, comes_to}
-use Rattle.service_eval.specs.Ready.{Ready}
-use Rattle.service_eval.specs.Turns.{mach}
+use Rattle.service_eval.specs.inner.Items.{Block, Begin}
+use Rattle.service_eval.specs.inner.Machines.{Mach, on_top, comes_to}
+use Rattle.service_eval.specs.inner.Ready.{Ready}
+use Rattle.service_eval.specs.inner.Turns.{mach}
 use Rattle.service_eval.specs.inner.Weight.{load}
 use Rattle.service_eval.proofs.LighterTurns.{last_lighter, parts_lighter}
 use Rattle.service_eval.proofs.BlockLemmas as l

@@ -3,10 +3,10 @@ use Rattle.std.proofs.lemmas.Result.{on_ok_weaker}
 use Rattle.resolved_service.specs.Steps as s
 use Rattle.resolved_service.specs.Steps.{action_step, step_of, steps_in}
 use Rattle.resolved_service.specs.View.{tree_of}
-use Rattle.service_eval.specs.Items as i
-use Rattle.service_eval.specs.Items.{Eval, Evals, Block, Begin, Finish, Turns, Counts, else_in, else_steps}
-use Rattle.service_eval.specs.Machines.{on_top}
-use Rattle.service_eval.specs.Turns.{mach}
+use Rattle.service_eval.specs.inner.Items as i
+use Rattle.service_eval.specs.inner.Items.{Eval, Evals, Block, Begin, Finish, Turns, Counts, else_in, else_steps}
+use Rattle.service_eval.specs.inner.Machines.{on_top}
+use Rattle.service_eval.specs.inner.Turns.{mach}
 use Rattle.service_eval.proofs.LighterTurns.{for_lighter}
 use Rattle.service_eval.proofs.BlockLemmas as l
 use Rattle.service_eval.proofs.BlockTurns.{step_turn}

@@ -1,10 +1,10 @@
 use Rattle.std.proofs.Common.{[], ◌∷◌, length, refl, sym, ap, subst, ◌∙◌, arith, suc}
 use Rattle.context_tree.specs.Contexts.{tree_of as shown}
 use Rattle.resolved_service.specs.View.{tree_of}
-use Rattle.service_eval.specs.Items.{Eval, Finish, end_of}
-use Rattle.service_eval.specs.Machines.{before_all, comes_to}
-use Rattle.service_eval.specs.Ready.{Ready}
-use Rattle.service_eval.specs.Turns.{mach, Goes}
+use Rattle.service_eval.specs.inner.Items.{Eval, Finish, end_of}
+use Rattle.service_eval.specs.inner.Machines.{before_all, comes_to}
+use Rattle.service_eval.specs.inner.Ready.{Ready}
+use Rattle.service_eval.specs.inner.Turns.{mach, Goes}
 use Rattle.std.proofs.lemmas.Result.{on_ok_weaker}
 use Rattle.service_eval.specs.inner.Weight.{load}
 use Rattle.service_eval.proofs.LeaveTurns.{follows_from}

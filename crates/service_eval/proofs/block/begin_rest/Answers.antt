@@ -1,9 +1,9 @@
 use Rattle.std.proofs.Common.{refl, sym, ap, subst}
 use Rattle.resolved_service.specs.Steps.{steps_in}
-use Rattle.service_eval.specs.Items.{Block}
-use Rattle.service_eval.specs.Machines.{on_top, comes_to}
-use Rattle.service_eval.specs.Ready.{Ready, Turned}
-use Rattle.service_eval.specs.Turns.{mach}
+use Rattle.service_eval.specs.inner.Items.{Block}
+use Rattle.service_eval.specs.inner.Machines.{on_top, comes_to}
+use Rattle.service_eval.specs.inner.Ready.{Ready, Turned}
+use Rattle.service_eval.specs.inner.Turns.{mach}
 use Rattle.service_eval.proofs.LighterTurns.{block_done}
 use Rattle.service_eval.proofs.ReadyLemmas.{ready_with}
 use Rattle.service_eval.proofs.block.begin_rest.Goals as goal

@@ -1,8 +1,8 @@
 use Rattle.std.proofs.Common.{[]}
 use Rattle.resolved_service.specs.Steps.{steps_in}
-use Rattle.service_eval.specs.Items.{Block}
-use Rattle.service_eval.specs.Machines.{on_top}
-use Rattle.service_eval.specs.Turns.{mach}
+use Rattle.service_eval.specs.inner.Items.{Block}
+use Rattle.service_eval.specs.inner.Machines.{on_top}
+use Rattle.service_eval.specs.inner.Turns.{mach}
 use Rattle.service_eval.proofs.AheadLemmas.{left_comes, left_ready, left_lighter, stops_fail}
 use Rattle.service_eval.proofs.FinishTurns.{goes_from}
 use Rattle.service_eval.proofs.ReadyLemmas.{ready_with}

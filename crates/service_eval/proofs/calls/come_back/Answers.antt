@@ -1,6 +1,6 @@
 use Rattle.std.proofs.Common.{ap, ◌∙◌}
 use Rattle.std.proofs.lemmas.Result.{on_ok_weaker}
-use Rattle.service_eval.specs.Machines.{back_to}
+use Rattle.service_eval.specs.inner.Machines.{back_to}
 use Rattle.service_eval.proofs.CallTurns.{back_turn}
 use Rattle.service_eval.proofs.calls.come_back.Goals as goal
 

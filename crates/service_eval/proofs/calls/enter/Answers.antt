@@ -1,7 +1,7 @@
 use Rattle.std.proofs.Common.{Ok, sym, ◌∙◌, arith}
 use Rattle.context_tree.specs.Contexts.{tree_of as shown}
 use Rattle.resolved_service.specs.World.{changed}
-use Rattle.service_eval.specs.Worlds.{world_of}
+use Rattle.service_eval.specs.inner.Traces.{world_of}
 use Rattle.service_eval.proofs.WorldLemmas.{enters_refuses, enters_again, enters_no_more, enters_new}
 use Rattle.service_eval.proofs.calls.enter.Goals as goal
 

@@ -1,6 +1,6 @@
 use Rattle.std.proofs.Common.{ap, sym, ◌∙◌}
 use Rattle.std.proofs.lemmas.Result.{on_ok_weaker}
-use Rattle.service_eval.specs.Machines.{mach_of, with_value, back_to}
+use Rattle.service_eval.specs.inner.Machines.{mach_of, with_value, back_to}
 use Rattle.service_eval.proofs.calls.go_on.Goals as goal
 
 pub returns-then-up-clause-ok : goal.returns-then-up-clause-ok

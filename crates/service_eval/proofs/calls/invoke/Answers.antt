@@ -1,10 +1,10 @@
 use Rattle.std.proofs.Common.{false, drop, ◌∙◌, take}
 use Rattle.std.proofs.lemmas.Result.{on_ok_weaker}
 use Rattle.context_tree.specs.Contexts.{tree_of as shown}
-use Rattle.service_eval.specs.Items.{Invoke}
-use Rattle.service_eval.specs.Machines.{on_top, cut_to, in_world, started}
-use Rattle.service_eval.specs.Turns.{mach}
-use Rattle.service_eval.specs.Worlds.{world_of}
+use Rattle.service_eval.specs.inner.Items.{Invoke}
+use Rattle.service_eval.specs.inner.Machines.{on_top, cut_to, in_world, started}
+use Rattle.service_eval.specs.inner.Turns.{mach}
+use Rattle.service_eval.specs.inner.Traces.{world_of}
 use Rattle.service_eval.specs.inner.Weight.{load}
 use Rattle.service_eval.proofs.LighterTurns.{invoke_ticked}
 use Rattle.service_eval.proofs.CallLemmas as l

@@ -13,11 +13,12 @@ use Rattle.wave_base.specs.Shapes.{IsShape, is_path}
 use Rattle.wave_base.specs.Tree.{there}
 use Rattle.resolved_service.specs.declared.service.Method.{Method}
 use Rattle.resolved_service.specs.World.{World, key_of, child, changed, ticking, entering}
-use Rattle.service_eval.specs.Ready.{Ready}
-use Rattle.service_eval.specs.Items.{Child}
-use Rattle.service_eval.specs.Machines.{Mach, mach_of, on_top, cut_to, in_world, started, own, comes_to}
-use Rattle.service_eval.specs.Turns.{mach}
-use Rattle.service_eval.specs.Worlds.{world_of, Holds, Changes, Fails}
+use Rattle.service_eval.specs.inner.Ready.{Ready}
+use Rattle.service_eval.specs.inner.Items.{Child}
+use Rattle.service_eval.specs.inner.Machines.{Mach, mach_of, on_top, cut_to, in_world, started, own, comes_to}
+use Rattle.service_eval.specs.inner.Turns.{mach}
+use Rattle.service_eval.specs.Worlds.{Holds}
+use Rattle.service_eval.specs.inner.Traces.{world_of, Changes, Fails}
 use Rattle.service_eval.specs.inner.Weight.{load}
 use Rattle.service_eval.proofs.LighterTurns.{child_ticked}
 use Rattle.service_eval.proofs.CallLemmas as l

@@ -3,8 +3,8 @@ use Rattle.std.proofs.lemmas.Result.{on_ok_weaker}
 use Rattle.resolved_service.specs.Meaning.{with_blanks}
 use Rattle.resolved_service.specs.Steps.{steps_in}
 use Rattle.resolved_service.specs.View.{tree_of}
-use Rattle.service_eval.specs.Items.{Block, Eval, Return}
-use Rattle.service_eval.specs.Machines.{Mach, mach_of, on_top, with_last}
+use Rattle.service_eval.specs.inner.Items.{Block, Eval, Return}
+use Rattle.service_eval.specs.inner.Machines.{Mach, mach_of, on_top, with_last}
 use Rattle.service_eval.proofs.calls.start.Goals as goal
 
 pub returns-in-Some-clause-ok : goal.returns-in-Some-clause-ok

@@ -4,10 +4,10 @@ use Rattle.wave_base.specs.declared.value.Value.{Value}
 use Rattle.wave_base.specs.Tree.{Tree, there, put}
 use Rattle.resolved_service.specs.World.{nothing, read_field}
 use Rattle.service_eval.specs.declared.work.Variable.TheVariants as variable
-use Rattle.service_eval.specs.Changes.{changing, edited}
-use Rattle.service_eval.specs.Machines.{Mach, in_state}
-use Rattle.service_eval.specs.Turns.{mach, Alters}
-use Rattle.service_eval.specs.Wants.{WhereWanting, PutsNewKey}
+use Rattle.service_eval.specs.inner.Changes.{changing, edited}
+use Rattle.service_eval.specs.inner.Machines.{Mach, in_state}
+use Rattle.service_eval.specs.inner.Turns.{mach, Alters}
+use Rattle.service_eval.specs.inner.Wants.{WhereWanting, PutsNewKey}
 use Rattle.wave_base.proofs.Trees.{put_twice}
 use Rattle.service_eval.proofs.OnceLemmas.{field_does}
 use Rattle.service_eval.proofs.changes.change_field.Goals as goal

@@ -1,9 +1,9 @@
 use Rattle.std.proofs.Common.{get_or, refl, ap}
 use Rattle.resolved_service.specs.World.{nothing}
 use Rattle.service_eval.specs.declared.work.Variable.TheVariants as variable
-use Rattle.service_eval.specs.Changes.{changing, edited}
-use Rattle.service_eval.specs.Machines.{Mach, in_state}
-use Rattle.service_eval.specs.Turns.{mach}
+use Rattle.service_eval.specs.inner.Changes.{changing, edited}
+use Rattle.service_eval.specs.inner.Machines.{Mach, in_state}
+use Rattle.service_eval.specs.inner.Turns.{mach}
 use Rattle.service_eval.proofs.OnceLemmas.{slot_does}
 use Rattle.service_eval.proofs.changes.change_local.Goals as goal
 

@@ -2,7 +2,7 @@ use Rattle.std.proofs.Common.{◌≡◌, rules, ◌∙◌, FitsSigned, w64, to_z
 use Rattle.std.proofs.lemmas.Int.{to_z-of_z}
 use Rattle.wave_base.specs.declared.value.Value.TheVariants.{Map}
 use Rattle.wave_base.specs.Tables.{value_at}
-use Rattle.service_eval.specs.Wants.{IsNewKey}
+use Rattle.service_eval.specs.inner.Wants.{IsNewKey}
 use Rattle.service_eval.proofs.EditLemmas.{put_answer, put_no_map, put_no_key, put_no_value, put_ints, alters_not}
 use Rattle.service_eval.proofs.edits.put.Goals as goal
 

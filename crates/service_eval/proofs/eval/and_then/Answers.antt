@@ -2,9 +2,9 @@ use Rattle.std.proofs.Common.{inl, inr, false, sym, ap, ◌∙◌}
 use Rattle.std.proofs.lemmas.Result.{on_ok_weaker}
 use Rattle.wave_base.specs.declared.value.Value.TheVariants.{Bool as Truth}
 use Rattle.resolved_service.specs.View.{tree_of}
-use Rattle.service_eval.specs.Items as i
-use Rattle.service_eval.specs.Machines.{on_top, with_value, cut_to}
-use Rattle.service_eval.specs.Turns.{mach}
+use Rattle.service_eval.specs.inner.Items as i
+use Rattle.service_eval.specs.inner.Machines.{on_top, with_value, cut_to}
+use Rattle.service_eval.specs.inner.Turns.{mach}
 use Rattle.service_eval.proofs.LighterTurns.{and_chosen, and_given}
 use Rattle.service_eval.proofs.EvalLemmas as e
 use Rattle.service_eval.proofs.WantLemmas.{settled, wanting}

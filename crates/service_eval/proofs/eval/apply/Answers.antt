@@ -1,13 +1,13 @@
 use Rattle.std.proofs.Common.{Err, inl, inr, sym, ap, subst, ◌∙◌}
-use Rattle.service_eval.specs.Items as i
-use Rattle.service_eval.specs.Machines.{with_value, cut_to}
-use Rattle.service_eval.specs.Turns.{mach}
+use Rattle.service_eval.specs.inner.Items as i
+use Rattle.service_eval.specs.inner.Machines.{with_value, cut_to}
+use Rattle.service_eval.specs.inner.Turns.{mach}
 use Rattle.service_eval.proofs.LighterTurns.{applied_lighter}
 use Rattle.service_eval.proofs.EvalLemmas as e
 use Rattle.service_eval.proofs.WantLemmas.{for_given, settled}
 use Rattle.service_eval.proofs.ReadyLemmas.{ready_with, turned}
 use Rattle.value_ops.specs.Operators.{apply_row}
-use Rattle.service_eval.specs.Answers.{Gives}
+use Rattle.service_eval.specs.inner.Answers.{Gives}
 use Rattle.service_eval.proofs.eval.apply.Goals as goal
 
 pub returns-in-Ok-clause-goes : goal.returns-in-Ok-clause-goes

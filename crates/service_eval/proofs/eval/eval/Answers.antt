@@ -1,13 +1,13 @@
 use Rattle.std.proofs.Common.{map, sym, ap, subst, ◌∙◌, refl}
 use Rattle.resolved_service.specs.View as r
 use Rattle.resolved_service.specs.View.{tree_of, trees_of}
-use Rattle.service_eval.specs.Items as i
+use Rattle.service_eval.specs.inner.Items as i
 use Rattle.std.proofs.Common.{get_or}
 use Rattle.std.proofs.lemmas.Result.{IfOk-weaker}
 use Rattle.wave_base.specs.Starts.{shown_fields}
 use Rattle.resolved_service.specs.View.{node_tree}
 use Rattle.resolved_service.specs.World.{nothing, read_field, read_above}
-use Rattle.service_eval.specs.Turns.{IsNext, Goes}
+use Rattle.service_eval.specs.inner.Turns.{IsNext, Goes}
 use Rattle.service_eval.proofs.EvalTurns.{and_turn, or_turn, call_turn, child_turn}
 use Rattle.service_eval.proofs.TreeRows.{op_node, and_node, or_node, call_node, child_node}
 use Rattle.service_eval.proofs.ReadyLemmas.{at_tree, gives}

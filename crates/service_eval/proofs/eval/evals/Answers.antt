@@ -1,8 +1,8 @@
 use Rattle.std.proofs.Common.{map, sym, ap, subst, ◌∙◌, refl, ◌<◌}
 use Rattle.resolved_service.specs.View.{tree_of, trees_of}
-use Rattle.service_eval.specs.Items as i
-use Rattle.service_eval.specs.Machines.{on_top, comes_to}
-use Rattle.service_eval.specs.Turns.{mach, IsNext, Goes}
+use Rattle.service_eval.specs.inner.Items as i
+use Rattle.service_eval.specs.inner.Machines.{on_top, comes_to}
+use Rattle.service_eval.specs.inner.Turns.{mach, IsNext, Goes}
 use Rattle.service_eval.specs.inner.Weight.{load}
 use Rattle.service_eval.proofs.LighterTurns.{none_lighter}
 use Rattle.service_eval.proofs.EvalLemmas as e

@@ -1,6 +1,6 @@
 use Rattle.std.proofs.Common.{◌≡◌, IfOk, ap, subst, ◌∙◌}
 use Rattle.std.proofs.lemmas.Result.{on_ok_weaker}
-use Rattle.service_eval.specs.Machines.{mach_of, with_value}
+use Rattle.service_eval.specs.inner.Machines.{mach_of, with_value}
 use Rattle.service_eval.proofs.eval.give.Goals as goal
 
 pub returns-in-Ok-clause-ok : goal.returns-in-Ok-clause-ok

@@ -1,7 +1,7 @@
 use Rattle.std.proofs.Common.{map}
 use Rattle.resolved_service.specs.View as r
 use Rattle.resolved_service.specs.View.{tree_of, trees_of}
-use Rattle.service_eval.specs.Turns.{mach}
+use Rattle.service_eval.specs.inner.Turns.{mach}
 use Rattle.service_eval.proofs.EvalLemmas as e
 use Rattle.service_eval.proofs.EvalTurns.{op_turn}
 use Rattle.service_eval.proofs.ReadyLemmas.{gives}

@@ -7,9 +7,9 @@ use Rattle.resolved_service.specs.Fits.{FitsSteps, FitsPhases}
 use Rattle.resolved_service.specs.Meaning.{Done, called, effects, phases_run}
 use Rattle.resolved_service.specs.Steps.{steps_in}
 use Rattle.resolved_service.specs.World.{child, key_of}
-use Rattle.service_eval.specs.Events.{Comes, went_down}
-use Rattle.service_eval.specs.Machines.{state_of}
-use Rattle.service_eval.specs.Worlds.{world_of, plain, Fails}
+use Rattle.service_eval.specs.inner.Parts.{Comes, went_down}
+use Rattle.service_eval.specs.inner.Machines.{state_of}
+use Rattle.service_eval.specs.inner.Traces.{world_of, plain, Fails}
 use Rattle.service_eval.proofs.PathLemmas.{class_of-child}
 use Rattle.service_eval.proofs.PhaseLemmas as l
 use Rattle.service_eval.proofs.event.+phases_from.Goals as goal

@@ -5,11 +5,12 @@ use Rattle.wave_base.specs.Shapes.{is_path}
 use Rattle.wave_base.specs.Tree.{there}
 use Rattle.resolved_service.specs.Meaning.{Done, and_then, with_world, release}
 use Rattle.resolved_service.specs.World.{child, changed, entering, releasing}
-use Rattle.service_eval.specs.Machines.{Mach, state_of}
-use Rattle.service_eval.specs.Ready.{Ready}
-use Rattle.service_eval.specs.Turns.{mach}
-use Rattle.service_eval.specs.Worlds.{world_of, plain, Changes, Holds}
-use Rattle.service_eval.specs.Events.{went_down}
+use Rattle.service_eval.specs.inner.Machines.{Mach, state_of}
+use Rattle.service_eval.specs.inner.Ready.{Ready}
+use Rattle.service_eval.specs.inner.Turns.{mach}
+use Rattle.service_eval.specs.Worlds.{Holds}
+use Rattle.service_eval.specs.inner.Traces.{world_of, plain, Changes}
+use Rattle.service_eval.specs.inner.Parts.{went_down}
 use Rattle.service_eval.proofs.CallLemmas.{world_fails}
 use Rattle.service_eval.proofs.Outcomes.{traps_fail}
 use Rattle.service_eval.proofs.DownLemmas.{is_child, down_path, down_parent, down_known, down_ready}

@@ -3,9 +3,9 @@ use Rattle.context_tree.specs.Contexts.{tree_of as shown}
 use Rattle.wave_base.specs.declared.limits.TheConstants.{TICKS}
 use Rattle.resolved_service.specs.Meaning.{Done, called, effects, phases_run}
 use Rattle.resolved_service.specs.Steps.{steps_in}
-use Rattle.service_eval.specs.Events.{performed}
-use Rattle.service_eval.specs.Machines.{state_of}
-use Rattle.service_eval.specs.Worlds.{plain}
+use Rattle.service_eval.specs.inner.Parts.{performed}
+use Rattle.service_eval.specs.inner.Machines.{state_of}
+use Rattle.service_eval.specs.inner.Traces.{plain}
 use Rattle.service_eval.proofs.Likeness.{same_effects, same_phases}
 use Rattle.service_eval.proofs.PhaseLemmas.{then_on, same_comes}
 use Rattle.service_eval.proofs.event.perform.Goals as goal

@@ -12,10 +12,10 @@ use Rattle.wave_base.specs.Tree.{Tree}
 use Rattle.resolved_service.specs.declared.service.Event.{Event}
 use Rattle.resolved_service.specs.Meaning.{State, Leave, Returned, Finished, Outcome, Done, Trapped, Left, called, with_blanks}
 use Rattle.service_eval.specs.declared.code.Code.{Code}
-use Rattle.service_eval.specs.Events.{performed}
-use Rattle.service_eval.specs.Machines.{Mach, mach_of}
-use Rattle.service_eval.specs.Ready.{Ready}
-use Rattle.service_eval.specs.Worlds.{plain, reply_of}
+use Rattle.service_eval.specs.inner.Parts.{performed}
+use Rattle.service_eval.specs.inner.Machines.{Mach, mach_of}
+use Rattle.service_eval.specs.inner.Ready.{Ready}
+use Rattle.service_eval.specs.inner.Traces.{plain, reply_of}
 use Rattle.service_eval.proofs.event.run_as.Goals as goal
 
 pub perform-requires-clause-rests : goal.perform-requires-clause-rests

@@ -2,9 +2,9 @@ use Rattle.std.proofs.Common.{take, ap, sym, subst, ◌∙◌}
 use Rattle.context_tree.specs.Contexts.{tree_of as shown}
 use Rattle.resolved_service.specs.Meaning.{Done}
 use Rattle.resolved_service.specs.View.{tree_of}
-use Rattle.service_eval.specs.Machines.{Mach, Rest, own}
-use Rattle.service_eval.specs.Ready.{Ready}
-use Rattle.service_eval.specs.Worlds.{plain}
+use Rattle.service_eval.specs.inner.Machines.{Mach, Rest, own}
+use Rattle.service_eval.specs.inner.Ready.{Ready}
+use Rattle.service_eval.specs.inner.Traces.{plain}
 use Rattle.service_eval.proofs.EventLemmas as l
 use Rattle.service_eval.proofs.ReadyLemmas.{ready_with}
 use Rattle.service_eval.proofs.event.value_of.Goals as goal

@@ -1,10 +1,10 @@
 use Rattle.std.proofs.Common.{sym, ap, ◌∙◌}
 use Rattle.std.proofs.lemmas.Result.{on_ok_weaker}
 use Rattle.resolved_service.specs.Steps.{steps_in}
-use Rattle.service_eval.specs.Items as i
-use Rattle.service_eval.specs.Items.{Finish, Block}
-use Rattle.service_eval.specs.Machines.{on_top, cut_to}
-use Rattle.service_eval.specs.Turns.{mach}
+use Rattle.service_eval.specs.inner.Items as i
+use Rattle.service_eval.specs.inner.Items.{Finish, Block}
+use Rattle.service_eval.specs.inner.Machines.{on_top, cut_to}
+use Rattle.service_eval.specs.inner.Turns.{mach}
 use Rattle.service_eval.proofs.LighterTurns.{true_lighter, false_lighter}
 use Rattle.service_eval.proofs.FinishLemmas as l
 use Rattle.service_eval.proofs.ReadyLemmas.{ready_with, turned}

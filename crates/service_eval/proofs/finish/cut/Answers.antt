@@ -4,11 +4,11 @@ use Rattle.wave_base.specs.declared.limits.TheConstants.{TICKS}
 use Rattle.resolved_service.specs.Meaning.{called}
 use Rattle.service_eval.specs.declared.edits.Edit.TheVariants as edit
 use Rattle.service_eval.specs.declared.work.Ending.TheVariants as ending
-use Rattle.service_eval.specs.Changes.{changing}
-use Rattle.service_eval.specs.Items.{end_of}
-use Rattle.service_eval.specs.Machines.{Mach}
-use Rattle.service_eval.specs.Ready.{Ready}
-use Rattle.service_eval.specs.Turns.{mach, Does}
+use Rattle.service_eval.specs.inner.Changes.{changing}
+use Rattle.service_eval.specs.inner.Items.{end_of}
+use Rattle.service_eval.specs.inner.Machines.{Mach}
+use Rattle.service_eval.specs.inner.Ready.{Ready}
+use Rattle.service_eval.specs.inner.Turns.{mach, Does}
 use Rattle.service_eval.proofs.ChangeLemmas.{cut_ends, change_turn}
 use Rattle.service_eval.proofs.ReadyLemmas.{ready_with}
 use Rattle.service_eval.proofs.finish.cut.Goals as goal

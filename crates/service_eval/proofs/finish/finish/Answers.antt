@@ -1,8 +1,8 @@
 use Rattle.std.proofs.Common.{sym, subst}
-use Rattle.service_eval.specs.Items as i
-use Rattle.service_eval.specs.Items.{end_of}
-use Rattle.service_eval.specs.Turns.{Goes}
-use Rattle.service_eval.specs.Wants.{WhereWanting, MayWantAtEnd}
+use Rattle.service_eval.specs.inner.Items as i
+use Rattle.service_eval.specs.inner.Items.{end_of}
+use Rattle.service_eval.specs.inner.Turns.{Goes}
+use Rattle.service_eval.specs.inner.Wants.{WhereWanting, MayWantAtEnd}
 use Rattle.service_eval.proofs.WantLemmas.{said_of, wanting, set_ended, put_ended, cut_ended}
 use Rattle.service_eval.proofs.finish.finish.Goals as goal
 

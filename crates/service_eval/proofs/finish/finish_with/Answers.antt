@@ -1,11 +1,12 @@
 use Rattle.std.proofs.Common.{Some, ap, sym, subst}
 use Rattle.context_tree.specs.Contexts.{tree_of as shown}
 use Rattle.resolved_service.specs.World.{World}
-use Rattle.service_eval.specs.Items as i
-use Rattle.service_eval.specs.Items.{Finish}
-use Rattle.service_eval.specs.Machines.{Mach, on_top, own, comes_to}
-use Rattle.service_eval.specs.Turns.{mach}
-use Rattle.service_eval.specs.Worlds.{Holds, Ends}
+use Rattle.service_eval.specs.inner.Items as i
+use Rattle.service_eval.specs.inner.Items.{Finish}
+use Rattle.service_eval.specs.inner.Machines.{Mach, on_top, own, comes_to}
+use Rattle.service_eval.specs.inner.Turns.{mach}
+use Rattle.service_eval.specs.Worlds.{Holds}
+use Rattle.service_eval.specs.inner.Traces.{Ends}
 use Rattle.service_eval.proofs.Outcomes.{finish_through}
 use Rattle.service_eval.proofs.finish.finish_with.Goals as goal
 

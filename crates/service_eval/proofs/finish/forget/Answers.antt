@@ -1,9 +1,9 @@
 use Rattle.std.proofs.Common.{refl, arith}
 use Rattle.context_tree.specs.Contexts.{tree_of as shown}
-use Rattle.service_eval.specs.Items as i
-use Rattle.service_eval.specs.Items.{Finish, Block}
-use Rattle.service_eval.specs.Machines.{cut_to, in_state}
-use Rattle.service_eval.specs.Turns.{mach}
+use Rattle.service_eval.specs.inner.Items as i
+use Rattle.service_eval.specs.inner.Items.{Finish, Block}
+use Rattle.service_eval.specs.inner.Machines.{cut_to, in_state}
+use Rattle.service_eval.specs.inner.Turns.{mach}
 use Rattle.service_eval.proofs.LighterTurns.{finished_lighter}
 use Rattle.service_eval.proofs.FinishLemmas as l
 use Rattle.service_eval.proofs.FinishTurns.{same_world, ready_in, did}

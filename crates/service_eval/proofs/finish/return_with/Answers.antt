@@ -1,11 +1,11 @@
 use Rattle.std.proofs.Common.{Some, sym, subst, ◌≤◌, arith}
 use Rattle.context_tree.specs.Contexts.{tree_of as shown}
 use Rattle.resolved_service.specs.Meaning.{Returned, Left}
-use Rattle.service_eval.specs.Items as i
-use Rattle.service_eval.specs.Items.{Finish}
-use Rattle.service_eval.specs.Machines.{Mach, on_top, cut_to, come_of, comes_to}
-use Rattle.service_eval.specs.Ready.{Ready}
-use Rattle.service_eval.specs.Turns.{mach}
+use Rattle.service_eval.specs.inner.Items as i
+use Rattle.service_eval.specs.inner.Items.{Finish}
+use Rattle.service_eval.specs.inner.Machines.{Mach, on_top, cut_to, come_of, comes_to}
+use Rattle.service_eval.specs.inner.Ready.{Ready}
+use Rattle.service_eval.specs.inner.Turns.{mach}
 use Rattle.service_eval.specs.inner.Weight.{load}
 use Rattle.service_eval.proofs.LighterTurns.{finished_lighter}
 use Rattle.service_eval.proofs.LeaveTurns.{follows_from}

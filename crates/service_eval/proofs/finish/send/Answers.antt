@@ -1,11 +1,11 @@
 use Rattle.std.proofs.Common.{refl, ap, subst}
 use Rattle.context_tree.specs.Contexts.{tree_of as shown}
 use Rattle.resolved_service.specs.World.{World, sending}
-use Rattle.service_eval.specs.Items as i
-use Rattle.service_eval.specs.Items.{Finish, Block}
-use Rattle.service_eval.specs.Machines.{Mach, own}
-use Rattle.service_eval.specs.Turns.{mach}
-use Rattle.service_eval.specs.Worlds.{world_of, Changes}
+use Rattle.service_eval.specs.inner.Items as i
+use Rattle.service_eval.specs.inner.Items.{Finish, Block}
+use Rattle.service_eval.specs.inner.Machines.{Mach, own}
+use Rattle.service_eval.specs.inner.Turns.{mach}
+use Rattle.service_eval.specs.inner.Traces.{world_of, Changes}
 use Rattle.service_eval.proofs.FinishTurns.{same_sent}
 use Rattle.service_eval.proofs.SendTurns.{changed_turn}
 use Rattle.service_eval.proofs.finish.send.Goals as goal

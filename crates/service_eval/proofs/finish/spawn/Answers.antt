@@ -1,11 +1,11 @@
 use Rattle.std.proofs.Common.{drop, refl, ap, subst, arith}
 use Rattle.context_tree.specs.Contexts.{tree_of as shown}
 use Rattle.resolved_service.specs.World.{World, spawning}
-use Rattle.service_eval.specs.Items as i
-use Rattle.service_eval.specs.Items.{Finish, Block}
-use Rattle.service_eval.specs.Machines.{Mach}
-use Rattle.service_eval.specs.Turns.{mach}
-use Rattle.service_eval.specs.Worlds.{world_of, Changes}
+use Rattle.service_eval.specs.inner.Items as i
+use Rattle.service_eval.specs.inner.Items.{Finish, Block}
+use Rattle.service_eval.specs.inner.Machines.{Mach}
+use Rattle.service_eval.specs.inner.Turns.{mach}
+use Rattle.service_eval.specs.inner.Traces.{world_of, Changes}
 use Rattle.service_eval.proofs.FinishTurns.{same_spawned}
 use Rattle.service_eval.proofs.SendTurns.{changed_turn}
 use Rattle.service_eval.proofs.finish.spawn.Goals as goal

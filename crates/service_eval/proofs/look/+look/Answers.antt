@@ -7,9 +7,9 @@ use Rattle.wave_base.specs.Starts.{shown_fields}
 use Rattle.service_eval.proofs.LookLemmas.{decided_true, decided_false, is_false, holds, one, two, three}
 use Rattle.resolved_service.specs.View as r
 use Rattle.resolved_service.specs.View.{Tree, node_tree, tree_of, trees_of}
-use Rattle.service_eval.specs.Answers.{Looks}
-use Rattle.service_eval.specs.Machines.{state_of}
-use Rattle.service_eval.specs.Wants.{WhereWanting, MayWant}
+use Rattle.service_eval.specs.inner.Answers.{Looks}
+use Rattle.service_eval.specs.inner.Machines.{state_of}
+use Rattle.service_eval.specs.inner.Wants.{WhereWanting, MayWant}
 use Rattle.service_eval.proofs.WantLemmas.{for_made, said_of}
 use Rattle.service_eval.proofs.TreeRows.{op_node}
 use Rattle.service_eval.proofs.look.+look.Goals as goal

@@ -1,7 +1,7 @@
 use Rattle.std.proofs.Common.{arith}
-use Rattle.service_eval.specs.Items.{again_of, counts_of}
-use Rattle.service_eval.specs.Machines.{on_top}
-use Rattle.service_eval.specs.Turns.{mach}
+use Rattle.service_eval.specs.inner.Items.{again_of, counts_of}
+use Rattle.service_eval.specs.inner.Machines.{on_top}
+use Rattle.service_eval.specs.inner.Turns.{mach}
 use Rattle.service_eval.proofs.FinishTurns.{goes_from}
 use Rattle.service_eval.proofs.loops.again.Goals as goal
 

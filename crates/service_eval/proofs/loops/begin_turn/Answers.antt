@@ -1,6 +1,6 @@
 use Rattle.std.proofs.Common.{sym, ◌∙◌}
 use Rattle.resolved_service.specs.Steps.{steps_in}
-use Rattle.service_eval.specs.Turns.{mach}
+use Rattle.service_eval.specs.inner.Turns.{mach}
 use Rattle.service_eval.proofs.LighterTurns.{counts_lighter}
 use Rattle.service_eval.proofs.FinishLemmas as l
 use Rattle.service_eval.proofs.ReadyLemmas.{ready_with}

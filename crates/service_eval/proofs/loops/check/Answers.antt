@@ -1,14 +1,14 @@
 use Rattle.std.proofs.Common.{◌≡◌, Ok, Err, sym, ap, subst, ◌∙◌, take}
 use Rattle.std.proofs.lemmas.Result.{on_ok_weaker}
-use Rattle.service_eval.specs.Worlds.{Changes}
+use Rattle.service_eval.specs.inner.Traces.{Changes}
 use Rattle.resolved_service.specs.World.{ticking}
 use Rattle.context_tree.specs.Contexts.{tree_of as shown}
 use Rattle.resolved_service.specs.Steps.{steps_in}
 use Rattle.resolved_service.specs.View.{tree_of}
-use Rattle.service_eval.specs.Items.{Block, Turns, Check}
-use Rattle.service_eval.specs.Machines.{Mach, on_top, cut_to, in_world}
-use Rattle.service_eval.specs.Turns.{mach}
-use Rattle.service_eval.specs.Worlds.{world_of}
+use Rattle.service_eval.specs.inner.Items.{Block, Turns, Check}
+use Rattle.service_eval.specs.inner.Machines.{Mach, on_top, cut_to, in_world}
+use Rattle.service_eval.specs.inner.Turns.{mach}
+use Rattle.service_eval.specs.inner.Traces.{world_of}
 use Rattle.service_eval.specs.inner.Weight.{load}
 use Rattle.service_eval.proofs.CallTurns.{ticked}
 use Rattle.service_eval.proofs.LighterTurns.{check_lighter, check_ticked}

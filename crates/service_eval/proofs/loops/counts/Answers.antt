@@ -1,7 +1,7 @@
 use Rattle.std.proofs.Common.{Ok, Err, refl, ◌∙◌, arith}
-use Rattle.service_eval.specs.Items.{counts_of}
-use Rattle.service_eval.specs.Machines.{on_top}
-use Rattle.service_eval.specs.Turns.{mach}
+use Rattle.service_eval.specs.inner.Items.{counts_of}
+use Rattle.service_eval.specs.inner.Machines.{on_top}
+use Rattle.service_eval.specs.inner.Turns.{mach}
 use Rattle.service_eval.proofs.FinishTurns.{goes_from}
 use Rattle.service_eval.proofs.loops.counts.Goals as goal
 

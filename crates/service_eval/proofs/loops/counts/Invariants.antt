@@ -1,8 +1,8 @@
 use Rattle.std.proofs.Common.{◌≡◌, ◌≤◌}
-use Rattle.service_eval.specs.Items.{counts_of}
-use Rattle.service_eval.specs.Machines.{on_top, comes_to}
-use Rattle.service_eval.specs.Ready.{Ready}
-use Rattle.service_eval.specs.Turns.{mach}
+use Rattle.service_eval.specs.inner.Items.{counts_of}
+use Rattle.service_eval.specs.inner.Machines.{on_top, comes_to}
+use Rattle.service_eval.specs.inner.Ready.{Ready}
+use Rattle.service_eval.specs.inner.Turns.{mach}
 use Rattle.service_eval.specs.inner.Weight.{load}
 use Rattle.service_eval.proofs.loops.counts.Given as goal
 

@@ -1,10 +1,10 @@
 use Rattle.std.proofs.Common.{Ok, Err, sym, subst}
 use Rattle.context_tree.specs.Contexts.{tree_of as shown}
 use Rattle.resolved_service.specs.Steps.{steps_in}
-use Rattle.service_eval.specs.Items.{Block}
-use Rattle.service_eval.specs.Machines.{Mach, on_top}
-use Rattle.service_eval.specs.Ready.{Ready, Turned}
-use Rattle.service_eval.specs.Turns.{mach}
+use Rattle.service_eval.specs.inner.Items.{Block}
+use Rattle.service_eval.specs.inner.Machines.{Mach, on_top}
+use Rattle.service_eval.specs.inner.Ready.{Ready, Turned}
+use Rattle.service_eval.specs.inner.Turns.{mach}
 use Rattle.service_eval.proofs.loops.leave_turn.Goals as goal
 
 pub begin_rest-requires : goal.begin_rest-requires

@@ -4,11 +4,11 @@ use Rattle.wave_base.specs.declared.value.Value.{Value}
 use Rattle.resolved_service.specs.Meaning.{State}
 use Rattle.resolved_service.specs.Steps.{steps_in}
 use Rattle.resolved_service.specs.World.{nothing}
-use Rattle.service_eval.specs.Items.{Block, Counts, Again}
-use Rattle.service_eval.specs.Machines.{Mach, on_top, in_state, comes_to}
-use Rattle.service_eval.specs.Ready.{Ready}
-use Rattle.service_eval.specs.Turns.{mach}
-use Rattle.service_eval.specs.Worlds.{world_of}
+use Rattle.service_eval.specs.inner.Items.{Block, Counts, Again}
+use Rattle.service_eval.specs.inner.Machines.{Mach, on_top, in_state, comes_to}
+use Rattle.service_eval.specs.inner.Ready.{Ready}
+use Rattle.service_eval.specs.inner.Turns.{mach}
+use Rattle.service_eval.specs.inner.Traces.{world_of}
 use Rattle.service_eval.specs.inner.Weight.{load}
 use Rattle.service_eval.proofs.CallTurns.{ticked}
 use Rattle.service_eval.proofs.LighterTurns.{counts_ticked}

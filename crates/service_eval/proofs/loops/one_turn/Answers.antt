@@ -1,6 +1,6 @@
 use Rattle.std.proofs.Common.{[], ◌∷◌}
 use Rattle.resolved_service.specs.Steps.{steps_in}
-use Rattle.service_eval.specs.Items.{Block, counts_of, again_of}
+use Rattle.service_eval.specs.inner.Items.{Block, counts_of, again_of}
 use Rattle.service_eval.proofs.AheadLemmas.{goes_then}
 use Rattle.service_eval.proofs.loops.one_turn.Goals as goal
 

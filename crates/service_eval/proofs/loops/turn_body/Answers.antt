@@ -1,8 +1,8 @@
 use Rattle.std.proofs.Common.{[], ◌∷◌, refl, ap, ◌∙◌, arith}
 use Rattle.resolved_service.specs.Steps.{steps_in}
-use Rattle.service_eval.specs.Items.{Block, counts_of, again_of}
-use Rattle.service_eval.specs.Machines.{on_top, before_all, comes_to}
-use Rattle.service_eval.specs.Turns.{mach}
+use Rattle.service_eval.specs.inner.Items.{Block, counts_of, again_of}
+use Rattle.service_eval.specs.inner.Machines.{on_top, before_all, comes_to}
+use Rattle.service_eval.specs.inner.Turns.{mach}
 use Rattle.service_eval.proofs.AheadLemmas.{left_comes, left_ready, left_lighter, stops_fail, goes_after}
 use Rattle.service_eval.proofs.LighterTurns.{block_done}
 use Rattle.service_eval.proofs.ReadyLemmas.{ready_with}

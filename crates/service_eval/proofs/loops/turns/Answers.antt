@@ -9,11 +9,11 @@ use Rattle.wave_base.specs.declared.limits.TheConstants.{TICKS}
 use Rattle.service_eval.specs.declared.code.Code.{Code}
 use Rattle.service_eval.specs.declared.machine.Machine.{Machine}
 use Rattle.context_tree.specs.Contexts.{Contexts}
-use Rattle.service_eval.specs.Items.{Eval, Turns, Check}
-use Rattle.service_eval.specs.Machines.{mach_of, on_top, before_all, comes_to}
-use Rattle.service_eval.specs.Ready.{Ready}
-use Rattle.service_eval.specs.Turns.{mach, IsNext}
-use Rattle.service_eval.specs.Worlds.{Fails}
+use Rattle.service_eval.specs.inner.Items.{Eval, Turns, Check}
+use Rattle.service_eval.specs.inner.Machines.{mach_of, on_top, before_all, comes_to}
+use Rattle.service_eval.specs.inner.Ready.{Ready}
+use Rattle.service_eval.specs.inner.Turns.{mach, IsNext}
+use Rattle.service_eval.specs.inner.Traces.{Fails}
 use Rattle.service_eval.proofs.LighterTurns.{turns_lighter}
 use Rattle.service_eval.proofs.BlockTurns.{then_next, then_goes}
 use Rattle.service_eval.proofs.EvalLemmas.{found_fails}

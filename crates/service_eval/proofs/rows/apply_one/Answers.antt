@@ -1,7 +1,7 @@
 use Rattle.std.proofs.Common.{[], ◌∷◌, refl, sym, subst}
 use Rattle.value_ops.specs.Operators.{apply_row, operators}
 use Rattle.value_ops.proofs.RowLemmas.{not_row}
-use Rattle.service_eval.specs.Answers.{Gives}
+use Rattle.service_eval.specs.inner.Answers.{Gives}
 use Rattle.service_eval.proofs.RowLemmas.{past_rows}
 use Rattle.service_eval.proofs.rows.apply_one.Goals as goal
 

@@ -2,7 +2,7 @@ use Rattle.std.proofs.Common.{◌≡◌, false, [], ◌∷◌, sym, subst}
 use Rattle.wave_base.specs.declared.value.Kind.TheVariants.{Int, Bool, Text, Map}
 use Rattle.value_ops.specs.Operators.{takes_of}
 use Rattle.value_ops.specs.Rows.{three}
-use Rattle.service_eval.specs.Answers.{Gives, are_kinds}
+use Rattle.service_eval.specs.inner.Answers.{Gives, are_kinds}
 use Rattle.service_eval.proofs.KindLemmas.{no_int, no_bool, no_text, no_map, first_wrong, second_wrong, no_two}
 use Rattle.service_eval.proofs.RowLemmas.{past_rows, not_taken, answers_two}
 use Rattle.service_eval.proofs.rows.apply_others.Goals.{in_default-via-in-MapInt+in-Map+in_default, in_default-via-in-MapInt+in_default, in_default-via-in-Texts+in-Str+in_default, in_default-via-in-Texts+in_default, in_default-via-in-Bools+in-Bool+in_default, in_default-via-in-Bools+in_default, in_default-via-in-Ints+in-Int+in_default, in_default-via-in-Ints+in_default, in_default-via-in_default}

@@ -6,7 +6,7 @@ use Rattle.wave_base.specs.declared.value.Value.TheVariants.{Int}
 use Rattle.value_ops.specs.Operators.{takes_of, apply_row}
 use Rattle.value_ops.specs.Rows.{three}
 use Rattle.value_ops.proofs.RowLemmas.{part_row, put_row}
-use Rattle.service_eval.specs.Answers.{Gives, are_kinds}
+use Rattle.service_eval.specs.inner.Answers.{Gives, are_kinds}
 use Rattle.service_eval.proofs.KindLemmas.{no_int, no_text, no_map, first_of_three, second_of_three, third_of_three, no_three}
 use Rattle.service_eval.proofs.RowLemmas.{past_rows, not_taken, answers_three}
 use Rattle.service_eval.proofs.rows.apply_three.Goals.{in_default-via-in-TextIntInt+in-Str+in-Int+in_default, in_default-via-in-TextIntInt+in-Str+in_default, in_default-via-in-TextIntInt+in_default, in_default-via-in-MapIntInt+in-Map+in-Int+in_default, in_default-via-in-MapIntInt+in-Map+in_default, in_default-via-in-MapIntInt+in_default, in_default-via-in_default}

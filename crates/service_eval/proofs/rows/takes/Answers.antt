@@ -1,7 +1,7 @@
 use Rattle.std.proofs.Common.{ap, sym, ◌∙◌}
 use Rattle.value_ops.specs.Rows.{three}
 use Rattle.value_ops.specs.Operators.{takes_of}
-use Rattle.service_eval.specs.Answers.{are_kinds}
+use Rattle.service_eval.specs.inner.Answers.{are_kinds}
 use Rattle.service_eval.proofs.RowLemmas.{kinds_are, not_taken, past_rows, few_kinds}
 use Rattle.service_eval.proofs.rows.takes.Goals as goal
 

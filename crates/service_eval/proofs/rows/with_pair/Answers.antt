@@ -6,7 +6,7 @@ use Rattle.wave_base.specs.Tables.{is_full}
 use Rattle.value_ops.specs.declared.error.OpError.{OpError}
 use Rattle.value_ops.specs.declared.error.OpError.TheVariants.{Trap}
 use Rattle.value_ops.specs.Operators.{apply_row}
-use Rattle.service_eval.specs.Answers.{Gives}
+use Rattle.service_eval.specs.inner.Answers.{Gives}
 use Rattle.service_eval.proofs.MapRows.{put_traps, put_may, answers_err}
 use Rattle.service_eval.proofs.rows.with_pair.Goals as goal
 

@@ -3,11 +3,11 @@ use Rattle.std.specs.Prelude.{IsNone}
 use Rattle.context_tree.specs.Contexts.{tree_of as shown}
 use Rattle.resolved_service.specs.declared.service.Method.{Method}
 use Rattle.resolved_service.specs.Meaning.{Done}
-use Rattle.service_eval.specs.Machines.{Mach, rest_at, come_of, comes_to}
-use Rattle.service_eval.specs.Ready.{Ready}
-use Rattle.service_eval.specs.Turns.{mach}
+use Rattle.service_eval.specs.inner.Machines.{Mach, rest_at, come_of, comes_to}
+use Rattle.service_eval.specs.inner.Ready.{Ready}
+use Rattle.service_eval.specs.inner.Turns.{mach}
 use Rattle.service_eval.specs.inner.Weight.{load}
-use Rattle.service_eval.specs.Worlds.{world_of, plain, Fails}
+use Rattle.service_eval.specs.inner.Traces.{world_of, plain, Fails}
 use Rattle.service_eval.proofs.run.run.Goals as goal
 
 at_rest : (methods : List Method) (m : Mach) → m.items ≡ [] → comes_to methods m ≡ plain (Done (rest_at m.path m.values) m.state)

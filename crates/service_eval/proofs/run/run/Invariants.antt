@@ -1,7 +1,7 @@
 use Rattle.std.proofs.Common.{◌≡◌}
-use Rattle.service_eval.specs.Machines.{comes_to}
-use Rattle.service_eval.specs.Ready.{Ready}
-use Rattle.service_eval.specs.Turns.{mach}
+use Rattle.service_eval.specs.inner.Machines.{comes_to}
+use Rattle.service_eval.specs.inner.Ready.{Ready}
+use Rattle.service_eval.specs.inner.Turns.{mach}
 use Rattle.service_eval.specs.inner.Weight.{load}
 use Rattle.service_eval.proofs.run.run.Given as goal
 

@@ -1,8 +1,8 @@
 use Rattle.std.proofs.Common.{sym, ap, subst, ◌∙◌}
 use Rattle.service_eval.specs.declared.work.Work.{Work}
 use Rattle.service_eval.specs.declared.work.Work.TheVariants as work
-use Rattle.service_eval.specs.Items.{item_of}
-use Rattle.service_eval.specs.Turns.{IsNext, Goes}
+use Rattle.service_eval.specs.inner.Items.{item_of}
+use Rattle.service_eval.specs.inner.Turns.{IsNext, Goes}
 use Rattle.service_eval.proofs.run.turn.Goals as goal
 
 pub again-requires : goal.again-requires

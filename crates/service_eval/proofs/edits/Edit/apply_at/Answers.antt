@@ -1,9 +1,9 @@
 use Rattle.std.proofs.Common.{◌≤◌, length, sym, subst, arith}
 use Rattle.std.proofs.lemmas.List.{set_past, get_or_past}
 use Rattle.resolved_service.specs.World.{nothing}
-use Rattle.service_eval.specs.Changes.{edited}
-use Rattle.service_eval.specs.Turns.{Alters}
-use Rattle.service_eval.specs.Wants.{WhereWanting, PutsNewKey}
+use Rattle.service_eval.specs.inner.Changes.{edited}
+use Rattle.service_eval.specs.inner.Turns.{Alters}
+use Rattle.service_eval.specs.inner.Wants.{WhereWanting, PutsNewKey}
 use Rattle.service_eval.proofs.edits.Edit.apply_at.Goals as goal
 
 pub returns-else-i-len-clause-revises : goal.returns-else-i-len-clause-revises

@@ -1,7 +1,7 @@
 use Rattle.std.proofs.Common.{ap, ◌∙◌}
 use Rattle.std.proofs.lemmas.Result.{on_ok_weaker}
-use Rattle.service_eval.specs.Items.{item_of}
-use Rattle.service_eval.specs.Machines.{on_top}
+use Rattle.service_eval.specs.inner.Items.{item_of}
+use Rattle.service_eval.specs.inner.Machines.{on_top}
 use Rattle.service_eval.proofs.machine.Machine.push_two.Goals as goal
 
 pub returns-clause-ok : goal.returns-clause-ok

@@ -1,6 +1,6 @@
 use Rattle.std.proofs.Common.{◌≡◌, ap, sym, ◌∙◌}
 use Rattle.wave_base.specs.Paths.{parent_of}
-use Rattle.service_eval.specs.Machines.{mach_of}
+use Rattle.service_eval.specs.inner.Machines.{mach_of}
 use Rattle.service_eval.proofs.PathLemmas.{parent_of-child}
 use Rattle.service_eval.proofs.machine.Machine.rise.Goals as goal
 

@@ -1,7 +1,7 @@
 use Rattle.std.proofs.Common.{◌≡◌, ◌≤◌, [], ◌∷◌, ◌++◌, length, take, sym, ap, ◌∙◌, arith}
 use Rattle.std.proofs.lemmas.List.{take_all}
 use Rattle.std.proofs.lemmas.Result.{on_ok_weaker}
-use Rattle.service_eval.specs.Machines.{mach_of}
+use Rattle.service_eval.specs.inner.Machines.{mach_of}
 use Rattle.service_eval.proofs.machine.Machine.settle.Goals as goal
 
 pub returns-else-base-len-clause-ok : goal.returns-else-base-len-clause-ok

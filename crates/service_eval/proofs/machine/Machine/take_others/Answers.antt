@@ -1,6 +1,6 @@
 use Rattle.std.proofs.Common.{◌≡◌, ℕ, zero, suc, ◌+◌, ◌≤◌, List, [], ◌∷◌, length, take, drop, refl, ap, ◌∙◌, arith}
 use Rattle.std.proofs.lemmas.Result.{on_ok_weaker, IfOk-weaker}
-use Rattle.service_eval.specs.Machines.{mach_of, cut_to}
+use Rattle.service_eval.specs.inner.Machines.{mach_of, cut_to}
 use Rattle.service_eval.proofs.machine.Machine.take_others.Goals as goal
 
 one_more : (n : ℕ) → n + 1 ≡ suc n

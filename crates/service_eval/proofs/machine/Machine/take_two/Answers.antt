@@ -2,7 +2,7 @@ use Rattle.std.proofs.Common.{◌≡◌, ℕ, zero, suc, ◌+◌, List, [], ◌�
 use Rattle.wave_base.specs.declared.value.Value.{Value}
 use Rattle.wave_base.specs.Tree.{Tree}
 use Rattle.resolved_service.specs.World.{nothing}
-use Rattle.service_eval.specs.Machines.{Mach, mach_of, cut_to, own}
+use Rattle.service_eval.specs.inner.Machines.{Mach, mach_of, cut_to, own}
 use Rattle.service_eval.proofs.machine.Machine.take_two.Goals as goal
 
 no_tree : Tree (List Value)

@@ -5,8 +5,8 @@ use Rattle.service_eval.specs.declared.machine.Machine.{Machine}
 use Rattle.service_eval.specs.declared.work.Caller.{Caller}
 use Rattle.service_eval.specs.declared.work.Work.{Work}
 use Rattle.service_eval.specs.declared.work.Work.TheVariants as work
-use Rattle.service_eval.specs.Items.{Item, item_of, to_return}
-use Rattle.service_eval.specs.Machines.{Mach, items_of, mach_of, on_top}
+use Rattle.service_eval.specs.inner.Items.{Item, item_of, to_return}
+use Rattle.service_eval.specs.inner.Machines.{Mach, items_of, mach_of, on_top}
 use Rattle.service_eval.proofs.machine.Machine.to_caller.Goals as goal
 
 no_tree : Tree (List Value)

@@ -2,8 +2,8 @@ use Rattle.std.proofs.Common.{◌≡◌, List, length}
 use Rattle.wave_base.specs.declared.value.Value.{Value}
 use Rattle.wave_base.specs.Tree.{Tree}
 use Rattle.service_eval.specs.declared.machine.Machine.{Machine}
-use Rattle.service_eval.specs.Items.{to_return}
-use Rattle.service_eval.specs.Machines.{items_of, mach_of}
+use Rattle.service_eval.specs.inner.Items.{to_return}
+use Rattle.service_eval.specs.inner.Machines.{items_of, mach_of}
 use Rattle.service_eval.proofs.machine.Machine.to_caller.Given as goal
 
 -- what is left out so far stands before the next return, and nothing else is changed

@@ -1,7 +1,7 @@
 use Rattle.std.proofs.Common.{ap, rules}
 use Rattle.std.proofs.lemmas.Fn.{filter_same}
 use Rattle.wave_base.specs.Paths.{is_above}
-use Rattle.service_eval.specs.Worlds.{world_of}
+use Rattle.service_eval.specs.inner.Traces.{world_of}
 use Rattle.service_eval.proofs.trace.Trace.release.Goals as goal
 
 pub returns : goal.returns

@@ -1,5 +1,5 @@
 use Rattle.std.proofs.Common.{ap, sym, ◌∙◌, Ok, arith, [], ◌∷◌, ◌++◌}
-use Rattle.service_eval.specs.Worlds.{world_of}
+use Rattle.service_eval.specs.inner.Traces.{world_of}
 use Rattle.service_eval.proofs.WorldLemmas.{refuses, sends_no_more, sends_one_more}
 use Rattle.service_eval.proofs.trace.Trace.send.Goals as goal
 

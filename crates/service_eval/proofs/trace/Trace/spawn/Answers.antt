@@ -1,5 +1,5 @@
 use Rattle.std.proofs.Common.{◌≡◌, ℕ, suc, ap, sym, ◌∙◌, Ok, arith, [], ◌∷◌, ◌++◌, ◌+◌}
-use Rattle.service_eval.specs.Worlds.{world_of}
+use Rattle.service_eval.specs.inner.Traces.{world_of}
 use Rattle.service_eval.proofs.WorldLemmas.{refuses, last_generation, spawns_no_more, spawns_one_more}
 use Rattle.service_eval.proofs.trace.Trace.spawn.Goals as goal
 

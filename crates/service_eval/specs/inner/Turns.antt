@@ -11,14 +11,15 @@ use Rattle.service_eval.specs.declared.look.View.{View}
 use Rattle.service_eval.specs.declared.operand.Operand.{Operand}
 use Rattle.service_eval.specs.declared.stop.Stop.{Stop}
 use Rattle.service_eval.specs.declared.stop.Stop.TheVariants as stop
-use Rattle.service_eval.specs.Answers.{Looks}
-use Rattle.service_eval.specs.Items.{Item}
-use Rattle.service_eval.specs.Machines.{Mach, state_of, mach_of, on_top, before_all, in_state, rest_at, come_of, comes_to}
+use Rattle.service_eval.specs.inner.Answers.{Looks}
+use Rattle.service_eval.specs.inner.Items.{Item}
+use Rattle.service_eval.specs.inner.Machines.{Mach, state_of, mach_of, on_top, before_all, in_state, rest_at, come_of, comes_to}
 use Rattle.resolved_service.specs.Meaning.{Act, Leave, Done, Left, value, effect, called}
 use Rattle.resolved_service.specs.Steps.{Step}
 use Rattle.resolved_service.specs.View.{Tree}
-use Rattle.service_eval.specs.Ready.{Ready, Follows, Turned}
-use Rattle.service_eval.specs.Worlds.{plain, Holds, Traps, Fails}
+use Rattle.service_eval.specs.inner.Ready.{Ready, Follows, Turned}
+use Rattle.service_eval.specs.Worlds.{Holds}
+use Rattle.service_eval.specs.inner.Traces.{plain, Traps, Fails}
 use Rattle.service_eval.specs.inner.Weight.{load}
 
 abbrev pub mach : Code → Contexts → Machine → Mach

@@ -19,8 +19,8 @@ use Rattle.service_eval.specs.declared.stop.Stop.{Stop}
 use Rattle.service_eval.specs.declared.stop.Stop.TheVariants.{OutOfMemory}
 use Rattle.service_eval.specs.declared.work.Variable.{Variable}
 use Rattle.service_eval.specs.declared.work.Variable.TheVariants as variable
-use Rattle.service_eval.specs.Items as i
-use Rattle.service_eval.specs.Machines.{own, state_of}
+use Rattle.service_eval.specs.inner.Items as i
+use Rattle.service_eval.specs.inner.Machines.{own, state_of}
 
 -- what is said where memory was wanting
 abbrev pub WhereWanting : {A : Type 0} → Result A Stop → Type 0 → Type 0

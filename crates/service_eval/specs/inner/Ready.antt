@@ -9,9 +9,10 @@ use Rattle.resolved_service.specs.declared.service.Method.{Method}
 use Rattle.resolved_service.specs.Fits.{FitsTree, FitsTrees, FitsStep, FitsSteps, IsMethod, IsChildClass}
 use Rattle.resolved_service.specs.Meaning.{Outcome}
 use Rattle.service_eval.specs.declared.stop.Stop.{Stop}
-use Rattle.service_eval.specs.Items.{End, Branch, Item, Eval, Evals, AndThen, OrElse, Invoke, Child, Block, Begin, Finish, Turns, Check, Counts, Again, Return}
-use Rattle.service_eval.specs.Machines.{Mach, Rest, comes_to, path_after}
-use Rattle.service_eval.specs.Worlds.{Holds, Fails}
+use Rattle.service_eval.specs.inner.Items.{End, Branch, Item, Eval, Evals, AndThen, OrElse, Invoke, Child, Block, Begin, Finish, Turns, Check, Counts, Again, Return}
+use Rattle.service_eval.specs.inner.Machines.{Mach, Rest, comes_to, path_after}
+use Rattle.service_eval.specs.Worlds.{Holds}
+use Rattle.service_eval.specs.inner.Traces.{Fails}
 use Rattle.service_eval.specs.inner.Weight.{load}
 
 module _ (shape : Shape) (methods : List Method) where

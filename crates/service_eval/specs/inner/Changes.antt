@@ -16,7 +16,7 @@ use Rattle.service_eval.specs.declared.edits.Edit.TheVariants as edit
 use Rattle.service_eval.specs.declared.stop.Stop.{Stop}
 use Rattle.service_eval.specs.declared.work.Variable.{Variable}
 use Rattle.service_eval.specs.declared.work.Variable.TheVariants as variable
-use Rattle.service_eval.specs.Turns.{Alters}
+use Rattle.service_eval.specs.inner.Turns.{Alters}
 
 -- what a value becomes
 abbrev pub edited : Edit → Value → Answer Value

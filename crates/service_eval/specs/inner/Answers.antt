@@ -12,7 +12,7 @@ use Rattle.service_eval.specs.declared.operand.Operand.{Operand}
 use Rattle.service_eval.specs.declared.operand.Operand.TheVariants as operand
 use Rattle.service_eval.specs.declared.stop.Stop.{Stop}
 use Rattle.service_eval.specs.declared.stop.Stop.TheVariants as stop
-use Rattle.service_eval.specs.Worlds.{Traps}
+use Rattle.service_eval.specs.inner.Traces.{Traps}
 
 -- the value, or the trap at a place, or that memory was wanting, as it may be for a text or a map that is to be given
 abbrev pub Gives : Answer Value → Span → Result Value Stop → Type 0
