@@ -1,4 +1,5 @@
 ghost use Rattle.std.specs.Prelude.{◌≡◌, IfOk};
+ghost use Rattle.kept_lock.specs.Knowing.{first as opening};
 ghost use Rattle.kept_lock.specs.Locks.{known, IsPassOf};
 ghost use Rattle.lock_counter.specs.Passes.{IsFresh};
 ghost use Rattle.lock_counter.specs.Jobs.{IsReady, IsDone};
@@ -99,29 +100,34 @@ fn wait_and_add<'l, 'p, R: Threads + Wait + Sync>(
     )
 }
 
+// The same job for the first pass of a lock and for a second one, which it makes.
+fn two_jobs<'l, 'p>(
+    lock: &'l KeptLock<Counter<'p>>,
+    mut first: Pass<Counter<'p>>,
+    amount: u64,
+    times: u64,
+) -> (Job<'l, 'p>, Job<'l, 'p>)
+    requires pass { IsPassOf lock.now first }
+    requires first { known first ≡ opening }
+    ensures ready { IsReady result.0 × IsReady result.1 }
+    ensures lock { (result.0.lock ≡ lock.entry) × (result.1.lock ≡ lock.entry) }
+    ensures numbers { (result.0.me ≡ 0) × (result.1.me ≡ 1) }
+{
+    let second = lock.split(&mut first);
+    (
+        Job::new(lock, first, 0, amount, times),
+        Job::new(lock, second, 1, amount, times),
+    )
+}
+
 #[test]
 fn one_naps_until_the_other_is_done(rt: HostRuntime) -> Result<(), Fail> {
     let plan = Plan { label: 1 };
     let alloc = rt.alloc();
-    let Ok((lock, mut first)) = KeptLock::new(alloc, &plan, Counter::new(alloc, &plan)) else {
+    let Ok((lock, first)) = KeptLock::new(alloc, &plan, Counter::new(alloc, &plan)) else {
         return Err("memory".into());
     };
-    let second = lock.split(&mut first);
-    let (amount, times) = (3, 5000);
-    let one = Job {
-        lock: &lock,
-        pass: first,
-        me: 0,
-        amount,
-        times,
-    };
-    let other = Job {
-        lock: &lock,
-        pass: second,
-        me: 1,
-        amount,
-        times,
-    };
+    let (one, other) = two_jobs(&lock, first, 3, 5000);
     let ((pass, visits), (other, done)) = wait_and_add(&rt, one, other);
     done?;
     assert!(rt; visits >= 1);
@@ -177,25 +183,10 @@ fn wait_for_one<'l, 'p, R: Threads + Wait + Sync>(
 fn one_naps_until_it_is_woken_alone(rt: HostRuntime) -> Result<(), Fail> {
     let plan = Plan { label: 7 };
     let alloc = rt.alloc();
-    let Ok((lock, mut first)) = KeptLock::new(alloc, &plan, Counter::new(alloc, &plan)) else {
+    let Ok((lock, first)) = KeptLock::new(alloc, &plan, Counter::new(alloc, &plan)) else {
         return Err("memory".into());
     };
-    let second = lock.split(&mut first);
-    let (amount, times) = (3, 1);
-    let one = Job {
-        lock: &lock,
-        pass: first,
-        me: 0,
-        amount,
-        times,
-    };
-    let other = Job {
-        lock: &lock,
-        pass: second,
-        me: 1,
-        amount,
-        times,
-    };
+    let (one, other) = two_jobs(&lock, first, 3, 1);
     let (visits, added) = wait_for_one(&rt, one, other);
     assert!(rt; added);
     assert!(rt; visits <= 3, "{visits} looks");
