@@ -6,9 +6,22 @@ ghost use Rattle.kept_lock.specs.Knowing.{entered, left_at};
 ghost use Rattle.kept_lock.specs.Locks.{name_of, known, IsPassOf};
 ghost use Rattle.kept_lock.specs.Visits.{Meets};
 
+use crate::attempt::Attempt;
 use crate::kept::Kept;
 use crate::lock::{KeptLock, Pass};
+use crate::wakes::Wakes;
 use std::sync::Wait;
+
+// The work, and that it wakes all who nap.
+fn waking_all<V, T, F: FnOnce(&mut V) -> T>(value: &mut V, work: F) -> Attempt<T>
+    requires { FnOnceTakesAtMut F.FnOnce work value.old }
+    ensures { FnOnceReturnsAtMut F.FnOnce work value.old result.told value.new }
+{
+    Attempt {
+        told: work(value),
+        wakes: Wakes::All,
+    }
+}
 
 impl<V: Kept> KeptLock<V> {
     /// Waits as `enter` does, does the work on the value, and leaves, which wakes all who nap. In the clauses y is the value that the work met, and z what it made of it.
@@ -29,9 +42,14 @@ impl<V: Kept> KeptLock<V> {
             × FnOnceReturnsAtMut F.FnOnce work y result z
             × (known pass.new ≡ left_at (entered (known pass.old) (V.history y)) (V.history z)) }
     {
-        let mut guard = self.enter(rt, pass);
-        let result = work(guard.get_mut());
-        guard.leave();
-        result
+        let left = self.attempt(
+            rt,
+            pass,
+            move |value: &mut V| -> Attempt<T>
+                requires { FnOnceTakesAtMut F.FnOnce work value.now }
+                ensures { FnOnceReturnsAtMut F.FnOnce work value.entry.now result.told value.exit.now }
+            { waking_all(value, work) },
+        );
+        left.told
     }
 }
