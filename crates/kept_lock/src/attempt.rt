@@ -8,31 +8,22 @@ ghost use Rattle.kept_lock.specs.Visits.{Meets};
 
 use crate::kept::Kept;
 use crate::lock::{KeptLock, Pass};
-use crate::wakes::Wakes;
+use crate::parting::Parting;
 use std::sync::Wait;
-
-/// What an attempt came to.
-#[derive(Debug, Drop)]
-pub struct Attempt<T> {
-    /// What it tells.
-    pub told: T,
-    /// Whom it wakes as it leaves.
-    pub wakes: Wakes,
-}
 
 impl<V: Kept> KeptLock<V> {
     /// As `visit`, but the work says which of those who nap are woken.
     /// In the clauses y is the value that the work met, and z what it made of it.
-    pub fn attempt<R: Wait, T, F: FnOnce(&mut V) -> Attempt<T>>(
+    pub fn attempt<R: Wait, T, F: FnOnce(&mut V) -> Parting<T>>(
         &self,
         rt: &R,
         pass: &mut Pass<V>,
         work: F,
-    ) -> Attempt<T>
+    ) -> Parting<T>
         requires pass { IsPassOf self.now pass.old }
         requires may { (y : V) → Meets V.history V.owner V.stands (name_of self.now) (known pass.old) y
             → FnOnceTakesAtMut F.FnOnce work y }
-        requires keeps { (y : V) (r : Attempt T) (z : V) → Meets V.history V.owner V.stands (name_of self.now) (known pass.old) y
+        requires keeps { (y : V) (r : Parting T) (z : V) → Meets V.history V.owner V.stands (name_of self.now) (known pass.old) y
             → FnOnceReturnsAtMut F.FnOnce work y r z
             → V.stands z (name_of self.now) × Adds V.owner (known pass.old).number (V.history y) (V.history z) }
         ensures pass { IsPassOf self.now pass.new }

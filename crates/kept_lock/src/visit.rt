@@ -6,18 +6,18 @@ ghost use Rattle.kept_lock.specs.Knowing.{entered, left_at};
 ghost use Rattle.kept_lock.specs.Locks.{name_of, known, IsPassOf};
 ghost use Rattle.kept_lock.specs.Visits.{Meets};
 
-use crate::attempt::Attempt;
 use crate::kept::Kept;
 use crate::lock::{KeptLock, Pass};
+use crate::parting::Parting;
 use crate::wakes::Wakes;
 use std::sync::Wait;
 
 // The work, and that it wakes all who nap.
-fn waking_all<V, T, F: FnOnce(&mut V) -> T>(value: &mut V, work: F) -> Attempt<T>
+fn waking_all<V, T, F: FnOnce(&mut V) -> T>(value: &mut V, work: F) -> Parting<T>
     requires { FnOnceTakesAtMut F.FnOnce work value.old }
     ensures { FnOnceReturnsAtMut F.FnOnce work value.old result.told value.new }
 {
-    Attempt {
+    Parting {
         told: work(value),
         wakes: Wakes::All,
     }
@@ -45,7 +45,7 @@ impl<V: Kept> KeptLock<V> {
         let left = self.attempt(
             rt,
             pass,
-            move |value: &mut V| -> Attempt<T>
+            move |value: &mut V| -> Parting<T>
                 requires { FnOnceTakesAtMut F.FnOnce work value.now }
                 ensures { FnOnceReturnsAtMut F.FnOnce work value.entry.now result.told value.exit.now }
             { waking_all(value, work) },

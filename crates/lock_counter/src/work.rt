@@ -5,7 +5,7 @@ ghost use Rattle.lock_counter.specs.Counters.{StandsFor, Added, addition};
 ghost use Rattle.lock_counter.specs.Passes.{Made, MadeAsTold, AddedAsTold};
 
 use crate::counter::Counter;
-use kept_lock::{Attempt, KeptLock, Pass, Wakes};
+use kept_lock::{KeptLock, Parting, Pass, Wakes};
 use std::sync::Wait;
 use wave_base::OutOfMemory;
 
@@ -88,23 +88,23 @@ pub fn add_below<'p, R: Wait>(
     let tried = lock.attempt(
         rt,
         pass,
-        |counter: &mut Counter| -> Attempt<Result<bool, OutOfMemory>>
+        |counter: &mut Counter| -> Parting<Result<bool, OutOfMemory>>
             requires { StandsFor counter.now counter.now.plan }
             ensures { StandsFor counter.exit.now counter.entry.now.plan × AddedAsTold counter.entry.now.log.items (addition me amount) result.told counter.exit.now.log.items }
         {
             if counter.total < most {
                 match counter.add(me, amount) {
-                    Ok(()) => Attempt {
+                    Ok(()) => Parting {
                         told: Ok(true),
                         wakes,
                     },
-                    Err(refused) => Attempt {
+                    Err(refused) => Parting {
                         told: Err(refused),
                         wakes: Wakes::Nobody,
                     },
                 }
             } else {
-                Attempt {
+                Parting {
                     told: Ok(false),
                     wakes: Wakes::Nobody,
                 }

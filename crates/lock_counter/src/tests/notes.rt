@@ -4,7 +4,7 @@ ghost use Rattle.std.specs.Prelude.{◌≡◌, ◌++◌, ◌∷◌, [], MatchRes
 ghost use Rattle.kept_lock.specs.Locks.{known, IsPassOf};
 
 use super::cross::{sent_lock, sent_pass, shared_lock};
-use kept_lock::{Attempt, Kept, KeptLock, Pass, Wakes, passes_share_one_history};
+use kept_lock::{Kept, KeptLock, Parting, Pass, Wakes, passes_share_one_history};
 use std::alloc::Global;
 use std::sync::Wait;
 use std::test::Fail;
@@ -181,8 +181,8 @@ fn call<R: Wait>(rt: &R, lock: &KeptLock<Notes>, pass: &mut Pass<Notes>, wakes: 
     ensures pass { IsPassOf lock.now pass.new }
     ensures number { (known pass.new).number ≡ (known pass.old).number }
 {
-    let called = lock.attempt(rt, pass, |_notes: &mut Notes| -> Attempt<u8> {
-        Attempt { told: 7, wakes }
+    let called = lock.attempt(rt, pass, |_notes: &mut Notes| -> Parting<u8> {
+        Parting { told: 7, wakes }
     });
     called.told
 }
