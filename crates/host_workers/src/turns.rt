@@ -10,7 +10,7 @@ use crate::packet::Packet;
 use crate::takes::take;
 use crate::task::Task;
 use crate::told::Told;
-use kept_lock::{Attempt, Wakes};
+use kept_lock::{Parting, Wakes};
 use wave_base::{OutOfMemory, Seq, Shown, Worker};
 use wave_board::{Board, Crew};
 
@@ -21,7 +21,7 @@ pub(crate) fn turn(
     number: Worker,
     packet: Option<Packet>,
     written: Option<u32>,
-) -> Attempt<Told>
+) -> Parting<Told>
     requires { MayTurn board.old number packet written }
     ensures { HasTurned board.old number packet written board.new result.told.offer }
 {
@@ -32,9 +32,9 @@ pub(crate) fn turn(
             let more = is_for_another(board, &crew, number, &offer);
             let wakes = leave(board, number, written, crew, &offer, more);
             let told = Told { offer, more };
-            Attempt { told, wakes }
+            Parting { told, wakes }
         }
-        Err(refused) => Attempt {
+        Err(refused) => Parting {
             told: Told {
                 offer: Err(refused),
                 more: false,

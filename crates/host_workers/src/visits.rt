@@ -11,7 +11,7 @@ use crate::packet::Packet;
 use crate::post::Post;
 use crate::told::Told;
 use crate::turns::turn;
-use kept_lock::{Attempt, Pass};
+use kept_lock::{Parting, Pass};
 use plan_actors::finished_states_tell;
 use std::sync::Wait;
 use wave_board::{Board, StopCause, leases_stay, results_stay};
@@ -39,7 +39,7 @@ pub(crate) fn visit<'l, 'p, R: Wait, G>(
     let left = post.lock.attempt(
         post.rt,
         pass,
-        move |board: &mut Board| -> Attempt<Told>
+        move |board: &mut Board| -> Parting<Told>
             requires { MayTurn board.now number packet written }
             ensures { HasTurned board.entry.now number packet written board.exit.now result.told.offer }
         { turn(board, number, packet, written) },

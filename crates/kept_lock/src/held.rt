@@ -1,8 +1,9 @@
 // A value on the heap.
 ghost use Rattle.std.specs.Prelude.{◌≡◌, IfOk, IfErr};
 
-use std::alloc::{AllocFailed, Global};
+use std::alloc::Global;
 use std::marker::Model;
+use wave_base::OutOfMemory;
 
 /// A box that contracts see as its value. It moves as a pointer, however large the value is.
 #[derive(Drop)]
@@ -20,13 +21,13 @@ impl<V> Model for Held<V> {
 
 impl<V> Held<V> {
     /// The value in a box of its own. Where there is no memory it comes back.
-    pub(crate) fn new(alloc: Global, value: V) -> Result<Held<V>, AllocFailed<V>>
+    pub(crate) fn new(alloc: Global, value: V) -> Result<Held<V>, (V, OutOfMemory)>
         ensures held { IfOk result (λ h. h ≡ value) }
-        ensures back { IfErr result (λ e. e.value ≡ value) }
+        ensures back { IfErr result (λ e. e.0 ≡ value) }
     {
         match Box::new(alloc, value) {
             Ok(boxed) => Ok(Held { boxed }),
-            Err(refused) => Err(refused),
+            Err(refused) => Err(OutOfMemory::parted(refused)),
         }
     }
 

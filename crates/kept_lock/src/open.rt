@@ -28,7 +28,7 @@ impl<V: Kept> KeptLock<V> {
     {
         let held = match Held::new(alloc, value) {
             Ok(held) => held,
-            Err(refused) => return Err(OutOfMemory::parted(refused)),
+            Err(refused) => return Err(refused),
         };
         let mut slots = match Vec::with_capacity(alloc, 1) {
             Ok(slots) => slots,

@@ -1,3 +1,5 @@
+//! What a visit ends with.
+
 use crate::wakes::Wakes;
 
 /// What an attempt ends with.

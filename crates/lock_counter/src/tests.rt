@@ -1,3 +1,5 @@
+//! Tests of the kept lock, over several threads.
+
 ghost use Rattle.std.specs.Prelude.{◌≡◌, IfOk};
 ghost use Rattle.kept_lock.specs.Knowing.{first as opening};
 ghost use Rattle.kept_lock.specs.Locks.{known, IsPassOf};

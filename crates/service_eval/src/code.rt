@@ -1,3 +1,5 @@
+//! What events run by: the shape and the methods of their service.
+
 use resolved_service::Method;
 use std::alloc::Global;
 use wave_base::Shape;

@@ -1,3 +1,5 @@
+//! An event on its way.
+
 ghost use Rattle.std.specs.Prelude.{◌≡◌, ◌<◌, ◌≤◌, ◌^◌, suc, length, drop, get_or, slice_set, [], ◌∷◌, OnOk, OnErr, IfOk, IfErr, IsNone, IfSome};
 ghost use Rattle.resolved_service.specs.World.{nothing, is_true, key_of};
 ghost use Rattle.service_eval.specs.declared.stop.Stop.{Stop};

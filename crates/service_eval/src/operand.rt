@@ -1,3 +1,5 @@
+//! Values of expressions, kept elsewhere or new.
+
 ghost use Rattle.std.specs.Prelude.{◌≡◌, IfOk, OnErr};
 ghost use Rattle.resolved_service.specs.World.{is_true};
 ghost use Rattle.service_eval.specs.inner.Answers.{value_in};

@@ -1,3 +1,5 @@
+//! Operators, by their rows.
+
 ghost use Rattle.std.specs.Prelude.{◌≡◌, ◌<◌, ◌∷◌, [], map, false, Err, IsTrue};
 ghost use Rattle.service_eval.specs.inner.Answers.{Gives, is_kind, are_kinds};
 ghost use Rattle.value_ops.specs.Answers.{Answers};

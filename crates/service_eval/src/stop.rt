@@ -1,3 +1,5 @@
+//! Why the rest of an event's code is left out.
+
 use thiserror::Error;
 use wave_base::{OutOfMemory, Trap, Value};
 

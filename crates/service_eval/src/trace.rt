@@ -1,3 +1,5 @@
+//! What an event has done, besides its changes of fields.
+
 ghost use Rattle.std.specs.Prelude.{◌≡◌, ◌≤◌, ◌<◌, length, Err};
 ghost use Rattle.resolved_service.specs.World.{has, ticking, releasing, sending, spawning};
 ghost use Rattle.service_eval.specs.inner.Wants.{WhereWanting};

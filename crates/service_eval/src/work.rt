@@ -1,3 +1,5 @@
+//! What is still to be done in an event.
+
 use resolved_service::{Expr, Stmt};
 use wave_base::{Class, Span, Txt, Value};
 
