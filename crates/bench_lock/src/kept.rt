@@ -18,7 +18,10 @@ struct Job<'l> {
     ghost own: { IsPassOf lock.now pass },
 }
 
-fn take_turns<R: Wait>(rt: &R, job: Job) {
+// Takes the turns of a job, and tells how many it took.
+fn take_turns<R: Wait>(rt: &R, job: Job) -> u32
+    ensures { result ≡ job.entry.turns }
+{
     let Job {
         lock,
         mut pass,
@@ -29,6 +32,7 @@ fn take_turns<R: Wait>(rt: &R, job: Job) {
         guard.get_mut().count();
         guard.leave();
     }
+    turns
 }
 
 // A job for each thread, with a pass that is split from the first one.
@@ -68,6 +72,12 @@ pub fn count<R: Threads + Wait + Sync>(
         Err((_, refused)) => return Err(refused),
     };
     let jobs = jobs(alloc, &lock, &mut first, turns, threads)?;
-    map_vec(rt, jobs, &|job: Job| take_turns(rt, job))?;
+    map_vec(
+        rt,
+        jobs,
+        &|job: Job| -> u32
+            ensures { result ≡ job.entry.turns }
+        { take_turns(rt, job) },
+    )?;
     Ok(lock.close(rt, first).turns)
 }
