@@ -69,10 +69,11 @@ impl Gate for Meeting {
     }
 }
 
-// Holds each of the first events at its stall until all of them have come to theirs: so many segments are out at once.
+// Holds each of the first events at its stall until all of them have come to theirs: so many segments are out at once. Each looks so often for the others.
 #[derive(Drop)]
 struct Crowd {
     many: u32,
+    turns: u32,
     come: AtomicU64,
     missed: AtomicU64,
 }
@@ -81,7 +82,7 @@ impl Gate for Crowd {
     fn reach(&self, ticket: Ticket, path: &Path) {
         if ticket.0 <= self.many && *path == stall(i64::from(ticket.0)) {
             self.come.fetch_add(1, Ordering::SeqCst);
-            for _ in 0..TURNS {
+            for _ in 0..self.turns {
                 if self.come.load(Ordering::SeqCst) == u64::from(self.many) {
                     return;
                 }
@@ -107,8 +108,11 @@ fn many_buy<R: Threads + Wait + Sync>(
     many: u32,
 ) -> Result<(u64, u64), OutOfMemory> {
     let input = joined(alloc, MARKET, script)?;
+    // The more there are, the longer the last one takes to its stall, while the others hold the processors.
+    let turns = if many > 4 { 30 * TURNS } else { TURNS };
     let gate = Crowd {
         many,
+        turns,
         come: AtomicU64::new(0),
         missed: AtomicU64::new(0),
     };
