@@ -2,6 +2,7 @@
 
 mod cases;
 mod counts;
+mod crowds;
 mod early;
 mod meets;
 mod runs;

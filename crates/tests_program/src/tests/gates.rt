@@ -69,11 +69,10 @@ impl Gate for Meeting {
     }
 }
 
-// Holds each of the first events at its stall until all of them have come to theirs: so many segments are out at once. Each looks so often for the others.
+// Holds each of the first events at its stall until all of them have come to theirs: so many segments are out at once.
 #[derive(Drop)]
 struct Crowd {
     many: u32,
-    turns: u32,
     come: AtomicU64,
     missed: AtomicU64,
 }
@@ -82,7 +81,7 @@ impl Gate for Crowd {
     fn reach(&self, ticket: Ticket, path: &Path) {
         if ticket.0 <= self.many && *path == stall(i64::from(ticket.0)) {
             self.come.fetch_add(1, Ordering::SeqCst);
-            for _ in 0..self.turns {
+            for _ in 0..TURNS {
                 if self.come.load(Ordering::SeqCst) == u64::from(self.many) {
                     return;
                 }
@@ -93,26 +92,17 @@ impl Gate for Crowd {
     }
 }
 
-const FOUR: &[u8] =
-    b"request buy(1,1,1)\nrequest buy(1,2,1)\nrequest buy(1,3,1)\nrequest buy(1,4,1)\n";
-
-const SIXTEEN: &[u8] =
-    b"request buy(1,1,1)\nrequest buy(1,2,1)\nrequest buy(1,3,1)\nrequest buy(1,4,1)\nrequest buy(1,5,1)\nrequest buy(1,6,1)\nrequest buy(1,7,1)\nrequest buy(1,8,1)\nrequest buy(1,9,1)\nrequest buy(1,10,1)\nrequest buy(1,11,1)\nrequest buy(1,12,1)\nrequest buy(1,13,1)\nrequest buy(1,14,1)\nrequest buy(1,15,1)\nrequest buy(1,16,1)\n";
-
-// Whether so many events that buy at stalls of their own miss each other, and how many came: by workers they meet.
-fn many_buy<R: Threads + Wait + Sync>(
+// Whether four events that buy at four stalls miss each other, and how many came: by workers they meet.
+fn four_buy<R: Threads + Wait + Sync>(
     rt: &R,
     alloc: Global,
     words: &str,
-    script: &[u8],
-    many: u32,
 ) -> Result<(u64, u64), OutOfMemory> {
+    let script =
+        b"request buy(1,1,1)\nrequest buy(1,2,1)\nrequest buy(1,3,1)\nrequest buy(1,4,1)\n";
     let input = joined(alloc, MARKET, script)?;
-    // The more there are, the longer the last one takes to its stall, while the others hold the processors.
-    let turns = if many > 4 { 30 * TURNS } else { TURNS };
     let gate = Crowd {
-        many,
-        turns,
+        many: 4,
         come: AtomicU64::new(0),
         missed: AtomicU64::new(0),
     };
@@ -130,19 +120,8 @@ fn four_segments_are_out_at_once(rt: HostRuntime) -> Result<(), Fail> {
         "run",
         "trace --workers 16",
     ] {
-        assert_eq!(rt; many_buy(&rt, alloc, words, FOUR, 4)?, (0, 4));
+        assert_eq!(rt; four_buy(&rt, alloc, words)?, (0, 4));
     }
-    Ok(())
-}
-
-/// As many workers as are asked for: sixteen of them are out at once.
-#[test]
-fn sixteen_segments_are_out_at_once(rt: HostRuntime) -> Result<(), Fail> {
-    let alloc = rt.alloc();
-    assert_eq!(rt;
-        many_buy(&rt, alloc, "run --workers 16", SIXTEEN, 16)?,
-        (0, 16)
-    );
     Ok(())
 }
 
@@ -156,7 +135,7 @@ fn a_schedule_has_no_workers(rt: HostRuntime) -> Result<(), Fail> {
         "run --workers 16 --schedule newest",
         "trace --schedule 5",
     ] {
-        assert_eq!(rt; many_buy(&rt, alloc, words, FOUR, 4)?, (0, 0));
+        assert_eq!(rt; four_buy(&rt, alloc, words)?, (0, 0));
     }
     Ok(())
 }
