@@ -1,22 +1,9 @@
 //! Labels are compared by all that they have.
 
 use std::test::Fail;
-use tests_services::hall;
-use wave_base::{Host, Path, Ticket, Worker};
+use tests_services::{hall, label, mail};
+use wave_base::{Host, Path, Ticket};
 use wave_labels::*;
-
-fn label(worker: u8, host: u8, act: Act) -> Label {
-    Label {
-        worker: Worker(worker),
-        host: Host(host),
-        act,
-    }
-}
-
-fn mail(ticket: u32, number: u32) -> MailId {
-    let ticket = Ticket(ticket);
-    MailId { ticket, number }
-}
 
 #[test]
 fn labels_are_compared(rt: HostRuntime) -> Result<(), Fail> {

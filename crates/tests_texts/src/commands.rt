@@ -4,15 +4,8 @@ use command_words::{Command, Crew, Places, Schedule, command_of};
 use std::alloc::Global;
 use std::process::Abort;
 use std::test::Fail;
+use tests_services::words;
 use wave_base::{OutOfMemory, Words};
-
-fn words(alloc: Global, text: &str) -> Result<Words, OutOfMemory> {
-    let mut words = Words::new(alloc);
-    for word in text.split(' ') {
-        words.push(word)?;
-    }
-    Ok(words)
-}
 
 fn crew(workers: u8, schedule: Option<Schedule>) -> Crew {
     Crew { workers, schedule }

@@ -8,8 +8,9 @@ use crate::shapes::hall_shape;
 use journal_text::{JournalError, read_journal, write_journal};
 use std::alloc::Global;
 use std::test::Fail;
-use wave_base::{Class, Host, OutOfMemory, Path, Seq, Shape, Step, Ticket, Worker};
-use wave_labels::{Act, Label, MailId};
+use tests_services::{ONE_EVENT, hall, label, mail, one_event};
+use wave_base::{Host, OutOfMemory, Seq, Shape};
+use wave_labels::Act;
 
 // The text of what is read of a text.
 fn again(alloc: Global, shape: &Shape, text: &[u8]) -> Result<Seq<u8>, JournalError>
@@ -21,46 +22,12 @@ fn again(alloc: Global, shape: &Shape, text: &[u8]) -> Result<Seq<u8>, JournalEr
     Ok(write_journal(alloc, shape, &journal)?)
 }
 
-const ONE_EVENT: &[u8] = b"journal 7
-1 w0 h0 Admit #1
-2 w0 h0 Queue #1.1 /
-3 w0 h0 Grant #1 /
-4 w0 h0 Start #1 /
-5 w0 h0 Stop #1 /
-6 w0 h0 Commit #1
-7 w0 h0 Free #1.2 /
-";
-
-fn label(act: Act) -> Label {
-    Label {
-        worker: Worker(0),
-        host: Host(0),
-        act,
-    }
-}
-
-fn one_event(alloc: Global) -> Result<Seq<Label>, OutOfMemory> {
-    let ticket = Ticket(1);
-    let root = Path::root();
-    let enter = MailId { ticket, number: 1 };
-    let release = MailId { ticket, number: 2 };
-    let labels = vec![in alloc;
-        label(Act::Admit(ticket)),
-        label(Act::Queue(enter, root)),
-        label(Act::Grant(ticket, root)),
-        label(Act::Start(ticket, root)),
-        label(Act::Stop(ticket, root)),
-        label(Act::Commit(ticket)),
-        label(Act::Free(release, root)),
-    ]?;
-    Ok(Seq::from_vec(labels))
-}
-
 #[test]
 fn reads_one_event(rt: HostRuntime) -> Result<(), Fail> {
     let alloc = rt.alloc();
     let shape = hall_shape(alloc)?;
-    assert!(rt; read_journal(alloc, &shape, ONE_EVENT) == Ok(one_event(alloc)?));
+    let journal = read_journal(alloc, &shape, ONE_EVENT)?;
+    assert!(rt; journal.as_slice() == one_event().as_slice());
     let text = again(alloc, &shape, ONE_EVENT)?;
     assert!(rt; text.as_slice() == ONE_EVENT);
     let none = read_journal(alloc, &shape, b"journal 0\n")?;
@@ -89,22 +56,7 @@ fn reads_numbers_at_their_bounds(rt: HostRuntime) -> Result<(), Fail> {
     let text = again(alloc, &shape, BOUNDS)?;
     assert!(rt; text.as_slice() == BOUNDS);
     let journal = read_journal(alloc, &shape, BOUNDS)?;
-    let passed = Act::Pass(
-        MailId {
-            ticket: Ticket(7),
-            number: 2,
-        },
-        Path::root().child(Step {
-            class: Class(1),
-            key: 8,
-        }),
-        Host(255),
-    );
-    let passes = Label {
-        worker: Worker(7),
-        host: Host(6),
-        act: passed,
-    };
+    let passes = label(7, 6, Act::Pass(mail(7, 2), hall(8), Host(255)));
     assert!(rt; journal.get(7) == Some(&passes));
     Ok(())
 }

@@ -40,7 +40,8 @@ fn shape(alloc: Global) -> Result<Shape, OutOfMemory> {
     })
 }
 
-fn ended(alloc: Global, outcome: Outcome) -> EventResult {
+// An event that sent nothing and created none.
+pub(crate) fn ended(alloc: Global, outcome: Outcome) -> EventResult {
     EventResult {
         outcome,
         messages: Seq::new(alloc),

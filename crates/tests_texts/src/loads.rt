@@ -1,8 +1,8 @@
 //! Generated loads, and the sums of runs.
 
-use std::alloc::Global;
+use crate::listings::ended;
 use std::test::Fail;
-use wave_base::{EventResult, Host, Outcome, Path, Seq, Span, Trap, TrapKind, Value};
+use wave_base::{Host, Outcome, Path, Seq, Span, Trap, TrapKind, Value};
 use wave_gen::{generate, summarize};
 
 /// A polynomial of a text's bytes at 31, modulo 2^64.
@@ -29,14 +29,6 @@ fn loads(rt: HostRuntime) -> Result<(), Fail> {
         assert_eq!(rt; checksum(text.as_slice()), *sum);
     }
     Ok(())
-}
-
-fn ended(alloc: Global, outcome: Outcome) -> EventResult {
-    EventResult {
-        outcome,
-        messages: Seq::new(alloc),
-        created: Seq::new(alloc),
-    }
 }
 
 /// Two replies whose sum is more than 64 bits hold, one that is no number, and one of each other ending.

@@ -9,8 +9,8 @@ ghost use Rattle.board_runs.specs.inner.Ready.{HasRun, IsOut, IsReady};
 use plan_actors::PlanActors;
 use std::alloc::Global;
 use std::process::Abort;
-use tests_machine::plan_of_texts;
-use wave_base::{OutOfMemory, Pause, Start, WORKERS, Worker};
+use tests_machine::Case;
+use wave_base::{OutOfMemory, Pause, Start, Worker};
 use wave_board::{Board, Work};
 use wave_machine::{Lease, Plan, Refused, run_lease};
 use wave_theory::hands_stay_over;
@@ -25,10 +25,12 @@ pub(super) fn plan_for(
 ) -> Plan
     ensures { Fits (plan_of result) }
 {
-    if workers < 1 || workers > WORKERS {
-        panic!(rt; "no workers");
-    }
-    match plan_of_texts(alloc, service, script, workers) {
+    let case = Case {
+        service,
+        script,
+        workers,
+    };
+    match case.plan(alloc) {
         Some(plan) => plan,
         None => panic!(rt; "no plan"),
     }

@@ -8,35 +8,16 @@ use std::alloc::Global;
 use std::process::Abort;
 use std::sync::Wait;
 use std::thread::Threads;
-use tests_machine::plan_of_texts;
-use wave_base::{Finished, WORKERS};
+use tests_machine::Case;
+use wave_base::Finished;
 use wave_io::{Gate, Sink};
 use wave_machine::Plan;
 
-// A hall moves between two sales, and then two stalls of it are called.
-pub(super) const MOVES: &[u8] = b"hosts 2
-request buy(1,1,3)
-move /Hall[1] to 1
-request buy(1,2,4)
-request pair(1)
-";
-
-// A service, a script for it, and how many workers there are.
-#[derive(Clone, Copy)]
-pub(super) struct Case<'a> {
-    pub(super) service: &'a [u8],
-    pub(super) script: &'a [u8],
-    pub(super) workers: u8,
-}
-
-// Its plan.
+// The plan of a case, which is right.
 pub(super) fn plan_for(rt: &impl Abort, alloc: Global, case: &Case) -> Plan
     ensures { Fits (plan_of result) }
 {
-    if case.workers < 1 || case.workers > WORKERS {
-        panic!(rt; "no workers");
-    }
-    match plan_of_texts(alloc, case.service, case.script, case.workers) {
+    match case.plan(alloc) {
         Some(plan) => plan,
         None => panic!(rt; "no plan"),
     }

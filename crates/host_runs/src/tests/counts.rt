@@ -1,14 +1,14 @@
 //! Each segment comes to the gate once.
 
-use super::cases::{Case, MOVES, plan_for, ran};
-use super::wants::hall;
+use super::cases::{plan_for, ran};
 use std::alloc::Global;
 use std::process::Abort;
 use std::sync::Wait;
 use std::sync::atomic::{AtomicU64, Ordering};
 use std::test::Fail;
 use std::thread::Threads;
-use tests_services::MARKET;
+use tests_machine::Case;
+use tests_services::{MARKET, MOVES, hall};
 use wave_base::{OutOfMemory, Path, Seq, Ticket};
 use wave_io::{Gate, MemSink};
 
@@ -25,7 +25,7 @@ impl Gate for Counting {
         self.all.fetch_add(1, Ordering::SeqCst);
         if ticket.0 == 4 {
             self.last.fetch_add(1, Ordering::SeqCst);
-            if *path == hall() {
+            if *path == hall(1) {
                 self.in_hall.fetch_add(1, Ordering::SeqCst);
             }
         }

@@ -1,6 +1,6 @@
 //! As many workers as a plan has.
 
-use super::cases::{Case, plan_for, ran};
+use super::cases::{plan_for, ran};
 use std::alloc::Global;
 use std::hint::spin_loop;
 use std::process::Abort;
@@ -8,7 +8,9 @@ use std::sync::Wait;
 use std::sync::atomic::{AtomicU64, Ordering};
 use std::test::Fail;
 use std::thread::Threads;
-use wave_base::{Class, OutOfMemory, Path, Seq, Step, Ticket};
+use tests_machine::Case;
+use tests_services::hall;
+use wave_base::{OutOfMemory, Path, Seq, Ticket};
 use wave_io::{Gate, MemSink};
 
 // How often a gate looks at what it waits for. The threads that wait hold the processors meanwhile.
@@ -22,16 +24,9 @@ struct Crowd {
     missed: AtomicU64,
 }
 
-fn hall_of(ticket: Ticket) -> Path {
-    Path::root().child(Step {
-        class: Class(1),
-        key: i64::from(ticket.0),
-    })
-}
-
 impl Gate for Crowd {
     fn reach(&self, ticket: Ticket, path: &Path) {
-        if *path == hall_of(ticket) {
+        if *path == hall(i64::from(ticket.0)) {
             self.come.fetch_add(1, Ordering::SeqCst);
             for _ in 0..TURNS {
                 if self.come.load(Ordering::SeqCst) == self.many {

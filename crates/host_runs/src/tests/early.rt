@@ -4,13 +4,14 @@ ghost use Rattle.std.specs.Prelude.{◌≡◌, ◌<◌, ◌≤◌, length, None,
 ghost use Rattle.std.specs.Io.KnownBytes.{WriteAppends};
 ghost use Rattle.wave_io.specs.Causes.{HasCause};
 
-use super::cases::{Case, plan_for, ran};
+use super::cases::{plan_for, ran};
 use std::alloc::Global;
 use std::process::Abort;
 use std::sync::Wait;
 use std::sync::atomic::{AtomicU64, Ordering};
 use std::test::Fail;
 use std::thread::Threads;
+use tests_machine::Case;
 use tests_services::MARKET;
 use wave_base::{OutOfMemory, Path, Seq, Ticket};
 use wave_io::{Failed, Gate, MemSink, OpenGate, Sink};

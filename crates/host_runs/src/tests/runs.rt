@@ -1,6 +1,6 @@
 //! Runs with their listings, by one worker and by many.
 
-use super::cases::{Case, MOVES, plan_for, ran};
+use super::cases::{plan_for, ran};
 use super::wants::{has_a_front, has_written};
 use host_workers::RunError;
 use listing_out::write_end;
@@ -9,7 +9,8 @@ use std::process::Abort;
 use std::sync::Wait;
 use std::test::Fail;
 use std::thread::Threads;
-use tests_services::{CHAIN, MARKET, TICK};
+use tests_machine::Case;
+use tests_services::{CHAIN, MARKET, MOVES, TICK};
 use wave_base::{Finished, OutOfMemory, Seq};
 use wave_io::{MemSink, OpenGate};
 use wave_machine::Plan;

@@ -4,29 +4,18 @@ ghost use Rattle.std.specs.Prelude.{IfOk};
 ghost use Rattle.plan_actors.specs.Plans.{Fits, FitsStart};
 ghost use Rattle.wave_machine.specs.Plans.{plan_of};
 
-use crate::{plan_of_texts, start_on};
+use crate::{Case, start_on};
 use std::alloc::Global;
 use std::process::Abort;
-use wave_base::{Finished, Host, OutOfMemory, START_TICKET, Seq, Start, Ticket, WORKERS};
+use wave_base::{Finished, Host, OutOfMemory, START_TICKET, Seq, Start, Ticket};
 use wave_labels::Label;
 use wave_machine::{PickRule, Plan, drive, drive_at, drive_with};
 
-// A service, a script for it, and how many workers there are.
-#[derive(Clone, Copy)]
-pub(super) struct Case {
-    pub(super) service: &'static [u8],
-    pub(super) script: &'static [u8],
-    pub(super) workers: u8,
-}
-
-// Its plan.
+// The plan of a case, which is right.
 pub(super) fn plan_for(rt: &impl Abort, alloc: Global, case: &Case) -> Plan
     ensures { Fits (plan_of result) }
 {
-    if case.workers < 1 || case.workers > WORKERS {
-        panic!(rt; "no workers");
-    }
-    match plan_of_texts(alloc, case.service, case.script, case.workers) {
+    match case.plan(alloc) {
         Some(plan) => plan,
         None => panic!(rt; "no plan"),
     }

@@ -1,11 +1,12 @@
 //! Drives from the first Start and from another one.
 
-use super::cases::{Case, drawn, drawn_at};
-use super::wants::{acts_are, all_at_home, comes_to, mail, place, places_are, reply};
+use super::cases::{drawn, drawn_at};
+use super::wants::{comes_to, place, places_are, reply};
+use crate::Case;
 use std::test::Fail;
-use tests_services::TICK;
-use wave_base::{Host, Outcome, Path, Span, Ticket, Trap, TrapKind, Worker};
-use wave_labels::{Act, Label};
+use tests_services::{TICK, label, one_event};
+use wave_base::{Host, Outcome, Path, Span, Ticket, Trap, TrapKind};
+use wave_labels::Act;
 
 const ONE_HIT: Case = Case {
     service: TICK,
@@ -13,23 +14,10 @@ const ONE_HIT: Case = Case {
     workers: 4,
 };
 
-fn seven_acts(root: Path) -> [Act; 7] {
-    [
-        Act::Admit(Ticket(1)),
-        Act::Queue(mail(1), root),
-        Act::Grant(Ticket(1), root),
-        Act::Start(Ticket(1), root),
-        Act::Stop(Ticket(1), root),
-        Act::Commit(Ticket(1)),
-        Act::Free(mail(2), root),
-    ]
-}
-
 #[test]
 fn one_event_is_seven_labels(rt: HostRuntime) -> Result<(), Fail> {
     let (finished, labels) = drawn(&rt, rt.alloc(), &ONE_HIT, 0)?;
-    acts_are(&rt, &labels, &seven_acts(Path::root()));
-    all_at_home(&rt, &labels);
+    assert!(rt; labels.as_slice() == one_event().as_slice());
     comes_to(&rt, &finished, &[reply(1)]);
     Ok(())
 }
@@ -72,20 +60,13 @@ request hit()
 };
 
 // The segment of ticket 9 begins where the root is.
-fn second_start() -> Label {
-    Label {
-        worker: Worker(0),
-        host: Host(1),
-        act: Act::Start(Ticket(9), Path::root()),
-    }
-}
-
 // A run goes on where another ended: the root is on host 1, and seven tickets went before.
 #[test]
 fn a_start_has_the_root_elsewhere(rt: HostRuntime) -> Result<(), Fail> {
     let (finished, labels) = drawn_at(&rt, rt.alloc(), &TWO_HITS, Host(1), Ticket(8), 0)?;
     comes_to(&rt, &finished, &[reply(1), reply(2)]);
     places_are(&rt, &finished, &[place(Path::root(), 1)]);
-    assert!(rt; labels.as_slice().contains(&second_start()));
+    let second = label(0, 1, Act::Start(Ticket(9), Path::root()));
+    assert!(rt; labels.as_slice().contains(&second));
     Ok(())
 }

@@ -1,20 +1,13 @@
 //! Events that only look hold a context together.
 
-use super::cases::{Case, driven};
+use super::cases::driven;
 use super::wants::{comes_before, comes_to, reply};
+use crate::TWO_LOOKS;
 use std::test::Fail;
-use tests_services::{LOOK, hall};
+use tests_services::hall;
 use wave_base::Ticket;
 use wave_labels::Act;
 use wave_machine::PickRule;
-
-const LOOKS: Case = Case {
-    service: LOOK,
-    script: b"request see(1)
-request see(1)
-",
-    workers: 2,
-};
 
 fn start(ticket: u32) -> Act {
     Act::Start(Ticket(ticket), hall(1))
@@ -27,7 +20,7 @@ fn stop(ticket: u32) -> Act {
 // With mails last, both have their segment out at the hall before one is stopped.
 #[test]
 fn two_events_look_at_once(rt: HostRuntime) -> Result<(), Fail> {
-    let (finished, labels) = driven(&rt, rt.alloc(), &LOOKS, PickRule::MailLast)?;
+    let (finished, labels) = driven(&rt, rt.alloc(), &TWO_LOOKS, PickRule::MailLast)?;
     comes_to(&rt, &finished, &[reply(5), reply(5)]);
     comes_before(&rt, &labels, &start(1), &stop(2));
     comes_before(&rt, &labels, &start(2), &stop(1));

@@ -1,11 +1,12 @@
 //! Moves, snapshots and created events, by all rules.
 
-use super::cases::{Case, driven};
+use super::cases::driven;
 use super::wants::{comes_to, first_made, moved, place, places_are, reply};
+use crate::Case;
 use std::alloc::Global;
 use std::process::Abort;
 use std::test::Fail;
-use tests_services::{CHAIN, MARKET, hall, shot, stall};
+use tests_services::{CHAIN, MARKET, TO_AND_FRO, hall, shot, stall};
 use wave_base::{OutOfMemory, Outcome, Path, Place, Seq, Ticket};
 use wave_machine::PickRule;
 
@@ -117,17 +118,9 @@ fn snapshots_stand_between_sales(rt: HostRuntime) -> Result<(), Fail> {
     Ok(())
 }
 
-const TO_AND_FRO: Case = Case {
+const WALK: Case = Case {
     service: MARKET,
-    script: b"hosts 2
-request buy(1,1,1)
-move /Hall[1] to 1
-request buy(1,1,1)
-move /Hall[1] to 0
-request buy(1,1,1)
-move /Hall[1] to 1
-request buy(1,1,1)
-",
+    script: TO_AND_FRO,
     workers: 4,
 };
 
@@ -144,7 +137,7 @@ fn there_and_back() -> [Outcome; 7] {
 }
 
 fn goes_to_and_fro(rt: &impl Abort, alloc: Global, rule: PickRule) -> Result<(), Fail> {
-    let (finished, _) = driven(rt, alloc, &TO_AND_FRO, rule)?;
+    let (finished, _) = driven(rt, alloc, &WALK, rule)?;
     comes_to(rt, &finished, &there_and_back());
     Ok(())
 }

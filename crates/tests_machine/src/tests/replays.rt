@@ -1,49 +1,20 @@
 //! Journals replayed, and what is reported of them.
 
-use super::cases::{Case, plan_for};
+use super::cases::plan_for;
+use crate::Case;
 use journal_replay::{ReplayError, refused_text, replay, replayed_text};
 use std::alloc::Global;
 use std::process::Abort;
 use std::test::Fail;
-use tests_services::TICK;
-use wave_base::{Host, OutOfMemory, Path, Seq, Ticket, Worker};
-use wave_labels::{Act, Label, MailId};
+use tests_services::{TICK, label, mail, one_event};
+use wave_base::{Host, OutOfMemory, Path, Seq};
+use wave_labels::{Act, Label};
 
 const ONE_HIT: Case = Case {
     service: TICK,
     script: b"hosts 2\nrequest hit()\n",
     workers: 2,
 };
-
-// By worker 0, on host 0.
-fn first(act: Act) -> Label {
-    Label {
-        worker: Worker(0),
-        host: Host(0),
-        act,
-    }
-}
-
-fn mail(number: u32) -> MailId {
-    MailId {
-        ticket: Ticket(1),
-        number,
-    }
-}
-
-// The whole run of one event.
-fn whole() -> [Label; 7] {
-    let ticket = Ticket(1);
-    [
-        first(Act::Admit(ticket)),
-        first(Act::Queue(mail(1), Path::root())),
-        first(Act::Grant(ticket, Path::root())),
-        first(Act::Start(ticket, Path::root())),
-        first(Act::Stop(ticket, Path::root())),
-        first(Act::Commit(ticket)),
-        first(Act::Free(mail(2), Path::root())),
-    ]
-}
 
 // This is reported of the replay of a journal.
 fn reports(
@@ -80,14 +51,14 @@ fn a_run_is_shown_after_any_of_its_labels(rt: HostRuntime) -> Result<(), Fail> {
     reports(
         &rt,
         alloc,
-        &whole(),
+        &one_event(),
         4,
         b"run 7 finished\nstep 4 admitted 1 committed 0\nowner / 0\n",
     )?;
     reports(
         &rt,
         alloc,
-        &whole(),
+        &one_event(),
         u32::MAX,
         b"run 7 finished\nstep 7 admitted 1 committed 1\nowner / 0\n",
     )?;
@@ -103,7 +74,7 @@ fn a_run_is_shown_after_any_of_its_labels(rt: HostRuntime) -> Result<(), Fail> {
 
 #[test]
 fn a_start_that_comes_too_early_is_refused(rt: HostRuntime) -> Result<(), Fail> {
-    let [admit, queue, _, start, _, _, _] = whole();
+    let [admit, queue, _, start, _, _, _] = one_event();
     reports(
         &rt,
         rt.alloc(),
@@ -116,7 +87,7 @@ fn a_start_that_comes_too_early_is_refused(rt: HostRuntime) -> Result<(), Fail> 
 
 #[test]
 fn a_stop_of_another_host_is_refused(rt: HostRuntime) -> Result<(), Fail> {
-    let [admit, queue, grant, start, stop, _, _] = whole();
+    let [admit, queue, grant, start, stop, _, _] = one_event();
     let elsewhere = Label {
         worker: stop.worker,
         host: Host(1),
@@ -134,25 +105,17 @@ fn a_stop_of_another_host_is_refused(rt: HostRuntime) -> Result<(), Fail> {
 
 // An Enter is passed on, with each number at its bound.
 fn far() -> Act {
-    let mail = MailId {
-        ticket: Ticket(u32::MAX),
-        number: u32::MAX,
-    };
-    Act::Pass(mail, Path::root(), Host(u8::MAX))
+    Act::Pass(mail(u32::MAX, u32::MAX), Path::root(), Host(u8::MAX))
 }
 
 #[test]
 fn numbers_at_their_bounds_are_refused(rt: HostRuntime) -> Result<(), Fail> {
     let alloc = rt.alloc();
-    let label = Label {
-        worker: Worker(u8::MAX),
-        host: Host(u8::MAX),
-        act: far(),
-    };
+    let last = label(u8::MAX, u8::MAX, far());
     let wanted = b"refused 1\nenabled 1\nw0 h0 Admit #1\n";
-    reports(&rt, alloc, &[label], 0, wanted)?;
-    reports(&rt, alloc, &[first(far())], 0, wanted)?;
-    let [_, _, _, _, stop, _, _] = whole();
+    reports(&rt, alloc, &[last], 0, wanted)?;
+    reports(&rt, alloc, &[label(0, 0, far())], 0, wanted)?;
+    let [_, _, _, _, stop, _, _] = one_event();
     reports(&rt, alloc, &[stop], 0, wanted)?;
     Ok(())
 }

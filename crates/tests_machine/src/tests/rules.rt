@@ -1,11 +1,11 @@
 //! Which of two labels each rule takes.
 
-use super::cases::{Case, driven};
-use super::wants::mail;
+use super::cases::driven;
+use crate::Case;
 use std::alloc::Global;
 use std::process::Abort;
 use std::test::Fail;
-use tests_services::MARKET;
+use tests_services::{MARKET, mail};
 use wave_base::{Path, Ticket};
 use wave_labels::Act;
 use wave_machine::PickRule;
@@ -34,7 +34,7 @@ fn goes_on_by(rt: &impl Abort, alloc: Global, rule: PickRule, act: &Act) -> Resu
 fn each_rule_picks_its_own(rt: HostRuntime) -> Result<(), Fail> {
     let alloc = rt.alloc();
     let admit = Act::Admit(Ticket(2));
-    let queue = Act::Queue(mail(1), Path::root());
+    let queue = Act::Queue(mail(1, 1), Path::root());
     goes_on_by(&rt, alloc, PickRule::Seed(0), &queue)?;
     goes_on_by(&rt, alloc, PickRule::Oldest, &queue)?;
     goes_on_by(&rt, alloc, PickRule::Newest, &admit)?;

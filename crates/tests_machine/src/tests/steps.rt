@@ -7,8 +7,9 @@ ghost use Rattle.wave_machine.specs.Machines.{IsEnabled};
 ghost use Rattle.wave_machine.specs.Plans.{plan_of};
 ghost use Rattle.wave_machine.specs.Prepared.{is_start, is_step};
 
-use super::cases::{Case, plan_for, start_for};
+use super::cases::{plan_for, start_for};
 use super::wants::{comes_to, moved, reply};
+use crate::Case;
 use plan_actors::PlanActors;
 use std::alloc::Global;
 use std::process::Abort;

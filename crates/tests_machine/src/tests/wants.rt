@@ -2,17 +2,11 @@
 
 use std::process::Abort;
 use wave_base::{Finished, Host, Outcome, Path, Place, Seq, Ticket, Value};
-use wave_labels::{Act, Label, MailId};
+use wave_labels::{Act, Label};
 
 pub(super) fn place(path: Path, host: u8) -> Place {
     let host = Host(host);
     Place { path, host }
-}
-
-// A mail of the first ticket.
-pub(super) fn mail(number: u32) -> MailId {
-    let ticket = Ticket(1);
-    MailId { ticket, number }
 }
 
 pub(super) fn reply(number: i64) -> Outcome {
@@ -41,22 +35,6 @@ pub(super) fn first_made(rt: &impl Abort, finished: &Finished, tickets: &[Ticket
     match finished.made.as_slice().first() {
         Some(made) => assert!(rt; made.as_slice() == tickets),
         None => panic!(rt; "no ticket"),
-    }
-}
-
-// Its labels do this, one after the other.
-pub(super) fn acts_are(rt: &impl Abort, labels: &Seq<Label>, acts: &[Act]) {
-    assert_eq!(rt; labels.len(), acts.len());
-    for (label, act) in labels.as_slice().iter().zip(acts) {
-        assert!(rt; label.act == *act);
-    }
-}
-
-// They are worker 0's, on host 0.
-pub(super) fn all_at_home(rt: &impl Abort, labels: &Seq<Label>) {
-    for label in labels.as_slice() {
-        assert_eq!(rt; label.worker.0, 0);
-        assert_eq!(rt; label.host.0, 0);
     }
 }
 
