@@ -27,7 +27,7 @@ use Rattle.host_workers.specs.Passes.{GoesOn, IsReady, NoHalts, OnlyHalts}
 use Rattle.host_workers.specs.inner.Rounds.{HasOut, HasPaused, IsCalm}
 use Rattle.host_workers.specs.inner.Visits.{HasStopped}
 use Rattle.host_workers.proofs.Entries.{even_stop, no_halt_more, only_more, only_none, word_halts}
-use Rattle.host_workers.proofs.Visiting.{Finds, adds_none, adds_one, left, left_same, made_same}
+use Rattle.host_workers.proofs.Visiting.{Finds, adds_none, adds_one, left, left_same}
 
 module _ (o : Origin) (k : Known Trail) (w : Worker) (y : Board) (meets : Finds o k y) where
   module _ (stay : LeasesStay) (lease : Lease) (why : Pause) (paused : HasPaused o k w lease why) where

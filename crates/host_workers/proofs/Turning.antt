@@ -1,5 +1,5 @@
 -- What a pass knows after a visit in which its worker gave something back, and then found something.
-use Rattle.std.proofs.Common.{◌≡◌, ◌∙◌, inl, inr, ℕ, List, [], ◌∷◌, ◌++◌, ◌<◌, Option, Some, None, Ok, Err, Result, refl, sym, ap, subst, append-nil, ⊎_elim}
+use Rattle.std.proofs.Common.{◌≡◌, ◌∙◌, inl, inr, ℕ, List, [], ◌∷◌, ◌++◌, ◌<◌, Option, Some, None, Result, refl, sym, ap, subst, append-nil}
 use Rattle.std.specs.Prelude.{All}
 use Rattle.std.proofs.lemmas.List.Elements.{All-nil}
 use Rattle.wave_base.specs.declared.memory.OutOfMemory.{OutOfMemory}

@@ -1,6 +1,9 @@
 // Whom a worker wakes.
-ghost use Rattle.std.specs.Prelude.{◌≡◌, ◌≢◌, ◌↔◌, ℕ, false, IfSome, IsTrue};
-ghost use Rattle.host_workers.specs.inner.Calls.{has_ended, is_busy, seat_after};
+ghost use Rattle.std.specs.Prelude.{◌≡◌, ◌≢◌, ◌↔◌, ℕ, false, IfSome, IsSome, IsTrue};
+ghost use Rattle.wave_board.specs.declared.seat.Seat.TheVariants.{Awake, Napping};
+ghost use Rattle.wave_board.specs.Boards.{InEachState};
+ghost use Rattle.wave_board.specs.Crews.{IsHeavy, IsNobody};
+ghost use Rattle.host_workers.specs.inner.Calls.{HasReady, IsOver, Leaves, Naps, is_busy};
 ghost use Rattle.host_workers.specs.inner.Visits.{IsNoted};
 
 use crate::offer::Offer;
@@ -14,8 +17,17 @@ const DUE: usize = 64;
 
 /// Whether a worker leaves what is ready to others: segments are light, and another worker is awake. That one makes another visit, so nothing is
 /// left lying.
-pub(crate) fn may_rest(board: &Board, crew: &Crew, number: Worker) -> bool {
-    !crew.is_heavy() && crew.other(number, Seat::Awake).is_some() && board.has_ready()
+pub(crate) fn may_rest(board: &Board, crew: &Crew, number: Worker) -> bool
+    ensures rests { IsTrue result → Leaves board.now crew.now number }
+    ensures may { (IsHeavy crew.now → ⊥) → (IsNobody crew.now number Awake → ⊥) → InEachState board.now (λ s. HasReady board.now s → IsTrue result) }
+{
+    if crew.is_heavy() {
+        return false;
+    }
+    match crew.other(number, Seat::Awake) {
+        Some(_) => board.has_ready(),
+        None => false,
+    }
 }
 
 /// The crew, once a segment was given back that took so many ticks, where one was.
@@ -34,14 +46,17 @@ pub(crate) fn is_for_another(
     number: Worker,
     told: &Result<Offer, OutOfMemory>,
 ) -> bool
-    ensures { is_busy told.now ≡ false → result ≡ false }
+    ensures idle { is_busy told.now ≡ false → result ≡ false }
+    ensures heavy { IsTrue (is_busy told.now) → IsHeavy crew.now → InEachState board.now (λ s. HasReady board.now s → IsTrue result) }
+    ensures ready { IsTrue result → InEachState board.now (HasReady board.now) }
 {
     is_worth_a_call(crew, number, told) && board.has_ready()
 }
 
 // Whether a worker that leaves with something to do would call another.
 fn is_worth_a_call(crew: &Crew, number: Worker, told: &Result<Offer, OutOfMemory>) -> bool
-    ensures { is_busy told.now ≡ false → result ≡ false }
+    ensures idle { is_busy told.now ≡ false → result ≡ false }
+    ensures heavy { IsTrue (is_busy told.now) → IsHeavy crew.now → IsTrue result }
 {
     match told {
         Ok(Offer::Task(Task::Segment(_))) => crew.is_heavy(),
@@ -61,7 +76,7 @@ pub(crate) fn leave(
     more: bool,
 ) -> Wakes
     ensures noted { IsNoted board.old board.new }
-    ensures over { IsTrue (has_ended told.now) ↔ (result ≡ Wakes.All) }
+    ensures over { IsOver told.now ↔ (result ≡ Wakes.All) }
     ensures other { (w : ℕ) → result ≡ Wakes.One w → w ≢ number.0 }
     ensures idle { more ≡ false → (w : ℕ) → result ≡ Wakes.One w → w ≡ 0 }
 {
@@ -93,13 +108,14 @@ fn lines_in(told: &Result<Offer, OutOfMemory>) -> u32 {
 }
 
 fn has_ended(told: &Result<Offer, OutOfMemory>) -> bool
-    ensures { result ≡ has_ended told.now }
+    ensures { IsTrue result ↔ IsOver told.now }
 {
     matches!(told, Ok(Offer::Task(Task::Finished | Task::Stopped(_))))
 }
 
 fn seat_after(told: &Result<Offer, OutOfMemory>) -> Seat
-    ensures { result ≡ seat_after told.now }
+    ensures away { result ≡ Seat.Away ↔ IsOver told.now }
+    ensures naps { result ≡ Seat.Napping ↔ Naps told.now }
 {
     match told {
         Ok(Offer::Task(Task::Rest)) => Seat::Napping,
@@ -111,6 +127,7 @@ fn seat_after(told: &Result<Offer, OutOfMemory>) -> Seat
 // The worker that writes, where lines are due to it and it naps; else one that naps, where there is more to do. Nobody calls itself: a worker that writes, and is
 // about to nap, naps until another leaves.
 fn whom(board: &Board, crew: &Crew, number: Worker, more: bool) -> Option<Worker>
+    ensures called { IsTrue more → (IsNobody crew.now number Napping → ⊥) → IsSome result }
     ensures other { IfSome result (λ w. w ≢ number) }
     ensures idle { more ≡ false → IfSome result (λ w. w.0 ≡ 0) }
 {

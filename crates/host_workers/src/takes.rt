@@ -1,6 +1,8 @@
 // What a worker takes from the board.
+ghost use Rattle.std.specs.Prelude.{◌≡◌, Ok};
 ghost use Rattle.wave_board.specs.Boards.{IsStanding, StandsStill};
 ghost use Rattle.wave_board.specs.Taking.{MayTake};
+ghost use Rattle.host_workers.specs.inner.Calls.{IsIdle};
 ghost use Rattle.host_workers.specs.inner.Visits.{HasTaken, HasWalked};
 
 use crate::task::Task;
@@ -13,6 +15,7 @@ pub(crate) fn take(board: &mut Board, number: Worker) -> Result<Task, OutOfMemor
     requires may { MayTake board.old number }
     ensures stands { StandsStill board.old board.new }
     ensures taken { HasTaken board.old number board.new result }
+    ensures idle { result ≡ Ok Task.Rest → IsIdle board.new number }
 {
     match board.take(number) {
         Ok(Work::Stepped(_)) => Ok(walk(board, number)),
@@ -30,6 +33,7 @@ fn walk(board: &mut Board, number: Worker) -> Task
     requires may { MayTake board.old number }
     ensures stands { StandsStill board.old board.new }
     ensures walked { HasWalked board.old number board.new result }
+    ensures idle { result ≡ Task.Rest → IsIdle board.new number }
 {
     for _ in 0..u64::MAX {
         match board.take(number) {

@@ -3,7 +3,7 @@ ghost use Rattle.std.specs.Prelude.{◌≡◌, ◌≢◌, ℕ, IfSome, IsSome, L
 ghost use Rattle.std.specs.Thread.{IsSync};
 ghost use Rattle.kept_lock.specs.Locks.{name_of, known, IsPassOf};
 ghost use Rattle.host_workers.specs.Passes.{IsReady};
-ghost use Rattle.host_workers.specs.inner.Teams.{HasEnded, IsSeated};
+ghost use Rattle.host_workers.specs.inner.Teams.{HasEnded, IsAtPost, IsSeated};
 ghost use Rattle.host_workers.specs.inner.Writing.{AreWritten, Stands};
 
 use crate::begun::Begun;
@@ -66,10 +66,8 @@ pub(crate) fn run_team<'l, 'p, R: Threads + Wait + Sync, G: Gate + Sync, K: Sink
     out: &mut K,
 ) -> Ending
     requires of_lock { IsPassOf post.now.lock.now first.old }
-    requires plan { (name_of post.now.lock.now).plan.now ≡ post.now.plan.now }
-    requires from { (name_of post.now.lock.now).start.now.next ≡ from }
+    requires post { IsAtPost (name_of post.now.lock.now) post.now.plan.now post.now.number from }
     requires ready { IsReady (name_of post.now.lock.now) (known first.old) post.now.number }
-    requires writer { post.now.number.0 ≡ 0 }
     ensures of_lock { IsPassOf post.now.lock.now first.new }
     ensures ended { HasEnded (name_of post.now.lock.now) post.now.plan.now (known first.new) (K.written out.old) (K.written out.new) (K.faults out.old) (K.faults out.new) result }
 {
@@ -92,10 +90,8 @@ fn write_beside<'l, 'p, R: Threads + Wait + Sync, G: Gate + Sync, K: Sink + Send
     out: &mut K,
 ) -> Ending
     requires of_lock { IsPassOf post.now.lock.now first.old }
-    requires plan { (name_of post.now.lock.now).plan.now ≡ post.now.plan.now }
-    requires from { (name_of post.now.lock.now).start.now.next ≡ from }
+    requires post { IsAtPost (name_of post.now.lock.now) post.now.plan.now post.now.number from }
     requires stands { Stands (name_of post.now.lock.now) (known first.old) post.now.number begun }
-    requires writer { post.now.number.0 ≡ 0 }
     ensures of_lock { IsPassOf post.now.lock.now first.new }
     ensures ended { (before : Option (List ℕ)) → AreWritten (name_of post.now.lock.now) begun.written before (K.written out.old)
         → HasEnded (name_of post.now.lock.now) post.now.plan.now (known first.new) before (K.written out.new) (K.faults out.old) (K.faults out.new) result }
@@ -121,11 +117,9 @@ fn write_begun<'l, 'p, R: Wait, G: Gate, K: Sink>(
     out: &mut K,
 ) -> Ending
     requires of_lock { IsPassOf post.now.lock.now first.old }
-    requires plan { (name_of post.now.lock.now).plan.now ≡ post.now.plan.now }
-    requires from { (name_of post.now.lock.now).start.now.next ≡ from }
+    requires post { IsAtPost (name_of post.now.lock.now) post.now.plan.now post.now.number from }
     requires some { IsSome begun.old }
     requires stands { IfSome begun.old (Stands (name_of post.now.lock.now) (known first.old) post.now.number) }
-    requires writer { post.now.number.0 ≡ 0 }
     ensures of_lock { IsPassOf post.now.lock.now first.new }
     ensures ended { IfSome begun.old (λ b. (before : Option (List ℕ)) → AreWritten (name_of post.now.lock.now) b.written before (K.written out.old)
         → HasEnded (name_of post.now.lock.now) post.now.plan.now (known first.new) before (K.written out.new) (K.faults out.old) (K.faults out.new) result) }

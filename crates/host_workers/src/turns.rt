@@ -1,7 +1,8 @@
 // What a worker does at the board in one visit.
-ghost use Rattle.std.specs.Prelude.{◌≡◌, IfOk, OnErr, OnOk};
+ghost use Rattle.std.specs.Prelude.{◌≡◌, ◌⊎◌, IfOk, OnErr, OnOk};
 ghost use Rattle.wave_board.specs.Boards.{IsStanding, StandsStill, history_of};
 ghost use Rattle.wave_board.specs.Taking.{MayTake};
+ghost use Rattle.host_workers.specs.inner.Calls.{IsIdle, Leaves, Naps};
 ghost use Rattle.host_workers.specs.inner.Visits.{CanBring, CanTellTo, HasFound, HasTurned, IsBrought, MayTurn, TellsTo};
 
 use crate::calls::{is_for_another, leave, may_rest, noted};
@@ -78,6 +79,7 @@ fn find(
     requires can { CanTellTo board.old written }
     ensures stands { StandsStill board.old board.new }
     ensures found { HasFound board.old number board.new written result }
+    ensures naps { Naps result → Leaves board.old crew.now number ⊎ IsIdle board.new number }
 {
     match fresh(board, written) {
         Ok(Some(lines)) => Ok(Offer::Lines(lines)),

@@ -8,7 +8,7 @@ ghost use Rattle.kept_lock.specs.Locks.{name_of, known, IsPassOf};
 ghost use Rattle.host_workers.specs.Endings.{Ended};
 ghost use Rattle.host_workers.specs.Lines.{event_lines};
 ghost use Rattle.host_workers.specs.Passes.{IsReady};
-ghost use Rattle.host_workers.specs.inner.Teams.{HasEnded};
+ghost use Rattle.host_workers.specs.inner.Teams.{HasEnded, IsAtPost};
 ghost use Rattle.host_workers.specs.inner.Writing.{AreCommitted, AreNext, AreWritten, HasBegun, HasWritten, Offered, Stands};
 
 use crate::begun::Begun;
@@ -70,10 +70,8 @@ pub(crate) fn write_at<'l, 'p, R: Wait, G: Gate, K: Sink>(
     out: &mut K,
 ) -> Ending
     requires of_lock { IsPassOf post.now.lock.now pass.old }
-    requires plan { (name_of post.now.lock.now).plan.now ≡ post.now.plan.now }
-    requires from { (name_of post.now.lock.now).start.now.next ≡ from }
+    requires post { IsAtPost (name_of post.now.lock.now) post.now.plan.now post.now.number from }
     requires ready { IsReady (name_of post.now.lock.now) (known pass.old) post.now.number }
-    requires writer { post.now.number.0 ≡ 0 }
     ensures of_lock { IsPassOf post.now.lock.now pass.new }
     ensures ended { HasEnded (name_of post.now.lock.now) post.now.plan.now (known pass.new) (K.written out.old) (K.written out.new) (K.faults out.old) (K.faults out.new) result }
 {
@@ -91,10 +89,8 @@ pub(crate) fn write_alone<'l, 'p, R: Wait, G: Gate, K: Sink>(
     out: &mut K,
 ) -> Result<Begun, Ending>
     requires of_lock { IsPassOf post.now.lock.now pass.old }
-    requires plan { (name_of post.now.lock.now).plan.now ≡ post.now.plan.now }
-    requires from { (name_of post.now.lock.now).start.now.next ≡ from }
+    requires post { IsAtPost (name_of post.now.lock.now) post.now.plan.now post.now.number from }
     requires ready { IsReady (name_of post.now.lock.now) (known pass.old) post.now.number }
-    requires writer { post.now.number.0 ≡ 0 }
     ensures of_lock { IsPassOf post.now.lock.now pass.new }
     ensures begun { IfOk result (λ b. HasBegun (name_of post.now.lock.now) (known pass.new) post.now.number b (K.written out.old) (K.written out.new)) }
     ensures ended { IfErr result (HasEnded (name_of post.now.lock.now) post.now.plan.now (known pass.new) (K.written out.old) (K.written out.new) (K.faults out.old) (K.faults out.new)) }
@@ -127,10 +123,8 @@ pub(crate) fn write_on<'l, 'p, R: Wait, G: Gate, K: Sink>(
     out: &mut K,
 ) -> Ending
     requires of_lock { IsPassOf post.now.lock.now pass.old }
-    requires plan { (name_of post.now.lock.now).plan.now ≡ post.now.plan.now }
-    requires from { (name_of post.now.lock.now).start.now.next ≡ from }
+    requires post { IsAtPost (name_of post.now.lock.now) post.now.plan.now post.now.number from }
     requires stands { Stands (name_of post.now.lock.now) (known pass.old) post.now.number begun }
-    requires writer { post.now.number.0 ≡ 0 }
     ensures of_lock { IsPassOf post.now.lock.now pass.new }
     ensures ended { (first : Option (List ℕ)) → AreWritten (name_of post.now.lock.now) begun.written first (K.written out.old)
         → HasEnded (name_of post.now.lock.now) post.now.plan.now (known pass.new) first (K.written out.new) (K.faults out.old) (K.faults out.new) result }
@@ -164,11 +158,9 @@ fn follow<'l, 'p, R: Wait, G: Gate, K: Sink>(
     out: &mut K,
 ) -> Result<(Option<Packet>, u32), Ending>
     requires of_lock { IsPassOf post.now.lock.now pass.old }
-    requires plan { (name_of post.now.lock.now).plan.now ≡ post.now.plan.now }
-    requires from { (name_of post.now.lock.now).start.now.next ≡ from }
+    requires post { IsAtPost (name_of post.now.lock.now) post.now.plan.now post.now.number from }
     requires offered { Offered (name_of post.now.lock.now) (known pass.old) post.now.number (Some written) offer }
     requires committed { AreCommitted (name_of post.now.lock.now) (known pass.old) written }
-    requires writer { post.now.number.0 ≡ 0 }
     ensures of_lock { IsPassOf post.now.lock.now pass.new }
     ensures written { HasWritten (name_of post.now.lock.now) (known pass.new) post.now.number written (K.written out.old) (K.written out.new) (K.faults out.old) (K.faults out.new) result }
     ensures later { K.faults out.old ≤ K.faults out.new }
@@ -193,11 +185,9 @@ fn write_part<'l, 'p, R: Wait, G, K: Sink>(
     out: &mut K,
 ) -> Result<(Option<Packet>, u32), Ending>
     requires of_lock { IsPassOf post.now.lock.now pass.old }
-    requires plan { (name_of post.now.lock.now).plan.now ≡ post.now.plan.now }
-    requires from { (name_of post.now.lock.now).start.now.next ≡ from }
+    requires post { IsAtPost (name_of post.now.lock.now) post.now.plan.now post.now.number from }
     requires ready { IsReady (name_of post.now.lock.now) (known pass.old) post.now.number }
     requires next { AreNext (name_of post.now.lock.now) (known pass.old) written lines.now }
-    requires writer { post.now.number.0 ≡ 0 }
     ensures of_lock { IsPassOf post.now.lock.now pass.new }
     ensures written { HasWritten (name_of post.now.lock.now) (known pass.new) post.now.number written (K.written out.old) (K.written out.new) (K.faults out.old) (K.faults out.new) result }
     ensures later { K.faults out.old ≤ K.faults out.new }

@@ -1,5 +1,5 @@
 -- What a worker's list has.
-use Rattle.std.proofs.Common.{◌≡◌, ◌∙◌, ◌<◌, inl, inr, true, false, List, [], is_some, Option, Result, Ok, Err, Some, None, refl, sym, ap, subst, arith}
+use Rattle.std.proofs.Common.{◌≡◌, ◌∙◌, ◌<◌, inl, inr, true, false, List, is_some, Option, Result, Ok, Err, Some, None, refl, sym, ap, subst, arith}
 use Rattle.std.specs.Prelude.{IfOk, slice_get}
 use Rattle.wave_base.specs.declared.numbers.Worker.{Worker}
 use Rattle.wave_base.specs.declared.start.Start.{Start}
@@ -25,11 +25,11 @@ use Rattle.wave_machine.specs.Prepared.{is_start, is_step}
 use Rattle.wave_machine.proofs.Queueing.{some_is}
 use Rattle.wave_board.specs.declared.board.Board.{Board}
 use Rattle.wave_board.specs.declared.origin.Origin.{Origin}
-use Rattle.wave_board.specs.Boards.{InEachState, IsAt, IsStanding, labels_of}
+use Rattle.wave_board.specs.Boards.{IsAt, IsStanding, labels_of}
 use Rattle.wave_board.specs.declared.work.Work.{Work}
 use Rattle.wave_board.specs.declared.work.Work.TheVariants.{Stepped, Segment, Nothing, Finished, Stopped}
-use Rattle.wave_board.specs.Taking.{HasNothing, IsAppended, Took}
-use Rattle.wave_board.specs.inner.Doing.{Appends, Chooses, IsChoice}
+use Rattle.wave_board.specs.Taking.{IsAppended, Took}
+use Rattle.wave_board.specs.inner.Doing.{Appends, Chooses}
 use Rattle.wave_board.proofs.Idle.{no_stop}
 use Rattle.wave_board.proofs.Standing.{stands_of}
 

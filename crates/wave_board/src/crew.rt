@@ -1,6 +1,6 @@
 //! What the workers of a board leave for each other.
 
-ghost use Rattle.std.specs.Prelude.{◌≡◌, ◌≢◌, ◌↔◌, ◌≤◌, ◌<◌, ◌+◌, ◌-◌, ◌*◌, ◌/◌, ◌%◌, ◌^◌, ℕ, IfNone, IfSome, IsTrue, Some, min, replicate, slice_get, slice_set};
+ghost use Rattle.std.specs.Prelude.{◌≡◌, ◌↔◌, ◌≤◌, ◌+◌, ◌-◌, ◌*◌, ◌/◌, ◌%◌, ◌^◌, IfNone, IfSome, IsTrue, Some, replicate, slice_get, slice_set};
 ghost use Rattle.wave_board.specs.declared.seat.Seat.TheVariants.{Away};
 
 use crate::seat::Seat;
@@ -24,6 +24,8 @@ pub struct Crew {
 }
 
 impl Crew {
+    ghost use Rattle.wave_board.specs.Crews.{IsAnother, IsHeavy, IsNobody};
+
     /// Nobody has come yet. Segments count as heavy until some twenty light ones were run.
     pub fn nobody() -> Crew
         ensures seats { result.seats ≡ replicate SEATS Away }
@@ -53,8 +55,8 @@ impl Crew {
 
     /// Another worker that is there, if one is.
     pub fn other(&self, worker: Worker, seat: Seat) -> Option<Worker>
-        ensures some { IfSome result (λ w. (slice_get self.now.seats w.0 ≡ Some seat) × (w ≢ worker)) }
-        ensures none { IfNone result ((j : ℕ) → j < SEATS → j ≢ worker.0 → slice_get self.now.seats j ≢ Some seat) }
+        ensures some { IfSome result (IsAnother self.now worker seat) }
+        ensures none { IfNone result (IsNobody self.now worker seat) }
     {
         for number in 0..SEATS as u8 {
             if number != worker.0 && self.seats[number as usize] == seat {
@@ -89,7 +91,7 @@ impl Crew {
 
     /// Whether segments are heavy, on the average.
     pub fn is_heavy(&self) -> bool
-        ensures { IsTrue result ↔ (8 * HEAVY ≤ self.now.pace) }
+        ensures { IsTrue result ↔ IsHeavy self.now }
     {
         self.pace >= 8 * HEAVY
     }

@@ -1,6 +1,7 @@
 -- Workers that have passes of their own.
 use Rattle.std.specs.Prelude.{◌≡◌, ◌≤◌, ℕ, List, Option}
 use Rattle.std.specs.Io.KnownBytes.{Appends}
+use Rattle.wave_base.specs.declared.numbers.Ticket.{Ticket}
 use Rattle.wave_base.specs.declared.numbers.Worker.{Worker}
 use Rattle.wave_io.specs.Causes.{Rose}
 use Rattle.wave_io.specs.Streams.{AppendsFront}
@@ -23,6 +24,12 @@ pub record IsSeated (lock : KeptLock Board Origin Trail) (pass : Pass Board Orig
   pub of_lock : IsPassOf lock pass
   pub plan_is : (name_of lock).plan.now ≡ plan
   pub ready : IsReady (name_of lock) (known pass) worker
+
+-- the worker is the one that writes, from the first ticket of the origin's Start, and the plan is the origin's
+pub record IsAtPost (origin : Origin) (plan : Plan) (worker : Worker) (from : Ticket) : Type 0 where
+  pub plan_is : origin.plan.now ≡ plan
+  pub from_is : origin.start.now.next ≡ from
+  pub writes : worker.0 ≡ 0
 
 -- how worker 0 ended, and what was written of the lines of the plan's events
 pub record HasEnded (origin : Origin) (plan : Plan) (pass : Known Trail) (old new : Option (List ℕ)) (faults faults' : ℕ) (e : Ending) : Type 0 where

@@ -55,3 +55,8 @@ returns-in-Err-clause-stands c = c.in-Err.ensures.stands
 
 pub returns-in-Err-clause-taken : goal.returns-in-Err-clause-taken
 returns-in-Err-clause-taken c = c.in-Err.ensures.same
+
+pub returns-in-Ok-Nothing-clause-idle : goal.returns-in-Ok-Nothing-clause-idle
+returns-in-Ok-Nothing-clause-idle c =
+    let took = rw c.in-Ok-Nothing.field-0-is at c.in-Ok-Nothing.ensures.took in
+    λ rests. record { found = c.args.board.now; standing = c.requires.stands; history = took.3; nothing = took.2 }

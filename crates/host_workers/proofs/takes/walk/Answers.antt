@@ -65,3 +65,8 @@ returns-clause-stands c = c.loop.invariant.walked.stands
 
 pub returns-clause-walked : goal.returns-clause-walked
 returns-clause-walked c = c.loop.invariant.walked
+
+pub returns-in-Ok-Nothing-clause-idle : goal.returns-in-Ok-Nothing-clause-idle
+returns-in-Ok-Nothing-clause-idle c =
+    let took = rw c.in-Ok-Nothing.field-0-is at c.in-Ok-Nothing.ensures.took in
+    λ rests. record { found = c.loop.board; standing = c.loop.invariant.standing; history = took.3; nothing = took.2 }

@@ -40,10 +40,10 @@ returns-in-Err-clause-ended g c =
     let origin = name_of c.args.post.now.lock.now in
     let pass = known c.follow.new.pass in
     record {
-      number = h.0 ∙ c.requires.writer;
+      number = h.0 ∙ c.requires.post.writes;
       ended = h.1;
-      whole = λ over. run_whole origin pass c.args.post.now.number c.loop.written c.args.post.now.plan.now c.requires.plan _ _ _ c.loop.invariant.lines _ _ c.in-Err.ending h over;
-      front = run_front origin pass c.args.post.now.number c.loop.written c.args.post.now.plan.now c.requires.plan _ _ _ c.loop.invariant.lines _ _ c.in-Err.ending h;
+      whole = λ over. run_whole origin pass c.args.post.now.number c.loop.written c.args.post.now.plan.now c.requires.post.plan_is _ _ _ c.loop.invariant.lines _ _ c.in-Err.ending h over;
+      front = run_front origin pass c.args.post.now.number c.loop.written c.args.post.now.plan.now c.requires.post.plan_is _ _ _ c.loop.invariant.lines _ _ c.in-Err.ending h;
       fault = λ sink. rose_since _ _ _ c.loop.invariant.later (h.4 sink);
       later = omega (arith, c.loop.invariant.later, later);
     }

@@ -1,6 +1,6 @@
 use Rattle.std.proofs.Common.{◌∙◌, arith}
 use Rattle.kept_lock.specs.Locks.{name_of, known}
-use Rattle.host_workers.proofs.Writing.{goes_further, rose_since, run_front, run_whole, still_committed}
+use Rattle.host_workers.proofs.Writing.{goes_further, rose_since, run_front, run_whole}
 use Rattle.host_workers.proofs.writer.write_on.Goals as goal
 
 pub follow-requires-clause-offered : goal.follow-requires-clause-offered
@@ -26,10 +26,10 @@ returns-in-Err-clause-ended g c =
     let origin = name_of c.args.post.now.lock.now in
     let pass = known c.follow.new.pass in
     λ first before. record {
-      number = h.0 ∙ c.requires.writer;
+      number = h.0 ∙ c.requires.post.writes;
       ended = h.1;
-      whole = λ over. run_whole origin pass c.args.post.now.number c.args.begun.written c.args.post.now.plan.now c.requires.plan first _ _ before _ _ c.in-Err.ending h over;
-      front = run_front origin pass c.args.post.now.number c.args.begun.written c.args.post.now.plan.now c.requires.plan first _ _ before _ _ c.in-Err.ending h;
+      whole = λ over. run_whole origin pass c.args.post.now.number c.args.begun.written c.args.post.now.plan.now c.requires.post.plan_is first _ _ before _ _ c.in-Err.ending h over;
+      front = run_front origin pass c.args.post.now.number c.args.begun.written c.args.post.now.plan.now c.requires.post.plan_is first _ _ before _ _ c.in-Err.ending h;
       fault = h.4;
       later = c.in-Err.ensures.later;
     }
@@ -53,10 +53,10 @@ returns-in-Err-follow-clause-ended g c =
     let origin = name_of c.args.post.now.lock.now in
     let pass = known c.follow-in-loop.new.pass in
     λ first before. record {
-      number = h.0 ∙ c.requires.writer;
+      number = h.0 ∙ c.requires.post.writes;
       ended = h.1;
-      whole = λ over. run_whole origin pass c.args.post.now.number c.loop.written c.args.post.now.plan.now c.requires.plan first _ _ (c.loop.invariant.lines first before) _ _ c.in-Err-follow.ending h over;
-      front = run_front origin pass c.args.post.now.number c.loop.written c.args.post.now.plan.now c.requires.plan first _ _ (c.loop.invariant.lines first before) _ _ c.in-Err-follow.ending h;
+      whole = λ over. run_whole origin pass c.args.post.now.number c.loop.written c.args.post.now.plan.now c.requires.post.plan_is first _ _ (c.loop.invariant.lines first before) _ _ c.in-Err-follow.ending h over;
+      front = run_front origin pass c.args.post.now.number c.loop.written c.args.post.now.plan.now c.requires.post.plan_is first _ _ (c.loop.invariant.lines first before) _ _ c.in-Err-follow.ending h;
       fault = λ sink. rose_since _ _ _ c.loop.invariant.later (h.4 sink);
       later = omega (arith, c.loop.invariant.later, later);
     }
