@@ -66,7 +66,7 @@ impl<'p> Board<'p> {
             machine,
             journal: Vec::new(alloc),
             word: None,
-            crew: Crew::nobody(),
+            crew: Crew::nobody(true),
         })
     }
 
@@ -83,7 +83,7 @@ impl<'p> Board<'p> {
             machine,
             journal: Vec::new(alloc),
             word: None,
-            crew: Crew::nobody(),
+            crew: Crew::nobody(true),
         })
     }
 

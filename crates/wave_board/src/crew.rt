@@ -1,6 +1,6 @@
 //! What the workers of a board leave for each other.
 
-ghost use Rattle.std.specs.Prelude.{◌≡◌, ◌↔◌, ◌≤◌, ◌+◌, ◌-◌, ◌*◌, ◌/◌, ◌%◌, ◌^◌, IfNone, IfSome, IsTrue, Some, replicate, slice_get, slice_set};
+ghost use Rattle.std.specs.Prelude.{◌≡◌, ◌↔◌, ◌≤◌, ◌+◌, ◌-◌, ◌*◌, ◌/◌, ◌%◌, ◌^◌, if◌then◌else◌, IfNone, IfSome, IsTrue, Some, replicate, slice_get, slice_set};
 ghost use Rattle.wave_board.specs.declared.seat.Seat.TheVariants.{Away};
 
 use crate::seat::Seat;
@@ -26,16 +26,17 @@ pub struct Crew {
 impl Crew {
     ghost use Rattle.wave_board.specs.Crews.{IsAnother, IsHeavy, IsNobody};
 
-    /// Nobody has come yet. Segments count as heavy until some twenty light ones were run.
-    pub fn nobody() -> Crew
+    /// Nobody has come yet. Where a segment may take any number of ticks they count as heavy until some twenty light ones were run; else as light
+    /// until a heavy one was.
+    pub fn nobody(may_be_heavy: bool) -> Crew
         ensures seats { result.seats ≡ replicate SEATS Away }
         ensures told { result.told ≡ 0 }
-        ensures pace { result.pace ≡ 8 * HEAVY * 16 }
+        ensures pace { result.pace ≡ (if may_be_heavy then 8 * HEAVY * 16 else 0) }
     {
         Crew {
             seats: [Seat::Away; SEATS],
             told: 0,
-            pace: 8 * HEAVY * 16,
+            pace: if may_be_heavy { 8 * HEAVY * 16 } else { 0 },
         }
     }
 

@@ -1,5 +1,6 @@
 pub mod Actors
 pub mod Leases
+pub mod Loops
 pub mod Plans
 pub mod Kinds
 pub mod Machines

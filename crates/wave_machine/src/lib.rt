@@ -30,6 +30,7 @@ mod lengths;
 mod listable;
 mod listed;
 mod listing;
+mod loops;
 mod machine;
 mod makes;
 mod moves;
