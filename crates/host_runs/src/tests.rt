@@ -4,6 +4,7 @@ mod cases;
 mod counts;
 mod crowds;
 mod early;
+mod light;
 mod meets;
 mod runs;
 mod wants;

@@ -38,31 +38,22 @@ pub(crate) fn noted(mut crew: Crew, ticks: Option<u32>) -> Crew {
     crew
 }
 
-/// Whether there is something for another that is worth a call: where segments are heavy, or where this worker writes and nobody else is awake. Who
-/// rests, or has ended, leaves nothing that others have not been called for.
-pub(crate) fn is_for_another(
-    board: &Board,
-    crew: &Crew,
-    number: Worker,
-    told: &Result<Offer, OutOfMemory>,
-) -> bool
+/// Whether there is something for another that is worth a call: this worker leaves with something to do, segments are heavy, and something is ready. While
+/// they are light one worker has done it before another comes.
+pub(crate) fn is_for_another(board: &Board, crew: &Crew, told: &Result<Offer, OutOfMemory>) -> bool
     ensures idle { is_busy told.now ≡ false → result ≡ false }
+    ensures light { (IsHeavy crew.now → ⊥) → result ≡ false }
     ensures heavy { IsTrue (is_busy told.now) → IsHeavy crew.now → InEachState board.now (λ s. HasReady board.now s → IsTrue result) }
     ensures ready { IsTrue result → InEachState board.now (HasReady board.now) }
 {
-    is_worth_a_call(crew, number, told) && board.has_ready()
+    is_busy(told) && crew.is_heavy() && board.has_ready()
 }
 
-// Whether a worker that leaves with something to do would call another.
-fn is_worth_a_call(crew: &Crew, number: Worker, told: &Result<Offer, OutOfMemory>) -> bool
-    ensures idle { is_busy told.now ≡ false → result ≡ false }
-    ensures heavy { IsTrue (is_busy told.now) → IsHeavy crew.now → IsTrue result }
+// Whether a worker leaves with something to do.
+fn is_busy(told: &Result<Offer, OutOfMemory>) -> bool
+    ensures { result ≡ is_busy told.now }
 {
-    match told {
-        Ok(Offer::Task(Task::Segment(_))) => crew.is_heavy(),
-        Ok(Offer::Lines(_)) => crew.is_heavy() || crew.other(number, Seat::Awake).is_none(),
-        _ => false,
-    }
+    matches!(told, Ok(Offer::Lines(_) | Offer::Task(Task::Segment(_))))
 }
 
 /// Notes how a worker leaves, and says whom it wakes: all, where the run has ended; else the worker that writes, where lines are due to it; or another, if

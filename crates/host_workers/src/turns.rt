@@ -30,7 +30,7 @@ pub(crate) fn turn(
         Ok(ticks) => {
             let crew = noted(board.crew(), ticks);
             let offer = find(board, number, written, &crew);
-            let more = is_for_another(board, &crew, number, &offer);
+            let more = is_for_another(board, &crew, &offer);
             let wakes = leave(board, number, written, crew, &offer, more);
             let told = Told { offer, more };
             Parting { told, wakes }

@@ -9,8 +9,9 @@ use std::process::Abort;
 use std::sync::Wait;
 use std::thread::Threads;
 use tests_machine::Case;
-use wave_base::Finished;
+use wave_base::{Finished, Seq};
 use wave_io::{Gate, Sink};
+use wave_labels::Label;
 use wave_machine::Plan;
 
 // The plan of a case, which is right.
@@ -23,7 +24,7 @@ pub(super) fn plan_for(rt: &impl Abort, alloc: Global, case: &Case) -> Plan
     }
 }
 
-// A run of it, and what it gives. What the contract of a run says stands in this function alone, not in each test.
+// A run of it, and what it gives.
 pub(super) fn ran<R: Threads + Wait + Sync, G: Gate + Sync, K: Sink + Send>(
     rt: &R,
     alloc: Global,
@@ -33,8 +34,21 @@ pub(super) fn ran<R: Threads + Wait + Sync, G: Gate + Sync, K: Sink + Send>(
 ) -> Result<Finished, RunError>
     requires { Fits (plan_of plan.now) }
 {
-    match run_plan(rt, alloc, plan, gate, sink) {
+    match told(rt, alloc, plan, gate, sink) {
         Ok((finished, _)) => Ok(finished),
         Err(error) => Err(error),
     }
+}
+
+// A run with its journal. What the contract of a run says stands in this function alone, not in each test.
+pub(super) fn told<R: Threads + Wait + Sync, G: Gate + Sync, K: Sink + Send>(
+    rt: &R,
+    alloc: Global,
+    plan: &Plan,
+    gate: &G,
+    sink: &mut K,
+) -> Result<(Finished, Seq<Label>), RunError>
+    requires { Fits (plan_of plan.now) }
+{
+    run_plan(rt, alloc, plan, gate, sink)
 }
