@@ -6,6 +6,7 @@ pub mod Turns
 pub mod Balances
 pub mod Fits
 pub mod Policies
+pub mod Looking
 pub mod Examples
 pub mod ExpansionExamples
 pub mod InTree

@@ -54,6 +54,14 @@ first_is shape elastic start loads left n s k l p h =
     let count : loads ≡ no_loads (length (first_start shape).places) = l ∙ ap no_loads (k ∙ ap (λ x. length x.places) s) in
     subst IsStaged (sym (λ i. record { hosts = elastic.hosts; start = s i; loads = count i; left = p i })) (first_fits shape elastic h)
 
+-- where nothing was run, nothing is loaded
+pub none_entered : (shape : Shape) (elastic : Elastic) (s : Staged) → s ≡ first_staged shape elastic → s.loads ≡ no_loads (length s.start.places)
+none_entered shape elastic s e = ap (λ (s : Staged). s.loads) e ∙ ap (λ (s : Staged). no_loads (length s.start.places)) (sym e)
+
+pub shots_ordered : (shape : Shape) (elastic : Elastic) (s : Staged) → s ≡ first_staged shape elastic → IsStrictlySortedBy path_cmp (map (λ x. x.path) s.start.shots)
+unfolding IsStrictlySortedBy
+shots_ordered shape elastic s e = subst (λ (s : Staged). IsStrictlySortedBy path_cmp (map (λ x. x.path) s.start.shots)) (sym e) (tt, tt)
+
 -- ---- one part's turn
 
 no_batches : (hosts : ℕ) (loads : List ℕ) (left : List Part) (next : Turn) (bs : List (List Line)) → (bs ≡ [] → ⊥) → batches_turn hosts loads left next bs ≡ (Some (record { hosts = hosts; batches = bs }), loads, left)

@@ -1,10 +1,12 @@
 //! Policies: which moves one asks for, and scripts that are run under them.
 #![tactic(auto)]
 
+mod live;
 mod plan;
 mod stages;
 mod sums;
 mod turn;
 
+pub use live::LiveStages;
 pub use plan::plan_moves;
 pub use stages::Stages;

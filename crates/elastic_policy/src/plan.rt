@@ -1,7 +1,8 @@
 //! Which moves a policy asks for.
 
 ghost use Rattle.std.specs.Prelude.{◌≡◌, ◌≤◌, ◌<◌, ◌^◌, length, map, sum, All, IfOk};
-ghost use Rattle.std.specs.List.{zip};
+ghost use Rattle.std.specs.List.{filter, zip};
+ghost use Rattle.script_fold.specs.Lives.{has_load};
 ghost use Rattle.std.specs.List.Sorted.{IsStrictlySortedBy};
 ghost use Rattle.wave_base.specs.Paths.{path_cmp};
 ghost use Rattle.wave_base.specs.Scripts.{IsPolicy};
@@ -57,6 +58,27 @@ fn drain_moves(
     Ok(Seq::from_vec(moves.take(EVENT_LINES).collect(alloc)?))
 }
 
+// The contexts with a load, each with its own: no other one counts for a balance.
+fn loaded(
+    alloc: Global,
+    places: &[Place],
+    loads: &[u64],
+) -> Result<(Vec<Place>, Vec<u64>), OutOfMemory>
+    requires { length places.now ≡ length loads.now }
+    ensures paired { IfOk result (λ r. length r.0.items ≡ length r.1.items) }
+    ensures found { IfOk result (λ r. zip r.0.items r.1.items ≡ filter has_load (zip places.now loads.now)) }
+{
+    let mut some = Vec::new(alloc);
+    let mut its = Vec::new(alloc);
+    for (i, place) in places.iter().enumerate() {
+        if 0 < loads[i] {
+            some.push(*place)?;
+            its.push(loads[i])?;
+        }
+    }
+    Ok((some, its))
+}
+
 // At each move the host of its context is written, and the loads of two hosts.
 fn balance_moves(
     alloc: Global,
@@ -73,11 +95,12 @@ fn balance_moves(
     requires small { sum loads.now ≤ 2 ^ 60 }
     ensures { IfOk result (λ ms. ms ≡ balance hosts most (zip places.now loads.now)) }
 {
+    let (places, loads) = loaded(alloc, places, loads)?;
     let mut moves = Seq::new(alloc);
-    let mut at = hosts_of(alloc, places)?;
-    let mut sums = sums_of(places, loads);
+    let mut at = hosts_of(alloc, &places)?;
+    let mut sums = sums_of(&places, &loads);
     for _turn in 0..most {
-        let Some(turn) = next_turn(&at, loads, &sums, hosts) else {
+        let Some(turn) = next_turn(&at, &loads, &sums, hosts) else {
             return Ok(moves);
         };
         let i = turn.index;

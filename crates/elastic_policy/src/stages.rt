@@ -63,8 +63,8 @@ fn policy_moves(
     }
 }
 
-// A script of one batch.
-fn one_batch(alloc: Global, hosts: u8, lines: Seq<Line>) -> Result<Script, OutOfMemory>
+/// A script of one batch.
+pub(crate) fn one_batch(alloc: Global, hosts: u8, lines: Seq<Line>) -> Result<Script, OutOfMemory>
     ensures { IfOk result (λ s. s ≡ record { hosts = hosts; batches = lines ∷ [] }) }
 {
     let mut batches = Seq::new(alloc);
@@ -88,6 +88,15 @@ impl Stages {
             loads,
             left: VecDeque::from_vec(elastic.parts.into_vec()),
         })
+    }
+
+    /// The number of hosts, what the next piece begins with, and what is left to be run.
+    pub(crate) fn into_parts(self) -> (u8, Start, VecDeque<Part>)
+        ensures hosts { result.0 ≡ self.hosts }
+        ensures start { result.1 ≡ self.start }
+        ensures left { result.2.items ≡ self.left }
+    {
+        (self.hosts, self.start, self.left)
     }
 
     /// What the next piece begins with.

@@ -309,8 +309,11 @@ module _ (meaning : Meaning) (shape : Shape) (start : Start) (script : Script) w
       by_job w n e None = omega (arith, e)
       by_job w n e (Some j) = omega (arith, e, length-append w.results ((line_by meaning (start.next.0 + w.head.done) w.tree j).result ∷ []))
 
-  pub few_results : IsScript shape script → length (whole_run meaning shape start script).results ≤ 2 ^ 32 - 1
+  pub few_jobs : IsScript shape script → length (whole_run meaning shape start script).results ≤ 16000000
   unfolding whole_run
-  few_results s =
+  few_jobs s =
       let lines : sum_by length script.batches ≤ 4000 = s.few_lines in
       omega (arith, lines, most_lines script.batches, few_after (most_jobs script.batches))
+
+  pub few_results : IsScript shape script → length (whole_run meaning shape start script).results ≤ 2 ^ 32 - 1
+  few_results s = let few = few_jobs s in omega (arith, few)

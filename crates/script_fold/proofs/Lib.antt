@@ -3,6 +3,7 @@ pub mod FoldLemmas
 pub mod FrontLemmas
 pub mod HeadLemmas
 pub mod LeftLemmas
+pub mod LiveLemmas
 pub mod MoveLemmas
 pub mod OrderLemmas
 pub mod PlaceLemmas

@@ -76,12 +76,13 @@ module _ (shape : Shape) (meaning : Meaning) (FitsTree : Tree (List Value) → T
     count = length s.done;
     few = s.few;
     over = ap is_none none;
+    ordered = good.ordered;
     kept = subst (λ d. IsKept meaning shape start script d here g) (sym known) (record {
       tree = ap (tree_of shape) contexts ∙ s.kept.tree;
       results = ap (λ v. v.items) results ∙ s.kept.results;
       made_is = ap (λ v. map (map (λ t. t.0)) v.items) made_is ∙ s.kept.made_is;
       names = ap (λ v. v.items) names ∙ s.kept.names;
-      visits = subst (λ v. IsVisited (hosts_after start here) here.entered [] v.contexts.entries) (sym visits) s.kept.visits;
+      visits = subst (IsVisited (hosts_after start here) here.entered []) (sym visits) s.kept.visits;
     });
   }
 
@@ -138,7 +139,7 @@ module _ (shape : Shape) (meaning : Meaning) (FitsTree : Tree (List Value) → T
         pub stands_further : (g : Folding) (ts : List Ticket) (name : Option ℕ) → tree_of shape g.contexts ≡ (line_by meaning 0 (tree_of shape f.contexts) line).tree
             → map (λ t. t.0) ts ≡ tickets_of start.next.0 here.head (requests result.created) → IsWaiting start.next.0 (s.done ++ line ∷ []) (with_done here.head (requests result.created)) g.head
             → g.results.items ≡ f.results.items ++ result ∷ [] → g.made.items ≡ f.made.items ++ ts ∷ [] → g.names.items ≡ f.names.items ++ name ∷ [] → name ≡ name_of line
-            → IsVisited (after_job (hosts_after start here) paths (move_in result.outcome)) (here.entered ++ paths ∷ []) [] g.visits.contexts.entries → Stands meaning shape start script g
+            → IsVisited (after_job (hosts_after start here) paths (move_in result.outcome)) (here.entered ++ paths ∷ []) [] g.visits → Stands meaning shape start script g
         stands_further g ts name tree tickets waiting results made_is names name_is visits =
             let count : length (s.done ++ line ∷ []) ≡ suc (length s.done) = omega (arith, length-append s.done (line ∷ [])) in
             let there_is : after_jobs meaning shape start script (length (s.done ++ line ∷ [])) ≡ further = ap (after_jobs meaning shape start script) count ∙ ap (with_job start.next.0 (line_by meaning) created_lines here) next in
@@ -152,9 +153,9 @@ module _ (shape : Shape) (meaning : Meaning) (FitsTree : Tree (List Value) → T
                   ∙ (λ i. made start.next.0 (first_head script.batches) (map created_lines here.results) ++ tickets_of start.next.0 (sym good.heads i) (created_lines ran.result) ∷ [])
                   ∙ sym (made_push start.next.0 (first_head script.batches) (map created_lines here.results) (created_lines ran.result)) ∙ ap (made start.next.0 (first_head script.batches)) (sym known);
               names = names ∙ (λ i. s.kept.names i ++ name_is i ∷ []) ∙ sym (map-append name_of s.done (line ∷ []));
-              visits = subst (λ (t : Tree ℕ). IsVisited t (here.entered ++ ran.entered ∷ []) [] g.visits.contexts.entries) (sym hosts_further)
-                  (subst (λ (r : EventResult). IsVisited (after_job (hosts_after start here) ran.entered (move_of r)) (here.entered ++ ran.entered ∷ []) [] g.visits.contexts.entries) result_ran
-                  (subst (λ (ps : List Path). IsVisited (after_job (hosts_after start here) ps (move_of result)) (here.entered ++ ps ∷ []) [] g.visits.contexts.entries) paths_ran visits));
+              visits = subst (λ (t : Tree ℕ). IsVisited t (here.entered ++ ran.entered ∷ []) [] g.visits) (sym hosts_further)
+                  (subst (λ (r : EventResult). IsVisited (after_job (hosts_after start here) ran.entered (move_of r)) (here.entered ++ ran.entered ∷ []) [] g.visits) result_ran
+                  (subst (λ (ps : List Path). IsVisited (after_job (hosts_after start here) ps (move_of result)) (here.entered ++ ps ∷ []) [] g.visits) paths_ran visits));
             } in
             let more : length further.results ≡ further.head.done = good_further.results in
             let one : length further.results ≡ suc (length here.results) = omega (arith, length-append here.results (ran.result ∷ [])) in

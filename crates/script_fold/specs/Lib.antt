@@ -2,4 +2,5 @@ pub mod Lines
 pub mod Runs
 pub mod Owed
 pub mod Moves
+pub mod Lives
 pub mod inner

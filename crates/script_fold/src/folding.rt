@@ -8,16 +8,17 @@ ghost use Rattle.wave_base.specs.Scripts.{IsScript};
 ghost use Rattle.wave_base.specs.Starts.{IsStart};
 ghost use Rattle.script_fold.specs.Lines.{Meaning};
 ghost use Rattle.script_fold.specs.Runs.{finished_of};
-ghost use Rattle.script_fold.specs.inner.Standing.{Stands, Ended};
+ghost use Rattle.script_fold.specs.inner.Standing.{Stands, Ended, IsBegun, IsLeft};
 
 use crate::jobs::{name_of, run_job};
 use crate::runner::Runner;
 use crate::tickets::{give_tickets, next_job};
+use crate::told::Told;
 use crate::visits::Visits;
 use context_tree::Tree;
 use head_tickets::Head;
 use std::alloc::Global;
-use wave_base::{EventResult, Finished, OutOfMemory, Script, Seq, Start, Ticket};
+use wave_base::{EventResult, OutOfMemory, Script, Seq, Ticket};
 
 /// The jobs that are left, the contexts with their hosts, and what the jobs gave that are done.
 #[derive(Drop)]
@@ -31,22 +32,26 @@ pub struct Folding {
 }
 
 impl Folding {
-    /// No job is done.
-    pub fn begin(alloc: Global, script: &Script, start: &Start) -> Result<Folding, OutOfMemory>
-        requires { (shape : Shape) × IsScript shape script.now × IsStart shape script.now.hosts start.now }
-        ensures { IfOk result (λ f. (meaning : Meaning) (shape : Shape) → IsScript shape script.now → IsStart shape script.now.hosts start.now → Stands meaning shape start.now script.now f) }
+    /// No job is done. What was kept of the run before is on these contexts, and no job entered them.
+    pub fn begin(
+        alloc: Global,
+        contexts: Tree,
+        visits: Visits,
+        next: Ticket,
+        script: Script,
+    ) -> Folding
+        requires { (shape : Shape) × (start : Start) × IsScript shape script × IsStart shape script.hosts start × IsBegun start contexts visits next }
+        ensures { (meaning : Meaning) (shape : Shape) (start : Start) → IsScript shape script → IsStart shape script.hosts start → IsBegun start contexts visits next → Stands meaning shape start script result }
     {
-        let visits = Visits::start(alloc, start)?;
-        let contexts = Tree::from_shots(alloc, start.shots.as_slice())?;
-        let head = Head::new_at(alloc, script.copy(alloc)?, start.next);
-        Ok(Folding {
+        let head = Head::new_at(alloc, script, next);
+        Folding {
             head,
             contexts,
             visits,
             results: Vec::new(alloc),
             made: Vec::new(alloc),
             names: Vec::new(alloc),
-        })
+        }
     }
 
     /// Runs the next job. False where none is left.
@@ -71,20 +76,15 @@ impl Folding {
         Ok(true)
     }
 
-    /// What the run gives.
-    pub fn end(self, alloc: Global) -> Result<Finished, OutOfMemory>
-        ensures { IfOk result (λ f. (meaning : Meaning) (shape : Shape) (start : Start) (script : Script) → Ended meaning shape start script self → f ≡ finished_of meaning shape start script) }
+    /// What the jobs gave, and the contexts with their hosts behind them.
+    pub fn end(self) -> (Tree, Visits, Told)
+        ensures { (meaning : Meaning) (shape : Shape) (start : Start) (script : Script) → Ended meaning shape start script self → IsLeft (finished_of meaning shape start script) result.0 result.1 result.2 }
     {
-        let places = self.visits.places(alloc)?;
-        let loads = self.visits.loads(alloc)?;
-        let shots = self.contexts.shots(alloc)?;
-        Ok(Finished {
+        let told = Told {
             results: Seq::from_vec(self.results),
             made: Seq::from_vec(self.made),
             names: Seq::from_vec(self.names),
-            places,
-            shots,
-            loads,
-        })
+        };
+        (self.contexts, self.visits, told)
     }
 }

@@ -10,7 +10,7 @@ ghost use Rattle.wave_base.specs.Starts.{IsStart, first_start};
 ghost use Rattle.script_fold.specs.Runs.{finished_of, whole_run};
 ghost use Rattle.script_fold.specs.inner.Standing.{Stands, Ended};
 
-use crate::folding::Folding;
+use crate::live::LiveStart;
 use crate::runner::Runner;
 use context_tree::trees_that_fit;
 use std::alloc::Global;
@@ -31,9 +31,9 @@ pub fn run_script_at<R: Runner>(
     ensures few { IfOk result (λ f. length f.results ≤ 2 ^ 32 - 1) }
     ensures over { IfOk result (λ _. IsTrue (is_over (whole_run (R.meaning runner.now) (R.shape runner.now) start.now script.now))) }
 {
-    let mut folding = Folding::begin(alloc, script, start)?;
-    while folding.step(alloc, runner)? {}
-    folding.end(alloc)
+    let live = LiveStart::begin(alloc, start)?;
+    let (live, told) = live.run(alloc, runner, script.copy(alloc)?)?;
+    live.finished(alloc, told)
 }
 
 /// Runs a script from the root alone, with its initial values.

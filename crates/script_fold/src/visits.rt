@@ -1,48 +1,48 @@
-//! The hosts of the contexts, and the jobs that entered them.
+//! The hosts of the contexts, and how many jobs entered each.
 
-ghost use Rattle.std.specs.Prelude.{◌≡◌, ◌≤◌, ◌++◌, ◌∷◌, ◌<◌, ℕ, [], List, suc, length, map, true, OnOk, IfOk};
+ghost use Rattle.std.specs.Prelude.{◌≡◌, ◌≤◌, ◌++◌, ◌∷◌, ℕ, [], List, suc, length, map, filter, true, OnOk, IfOk};
+ghost use Rattle.std.specs.List.{zip};
 ghost use Rattle.std.specs.List.Sorted.{IsStrictlySortedBy};
 ghost use Rattle.wave_base.specs.declared.path.Path.{Path};
 ghost use Rattle.wave_base.specs.Paths.{path_cmp, parent_of};
 ghost use Rattle.wave_base.specs.Places.{with_context, with_contexts, after_job, move_in};
-ghost use Rattle.wave_base.specs.Starts.{start_places};
 ghost use Rattle.wave_base.specs.Tree.{Tree, put, there};
-ghost use Rattle.script_fold.specs.inner.Visiting.{IsVisited, IsMoveWithin, visit_at, visit_by, with_job, place_in};
+ghost use Rattle.script_fold.specs.inner.Visiting.{AreInOrder, IsVisited, IsMoveWithin, host_at, load_at, with_job, place_in, loads_in};
+ghost use Rattle.script_fold.specs.Lives.{has_load, is_at};
 
 use std::alloc::Global;
 use std::collections::BTreeMap;
 use wave_base::{Host, OutOfMemory, Outcome, Path, Place, Seq, Start};
 
-/// A context's host, how many jobs entered it, and the last of them, where the first job of the run is 1.
+/// How many jobs entered a context, and the last of them, where the first job of the run is 1.
 #[derive(Clone, Copy)]
-pub struct Visit {
-    /// The host where it is.
-    pub host: Host,
+pub struct Load {
     /// How many jobs have entered it.
-    pub load: u64,
+    pub count: u64,
     /// The last job that entered it, from 1; 0 where none has.
     pub last: u64,
 }
 
-/// All contexts in path order.
+/// All contexts with their hosts, in path order, and the loads of those that a job of the run entered. So what a run costs does not grow with the
+/// contexts that it leaves alone.
 #[derive(Drop)]
 pub struct Visits {
-    contexts: BTreeMap<Path, Visit>,
+    hosts: BTreeMap<Path, Host>,
+    loads: BTreeMap<Path, Load>,
 }
 
-impl Visit {
+impl Load {
     // It is entered by this job, which counts once.
-    fn with_job(&self, job: u64) -> Visit
-        requires few { self.now.load ≤ self.now.last }
+    fn with_job(&self, job: u64) -> Load
+        requires few { self.now.count ≤ self.now.last }
         requires last { self.now.last ≤ job }
         ensures { result ≡ with_job job self.now }
     {
         if self.last == job {
             return *self;
         }
-        Visit {
-            host: self.host,
-            load: self.load + 1,
+        Load {
+            count: self.count + 1,
             last: job,
         }
     }
@@ -52,59 +52,75 @@ impl Visits {
     /// No job has entered any of these contexts.
     pub fn start(alloc: Global, start: &Start) -> Result<Visits, OutOfMemory>
         requires { IsStrictlySortedBy path_cmp (map (λ x. x.path) start.now.places) }
-        ensures { IfOk result (λ v. IsVisited (start_places start.now) [] [] v.contexts.entries) }
+        ensures places { IfOk result (λ v. map place_in v.hosts.entries ≡ start.now.places) }
+        ensures loads { IfOk result (λ v. v.loads.entries ≡ []) }
     {
-        let mut contexts = BTreeMap::new(alloc);
+        let mut hosts = BTreeMap::new(alloc);
         let places = start.places.as_slice();
         for place in places {
-            let visit = Visit {
-                host: place.host,
-                load: 0,
-                last: 0,
-            };
-            contexts.insert(place.path, visit)?;
+            hosts.insert(place.path, place.host)?;
         }
-        Ok(Visits { contexts })
+        Ok(Visits {
+            hosts,
+            loads: BTreeMap::new(alloc),
+        })
+    }
+
+    /// A run is over, and none of the next one has entered any context.
+    pub fn clear(&mut self)
+        ensures hosts { self.new.hosts ≡ self.old.hosts }
+        ensures loads { self.new.loads.entries ≡ [] }
+    {
+        self.loads.clear();
     }
 
     fn host_of(&self, path: &Path) -> Host
-        ensures { result ≡ (visit_at self.now.contexts.entries path.now).host }
+        ensures { result ≡ host_at self.now.hosts.entries path.now }
     {
-        match self.contexts.get(path) {
-            Some(visit) => visit.host,
+        match self.hosts.get(path) {
+            Some(host) => *host,
             None => Host(0),
         }
     }
 
-    // The context as this job enters it: a new one is where its parent is.
-    fn visit(&self, job: u64, path: &Path) -> Visit
-        requires { (hosts : Tree ℕ) × (earlier : List (List Path)) × (now : List Path) × (job ≡ suc (length earlier)) × IsVisited hosts earlier now self.now.contexts.entries }
-        ensures { result ≡ visit_by self.now.contexts.entries job path.now }
+    fn load_of(&self, path: &Path) -> Load
+        ensures { result ≡ load_at self.now.loads.entries path.now }
     {
-        match self.contexts.get(path) {
-            Some(visit) => visit.with_job(job),
-            None => Visit {
-                host: self.host_of(&parent(path)),
-                load: 1,
-                last: job,
-            },
+        match self.loads.get(path) {
+            Some(load) => *load,
+            None => Load { count: 0, last: 0 },
         }
     }
 
-    // A context that the job enters.
+    // A context that a job enters.
     fn enter(&mut self, job: u64, path: &Path) -> Result<(), OutOfMemory>
-        requires { (hosts : Tree ℕ) × (earlier : List (List Path)) × (now : List Path) × (job ≡ suc (length earlier)) × IsVisited hosts earlier now self.old.contexts.entries }
-        ensures { (hosts : Tree ℕ) (earlier : List (List Path)) (now : List Path) → job ≡ suc (length earlier) → IsVisited hosts earlier now self.old.contexts.entries → OnOk result (IsVisited (with_context hosts path.now) earlier (now ++ path.now ∷ []) self.new.contexts.entries) }
+        requires { (hosts : Tree ℕ) × (earlier : List (List Path)) × (now : List Path) × (job ≡ suc (length earlier)) × IsVisited hosts earlier now self.old }
+        ensures { (hosts : Tree ℕ) (earlier : List (List Path)) (now : List Path) → job ≡ suc (length earlier) → IsVisited hosts earlier now self.old → OnOk result (IsVisited (with_context hosts path.now) earlier (now ++ path.now ∷ []) self.new) }
     {
-        let visit = self.visit(job, path);
-        self.contexts.insert(*path, visit)?;
+        let load = self.load_of(path);
+        self.join(path, load)?;
+        self.loads.insert(*path, load.with_job(job))?;
+        Ok(())
+    }
+
+    // A context is there, as one with a load is: a new one is where its parent is.
+    fn join(&mut self, path: &Path, load: Load) -> Result<(), OutOfMemory>
+        requires { load ≡ load_at self.old.loads.entries path.now }
+        ensures loads { self.new.loads ≡ self.old.loads }
+        ensures visited { (hosts : Tree ℕ) (earlier : List (List Path)) (now : List Path) → IsVisited hosts earlier now self.old → OnOk result (IsVisited (with_context hosts path.now) earlier now self.new) }
+    {
+        if load.last != 0 || self.hosts.contains_key(path) {
+            return Ok(());
+        }
+        let host = self.host_of(&parent(path));
+        self.hosts.insert(*path, host)?;
         Ok(())
     }
 
     // The contexts that a job enters.
     fn enter_all(&mut self, job: u64, paths: &[Path]) -> Result<(), OutOfMemory>
-        requires { (hosts : Tree ℕ) × (earlier : List (List Path)) × (job ≡ suc (length earlier)) × IsVisited hosts earlier [] self.old.contexts.entries }
-        ensures { (hosts : Tree ℕ) (earlier : List (List Path)) → job ≡ suc (length earlier) → IsVisited hosts earlier [] self.old.contexts.entries → OnOk result (IsVisited (with_contexts hosts paths.now) (earlier ++ paths.now ∷ []) [] self.new.contexts.entries) }
+        requires { (hosts : Tree ℕ) × (earlier : List (List Path)) × (job ≡ suc (length earlier)) × IsVisited hosts earlier [] self.old }
+        ensures { (hosts : Tree ℕ) (earlier : List (List Path)) → job ≡ suc (length earlier) → IsVisited hosts earlier [] self.old → OnOk result (IsVisited (with_contexts hosts paths.now) (earlier ++ paths.now ∷ []) [] self.new) }
     {
         for path in paths {
             self.enter(job, path)?;
@@ -119,8 +135,8 @@ impl Visits {
         paths: &[Path],
         outcome: &Outcome,
     ) -> Result<(), OutOfMemory>
-        requires { (hosts : Tree ℕ) × (earlier : List (List Path)) × (job ≡ suc (length earlier)) × IsVisited hosts earlier [] self.old.contexts.entries }
-        ensures { (hosts : Tree ℕ) (earlier : List (List Path)) → job ≡ suc (length earlier) → IsVisited hosts earlier [] self.old.contexts.entries → IsMoveWithin hosts paths.now outcome.now → OnOk result (IsVisited (after_job hosts paths.now (move_in outcome.now)) (earlier ++ paths.now ∷ []) [] self.new.contexts.entries) }
+        requires { (hosts : Tree ℕ) × (earlier : List (List Path)) × (job ≡ suc (length earlier)) × IsVisited hosts earlier [] self.old }
+        ensures { (hosts : Tree ℕ) (earlier : List (List Path)) → job ≡ suc (length earlier) → IsVisited hosts earlier [] self.old → IsMoveWithin hosts paths.now outcome.now → OnOk result (IsVisited (after_job hosts paths.now (move_in outcome.now)) (earlier ++ paths.now ∷ []) [] self.new) }
     {
         self.enter_all(job, paths)?;
         if let Outcome::Moved(path, host) = outcome {
@@ -131,23 +147,23 @@ impl Visits {
 
     // A context that is there moves to a host.
     fn set_host(&mut self, path: &Path, host: Host)
-        ensures { (hosts : Tree ℕ) (earlier : List (List Path)) → there hosts path.now ≡ true → IsVisited hosts earlier [] self.old.contexts.entries → IsVisited (put hosts path.now host.0) earlier [] self.new.contexts.entries }
+        ensures { (hosts : Tree ℕ) (earlier : List (List Path)) → there hosts path.now ≡ true → IsVisited hosts earlier [] self.old → IsVisited (put hosts path.now host.0) earlier [] self.new }
     {
-        match self.contexts.get_mut(path) {
-            Some(visit) => visit.host = host,
+        match self.hosts.get_mut(path) {
+            Some(there) => *there = host,
             None => {}
         }
     }
 
     /// The hosts, in path order.
     pub fn places(&self, alloc: Global) -> Result<Seq<Place>, OutOfMemory>
-        ensures { IfOk result (λ places. places ≡ map place_in self.now.contexts.entries) }
+        ensures { IfOk result (λ places. places ≡ map place_in self.now.hosts.entries) }
     {
         let mut places = Vec::new(alloc);
-        for (path, visit) in self.contexts.iter() {
+        for (path, host) in self.hosts.iter() {
             places.push(Place {
                 path: *path,
-                host: visit.host,
+                host: *host,
             })?;
         }
         Ok(Seq::from_vec(places))
@@ -155,13 +171,50 @@ impl Visits {
 
     /// How many jobs entered each, in path order.
     pub fn loads(&self, alloc: Global) -> Result<Seq<u64>, OutOfMemory>
-        ensures { IfOk result (λ loads. loads ≡ map (λ e. e.1.load) self.now.contexts.entries) }
+        ensures { IfOk result (λ loads. loads ≡ loads_in self.now) }
     {
         let mut loads = Vec::new(alloc);
-        for (_, visit) in self.contexts.iter() {
-            loads.push(visit.load)?;
+        for (path, _) in self.hosts.iter() {
+            loads.push(self.load_of(path).count)?;
         }
         Ok(Seq::from_vec(loads))
+    }
+
+    /// The contexts that a job entered, with how many did.
+    pub fn loaded(&self, alloc: Global) -> Result<(Seq<Place>, Seq<u64>), OutOfMemory>
+        requires { AreInOrder self.now }
+        ensures paired { IfOk result (λ r. length r.0 ≡ length r.1) }
+        ensures found { IfOk result (λ r. zip r.0 r.1 ≡ filter has_load (zip (map place_in self.now.hosts.entries) (loads_in self.now))) }
+    {
+        let mut places = Vec::new(alloc);
+        let mut loads = Vec::new(alloc);
+        for (path, load) in self.loads.iter() {
+            places.push(Place {
+                path: *path,
+                host: self.host_of(path),
+            })?;
+            loads.push(load.count)?;
+        }
+        Ok((Seq::from_vec(places), Seq::from_vec(loads)))
+    }
+
+    /// The contexts on a host, with how many jobs entered each.
+    pub fn on_host(&self, alloc: Global, host: Host) -> Result<(Seq<Place>, Seq<u64>), OutOfMemory>
+        ensures paired { IfOk result (λ r. length r.0 ≡ length r.1) }
+        ensures found { IfOk result (λ r. zip r.0 r.1 ≡ filter (is_at host.0) (zip (map place_in self.now.hosts.entries) (loads_in self.now))) }
+    {
+        let mut places = Vec::new(alloc);
+        let mut loads = Vec::new(alloc);
+        for (path, its) in self.hosts.iter() {
+            if *its == host {
+                places.push(Place {
+                    path: *path,
+                    host: *its,
+                })?;
+                loads.push(self.load_of(path).count)?;
+            }
+        }
+        Ok((Seq::from_vec(places), Seq::from_vec(loads)))
     }
 }
 

@@ -1,12 +1,13 @@
-use Rattle.std.proofs.Common.{◌∙◌, ap, subst}
-use Rattle.std.specs.BTreeMap.{insert_entry}
-use Rattle.wave_base.specs.Paths.{path_cmp}
-use Rattle.script_fold.proofs.VisitLemmas.{entered_visited, Sets}
+use Rattle.std.proofs.Common.{◌∙◌, ap, refl, subst, sym}
+use Rattle.wave_base.specs.Places.{with_context}
+use Rattle.script_fold.specs.inner.Visiting.{load_at, with_job}
+use Rattle.script_fold.proofs.VisitLemmas.{context_there, counted_visited, Sets}
 use Rattle.script_fold.proofs.visits.Visits.enter.Goals as goal
 
 pub returns : goal.returns
 returns c =
     λ hosts earlier now at h.
-    entered_visited hosts earlier now c.args.self.now.contexts.entries c.insert.new.self.entries c.args.job c.args.path.now at h
-    (c.in_ok-insert.ensures.entries ∙ ap (insert_entry path_cmp c.args.self.now.contexts.entries c.args.path.now) c.visit-visit.ensures)
-    (subst (Sets c.args.self.now.contexts.entries c.insert.new.self.entries c.args.path.now) c.visit-visit.ensures c.in_ok-insert.ensures.updates.0)
+    let p = c.args.path.now in
+    let load = c.with_job.ensures ∙ ap (with_job c.args.job) (c.load_of-load.ensures ∙ (λ i. load_at (sym c.join.ensures.loads i).entries p)) in
+    counted_visited (with_context hosts p) earlier now c.join.new.self _ c.args.job p at (c.in_ok-join.ensures.visited hosts earlier now h) (context_there hosts p) refl
+    (subst (Sets c.join.new.self.loads.entries c.insert.new.self.entries p) load c.in_ok-insert.ensures.updates.0)

@@ -21,6 +21,6 @@ loop-path-preserved c =
     λ hosts earlier at h.
     let front = take c.loop-path.path-index c.args.paths.now in
     let more : take (c.loop-path.path-index + 1) c.args.paths.now ≡ front ++ c.path-item.result ∷ [] = take_more c.args.paths.now c.loop-path.path-index c.path-item.result c.loop-path-test.true ∙ ap (λ p. front ++ p ∷ []) (sym c.path-item.is) in
-    subst (λ (ps : List Path). IsVisited (with_contexts hosts ps) earlier ps c.enter.new.self.contexts.entries) (sym more)
-    (subst (λ (t : Tree ℕ). IsVisited t earlier (front ++ c.path-item.result ∷ []) c.enter.new.self.contexts.entries) (sym (contexts_push hosts front c.path-item.result))
+    subst (λ (ps : List Path). IsVisited (with_contexts hosts ps) earlier ps c.enter.new.self) (sym more)
+    (subst (λ (t : Tree ℕ). IsVisited t earlier (front ++ c.path-item.result ∷ []) c.enter.new.self) (sym (contexts_push hosts front c.path-item.result))
     (c.in_ok-enter.ensures (with_contexts hosts front) earlier front at (c.loop-path.invariant hosts earlier at h)))

@@ -7,5 +7,5 @@ use Rattle.script_fold.proofs.visits.Visits.enter_all.Given as goal
 
 abbrev pub invariant-loop-path : goal.invariant-loop-path
 invariant-loop-path l =
-    (hosts : Tree ℕ) (earlier : List (List Path)) → l.job ≡ suc (length earlier) → IsVisited hosts earlier [] l.fn.self.contexts.entries
-    → IsVisited (with_contexts hosts (take l.path-index l.paths)) earlier (take l.path-index l.paths) l.self.contexts.entries
+    (hosts : Tree ℕ) (earlier : List (List Path)) → l.job ≡ suc (length earlier) → IsVisited hosts earlier [] l.fn.self
+    → IsVisited (with_contexts hosts (take l.path-index l.paths)) earlier (take l.path-index l.paths) l.self

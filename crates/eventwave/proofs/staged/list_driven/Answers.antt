@@ -5,7 +5,7 @@ use Rattle.listing_out.proofs.SinkLemmas.{on_err}
 use Rattle.eventwave.specs.inner.Engines.{IsMade}
 use Rattle.eventwave.proofs.StageLemmas.{can_make_it, come_front, end_front, end_status, end_whole, fewer_turns, has_begun, has_come, its_workers, may_follow, next_piece, piece_front, some_ticket, status_is}
 use Rattle.eventwave.proofs.TaskLemmas.{stages_run}
-use Rattle.eventwave.proofs.staged.list_alone.Goals as goal
+use Rattle.eventwave.proofs.staged.list_driven.Goals as goal
 
 pub loop-stages-init : goal.loop-stages-init
 loop-stages-init g c = record {
