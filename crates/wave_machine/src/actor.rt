@@ -6,15 +6,15 @@ use migration_core::Mover;
 use service_vm::EventBox;
 use snapshot_events::Walker;
 
-/// The code of a ticket, between its segments.
+/// The code of a ticket, between its segments. It lies in a box, so that it goes to a worker and back as a pointer.
 #[derive(Drop)]
 pub enum Actor {
     /// An event of the service.
-    Service(EventBox),
+    Service(Box<EventBox>),
     /// A move.
-    Mover(Mover),
+    Mover(Box<Mover>),
     /// A snapshot.
-    Walker(Walker),
+    Walker(Box<Walker>),
 }
 
 impl Actor {

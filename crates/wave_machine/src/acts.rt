@@ -11,7 +11,7 @@ ghost use Rattle.wave_machine.specs.inner.Made.{IsPart};
 
 use crate::engine::Engine;
 use crate::lease::Lease;
-use crate::prepared::Prepared;
+use crate::prepared::{Prepared, boxed};
 use std::alloc::Global;
 use wave_base::OutOfMemory;
 use wave_labels::{Act, Label};
@@ -29,9 +29,13 @@ impl<'p> Engine<'p> {
     {
         let host = label.host;
         match label.act {
-            Act::Admit(_) => Ok(Prepared::Event(self.prepare_admit(alloc)?)),
+            Act::Admit(_) => {
+                let cell = self.prepare_admit(alloc)?;
+                Ok(Prepared::Event(Box::new(alloc, cell)?))
+            }
             Act::Queue(mail, path) => {
-                Ok(Prepared::Entry(self.prepare_queue(alloc, host, mail, &path)?))
+                let entry = self.prepare_queue(alloc, host, mail, &path)?;
+                Ok(Prepared::Entry(boxed(alloc, entry)?))
             }
             Act::Grant(ticket, path) => {
                 self.prepare_grant(host, ticket, &path)?;
@@ -42,7 +46,8 @@ impl<'p> Engine<'p> {
                 Ok(Prepared::Room)
             }
             Act::Start(ticket, path) => {
-                Ok(Prepared::Copy(self.prepare_start(alloc, host, ticket, path)?))
+                let copy = self.prepare_start(alloc, host, ticket, path)?;
+                Ok(Prepared::Copy(boxed(alloc, copy)?))
             }
             Act::Commit(_) => Ok(Prepared::Created(self.prepare_commit(alloc)?)),
             _ => Ok(Prepared::Room),

@@ -1,10 +1,10 @@
 //! What is asked for, label by label.
 
-ghost use Rattle.std.specs.Prelude.{◌≡◌, ◌≤◌, ◌<◌, ◌+◌, ◌^◌, true, length, is_some, IsSome, IfSome, Some, option_copied, option_map, slice_get};
+ghost use Rattle.std.specs.Prelude.{◌≡◌, ◌≤◌, ◌<◌, ◌+◌, ◌^◌, true, length, is_some, Some, option_copied, option_map, slice_get};
 ghost use Rattle.commit_order.specs.Commits.{ready_result};
 ghost use Rattle.wave_labels.specs.Labels.{act_of};
 ghost use Rattle.context_queue.specs.Entries.{entry_of, next_in};
-ghost use Rattle.migration_core.specs.Letters.{asked, route_of};
+ghost use Rattle.migration_core.specs.Letters.{route_of};
 ghost use Rattle.wave_machine.specs.inner.Asking.{labels_in, enter_act, route_at, is_claim, is_next, runs_out, mail_labels, place_in, grant_labels, start_labels, status_labels, stop_if, admit_labels, commit_labels};
 
 use crate::engine::Engine;
@@ -12,7 +12,7 @@ use crate::kept::Out;
 use context_queue::{Entry, entries_stand};
 use event_cells::{Envelope, Status};
 use host_map::{HostStore, place_of, stores_stand};
-use migration_core::{Letter, Mail, Route, route};
+use migration_core::{Letter, Route, route_at};
 use wave_base::{Host, Path, Ticket, Worker};
 use wave_labels::{Act, Label, MailId};
 
@@ -48,10 +48,10 @@ impl<'p> Engine<'p> {
         &self,
         worker: Worker,
         ticket: Ticket,
-        status: Status,
+        status: &Status,
     ) -> Option<Label>
         requires { length self.now.stores.items ≤ 8 }
-        ensures { labels_in result ≡ status_labels self.now.stores.items worker.0 ticket.0 status }
+        ensures { labels_in result ≡ status_labels self.now.stores.items worker.0 ticket.0 status.now }
     {
         match status {
             Status::Waiting(path) => self.grant_label(worker, ticket, path),
@@ -61,19 +61,19 @@ impl<'p> Engine<'p> {
     }
 
     // One that waits gets in where it is the next in line.
-    fn grant_label(&self, worker: Worker, ticket: Ticket, path: Path) -> Option<Label>
+    fn grant_label(&self, worker: Worker, ticket: Ticket, path: &Path) -> Option<Label>
         requires { length self.now.stores.items ≤ 8 }
-        ensures { labels_in result ≡ grant_labels self.now.stores.items worker.0 ticket.0 path (place_in self.now.stores.items path) }
+        ensures { labels_in result ≡ grant_labels self.now.stores.items worker.0 ticket.0 path.now (place_in self.now.stores.items path.now) }
     {
-        let host = place_of(&self.stores, &path)?;
+        let host = place_of(&self.stores, path)?;
         let store = self.store(host)?;
-        if !is_next(store, ticket, &path) {
+        if !is_next(store, ticket, path) {
             return None;
         }
         Some(Label {
             worker,
             host,
-            act: Act::Grant(ticket, path),
+            act: Act::Grant(ticket, *path),
         })
     }
 
@@ -83,15 +83,15 @@ impl<'p> Engine<'p> {
         self.stores.get(host.0 as usize)
     }
 
-    fn start_label(&self, worker: Worker, ticket: Ticket, path: Path) -> Option<Label>
+    fn start_label(&self, worker: Worker, ticket: Ticket, path: &Path) -> Option<Label>
         requires { length self.now.stores.items ≤ 8 }
-        ensures { labels_in result ≡ start_labels self.now.stores.items worker.0 ticket.0 path (place_in self.now.stores.items path) }
+        ensures { labels_in result ≡ start_labels self.now.stores.items worker.0 ticket.0 path.now (place_in self.now.stores.items path.now) }
     {
-        let host = place_of(&self.stores, &path)?;
+        let host = place_of(&self.stores, path)?;
         Some(Label {
             worker,
             host,
-            act: Act::Start(ticket, path),
+            act: Act::Start(ticket, *path),
         })
     }
 
@@ -105,18 +105,7 @@ impl<'p> Engine<'p> {
     {
         let path = envelope.path;
         let act = match envelope.letter {
-            Letter::Enter {
-                number,
-                followed,
-                peek,
-            } => {
-                let letter = Letter::Enter {
-                    number,
-                    followed,
-                    peek,
-                };
-                enter_act(id, path, self.way(envelope.to, Mail { id, path, letter }))?
-            }
+            Letter::Enter { followed, .. } => enter_act(id, path, self.way(envelope.to, &path, followed))?,
             Letter::Visit | Letter::Back => Act::Visit(id, path),
             Letter::Release => Act::Free(id, path),
             Letter::Transfer(_) => Act::Land(id, path),
@@ -128,14 +117,13 @@ impl<'p> Engine<'p> {
         })
     }
 
-    // Where an Enter goes from a host.
-    fn way(&self, to: Host, mail: Mail) -> Route
-        requires { IsSome (asked mail.letter) }
-        ensures { IfSome (asked mail.letter) (λ a. route_of result ≡ route_at (slice_get self.now.stores.items to.0) mail.path a.followed) }
+    // Where an Enter goes from a host, which has followed the mark of this number.
+    fn way(&self, to: Host, path: &Path, followed: u64) -> Route
+        ensures { route_of result ≡ route_at (slice_get self.now.stores.items to.0) path.now followed }
     {
         stores_stand();
         match self.store(to) {
-            Some(store) => route(store, &mail),
+            Some(store) => route_at(store, path, followed),
             None => Route::Wait,
         }
     }

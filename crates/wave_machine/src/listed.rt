@@ -239,9 +239,10 @@ impl<'p> Listed<'p> {
     fn look(&self, host: Host, ticket: Ticket, path: &Path) -> Seen
         ensures { Sees (kept_of self.now.engine) host.0 ticket.0 path.now result }
     {
+        let (here, next) = self.engine.line_at(host, path);
         Seen {
-            next: self.engine.next_at(host, path),
-            here: self.engine.has_at(host, path),
+            next,
+            here,
             share: self.engine.share(ticket),
             sent: self.engine.sent(ticket),
         }

@@ -32,8 +32,14 @@ pub(crate) fn make(
 {
     match line {
         Line::Request(call) => serve(alloc, program, call, ticket),
-        Line::Move(path, host) => Ok(Actor::Mover(Mover::new(ticket, *path, *host))),
-        Line::Snapshot => Ok(Actor::Walker(Walker::new(alloc, ticket)?)),
+        Line::Move(path, host) => {
+            let mover = Mover::new(ticket, *path, *host);
+            Ok(Actor::Mover(Box::new(alloc, mover)?))
+        }
+        Line::Snapshot => {
+            let walker = Walker::new(alloc, ticket)?;
+            Ok(Actor::Walker(Box::new(alloc, walker)?))
+        }
     }
 }
 
@@ -50,7 +56,7 @@ fn serve(
 {
     let copy = call.copy(alloc)?;
     match EventBox::new(alloc, program, ticket, copy) {
-        Ok(event) => Ok(Actor::Service(event)),
+        Ok(event) => Ok(Actor::Service(Box::new(alloc, event)?)),
         Err((_, error)) => Err(error),
     }
 }

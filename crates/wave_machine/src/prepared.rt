@@ -1,24 +1,25 @@
 //! All memory that a label takes, taken before anything changes.
 
-ghost use Rattle.std.specs.Prelude.{◌≡◌, Some, IsSome};
-ghost use Rattle.wave_machine.specs.inner.Taken.{calls_in, cell_in, copy_in, entry_in};
+ghost use Rattle.std.specs.Prelude.{◌≡◌, Some, IsSome, IfOk};
+ghost use Rattle.wave_machine.specs.inner.Taken.{calls_in, cell_in, copy_in, entry_in, unboxed};
 
 use crate::actor::Actor;
 use context_queue::Entry;
 use event_cells::Cell;
-use wave_base::{Call, Record, Seq};
+use std::alloc::Global;
+use wave_base::{Call, OutOfMemory, Record, Seq};
 
-// What is made for a label before it is taken.
+// What is made for a label before it is taken. What is large lies in a box, so that it is handed on as a pointer.
 #[derive(Drop)]
 pub(crate) enum Prepared {
     // Room alone.
     Room,
     // The cell of the job that is admitted.
-    Event(Cell<Actor>),
+    Event(Box<Cell<Actor>>),
     // The entry of a context that is born, where it is.
-    Entry(Option<Entry>),
+    Entry(Option<Box<Entry>>),
     // The copy of a record, where the event only looks.
-    Copy(Option<Record>),
+    Copy(Option<Box<Record>>),
     // The calls that a result creates.
     Created(Seq<Call>),
 }
@@ -32,7 +33,7 @@ impl Prepared {
         ensures { cell_in self ≡ Some result }
     {
         match self {
-            Prepared::Event(cell) => cell,
+            Prepared::Event(cell) => Box::into_inner(cell),
             _ => unreachable!(),
         }
     }
@@ -42,7 +43,7 @@ impl Prepared {
         ensures { entry_in self ≡ Some result }
     {
         match self {
-            Prepared::Entry(entry) => entry,
+            Prepared::Entry(entry) => opened(entry),
             _ => unreachable!(),
         }
     }
@@ -52,7 +53,7 @@ impl Prepared {
         ensures { copy_in self ≡ Some result }
     {
         match self {
-            Prepared::Copy(copy) => copy,
+            Prepared::Copy(copy) => opened(copy),
             _ => unreachable!(),
         }
     }
@@ -65,5 +66,25 @@ impl Prepared {
             Prepared::Created(calls) => calls,
             _ => unreachable!(),
         }
+    }
+}
+
+// What a box has, where there is one.
+fn opened<T>(part: Option<Box<T>>) -> Option<T>
+    ensures { result ≡ unboxed part }
+{
+    match part {
+        Some(part) => Some(Box::into_inner(part)),
+        None => None,
+    }
+}
+
+// A part in a box, where there is one.
+pub(crate) fn boxed<T: Drop>(alloc: Global, part: Option<T>) -> Result<Option<Box<T>>, OutOfMemory>
+    ensures { IfOk result (λ b. unboxed b ≡ part) }
+{
+    match part {
+        Some(part) => Ok(Some(Box::new(alloc, part)?)),
+        None => Ok(None),
     }
 }

@@ -48,8 +48,15 @@ impl<'p> Engine<'p> {
 
     // Lists anew what a label changes that neither brings its context nor takes it away: what the ticket's status asks for and the
     // label's mail, the mails that it sent, and who was next in the line of the context, and who is.
-    fn relist_near(&self, label: &Label, seen: Seen, index: &mut Vec<Ready>)
+    fn relist_near(
+        &self,
+        label: &Label,
+        seen: Seen,
+        next: Option<Ticket>,
+        index: &mut Vec<Ready>,
+    )
         requires listable { IsListable (kept_of self.now) }
+        requires next { option_map (λ t. t.0) next ≡ next_at (path_of (act_of label.now.act)) (slice_get self.now.stores.items label.now.host.0) }
         requires room { vec_len index.old + (4 + weight_of self.now.cells.items) ≤ vec_capacity index.old }
         ensures relists { RelistsNear (kept_of self.now) (ticket_of (act_of label.now.act)) (number_of (act_of label.now.act)) seen.sent (option_map (λ t. t.0) seen.next) (next_at (path_of (act_of label.now.act)) (slice_get self.now.stores.items label.now.host.0)) index.old.items index.new.items }
         ensures len { vec_len index.new ≤ vec_len index.old + (4 + weight_of self.now.cells.items) }
@@ -58,7 +65,6 @@ impl<'p> Engine<'p> {
         let ticket = ticket_of(&label.act);
         self.relist_own(ticket, number_of(&label.act), index);
         self.list_new(ticket, seen.sent, index);
-        let next = self.next_at(label.host, &path_of(&label.act));
         self.relist_both(seen.next, next, index);
     }
 
@@ -99,7 +105,7 @@ impl<'p> Engine<'p> {
         ensures { labels_in result ≡ asked_as self.now.stores.items ticket.0 cell.now number }
     {
         if number == 0 {
-            return self.status_label(Worker(0), ticket, cell.status);
+            return self.status_label(Worker(0), ticket, &cell.status);
         }
         match cell.outbox.get(number) {
             Some(envelope) => self.mail_label(Worker(0), MailId { ticket, number }, envelope),
@@ -169,9 +175,9 @@ impl<'p> Engine<'p> {
         ensures len { vec_len index.new ≤ vec_len index.old + (4 + weight_of self.now.cells.items) }
         ensures capacity { vec_capacity index.new ≡ vec_capacity index.old }
     {
-        let path = path_of(&label.act);
-        if is_same(self.has_at(label.host, &path), seen.here) {
-            self.relist_near(label, seen, index);
+        let (here, next) = self.line_at(label.host, &path_of(&label.act));
+        if is_same(here, seen.here) {
+            self.relist_near(label, seen, next, index);
         } else {
             self.relist_all(done, index);
         }
@@ -199,7 +205,7 @@ impl<'p> Engine<'p> {
         if cell.is_done() {
             return;
         }
-        put_some(index, self.status_label(Worker(0), ticket, cell.status));
+        put_some(index, self.status_label(Worker(0), ticket, &cell.status));
         self.list_mails(ticket, cell.outbox.as_slice(), index);
     }
 
@@ -255,13 +261,14 @@ impl<'p> Engine<'p> {
         }
     }
 
-    // The ticket that is next in the line of a context at a host, where one gets in.
-    pub(crate) fn next_at(&self, host: Host, path: &Path) -> Option<Ticket>
-        ensures { option_map (λ t. t.0) result ≡ next_at path.now (slice_get self.now.stores.items host.0) }
+    // Whether a host has the entry of a context, and the ticket that is next in its line there, where one gets in.
+    pub(crate) fn line_at(&self, host: Host, path: &Path) -> (bool, Option<Ticket>)
+        ensures here { result.0 ≡ has_at path.now (slice_get self.now.stores.items host.0) }
+        ensures next { option_map (λ t. t.0) result.1 ≡ next_at path.now (slice_get self.now.stores.items host.0) }
     {
         match self.store(host) {
-            Some(store) => next_in(store, path),
-            None => None,
+            Some(store) => line_in(store, path),
+            None => (false, None),
         }
     }
 
@@ -351,13 +358,14 @@ fn share(cell: &Cell<Actor>) -> usize
     }
 }
 
-// The ticket that is next in the line of a context.
-fn next_in(store: &HostStore, path: &Path) -> Option<Ticket>
-    ensures { option_map (λ t. t.0) result ≡ next_at path.now (Some store.now) }
+// Whether a store has the entry of a context, and the ticket that is next in its line.
+fn line_in(store: &HostStore, path: &Path) -> (bool, Option<Ticket>)
+    ensures here { result.0 ≡ has_at path.now (Some store.now) }
+    ensures next { option_map (λ t. t.0) result.1 ≡ next_at path.now (Some store.now) }
 {
     match store.entry(path) {
-        Some(entry) => next_of(entry),
-        None => None,
+        Some(entry) => (true, next_of(entry)),
+        None => (false, None),
     }
 }
 

@@ -15,7 +15,7 @@ returns-then-is_same-clause-all c =
     let l = label_of c.args.label.now in
     let store = slice_get m'.stores l.host in
     let here : has_at (path_of l.act) store ≡ c.args.seen.here =
-    ap (λ q. has_at q store) (sym c.path_of-path.ensures) ∙ sym c.has_at.ensures ∙ c.is_same.ensures.0 c.if-is_same.true in
+    ap (λ q. has_at q store) (sym c.path_of.ensures) ∙ sym c.line_at-here.ensures.here ∙ c.is_same.ensures.0 c.if-is_same.true in
     (r.2, r.4, near_is r.0 m' l c.args.seen r.1 r.3 r.2 r.4 c.args.index.now.items c.relist_near.new.index.items here c.relist_near.ensures.relists r.5)
 
 pub returns-else-is_same-clause-all : goal.returns-else-is_same-clause-all

@@ -23,6 +23,5 @@ returns-clause-relists c =
     let new = c.relist_both.new.index.items in
     subst (λ u. RelistsNear m u (number_of act) n before (next_at (path_of act) store) old new) c.ticket_of-ticket.ensures
     (subst (λ j. RelistsNear m t j n before (next_at (path_of act) store) old new) c.number_of.ensures
-    (subst (λ q. RelistsNear m t k n before (next_at q store) old new) c.path_of.ensures
-    (near m t k n before (next_at c.path_of.result store) old one two new c.relist_own.ensures.relists c.list_new.ensures.lists
-    (subst (λ o. RelistsBoth m before o two new) c.next_at-next.ensures c.relist_both.ensures.relists))))
+    (near m t k n before (next_at (path_of act) store) old one two new c.relist_own.ensures.relists c.list_new.ensures.lists
+    (subst (λ o. RelistsBoth m before o two new) c.requires.next c.relist_both.ensures.relists)))
