@@ -46,14 +46,19 @@ pub(crate) fn is_for_another(board: &Board, crew: &Crew, told: &Result<Offer, Ou
     ensures heavy { IsTrue (is_busy told.now) → IsHeavy crew.now → InEachState board.now (λ s. HasReady board.now s → IsTrue result) }
     ensures ready { IsTrue result → InEachState board.now (HasReady board.now) }
 {
-    is_busy(told) && crew.is_heavy() && board.has_ready()
+    is_worth_a_call(crew, told) && board.has_ready()
 }
 
-// Whether a worker leaves with something to do.
-fn is_busy(told: &Result<Offer, OutOfMemory>) -> bool
-    ensures { result ≡ is_busy told.now }
+// Whether a worker that leaves with something to do would call another.
+fn is_worth_a_call(crew: &Crew, told: &Result<Offer, OutOfMemory>) -> bool
+    ensures idle { is_busy told.now ≡ false → result ≡ false }
+    ensures light { (IsHeavy crew.now → ⊥) → result ≡ false }
+    ensures heavy { IsTrue (is_busy told.now) → IsHeavy crew.now → IsTrue result }
 {
-    matches!(told, Ok(Offer::Lines(_) | Offer::Task(Task::Segment(_))))
+    match told {
+        Ok(Offer::Lines(_) | Offer::Task(Task::Segment(_))) => crew.is_heavy(),
+        _ => false,
+    }
 }
 
 /// Notes how a worker leaves, and says whom it wakes: all, where the run has ended; else the worker that writes, where lines are due to it; or another, if
