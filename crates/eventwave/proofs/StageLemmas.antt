@@ -62,7 +62,6 @@ can_be_staged elastic work can = subst (λ e. CanStage e work) (same_elastic ela
 pub its_listing : (elastic : Elastic) (work : StagedWork) (places : Places) → CanStage elastic work → listing_of work places ≡ listed_of work.program.shape work.service elastic places
 its_listing elastic work places can = ap (λ e. listed_of work.program.shape work.service e places) (sym (same_elastic elastic work can))
 
-
 -- ---- what was told, as lines are written of it
 
 shown_same : (a b : Finished) → a.made ≡ b.made → a.names ≡ b.names → (i : ℕ) (rs : List EventResult) → shown_from a i rs ≡ shown_from b i rs

@@ -105,7 +105,11 @@ impl<'p> Engine<'p> {
     {
         let path = envelope.path;
         let act = match envelope.letter {
-            Letter::Enter { followed, .. } => enter_act(id, path, self.way(envelope.to, &path, followed))?,
+            Letter::Enter { followed, .. } => enter_act(
+                id,
+                path,
+                self.way(envelope.to, &path, followed),
+            )?,
             Letter::Visit | Letter::Back => Act::Visit(id, path),
             Letter::Release => Act::Free(id, path),
             Letter::Transfer(_) => Act::Land(id, path),

@@ -48,13 +48,7 @@ impl<'p> Engine<'p> {
 
     // Lists anew what a label changes that neither brings its context nor takes it away: what the ticket's status asks for and the
     // label's mail, the mails that it sent, and who was next in the line of the context, and who is.
-    fn relist_near(
-        &self,
-        label: &Label,
-        seen: Seen,
-        next: Option<Ticket>,
-        index: &mut Vec<Ready>,
-    )
+    fn relist_near(&self, label: &Label, seen: Seen, next: Option<Ticket>, index: &mut Vec<Ready>)
         requires listable { IsListable (kept_of self.now) }
         requires next { option_map (λ t. t.0) next ≡ next_at (path_of (act_of label.now.act)) (slice_get self.now.stores.items label.now.host.0) }
         requires room { vec_len index.old + (4 + weight_of self.now.cells.items) ≤ vec_capacity index.old }

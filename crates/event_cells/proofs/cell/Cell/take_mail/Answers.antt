@@ -13,5 +13,5 @@ returns-clause-desk g c = λ d h.
       sent = h.sent ∙ sym c.take-envelope.ensures.sent ∙ sym same.sent;
       status = h.status ∙ ap status_of (sym same.status);
       mails = subst (λ ms. (k : ℕ) → Carries (mail_in ms k) ((with_mail d c.args.number None).mails k)) (sym same.mails)
-      (carried_without c.args.self.now.outbox.mails c.take-envelope.new.self.mails d.mails c.args.number h.mails c.take-envelope.ensures.others);
+          (carried_without c.args.self.now.outbox.mails c.take-envelope.new.self.mails d.mails c.args.number h.mails c.take-envelope.ensures.others);
     }
