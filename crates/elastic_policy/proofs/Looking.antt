@@ -1,19 +1,22 @@
 -- A policy looks at no other contexts than those with a load, or those on the host that it drains.
-use Rattle.std.proofs.Common.{◌≡◌, ◌≤◌, ◌<◌, ◌+◌, ◌-◌, ◌^◌, ℕ, zero, suc, Bool, true, false, cond, ◌==◌, ◌&&◌, nat_lt, List, [], ◌∷◌, length, map, sum, take, Option, Some, None, true≢false, refl, ap, sym, subst, ◌∙◌, arith}
-use Rattle.std.specs.Prelude.{All}
+use Rattle.std.proofs.Common.{◌≡◌, ◌≤◌, ◌<◌, ◌+◌, ◌-◌, ℕ, zero, suc, Bool, true, false, cond, ◌&&◌, nat_lt, List, [], ◌∷◌, ◌++◌, length, map, sum, take, get_or, lt-ltb, Some, None, true≢false, refl, ap, sym, subst, ◌∙◌, arith}
 use Rattle.std.specs.List.{AllByRecursion, filter, find, zip}
 use Rattle.std.specs.List.Sorted.{IsStrictlySortedBy}
 use Rattle.std.specs.declared.cmp.Ordering.TheVariants.{Less}
 use Rattle.std.proofs.lemmas.Bool.{and_parts, ltb-true, ltb-false}
 use Rattle.std.proofs.lemmas.List.Elements.{All-from_recursion, recursion_from_All}
+use Rattle.std.proofs.lemmas.List.{append-nil, take_all, take_more}
 use Rattle.std.proofs.lemmas.List.Sums.{sum_by-cons}
-use Rattle.std.proofs.lemmas.Slice.Zip.{seconds-zip}
+use Rattle.std.proofs.lemmas.Slice.Zip.{get_or-zip, length-zip, seconds-zip}
 use Rattle.wave_base.specs.declared.finished.Place.{Place}
 use Rattle.wave_base.specs.declared.limits.TheConstants.{EVENT_LINES}
+use Rattle.wave_base.specs.declared.numbers.Host.{Host}
 use Rattle.wave_base.specs.declared.path.Path.{Path}
+use Rattle.wave_base.specs.declared.policy.Policy.{Policy}
+use Rattle.wave_base.specs.declared.policy.Policy.TheVariants.{Balance, Drain}
 use Rattle.wave_base.specs.Paths.{path_eq, path_cmp}
 use Rattle.script_fold.specs.Lives.{has_load, is_at}
-use Rattle.elastic_policy.specs.Moves.{is_on, load_on, heaviest, lightest, spread, may_go, mover, on_host, sent, move_to, balance, drain}
+use Rattle.elastic_policy.specs.Moves.{is_on, load_on, heaviest, lightest, spread, may_go, mover, on_host, sent, move_to, balance, drain, moves_of}
 use Rattle.elastic_policy.specs.Stages.{ArePlaced}
 use Rattle.elastic_policy.proofs.Even.{balance-none, balance-some}
 use Rattle.elastic_policy.proofs.Firsts.{greatest_same, least_same}
@@ -28,8 +31,8 @@ find_filtered q p wants [] = refl
 find_filtered {X} q p wants (x ∷ xs) = by_filter (p x) refl (find_filtered q p wants xs)
   where
     by_search : (b : Bool) → q x ≡ b → p x ≡ false → find q (filter p xs) ≡ find q xs → find q (filter p xs) ≡ cond b (Some x) (find q xs)
-    by_search true e no h = absurd (true≢false (sym (wants x e) ∙ no))
-    by_search false e no h = h
+    by_search true e out h = absurd (true≢false (sym (wants x e) ∙ out))
+    by_search false e out h = h
 
     by_filter : (b : Bool) → p x ≡ b → find q (filter p xs) ≡ find q xs → find q (cond b (x ∷ filter p xs) (filter p xs)) ≡ cond (q x) (Some x) (find q xs)
     by_filter true e h = ap (cond (q x) (Some x)) h
@@ -70,21 +73,21 @@ loads_on (x ∷ xs) h = by_load (nat_lt 0 x.1) refl (loads_on xs h)
         omega (arith, rest, part)
 
 module _ (hosts : ℕ) (xs : List (Place × ℕ)) where
-  abbrev some : List (Place × ℕ)
-  some = filter has_load xs
+  abbrev with_loads : List (Place × ℕ)
+  with_loads = filter has_load xs
 
-  top_same : heaviest hosts some ≡ heaviest hosts xs
-  top_same = greatest_same (load_on some) (load_on xs) hosts (λ h b. loads_on xs h)
+  top_same : heaviest hosts with_loads ≡ heaviest hosts xs
+  top_same = greatest_same (load_on with_loads) (load_on xs) hosts (λ h b. loads_on xs h)
 
-  bottom_same : lightest hosts some ≡ lightest hosts xs
-  bottom_same = least_same (load_on some) (load_on xs) hosts (λ h b. loads_on xs h)
+  bottom_same : lightest hosts with_loads ≡ lightest hosts xs
+  bottom_same = least_same (load_on with_loads) (load_on xs) hosts (λ h b. loads_on xs h)
 
-  spread_same : spread hosts some ≡ spread hosts xs
-  spread_same = λ i. (loads_on xs (heaviest hosts some) ∙ ap (load_on xs) top_same) i - (loads_on xs (lightest hosts some) ∙ ap (load_on xs) bottom_same) i
+  spread_same : spread hosts with_loads ≡ spread hosts xs
+  spread_same = λ i. (loads_on xs (heaviest hosts with_loads) ∙ ap (load_on xs) top_same) i - (loads_on xs (lightest hosts with_loads) ∙ ap (load_on xs) bottom_same) i
 
-  mover_same : mover hosts some ≡ mover hosts xs
+  mover_same : mover hosts with_loads ≡ mover hosts xs
   mover_same =
-      (λ i. find (may_go (top_same i) (spread_same i)) some)
+      (λ i. find (may_go (top_same i) (spread_same i)) with_loads)
       ∙ find_filtered (may_go (heaviest hosts xs) (spread hosts xs)) has_load (λ x e. (and_parts (nat_lt 0 x.1) (nat_lt x.1 (spread hosts xs)) (and_parts (is_on (heaviest hosts xs) x) (nat_lt 0 x.1 && nat_lt x.1 (spread hosts xs)) e).1).0) xs
 
 -- a move changes no load
@@ -113,6 +116,14 @@ balance_looks hosts (suc n) xs =
 pub drain_looks : (from to : ℕ) (xs : List (Place × ℕ)) → drain from to (filter (is_at from) xs) ≡ drain from to xs
 drain_looks from to xs = ap (λ ys. take EVENT_LINES (map (move_to to) ys)) (filter_again (is_on from) xs)
 
+-- ---- what a policy asks for
+
+pub balance_same : (hosts n : ℕ) (policy : Policy) (xs : List (Place × ℕ)) → policy ≡ Balance n → moves_of hosts policy (filter has_load xs) ≡ moves_of hosts policy xs
+balance_same hosts n policy xs e = subst (λ p. moves_of hosts p (filter has_load xs) ≡ moves_of hosts p xs) (sym e) (balance_looks hosts n xs)
+
+pub drain_same : (hosts : ℕ) (from to : Host) (policy : Policy) (xs : List (Place × ℕ)) → policy ≡ Drain from to → moves_of hosts policy (filter (is_at from.0) xs) ≡ moves_of hosts policy xs
+drain_same hosts from to policy xs e = subst (λ p. moves_of hosts p (filter (is_at from.0) xs) ≡ moves_of hosts p xs) (sym e) (drain_looks from.0 to.0 xs)
+
 -- ---- some of the contexts
 
 below_filtered : (P : Path → Type 0) (q : Place × ℕ → Bool) (xs : List (Place × ℕ)) → AllByRecursion P (paths_of xs) → AllByRecursion P (paths_of (filter q xs))
@@ -129,7 +140,6 @@ sorted_filtered q [] h = tt
 sorted_filtered q (x ∷ xs) h = by_test (q x) (sorted_filtered q xs h.1)
   where
     by_test : (b : Bool) → IsStrictlySortedBy path_cmp (paths_of (filter q xs)) → IsStrictlySortedBy path_cmp (paths_of (cond b (x ∷ filter q xs) (filter q xs)))
-    unfolding IsStrictlySortedBy
     by_test true r = (below_filtered (λ p. path_cmp x.0.path p ≡ Less) q xs h.0, r)
     by_test false r = r
 
@@ -177,3 +187,49 @@ some_placed hosts q ps qs ls ms h e same = record {
       let old : sum (loads_of (zip ps ls)) ≡ sum ls = ap sum (seconds-zip ps ls (sym h.paired)) in
       omega (arith, few, new, old, h.small);
 }
+
+-- ---- the contexts with a load, one after the other
+
+zip_push : {A B : Type 0} (xs : List A) (ys : List B) (x : A) (y : B) → length xs ≡ length ys → zip (xs ++ x ∷ []) (ys ++ y ∷ []) ≡ zip xs ys ++ (x, y) ∷ []
+zip_push [] [] x y e = refl
+zip_push [] (b ∷ ys) x y e = absurd (omega (arith, e))
+zip_push (a ∷ xs) [] x y e = absurd (omega (arith, e))
+zip_push (a ∷ xs) (b ∷ ys) x y e = ap (λ zs. (a, b) ∷ zs) (zip_push xs ys x y (omega (arith, e)))
+
+filter_push : {X : Type 0} (p : X → Bool) (xs : List X) (x : X) → filter p (xs ++ x ∷ []) ≡ filter p xs ++ cond (p x) (x ∷ []) []
+filter_push p [] x = refl
+filter_push {X} p (y ∷ ys) x = by_test (p y) (filter_push p ys x)
+  where
+    by_test : (b : Bool) → filter p (ys ++ x ∷ []) ≡ filter p ys ++ cond (p x) (x ∷ []) [] → cond b (y ∷ filter p (ys ++ x ∷ [])) (filter p (ys ++ x ∷ [])) ≡ cond b (y ∷ filter p ys) (filter p ys) ++ cond (p x) (x ∷ []) []
+    by_test true h = ap (λ zs. y ∷ zs) h
+    by_test false h = h
+
+look_more : (ps : List Place) (ls : List ℕ) (i : ℕ) (d : Place) → length ps ≡ length ls → i < length ps →
+    filter has_load (take (i + 1) (zip ps ls)) ≡ filter has_load (take i (zip ps ls)) ++ cond (nat_lt 0 (get_or ls i 0)) ((get_or ps i d, get_or ls i 0) ∷ []) []
+look_more ps ls i d e k =
+    let long = length-zip ps ls in
+    let more : take (i + 1) (zip ps ls) ≡ take i (zip ps ls) ++ get_or (zip ps ls) i (d, 0) ∷ [] = take_more (zip ps ls) i (d, 0) (omega arith) in
+    let item : get_or (zip ps ls) i (d, 0) ≡ (get_or ps i d, get_or ls i 0) = get_or-zip ps ls i (d, 0) k (omega arith) in
+    ap (filter has_load) (more ∙ ap (λ (x : Place × ℕ). take i (zip ps ls) ++ x ∷ []) item) ∙ filter_push has_load (take i (zip ps ls)) (get_or ps i d, get_or ls i 0)
+
+pub looked_yes : (some : List Place) (its : List ℕ) (ps : List Place) (ls : List ℕ) (i : ℕ) (d : Place) → length ps ≡ length ls → i < length ps → d ≡ get_or ps i d → 0 < get_or ls i 0 → length some ≡ length its →
+    zip some its ≡ filter has_load (take i (zip ps ls)) → zip (some ++ d ∷ []) (its ++ get_or ls i 0 ∷ []) ≡ filter has_load (take (i + 1) (zip ps ls))
+looked_yes some its ps ls i d e k is load paired found =
+    zip_push some its d (get_or ls i 0) paired
+    ∙ (λ j. found j ++ (is j, get_or ls i 0) ∷ [])
+    ∙ ap (λ b. filter has_load (take i (zip ps ls)) ++ cond b ((get_or ps i d, get_or ls i 0) ∷ []) []) (sym (lt-ltb 0 (get_or ls i 0) load))
+    ∙ sym (look_more ps ls i d e k)
+
+pub looked_no : (some : List Place) (its : List ℕ) (ps : List Place) (ls : List ℕ) (i : ℕ) (d : Place) → length ps ≡ length ls → i < length ps → get_or ls i 0 ≤ 0 →
+    zip some its ≡ filter has_load (take i (zip ps ls)) → zip some its ≡ filter has_load (take (i + 1) (zip ps ls))
+looked_no some its ps ls i d e k none found =
+    found ∙ sym (append-nil (filter has_load (take i (zip ps ls)))) ∙ ap (λ b. filter has_load (take i (zip ps ls)) ++ cond b ((get_or ps i d, get_or ls i 0) ∷ []) []) (sym (not_less (get_or ls i 0) none)) ∙ sym (look_more ps ls i d e k)
+  where
+    not_less : (n : ℕ) → n ≤ 0 → nat_lt 0 n ≡ false
+    not_less n h = elim (nat_lt 0 n) as (λ t. nat_lt 0 n ≡ t → nat_lt 0 n ≡ false) [
+      | true ↦ λ e. let less = ltb-true 0 n e in absurd (omega (arith, h, less))
+      | false ↦ λ e. e
+    ] refl
+
+pub looked_all : (some : List Place) (its : List ℕ) (ps : List Place) (ls : List ℕ) (i : ℕ) → length ps ≡ length ls → length ps ≤ i → zip some its ≡ filter has_load (take i (zip ps ls)) → zip some its ≡ filter has_load (zip ps ls)
+looked_all some its ps ls i e k found = let long = length-zip ps ls in found ∙ ap (filter has_load) (take_all i (zip ps ls) (omega arith))

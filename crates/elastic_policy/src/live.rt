@@ -46,22 +46,22 @@ fn moves_on(
     alloc: Global,
     live: &LiveStart,
     hosts: u8,
-    policy: Policy,
+    policy: &Policy,
 ) -> Result<Seq<Line>, OutOfMemory>
     requires some_host { 1 ≤ hosts }
     requires few_hosts { hosts ≤ HOSTS }
     requires placed { ArePlaced hosts live.now.start.places live.now.loads }
-    requires policy { IsPolicy hosts policy }
-    ensures { IfOk result (λ ms. ms ≡ moves_of hosts policy (zip live.now.start.places live.now.loads)) }
+    requires policy { IsPolicy hosts policy.now }
+    ensures { IfOk result (λ ms. ms ≡ moves_of hosts policy.now (zip live.now.start.places live.now.loads)) }
 {
-    match policy {
+    match *policy {
         Policy::Balance(_) => {
             let (places, loads) = live.loaded(alloc)?;
-            plan_moves(alloc, &places, &loads, hosts, &policy)
+            plan_moves(alloc, &places, &loads, hosts, policy)
         }
         Policy::Drain(from, _) => {
             let (places, loads) = live.on_host(alloc, from)?;
-            plan_moves(alloc, &places, &loads, hosts, &policy)
+            plan_moves(alloc, &places, &loads, hosts, policy)
         }
     }
 }
@@ -80,7 +80,7 @@ fn part_moves(
     ensures { IfOk result (λ ms. ms ≡ policy_moves hosts policy (zip live.now.start.places live.now.loads)) }
 {
     match policy {
-        Some(policy) => moves_on(alloc, live, hosts, policy),
+        Some(policy) => moves_on(alloc, live, hosts, &policy),
         None => Ok(Seq::new(alloc)),
     }
 }

@@ -79,7 +79,7 @@ fn loaded(
     Ok((some, its))
 }
 
-// At each move the host of its context is written, and the loads of two hosts.
+// It looks at the contexts with a load alone, each time.
 fn balance_moves(
     alloc: Global,
     places: &[Place],
@@ -96,11 +96,30 @@ fn balance_moves(
     ensures { IfOk result (λ ms. ms ≡ balance hosts most (zip places.now loads.now)) }
 {
     let (places, loads) = loaded(alloc, places, loads)?;
+    balance_among(alloc, &places, &loads, hosts, most)
+}
+
+// At each move the host of its context is written, and the loads of two hosts.
+fn balance_among(
+    alloc: Global,
+    places: &[Place],
+    loads: &[u64],
+    hosts: u8,
+    most: u32,
+) -> Result<Seq<Line>, OutOfMemory>
+    requires paired { length places.now ≡ length loads.now }
+    requires ordered { IsStrictlySortedBy path_cmp (map (λ x. x.path) places.now) }
+    requires some_host { 1 ≤ hosts }
+    requires few_hosts { hosts ≤ HOSTS }
+    requires below { All (λ x. x.host.0 < hosts) places.now }
+    requires small { sum loads.now ≤ 2 ^ 60 }
+    ensures { IfOk result (λ ms. ms ≡ balance hosts most (zip places.now loads.now)) }
+{
     let mut moves = Seq::new(alloc);
-    let mut at = hosts_of(alloc, &places)?;
-    let mut sums = sums_of(&places, &loads);
+    let mut at = hosts_of(alloc, places)?;
+    let mut sums = sums_of(places, loads);
     for _turn in 0..most {
-        let Some(turn) = next_turn(&at, &loads, &sums, hosts) else {
+        let Some(turn) = next_turn(&at, loads, &sums, hosts) else {
             return Ok(moves);
         };
         let i = turn.index;

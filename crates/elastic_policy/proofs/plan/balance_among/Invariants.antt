@@ -2,7 +2,7 @@ use Rattle.std.proofs.Common.{◌≡◌, ◌<◌, ◌-◌, ℕ, ◌++◌, get_or
 use Rattle.std.specs.List.{zip}
 use Rattle.elastic_policy.specs.Moves.{load_on, balance}
 use Rattle.elastic_policy.specs.inner.Turns.{under_way}
-use Rattle.elastic_policy.proofs.plan.balance_moves.Given as goal
+use Rattle.elastic_policy.proofs.plan.balance_among.Given as goal
 
 abbrev pub invariant-loop-turn : goal.invariant-loop-turn
 invariant-loop-turn l = record {
