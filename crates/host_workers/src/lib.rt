@@ -2,6 +2,7 @@
 #![tactic(auto)]
 
 mod begun;
+mod boards;
 mod calls;
 mod ending;
 mod offer;

@@ -14,6 +14,7 @@ ghost use Rattle.host_workers.specs.Passes.{IsReady};
 ghost use Rattle.host_workers.specs.Lines.{event_lines};
 ghost use Rattle.host_workers.specs.Runs.{IsWholeRun};
 
+use crate::boards::board_at;
 use crate::ending::{Ending, RunError};
 use crate::post::Post;
 use crate::team::{helpers_of, run_team};
@@ -25,7 +26,7 @@ use std::alloc::Global;
 use std::sync::Wait;
 use std::thread::Threads;
 use wave_base::{Finished, OutOfMemory, Seq, Start, Ticket, Worker};
-use wave_board::{Board, Crew, Origin, StopCause};
+use wave_board::{Board, Origin, StopCause};
 use wave_io::{Gate, Sink};
 use wave_labels::Label;
 use wave_machine::{Plan, runs_are_measured};
@@ -50,8 +51,7 @@ pub fn run_plan_at<R: Threads + Wait + Sync, G: Gate + Sync, K: Sink + Send>(
     ensures fault { IsErrOf result RunError.WriteFault → Rose (K.faults out.old) (K.faults out.new) }
     ensures later { K.faults out.old ≤ K.faults out.new }
 {
-    let mut board = Board::new_at(alloc, plan, start)?;
-    board.set_crew(Crew::nobody(gate.may_hold() || plan.has_loops()));
+    let board = board_at(alloc, plan, start, gate.may_hold())?;
     let (lock, mut first) = match KeptLock::new(alloc, Origin { plan, start }, board) {
         Ok(made) => made,
         Err((_, refused)) => return Err(RunError::OutOfMemory(refused)),
