@@ -13,8 +13,7 @@ mod traps;
 use eventwave::eventwave_alone;
 use std::alloc::Global;
 use std::process::Abort;
-use tests_services::words;
-use wave_base::{OutOfMemory, Seq};
+use wave_base::{OutOfMemory, Seq, Words};
 use wave_io::{MemSink, MemSource};
 
 /// What a call came to: its status, and what it wrote on the output and as a note.
@@ -27,7 +26,10 @@ struct Answer {
 
 // What a call on this thread comes to, for words with a blank between them and an input.
 fn due(rt: &impl Abort, alloc: Global, text: &str, input: &[u8]) -> Result<Answer, OutOfMemory> {
-    let words = words(alloc, text)?;
+    let mut words = Words::new(alloc);
+    for word in text.split(' ') {
+        words.push(word)?;
+    }
     let bytes = Seq::from_vec(Vec::from_slice(alloc, input)?);
     let mut source = MemSource::new(bytes, 4096, Seq::new(alloc));
     let mut out = MemSink::new(alloc, 4_000_000, 4096, Seq::new(alloc))?;

@@ -1,7 +1,7 @@
 use Rattle.std.proofs.Common.{◌≤◌}
 use Rattle.due_stages.specs.Listed.{turns_left}
 use Rattle.eventwave.proofs.StageLemmas.{HasCome}
-use Rattle.eventwave.proofs.staged.list_driven.Given as goal
+use Rattle.eventwave.proofs.staged.list_alone.Given as goal
 
 abbrev pub invariant-loop-stages : goal.invariant-loop-stages
 invariant-loop-stages g l = record {
