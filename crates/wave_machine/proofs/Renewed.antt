@@ -19,12 +19,13 @@ use Rattle.event_cells.specs.Cells.{is_over}
 use Rattle.event_cells.specs.Keeps.{Sending, is_empty, mail_in}
 use Rattle.host_map.specs.Stores.{Stores}
 use Rattle.wave_states.specs.Labels.{Label, Admit, Commit}
-use Rattle.wave_theory.proofs.Basics.{differ, not_same, number_cases, number_self, some_not}
+use Rattle.wave_theory.proofs.Basics.{differ, not_same, number_cases, number_is, number_self, some_not}
 use Rattle.wave_machine.specs.declared.actor.Actor.{Actor}
 use Rattle.wave_machine.specs.declared.ready.Ready.{Ready}
 use Rattle.wave_machine.specs.Machines.{Kept}
 use Rattle.wave_machine.specs.inner.Asking.{IsNumbered, in_order, label_at, mail_labels}
 use Rattle.wave_machine.specs.inner.Index.{AreOwn, Below, Cuts, From, Goes, IsBelow, IsFrom, IsHead, IsOwn, Lists, ListsNew, Relists, RelistsBoth, RelistsNear, RelistsNext, RelistsOwn, asked_as, by_none, by_slot, cell_at, numbers_in, slot_at, share_of, slot_by, with_above, with_next, with_own, with_slot}
+use Rattle.wave_machine.specs.inner.Others.{but}
 use Rattle.wave_machine.proofs.ListingLists.{by_number, find_apart, find_first, flat_none, less_is}
 use Rattle.wave_machine.proofs.Ordering.{all_append, all_map, flat_append, middle_of, numbers_append, same_numbered}
 use Rattle.wave_machine.proofs.Owned.{at_slot, before, before_below, behind, behind_from, numbers_below, numbers_from, one_slot, other_number, other_ticket, own_as, own_mail, own_next, own_slot, own_with, split_at, split_new}
@@ -336,16 +337,62 @@ both_one m before after a b same first = subst (λ o. RelistsBoth m before o a b
     next_twice None part u j = refl
     next_twice (Some t) part u j = twice m t part u j
 
-pub near : (m : Kept) (t k n : ℕ) (before after : Option ℕ) (a b c d : List Ready) → RelistsOwn m t k a b → ListsNew m t n b c → RelistsBoth m before after c d → RelistsNear m t k n before after a d
+-- whoever is next and has its status listed anew already need not be listed once more
+module _ (m : Kept) (t : ℕ) where
+  kept_as : (part : ℕ → ℕ → List Label) → part t 0 ≡ slot_at m t 0 → (u j : ℕ) → with_slot part t 0 (slot_at m t 0) u j ≡ part u j
+  kept_as part there u j = by_ticket (number_cases u t)
+    where
+      by_number : (j ≡ 0) ⊎ ((j == 0) ≡ false) → with_slot part t 0 (slot_at m t 0) t j ≡ part t j
+      by_number (inl z) = subst (λ w. with_slot part t 0 (slot_at m t 0) t w ≡ part t w) (sym z) (at_slot part t 0 (slot_at m t 0) ∙ sym there)
+      by_number (inr d) = other_number part t 0 (slot_at m t 0) j (not_same j 0 d)
+
+      by_ticket : (u ≡ t) ⊎ ((u == t) ≡ false) → with_slot part t 0 (slot_at m t 0) u j ≡ part u j
+      by_ticket (inl e) = subst (λ w. with_slot part t 0 (slot_at m t 0) w j ≡ part w j) (sym e) (by_number (number_cases j 0))
+      by_ticket (inr d) = other_ticket part t 0 (slot_at m t 0) u j (not_same u t d)
+
+  but_as : (o : Option ℕ) (part : ℕ → ℕ → List Label) → part t 0 ≡ slot_at m t 0 → (u j : ℕ) → with_next m (but t o) part u j ≡ with_next m o part u j
+  but_as None part there u j = refl
+  but_as (Some v) part there u j = by_test (v == t) refl
+    where
+      by_test : (b : Bool) → (v == t) ≡ b → with_next m (if b then None else Some v) part u j ≡ with_slot part v 0 (slot_at m v 0) u j
+      by_test true e = sym (subst (λ w. with_slot part w 0 (slot_at m w 0) u j ≡ part u j) (sym (number_is v t e)) (kept_as part there u j))
+      by_test false e = refl
+
+  next_as : (o : Option ℕ) (p q : ℕ → ℕ → List Label) → ((u j : ℕ) → p u j ≡ q u j) → (u j : ℕ) → with_next m o p u j ≡ with_next m o q u j
+  next_as None p q h u j = h u j
+  next_as (Some v) p q h u j = ap (λ x. if (u == v) && (j == 0) then slot_at m v 0 else x) (h u j)
+
+  next_there : (o : Option ℕ) (part : ℕ → ℕ → List Label) → part t 0 ≡ slot_at m t 0 → with_next m o part t 0 ≡ slot_at m t 0
+  next_there None part there = there
+  next_there (Some v) part there = by_ticket (number_cases t v)
+    where
+      by_ticket : (t ≡ v) ⊎ ((t == v) ≡ false) → with_slot part v 0 (slot_at m v 0) t 0 ≡ slot_at m t 0
+      by_ticket (inl e) = subst (λ w. with_slot part w 0 (slot_at m w 0) t 0 ≡ slot_at m t 0) e (at_slot part t 0 (slot_at m t 0))
+      by_ticket (inr d) = other_ticket part v 0 (slot_at m v 0) t 0 (not_same t v d) ∙ there
+
+  both_but : (before after : Option ℕ) (part : ℕ → ℕ → List Label) → part t 0 ≡ slot_at m t 0 → (u j : ℕ) → with_next m (but t after) (with_next m (but t before) part) u j ≡ with_next m after (with_next m before part) u j
+  both_but before after part there u j =
+      next_as (but t after) (with_next m (but t before) part) (with_next m before part) (but_as before part there) u j
+      ∙ but_as after (with_next m before part) (next_there before part there) u j
+
+pub near : (m : Kept) (t k n : ℕ) (before after : Option ℕ) (a b c d : List Ready) → RelistsOwn m t k a b → ListsNew m t n b c → RelistsBoth m (but t before) (but t after) c d → RelistsNear m t k n before after a d
 near m t k n before after a b c d first second third = record {
   parts = λ h head part own gone l is.
       let one = with_own m t k part in
       let own_one = own_with m (with_slot part t 0 (slot_at m t 0)) t k (own_with m part t 0 own) in
       let two = with_above m t n one in
       let own_two = own_above m one t n own_one in
-      third.parts h head two own_two (second.parts h head one own_one (λ j past. still part gone l j past) (first.parts h head part own is));
+      third.parts h head two own_two (second.parts h head one own_one (λ j past. still part gone l j past) (first.parts h head part own is))
+      ∙ ap (λ r. in_order (h ++ r)) (same_slots m (with_next m (but t after) (with_next m (but t before) two)) (with_next m after (with_next m before two)) (λ u j low high within. both_but m t before after two (there part) u j));
 }
   where
+    own_there : (part : ℕ → ℕ → List Label) → (0 ≡ k) ⊎ ((0 == k) ≡ false) → with_own m t k part t 0 ≡ slot_at m t 0
+    own_there part (inl e) = subst (λ j. with_own m t j part t 0 ≡ slot_at m t 0) e (at_slot (with_slot part t 0 (slot_at m t 0)) t 0 (slot_at m t 0))
+    own_there part (inr d) = other_number (with_slot part t 0 (slot_at m t 0)) t k (slot_at m t k) 0 (not_same 0 k d) ∙ at_slot part t 0 (slot_at m t 0)
+
+    there : (part : ℕ → ℕ → List Label) → with_above m t n (with_own m t k part) t 0 ≡ slot_at m t 0
+    there part = old_mail m t n (with_own m t k part) 0 (omega arith) ∙ own_there part (number_cases 0 k)
+
     still : (part : ℕ → ℕ → List Label) → ((j : ℕ) → n < j → part t j ≡ []) → k ≤ n → (j : ℕ) → n < j → with_own m t k part t j ≡ []
     still part gone l j past =
         other_number (with_slot part t 0 (slot_at m t 0)) t k (slot_at m t k) j (λ e. omega (arith, e, l, past))

@@ -14,6 +14,7 @@ pub mod Driving
 pub mod Drivable
 pub mod Lines
 pub mod Done
+pub mod Others
 pub mod Index
 pub mod Owned
 pub mod Takeable

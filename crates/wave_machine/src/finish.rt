@@ -75,9 +75,9 @@ impl<'p> Engine<'p> {
     fn all_done(&self) -> bool
         ensures { IsTrue result ↔ AllDone (kept_of self.now) }
     {
-        all_idle(&self.hands)
+        self.settled.len() == self.cells.len()
+            && all_idle(&self.hands)
             && self.head.upcoming().is_none()
-            && self.settled.len() == self.cells.len()
             && all_over(&self.cells)
     }
 }

@@ -13,6 +13,7 @@ ghost use Rattle.wave_states.specs.Labels.{path_of, ticket_of};
 ghost use Rattle.wave_machine.specs.Machines.{Kept};
 ghost use Rattle.wave_machine.specs.inner.Asking.{admit_labels, in_order, label_at, labels_in, mail_labels, IsListable, IsNumbered};
 ghost use Rattle.wave_machine.specs.inner.Done.{AreDone};
+ghost use Rattle.wave_machine.specs.inner.Others.{but};
 ghost use Rattle.wave_machine.specs.inner.Index.{IsHead, IsInner, Lists, ListsNew, Relists, RelistsBoth, RelistsNear, RelistsNext, RelistsOwn, Taken, asked_as, asked_at, asked_of, by_none, by_part, cell_at, has_at, head_in, held_at, is_admit, next_at, next_of, number_of, sent_at, share_at, share_of, weight_of};
 
 use crate::actor::Actor;
@@ -47,7 +48,7 @@ impl<'p> Engine<'p> {
     }
 
     // Lists anew what a label changes that neither brings its context nor takes it away: what the ticket's status asks for and the
-    // label's mail, the mails that it sent, and who was next in the line of the context, and who is.
+    // label's mail, the mails that it sent, and who was next in the line of the context, and who is, where they are others.
     fn relist_near(&self, label: &Label, seen: Seen, next: Option<Ticket>, index: &mut Vec<Ready>)
         requires listable { IsListable (kept_of self.now) }
         requires next { option_map (λ t. t.0) next ≡ next_at (path_of (act_of label.now.act)) (slice_get self.now.stores.items label.now.host.0) }
@@ -59,7 +60,7 @@ impl<'p> Engine<'p> {
         let ticket = ticket_of(&label.act);
         self.relist_own(ticket, number_of(&label.act), index);
         self.list_new(ticket, seen.sent, index);
-        self.relist_both(seen.next, next, index);
+        self.relist_both(other(seen.next, ticket), other(next, ticket), index);
     }
 
     // Lists anew what the status of a ticket asks for, and one of its mails; number 0 where there is none.
@@ -321,6 +322,16 @@ fn first_above(mails: &[(u32, Envelope)], number: u32) -> usize
         first -= 1;
     }
     first
+}
+
+// Who is next, where that is another ticket than this one.
+fn other(next: Option<Ticket>, ticket: Ticket) -> Option<Ticket>
+    ensures { option_map (λ t. t.0) result ≡ but ticket.0 (option_map (λ t. t.0) next) }
+{
+    match next {
+        Some(one) => { if one.0 == ticket.0 { None } else { Some(one) } }
+        None => None,
+    }
 }
 
 // Whether two tests say the same.
