@@ -1,14 +1,16 @@
 //! Scripts with policies, run piece by piece and listed: the lines of each piece are written before the next one is known, and behind the last what
 //! ends a listing.
 
-ghost use Rattle.std.specs.Prelude.{◌≡◌, ◌≤◌, option_copied, true, false, IfOk, IsErrOf, OnErr, OnOk};
+ghost use Rattle.std.specs.Prelude.{◌≡◌, ◌≤◌, ◌-◌, ◌^◌, length, option_copied, true, false, IfOk, IsErrOf, OnErr, OnOk};
 ghost use Rattle.std.specs.Io.KnownBytes.{Appends};
 ghost use Rattle.wave_io.specs.Causes.{Rose};
 ghost use Rattle.wave_io.specs.Streams.{AppendsFront};
 ghost use Rattle.wave_machine.specs.Plans.{plan_of};
 ghost use Rattle.elastic_policy.specs.Stages.{IsStaged, MayFollow, staged_after};
 ghost use Rattle.due_parts.specs.Told.{any_trap};
-ghost use Rattle.due_stages.specs.Listed.{end_from, placed, ran_by};
+ghost use Rattle.due_stages.specs.Listed.{end_from, events_from, placed, ran_by};
+ghost use Rattle.script_fold.specs.Lives.{IsTold};
+ghost use Rattle.wave_base.specs.declared.finished.Finished.{Finished};
 ghost use Rattle.eventwave.specs.inner.Parts.{SomeGave};
 ghost use Rattle.eventwave.specs.inner.Stages.{IsPieceMade, IsStagedBy, listing_of, piece_plan};
 
@@ -20,15 +22,17 @@ use command_words::Places;
 use due_answer::Engine;
 use due_parts::status_of;
 use due_stages::{StagedWork, pieces_are_listed};
-use elastic_policy::Stages;
-use listing_out::{ListError, write_end};
+use elastic_policy::{LiveStages, Stages};
+use listing_out::{ListError, write_end, write_results};
+use script_fold::Told;
 use service_verify::Verified;
 use std::alloc::Global;
 use std::sync::Wait;
 use std::thread::Threads;
-use wave_base::{Place, Script, Seq, Shape, Start, WORKERS};
+use wave_base::{Finished, Place, Script, Seq, Shape, Start, Ticket, WORKERS};
 use wave_io::{Gate, Sink};
 use wave_machine::Plan;
+use wave_meaning::Evaluator;
 
 /// Runs a script with policies on this thread, and lists it.
 pub fn stage_alone<K: Sink>(
@@ -80,6 +84,26 @@ fn list_alone<K: Sink>(
     ensures front { OnErr result (AppendsFront (K.written out.old) (K.written out.new) (listing_of work places).text) }
     ensures fault { IsErrOf result ListError.WriteFault → Rose (K.faults out.old) (K.faults out.new) }
 {
+    match engine {
+        Engine::Evaluator => list_evaluated(alloc, places, work, out),
+        _ => list_driven(alloc, engine, places, work, out),
+    }
+}
+
+// By drives of the machine, each from where the one before ended.
+fn list_driven<K: Sink>(
+    alloc: Global,
+    engine: Engine,
+    places: Places,
+    work: StagedWork,
+    out: &mut K,
+) -> Result<u8, ListError>
+    requires { IsStagedBy false places engine work }
+    ensures status { IfOk result (λ status. status ≡ (listing_of work places).status) }
+    ensures lines { OnOk result (Appends (K.written out.old) (K.written out.new) (listing_of work places).text) }
+    ensures front { OnErr result (AppendsFront (K.written out.old) (K.written out.new) (listing_of work places).text) }
+    ensures fault { IsErrOf result ListError.WriteFault → Rose (K.faults out.old) (K.faults out.new) }
+{
     pieces_are_listed();
     let StagedWork {
         service,
@@ -95,6 +119,70 @@ fn list_alone<K: Sink>(
     }
     write_behind(alloc, places, &code.program().shape, stages.start(), out)?;
     Ok(u8::from(trapped))
+}
+
+// By the evaluator, on one tree of contexts, which each piece changes in place.
+fn list_evaluated<K: Sink>(
+    alloc: Global,
+    places: Places,
+    work: StagedWork,
+    out: &mut K,
+) -> Result<u8, ListError>
+    requires { IsStagedBy false places Engine.Evaluator work }
+    ensures status { IfOk result (λ status. status ≡ (listing_of work places).status) }
+    ensures lines { OnOk result (Appends (K.written out.old) (K.written out.new) (listing_of work places).text) }
+    ensures front { OnErr result (AppendsFront (K.written out.old) (K.written out.new) (listing_of work places).text) }
+    ensures fault { IsErrOf result ListError.WriteFault → Rose (K.faults out.old) (K.faults out.new) }
+{
+    pieces_are_listed();
+    let StagedWork {
+        service,
+        program,
+        stages,
+    } = work;
+    let shape = &program.program().shape;
+    let evaluator = Evaluator {
+        shape,
+        service: &service,
+    };
+    let mut stages = LiveStages::begin(alloc, stages)?;
+    let mut trapped = false;
+    while let Some(script) = stages.next(alloc)? {
+        let first = stages.first_ticket();
+        let (behind, told) = stages.run(alloc, &evaluator, script)?;
+        trapped |= write_piece(alloc, shape, first, told, out)?;
+        stages = behind;
+    }
+    write_behind(alloc, places, shape, &stages.start(alloc)?, out)?;
+    Ok(u8::from(trapped))
+}
+
+// Writes the lines of a piece. It tells whether an event of it trapped.
+fn write_piece<K: Sink>(
+    alloc: Global,
+    shape: &Shape,
+    first: Ticket,
+    told: Told,
+    out: &mut K,
+) -> Result<bool, ListError>
+    requires first { 1 ≤ first.0 }
+    requires few { length told.results ≤ 2 ^ 32 - 1 }
+    ensures trapped { IfOk result (λ trapped. trapped ≡ any_trap told.results) }
+    ensures lines { (done : Finished) → IsTold told done → OnOk result (Appends (K.written out.old) (K.written out.new) (events_from shape.now first.0 done)) }
+    ensures front { (done : Finished) → IsTold told done → OnErr result (AppendsFront (K.written out.old) (K.written out.new) (events_from shape.now first.0 done)) }
+    ensures fault { IsErrOf result ListError.WriteFault → Rose (K.faults out.old) (K.faults out.new) }
+    ensures later { K.faults out.old ≤ K.faults out.new }
+{
+    let done = Finished {
+        results: told.results,
+        made: told.made,
+        names: told.names,
+        places: Seq::new(alloc),
+        shots: Seq::new(alloc),
+        loads: Seq::new(alloc),
+    };
+    write_results(alloc, out, shape, first, &done)?;
+    Ok(status_of(done.results.as_slice()) == 1)
 }
 
 // The same by workers.

@@ -1,0 +1,13 @@
+use Rattle.std.proofs.Common.{◌≤◌}
+use Rattle.due_stages.specs.Listed.{turns_left}
+use Rattle.eventwave.proofs.StageLemmas.{HasCome}
+use Rattle.eventwave.proofs.staged.list_evaluated.Given as goal
+
+abbrev pub invariant-loop-stages : goal.invariant-loop-stages
+invariant-loop-stages g l = record {
+  come : HasCome l.fn.work l.fn.work.program l.stages l.trapped (g.K.Sink.written l.fn.out) (g.K.Sink.written l.out);
+  later : g.K.Sink.faults l.fn.out ≤ g.K.Sink.faults l.out;
+}
+
+abbrev pub decreases-loop-stages : goal.decreases-loop-stages
+decreases-loop-stages g l = turns_left l.stages
