@@ -1,5 +1,5 @@
 -- A script with policies that is run and listed piece by piece: what was written is a front of its listing, and in the end all of it.
-use Rattle.std.proofs.Common.{◌≡◌, ◌∙◌, ℕ, ◌+◌, ◌-◌, ◌^◌, arith, ◌≤◌, ◌<◌, Bool, true, false, List, [], ◌++◌, length, Option, Some, None, ap, refl, sym, subst}
+use Rattle.std.proofs.Common.{◌≡◌, ◌∙◌, ℕ, ◌+◌, ◌-◌, ◌^◌, arith, ◌≤◌, ◌<◌, Bool, true, false, List, [], ◌∷◌, ◌++◌, length, Option, Some, None, ap, refl, sym, subst}
 use Rattle.std.specs.Prelude.{◌||◌, ◌==◌, if◌then◌else◌, take}
 use mir.Val.{bool_byte as from_bool}
 use Rattle.std.specs.Io.KnownBytes.{Appends}

@@ -137,10 +137,10 @@ fn list_evaluated<K: Sink>(
     pieces_are_listed();
     let StagedWork {
         service,
-        program,
+        program: verified,
         stages,
     } = work;
-    let shape = &program.program().shape;
+    let shape = &verified.program().shape;
     let evaluator = Evaluator {
         shape,
         service: &service,

@@ -12,11 +12,11 @@ use Rattle.eventwave.specs.inner.Stages.{elastic_of, piece_plan}
 use Rattle.eventwave.proofs.StageLemmas.{HasCome, after_evaluated, come_front, end_front, end_status, end_whole, evaluated_lines, evaluator_fits, few_evaluated, fewer_turns, first_evaluated, follows_evaluated, has_begun, has_come, next_piece, piece_front, script_fits, some_ticket, start_fits, status_is, traps_evaluated}
 use Rattle.eventwave.proofs.staged.list_evaluated.Goals as goal
 
-pub begin-stages-requires-clause-staged : goal.begin-stages-requires-clause-staged
-begin-stages-requires-clause-staged g c = c.requires.can.staged
+pub begin-requires-clause-staged : goal.begin-requires-clause-staged
+begin-requires-clause-staged g c = c.requires.can.staged
 
-pub begin-stages-requires-clause-first : goal.begin-stages-requires-clause-first
-begin-stages-requires-clause-first g c = (c.args.work.program.shape, elastic_of c.args.work.stages, c.requires.can.first)
+pub begin-requires-clause-first : goal.begin-requires-clause-first
+begin-requires-clause-first g c = (c.args.work.program.shape, elastic_of c.args.work.stages, c.requires.can.first)
 
 pub returns-in_err-stages-clause-front : goal.returns-in_err-stages-clause-front
 returns-in_err-stages-clause-front g c =
@@ -105,8 +105,8 @@ write_piece-requires-clause-few g c =
     let e = ap (λ (p : Program). p.shape) c.program.ensures.program in
     few_evaluated _ _ _ _ _ _ come script Evaluator plan _ piece refl c.in_ok-script.ensures.left c.program.result.now.shape e c.in_ok-behind.told.results c.in_ok-behind.ensures.told.results
 
-pub returns-in_err-write_piece-clause-front : goal.returns-in_err-write_piece-clause-front
-returns-in_err-write_piece-clause-front g c =
+pub returns-in_err-trapped-clause-front : goal.returns-in_err-trapped-clause-front
+returns-in_err-trapped-clause-front g c =
     let work = c.args.work in
     let come = c.loop-stages.invariant.come in
     let script = c.in-Some.script in
