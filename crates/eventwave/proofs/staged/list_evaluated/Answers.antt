@@ -113,8 +113,8 @@ returns-in_err-trapped-clause-front g c =
     let piece = next_piece _ _ _ _ _ _ come script _ c.pieces_are_listed.ensures.piece c.in_ok-script.ensures.piece c.in-Some.is in
     let plan : Plan = piece_plan work.program script Evaluator in
     let e = ap (λ (p : Program). p.shape) c.program.ensures.program in
-    let front = subst (AppendsFront _ _) (evaluated_lines _ _ _ _ _ _ come script Evaluator plan _ piece refl c.in_ok-script.ensures.left c.program.result.now.shape c.first_ticket-first.result.0 e (ap (λ (t : Ticket). t.0) c.first_ticket-first.ensures)) (c.in_err-write_piece.ensures.front (results_at c.program.result.now.shape work.service c.next.new.self.start script) c.in_ok-behind.ensures.told) in
-    on_err c.from_residual-in_err-write_piece.result (piece_front _ _ _ _ _ _ come script Evaluator plan _ piece refl c.in_ok-script.ensures.left c.args.places c.next.new.self.start _ c.pieces_are_listed.ensures.within refl front)
+    let front = subst (AppendsFront _ _) (evaluated_lines _ _ _ _ _ _ come script Evaluator plan _ piece refl c.in_ok-script.ensures.left c.program.result.now.shape c.first_ticket-first.result.0 e (ap (λ (t : Ticket). t.0) c.first_ticket-first.ensures)) (c.in_err-trapped.ensures.front (results_at c.program.result.now.shape work.service c.next.new.self.start script) c.in_ok-behind.ensures.told) in
+    on_err c.from_residual-in_err-trapped.result (piece_front _ _ _ _ _ _ come script Evaluator plan _ piece refl c.in_ok-script.ensures.left c.args.places c.next.new.self.start _ c.pieces_are_listed.ensures.within refl front)
 
 pub loop-stages-preserved : goal.loop-stages-preserved
 loop-stages-preserved g c =
@@ -125,10 +125,10 @@ loop-stages-preserved g c =
     let plan : Plan = piece_plan work.program script Evaluator in
     let e = ap (λ (p : Program). p.shape) c.program.ensures.program in
     let after = after_evaluated _ _ _ _ _ _ come script Evaluator plan _ piece refl c.in_ok-script.ensures.left c.program.result.now.shape c.in_ok-behind.behind e c.in_ok-behind.ensures.after in
-    let traps = c.in_ok-write_piece.ensures.trapped ∙ traps_evaluated _ _ _ _ _ _ come script Evaluator plan _ piece refl c.in_ok-script.ensures.left c.program.result.now.shape c.in_ok-behind.told.results e c.in_ok-behind.ensures.told.results in
-    let written = subst (Appends _ _) (evaluated_lines _ _ _ _ _ _ come script Evaluator plan _ piece refl c.in_ok-script.ensures.left c.program.result.now.shape c.first_ticket-first.result.0 e (ap (λ (t : Ticket). t.0) c.first_ticket-first.ensures)) (c.in_ok-write_piece.ensures.lines (results_at c.program.result.now.shape work.service c.next.new.self.start script) c.in_ok-behind.ensures.told) in
+    let traps = c.in_ok-trapped.ensures.trapped ∙ traps_evaluated _ _ _ _ _ _ come script Evaluator plan _ piece refl c.in_ok-script.ensures.left c.program.result.now.shape c.in_ok-behind.told.results e c.in_ok-behind.ensures.told.results in
+    let written = subst (Appends _ _) (evaluated_lines _ _ _ _ _ _ come script Evaluator plan _ piece refl c.in_ok-script.ensures.left c.program.result.now.shape c.first_ticket-first.result.0 e (ap (λ (t : Ticket). t.0) c.first_ticket-first.ensures)) (c.in_ok-trapped.ensures.lines (results_at c.program.result.now.shape work.service c.next.new.self.start script) c.in_ok-behind.ensures.told) in
     record {
-      come = has_come _ _ _ _ _ _ come script Evaluator plan _ piece refl c.in_ok-script.ensures.left work.program c.next.new.self.start c.in_ok-behind.behind c.in_ok-write_piece.field-0 _ refl refl after c.in_ok-behind.ensures.staged traps written;
+      come = has_come _ _ _ _ _ _ come script Evaluator plan _ piece refl c.in_ok-script.ensures.left work.program c.next.new.self.start c.in_ok-behind.behind c.in_ok-trapped.field-0 _ refl refl after c.in_ok-behind.ensures.staged traps written;
       later = omega (arith, c.loop-stages.invariant.later, c.write_piece.ensures.later);
     }
 
