@@ -10,6 +10,7 @@ pub mod Judged
 pub mod Judging
 pub mod Lasting
 pub mod Leveled
+pub mod Linking
 pub mod Lists
 pub mod Locals
 pub mod Meeting

@@ -4,6 +4,7 @@ pub mod Faults
 pub mod Fit
 pub mod inner
 pub mod Lawful
+pub mod Links
 pub mod Looks
 pub mod Points
 pub mod Reads

@@ -1,3 +1,4 @@
 pub mod Asks
+pub mod Linked
 pub mod Nexts
 pub mod Surveys

@@ -6,6 +6,7 @@ mod error;
 mod judge;
 mod kinds;
 mod laws;
+mod links;
 mod looks;
 mod marks;
 mod point;
@@ -18,5 +19,6 @@ pub use laws::{
     copies_are_kept, events_begin, events_end, instructions_meet_the_rules, kept_fields_are_enough,
     peeking_only_looks, segments_pause,
 };
+pub use links::{Link, takes_ints};
 pub use stack::Stack;
 pub use verified::{Verified, verify};

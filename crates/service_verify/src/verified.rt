@@ -3,12 +3,14 @@
 ghost use Rattle.std.specs.Prelude.{◌≡◌, ◌<◌, ◌↔◌, ℕ, Some, true, length, slice_get, IfOk, IfErr};
 ghost use Rattle.service_verify.specs.Faults.{Names};
 ghost use Rattle.service_verify.specs.Fit.{IsSmall};
+ghost use Rattle.service_verify.specs.Links.{AreLinked};
 ghost use Rattle.service_verify.specs.Looks.{peeks, looks_from};
 ghost use Rattle.service_verify.specs.Points.{IsVerified, Breaks};
 ghost use Rattle.service_verify.specs.Reads.{Reads, kept};
 
 use crate::asks::Judge;
 use crate::error::VerifyError;
+use crate::links::{Link, links_of_functions};
 use crate::survey::Survey;
 use service_code::Program;
 use std::alloc::Global;
@@ -17,24 +19,26 @@ use value_ops::wave_ops_2;
 use wave_base::{Class, Seq};
 
 /// A program each of whose instructions keeps the verifier's rules; with it for each class which of its fields are read from
-/// below, and for each event's function from where on it only looks.
+/// below, for each event's function from where on it only looks, and for each function what a whole number meets at each place.
 #[derive(Debug, Drop)]
 pub struct Verified {
     program: Program,
     kept: Vec<Seq<bool>>,
     looks: Vec<Option<usize>>,
+    links: Vec<Seq<Link>>,
 }
 
 impl Model for Verified {
     ghost use Rattle.service_code.specs.declared.program.Program.{Program};
     ghost use Rattle.service_verify.specs.Points.{IsVerified};
+    ghost use Rattle.service_verify.specs.Links.{AreLinked};
     ghost use Rattle.service_verify.specs.inner.Surveys.{HasTables};
 
     ghost Value = { Program };
 
     ghost view = { λ v. v.program };
 
-    ghost invariant = { λ v. IsVerified v.program × HasTables v.program v.kept.items v.looks.items };
+    ghost invariant = { λ v. IsVerified v.program × HasTables v.program v.kept.items v.looks.items × AreLinked v.program v.links.items };
 }
 
 impl Verified {
@@ -73,6 +77,13 @@ impl Verified {
             None
         }
     }
+
+    /// For each function, by its number, what a whole number meets at each place of its code.
+    pub fn links(&self) -> &[Seq<Link>]
+        ensures { AreLinked self.now result.now }
+    {
+        self.links.as_slice()
+    }
 }
 
 /// Verifies a program. The first function with an instruction that breaks a rule is refused, at its first such instruction.
@@ -97,6 +108,7 @@ pub fn verify(alloc: Global, program: Program) -> Result<Verified, VerifyError>
         };
         survey.add(&program, number as u16, function, points.as_slice())?;
     }
+    let links = links_of_functions(alloc, &program)?;
     let Survey {
         kept,
         quiet: _,
@@ -106,5 +118,6 @@ pub fn verify(alloc: Global, program: Program) -> Result<Verified, VerifyError>
         program,
         kept,
         looks,
+        links,
     })
 }

@@ -6,6 +6,7 @@ pub mod Finding
 pub mod Keeping
 pub mod Leading
 pub mod Looking
+pub mod Meeting
 pub mod Seen
 pub mod Spinning
 pub mod Telling

@@ -1,7 +1,5 @@
-pub mod Acts
 pub mod Wants
 pub mod Boxes
 pub mod Frames
 pub mod inner
 pub mod Spin
-pub mod Windows

@@ -6,8 +6,8 @@ ghost use Rattle.wave_base.specs.declared.value.Value.{Value};
 ghost use Rattle.service_code.specs.declared.instr.Instr.TheVariants as instr;
 ghost use Rattle.service_code.specs.declared.program.Program.{Program};
 ghost use Rattle.service_verify.specs.Steps.{taken};
-ghost use Rattle.service_vm.specs.Acts.{Did, Does, Stays};
-ghost use Rattle.service_vm.specs.Frames.{truth_on_top};
+ghost use Rattle.service_vm.specs.inner.Acts.{Did, Does, Stays};
+ghost use Rattle.service_vm.specs.inner.Stacks.{truth_on_top};
 
 use crate::flow::Flow;
 use crate::run::Run;
@@ -19,6 +19,7 @@ impl Run {
     #[tactic(auto, unfolding(service_verify::specs::Steps::acted))]
     pub fn jump(&mut self, to: u16)
         ensures did { (program : Program) (at : Span) (fields : List Value) → Did program self.old (instr.Jump to) at fields None self.new fields }
+        ensures own { self.new.frames.top.function ≡ self.old.frames.top.function }
         ensures stays { Stays self.old self.new }
     {
         self.frames.jump(to as usize);
@@ -42,6 +43,7 @@ impl Run {
         requires place { self.old.frames.top.place < 2 ^ 63 }
         requires truth { IsSome (truth_on_top self.old.frames.top.stack) }
         ensures did { (program : Program) (at : Span) (fields : List Value) → Did program self.old (instr.JumpFalse to) at fields None self.new fields }
+        ensures own { self.new.frames.top.function ≡ self.old.frames.top.function }
         ensures stays { Stays self.old self.new }
     {
         if self.frames.pop_truth() {
@@ -57,6 +59,7 @@ impl Run {
         requires place { self.old.frames.top.place < 2 ^ 63 }
         ensures did { result ≡ true → (program : Program) (at : Span) (fields : List Value) → Did program self.old instr.Tick at fields None self.new fields }
         ensures none { result ≡ false → (self.old.ticks ≡ 0) × (self.new ≡ self.old) }
+        ensures own { self.new.frames.top.function ≡ self.old.frames.top.function }
         ensures stays { Stays self.old self.new }
     {
         if self.ticks == 0 {

@@ -162,7 +162,9 @@ fn run_to_pause(
     ensures verified { IsVerified program.now }
 {
     let class = event.run.path.class();
-    let why = event.run.pause(program.program(), &mut body.fields)?;
+    let why = event
+        .run
+        .pause(program.program(), program.links(), &mut body.fields)?;
     match &why {
         Pause::Go(_) | Pause::Down(_) => event.run.views.leave(body, program.kept(class))?,
         Pause::Back => event.run.views.back(),

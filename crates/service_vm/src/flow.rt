@@ -3,7 +3,7 @@
 ghost use Rattle.std.specs.Prelude.{◌≡◌, ◌<◌, ◌∷◌, List, Some, length};
 ghost use Rattle.wave_base.specs.declared.value.Value.{Value};
 ghost use Rattle.service_verify.specs.Steps.{Move};
-ghost use Rattle.service_vm.specs.Acts.{moved, Flows, Stays};
+ghost use Rattle.service_vm.specs.inner.Acts.{moved, Flows, Stays};
 
 use crate::run::Run;
 use wave_base::{Outcome, Pause, Span, Step, TrapKind};

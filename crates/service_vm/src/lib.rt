@@ -3,6 +3,7 @@
 
 mod act;
 mod ahead;
+mod code;
 mod control;
 mod event;
 mod flow;
@@ -13,6 +14,7 @@ mod places;
 mod plain;
 mod run;
 mod step;
+mod sum;
 mod values;
 
 pub use event::{EventBox, segment};

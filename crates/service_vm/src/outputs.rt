@@ -8,7 +8,7 @@ ghost use Rattle.deferred_out.specs.Kept.{IsKept};
 ghost use Rattle.service_code.specs.declared.instr.Instr.TheVariants as instr;
 ghost use Rattle.service_code.specs.declared.program.Program.{Program};
 ghost use Rattle.service_verify.specs.Steps.{taken};
-ghost use Rattle.service_vm.specs.Acts.{Does, Stays};
+ghost use Rattle.service_vm.specs.inner.Acts.{Does, Stays};
 
 use crate::flow::Flow;
 use crate::run::Run;

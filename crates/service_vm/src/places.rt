@@ -6,8 +6,8 @@ ghost use Rattle.wave_base.specs.declared.value.Value.{Value};
 ghost use Rattle.wave_base.specs.Paths.{parent_of};
 ghost use Rattle.service_code.specs.declared.instr.Instr.TheVariants as instr;
 ghost use Rattle.service_code.specs.declared.program.Program.{Program};
-ghost use Rattle.service_vm.specs.Acts.{Does, Stays};
-ghost use Rattle.service_vm.specs.Frames.{int_on_top, key_below};
+ghost use Rattle.service_vm.specs.inner.Acts.{Does, Stays};
+ghost use Rattle.service_vm.specs.inner.Stacks.{int_on_top, key_below};
 
 use crate::flow::Flow;
 use crate::run::Run;

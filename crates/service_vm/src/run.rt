@@ -7,8 +7,9 @@ ghost use Rattle.wave_base.specs.declared.value.Value.{Value};
 ghost use Rattle.wave_base.specs.Paths.{path_cmp};
 ghost use Rattle.deferred_out.specs.Kept.{nothing};
 ghost use Rattle.service_verify.specs.Steps.{is_held, trapped, finished};
-ghost use Rattle.service_vm.specs.Acts.{box_of, moved, Settled, Stays};
-ghost use Rattle.service_vm.specs.Frames.{moved_on};
+ghost use Rattle.service_vm.specs.Boxes.{box_of};
+ghost use Rattle.service_vm.specs.inner.Acts.{moved, Settled, Stays};
+ghost use Rattle.service_vm.specs.inner.Stacks.{moved_on};
 
 use crate::flow::Flow;
 use crate::frames::Frames;

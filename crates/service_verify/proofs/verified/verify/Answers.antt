@@ -19,6 +19,7 @@ pub invariant_of-result : goal.invariant_of-result
 invariant_of-result c = (
   all_keep c.args.program c.loop-number.number (subst (λ fs. length fs ≤ c.loop-number.number) c.as_slice-function-items.ensures c.loop-number-test.false) c.loop-number.invariant.0,
   all_surveyed c.args.program c.loop-number.number _ _ _ (omega (arith, c.loop-number-test.false, c.loop-number.auto.number-end, ap length c.as_slice-function-items.ensures)) c.loop-number.invariant.1,
+  c.in_ok-links.ensures,
 )
 
 pub returns-clause-verified : goal.returns-clause-verified

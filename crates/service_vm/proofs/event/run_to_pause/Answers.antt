@@ -1,6 +1,7 @@
 use Rattle.std.proofs.Common.{◌∙◌, ◌<◌, ap, sym, subst, length}
 use Rattle.wave_base.specs.Shapes.{class_of}
 use Rattle.service_verify.specs.Fit.{IsFit}
+use Rattle.service_verify.specs.Links.{AreLinked}
 use Rattle.service_verify.specs.Points.{IsVerified}
 use Rattle.service_verify.specs.Reads.{kept}
 use Rattle.service_verify.specs.Standing.{HasFields, Stands}
@@ -57,3 +58,6 @@ returns-in_err-leave-in-Go-clause-wants c =
     (subst (λ v. MayWantIn c.args.program.now v c.args.body.now.fields) is
     (subst (λ q. MayWantIn q (event_in c.event.inside.ended c.event.inside.run) c.args.body.now.fields) e
     (wants_down c.program.result.now s.0 s.1 c.event.inside.ended c.event.inside.run c.pause.new.self c.args.body.now.fields c.pause.new.fields c.in_ok-why.why stands c.in_ok-why.ensures.did c.in-Go.is)))
+
+pub pause-requires-clause-linked : goal.pause-requires-clause-linked
+pause-requires-clause-linked c = subst (λ q. AreLinked q c.links.result.now) (sym c.program.ensures.program) c.links.ensures

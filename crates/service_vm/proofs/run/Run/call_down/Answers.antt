@@ -6,7 +6,7 @@ use Rattle.wave_base.specs.declared.pause.Pause.TheVariants as pause
 use Rattle.wave_base.specs.declared.value.Value.TheVariants as v
 use Rattle.service_code.specs.declared.instr.Instr.TheVariants as instr
 use Rattle.service_verify.specs.Steps.{taken, is_held}
-use Rattle.service_vm.specs.Acts.{Did, Entering}
+use Rattle.service_vm.specs.inner.Acts.{Did, Entering}
 use Rattle.service_vm.specs.Frames.{Frames}
 use Rattle.service_vm.proofs.DoingFrames.{entering_is, down_did, down_traps}
 use Rattle.service_vm.proofs.Doing.{entered_frames, trap_over}

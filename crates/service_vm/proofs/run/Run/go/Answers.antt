@@ -5,7 +5,7 @@ use Rattle.wave_base.specs.declared.trap.TrapKind.TheVariants.{Reach}
 use Rattle.wave_base.specs.declared.pause.Pause.TheVariants as pause
 use Rattle.service_code.specs.declared.instr.Instr.TheVariants as instr
 use Rattle.service_verify.specs.Steps.{is_held}
-use Rattle.service_vm.specs.Acts.{Did, Entering}
+use Rattle.service_vm.specs.inner.Acts.{Did, Entering}
 use Rattle.service_vm.proofs.DoingFrames.{entering_is, go_did, go_traps}
 use Rattle.service_vm.proofs.Doing.{trap_over}
 use Rattle.service_vm.proofs.run.Run.go.Goals as goal

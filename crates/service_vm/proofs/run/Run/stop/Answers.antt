@@ -1,7 +1,8 @@
 use Rattle.std.proofs.Common.{ap, subst, ◌∙◌}
 use Rattle.wave_base.specs.declared.outcome.Outcome.TheVariants.{Reply as Replied}
 use Rattle.service_verify.specs.Steps.{on_top, finished}
-use Rattle.service_vm.specs.Acts.{box_of, Flows}
+use Rattle.service_vm.specs.Boxes.{box_of}
+use Rattle.service_vm.specs.inner.Acts.{Flows}
 use Rattle.service_vm.specs.Frames.{Frames}
 use Rattle.service_vm.proofs.run.Run.stop.Goals as goal
 
