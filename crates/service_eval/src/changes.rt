@@ -15,6 +15,7 @@ use context_tree::Tree;
 use wave_base::{Seq, Span};
 
 /// Changes a variable. Memory is asked for by a new key of a map alone.
+#[inline(always)]
 pub fn change(
     code: Code<'_>,
     contexts: &mut Tree,
@@ -34,6 +35,7 @@ pub fn change(
 }
 
 // A local changes where it stands.
+#[inline(always)]
 fn change_local(
     code: Code<'_>,
     contexts: &Tree,
@@ -50,6 +52,7 @@ fn change_local(
 }
 
 // The fields of the context come out, one of them changes, and they go back.
+#[inline(never)]
 fn change_field(
     code: Code<'_>,
     contexts: &mut Tree,
