@@ -7,7 +7,8 @@ ghost use Rattle.wave_base.specs.declared.value.Kind.{Kind};
 ghost use Rattle.wave_base.specs.declared.value.Value.{Value};
 
 use value_ops::rows::{
-    ADD, AT, DIV, EQ, GE, GT, HAS, KEY, LE, LEN, LT, MAX, MIN, MUL, NE, NUM, REM, SIZE, SUB, SUM,
+    ABS, ADD, AT, DIV, EQ, GE, GT, HAS, KEY, LE, LEN, LT, MAX, MIN, MUL, NE, NEG, NUM, REM, SIZE,
+    SUB, SUM,
 };
 use wave_base::{TrapKind, Value};
 
@@ -32,6 +33,20 @@ pub fn compares(row: usize) -> bool
 {
     match row {
         EQ | NE | LT | LE | GT | GE => true,
+        _ => false,
+    }
+}
+
+/// Whether a row gives an int of an int.
+#[inline(always)]
+#[tactic(auto, unfolding(value_ops::specs::Operators::takes_of, value_ops::specs::Operators::gives_of, value_ops::specs::Operators::operators))]
+pub fn turns_int(row: usize) -> bool
+    ensures takes { IsTrue result → takes_of row ≡ Kind.Int ∷ [] }
+    ensures gives { IsTrue result → gives_of row ≢ Kind.Text }
+{
+    match row {
+        NEG => true,
+        ABS => true,
         _ => false,
     }
 }

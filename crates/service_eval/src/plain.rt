@@ -7,12 +7,12 @@ ghost use Rattle.resolved_service.specs.World.{nothing};
 ghost use Rattle.service_eval.specs.inner.Turns.{IsWorth};
 ghost use Rattle.wave_base.specs.declared.value.Value.{Value};
 
-use crate::given::{asks, compares, flag_in, int_in, measures, reads_int, reckons};
+use crate::given::{asks, compares, flag_in, int_in, measures, reads_int, reckons, turns_int};
 use crate::look::{View, above};
 use crate::rows::apply_one;
 use crate::stop::Stop;
 use resolved_service::{Expr, Node};
-use value_ops::{apply_ints, read_map};
+use value_ops::{apply_int, apply_ints, read_map};
 use wave_base::{Path, Span, Value};
 
 /// The int or the truth value that an expression has, if it is found so.
@@ -54,10 +54,16 @@ fn number_of<'v>(view: &View<'v, '_>, row: u16, args: &'v [Expr], at: Span) -> O
     }
 }
 
+#[cycle(number)]
 fn number_of_one<'v>(view: &View<'v, '_>, row: u16, a: &'v Expr, at: Span) -> Option<i64>
     ensures { IfSome result (λ n. IsWorth view.now (Op at row (tree (tree_of a.now) no_trees)) (Value.Int n)) }
 {
-    if measures(row as usize) {
+    if turns_int(row as usize) {
+        match number(view, a) {
+            Some(n) => int_in(apply_int(row as usize, n)),
+            None => None,
+        }
+    } else if measures(row as usize) {
         match held(view, a) {
             Some(value) => int_found(apply_one(view.code.alloc, row as usize, value, at)),
             None => None,
