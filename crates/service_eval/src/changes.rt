@@ -65,9 +65,9 @@ fn change_field(
     ensures does { Does code.entry contexts.old m.now (changing m.now.path at (variable.Field f) edit) result contexts.new m.now }
     ensures memory { WhereWanting result (PutsNewKey edit (value_of code.entry contexts.old m.now (variable.Field f))) }
 {
-    let taken = contexts.exchange(&m.path, Seq::new(code.alloc));
+    let taken = contexts.exchange_near(m.near, &m.path, Seq::new(code.alloc));
     let mut fields = taken.into_vec();
     let done = edit.apply_at(&mut fields, f as usize, at);
-    let _ = contexts.exchange(&m.path, Seq::from_vec(fields));
+    let _ = contexts.exchange_near(m.near, &m.path, Seq::from_vec(fields));
     done
 }

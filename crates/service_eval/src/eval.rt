@@ -48,12 +48,12 @@ pub fn eval<'s>(
             give(m, value)
         }
         Node::Field(f) => {
-            let value = field(code.shape, contexts, &m.path, *f as usize).owned(code.alloc);
+            let value = field(code.shape, contexts, m.near, &m.path, *f as usize).owned(code.alloc);
             give(m, value)
         }
         Node::Above(level, f) => {
             let path = above(&m.path, *level as usize);
-            let value = field(code.shape, contexts, &path, *f as usize).owned(code.alloc);
+            let value = field(code.shape, contexts, m.near, &path, *f as usize).owned(code.alloc);
             give(m, value)
         }
         Node::Op(row, args) => operate(code, contexts, m, e.at, *row, args.as_slice()),

@@ -187,7 +187,7 @@ fn held<'v>(view: &View<'v, '_>, e: &'v Expr) -> Option<&'v Value>
 fn kept_field<'v>(view: &View<'v, '_>, path: &Path, field: usize) -> Option<&'v Value>
     ensures { IfSome result (λ v. v.now ≡ get_or ((shown view.now.code.shape.now view.now.contexts.now).fields path.now) field nothing) }
 {
-    match view.contexts.get(path) {
+    match view.contexts.get_near(view.m.near, path) {
         Some(record) => kept(record.fields.as_slice(), field),
         None => None,
     }
