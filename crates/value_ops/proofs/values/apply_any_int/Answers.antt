@@ -1,4 +1,4 @@
-use Rattle.std.proofs.Common.{◌∙◌, sym, subst, [], ◌∷◌, w64}
+use Rattle.std.proofs.Common.{◌∙◌, ap, sym, subst, [], ◌∷◌, w64}
 use Rattle.std.proofs.lemmas.Int.{to_z-of_z}
 use Rattle.wave_base.specs.declared.value.Value.TheVariants as value
 use Rattle.value_ops.specs.Answers.{Answers}
@@ -16,4 +16,5 @@ pub apply_int-requires-clause-gives : goal.apply_int-requires-clause-gives
 apply_int-requires-clause-gives c = gives_no_text c.args.row c.requires c.if-row-eq-STR.false
 
 pub returns-in_err-apply_int : goal.returns-in_err-apply_int
-returns-in_err-apply_int c = traps _ _ _ c.from_residual.ensures.1 (sym c.in_err-apply_int.ensures)
+returns-in_err-apply_int c =
+    traps _ _ _ c.from_residual.ensures.1 (sym (c.in_err-apply_int.ensures ∙ ap (λ z. apply_row c.args.row (value.Int z ∷ [])) (to_z-of_z w64 c.args.a c.ranges.a)))
