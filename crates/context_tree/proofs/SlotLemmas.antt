@@ -1,5 +1,5 @@
 -- Slots: the order in which contexts join.
-use Rattle.std.proofs.Common.{◌≡◌, ◌+◌, ◌<◌, ℕ, suc, Bool, true, false, not, cond, nat_lt, if◌then◌else◌, List, [], ◌∷◌, ◌++◌, length, position, slice_get, Some, None, option_map, is_some, unwrap_or, refl, sym, ap, subst, ◌∙◌, arith}
+use Rattle.std.proofs.Common.{◌≡◌, ◌+◌, ◌<◌, ℕ, suc, Bool, true, false, not, cond, nat_lt, if◌then◌else◌, List, [], ◌∷◌, ◌++◌, length, map, position, slice_get, Option, Some, None, option_map, is_some, unwrap_or, refl, sym, ap, subst, ◌∙◌, arith}
 use mathlib.Core.Bool.{true≢false}
 use Rattle.std.proofs.lemmas.Bool.{ltb-true, lt-ltb}
 use Rattle.std.proofs.lemmas.List.{length-append}
@@ -11,9 +11,10 @@ use Rattle.wave_base.specs.declared.path.Path.{Path}
 use Rattle.wave_base.specs.declared.record.Record.{Record}
 use Rattle.wave_base.specs.declared.shape.Shape.{Shape}
 use Rattle.wave_base.specs.Paths.{path_eq}
+use Rattle.wave_base.specs.PathLaws.{path_eq_decides}
 use Rattle.wave_base.specs.Starts.{shown_fields}
-use Rattle.context_tree.specs.Contexts.{Contexts, kept, joins}
-use Rattle.context_tree.proofs.KeptLemmas.{shown_record}
+use Rattle.context_tree.specs.Contexts.{Contexts, kept, joins, is_there}
+use Rattle.context_tree.proofs.KeptLemmas.{shown_record, there_kept}
 use Rattle.context_tree.proofs.Ordered.{Entries, any_found}
 
 -- what is found in a list is found there when more stand behind

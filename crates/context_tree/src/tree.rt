@@ -90,11 +90,12 @@ impl Tree {
         ensures none { IsNone result ↔ (is_there self.now path.now ≡ false) }
         ensures some { (shape : Shape) → IfSome result (λ r. r.now.fields ≡ (tree_of shape self.now).fields path.now) }
     {
-        let found = self.contexts.get_index(slot);
-        match found {
-            Some((at, record)) if at == path => Some(record),
-            _ => self.get(path),
+        if let Some((at, record)) = self.contexts.get_index(slot) {
+            if at == path {
+                return Some(record);
+            }
         }
+        self.get(path)
     }
 
     /// The slot of the context at a path.
@@ -185,10 +186,10 @@ impl Tree {
         ensures before { (shape : Shape) → (tree_of shape self.old).fields path.now ≡ result }
         ensures joined { self.new.joined ≡ self.old.joined }
     {
-        let Some(record) = self.contexts.get_index_mut(slot) else {
-            unreachable!()
-        };
-        std::mem::replace(&mut record.fields, fields)
+        match self.contexts.get_index_mut(slot) {
+            Some(found) => std::mem::replace(&mut found.fields, fields),
+            None => unreachable!(),
+        }
     }
 
     /// All contexts with their fields, in path order.
