@@ -1,5 +1,5 @@
 -- Slots: the order in which contexts join.
-use Rattle.std.proofs.Common.{◌≡◌, ◌+◌, ◌<◌, ℕ, suc, Bool, true, false, not, cond, nat_lt, if◌then◌else◌, List, [], ◌∷◌, ◌++◌, length, position, slice_get, Some, None, option_map, is_some, unwrap_or, refl, sym, ap, subst, ◌∙◌, arith}
+use Rattle.std.proofs.Common.{◌≡◌, ◌+◌, ◌<◌, ℕ, suc, Bool, true, false, not, cond, nat_lt, if◌then◌else◌, List, [], ◌∷◌, ◌++◌, length, map, position, slice_get, Option, Some, None, option_map, is_some, unwrap_or, refl, sym, ap, subst, ◌∙◌, arith}
 use mathlib.Core.Bool.{true≢false}
 use Rattle.std.proofs.lemmas.Bool.{ltb-true, lt-ltb}
 use Rattle.std.proofs.lemmas.List.{length-append}
@@ -11,9 +11,10 @@ use Rattle.wave_base.specs.declared.path.Path.{Path}
 use Rattle.wave_base.specs.declared.record.Record.{Record}
 use Rattle.wave_base.specs.declared.shape.Shape.{Shape}
 use Rattle.wave_base.specs.Paths.{path_eq}
+use Rattle.wave_base.specs.PathLaws.{path_eq_decides}
 use Rattle.wave_base.specs.Starts.{shown_fields}
-use Rattle.context_tree.specs.Contexts.{Contexts, kept, joins}
-use Rattle.context_tree.proofs.KeptLemmas.{shown_record}
+use Rattle.context_tree.specs.Contexts.{Contexts, kept, joins, is_there}
+use Rattle.context_tree.proofs.KeptLemmas.{shown_record, there_kept}
 use Rattle.context_tree.proofs.Ordered.{Entries, any_found}
 
 -- what is found in a list is found there when more stand behind
@@ -69,3 +70,39 @@ pub found_in_slot : (shape : Shape) (es : Entries) (slot : ℕ) (p q : Path) (r 
 found_in_slot shape es slot p q r entry value is =
     let same : q ≡ p = same_Some q p (ap (option_map (λ (e : Path × Record). e.0)) entry ∙ sym (slice_get-map (λ (e : Path × Record). e.0) es slot) ∙ is) in
     sym (shown_record es p r (subst (λ k. lookup (path_eq k) es ≡ Some r) same value) shape)
+
+-- a record whose path is found to be another's is that one's
+module _ (es : Entries) (p q : Path) (r : Record) (h : lookup (path_eq q) es ≡ Some r) (e : path_eq q p ≡ true) where
+  at_path : lookup (path_eq p) es ≡ Some r
+  at_path = subst (λ k. lookup (path_eq k) es ≡ Some r) ((path_eq_decides q p).0 e) h
+
+  pub near_there : is_there (kept es) p ≡ true
+  near_there = sym (there_kept es p) ∙ ap is_some at_path
+
+  pub near_shown : (shape : Shape) → r.fields ≡ shown_fields shape (kept es).shots p
+  near_shown shape = sym (shown_record es p r at_path shape)
+
+-- a path that stands in a slot
+pub stands : (es : Entries) (slot : ℕ) (p q : Path) (r : Record) → Some (q, r) ≡ slice_get es slot → path_eq q p ≡ true → slice_get (keys_of es) slot ≡ Some p
+stands es slot p q r entry e =
+    slice_get-map (λ (e : Path × Record). e.0) es slot ∙ sym (ap (option_map (λ (e : Path × Record). e.0)) entry) ∙ ap Some ((path_eq_decides q p).0 e)
+
+module _ (es : Entries) (slot : ℕ) (p : Path) (is : slice_get (keys_of es) slot ≡ Some p) where
+  key_at : option_map (λ (e : Path × Record). e.0) (slice_get es slot) ≡ Some p
+  key_at = sym (slice_get-map (λ (e : Path × Record). e.0) es slot) ∙ is
+
+  -- something stands there
+  pub not_past : None ≡ slice_get (map (λ (e : Path × Record). e.1) es) slot → ⊥
+  not_past none = by (slice_get es slot) key_at (sym (slice_get-map (λ (e : Path × Record). e.1) es slot) ∙ sym none)
+    where
+      by : (o : Option (Path × Record)) → option_map (λ (e : Path × Record). e.0) o ≡ Some p → option_map (λ (e : Path × Record). e.1) o ≡ None → ⊥
+      by None k v = absurd (true≢false (sym (ap is_some k)))
+      by (Some e) k v = absurd (true≢false (ap is_some v))
+
+  -- and what stands there is the path's
+  pub entry_at : (r : Record) → Some r ≡ slice_get (map (λ (e : Path × Record). e.1) es) slot → slice_get es slot ≡ Some (p, r)
+  entry_at r value = by (slice_get es slot) key_at (sym (slice_get-map (λ (e : Path × Record). e.1) es slot) ∙ sym value)
+    where
+      by : (o : Option (Path × Record)) → option_map (λ (e : Path × Record). e.0) o ≡ Some p → option_map (λ (e : Path × Record). e.1) o ≡ Some r → o ≡ Some (p, r)
+      by None k v = absurd (true≢false (sym (ap is_some k)))
+      by (Some e) k v = λ i. Some (same_Some e.0 p k i, same_Some e.1 r v i)

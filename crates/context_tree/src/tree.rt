@@ -85,6 +85,19 @@ impl Tree {
         self.contexts.get(path)
     }
 
+    /// The context at a path, which is looked for in a slot first. It may stand in another one: then it is looked up.
+    pub fn get_near(&self, slot: usize, path: &Path) -> Option<&Record>
+        ensures none { IsNone result ↔ (is_there self.now path.now ≡ false) }
+        ensures some { (shape : Shape) → IfSome result (λ r. r.now.fields ≡ (tree_of shape self.now).fields path.now) }
+    {
+        if let Some((at, record)) = self.contexts.get_index(slot) {
+            if at == path {
+                return Some(record);
+            }
+        }
+        self.get(path)
+    }
+
     /// The slot of the context at a path.
     pub fn slot(&self, path: &Path) -> Option<usize>
         ensures place { result ≡ position (path_eq path.now) self.now.joined }
@@ -137,6 +150,44 @@ impl Tree {
     {
         match self.contexts.get_mut(path) {
             Some(record) => std::mem::replace(&mut record.fields, fields),
+            None => unreachable!(),
+        }
+    }
+
+    /// The same, where the context is looked for in a slot first. It may stand in another one: then it is looked up.
+    pub fn exchange_near(&mut self, slot: usize, path: &Path, fields: Seq<Value>) -> Seq<Value>
+        requires { is_there self.old path.now ≡ true }
+        ensures put { (shape : Shape) → tree_of shape self.new ≡ put (tree_of shape self.old) path.now fields }
+        ensures before { (shape : Shape) → (tree_of shape self.old).fields path.now ≡ result }
+        ensures joined { self.new.joined ≡ self.old.joined }
+    {
+        if self.stands_in(slot, path) {
+            self.exchange_at(slot, path, fields)
+        } else {
+            self.exchange(path, fields)
+        }
+    }
+
+    // Whether a slot is that of a path.
+    fn stands_in(&self, slot: usize, path: &Path) -> bool
+        ensures { IsTrue result → slice_get self.now.joined slot ≡ Some path.now }
+    {
+        if let Some((found, _)) = self.contexts.get_index(slot) {
+            found == path
+        } else {
+            false
+        }
+    }
+
+    // The same at the slot of the context.
+    fn exchange_at(&mut self, slot: usize, path: &Path, fields: Seq<Value>) -> Seq<Value>
+        requires { slice_get self.old.joined slot ≡ Some path.now }
+        ensures put { (shape : Shape) → tree_of shape self.new ≡ put (tree_of shape self.old) path.now fields }
+        ensures before { (shape : Shape) → (tree_of shape self.old).fields path.now ≡ result }
+        ensures joined { self.new.joined ≡ self.old.joined }
+    {
+        match self.contexts.get_index_mut(slot) {
+            Some(found) => std::mem::replace(&mut found.fields, fields),
             None => unreachable!(),
         }
     }

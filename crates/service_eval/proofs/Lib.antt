@@ -6,6 +6,7 @@ pub mod WorldLemmas
 pub mod TreeRows
 pub mod LeaveTurns
 pub mod LookLemmas
+pub mod PlainLemmas
 pub mod WantLemmas
 pub mod Outcomes
 pub mod EvalLemmas

@@ -58,6 +58,7 @@ pub fn assignment_in(stmt: &Stmt) -> Option<Assignment<'_>>
 
 /// Does a statement that changes a variable and meets no call, and says whether it did. Nothing has changed where it
 /// didn't. Memory is asked for by what gives or copies a text or a map, and by a new key of a map.
+#[inline(always)]
 pub fn at_once(
     code: Code<'_>,
     contexts: &mut Tree,
@@ -71,13 +72,14 @@ pub fn at_once(
     let at = stmt.at;
     match assignment_in(stmt) {
         Some(Assignment::Set(variable, e)) => set(code, contexts, m, at, variable, e),
-        Some(Assignment::Put(variable, key, e)) => put(code, contexts, m, at, variable, key, e),
+        Some(Assignment::Put(variable, key, e)) => put(code, contexts, m, at, variable, (key, e)),
         Some(Assignment::Cut(variable, key)) => cut(code, contexts, m, at, variable, key),
         None => Ok(false),
     }
 }
 
 // The variable has the value.
+#[inline(always)]
 fn set(
     code: Code<'_>,
     contexts: &mut Tree,
@@ -104,14 +106,13 @@ fn put(
     m: &mut Machine<'_>,
     at: Span,
     variable: Variable,
-    key: &Expr,
-    e: &Expr,
+    pair: (&Expr, &Expr),
 ) -> Result<bool, Stop>
     requires { Ready code.shape.now code.methods.now (mach code contexts.old m.old) }
-    ensures does { AtOnce code.entry contexts.old m.old (step_in at (assignment.Put variable key.entry e.entry)) result contexts.new m.new }
-    ensures memory { WhereWanting result (MayWantAtOnce code.entry contexts.old m.old (step_in at (assignment.Put variable key.entry e.entry))) }
+    ensures does { AtOnce code.entry contexts.old m.old (step_in at (assignment.Put variable pair.entry.0 pair.entry.1)) result contexts.new m.new }
+    ensures memory { WhereWanting result (MayWantAtOnce code.entry contexts.old m.old (step_in at (assignment.Put variable pair.entry.0 pair.entry.1))) }
 {
-    match found_two(code, contexts, m, key, e) {
+    match found_two(code, contexts, m, pair.0, pair.1) {
         Ok(Some((key, value))) => told(change(
             code,
             contexts,
@@ -168,6 +169,7 @@ fn found_two(
 }
 
 // That a change was made, or why it wasn't.
+#[inline(always)]
 fn told(done: Result<(), Stop>) -> Result<bool, Stop>
     ensures { result ≡ told done }
 {

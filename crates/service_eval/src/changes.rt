@@ -15,6 +15,7 @@ use context_tree::Tree;
 use wave_base::{Seq, Span};
 
 /// Changes a variable. Memory is asked for by a new key of a map alone.
+#[inline(always)]
 pub fn change(
     code: Code<'_>,
     contexts: &mut Tree,
@@ -34,6 +35,7 @@ pub fn change(
 }
 
 // A local changes where it stands.
+#[inline(always)]
 fn change_local(
     code: Code<'_>,
     contexts: &Tree,
@@ -50,6 +52,7 @@ fn change_local(
 }
 
 // The fields of the context come out, one of them changes, and they go back.
+#[inline(never)]
 fn change_field(
     code: Code<'_>,
     contexts: &mut Tree,
@@ -62,9 +65,9 @@ fn change_field(
     ensures does { Does code.entry contexts.old m.now (changing m.now.path at (variable.Field f) edit) result contexts.new m.now }
     ensures memory { WhereWanting result (PutsNewKey edit (value_of code.entry contexts.old m.now (variable.Field f))) }
 {
-    let taken = contexts.exchange(&m.path, Seq::new(code.alloc));
+    let taken = contexts.exchange_near(m.near, &m.path, Seq::new(code.alloc));
     let mut fields = taken.into_vec();
     let done = edit.apply_at(&mut fields, f as usize, at);
-    let _ = contexts.exchange(&m.path, Seq::from_vec(fields));
+    let _ = contexts.exchange_near(m.near, &m.path, Seq::from_vec(fields));
     done
 }

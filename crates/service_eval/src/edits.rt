@@ -27,6 +27,7 @@ pub enum Edit {
 
 impl Edit {
     /// Changes one of some values; nothing changes where it is not there. Memory is asked for by a new key alone.
+    #[inline(always)]
     pub fn apply_at(self, values: &mut Vec<Value>, i: usize, at: Span) -> Result<(), Stop>
         ensures revises { Revises self at values.old.items i result values.new.items }
         ensures memory { WhereWanting result (PutsNewKey self (get_or values.old.items i nothing)) }
@@ -57,6 +58,7 @@ impl Edit {
 }
 
 // The map has the pair.
+#[inline(never)]
 fn put(map: &mut Value, key: &Value, new: &Value, at: Span) -> Result<(), Stop>
     ensures alters { Alters (apply_row row_put (map.old ∷ key.now ∷ new.now ∷ [])) at map.old result map.new }
     ensures memory { WhereWanting result (IsNewKey map.old key.now) }
@@ -78,6 +80,7 @@ fn put(map: &mut Value, key: &Value, new: &Value, at: Span) -> Result<(), Stop>
 }
 
 // The map has the key no more.
+#[inline(never)]
 fn cut(map: &mut Value, key: &Value, at: Span) -> Result<(), Stop>
     ensures alters { Alters (apply_row row_cut (map.old ∷ key.now ∷ [])) at map.old result map.new }
     ensures memory { WhereWanting result ⊥ }

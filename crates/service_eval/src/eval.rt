@@ -21,6 +21,7 @@ use crate::code::Code;
 use crate::fields::{field, item};
 use crate::look::{View, above, look, look_row};
 use crate::machine::Machine;
+use crate::plain::plain;
 use crate::rows::apply_any;
 use crate::stop::Stop;
 use crate::work::{Callee, Work};
@@ -47,12 +48,12 @@ pub fn eval<'s>(
             give(m, value)
         }
         Node::Field(f) => {
-            let value = field(code.shape, contexts, &m.path, *f as usize).owned(code.alloc);
+            let value = field(code.shape, contexts, m.near, &m.path, *f as usize).owned(code.alloc);
             give(m, value)
         }
         Node::Above(level, f) => {
             let path = above(&m.path, *level as usize);
-            let value = field(code.shape, contexts, &path, *f as usize).owned(code.alloc);
+            let value = field(code.shape, contexts, m.near, &path, *f as usize).owned(code.alloc);
             give(m, value)
         }
         Node::Op(row, args) => operate(code, contexts, m, e.at, *row, args.as_slice()),
@@ -110,6 +111,7 @@ fn operate<'s>(
 }
 
 /// The value of an expression, where no call is met. Nothing has changed then.
+#[inline(always)]
 pub fn found(
     code: Code<'_>,
     contexts: &Tree,
@@ -119,8 +121,22 @@ pub fn found(
     ensures finds { Finds (value (called code.entry.methods.now TICKS) m.now.path (tree_of e.now) (state_of (shown code.entry.shape.now contexts.now) m.now)) (state_of (shown code.entry.shape.now contexts.now) m.now) result }
     ensures memory { WhereWanting result (MayWantToFind code.entry contexts.now m.now (tree_of e.now)) }
 {
-    match look(View { code, contexts, m }, e) {
-        Ok(Some(operand)) => match operand.owned(code.alloc) {
+    let view = View { code, contexts, m };
+    match plain(&view, e) {
+        Some(value) => Ok(Some(value)),
+        None => looked(view, e),
+    }
+}
+
+// The same, for whatever value.
+#[inline(never)]
+fn looked(view: View<'_, '_>, e: &Expr) -> Result<Option<Value>, Stop>
+    ensures finds { Finds (value (called view.entry.code.methods.now TICKS) view.entry.m.now.path (tree_of e.now) (state_of (shown view.entry.code.shape.now view.entry.contexts.now) view.entry.m.now)) (state_of (shown view.entry.code.shape.now view.entry.contexts.now) view.entry.m.now) result }
+    ensures memory { WhereWanting result (MayWantToFind view.entry.code view.entry.contexts.now view.entry.m.now (tree_of e.now)) }
+{
+    let alloc = view.code.alloc;
+    match look(view, e) {
+        Ok(Some(operand)) => match operand.owned(alloc) {
             Ok(value) => Ok(Some(value)),
             Err(refused) => Err(Stop::OutOfMemory(refused)),
         },

@@ -118,6 +118,7 @@ fn ended(m: Machine<'_>, reply: Option<Value>) -> EventRan
         values: _,
         locals: _,
         path: _,
+        near: _,
         trace,
     } = m;
     let Trace {
@@ -148,6 +149,7 @@ fn stopped(alloc: Global, m: Machine<'_>, trap: Trap) -> EventRan
         values: _,
         locals: _,
         path: _,
+        near: _,
         trace,
     } = m;
     EventRan {
@@ -186,6 +188,7 @@ fn start<'s>(alloc: Global, event: &'s Event, call: &Call) -> Result<Machine<'s>
         values: Vec::new(alloc),
         locals,
         path: Path::root(),
+        near: 0,
         trace,
     })
 }
@@ -331,6 +334,7 @@ fn go_down(
         Err(e) => return Err(e),
     }
     m.trace.release(&path);
+    m.near = contexts.slot(&path).unwrap_or(0);
     m.path = path;
     Ok(())
 }

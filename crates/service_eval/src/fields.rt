@@ -12,11 +12,17 @@ use crate::operand::Operand;
 use context_tree::Tree;
 use wave_base::{Path, Shape, Value};
 
-/// A field of the context at a path: the initial one where the context is not there.
-pub fn field<'v>(shape: &'v Shape, tree: &'v Tree, path: &Path, field: usize) -> Operand<'v>
+/// A field of the context at a path, which is looked for in a slot first: the initial one where the context is not there.
+pub fn field<'v>(
+    shape: &'v Shape,
+    tree: &'v Tree,
+    near: usize,
+    path: &Path,
+    field: usize,
+) -> Operand<'v>
     ensures { value_in result ≡ get_or ((tree_of shape.now tree.now).fields path.now) field nothing }
 {
-    match tree.get(path) {
+    match tree.get_near(near, path) {
         Some(record) => item(record.fields.as_slice(), field),
         None => initial(shape, path, field),
     }

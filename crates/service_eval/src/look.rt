@@ -40,12 +40,19 @@ pub fn look<'v, 's>(view: View<'v, 's>, e: &'v Expr) -> Result<Option<Operand<'v
         Node::Field(f) => Ok(Some(field(
             view.code.shape,
             view.contexts,
+            view.m.near,
             &view.m.path,
             *f as usize,
         ))),
         Node::Above(level, f) => {
             let path = above(&view.m.path, *level as usize);
-            Ok(Some(field(view.code.shape, view.contexts, &path, *f as usize)))
+            Ok(Some(field(
+                view.code.shape,
+                view.contexts,
+                view.m.near,
+                &path,
+                *f as usize,
+            )))
         }
         Node::Op(row, args) => look_row(view, *row, args.as_slice(), e.at),
         Node::And(left, right) => look_and(view, left, right, e.at),

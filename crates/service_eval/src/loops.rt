@@ -1,12 +1,12 @@
 //! The turns of loops.
 
-ghost use Rattle.std.specs.Prelude.{◌≡◌, ◌<◌, ◌+◌, ◌^◌, ◌∷◌, [], pos, true, Ok, get_or};
+ghost use Rattle.std.specs.Prelude.{◌≡◌, ◌<◌, ◌+◌, ◌^◌, List, ◌∷◌, [], pos, true, Ok, get_or};
 ghost use Rattle.resolved_service.specs.Meaning.{row_add, row_lt};
 ghost use Rattle.resolved_service.specs.World.{nothing, is_true};
 ghost use Rattle.service_eval.specs.inner.Answers.{Gives};
 ghost use Rattle.resolved_service.specs.Steps.{steps_in};
 ghost use Rattle.service_eval.specs.inner.Items as i;
-ghost use Rattle.service_eval.specs.inner.Items.{turns_of, check_of, counts_of, again_of};
+ghost use Rattle.service_eval.specs.inner.Items.{item_of, turns_of, check_of, counts_of, again_of};
 ghost use Rattle.service_eval.specs.inner.Turns.{IsNext, Goes, AreNext, GoesTo};
 ghost use Rattle.value_ops.specs.Operators.{apply_row};
 ghost use Rattle.wave_base.specs.declared.value.Value.TheVariants.{Int};
@@ -26,48 +26,137 @@ use resolved_service::Stmt;
 use value_ops::rows::{ADD, LT};
 use wave_base::{Span, Value};
 
-/// A loop's test is to have its value: at once, where no call is met.
+/// The turns of a loop, one after the other, as long as its test and its statements can be done at once.
 pub fn turns<'s>(
     code: Code<'s>,
-    contexts: &Tree,
+    contexts: &mut Tree,
     m: &mut Machine<'s>,
     cycle: WhileLoop<'s>,
 ) -> Result<(), Stop>
-    requires { IsNext code contexts.now m.old (turns_of cycle) }
-    ensures { Goes code.entry contexts.now m.old (turns_of cycle.entry) result contexts.now m.new }
+    requires { IsNext code contexts.old m.old (turns_of cycle) }
+    ensures { Goes code.entry contexts.old m.old (turns_of cycle.entry) result contexts.new m.new }
+{
+    'turns: loop {
+        match test_turn(code, contexts, m, cycle) {
+            Ok(more) => {
+                if !more {
+                    return Ok(());
+                }
+            }
+            Err(e) => return Err(e),
+        }
+    }
+}
+
+// The test, and a turn where it holds: at once, where no call is met. True where the turn is done, and the loop goes on.
+fn test_turn<'s>(
+    code: Code<'s>,
+    contexts: &mut Tree,
+    m: &mut Machine<'s>,
+    cycle: WhileLoop<'s>,
+) -> Result<bool, Stop>
+    requires { IsNext code contexts.old m.old (turns_of cycle) }
+    ensures { GoesTo code.entry contexts.old m.old (turns_of cycle.entry ∷ []) (turns_of cycle.entry ∷ []) result contexts.new m.new }
 {
     let base = m.height();
     match found(code, contexts, m, cycle.test) {
         Ok(Some(value)) => match m.give(value) {
-            Ok(()) => check(code, contexts, m, cycle, base),
+            Ok(()) => check_turn(code, contexts, m, cycle, base),
             Err(e) => Err(e),
         },
-        Ok(None) => m.push_two(Work::Eval(cycle.test), Work::Check(cycle, base)),
+        Ok(None) => match m.push_two(Work::Eval(cycle.test), Work::Check(cycle, base)) {
+            Ok(()) => Ok(false),
+            Err(e) => Err(e),
+        },
         Err(e) => Err(e),
     }
 }
 
-/// A turn of a loop, where the test's value is true.
+/// A turn of a loop, where the test's value is true, and those behind it.
 pub fn check<'s>(
+    code: Code<'s>,
+    contexts: &mut Tree,
+    m: &mut Machine<'s>,
+    cycle: WhileLoop<'s>,
+    base: usize,
+) -> Result<(), Stop>
+    requires { IsNext code contexts.old m.old (check_of cycle base) }
+    ensures { Goes code.entry contexts.old m.old (check_of cycle.entry base) result contexts.new m.new }
+{
+    match check_turn(code, contexts, m, cycle, base) {
+        Ok(more) => {
+            if more {
+                turns(code, contexts, m, cycle)
+            } else {
+                Ok(())
+            }
+        }
+        Err(e) => Err(e),
+    }
+}
+
+// A turn, where the test's value is true. True where it is done, and the loop goes on.
+fn check_turn<'s>(
+    code: Code<'s>,
+    contexts: &mut Tree,
+    m: &mut Machine<'s>,
+    cycle: WhileLoop<'s>,
+    base: usize,
+) -> Result<bool, Stop>
+    requires { IsNext code contexts.old m.old (check_of cycle base) }
+    ensures { GoesTo code.entry contexts.old m.old (check_of cycle.entry base ∷ []) (turns_of cycle.entry ∷ []) result contexts.new m.new }
+{
+    match due_turn(code, contexts, m, cycle, base) {
+        Ok(due) => {
+            if due {
+                while_body(code, contexts, m, cycle)
+            } else {
+                Ok(false)
+            }
+        }
+        Err(e) => Err(e),
+    }
+}
+
+// Where the test's value is true, a tick is taken.
+fn due_turn<'s>(
     code: Code<'s>,
     contexts: &Tree,
     m: &mut Machine<'s>,
     cycle: WhileLoop<'s>,
     base: usize,
-) -> Result<(), Stop>
+) -> Result<bool, Stop>
     requires { IsNext code contexts.now m.old (check_of cycle base) }
-    ensures { Goes code.entry contexts.now m.old (check_of cycle.entry base) result contexts.now m.new }
+    ensures { GoesTo code.entry contexts.now m.old (check_of cycle.entry base ∷ []) (i.Block (steps_in cycle.entry.body.now) ∷ turns_of cycle.entry ∷ []) result contexts.now m.new }
 {
     let holds = m.is_true(base);
     m.cut(base);
     if holds {
         match m.trace.tick(cycle.at) {
-            Ok(()) => {}
-            Err(e) => return Err(e),
+            Ok(()) => Ok(true),
+            Err(e) => Err(e),
         }
-        m.push_two(Work::Block(cycle.body), Work::Turns(cycle))
     } else {
-        Ok(())
+        Ok(false)
+    }
+}
+
+// The statements of a turn: at once, or as far as they can be.
+fn while_body<'s>(
+    code: Code<'s>,
+    contexts: &mut Tree,
+    m: &mut Machine<'s>,
+    cycle: WhileLoop<'s>,
+) -> Result<bool, Stop>
+    requires { AreNext code contexts.old m.old (i.Block (steps_in cycle.body.now) ∷ turns_of cycle ∷ []) }
+    ensures { GoesTo code.entry contexts.old m.old (i.Block (steps_in cycle.entry.body.now) ∷ turns_of cycle.entry ∷ []) (turns_of cycle.entry ∷ []) result contexts.new m.new }
+{
+    match as_far(code, contexts, m, cycle.body) {
+        Ok(rest) => match first_of(rest) {
+            None => Ok(true),
+            Some(_) => leave_turn(code, contexts, m, rest, Work::Turns(cycle)),
+        },
+        Err(e) => Err(e),
     }
 }
 
@@ -177,7 +266,7 @@ fn turn_body<'s>(
     match as_far(code, contexts, m, cycle.body) {
         Ok(rest) => match first_of(rest) {
             None => go_on(code, contexts, m, cycle),
-            Some(_) => leave_turn(code, contexts, m, cycle, rest),
+            Some(_) => leave_turn(code, contexts, m, rest, Work::Counts(cycle, true)),
         },
         Err(e) => Err(e),
     }
@@ -188,13 +277,13 @@ fn leave_turn<'s>(
     code: Code<'s>,
     contexts: &mut Tree,
     m: &mut Machine<'s>,
-    cycle: ForLoop<'s>,
     rest: &'s [Stmt],
+    again: Work<'s>,
 ) -> Result<bool, Stop>
-    requires { AreNext code contexts.old m.old (i.Block (steps_in rest.now) ∷ again_of cycle ∷ []) }
-    ensures { GoesTo code.entry contexts.old m.old (i.Block (steps_in rest.now) ∷ again_of cycle.entry ∷ []) (counts_of cycle.entry ∷ []) result contexts.new m.new }
+    requires { AreNext code contexts.old m.old (i.Block (steps_in rest.now) ∷ item_of again ∷ []) }
+    ensures { (next : List i.Item) → GoesTo code.entry contexts.old m.old (i.Block (steps_in rest.now) ∷ item_of again.entry ∷ []) next result contexts.new m.new }
 {
-    match m.push(Work::Counts(cycle, true)) {
+    match m.push(again) {
         Ok(()) => match begin_rest(code, contexts, m, rest) {
             Ok(()) => Ok(false),
             Err(e) => Err(e),

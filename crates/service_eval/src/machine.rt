@@ -26,6 +26,8 @@ pub struct Machine<'s> {
     pub locals: Vec<Value>,
     /// The context where it runs.
     pub path: Path,
+    /// A slot where that context may stand, so that it is found without a look-up: any number does, and the right one is fast.
+    pub near: usize,
     /// What the event has done.
     pub trace: Trace,
 }

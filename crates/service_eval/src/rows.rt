@@ -15,10 +15,10 @@ ghost use Rattle.wave_base.specs.Values.{kind_of};
 use crate::stop::Stop;
 use std::alloc::Global;
 use std::slice;
-use value_ops::rows::{ADD, CUT, DIV, EQ, GE, GT, LE, LT, MAX, MIN, MUL, NE, PUT, REM, SUB};
+use value_ops::rows::{ADD, CUT, DIV, EQ, GE, GT, LE, LT, MAX, MIN, MUL, NE, PUT, REM, STR, SUB};
 use value_ops::{
-    OpError, Takes, apply, apply_ints, apply_texts, compare_flags, part, put_pair, read_map,
-    read_text, sum_up, takes_of,
+    OpError, Takes, apply, apply_int, apply_ints, apply_texts, compare_flags, part, put_pair,
+    read_map, read_text, sum_up, takes_of,
 };
 use wave_base::{Kind, OPERATORS, Span, TABLE_PAIRS, Table, Trap, TrapKind, Value};
 
@@ -76,6 +76,7 @@ pub fn apply_one(alloc: Global, row: usize, a: &Value, at: Span) -> Result<Value
     }
     match (takes_of(row), a) {
         (Takes::Bool, Value::Bool(p)) => Ok(Value::Bool(!*p)),
+        (Takes::Int, Value::Int(n)) if row != STR => trapping(apply_int(row, *n), at),
         (Takes::Map, Value::Map(m)) => trapping(sum_up(row, m), at),
         (Takes::Text, Value::Str(t)) => trapping(read_text(row, t), at),
         _ => apply_any(alloc, row, slice::from_ref(a), at),

@@ -86,6 +86,8 @@ pub struct Caller {
     pub values: Vec<Value>,
     /// Whether the caller is at the parent of the context where the method ran.
     pub up: bool,
+    /// The slot where the caller's context may stand.
+    pub near: usize,
 }
 
 /// A part of what is still to be done. A last number is that of the values that lie below its own ones.

@@ -16,7 +16,7 @@ mod texts;
 mod values;
 
 pub use error::OpError;
-pub use ints::apply_ints;
+pub use ints::{apply_int, apply_ints};
 pub use laws::{quotient_and_remainder, rows_give_their_kind, rows_of_operators, str_reads_back};
 pub use maps::{put_pair, read_map};
 pub use row::OpRow;

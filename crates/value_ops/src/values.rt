@@ -9,11 +9,11 @@ ghost use Rattle.wave_base.specs.declared.value.Value.{Value};
 ghost use Rattle.wave_base.specs.Values.{kind_of};
 
 use crate::error::OpError;
-use crate::ints::{apply_ints, number};
+use crate::ints::{apply_int, apply_ints};
 use crate::maps::{apply_map, put};
 use crate::numbers::num;
 use crate::operands::{flag, int, table, text};
-use crate::rows::{ABS, BEQ, LEN, NEG, SIZE};
+use crate::rows::{BEQ, LEN, SIZE, STR};
 use crate::sums::sum;
 use crate::takes::{Takes, takes_of};
 use crate::texts::{apply_texts, part, written};
@@ -37,7 +37,7 @@ fn apply_by_kinds(alloc: Global, row: usize, args: &[Value]) -> Result<Value, Op
 {
     match takes_of(row) {
         Takes::Ints => Ok(apply_ints(row, int(args, 0), int(args, 1))?),
-        Takes::Int => apply_int(alloc, row, int(args, 0)),
+        Takes::Int => apply_any_int(alloc, row, int(args, 0)),
         Takes::Bool => Ok(Value::Bool(!flag(args, 0))),
         Takes::Bools => Ok(Value::Bool(compare_flags(row, flag(args, 0), flag(args, 1)))),
         Takes::Text => Ok(read_text(row, text(args, 0))?),
@@ -50,14 +50,14 @@ fn apply_by_kinds(alloc: Global, row: usize, args: &[Value]) -> Result<Value, Op
 }
 
 // What a row gives of an int.
-fn apply_int(alloc: Global, row: usize, a: i64) -> Result<Value, OpError>
+fn apply_any_int(alloc: Global, row: usize, a: i64) -> Result<Value, OpError>
     requires { takes_of row ≡ Kind.Int ∷ [] }
     ensures { Answers (apply_row row (Value.Int a ∷ [])) result }
 {
-    match row {
-        NEG => Ok(number(a.checked_neg())?),
-        ABS => Ok(number(a.checked_abs())?),
-        _ => written(alloc, a),
+    if row == STR {
+        written(alloc, a)
+    } else {
+        Ok(apply_int(row, a)?)
     }
 }
 

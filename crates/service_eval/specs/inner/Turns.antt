@@ -31,6 +31,12 @@ Sees view t result =
     let st = state_of (shown view.code.shape.now view.contexts.now) view.m.now in
     Looks (value (called view.code.methods.now TICKS) view.m.now.path t st) st result
 
+-- the expression has this value where it is looked at
+abbrev pub IsWorth : View → Tree → Value → Type 0
+IsWorth view t v =
+    let st = state_of (shown view.code.shape.now view.contexts.now) view.m.now in
+    value (called view.code.methods.now TICKS) view.m.now.path t st ≡ Done v st
+
 -- the item is the next thing to be done
 abbrev pub IsNext : Code → Contexts → Machine → Item → Type 0
 IsNext code contexts m item = Ready code.shape.now code.methods.now (on_top item (mach code contexts m))

@@ -1,49 +1,20 @@
-use Rattle.std.proofs.Common.{◌≡◌, Ok, Err, sym, ap, subst, ◌∙◌, take}
-use Rattle.std.proofs.lemmas.Result.{on_ok_weaker}
-use Rattle.service_eval.specs.inner.Traces.{Changes}
-use Rattle.resolved_service.specs.World.{ticking}
-use Rattle.context_tree.specs.Contexts.{tree_of as shown}
-use Rattle.resolved_service.specs.Steps.{steps_in}
-use Rattle.resolved_service.specs.View.{tree_of}
-use Rattle.service_eval.specs.inner.Items.{Block, Turns, Check}
-use Rattle.service_eval.specs.inner.Machines.{Mach, on_top, cut_to, in_world}
+use Rattle.std.proofs.Common.{arith}
+use Rattle.service_eval.specs.inner.Items.{check_of, turns_of}
+use Rattle.service_eval.specs.inner.Machines.{on_top}
 use Rattle.service_eval.specs.inner.Turns.{mach}
-use Rattle.service_eval.specs.inner.Traces.{world_of}
-use Rattle.service_eval.specs.inner.Weight.{load}
-use Rattle.service_eval.proofs.CallTurns.{ticked}
-use Rattle.service_eval.proofs.LighterTurns.{check_lighter, check_ticked}
-use Rattle.service_eval.proofs.FinishLemmas as l
-use Rattle.service_eval.proofs.FinishTurns.{same_ticked, ready_in, did}
-use Rattle.service_eval.proofs.ReadyLemmas.{ready_with, turned_to}
+use Rattle.service_eval.proofs.FinishTurns.{goes_from}
 use Rattle.service_eval.proofs.loops.check.Goals as goal
 
-pub returns-else-holds : goal.returns-else-holds
-returns-else-holds c =
-    let T = shown c.args.code.shape.now c.args.contexts.now in
-    did c.args.code c.args.contexts.now c.args.contexts.now (Check c.args.cycle.at (tree_of c.args.cycle.test.now) (steps_in c.args.cycle.body.now) c.args.base) (cut_to c.args.base (mach c.args.code c.args.contexts.now c.args.m.now)) c.args.m.now c.cut.new.self
-    (l.check_false c.args.code.methods.now (mach c.args.code c.args.contexts.now c.args.m.now) c.args.cycle.at (steps_in c.args.cycle.body.now) (tree_of c.args.cycle.test.now) c.args.base (sym c.is_true-holds.ensures ∙ c.if-holds.false))
-    (ready_with _ _ _ _ _ c.requires c.requires.items.1) (c.cut.ensures T)
-    (check_lighter c.args.code.methods.now (mach c.args.code c.args.contexts.now c.args.m.now) c.args.cycle.at (tree_of c.args.cycle.test.now) (steps_in c.args.cycle.body.now) c.args.base)
+pub turns-requires : goal.turns-requires
+turns-requires c =
+    let on = rw c.if-more.true at c.in-Ok.ensures in
+    on.1
 
-pub returns-in-Err : goal.returns-in-Err
-returns-in-Err c =
-    let T = shown c.args.code.shape.now c.args.contexts.now in (
-      l.check_fails c.args.code.methods.now (mach c.args.code c.args.contexts.now c.args.m.now) c.args.cycle.at (steps_in c.args.cycle.body.now) (tree_of c.args.cycle.test.now) c.args.base c.in-Err.e (world_of T c.tick.new.self) (sym c.is_true-holds.ensures ∙ c.if-holds.true)
-          (subst (λ w. Changes (ticking w) c.args.cycle.at w (Err c.in-Err.e) (world_of T c.tick.new.self)) (ap (λ (m : Mach). m.state.world) (c.cut.ensures T)) (c.in-Err.ensures.changes T)),
-      c.requires.holds,
-    )
+pub returns-then-more : goal.returns-then-more
+returns-then-more c =
+    let code = c.args.code in
+    let on = rw c.if-more.true at c.in-Ok.ensures in
+    goes_from code (on_top (check_of c.args.cycle c.args.base) (mach code c.args.contexts.now c.args.m.now)) (on_top (turns_of c.args.cycle) (mach code c.check_turn.new.contexts c.check_turn.new.m)) c.turns.result (mach code c.turns.new.contexts c.turns.new.m) on.0 c.turns.ensures (omega (arith, on.2))
 
-pub returns-in-Ok : goal.returns-in-Ok
-returns-in-Ok c =
-    let T = shown c.args.code.shape.now c.args.contexts.now in
-    let w = world_of T c.tick.new.self in
-    let m = mach c.args.code c.args.contexts.now c.args.m.now in
-    let test = tree_of c.args.cycle.test.now in
-    let body = steps_in c.args.cycle.body.now in
-    let t : ticking m.state.world ≡ Ok w = subst (λ w'. ticking w' ≡ Ok w) (ap (λ (m : Mach). m.state.world) (c.cut.ensures T)) (c.in-Ok.ensures.changes T) in
-    turned_to c.args.code c.args.contexts.now (on_top (Check c.args.cycle.at test body c.args.base) m) (on_top (Block body) (on_top (Turns c.args.cycle.at test body) (in_world w (cut_to c.args.base m)))) c.push_two.new.self c.push_two.result
-    (l.check_more c.args.code.methods.now m c.args.cycle.at body test c.args.base w (sym c.is_true-holds.ensures ∙ c.if-holds.true) t)
-    (ready_in _ _ m _ _ _ _ c.requires (c.requires.items.0.1, (c.requires.items.0, c.requires.items.1)) (same_ticked m.state.world w t)) c.requires.holds
-    (on_ok_weaker c.push_two.result (λ h. h T ∙ ap (λ (m : Mach). on_top (Block body) (on_top (Turns c.args.cycle.at test body) (in_world w m))) (c.cut.ensures T)) c.push_two.ensures.ok) c.push_two.ensures.err
-    (load c.args.code.methods.now (on_top (Check c.args.cycle.at test body c.args.base) m))
-    (check_ticked c.args.code.methods.now m (record { locals = m.state.locals; world = w }) (take c.args.base m.values) (ticked m.state.world w t).0 c.args.cycle.at test body c.args.base)
+pub returns-else-more : goal.returns-else-more
+returns-else-more c = rw c.if-more.false at c.in-Ok.ensures

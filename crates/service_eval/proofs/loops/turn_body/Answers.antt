@@ -45,7 +45,7 @@ returns-in-Some c =
     let again = again_of c.args.cycle in
     goes_after code c.args.contexts.now c.as_far.new.contexts c.leave_turn.new.contexts c.args.m.now c.as_far.new.m c.leave_turn.new.m (Block body ∷ again ∷ []) (Block left ∷ again ∷ []) (counts_of c.args.cycle ∷ [])
     (left_comes code c.args.contexts.now c.as_far.new.contexts c.args.m.now c.as_far.new.m body left c.in-Ok.ensures.ok (again ∷ []))
-    (left_lighter code c.args.contexts.now c.as_far.new.contexts c.args.m.now c.as_far.new.m body left c.in-Ok.ensures.ok (again ∷ [])) c.leave_turn.result c.leave_turn.ensures
+    (left_lighter code c.args.contexts.now c.as_far.new.contexts c.args.m.now c.as_far.new.m body left c.in-Ok.ensures.ok (again ∷ [])) c.leave_turn.result (c.leave_turn.ensures (counts_of c.args.cycle ∷ []))
 
 pub returns-in-Err : goal.returns-in-Err
 returns-in-Err c = stops_fail c.args.code c.args.contexts.now c.as_far.new.contexts c.args.m.now c.as_far.new.m (steps_in c.args.cycle.body.now) (again_of c.args.cycle ∷ []) c.in-Err.e c.in-Err.ensures.err

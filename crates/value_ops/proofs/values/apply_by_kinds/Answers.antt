@@ -18,7 +18,7 @@ returns-in_ok-apply_ints-in-Ints c =
     (sym c.in_ok-apply_ints-in-Ints.ensures)
 
 pub returns-in-Int : goal.returns-in-Int
-returns-in-Int c = of_one (λ vs. Answers (apply_row c.args.row vs) c.apply_int.result) c.args.args.now (c.requires.kinds ∙ sym c.in-Int.ensures) (passed_on _ (search rules) c.int-in-Int.ensures) c.apply_int.ensures
+returns-in-Int c = of_one (λ vs. Answers (apply_row c.args.row vs) c.apply_any_int.result) c.args.args.now (c.requires.kinds ∙ sym c.in-Int.ensures) (passed_on _ (search rules) c.int-in-Int.ensures) c.apply_any_int.ensures
 
 pub returns-in-Bool : goal.returns-in-Bool
 unfolding apply_row operators
