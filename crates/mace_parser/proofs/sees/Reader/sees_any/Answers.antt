@@ -6,7 +6,7 @@ use Rattle.mace_grammar.specs.Words.{edition_of}
 use Rattle.mace_grammar.specs.inner.Classes.{kind}
 use Rattle.mace_grammar.specs.inner.Run.{has, sees}
 use Rattle.mace_grammar.proofs.Classes.{contains_is}
-use Rattle.mace_parser.proofs.sees.sees_any.Goals as goal
+use Rattle.mace_parser.proofs.sees.Reader.sees_any.Goals as goal
 
 -- the class of the first token counts
 of_first : (class : Token → Class) (set : List Class) (tokens : List Token) (t : Token) → Some t ≡ slice_get tokens 0 → has set (class t) ≡ sees class set tokens
@@ -18,4 +18,4 @@ returns-in-Some c =
     c.contains.ensures.value
     ∙ contains_is c.args.set.now c.class_of.result
     ∙ ap (has c.args.set.now) c.class_of.ensures
-    ∙ of_first (kind (edition_of c.args.version)) c.args.set.now c.args.tokens.now c.in-Some.t.now c.in-Some.ensures.value
+    ∙ of_first (kind (edition_of c.args.self.version)) c.args.set.now c.args.tokens.now c.in-Some.t.now c.in-Some.ensures.value

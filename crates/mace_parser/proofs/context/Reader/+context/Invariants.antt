@@ -4,16 +4,16 @@ use Rattle.mace_ast.specs.Decls.{context_tree}
 use Rattle.mace_grammar.specs.Words.{edition_of}
 use Rattle.mace_grammar.specs.inner.Readers as reader
 use Rattle.mace_parser.proofs.Turns.{list_from}
-use Rattle.mace_parser.proofs.context.+context.Given as goal
+use Rattle.mace_parser.proofs.context.Reader.+context.Given as goal
 
 abbrev pub decreases-context : goal.decreases-context
-decreases-context l = 2 * l.depth
+decreases-context l = 2 * l.self.depth
 
 abbrev pub decreases-contexts : goal.decreases-contexts
-decreases-contexts l = 2 * l.depth + 1
+decreases-contexts l = 2 * l.self.depth + 1
 
 abbrev pub invariant-contexts-turns : goal.invariant-contexts-turns
-invariant-contexts-turns l = list_from (edition_of l.version) (reader.if_key k.Context) (reader.context_at (edition_of l.version) l.depth) (map context_tree l.found.items) l.rest ≡ reader.contexts_in (edition_of l.version) (reader.context_at (edition_of l.version) l.depth) l.tokens
+invariant-contexts-turns l = list_from (edition_of l.self.version) (reader.if_key k.Context) (reader.context_at (edition_of l.self.version) l.self.depth) (map context_tree l.found.items) l.rest ≡ reader.contexts_in (edition_of l.self.version) (reader.context_at (edition_of l.self.version) l.self.depth) l.tokens
 
 abbrev pub decreases-contexts-turns : goal.decreases-contexts-turns
 decreases-contexts-turns l = length l.rest

@@ -3,10 +3,10 @@ use Rattle.mace_lexer.specs.declared.keyword.Keyword.TheVariants as k
 use Rattle.mace_grammar.specs.Words.{edition_of}
 use Rattle.mace_grammar.specs.inner.Readers as reader
 use Rattle.mace_parser.proofs.Turns.{list_from}
-use Rattle.mace_parser.proofs.field.vars.Given as goal
+use Rattle.mace_parser.proofs.field.Reader.vars.Given as goal
 
 abbrev pub invariant-turns : goal.invariant-turns
-invariant-turns l = list_from (edition_of l.version) (reader.if_key k.Var) (reader.var_at (edition_of l.version)) (l.found.items) l.rest ≡ reader.vars_at (edition_of l.version) l.tokens
+invariant-turns l = list_from (edition_of l.self.version) (reader.if_key k.Var) (reader.var_at (edition_of l.self.version)) (l.found.items) l.rest ≡ reader.vars_at (edition_of l.self.version) l.tokens
 
 abbrev pub decreases-turns : goal.decreases-turns
 decreases-turns l = length l.rest
