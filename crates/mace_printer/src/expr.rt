@@ -4,6 +4,7 @@ ghost use Rattle.std.specs.Prelude.{◌≡◌, ◌++◌, ◌+◌, ◌≤◌, map
 ghost use Rattle.mace_ast.specs.Exprs.{expr_tree};
 ghost use Rattle.mace_printer.specs.Canon as words;
 ghost use Rattle.mace_printer.specs.Canon.{◌⧺◌};
+ghost use Rattle.mace_printer.specs.inner.Parts as parts;
 ghost use Rattle.mace_printer.specs.Layout.{layout};
 
 use crate::word::{
@@ -74,7 +75,7 @@ fn unary_sign_of(op: UnaryOp) -> Sign
 
 /// `C.f`
 pub fn put_above(out: &mut Vec<u8>, class: &Txt, name: &Txt) -> Result<(), OutOfMemory>
-    ensures { OnOk result (out.new.items ≡ out.old.items ++ layout (words.above_words class.now name.now)) }
+    ensures { OnOk result (out.new.items ≡ out.old.items ++ layout (parts.above_words class.now name.now)) }
 {
     put_name(out, class)?;
     put_sign(out, Sign::Dot)?;
@@ -135,7 +136,7 @@ fn put_above_indexed(
     name: &Txt,
     key: &Expr,
 ) -> Result<(), OutOfMemory>
-    ensures { OnOk result (out.new.items ≡ out.old.items ++ layout (words.above_words class.now name.now ⧺ words.index_words (expr_tree key.now))) }
+    ensures { OnOk result (out.new.items ≡ out.old.items ++ layout (parts.above_words class.now name.now ⧺ words.index_words (expr_tree key.now))) }
 {
     put_above(out, class, name)?;
     put_index(alloc, out, key)
@@ -165,7 +166,7 @@ pub fn put_child_key(
     class: &Txt,
     key: &Expr,
 ) -> Result<(), OutOfMemory>
-    ensures { OnOk result (out.new.items ≡ out.old.items ++ layout (words.child_key_words class.now (expr_tree key.now))) }
+    ensures { OnOk result (out.new.items ≡ out.old.items ++ layout (parts.child_key_words class.now (expr_tree key.now))) }
 {
     put_name(out, class)?;
     put_index(alloc, out, key)?;
@@ -194,7 +195,7 @@ fn put_left(
     op: BinaryOp,
     left: &Expr,
 ) -> Result<(), OutOfMemory>
-    ensures { OnOk result (out.new.items ≡ out.old.items ++ layout (words.left_words paren op (expr_tree left.now))) }
+    ensures { OnOk result (out.new.items ≡ out.old.items ++ layout (parts.left_words paren op (expr_tree left.now))) }
 {
     put_if(out, paren, Sign::LeftParen)?;
     put_expr(alloc, out, left, left_level_of(op))?;
@@ -210,7 +211,7 @@ fn put_right(
     op: BinaryOp,
     right: &Expr,
 ) -> Result<(), OutOfMemory>
-    ensures { OnOk result (out.new.items ≡ out.old.items ++ layout (words.right_words paren op (expr_tree right.now))) }
+    ensures { OnOk result (out.new.items ≡ out.old.items ++ layout (parts.right_words paren op (expr_tree right.now))) }
 {
     put_expr(alloc, out, right, level_of(op) + 1)?;
     put_if(out, paren, Sign::RightParen)
