@@ -12,6 +12,7 @@ ghost use Rattle.mace_printer.specs.Layout.{layout};
 use crate::expr::{put_above, put_call, put_child_key, put_expr, put_index};
 use crate::word::{put_finish_word, put_key, put_name, put_sign, put_text};
 use mace_ast::{Action, Expr, Stmt, Target};
+use mace_grammar::Level;
 use mace_lexer::{Keyword, Sign};
 use std::alloc::Global;
 use wave_base::{OutOfMemory, Txt};
@@ -20,7 +21,7 @@ use wave_base::{OutOfMemory, Txt};
 pub fn put_ended(alloc: Global, out: &mut Vec<u8>, value: &Expr) -> Result<(), OutOfMemory>
     ensures { OnOk result (out.new.items ≡ out.old.items ++ layout (parts.ended_words (expr_tree value.now))) }
 {
-    put_expr(alloc, out, value, 0)?;
+    put_expr(alloc, out, value, Some(Level::Or))?;
     put_sign(out, Sign::Semicolon)
 }
 
@@ -139,7 +140,7 @@ fn put_maybe_value(
 {
     match value {
         None => Ok(()),
-        Some(value) => put_expr(alloc, out, value, 0),
+        Some(value) => put_expr(alloc, out, value, Some(Level::Or)),
     }
 }
 
@@ -172,9 +173,9 @@ fn put_range(
     put_key(out, Keyword::For)?;
     put_name(out, name)?;
     put_key(out, Keyword::In)?;
-    put_expr(alloc, out, low, 0)?;
+    put_expr(alloc, out, low, Some(Level::Or))?;
     put_key(out, Keyword::To)?;
-    put_expr(alloc, out, high, 0)
+    put_expr(alloc, out, high, Some(Level::Or))
 }
 
 // A keyword and a condition.
@@ -182,7 +183,7 @@ fn put_test(alloc: Global, out: &mut Vec<u8>, key: Keyword, test: &Expr) -> Resu
     ensures { OnOk result (out.new.items ≡ out.old.items ++ layout (words.key key ⧺ words.whole_words (expr_tree test.now))) }
 {
     put_key(out, key)?;
-    put_expr(alloc, out, test, 0)
+    put_expr(alloc, out, test, Some(Level::Or))
 }
 
 // ---- statements with blocks
