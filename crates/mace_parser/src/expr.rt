@@ -1,8 +1,9 @@
 // Expressions.
 
-ghost use Rattle.std.specs.Prelude.{◌≡◌, ◌<◌, ◌≤◌, map};
+ghost use Rattle.std.specs.Prelude.{◌≡◌, map};
 ghost use Rattle.std.specs.Option.{option_map};
 ghost use Rattle.mace_ast.specs.Exprs.{expr_tree};
+ghost use Rattle.mace_grammar.specs.Levels.{tighter_ones, levels_from};
 ghost use Rattle.mace_grammar.specs.Words as words;
 ghost use Rattle.mace_grammar.specs.Words.{edition_of};
 ghost use Rattle.mace_grammar.specs.inner.Readers as reader;
@@ -13,7 +14,7 @@ use crate::operator::{operator, unary_op};
 use crate::reader::Reader;
 use crate::token::sign;
 use mace_ast::{BinaryOp, Expr, Name};
-use mace_grammar::{EXPR_STARTS, INITIALS, UNARY_OPS};
+use mace_grammar::{EXPR_STARTS, INITIALS, Level, UNARY_OPS};
 use mace_lexer::{Keyword, Sign, Token, Word};
 use wave_base::{Span, push};
 
@@ -29,11 +30,13 @@ fn literal_of_key(at: Span, key: Keyword) -> Option<Expr>
 }
 
 // How many operands a chain of this level may go on with: comparisons don't chain.
-fn most_operands(level: u8, tokens: &[Token]) -> usize
-    requires { level < 5 }
-    ensures { result ≡ reader.turns_of level tokens.now }
+fn most_operands(level: Level, tokens: &[Token]) -> usize
+    ensures { result ≡ reader.turns_of (tighter_ones level) tokens.now }
 {
-    if level == 2 { 1 } else { tokens.len() }
+    match level {
+        Level::Comparison => 1,
+        Level::Or | Level::And | Level::Sum | Level::Product => tokens.len(),
+    }
 }
 
 impl Reader {
@@ -220,46 +223,53 @@ impl Reader {
         self.expr(rest)
     }
 
+    // An operand of a chain of this level.
+    #[cycle(expr)]
+    fn operand<'a>(self, level: Level, tokens: &'a [Token]) -> Read<'a, Expr>
+        ensures { Gives (λ x. (expr_tree x.0, x.1.now)) result (reader.level_at (edition_of self.version) (reader.unary_at (edition_of self.version) self.depth) (tighter_ones level) tokens.now) }
+    {
+        match level.tighter() {
+            Some(tighter) => self.chain(tighter, tokens),
+            None => self.unary(tokens),
+        }
+    }
+
+    // An operator of this level, and the operand behind it.
     #[cycle(expr)]
     #[tactic(auto, unfolding(mace_grammar::specs::inner::Readers::operand_at))]
-    fn operand<'a>(self, level: u8, tokens: &'a [Token]) -> Read<'a, (BinaryOp, Expr)>
-        requires { level < 5 }
+    fn next_operand<'a>(self, level: Level, tokens: &'a [Token]) -> Read<'a, (BinaryOp, Expr)>
         ensures { Gives (λ x. ((x.0.0, expr_tree x.0.1), x.1.now)) result
-            (reader.operand_at (reader.operator_at level) (reader.level_at (edition_of self.version) (reader.unary_at (edition_of self.version) self.depth) level) tokens.now) }
+            (reader.operand_at (reader.operator_at (tighter_ones level)) (reader.level_at (edition_of self.version) (reader.unary_at (edition_of self.version) self.depth) (tighter_ones level)) tokens.now) }
     {
         let (op, rest) = operator(level, tokens)?;
-        let (right, rest) = self.chain(level, rest)?;
+        let (right, rest) = self.operand(level, rest)?;
         Ok(((op, right), rest))
     }
 
     // A chain of operators of a level, and all that is tighter.
     #[cycle(expr)]
     #[tactic(auto, unfolding(mace_grammar::specs::inner::Readers::operands_at))]
-    fn chain<'a>(self, level: u8, tokens: &'a [Token]) -> Read<'a, Expr>
-        requires { level ≤ 5 }
-        ensures { Gives (λ x. (expr_tree x.0, x.1.now)) result (reader.level_at (edition_of self.version) (reader.unary_at (edition_of self.version) self.depth) level tokens.now) }
+    fn chain<'a>(self, level: Level, tokens: &'a [Token]) -> Read<'a, Expr>
+        ensures { Gives (λ x. (expr_tree x.0, x.1.now)) result (reader.level_at (edition_of self.version) (reader.unary_at (edition_of self.version) self.depth) (levels_from level) tokens.now) }
     {
-        if level == 0 {
-            return self.unary(tokens);
-        }
-        let (mut left, mut rest) = self.chain(level - 1, tokens)?;
-        'turns: for _ in 0..most_operands(level - 1, rest) {
-            if !self.sees_operator(level - 1, rest) {
+        let (mut left, mut rest) = self.operand(level, tokens)?;
+        'turns: for _ in 0..most_operands(level, rest) {
+            if !self.sees_operator(level, rest) {
                 break;
             }
-            let ((op, right), after) = self.operand(level - 1, rest)?;
+            let ((op, right), after) = self.next_operand(level, rest)?;
             left = Expr::binary(self.alloc, left, op, right)?;
             rest = after;
         }
         Ok((left, rest))
     }
 
-    /// An expression. `depth` is more than the tokens that are left.
+    /// An expression.
     #[cycle(expr)]
     #[tactic(auto, unfolding(mace_grammar::specs::inner::Readers::expr_at))]
     pub fn expr<'a>(self, tokens: &'a [Token]) -> Read<'a, Expr>
         ensures { Gives (λ x. (expr_tree x.0, x.1.now)) result (reader.expr_at (edition_of self.version) (reader.unary_at (edition_of self.version) self.depth) tokens.now) }
     {
-        self.chain(5, tokens)
+        self.chain(Level::Or, tokens)
     }
 }

@@ -1,6 +1,7 @@
 // What is next.
 
-ghost use Rattle.std.specs.Prelude.{◌≡◌, ◌<◌, [], ◌∷◌};
+ghost use Rattle.std.specs.Prelude.{◌≡◌, [], ◌∷◌};
+ghost use Rattle.mace_grammar.specs.Levels.{tighter_ones};
 ghost use Rattle.mace_grammar.specs.Words.{edition_of};
 ghost use Rattle.mace_grammar.specs.inner.Classes.{kind};
 ghost use Rattle.mace_grammar.specs.inner.Run.{sees};
@@ -8,7 +9,7 @@ ghost use Rattle.mace_grammar.specs.inner.Readers as reader;
 
 use crate::class::class_of;
 use crate::reader::Reader;
-use mace_grammar::{COMPARISON_OPS, Class, PRODUCT_OPS, SUM_OPS};
+use mace_grammar::{COMPARISON_OPS, Class, Level, PRODUCT_OPS, SUM_OPS};
 use mace_lexer::{Keyword, Sign, Token};
 
 impl Reader {
@@ -44,16 +45,15 @@ impl Reader {
     }
 
     /// Whether an operator of this level is next.
-    pub fn sees_operator(self, level: u8, tokens: &[Token]) -> bool
-        requires { level < 5 }
-        ensures { result ≡ sees (kind (edition_of self.version)) (reader.operators_of level) tokens.now }
+    pub fn sees_operator(self, level: Level, tokens: &[Token]) -> bool
+        ensures { result ≡ sees (kind (edition_of self.version)) (reader.operators_of (tighter_ones level)) tokens.now }
     {
         match level {
-            0 => self.sees_any(&PRODUCT_OPS, tokens),
-            1 => self.sees_any(&SUM_OPS, tokens),
-            2 => self.sees_any(&COMPARISON_OPS, tokens),
-            3 => self.sees_sign(Sign::AndAnd, tokens),
-            _ => self.sees_sign(Sign::OrOr, tokens),
+            Level::Or => self.sees_sign(Sign::OrOr, tokens),
+            Level::And => self.sees_sign(Sign::AndAnd, tokens),
+            Level::Comparison => self.sees_any(&COMPARISON_OPS, tokens),
+            Level::Sum => self.sees_any(&SUM_OPS, tokens),
+            Level::Product => self.sees_any(&PRODUCT_OPS, tokens),
         }
     }
 }

@@ -3,12 +3,13 @@ use Rattle.std.proofs.lemmas.Result.{err_from_is_err_and}
 use Rattle.std.proofs.lemmas.List.{map_push}
 use Rattle.mace_lexer.specs.declared.sign.Sign.TheVariants as sign
 use Rattle.mace_ast.specs.Exprs.{expr_tree}
+use Rattle.mace_grammar.specs.Levels.{tighter_ones, levels_from}
 use Rattle.mace_grammar.specs.Words.{edition_of}
 use Rattle.mace_grammar.specs.inner.Classes.{kind}
 use Rattle.mace_grammar.specs.inner.Run.{sees}
 use Rattle.mace_grammar.specs.inner.Readers as reader
 use Rattle.mace_parser.proofs.Progress.{takes_next_expr}
-use Rattle.mace_parser.proofs.Turns.{list_goes_on, list_ends, list_done, chain_start, chain_goes_on, chain_ends}
+use Rattle.mace_parser.proofs.Turns.{list_goes_on, list_ends, list_done, chain_start, chain_stuck, chain_goes_on, chain_ends}
 use Rattle.mace_parser.proofs.Steps.{keyed_gives, keyed_fails}
 use Rattle.mace_parser.proofs.expr.Reader.+expr.Goals as goal
 
@@ -29,19 +30,24 @@ expr_list-turns-smaller t c = (takes_next_expr c.args.self.version c.args.self.d
 pub expr_list-returns : goal.expr_list-returns
 expr_list-returns t c = list_done (edition_of c.args.self.version) (reader.if_sign sign.Comma) (reader.next_at (edition_of c.args.self.version) (reader.expr_at (edition_of c.args.self.version) (reader.unary_at (edition_of c.args.self.version) c.args.self.depth))) (map expr_tree c.turns.found.items) c.turns.rest.now (reader.list_at (edition_of c.args.self.version) (reader.expr_at (edition_of c.args.self.version) (reader.unary_at (edition_of c.args.self.version) c.args.self.depth)) c.args.tokens.now) (sym c.sees_sign.ensures ∙ c.turns-test.false) c.turns.invariant
 
+pub chain-returns-in_err-left : goal.chain-returns-in_err-left
+chain-returns-in_err-left t c =
+    let p = err_from_is_err_and c.from_residual-in_err-left.result c.from_residual-in_err-left.ensures.1 in
+    rw (p.1, p.2) (chain_stuck (edition_of c.args.self.version) (reader.unary_at (edition_of c.args.self.version) c.args.self.depth) c.args.level c.in_err-left.field-0.0 c.args.tokens.now c.in_err-left.ensures)
+
 pub chain-turns-init : goal.chain-turns-init
-chain-turns-init t c = chain_start (edition_of c.args.self.version) (reader.unary_at (edition_of c.args.self.version) c.args.self.depth) c.args.level c.most_operands-end.result (expr_tree c.in_ok-left.left) c.args.tokens.now c.in_ok-left.rest.now c.if-level-eq0.false c.most_operands-end.ensures c.in_ok-left.ensures
+chain-turns-init t c = chain_start (edition_of c.args.self.version) (reader.unary_at (edition_of c.args.self.version) c.args.self.depth) c.args.level c.most_operands-end.result (expr_tree c.in_ok-left.left) c.args.tokens.now c.in_ok-left.rest.now c.most_operands-end.ensures c.in_ok-left.ensures
 
 pub chain-returns-in_err-op : goal.chain-returns-in_err-op
 chain-returns-in_err-op t c =
     let p = err_from_is_err_and c.from_residual-in_err-op.result c.from_residual-in_err-op.ensures.1 in
-    let s : sees (kind (edition_of c.args.self.version)) (reader.operators_of (c.args.level - 1)) c.turns.rest.now ≡ true = sym c.sees_operator.ensures ∙ c.if-not-sees_operator.false in
-    rw (p.1, p.2) (chain_ends (edition_of c.args.self.version) (c.args.level - 1) (reader.level_at (edition_of c.args.self.version) (reader.unary_at (edition_of c.args.self.version) c.args.self.depth) (c.args.level - 1)) c.in_err-op.field-0.0 c.most_operands-end.result c.turns.counter (expr_tree c.turns.left) c.turns.rest.now (reader.level_at (edition_of c.args.self.version) (reader.unary_at (edition_of c.args.self.version) c.args.self.depth) c.args.level c.args.tokens.now) c.turns-test.true s c.in_err-op.ensures c.turns.invariant)
+    let s : sees (kind (edition_of c.args.self.version)) (reader.operators_of (tighter_ones c.args.level)) c.turns.rest.now ≡ true = sym c.sees_operator.ensures ∙ c.if-not-sees_operator.false in
+    rw (p.1, p.2) (chain_ends (edition_of c.args.self.version) (tighter_ones c.args.level) (reader.level_at (edition_of c.args.self.version) (reader.unary_at (edition_of c.args.self.version) c.args.self.depth) (tighter_ones c.args.level)) c.in_err-op.field-0.0 c.most_operands-end.result c.turns.counter (expr_tree c.turns.left) c.turns.rest.now (reader.level_at (edition_of c.args.self.version) (reader.unary_at (edition_of c.args.self.version) c.args.self.depth) (levels_from c.args.level) c.args.tokens.now) c.turns-test.true s c.in_err-op.ensures c.turns.invariant)
 
 pub chain-turns-preserved : goal.chain-turns-preserved
 chain-turns-preserved t c =
-    let s : sees (kind (edition_of c.args.self.version)) (reader.operators_of (c.args.level - 1)) c.turns.rest.now ≡ true = sym c.sees_operator.ensures ∙ c.if-not-sees_operator.false in
-    chain_goes_on (edition_of c.args.self.version) (c.args.level - 1) (reader.level_at (edition_of c.args.self.version) (reader.unary_at (edition_of c.args.self.version) c.args.self.depth) (c.args.level - 1)) c.most_operands-end.result c.turns.counter (expr_tree c.turns.left) (expr_tree c.in_ok-left-2.left) c.turns.rest.now c.in_ok-op.after.now (c.in_ok-op.op, expr_tree c.in_ok-op.right) (reader.level_at (edition_of c.args.self.version) (reader.unary_at (edition_of c.args.self.version) c.args.self.depth) c.args.level c.args.tokens.now) c.turns-test.true s c.in_ok-op.ensures c.in_ok-left-2.ensures c.turns.invariant
+    let s : sees (kind (edition_of c.args.self.version)) (reader.operators_of (tighter_ones c.args.level)) c.turns.rest.now ≡ true = sym c.sees_operator.ensures ∙ c.if-not-sees_operator.false in
+    chain_goes_on (edition_of c.args.self.version) (tighter_ones c.args.level) (reader.level_at (edition_of c.args.self.version) (reader.unary_at (edition_of c.args.self.version) c.args.self.depth) (tighter_ones c.args.level)) c.most_operands-end.result c.turns.counter (expr_tree c.turns.left) (expr_tree c.in_ok-left-2.left) c.turns.rest.now c.in_ok-op.after.now (c.in_ok-op.op, expr_tree c.in_ok-op.right) (reader.level_at (edition_of c.args.self.version) (reader.unary_at (edition_of c.args.self.version) c.args.self.depth) (levels_from c.args.level) c.args.tokens.now) c.turns-test.true s c.in_ok-op.ensures c.in_ok-left-2.ensures c.turns.invariant
 
 pub above-returns-in_err-key : goal.above-returns-in_err-key
 above-returns-in_err-key t c =
