@@ -1,5 +1,5 @@
 -- The levels of operators, counted.
-use Rattle.std.specs.Prelude.{ℕ, Option, Some, None}
+use Rattle.std.specs.Prelude.{ℕ, suc, Option, Some, None}
 use Rattle.mace_grammar.specs.declared.level.Level.{Level}
 use Rattle.mace_grammar.specs.declared.level.Level.TheVariants.{Or, And, Comparison, Sum, Product}
 
@@ -26,8 +26,4 @@ tighter_ones Product = 0
 
 -- and how many with itself
 abbrev pub levels_from : Level → ℕ
-levels_from Or = 5
-levels_from And = 4
-levels_from Comparison = 3
-levels_from Sum = 2
-levels_from Product = 1
+levels_from level = suc (tighter_ones level)

@@ -12,7 +12,6 @@ use Rattle.mace_grammar.specs.inner.Run.{Outcome, Reader, and_then, give, after,
 use Rattle.mace_grammar.specs.declared.class.Class.{Class}
 use Rattle.mace_grammar.specs.inner.Classes as classes
 use Rattle.mace_grammar.specs.declared.level.Level.{Level}
-use Rattle.mace_grammar.specs.declared.level.Level.TheVariants.{Or, And, Comparison, Sum, Product}
 use Rattle.mace_grammar.specs.Levels.{tighter_ones, levels_from}
 use Rattle.mace_grammar.specs.Words.{Edition}
 use Rattle.mace_parser.proofs.Progress.{Takes, enough}
@@ -28,13 +27,6 @@ seen false x y h = cc
 unseen : {X : Type 0} (b : Bool) (x y : X) → b ≡ false → (if b then x else y) ≡ y
 unseen true x y h = cc
 unseen false x y h = refl
-
-with_itself : (level : Level) → suc (tighter_ones level) ≡ levels_from level
-with_itself Or = refl
-with_itself And = refl
-with_itself Comparison = refl
-with_itself Sum = refl
-with_itself Product = refl
 
 module _ (edition : Edition) where
   abbrev kind : Token → Class
@@ -142,11 +134,11 @@ module _ (edition : Edition) where
   chain_start unary level n first ts rest e g =
       let whole : n - 0 ≡ n = omega arith in
       let m = tighter_ones level in
-      ap (λ i. (operands_at edition) m (level_at edition unary m) i first rest) whole ∙ chain_next unary m n first ts rest e g ∙ ap (λ l. (level_at edition) unary l ts) (with_itself level)
+      ap (λ i. (operands_at edition) m (level_at edition unary m) i first rest) whole ∙ chain_next unary m n first ts rest e g
 
   -- where the first operand is not read, nothing is
   pub chain_stuck : (unary : Reader ExprTree) (level : Level) (e : Fault) (ts : List Token) → Fails e (level_at edition unary (tighter_ones level) ts) → Fails e (level_at edition unary (levels_from level) ts)
   chain_stuck unary level (Memory _) ts g = tt
   chain_stuck unary level (Stuck rest) ts g =
       let m = tighter_ones level in
-      sym (ap (λ l. (level_at edition) unary l ts) (with_itself level)) ∙ ap (λ o. and_then o (λ x r. (operands_at edition) m (level_at edition unary m) (turns_of m r) x r)) g
+      ap (λ o. and_then o (λ x r. (operands_at edition) m (level_at edition unary m) (turns_of m r) x r)) g
