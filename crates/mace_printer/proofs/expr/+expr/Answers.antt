@@ -66,4 +66,4 @@ put_expr-returns-in_ok-put_left-in-Binary t c =
     let node = ap (λ n. node_tree n at) c.in-Binary.is ∙ binary_node o c.in-Binary.left c.in-Binary.right at
     ∙ ap (λ x. e.Binary at o (expr_tree x) (expr_tree c.in-Binary.right.value)) (sym c.deref-in-Binary.ensures)
     ∙ ap (λ x. e.Binary at o a (expr_tree x)) (sym c.deref-in-Binary-2.ensures) in
-    same_next _ _ _ (binary_arm at o a b (wanted c.args.level) _ (ap (λ x. nat_lt x (wanted c.args.level)) (sym c.level_of.ensures) ∙ sym c.is_looser.ensures) ∙ ap (λ x. expr_words x (wanted c.args.level)) (sym node)) (next _ _ _ _ _ c.in_ok-put_left-in-Binary.ensures c.put_right.ensures)
+    same_next _ _ _ (binary_arm at o a b (wanted c.args.level) _ (ap (λ x. nat_lt x (wanted c.args.level)) (sym c.level_of.ensures) ∙ sym c.is_looser-paren.ensures) ∙ ap (λ x. expr_words x (wanted c.args.level)) (sym node)) (next _ _ _ _ _ c.in_ok-put_left-in-Binary.ensures c.put_right.ensures)
