@@ -1,6 +1,7 @@
 pub mod inner
 pub mod Part
 pub mod Words
+pub mod Levels
 pub mod Grammar
 pub mod Nest
 pub mod Spelled

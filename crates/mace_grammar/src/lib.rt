@@ -3,8 +3,10 @@
 
 mod class;
 mod laws;
+mod level;
 
 pub use class::{
     COMPARISON_OPS, Class, EXPR_STARTS, INITIALS, PRODUCT_OPS, STMT_STARTS, SUM_OPS, UNARY_OPS,
 };
 pub use laws::at_most_one_tree;
+pub use level::Level;

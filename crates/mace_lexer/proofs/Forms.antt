@@ -15,7 +15,8 @@ use Rattle.mace_lexer.specs.declared.sign.Sign.{Sign}
 use Rattle.mace_lexer.specs.declared.token.Word.TheVariants as word
 use Rattle.mace_lexer.specs.declared.fault.LexFault.TheVariants.{BadByte, NumberRange, OpenText, NameLong, TextLong}
 use Rattle.mace_lexer.specs.Spellings.{keywords, signs}
-use Rattle.mace_lexer.specs.Words.{is_blank, is_inside_line, is_comment, entry_of, keyword, sign, form_by, form_of}
+use Rattle.mace_lexer.specs.Words.{is_blank, is_inside_line, is_comment, entry_of, keyword, sign}
+use Rattle.mace_lexer.specs.inner.Fronts.{form_by, form_of}
 use Rattle.wave_base.specs.Text.{quoted}
 use Rattle.mace_lexer.specs.Pieces.{Piece, Gap, Spell, Wrong, IsPiece}
 

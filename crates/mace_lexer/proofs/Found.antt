@@ -15,11 +15,11 @@ use Rattle.mace_lexer.specs.declared.quoted.Inside.TheVariants.{Byte, Close}
 use Rattle.mace_lexer.specs.declared.sign.Sign.{Sign}
 use Rattle.mace_lexer.specs.declared.token.Word.TheVariants as word
 use Rattle.mace_lexer.specs.declared.fault.LexFault.TheVariants.{BadByte, NumberRange, NameLong, TextLong}
-use Rattle.mace_lexer.specs.Words.{is_inside_line, value_of, greatest, keyword, sign, form_of}
+use Rattle.mace_lexer.specs.Words.{is_inside_line, value_of, greatest, keyword, sign}
 use Rattle.mace_lexer.specs.Texts.{inside_of}
 use Rattle.wave_base.specs.Text.{escaped_byte, escaped, quoted}
 use Rattle.mace_lexer.specs.Pieces.{Piece, Spell, Wrong, IsPiece, IsLongest}
-use Rattle.mace_lexer.specs.Cuts.{IsCut, IsBody}
+use Rattle.mace_lexer.specs.inner.Fronts.{form_of, IsCut, IsBody}
 use Rattle.mace_lexer.proofs.Bodies.{byte_taken, escaped_push}
 use Rattle.mace_lexer.proofs.Longest.{tests, comment_cut, comment_some, name_all, name_some, name_front, name_cut, number_some, number_front, number_cut, text_cut, two_cut, one_cut, no_sign, sign_no_quote}
 

@@ -14,11 +14,11 @@ use Rattle.mace_lexer.specs.declared.cut.Form.TheVariants as form
 use Rattle.mace_lexer.specs.declared.quoted.Inside.TheVariants.{Close}
 use Rattle.mace_lexer.specs.declared.sign.Sign.{Sign}
 use Rattle.mace_lexer.specs.declared.token.Word.TheVariants as word
-use Rattle.mace_lexer.specs.Words.{is_blank, is_inside_line, is_comment, sign, form_by, form_of}
+use Rattle.mace_lexer.specs.Words.{is_blank, is_inside_line, is_comment, sign}
 use Rattle.mace_lexer.specs.Texts.{inside_of, is_byte}
 use Rattle.wave_base.specs.Text.{escaped, quoted}
 use Rattle.mace_lexer.specs.Pieces.{Piece, Gap, Spell, IsPiece, IsLongest, HasNone}
-use Rattle.mace_lexer.specs.Cuts.{IsBody}
+use Rattle.mace_lexer.specs.inner.Fronts.{form_by, form_of, IsBody}
 use Rattle.mace_lexer.proofs.Forms.{and_cases, FormAt, formed, sign_passes}
 use Rattle.mace_lexer.proofs.Bodies.{close_is, same_body}
 

@@ -1,17 +1,14 @@
 -- A text cut into pieces, and the first fault.
-use Rattle.std.specs.Prelude.{◌≡◌, ℕ, suc, ◌+◌, ◌<◌, ◌≤◌, ◌⊎◌, false, ◌==◌, if◌then◌else◌, List, [], ◌∷◌, ◌++◌, length, take, drop, slice_index, All}
+use Rattle.std.specs.Prelude.{◌≡◌, ℕ, suc, ◌+◌, ◌<◌, ◌⊎◌, ◌==◌, if◌then◌else◌, List, [], ◌∷◌, ◌++◌, length, take, drop, slice_index, All}
 use Rattle.wave_base.specs.declared.span.Span.{Span}
-use Rattle.wave_base.specs.Text.{IsPrintable}
 use Rattle.mace_lexer.specs.declared.token.Word.{Word}
 use Rattle.mace_lexer.specs.declared.token.Token.{Token}
 use Rattle.mace_lexer.specs.declared.fault.LexFault.{LexFault}
 use Rattle.mace_lexer.specs.declared.fault.LexFault.TheVariants.{BadByte, NumberRange, OpenText, NameLong, TextLong}
 use Rattle.mace_lexer.specs.declared.quoted.Inside.TheVariants.{Open, Bad}
 use Rattle.mace_lexer.specs.declared.quoted.Inside.{Inside}
-use Rattle.mace_lexer.specs.declared.cut.Cut.{Cut}
-use Rattle.mace_lexer.specs.declared.cut.Cut.TheVariants as cut
-use Rattle.mace_lexer.specs.Texts.{inside_of, is_byte}
-use Rattle.wave_base.specs.Text.{escaped}
+use Rattle.mace_lexer.specs.Texts.{inside_of}
+use Rattle.wave_base.specs.Text.{IsPrintable, escaped}
 use Rattle.mace_lexer.specs.Pieces.{Gap, Spell, Wrong, IsLongest, HasNone}
 
 abbrev pub past_byte : Span → ℕ → Span
@@ -64,21 +61,6 @@ Fails text NameLong n = IsTooLarge text NameLong n
 Fails text TextLong n = IsTooLarge text TextLong n
 Fails text OpenText n = IsOpen text n
 Fails text BadByte n = StopsInside text n Bad ⊎ HasNoPiece text n
-
--- ---- what the lexer's parts find at the front of a text
-
-abbrev pub IsCut : List ℕ → Cut → Type 0
-IsCut text (cut.Gap n) = (0 < n) × IsLongest text n Gap
-IsCut text (cut.Spell n w) = (0 < n) × IsLongest text n (Spell w)
-IsCut text (cut.Fault e n) = (n ≤ length text) × Fails text e n
-
--- a text's inside: behind the quote these bytes are meant, they reach to byte n, and no more of them stand there
-pub record IsBody (text t : List ℕ) (n : ℕ) : Type 0 where
-  pub split : text ≡ 34 ∷ (escaped t ++ drop n text)
-  pub printable : All IsPrintable t
-  pub reach : n ≡ suc (length (escaped t))
-  pub within : n ≤ length text
-  pub ends : is_byte (inside_of (drop n text)) ≡ false
 
 -- The first piece that can't be cut has this fault at this place.
 pub data Faulty : Span → List ℕ → LexFault → Span → Type 0 where

@@ -5,3 +5,4 @@ pub mod Texts
 pub mod Pieces
 pub mod Cuts
 pub mod Lexed
+pub mod inner

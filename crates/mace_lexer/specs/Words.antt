@@ -1,14 +1,8 @@
 -- Which bytes make a blank, a comment, a keyword and a sign, and the number that digits make.
-use Rattle.std.specs.Prelude.{ℕ, ◌+◌, ◌-◌, ◌*◌, Bool, false, not, ◌&&◌, ◌||◌, ◌==◌, if◌then◌else◌, List, [], ◌∷◌, map, fold, slice_index, get_or, Option, Some, None}
-use Rattle.std.specs.Char.{is_ascii_digit}
+use Rattle.std.specs.Prelude.{ℕ, ◌+◌, ◌-◌, ◌*◌, Bool, false, not, ◌&&◌, ◌||◌, ◌==◌, if◌then◌else◌, List, [], ◌∷◌, map, fold, get_or, Option, Some, None}
 use Rattle.std.specs.List.{list_all}
 use Rattle.std.specs.Str.{bytes_eq}
-use Rattle.wave_base.specs.Names.{is_name_start, is_name_byte}
 use Rattle.mace_lexer.specs.Codes.{key_code, sign_code}
-use Rattle.mace_lexer.specs.declared.cut.Class.{Class}
-use Rattle.mace_lexer.specs.declared.cut.Class.TheVariants as class
-use Rattle.mace_lexer.specs.declared.cut.Form.{Form}
-use Rattle.mace_lexer.specs.declared.cut.Form.TheVariants as form
 use Rattle.mace_lexer.specs.declared.keyword.Keyword.{Keyword}
 use Rattle.mace_lexer.specs.declared.sign.Sign.{Sign}
 use Rattle.mace_lexer.specs.Spellings.{keywords, signs}
@@ -67,25 +61,3 @@ sign = entry_of signs
 -- how a sign is written
 unfoldable pub sign_bytes : Sign → List ℕ
 sign_bytes s = spelling_at signs (sign_code s)
-
--- ---- which bytes go on with a comment, a name and a number
-
-abbrev pub is_in : Class → ℕ → Bool
-is_in class.Line b = is_inside_line b
-is_in class.Name b = is_name_byte b
-is_in class.Digit b = is_ascii_digit b
-
--- ---- the form of a piece, by its first two bytes
-
-abbrev pub form_by : ℕ → ℕ → Form
-form_by a b =
-    if a == 32 || a == 9 || a == 10 then form.Blank
-    else if a == 13 && b == 10 then form.LineEnd
-    else if a == 47 && b == 47 then form.Comment
-    else if a == 34 then form.Text
-    else if is_name_start a then form.Name
-    else if is_ascii_digit a then form.Number
-    else form.Sign
-
-abbrev pub form_of : List ℕ → Form
-form_of bs = form_by (slice_index bs 0) (slice_index bs 1)

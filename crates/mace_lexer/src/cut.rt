@@ -1,10 +1,12 @@
 //! The next piece of a service text: blanks, a comment, or a token.
 
-ghost use Rattle.std.specs.Prelude.{◌≡◌, ◌<◌, ◌≤◌, length, map, take, true, All, IfOk, IfSome, IfNone, slice_index};
+ghost use Rattle.std.specs.Prelude.{◌≡◌, ◌<◌, ◌≤◌, length, take, true, All, IfOk, IfSome, IfNone, slice_index};
 ghost use Rattle.std.specs.List.{prefix_len};
 ghost use Rattle.mace_lexer.specs.Words as words;
-ghost use Rattle.mace_lexer.specs.Cuts.{IsCut};
+ghost use Rattle.mace_lexer.specs.inner.Fronts as fronts;
+ghost use Rattle.mace_lexer.specs.inner.Fronts.{IsCut};
 
+use crate::entry::entry_in;
 use crate::fault::LexFault;
 use crate::keyword::{KEYWORDS, Keyword};
 use crate::quoted::quoted;
@@ -55,7 +57,7 @@ pub enum Form {
 }
 
 fn is_in(class: Class, b: u8) -> bool
-    ensures { result ≡ words.is_in class b }
+    ensures { result ≡ fronts.is_in class b }
 {
     match class {
         Class::Line => b != b'\n',
@@ -66,7 +68,7 @@ fn is_in(class: Class, b: u8) -> bool
 
 // How many bytes at the front go on with a piece.
 fn run(class: Class, text: &[u8]) -> usize
-    ensures value { result ≡ prefix_len (words.is_in class) text.now }
+    ensures value { result ≡ prefix_len (fronts.is_in class) text.now }
     ensures within { result ≤ length text.now }
 {
     let mut n = 0;
@@ -76,47 +78,23 @@ fn run(class: Class, text: &[u8]) -> usize
     n
 }
 
-fn keyword_in(mut table: &[(&[u8], Keyword)], name: &[u8]) -> Option<Keyword>
-    ensures { result ≡ words.entry_of (map (λ e. (e.0.now, e.1)) table.entry.now) name.now }
-{
-    while let [entry, rest @ ..] = table {
-        if entry.0 == name {
-            return Some(entry.1);
-        }
-        table = rest;
-    }
-    None
-}
-
 #[tactic(auto, unfolding(crate::specs::Words::keyword))]
 fn keyword(name: &[u8]) -> Option<Keyword>
     ensures { result ≡ words.keyword name.now }
 {
-    keyword_in(&KEYWORDS, name)
-}
-
-fn sign_in(mut table: &[(&[u8], Sign)], bytes: &[u8]) -> Option<Sign>
-    ensures { result ≡ words.entry_of (map (λ e. (e.0.now, e.1)) table.entry.now) bytes.now }
-{
-    while let [entry, rest @ ..] = table {
-        if entry.0 == bytes {
-            return Some(entry.1);
-        }
-        table = rest;
-    }
-    None
+    entry_in(&KEYWORDS, name)
 }
 
 #[tactic(auto, unfolding(crate::specs::Words::sign))]
 fn sign(bytes: &[u8]) -> Option<Sign>
     ensures { result ≡ words.sign bytes.now }
 {
-    sign_in(&SIGNS, bytes)
+    entry_in(&SIGNS, bytes)
 }
 
 fn name(alloc: Global, text: &[u8]) -> Result<Cut, OutOfMemory>
     requires some { 0 < length text.now }
-    requires form { words.form_of text.now ≡ Form.Name }
+    requires form { fronts.form_of text.now ≡ Form.Name }
     ensures { IfOk result (IsCut text.now) }
 {
     let n = run(Class::Name, text);
@@ -134,7 +112,7 @@ const GREATEST: u64 = 9223372036854775807;
 
 // The number of these digits, if it isn't above the limit.
 fn value(digits: &[u8]) -> Option<u64>
-    requires { All (λ b. words.is_in Class.Digit b ≡ true) digits.now }
+    requires { All (λ b. fronts.is_in Class.Digit b ≡ true) digits.now }
     ensures some { IfSome result (λ v. (v ≡ words.value_of digits.now) × (v ≤ GREATEST)) }
     ensures none { IfNone result (GREATEST < words.value_of digits.now) }
 {
@@ -151,7 +129,7 @@ fn value(digits: &[u8]) -> Option<u64>
 
 fn number(text: &[u8]) -> Cut
     requires some { 0 < length text.now }
-    requires form { words.form_of text.now ≡ Form.Number }
+    requires form { fronts.form_of text.now ≡ Form.Number }
     ensures { IsCut text.now result }
 {
     let n = run(Class::Digit, text);
@@ -176,7 +154,7 @@ fn pair(text: &[u8]) -> Option<Sign>
 // A sign of two bytes where they make one, else of one.
 fn punctuation(text: &[u8]) -> Cut
     requires some { 0 < length text.now }
-    requires form { words.form_of text.now ≡ Form.Sign }
+    requires form { fronts.form_of text.now ≡ Form.Sign }
     ensures { IsCut text.now result }
 {
     if let Some(s) = pair(text) {
@@ -197,7 +175,7 @@ fn byte(text: &[u8], at: usize) -> u8
 
 // The form of the piece that begins with these two bytes.
 fn form_of(a: u8, b: u8) -> Form
-    ensures { result ≡ words.form_by a b }
+    ensures { result ≡ fronts.form_by a b }
 {
     match (a, b) {
         (b' ' | b'\t' | b'\n', _) => Form::Blank,

@@ -3,8 +3,7 @@
 ghost use Rattle.std.specs.Prelude.{◌≡◌, ◌<◌, length, IfOk};
 ghost use Rattle.mace_lexer.specs.Texts.{escape_of, inside_of};
 ghost use Rattle.wave_base.specs.Text.{escaped_byte};
-ghost use Rattle.mace_lexer.specs.Words.{form_of};
-ghost use Rattle.mace_lexer.specs.Cuts.{IsCut, IsBody};
+ghost use Rattle.mace_lexer.specs.inner.Fronts.{form_of, IsCut, IsBody};
 
 use crate::cut::{Cut, Form};
 use crate::fault::LexFault;

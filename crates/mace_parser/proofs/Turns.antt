@@ -11,6 +11,8 @@ use Rattle.mace_grammar.specs.Grammar.{joined}
 use Rattle.mace_grammar.specs.inner.Run.{Outcome, Reader, and_then, give, after, sees, each, each_of, with_front}
 use Rattle.mace_grammar.specs.declared.class.Class.{Class}
 use Rattle.mace_grammar.specs.inner.Classes as classes
+use Rattle.mace_grammar.specs.declared.level.Level.{Level}
+use Rattle.mace_grammar.specs.Levels.{tighter_ones, levels_from}
 use Rattle.mace_grammar.specs.Words.{Edition}
 use Rattle.mace_parser.proofs.Progress.{Takes, enough}
 use Rattle.mace_grammar.specs.inner.Readers.{operators_of, operator_at, operand_at, operands_at, turns_of, level_at}
@@ -25,10 +27,6 @@ seen false x y h = cc
 unseen : {X : Type 0} (b : Bool) (x y : X) → b ≡ false → (if b then x else y) ≡ y
 unseen true x y h = cc
 unseen false x y h = refl
-
-positive : (level : ℕ) → (level ≡ 0 → ⊥) → suc (level - 1) ≡ level
-positive zero h = absurd (h refl)
-positive (suc m) h = omega arith
 
 module _ (edition : Edition) where
   abbrev kind : Token → Class
@@ -132,5 +130,15 @@ module _ (edition : Edition) where
       ap (λ i. (operands_at edition) m (level_at edition unary m) i first rest) e
       ∙ sym (ap (λ o. and_then o (λ x r. (operands_at edition) m (level_at edition unary m) (turns_of m r) x r)) g)
 
-  pub chain_start : (unary : Reader ExprTree) (level n : ℕ) (first : ExprTree) (ts rest : List Token) → (level ≡ 0 → ⊥) → n ≡ turns_of (level - 1) rest → level_at edition unary (level - 1) ts ≡ Ok (first, rest) → operands_at edition (level - 1) (level_at edition unary (level - 1)) (n - 0) first rest ≡ level_at edition unary level ts
-  chain_start unary level n first ts rest h e g = let whole : n - 0 ≡ n = omega arith in ap (λ i. (operands_at edition) (level - 1) (level_at edition unary (level - 1)) i first rest) whole ∙ chain_next unary (level - 1) n first ts rest e g ∙ ap (λ l. (level_at edition) unary l ts) (positive level h)
+  pub chain_start : (unary : Reader ExprTree) (level : Level) (n : ℕ) (first : ExprTree) (ts rest : List Token) → n ≡ turns_of (tighter_ones level) rest → level_at edition unary (tighter_ones level) ts ≡ Ok (first, rest) → operands_at edition (tighter_ones level) (level_at edition unary (tighter_ones level)) (n - 0) first rest ≡ level_at edition unary (levels_from level) ts
+  chain_start unary level n first ts rest e g =
+      let whole : n - 0 ≡ n = omega arith in
+      let m = tighter_ones level in
+      ap (λ i. (operands_at edition) m (level_at edition unary m) i first rest) whole ∙ chain_next unary m n first ts rest e g
+
+  -- where the first operand is not read, nothing is
+  pub chain_stuck : (unary : Reader ExprTree) (level : Level) (e : Fault) (ts : List Token) → Fails e (level_at edition unary (tighter_ones level) ts) → Fails e (level_at edition unary (levels_from level) ts)
+  chain_stuck unary level (Memory _) ts g = tt
+  chain_stuck unary level (Stuck rest) ts g =
+      let m = tighter_ones level in
+      ap (λ o. and_then o (λ x r. (operands_at edition) m (level_at edition unary m) (turns_of m r) x r)) g

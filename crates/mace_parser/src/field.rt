@@ -8,13 +8,12 @@ ghost use Rattle.mace_grammar.specs.inner.Readers as reader;
 ghost use Rattle.mace_parser.specs.inner.Gives.{Gives};
 
 use crate::fault::{Fault, Read};
-use crate::sees::{sees_any, sees_key};
-use crate::token::{key, kind, name, number, sign};
+use crate::reader::Reader;
+use crate::token::{key, kind, number, sign};
 use mace_ast::{Initial, Literal, VarDecl};
 use mace_grammar::INITIALS;
 use mace_lexer::{Keyword, Sign, Token, Word};
-use std::alloc::Global;
-use wave_base::{Seq, Span, Version, push};
+use wave_base::{Seq, Span, push};
 
 fn initial_of_key(at: Span, key: Keyword) -> Option<Initial>
     ensures { result ≡ words.initial_of_key at key }
@@ -36,30 +35,6 @@ fn initial_of_key(at: Span, key: Keyword) -> Option<Initial>
     }
 }
 
-fn literal<'a>(alloc: Global, tokens: &'a [Token]) -> Read<'a, Initial>
-    ensures { Gives (λ x. (x.0, x.1.now)) result (reader.literal_initial_at tokens.now) }
-{
-    let Some((t, rest)) = tokens.split_first() else {
-        return Err(Fault::Stuck(tokens));
-    };
-    let at = t.span;
-    match &t.word {
-        Word::Number(n) => {
-            let value = Literal::Number(*n);
-            Ok((Initial { at, value }, rest))
-        }
-        Word::Text(text) => {
-            let value = Literal::Text(text.copy(alloc)?);
-            Ok((Initial { at, value }, rest))
-        }
-        Word::Key(key) => match initial_of_key(at, *key) {
-            Some(initial) => Ok((initial, rest)),
-            None => Err(Fault::Stuck(tokens)),
-        },
-        _ => Err(Fault::Stuck(tokens)),
-    }
-}
-
 #[tactic(auto, unfolding(mace_grammar::specs::inner::Readers::minus_number_at))]
 fn minus_number(tokens: &[Token]) -> Read<'_, Initial>
     ensures { Gives (λ x. (x.0, x.1.now)) result (reader.minus_number_at tokens.now) }
@@ -70,47 +45,73 @@ fn minus_number(tokens: &[Token]) -> Read<'_, Initial>
     Ok((Initial { at, value }, rest))
 }
 
-#[tactic(auto, unfolding(mace_grammar::specs::inner::Readers::initial_at))]
-fn initial<'a>(alloc: Global, version: Version, tokens: &'a [Token]) -> Read<'a, Initial>
-    ensures { Gives (λ x. (x.0, x.1.now)) result (reader.initial_at (edition_of version) tokens.now) }
-{
-    if sees_any(&INITIALS, version, tokens) {
-        return literal(alloc, tokens);
+impl Reader {
+    fn literal_initial<'a>(self, tokens: &'a [Token]) -> Read<'a, Initial>
+        ensures { Gives (λ x. (x.0, x.1.now)) result (reader.literal_initial_at tokens.now) }
+    {
+        let Some((t, rest)) = tokens.split_first() else {
+            return Err(Fault::Stuck(tokens));
+        };
+        let at = t.span;
+        match &t.word {
+            Word::Number(n) => {
+                let value = Literal::Number(*n);
+                Ok((Initial { at, value }, rest))
+            }
+            Word::Text(text) => {
+                let value = Literal::Text(text.copy(self.alloc)?);
+                Ok((Initial { at, value }, rest))
+            }
+            Word::Key(key) => match initial_of_key(at, *key) {
+                Some(initial) => Ok((initial, rest)),
+                None => Err(Fault::Stuck(tokens)),
+            },
+            _ => Err(Fault::Stuck(tokens)),
+        }
     }
-    minus_number(tokens)
-}
 
-#[tactic(auto, unfolding(mace_grammar::specs::inner::Readers::var_at))]
-fn var<'a>(alloc: Global, version: Version, tokens: &'a [Token]) -> Read<'a, VarDecl>
-    ensures { Gives (λ x. (x.0, x.1.now)) result (reader.var_at (edition_of version) tokens.now) }
-{
-    let (at, rest) = key(Keyword::Var, tokens)?;
-    let (name, rest) = name(alloc, version, rest)?;
-    let (_, rest) = sign(Sign::Colon, rest)?;
-    let (kind, rest) = kind(rest)?;
-    let (_, rest) = sign(Sign::Equals, rest)?;
-    let (initial, rest) = initial(alloc, version, rest)?;
-    let (_, rest) = sign(Sign::Semicolon, rest)?;
-    let var = VarDecl {
-        at,
-        name,
-        kind,
-        initial,
-    };
-    Ok((var, rest))
-}
-
-/// Fields, one behind the other.
-#[tactic(auto, unfolding(mace_grammar::specs::inner::Readers::vars_at))]
-pub fn vars<'a>(alloc: Global, version: Version, tokens: &'a [Token]) -> Read<'a, Seq<VarDecl>>
-    ensures { Gives (λ x. (x.0, x.1.now)) result (reader.vars_at (edition_of version) tokens.now) }
-{
-    let mut rest = tokens;
-    let mut found = Vec::new(alloc);
-    'turns: while sees_key(Keyword::Var, version, rest) {
-        let (next, after) = var(alloc, version, rest)?;
-        push(&mut found, next)?;
-        rest = after;
+    #[tactic(auto, unfolding(mace_grammar::specs::inner::Readers::initial_at))]
+    fn initial<'a>(self, tokens: &'a [Token]) -> Read<'a, Initial>
+        ensures { Gives (λ x. (x.0, x.1.now)) result (reader.initial_at (edition_of self.version) tokens.now) }
+    {
+        if self.sees_any(&INITIALS, tokens) {
+            return self.literal_initial(tokens);
+        }
+        minus_number(tokens)
     }
-    Ok((Seq::from_vec(found), rest))
+
+    #[tactic(auto, unfolding(mace_grammar::specs::inner::Readers::var_at))]
+    fn var<'a>(self, tokens: &'a [Token]) -> Read<'a, VarDecl>
+        ensures { Gives (λ x. (x.0, x.1.now)) result (reader.var_at (edition_of self.version) tokens.now) }
+    {
+        let (at, rest) = key(Keyword::Var, tokens)?;
+        let (name, rest) = self.name(rest)?;
+        let (_, rest) = sign(Sign::Colon, rest)?;
+        let (kind, rest) = kind(rest)?;
+        let (_, rest) = sign(Sign::Equals, rest)?;
+        let (initial, rest) = self.initial(rest)?;
+        let (_, rest) = sign(Sign::Semicolon, rest)?;
+        let var = VarDecl {
+            at,
+            name,
+            kind,
+            initial,
+        };
+        Ok((var, rest))
+    }
+
+    /// Fields, one behind the other.
+    #[tactic(auto, unfolding(mace_grammar::specs::inner::Readers::vars_at))]
+    pub fn vars<'a>(self, tokens: &'a [Token]) -> Read<'a, Seq<VarDecl>>
+        ensures { Gives (λ x. (x.0, x.1.now)) result (reader.vars_at (edition_of self.version) tokens.now) }
+    {
+        let mut rest = tokens;
+        let mut found = Vec::new(self.alloc);
+        'turns: while self.sees_key(Keyword::Var, rest) {
+            let (next, after) = self.var(rest)?;
+            push(&mut found, next)?;
+            rest = after;
+        }
+        Ok((Seq::from_vec(found), rest))
+    }
 }

@@ -1,12 +1,14 @@
 // Operators, by their levels.
 
-ghost use Rattle.std.specs.Prelude.{◌≡◌, ◌<◌};
+ghost use Rattle.std.specs.Prelude.{◌≡◌};
+ghost use Rattle.mace_grammar.specs.Levels.{tighter_ones};
 ghost use Rattle.mace_grammar.specs.Words as words;
 ghost use Rattle.mace_grammar.specs.inner.Readers as reader;
 ghost use Rattle.mace_parser.specs.inner.Gives.{Gives};
 
 use crate::fault::{Fault, Read};
 use mace_ast::{BinaryOp, UnaryOp};
+use mace_grammar::Level;
 use mace_lexer::{Sign, Token, Word};
 use wave_base::Span;
 
@@ -36,7 +38,7 @@ pub fn unary_op(tokens: &[Token]) -> Read<'_, (Span, UnaryOp)>
     }
 }
 
-// ---- operators by their level, from the tightest: products, sums, comparisons, "&&" and "||"
+// ---- operators by their level
 
 fn product_op(sign: Sign) -> Option<BinaryOp>
     ensures { result ≡ words.product_op sign }
@@ -91,23 +93,21 @@ fn or_op(sign: Sign) -> Option<BinaryOp>
     }
 }
 
-fn op_of(level: u8, sign: Sign) -> Option<BinaryOp>
-    requires { level < 5 }
-    ensures { result ≡ reader.op_of level sign }
+fn op_of(level: Level, sign: Sign) -> Option<BinaryOp>
+    ensures { result ≡ reader.op_of (tighter_ones level) sign }
 {
     match level {
-        0 => product_op(sign),
-        1 => sum_op(sign),
-        2 => comparison_op(sign),
-        3 => and_op(sign),
-        _ => or_op(sign),
+        Level::Or => or_op(sign),
+        Level::And => and_op(sign),
+        Level::Comparison => comparison_op(sign),
+        Level::Sum => sum_op(sign),
+        Level::Product => product_op(sign),
     }
 }
 
 /// An operator of a level.
-pub fn operator(level: u8, tokens: &[Token]) -> Read<'_, BinaryOp>
-    requires { level < 5 }
-    ensures { Gives (λ x. (x.0, x.1.now)) result (reader.operator_at level tokens.now) }
+pub fn operator(level: Level, tokens: &[Token]) -> Read<'_, BinaryOp>
+    ensures { Gives (λ x. (x.0, x.1.now)) result (reader.operator_at (tighter_ones level) tokens.now) }
 {
     let Some((t, rest)) = tokens.split_first() else {
         return Err(Fault::Stuck(tokens));

@@ -7,9 +7,9 @@ ghost use Rattle.mace_grammar.specs.inner.Readers as reader;
 ghost use Rattle.mace_parser.specs.inner.Gives.{Gives};
 
 use crate::fault::{Fault, Read};
+use crate::reader::Reader;
 use mace_ast::Name;
 use mace_lexer::{Keyword, Sign, Token, Word};
-use std::alloc::Global;
 use wave_base::{Kind, Span, Txt, Version};
 
 /// This keyword, and its place.
@@ -65,45 +65,6 @@ pub fn is_early(version: Version) -> bool
     }
 }
 
-/// A name.
-pub fn name<'a>(alloc: Global, version: Version, tokens: &'a [Token]) -> Read<'a, Name>
-    ensures { Gives (λ x. (x.0, x.1.now)) result (reader.name_at (words.edition_of version) tokens.now) }
-{
-    let Some((t, rest)) = tokens.split_first() else {
-        return Err(Fault::Stuck(tokens));
-    };
-    match &t.word {
-        Word::Name(text) if is_name(version, text) => {
-            let text = text.copy(alloc)?;
-            Ok((Name { at: t.span, text }, rest))
-        }
-        _ => Err(Fault::Stuck(tokens)),
-    }
-}
-
-/// The keyword `return` as a statement.
-pub fn leave(version: Version, tokens: &[Token]) -> Read<'_, Span>
-    ensures { Gives (λ x. (x.0, x.1.now)) result (reader.leave_at (words.edition_of version) tokens.now) }
-{
-    if !is_early(version) {
-        return Err(Fault::Stuck(tokens));
-    }
-    key(Keyword::Return, tokens)
-}
-
-/// The word `finish`.
-pub fn finish(version: Version, tokens: &[Token]) -> Read<'_, Span>
-    ensures { Gives (λ x. (x.0, x.1.now)) result (reader.finish_at (words.edition_of version) tokens.now) }
-{
-    let Some((t, rest)) = tokens.split_first() else {
-        return Err(Fault::Stuck(tokens));
-    };
-    match &t.word {
-        Word::Name(text) if is_early(version) && is_finish(text) => Ok((t.span, rest)),
-        _ => Err(Fault::Stuck(tokens)),
-    }
-}
-
 /// The number of the second version.
 pub fn two(tokens: &[Token]) -> Read<'_, Version>
     ensures { Gives (λ x. (x.0, x.1.now)) result (reader.two_at tokens.now) }
@@ -126,19 +87,6 @@ pub fn number(tokens: &[Token]) -> Read<'_, i64>
     };
     match t.word {
         Word::Number(n) => Ok((n, rest)),
-        _ => Err(Fault::Stuck(tokens)),
-    }
-}
-
-/// A text.
-pub fn text<'a>(alloc: Global, tokens: &'a [Token]) -> Read<'a, Txt>
-    ensures { Gives (λ x. (x.0, x.1.now)) result (reader.text_at tokens.now) }
-{
-    let Some((t, rest)) = tokens.split_first() else {
-        return Err(Fault::Stuck(tokens));
-    };
-    match &t.word {
-        Word::Text(text) => Ok((text.copy(alloc)?, rest)),
         _ => Err(Fault::Stuck(tokens)),
     }
 }
@@ -171,10 +119,64 @@ pub fn kind(tokens: &[Token]) -> Read<'_, Kind>
     }
 }
 
-/// `.f`
-pub fn field<'a>(alloc: Global, version: Version, tokens: &'a [Token]) -> Read<'a, Name>
-    ensures { Gives (λ x. (x.0, x.1.now)) result (reader.field_at (words.edition_of version) tokens.now) }
-{
-    let (_, rest) = sign(Sign::Dot, tokens)?;
-    name(alloc, version, rest)
+impl Reader {
+    /// A name.
+    pub fn name<'a>(self, tokens: &'a [Token]) -> Read<'a, Name>
+        ensures { Gives (λ x. (x.0, x.1.now)) result (reader.name_at (words.edition_of self.version) tokens.now) }
+    {
+        let Some((t, rest)) = tokens.split_first() else {
+            return Err(Fault::Stuck(tokens));
+        };
+        match &t.word {
+            Word::Name(text) if is_name(self.version, text) => {
+                let text = text.copy(self.alloc)?;
+                Ok((Name { at: t.span, text }, rest))
+            }
+            _ => Err(Fault::Stuck(tokens)),
+        }
+    }
+
+    /// The keyword `return` as a statement.
+    pub fn leave(self, tokens: &[Token]) -> Read<'_, Span>
+        ensures { Gives (λ x. (x.0, x.1.now)) result (reader.leave_at (words.edition_of self.version) tokens.now) }
+    {
+        if !is_early(self.version) {
+            return Err(Fault::Stuck(tokens));
+        }
+        key(Keyword::Return, tokens)
+    }
+
+    /// The word `finish`.
+    pub fn finish(self, tokens: &[Token]) -> Read<'_, Span>
+        ensures { Gives (λ x. (x.0, x.1.now)) result (reader.finish_at (words.edition_of self.version) tokens.now) }
+    {
+        let Some((t, rest)) = tokens.split_first() else {
+            return Err(Fault::Stuck(tokens));
+        };
+        match &t.word {
+            Word::Name(text) if is_early(self.version) && is_finish(text) => Ok((t.span, rest)),
+            _ => Err(Fault::Stuck(tokens)),
+        }
+    }
+
+    /// A text.
+    pub fn text<'a>(self, tokens: &'a [Token]) -> Read<'a, Txt>
+        ensures { Gives (λ x. (x.0, x.1.now)) result (reader.text_at tokens.now) }
+    {
+        let Some((t, rest)) = tokens.split_first() else {
+            return Err(Fault::Stuck(tokens));
+        };
+        match &t.word {
+            Word::Text(text) => Ok((text.copy(self.alloc)?, rest)),
+            _ => Err(Fault::Stuck(tokens)),
+        }
+    }
+
+    /// `.f`
+    pub fn field<'a>(self, tokens: &'a [Token]) -> Read<'a, Name>
+        ensures { Gives (λ x. (x.0, x.1.now)) result (reader.field_at (words.edition_of self.version) tokens.now) }
+    {
+        let (_, rest) = sign(Sign::Dot, tokens)?;
+        self.name(rest)
+    }
 }

@@ -23,7 +23,8 @@ use Rattle.mace_ast.specs.Stmts.{StmtTree, action_tree, stmt_tree, stmts_of, els
 use Rattle.mace_ast.specs.Decls.{ContextTree, Context, contexts_of, context_tree, MethodTree, method_tree}
 use Rattle.mace_ast.specs.declared.field.VarDecl.{VarDecl}
 use Rattle.mace_ast.proofs.Rows.{row_trees-items, row_stmts-items, row_contexts-items}
-use Rattle.mace_printer.specs.Canon.{all_of, whole_words, expr_words, index_words, call_words, child_key_words, left_words, right_words, in_parens, level_of, left_level_of, sign_of, range_words, stmt_words, stmts_words, else_words, body_words, braced_words, maybe_else, head_words, var_words, method_words, context_words}
+use Rattle.mace_printer.specs.Canon.{all_of, whole_words, expr_words, index_words, call_words, in_parens, level_of, left_level_of, sign_of, stmt_words, stmts_words, else_words, body_words, braced_words, var_words, method_words, context_words}
+use Rattle.mace_printer.specs.inner.Parts.{child_key_words, left_words, right_words, range_words, maybe_else, head_words}
 use Rattle.mace_printer.proofs.Wrote.{args_listed, stmts_listed, contexts_listed}
 
 abbrev binary_words : BinaryOp → ExprTree → ExprTree → List Word

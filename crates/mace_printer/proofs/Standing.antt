@@ -20,11 +20,12 @@ use Rattle.mace_lexer.specs.declared.sign.Sign.TheVariants as s
 use Rattle.mace_lexer.specs.declared.token.Token.{Token}
 use Rattle.mace_lexer.specs.declared.token.Word.{Word}
 use Rattle.mace_lexer.specs.declared.token.Word.TheVariants as word
-use Rattle.mace_lexer.specs.Words.{with_digit, value_of, greatest, keyword, keyword_bytes, sign, sign_bytes, form_by, form_of}
+use Rattle.mace_lexer.specs.Words.{with_digit, value_of, greatest, keyword, keyword_bytes, sign, sign_bytes}
 use Rattle.mace_lexer.specs.Texts.{inside_of, is_byte}
 use Rattle.wave_base.specs.Text.{escaped, quoted}
 use Rattle.mace_lexer.specs.Pieces.{Spell, IsPiece, IsLongest}
-use Rattle.mace_lexer.specs.Cuts.{Cuts, at_end, past, IsBody}
+use Rattle.mace_lexer.specs.Cuts.{Cuts, at_end, past}
+use Rattle.mace_lexer.specs.inner.Fronts.{form_by, form_of, IsBody}
 use Rattle.mace_lexer.specs.Lexed.{start}
 use Rattle.mace_lexer.proofs.Tables.{keyword_again, sign_again}
 use Rattle.mace_lexer.proofs.Forms.{and_cases, keyword_passes, sign_passes}

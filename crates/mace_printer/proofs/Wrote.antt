@@ -10,7 +10,8 @@ use Rattle.mace_lexer.specs.declared.sign.Sign.TheVariants as s
 use Rattle.mace_ast.specs.Exprs.{ExprTree, exprs_of}
 use Rattle.mace_ast.specs.Stmts.{StmtTree, stmts_of}
 use Rattle.mace_ast.specs.Decls.{ContextTree, contexts_of}
-use Rattle.mace_printer.specs.Canon.{all_of, further, listed, comma_before, sign, whole_words, expr_words, args_words, more_words, stmt_words, stmts_words, context_words, contexts_words}
+use Rattle.mace_printer.specs.Canon.{all_of, further, listed, sign, whole_words, expr_words, args_words, more_words, stmt_words, stmts_words, context_words, contexts_words}
+use Rattle.mace_printer.specs.inner.Parts.{comma_before}
 use Rattle.mace_printer.specs.Layout.{line_of, layout}
 
 layout_both : (us vs : List Word) → layout (us ++ vs) ≡ layout us ++ layout vs

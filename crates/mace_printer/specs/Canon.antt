@@ -1,5 +1,5 @@
 -- The canonical words of a tree: its tokens in order, with parentheses only where the grammar needs them.
-use Rattle.std.specs.Prelude.{ℕ, ℤ, pos, codes, ◌+◌, Bool, true, false, nat_lt, ◌==◌, if◌then◌else◌, List, [], ◌∷◌, ◌++◌, Option, Some, None}
+use Rattle.std.specs.Prelude.{ℕ, ℤ, pos, codes, ◌+◌, Bool, true, false, nat_lt, List, [], ◌∷◌, ◌++◌, Option, Some, None}
 use Rattle.wave_base.specs.declared.value.Kind.{Kind}
 use Rattle.wave_base.specs.declared.value.Kind.TheVariants as kind
 use Rattle.wave_base.specs.declared.version.Version.{Version}
@@ -68,10 +68,6 @@ all_of words (x ∷ xs) = words x ⧺ all_of words xs
 abbrev pub further : {X : Type 0} → (X → List Word) → List X → List Word
 further words [] = []
 further words (x ∷ xs) = sign s.Comma ⧺ words x ⧺ further words xs
-
--- before all items but the first
-abbrev pub comma_before : ℕ → List Word
-comma_before i = if i == 0 then [] else sign s.Comma
 
 -- with commas between them
 abbrev pub listed : {X : Type 0} → (X → List Word) → List X → List Word
@@ -150,9 +146,6 @@ abbrev pub in_parens : Bool → List Word → List Word
 in_parens true ws = sign s.LeftParen ⧺ ws ⧺ sign s.RightParen
 in_parens false ws = ws
 
-abbrev pub above_words : List ℕ → List ℕ → List Word
-above_words c x = name c ⧺ sign s.Dot ⧺ name x
-
 -- where an expression of this level is wanted
 abbrev mutual
   pub expr_words : ExprTree → ℕ → List Word
@@ -186,26 +179,8 @@ index_words place = sign s.LeftBracket ⧺ whole_words place ⧺ sign s.RightBra
 
 -- ---- statements
 
-abbrev pub ended_words : ExprTree → List Word
-ended_words value = whole_words value ⧺ sign s.Semicolon
-
 abbrev pub call_words : List ℕ → List ExprTree → List Word
 call_words f args = name f ⧺ sign s.LeftParen ⧺ listed whole_words args ⧺ sign s.RightParen
-
--- `C[k].`
-abbrev pub child_key_words : List ℕ → ExprTree → List Word
-child_key_words c place = name c ⧺ index_words place ⧺ sign s.Dot
-
-abbrev pub sign_if : Bool → Sign → List Word
-sign_if true j = sign j
-sign_if false j = []
-
--- a binary node in its two halves
-abbrev pub left_words : Bool → BinaryOp → ExprTree → List Word
-left_words paren o left = sign_if paren s.LeftParen ⧺ expr_words left (left_level_of o) ⧺ sign (sign_of o)
-
-abbrev pub right_words : Bool → BinaryOp → ExprTree → List Word
-right_words paren o right = expr_words right (level_of o + 1) ⧺ sign_if paren s.RightParen
 
 abbrev pub maybe_above : Option (List ℕ) → List Word
 maybe_above None = []
@@ -221,10 +196,6 @@ maybe_index (Some place) = index_words place
 abbrev pub maybe_words : Option ExprTree → List Word
 maybe_words None = []
 maybe_words (Some value) = whole_words value
-
--- what stands before the block of a loop over numbers
-abbrev pub range_words : List ℕ → ExprTree → ExprTree → List Word
-range_words x low high = key k.For ⧺ name x ⧺ key k.In ⧺ whole_words low ⧺ key k.To ⧺ whole_words high
 
 abbrev mutual
   pub stmt_words : StmtTree → List Word
@@ -256,10 +227,6 @@ body_words = all_of stmt_words
 abbrev pub braced_words : List StmtTree → List Word
 braced_words body = sign s.LeftBrace ⧺ body_words body ⧺ sign s.RightBrace
 
-abbrev pub maybe_else : Option (List StmtTree) → List Word
-maybe_else None = []
-maybe_else (Some body) = key k.Else ⧺ braced_words body
-
 -- ---- methods and events
 
 abbrev pub param_words : Param → List Word
@@ -290,10 +257,6 @@ abbrev pub event_words : EventTree → List Word
 event_words e = key k.Event ⧺ name e.name.text ⧺ params_words e.params ⧺ result_words e.result ⧺ sign s.LeftBrace ⧺ here_words e.here ⧺ all_of phase_words e.phases ⧺ last_words k.Reply e.last ⧺ sign s.RightBrace
 
 -- ---- contexts and the service
-
--- what stands before the fields of a context
-abbrev pub head_words : List ℕ → List Word
-head_words x = key k.Context ⧺ name x ⧺ sign s.LeftBracket ⧺ key k.Int ⧺ sign s.RightBracket ⧺ sign s.LeftBrace
 
 abbrev mutual
   pub context_words : ContextTree → List Word

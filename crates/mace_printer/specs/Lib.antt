@@ -1,3 +1,4 @@
 pub mod Canon
 pub mod Layout
 pub mod Written
+pub mod inner

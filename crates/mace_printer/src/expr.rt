@@ -1,45 +1,45 @@
 // Expressions.
 
-ghost use Rattle.std.specs.Prelude.{◌≡◌, ◌++◌, ◌+◌, ◌≤◌, map, OnOk};
+ghost use Rattle.std.specs.Prelude.{◌≡◌, ◌++◌, map, OnOk};
 ghost use Rattle.mace_ast.specs.Exprs.{expr_tree};
+ghost use Rattle.mace_grammar.specs.Levels.{looser_ones, wanted};
 ghost use Rattle.mace_printer.specs.Canon as words;
 ghost use Rattle.mace_printer.specs.Canon.{◌⧺◌};
+ghost use Rattle.mace_printer.specs.inner.Parts as parts;
 ghost use Rattle.mace_printer.specs.Layout.{layout};
 
 use crate::word::{
     boolean_key, put_comma, put_if, put_key, put_name, put_number, put_sign, put_text,
 };
 use mace_ast::{BinaryOp, Expr, Node, UnaryOp};
+use mace_grammar::Level;
 use mace_lexer::{Keyword, Sign};
 use std::alloc::Global;
 use wave_base::{OutOfMemory, Txt};
 
-// The level of an operator, from the loosest.
-fn level_of(op: BinaryOp) -> u8
-    ensures level { result ≡ words.level_of op }
-    ensures within { result ≤ 4 }
+fn level_of(op: BinaryOp) -> Level
+    ensures { looser_ones result ≡ words.level_of op }
 {
     match op {
-        BinaryOp::Or => 0,
-        BinaryOp::And => 1,
-        BinaryOp::Eq | BinaryOp::Ne => 2,
-        BinaryOp::Lt | BinaryOp::Le | BinaryOp::Gt | BinaryOp::Ge => 2,
-        BinaryOp::Add | BinaryOp::Sub => 3,
-        BinaryOp::Mul | BinaryOp::Div | BinaryOp::Rem => 4,
+        BinaryOp::Or => Level::Or,
+        BinaryOp::And => Level::And,
+        BinaryOp::Eq | BinaryOp::Ne => Level::Comparison,
+        BinaryOp::Lt | BinaryOp::Le | BinaryOp::Gt | BinaryOp::Ge => Level::Comparison,
+        BinaryOp::Add | BinaryOp::Sub => Level::Sum,
+        BinaryOp::Mul | BinaryOp::Div | BinaryOp::Rem => Level::Product,
     }
 }
 
-// The level that is wanted of the left operand: chains are grouped to the left, and comparisons don't chain.
-fn left_level_of(op: BinaryOp) -> u8
-    ensures { result ≡ words.left_level_of op }
+// What is wanted of the left operand: chains are grouped to the left, and comparisons don't chain.
+fn left_level_of(op: BinaryOp) -> Option<Level>
+    ensures { wanted result ≡ words.left_level_of op }
 {
     match op {
-        BinaryOp::Or => 0,
-        BinaryOp::And => 1,
-        BinaryOp::Eq | BinaryOp::Ne => 3,
-        BinaryOp::Lt | BinaryOp::Le | BinaryOp::Gt | BinaryOp::Ge => 3,
-        BinaryOp::Add | BinaryOp::Sub => 3,
-        BinaryOp::Mul | BinaryOp::Div | BinaryOp::Rem => 4,
+        BinaryOp::Or | BinaryOp::And => Some(level_of(op)),
+        BinaryOp::Eq | BinaryOp::Ne => level_of(op).tighter(),
+        BinaryOp::Lt | BinaryOp::Le | BinaryOp::Gt | BinaryOp::Ge => level_of(op).tighter(),
+        BinaryOp::Add | BinaryOp::Sub => Some(level_of(op)),
+        BinaryOp::Mul | BinaryOp::Div | BinaryOp::Rem => Some(level_of(op)),
     }
 }
 
@@ -74,17 +74,22 @@ fn unary_sign_of(op: UnaryOp) -> Sign
 
 /// `C.f`
 pub fn put_above(out: &mut Vec<u8>, class: &Txt, name: &Txt) -> Result<(), OutOfMemory>
-    ensures { OnOk result (out.new.items ≡ out.old.items ++ layout (words.above_words class.now name.now)) }
+    ensures { OnOk result (out.new.items ≡ out.old.items ++ layout (parts.above_words class.now name.now)) }
 {
     put_name(out, class)?;
     put_sign(out, Sign::Dot)?;
     put_name(out, name)
 }
 
-/// An expression where one of this level is wanted, with parentheses if it is looser.
+/// An expression where one of this level is wanted, or one with no operator between two operands: with parentheses if it is looser.
 #[cycle(expr)]
-pub fn put_expr(alloc: Global, out: &mut Vec<u8>, expr: &Expr, level: u8) -> Result<(), OutOfMemory>
-    ensures { OnOk result (out.new.items ≡ out.old.items ++ layout (words.expr_words (expr_tree expr.now) level)) }
+pub fn put_expr(
+    alloc: Global,
+    out: &mut Vec<u8>,
+    expr: &Expr,
+    level: Option<Level>,
+) -> Result<(), OutOfMemory>
+    ensures { OnOk result (out.new.items ≡ out.old.items ++ layout (words.expr_words (expr_tree expr.now) (wanted level))) }
 {
     match &expr.node {
         Node::Number(n) => put_number(alloc, out, *n),
@@ -102,7 +107,7 @@ pub fn put_expr(alloc: Global, out: &mut Vec<u8>, expr: &Expr, level: u8) -> Res
         }
         Node::Unary(op, operand) => put_unary(alloc, out, *op, operand),
         Node::Binary(op, left, right) => {
-            let paren = level_of(*op) < level;
+            let paren = level_of(*op).is_looser(level);
             put_left(alloc, out, paren, *op, left)?;
             put_right(alloc, out, paren, *op, right)
         }
@@ -115,7 +120,7 @@ pub fn put_index(alloc: Global, out: &mut Vec<u8>, key: &Expr) -> Result<(), Out
     ensures { OnOk result (out.new.items ≡ out.old.items ++ layout (words.index_words (expr_tree key.now))) }
 {
     put_sign(out, Sign::LeftBracket)?;
-    put_expr(alloc, out, key, 0)?;
+    put_expr(alloc, out, key, Some(Level::Or))?;
     put_sign(out, Sign::RightBracket)
 }
 
@@ -135,7 +140,7 @@ fn put_above_indexed(
     name: &Txt,
     key: &Expr,
 ) -> Result<(), OutOfMemory>
-    ensures { OnOk result (out.new.items ≡ out.old.items ++ layout (words.above_words class.now name.now ⧺ words.index_words (expr_tree key.now))) }
+    ensures { OnOk result (out.new.items ≡ out.old.items ++ layout (parts.above_words class.now name.now ⧺ words.index_words (expr_tree key.now))) }
 {
     put_above(out, class, name)?;
     put_index(alloc, out, key)
@@ -165,7 +170,7 @@ pub fn put_child_key(
     class: &Txt,
     key: &Expr,
 ) -> Result<(), OutOfMemory>
-    ensures { OnOk result (out.new.items ≡ out.old.items ++ layout (words.child_key_words class.now (expr_tree key.now))) }
+    ensures { OnOk result (out.new.items ≡ out.old.items ++ layout (parts.child_key_words class.now (expr_tree key.now))) }
 {
     put_name(out, class)?;
     put_index(alloc, out, key)?;
@@ -182,7 +187,7 @@ fn put_unary(
     ensures { OnOk result (out.new.items ≡ out.old.items ++ layout (words.sign (words.unary_sign_of op) ⧺ words.expr_words (expr_tree operand.now) 5)) }
 {
     put_sign(out, unary_sign_of(op))?;
-    put_expr(alloc, out, operand, 5)
+    put_expr(alloc, out, operand, None)
 }
 
 // The left operand and the operator, with a parenthesis before them if the node needs one.
@@ -194,7 +199,7 @@ fn put_left(
     op: BinaryOp,
     left: &Expr,
 ) -> Result<(), OutOfMemory>
-    ensures { OnOk result (out.new.items ≡ out.old.items ++ layout (words.left_words paren op (expr_tree left.now))) }
+    ensures { OnOk result (out.new.items ≡ out.old.items ++ layout (parts.left_words paren op (expr_tree left.now))) }
 {
     put_if(out, paren, Sign::LeftParen)?;
     put_expr(alloc, out, left, left_level_of(op))?;
@@ -210,9 +215,9 @@ fn put_right(
     op: BinaryOp,
     right: &Expr,
 ) -> Result<(), OutOfMemory>
-    ensures { OnOk result (out.new.items ≡ out.old.items ++ layout (words.right_words paren op (expr_tree right.now))) }
+    ensures { OnOk result (out.new.items ≡ out.old.items ++ layout (parts.right_words paren op (expr_tree right.now))) }
 {
-    put_expr(alloc, out, right, level_of(op) + 1)?;
+    put_expr(alloc, out, right, level_of(op).tighter())?;
     put_if(out, paren, Sign::RightParen)
 }
 
@@ -223,7 +228,7 @@ fn put_args(alloc: Global, out: &mut Vec<u8>, args: &[Expr]) -> Result<(), OutOf
 {
     for (i, arg) in args.iter().enumerate() {
         put_comma(out, i)?;
-        put_expr(alloc, out, arg, 0)?;
+        put_expr(alloc, out, arg, Some(Level::Or))?;
     }
     Ok(())
 }

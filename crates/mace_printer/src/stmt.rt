@@ -6,25 +6,27 @@ ghost use Rattle.mace_ast.specs.Exprs.{expr_tree};
 ghost use Rattle.mace_ast.specs.Stmts.{stmt_tree};
 ghost use Rattle.mace_printer.specs.Canon as words;
 ghost use Rattle.mace_printer.specs.Canon.{◌⧺◌};
+ghost use Rattle.mace_printer.specs.inner.Parts as parts;
 ghost use Rattle.mace_printer.specs.Layout.{layout};
 
 use crate::expr::{put_above, put_call, put_child_key, put_expr, put_index};
 use crate::word::{put_finish_word, put_key, put_name, put_sign, put_text};
 use mace_ast::{Action, Expr, Stmt, Target};
+use mace_grammar::Level;
 use mace_lexer::{Keyword, Sign};
 use std::alloc::Global;
 use wave_base::{OutOfMemory, Txt};
 
 /// An expression and a semicolon.
 pub fn put_ended(alloc: Global, out: &mut Vec<u8>, value: &Expr) -> Result<(), OutOfMemory>
-    ensures { OnOk result (out.new.items ≡ out.old.items ++ layout (words.ended_words (expr_tree value.now))) }
+    ensures { OnOk result (out.new.items ≡ out.old.items ++ layout (parts.ended_words (expr_tree value.now))) }
 {
-    put_expr(alloc, out, value, 0)?;
+    put_expr(alloc, out, value, Some(Level::Or))?;
     put_sign(out, Sign::Semicolon)
 }
 
 fn put_let(alloc: Global, out: &mut Vec<u8>, name: &Txt, value: &Expr) -> Result<(), OutOfMemory>
-    ensures { OnOk result (out.new.items ≡ out.old.items ++ layout (words.key Keyword.Let ⧺ words.name name.now ⧺ words.sign Sign.Equals ⧺ words.ended_words (expr_tree value.now))) }
+    ensures { OnOk result (out.new.items ≡ out.old.items ++ layout (words.key Keyword.Let ⧺ words.name name.now ⧺ words.sign Sign.Equals ⧺ parts.ended_words (expr_tree value.now))) }
 {
     put_key(out, Keyword::Let)?;
     put_name(out, name)?;
@@ -33,7 +35,7 @@ fn put_let(alloc: Global, out: &mut Vec<u8>, name: &Txt, value: &Expr) -> Result
 }
 
 fn put_send(alloc: Global, out: &mut Vec<u8>, label: &Txt, value: &Expr) -> Result<(), OutOfMemory>
-    ensures { OnOk result (out.new.items ≡ out.old.items ++ layout (words.key Keyword.Send ⧺ words.text label.now ⧺ words.sign Sign.Comma ⧺ words.ended_words (expr_tree value.now))) }
+    ensures { OnOk result (out.new.items ≡ out.old.items ++ layout (words.key Keyword.Send ⧺ words.text label.now ⧺ words.sign Sign.Comma ⧺ parts.ended_words (expr_tree value.now))) }
 {
     put_key(out, Keyword::Send)?;
     put_text(out, label)?;
@@ -75,7 +77,7 @@ fn put_set(
     key: &Option<Expr>,
     value: &Expr,
 ) -> Result<(), OutOfMemory>
-    ensures { OnOk result (out.new.items ≡ out.old.items ++ layout (words.target_words target.now ⧺ words.maybe_index (option_map expr_tree key.now) ⧺ words.sign Sign.Equals ⧺ words.ended_words (expr_tree value.now))) }
+    ensures { OnOk result (out.new.items ≡ out.old.items ++ layout (words.target_words target.now ⧺ words.maybe_index (option_map expr_tree key.now) ⧺ words.sign Sign.Equals ⧺ parts.ended_words (expr_tree value.now))) }
 {
     put_target(out, target)?;
     put_maybe_index(alloc, out, key)?;
@@ -84,7 +86,7 @@ fn put_set(
 }
 
 fn put_require(alloc: Global, out: &mut Vec<u8>, test: &Expr) -> Result<(), OutOfMemory>
-    ensures { OnOk result (out.new.items ≡ out.old.items ++ layout (words.key Keyword.Require ⧺ words.ended_words (expr_tree test.now))) }
+    ensures { OnOk result (out.new.items ≡ out.old.items ++ layout (words.key Keyword.Require ⧺ parts.ended_words (expr_tree test.now))) }
 {
     put_key(out, Keyword::Require)?;
     put_ended(alloc, out, test)
@@ -123,7 +125,7 @@ fn put_child_called(
     name: &Txt,
     args: &[Expr],
 ) -> Result<(), OutOfMemory>
-    ensures { OnOk result (out.new.items ≡ out.old.items ++ layout (words.child_key_words class.now (expr_tree key.now) ⧺ words.call_words name.now (map expr_tree args.now) ⧺ words.sign Sign.Semicolon)) }
+    ensures { OnOk result (out.new.items ≡ out.old.items ++ layout (parts.child_key_words class.now (expr_tree key.now) ⧺ words.call_words name.now (map expr_tree args.now) ⧺ words.sign Sign.Semicolon)) }
 {
     put_child_key(alloc, out, class, key)?;
     put_called(alloc, out, name, args)
@@ -138,7 +140,7 @@ fn put_maybe_value(
 {
     match value {
         None => Ok(()),
-        Some(value) => put_expr(alloc, out, value, 0),
+        Some(value) => put_expr(alloc, out, value, Some(Level::Or)),
     }
 }
 
@@ -166,14 +168,14 @@ fn put_range(
     low: &Expr,
     high: &Expr,
 ) -> Result<(), OutOfMemory>
-    ensures { OnOk result (out.new.items ≡ out.old.items ++ layout (words.range_words name.now (expr_tree low.now) (expr_tree high.now))) }
+    ensures { OnOk result (out.new.items ≡ out.old.items ++ layout (parts.range_words name.now (expr_tree low.now) (expr_tree high.now))) }
 {
     put_key(out, Keyword::For)?;
     put_name(out, name)?;
     put_key(out, Keyword::In)?;
-    put_expr(alloc, out, low, 0)?;
+    put_expr(alloc, out, low, Some(Level::Or))?;
     put_key(out, Keyword::To)?;
-    put_expr(alloc, out, high, 0)
+    put_expr(alloc, out, high, Some(Level::Or))
 }
 
 // A keyword and a condition.
@@ -181,7 +183,7 @@ fn put_test(alloc: Global, out: &mut Vec<u8>, key: Keyword, test: &Expr) -> Resu
     ensures { OnOk result (out.new.items ≡ out.old.items ++ layout (words.key key ⧺ words.whole_words (expr_tree test.now))) }
 {
     put_key(out, key)?;
-    put_expr(alloc, out, test, 0)
+    put_expr(alloc, out, test, Some(Level::Or))
 }
 
 // ---- statements with blocks
@@ -221,7 +223,7 @@ fn put_stmt(alloc: Global, out: &mut Vec<u8>, stmt: &Stmt) -> Result<(), OutOfMe
 
 #[cycle(stmt)]
 fn put_else(alloc: Global, out: &mut Vec<u8>, other: &Option<Vec<Stmt>>) -> Result<(), OutOfMemory>
-    ensures { OnOk result (out.new.items ≡ out.old.items ++ layout (words.maybe_else (option_map (λ b. map stmt_tree b.items) other.now))) }
+    ensures { OnOk result (out.new.items ≡ out.old.items ++ layout (parts.maybe_else (option_map (λ b. map stmt_tree b.items) other.now))) }
 {
     match other {
         None => Ok(()),

@@ -4,6 +4,7 @@ ghost use Rattle.std.specs.Prelude.{◌≡◌, ◌++◌, map, OnOk, IfOk};
 ghost use Rattle.mace_ast.specs.Decls.{ServiceTree, context_tree, service_tree, SameUpToSpans};
 ghost use Rattle.mace_grammar.specs.Spelled.{Spelled};
 ghost use Rattle.mace_printer.specs.Canon as words;
+ghost use Rattle.mace_printer.specs.inner.Parts as parts;
 ghost use Rattle.mace_printer.specs.Layout.{layout};
 ghost use Rattle.mace_printer.specs.Written.{IsParsed, IsCutInto};
 
@@ -17,7 +18,7 @@ use wave_base::{OutOfMemory, Seq, Txt, Version};
 
 // What stands before the fields of a context.
 fn put_head(out: &mut Vec<u8>, name: &Txt) -> Result<(), OutOfMemory>
-    ensures { OnOk result (out.new.items ≡ out.old.items ++ layout (words.head_words name.now)) }
+    ensures { OnOk result (out.new.items ≡ out.old.items ++ layout (parts.head_words name.now)) }
 {
     put_key(out, Keyword::Context)?;
     put_name(out, name)?;

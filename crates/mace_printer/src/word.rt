@@ -2,6 +2,7 @@
 
 ghost use Rattle.std.specs.Prelude.{◌≡◌, ◌++◌, codes, OnOk};
 ghost use Rattle.mace_printer.specs.Canon as words;
+ghost use Rattle.mace_printer.specs.inner.Parts as parts;
 ghost use Rattle.mace_printer.specs.Layout.{layout, gap_of};
 
 use mace_lexer::{Keyword, Sign};
@@ -84,7 +85,7 @@ pub fn boolean_key(value: bool) -> Keyword
 /// A comma before all items but the first.
 #[tactic(auto, unfolding(crate::specs::Layout::layout))]
 pub fn put_comma(out: &mut Vec<u8>, i: usize) -> Result<(), OutOfMemory>
-    ensures { OnOk result (out.new.items ≡ out.old.items ++ layout (words.comma_before i)) }
+    ensures { OnOk result (out.new.items ≡ out.old.items ++ layout (parts.comma_before i)) }
 {
     if i == 0 {
         return Ok(());
@@ -95,7 +96,7 @@ pub fn put_comma(out: &mut Vec<u8>, i: usize) -> Result<(), OutOfMemory>
 /// A sign, if it is needed.
 #[tactic(auto, unfolding(crate::specs::Layout::layout))]
 pub fn put_if(out: &mut Vec<u8>, needed: bool, sign: Sign) -> Result<(), OutOfMemory>
-    ensures { OnOk result (out.new.items ≡ out.old.items ++ layout (words.sign_if needed sign)) }
+    ensures { OnOk result (out.new.items ≡ out.old.items ++ layout (parts.sign_if needed sign)) }
 {
     if needed {
         return put_sign(out, sign);

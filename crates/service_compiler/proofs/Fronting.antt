@@ -7,12 +7,13 @@ use Rattle.resolved_service.specs.declared.service.Method.{Method}
 use Rattle.resolved_service.specs.declared.service.Phase.{Phase}
 use Rattle.resolved_service.specs.Steps.{steps_in, surely_ends}
 use Rattle.resolved_service.specs.View.{tree_of}
+use Rattle.service_code.specs.declared.instr.Instr.{Instr}
 use Rattle.service_code.specs.declared.instr.Instr.TheVariants as i
 use Rattle.code_scheme.specs.declared.line.Line.{Line}
 use Rattle.code_scheme.specs.Scheme.{line, tree_code, steps_code, return_code, reply_code, phases_code, method_code, event_code}
 use Rattle.code_scheme.specs.Texts.{Text, with_texts, tree_uses, steps_uses, last_uses, phases_uses, method_uses, event_uses}
 use Rattle.service_compiler.specs.inner.Drafts.{Draft, Holds, Emits, EmitsSteps, Puts}
-use Rattle.service_compiler.specs.inner.Fronts.{phases_front, ended_behind}
+use Rattle.service_compiler.specs.inner.Fronts.{last_code, phases_front, ended_behind}
 use Rattle.service_compiler.specs.inner.Functions.{IsReady, Writes}
 use Rattle.service_compiler.proofs.Drafts.{emits_then, emits_same}
 
@@ -27,25 +28,31 @@ written {c} {d} {u} {f} {code} ready e same = record {
 }
 
 module _ (methods : List Method) where
-  -- ---- how a method ends, and an event
+  -- ---- how a function ends
 
-  pub returns_value : {c d : Draft} (ended : Bool) (at : Span) (last : Last) → Emits c d (tree_uses (tree_of last.value)) (λ all n. tree_code methods all n (tree_of last.value) ++ line i.Return last.at ∷ []) →
-      Emits c d (last_uses (Some last)) (λ all n. return_code methods all n at ended (Some last))
-  returns_value true at last e = e
-  returns_value false at last e = e
+  pub ends_with_value : {c d : Draft} (taken : Instr) (bare : Line) (ended : Bool) (last : Last) → Emits c d (tree_uses (tree_of last.value)) (λ all n. tree_code methods all n (tree_of last.value) ++ line taken last.at ∷ []) →
+      Emits c d (last_uses (Some last)) (λ all n. last_code methods all taken bare n ended (Some last))
+  ends_with_value taken bare true last e = e
+  ends_with_value taken bare false last e = e
 
-  pub returns_none : {c d : Draft} (ended : Bool) (at : Span) → ended ≡ false → Puts c d (line i.Return at ∷ []) → Emits c d (last_uses None) (λ all n. return_code methods all n at ended None)
-  returns_none true at is e = cc
-  returns_none false at is e = e
+  pub ends_bare : {c d : Draft} (taken : Instr) (bare : Line) (ended : Bool) → ended ≡ false → Puts c d (bare ∷ []) → Emits c d (last_uses None) (λ all n. last_code methods all taken bare n ended None)
+  ends_bare taken bare true is e = cc
+  ends_bare taken bare false is e = e
 
-  pub replies_value : {c d : Draft} (ended : Bool) (at : Span) (last : Last) → Emits c d (tree_uses (tree_of last.value)) (λ all n. tree_code methods all n (tree_of last.value) ++ line i.Reply last.at ∷ []) →
-      Emits c d (last_uses (Some last)) (λ all n. reply_code methods all n at ended (Some last))
-  replies_value true at last e = e
-  replies_value false at last e = e
+  -- a method ends so, and an event
+  pub as_return : {c d : Draft} (at : Span) (ended : Bool) (last : Option Last) → Emits c d (last_uses last) (λ all n. last_code methods all i.Return (line i.Return at) n ended last) →
+      Emits c d (last_uses last) (λ all n. return_code methods all n at ended last)
+  as_return at true None e = e
+  as_return at false None e = e
+  as_return at true (Some last) e = e
+  as_return at false (Some last) e = e
 
-  pub replies_none : {c d : Draft} (ended : Bool) (at : Span) → ended ≡ false → Puts c d (line i.End at ∷ []) → Emits c d (last_uses None) (λ all n. reply_code methods all n at ended None)
-  replies_none true at is e = cc
-  replies_none false at is e = e
+  pub as_reply : {c d : Draft} (at : Span) (ended : Bool) (last : Option Last) → Emits c d (last_uses last) (λ all n. last_code methods all i.Reply (line i.End at) n ended last) →
+      Emits c d (last_uses last) (λ all n. reply_code methods all n at ended last)
+  as_reply at true None e = e
+  as_reply at false None e = e
+  as_reply at true (Some last) e = e
+  as_reply at false (Some last) e = e
 
 module _ (methods : List Method) (texts : List Text) where
   -- all phases, and the reply

@@ -5,19 +5,20 @@ ghost use Rattle.resolved_service.specs.declared.service.Phase.{Phase};
 ghost use Rattle.resolved_service.specs.Steps as steps;
 ghost use Rattle.resolved_service.specs.Steps.{steps_in};
 ghost use Rattle.resolved_service.specs.View.{tree_of};
-ghost use Rattle.code_scheme.specs.Scheme.{return_code, reply_code, method_code, event_code};
+ghost use Rattle.code_scheme.specs.Scheme.{method_code, event_code};
 ghost use Rattle.code_scheme.specs.Texts.{tree_uses, steps_uses, last_uses, phases_uses, method_uses, event_uses};
 ghost use Rattle.service_compiler.specs.Slots.{HaveSlots, HasMethodSlots, HasEventSlots};
 ghost use Rattle.service_compiler.specs.inner.Drafts.{Emits};
-ghost use Rattle.service_compiler.specs.inner.Fronts.{phase_code, phases_front, ended_behind};
+ghost use Rattle.service_compiler.specs.inner.Fronts.{last_code, phase_code, phases_front, ended_behind};
 ghost use Rattle.service_compiler.specs.inner.Functions.{IsReady, Writes};
 
 use crate::code::Code;
 use crate::emit::emit_expr;
 use crate::statements::emit_stmts;
+use code_scheme::Line;
 use resolved_service::{Event, Last, Method, Phase, surely_ends};
 use service_code::Instr;
-use wave_base::{OutOfMemory, Span};
+use wave_base::OutOfMemory;
 
 /// The code of a method.
 pub fn emit_method(code: &mut Code, methods: &[Method], method: &Method) -> Result<(), OutOfMemory>
@@ -27,7 +28,11 @@ pub fn emit_method(code: &mut Code, methods: &[Method], method: &Method) -> Resu
 {
     emit_stmts(code, methods, method.body.as_slice())?;
     let ended = surely_ends(method.body.as_slice());
-    emit_return(code, methods, method.at, ended, &method.last)
+    let bare = Line {
+        instr: Instr::Return,
+        place: method.at,
+    };
+    emit_last(code, methods, &method.last, Instr::Return, bare, ended)
 }
 
 /// The code of an event.
@@ -38,7 +43,18 @@ pub fn emit_event(code: &mut Code, methods: &[Method], event: &Event) -> Result<
 {
     emit_stmts(code, methods, event.here.as_slice())?;
     emit_phases(code, methods, event.phases.as_slice())?;
-    emit_reply(code, methods, event.at, is_past(event), &event.last)
+    let bare = Line {
+        instr: Instr::End,
+        place: event.at,
+    };
+    emit_last(
+        code,
+        methods,
+        &event.last,
+        Instr::Reply,
+        bare,
+        is_past(event),
+    )
 }
 
 /// Whether the last phase of an event surely ends.
@@ -51,50 +67,27 @@ pub fn is_past(event: &Event) -> bool
     }
 }
 
-// The end of a method, behind statements that surely end, or not.
-fn emit_return(
+// The end of a function: its value and the instruction that takes it. Where it has no value, and the statements before go on, it is one line.
+fn emit_last(
     code: &mut Code,
     methods: &[Method],
-    at: Span,
-    ended: bool,
     last: &Option<Last>,
+    taken: Instr,
+    bare: Line,
+    ended: bool,
 ) -> Result<(), OutOfMemory>
-    ensures { OnOk result (Emits code.old code.new (last_uses last.now) (λ texts n. return_code methods.now texts n at ended last.now)) }
+    ensures { OnOk result (Emits code.old code.new (last_uses last.now) (λ texts n. last_code methods.now texts taken bare n ended last.now)) }
 {
     match last {
         Some(last) => {
             emit_expr(code, methods, &last.value)?;
-            code.put(Instr::Return, last.at)
+            code.put(taken, last.at)
         }
         None => {
             if ended {
                 return Ok(());
             }
-            code.put(Instr::Return, at)
-        }
-    }
-}
-
-// The end of an event, behind statements that surely end, or not.
-fn emit_reply(
-    code: &mut Code,
-    methods: &[Method],
-    at: Span,
-    ended: bool,
-    last: &Option<Last>,
-) -> Result<(), OutOfMemory>
-    ensures { OnOk result (Emits code.old code.new (last_uses last.now) (λ texts n. reply_code methods.now texts n at ended last.now)) }
-{
-    match last {
-        Some(last) => {
-            emit_expr(code, methods, &last.value)?;
-            code.put(Instr::Reply, last.at)
-        }
-        None => {
-            if ended {
-                return Ok(());
-            }
-            code.put(Instr::End, at)
+            code.put(bare.instr, bare.place)
         }
     }
 }

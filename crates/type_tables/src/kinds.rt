@@ -5,6 +5,9 @@ ghost use Rattle.type_rules.specs.Kinds as rules;
 ghost use Rattle.type_tables.specs.Rows.{IsRow};
 
 use mace_ast::{BinaryOp, UnaryOp};
+use value_ops::rows::{
+    ADD, AT, BEQ, BNE, CAT, DIV, EQ, GE, GT, LE, LT, MUL, NE, NEG, NOT, REM, SUB, TEQ, TLT, TNE,
+};
 use wave_base::Kind;
 
 /// Whether two kinds are the same.
@@ -31,17 +34,17 @@ pub fn rows_of_sign(op: BinaryOp) -> &'static [u16]
 {
     match op {
         BinaryOp::Or | BinaryOp::And => &[],
-        BinaryOp::Eq => &[7, 13, 15],
-        BinaryOp::Ne => &[8, 14, 16],
-        BinaryOp::Lt => &[9, 17],
-        BinaryOp::Le => &[10],
-        BinaryOp::Gt => &[11],
-        BinaryOp::Ge => &[12],
-        BinaryOp::Add => &[0, 18],
-        BinaryOp::Sub => &[1],
-        BinaryOp::Mul => &[2],
-        BinaryOp::Div => &[3],
-        BinaryOp::Rem => &[4],
+        BinaryOp::Eq => &[EQ as u16, BEQ as u16, TEQ as u16],
+        BinaryOp::Ne => &[NE as u16, BNE as u16, TNE as u16],
+        BinaryOp::Lt => &[LT as u16, TLT as u16],
+        BinaryOp::Le => &[LE as u16],
+        BinaryOp::Gt => &[GT as u16],
+        BinaryOp::Ge => &[GE as u16],
+        BinaryOp::Add => &[ADD as u16, CAT as u16],
+        BinaryOp::Sub => &[SUB as u16],
+        BinaryOp::Mul => &[MUL as u16],
+        BinaryOp::Div => &[DIV as u16],
+        BinaryOp::Rem => &[REM as u16],
     }
 }
 
@@ -51,8 +54,8 @@ pub fn rows_before(op: UnaryOp) -> &'static [u16]
     ensures within { All IsRow result.now }
 {
     match op {
-        UnaryOp::Neg => &[5],
-        UnaryOp::Not => &[6],
+        UnaryOp::Neg => &[NEG as u16],
+        UnaryOp::Not => &[NOT as u16],
     }
 }
 
@@ -61,5 +64,5 @@ pub fn rows_of_index() -> &'static [u16]
     ensures rows { result.now ≡ rules.rows_of_index }
     ensures within { All IsRow result.now }
 {
-    &[19]
+    &[AT as u16]
 }

@@ -1,11 +1,13 @@
--- The code of an event's phases, without what ends it; and of loops, the way back, the count and the turns.
-use Rattle.std.specs.Prelude.{ℕ, ◌+◌, Bool, true, false, pos, List, [], ◌∷◌, ◌++◌, length}
+-- The code of an event's phases, without what ends it; what ends a function; and of loops, the way back, the count and the turns.
+use Rattle.std.specs.Prelude.{ℕ, ◌+◌, Bool, true, false, pos, List, [], ◌∷◌, ◌++◌, length, Option, Some, None}
+use Rattle.resolved_service.specs.declared.service.Last.{Last}
 use Rattle.resolved_service.specs.declared.service.Method.{Method}
 use Rattle.resolved_service.specs.declared.service.Phase.{Phase}
 use Rattle.resolved_service.specs.Meaning.{row_add}
 use Rattle.resolved_service.specs.Steps.{Steps, steps_in, surely_ends}
 use Rattle.resolved_service.specs.View.{tree_of}
 use Rattle.wave_base.specs.declared.span.Span.{Span}
+use Rattle.service_code.specs.declared.instr.Instr.{Instr}
 use Rattle.service_code.specs.declared.instr.Instr.TheVariants as i
 use Rattle.code_scheme.specs.declared.line.Line.{Line}
 use Rattle.code_scheme.specs.Scheme.{line, test_code, turn_code, while_code, block_at, tree_code, steps_code}
@@ -20,6 +22,12 @@ module _ (methods : List Method) (texts : List Text) where
   abbrev pub phases_front : ℕ → List Phase → List Line
   phases_front n [] = []
   phases_front n (f ∷ fs) = phase_code n f ++ phases_front (n + length (phase_code n f)) fs
+
+  -- how a function ends: with its value and what takes it; or with a bare line, unless the statements before surely end
+  abbrev pub last_code : Instr → Line → ℕ → Bool → Option Last → List Line
+  last_code taken bare n true None = []
+  last_code taken bare n false None = bare ∷ []
+  last_code taken bare n ended (Some last) = tree_code methods texts n (tree_of last.value) ++ line taken last.at ∷ []
 
   -- a loop over numbers, behind its bounds
   abbrev pub loop_code : ℕ → ℕ → Span → Steps → List Line

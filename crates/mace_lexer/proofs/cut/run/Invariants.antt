@@ -1,6 +1,6 @@
 use Rattle.std.proofs.Common.{◌≡◌, ◌+◌, ◌-◌, ◌≤◌, length, drop}
 use Rattle.std.specs.List.{prefix_len}
-use Rattle.mace_lexer.specs.Words.{is_in}
+use Rattle.mace_lexer.specs.inner.Fronts.{is_in}
 use Rattle.mace_lexer.proofs.cut.run.Given as goal
 
 abbrev pub invariant-loop-n : goal.invariant-loop-n

@@ -2,7 +2,8 @@ use Rattle.std.proofs.Common.{◌+◌, ◌++◌, ◌∷◌, [], sym, ◌∙◌, 
 use Rattle.std.proofs.lemmas.List.{append-nil}
 use Rattle.std.proofs.lemmas.Grind.{common_steps}
 use Rattle.mace_lexer.specs.declared.token.Token.{Token}
-use Rattle.mace_lexer.specs.Cuts.{Cuts, IsCut}
+use Rattle.mace_lexer.specs.Cuts.{Cuts}
+use Rattle.mace_lexer.specs.inner.Fronts.{IsCut}
 use Rattle.mace_lexer.specs.Lexed.{start}
 use Rattle.mace_lexer.proofs.CutLemmas.{gap_more, word_more, gap_fault, word_fault, here_fault, end_cuts, tells}
 use Rattle.mace_lexer.proofs.reading.read.Goals as goal

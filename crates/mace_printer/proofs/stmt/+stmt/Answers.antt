@@ -3,7 +3,8 @@ use Rattle.std.specs.Option.{option_map}
 use Rattle.mace_ast.specs.Exprs.{expr_tree}
 use Rattle.mace_ast.specs.Stmts as st
 use Rattle.mace_ast.specs.Stmts.{stmt_tree, action_tree, stmts_of, else_of}
-use Rattle.mace_printer.specs.Canon.{braced_words, maybe_else, stmt_words}
+use Rattle.mace_printer.specs.Canon.{braced_words, stmt_words}
+use Rattle.mace_printer.specs.inner.Parts.{maybe_else}
 use Rattle.mace_printer.proofs.Wrote.{next, same_next, same_words, nothing, all_of_turn, all_of_end}
 use Rattle.mace_printer.proofs.Arms.{if_node, while_node, for_node, if_arm, while_arm, for_arm}
 use Rattle.mace_printer.proofs.stmt.+stmt.Goals as goal
