@@ -9,6 +9,7 @@ use Rattle.mace_ast.specs.declared.name.Name.{Name}
 use Rattle.mace_ast.specs.Counts.{class_count}
 use Rattle.mace_ast.specs.Decls.{LastTree, MethodTree, PhaseTree, EventTree, ContextTree, Context, contexts_of, ServiceTree}
 use Rattle.mace_ast.specs.Stmts.{StmtTree, no_stmts, stmts_of}
+use Rattle.mace_grammar.proofs.Parts.{Each, Gives, IfThere, any, down, each, each_append, next, perhaps, whole}
 use Rattle.mace_grammar.specs.Grammar as g
 use Rattle.mace_grammar.specs.Part.{Part, many}
 use Rattle.mace_grammar.specs.Words as w
@@ -22,7 +23,6 @@ use Rattle.type_rules.specs.Services.{resolve_context, resolve_contexts, resolve
 use Rattle.type_rules.specs.Stmts.{resolve_stmts}
 use Rattle.trap_laws.specs.Traps.{steps_traps}
 use Rattle.trap_places.proofs.Exprs.{any_expr, any_key}
-use Rattle.trap_places.proofs.Parts.{Each, Gives, IfThere, any, down, each, each_append, key, next, perhaps, whole}
 use Rattle.trap_places.proofs.Stmts.{any_block, stmts}
 use Rattle.trap_places.proofs.Traps.{ExprPlaced, Placed, StmtPlaced, and_then, if_placed, stmts_placed}
 use Rattle.trap_places.proofs.Views.{EventPlaced, MethodPlaced, ServicePlaced, last_of, phases_of}
@@ -114,10 +114,10 @@ module _ (P : Span → Type 0) where
   -- ---- productions
 
   module _ (edition : Edition) where
-    last : (keyword : Part Span) → Gives P IsLast (g.last edition keyword)
+    last : (keyword : Part Span) → Gives (Stands P) IsLast (g.last edition keyword)
     last keyword = next (any keyword) (λ at _. next (any_expr P edition) (λ value f. next (any (w.sign s.Semicolon)) (λ end _. whole (record { at = at; value = value }) f)))
 
-    method : Gives P IsMethod (g.method edition)
+    method : Gives (Stands P) IsMethod (g.method edition)
     method =
         next (any (w.key k.Method))
         (λ at _. next (any (w.name edition))
@@ -129,15 +129,15 @@ module _ (P : Span → Type 0) where
         (λ end l. next (any (w.sign s.RightBrace))
         (λ to _. whole (record { at = at; name = n; params = ps; result = kind; body = body; last = end }) (record { body = b; last = l })))))))))
 
-    phase : Gives P IsPhase (g.down edition)
+    phase : Gives (Stands P) IsPhase (g.down edition)
     phase =
-        next (key k.Down)
+        next (key P k.Down)
         (λ at p. next (any (w.name edition))
         (λ c _. next (any_key P edition)
         (λ place f. next (any_block P edition)
         (λ body b. whole (record { at = at; class = c.text; key = place; body = body }) (record { place = p; key = f; body = b })))))
 
-    event : Gives P IsEvent (g.event edition)
+    event : Gives (Stands P) IsEvent (g.event edition)
     event =
         next (any (w.key k.Event))
         (λ at _. next (any (w.name edition))
@@ -150,7 +150,7 @@ module _ (P : Span → Type 0) where
         (λ end l. next (any (w.sign s.RightBrace))
         (λ to _. whole (record { at = at; name = n; params = ps; result = kind; here = here; phases = phases; last = end }) (record { here = h; phases = fs; last = l }))))))))))
 
-    one_context : (p : Part ContextTree) → Gives P IsContext p → Gives P IsContext (g.one_context edition p)
+    one_context : (p : Part ContextTree) → Gives (Stands P) IsContext p → Gives (Stands P) IsContext (g.one_context edition p)
     one_context p F =
         next (any (w.key k.Context))
         (λ at _. next (any (w.name edition))
@@ -168,10 +168,10 @@ module _ (P : Span → Type 0) where
               (contexts_placed known (class + 1) number contexts cs) (methods_placed known class (number + length (methods_in (class + 1) (contexts_of contexts))) methods ms);
         })))))))))))
 
-    context : Gives P IsContext (g.context edition)
+    context : Gives (Stands P) IsContext (g.context edition)
     context = down one_context
 
-  members : (version : Version) (at : Span) (n : Name) → Gives P IsService (g.members version at n)
+  members : (version : Version) (at : Span) (n : Name) → Gives (Stands P) IsService (g.members version at n)
   unfolding g.members
   members version at n =
       next (any (w.sign s.LeftBrace))
@@ -182,6 +182,6 @@ module _ (P : Span → Type 0) where
       (λ events es. next (any (w.sign s.RightBrace))
       (λ to _. whole (record { at = at; name = n; version = version; vars = vars; contexts = contexts; methods = methods; events = events }) (record { contexts = cs; methods = ms; events = es })))))))
 
-  pub service : Gives P IsService g.service
+  pub service : Gives (Stands P) IsService g.service
   unfolding g.service
   service = next (any (w.key k.Service)) (λ at _. next (any (w.name w.first)) (λ n _. next (any w.version_number) (λ version _. members version at n)))

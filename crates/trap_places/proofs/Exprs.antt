@@ -12,6 +12,7 @@ use Rattle.mace_ast.specs.declared.expr.UnaryOp.{UnaryOp}
 use Rattle.mace_ast.specs.declared.name.Name.{Name}
 use Rattle.mace_ast.specs.Exprs as e
 use Rattle.mace_ast.specs.Exprs.{ExprTree, exprs_of, place_of}
+use Rattle.mace_grammar.proofs.Parts.{Each, IfThere, Gives, any, each, either, down, in_parens, next, none_not, perhaps, some_same, token, whole}
 use Rattle.mace_grammar.specs.Grammar as g
 use Rattle.mace_grammar.specs.Part.{Part}
 use Rattle.mace_grammar.specs.Words as w
@@ -20,7 +21,7 @@ use Rattle.resolved_service.specs.View.{no_trees, tree}
 use Rattle.type_rules.specs.Exprs.{above_tree, kind_of, read_tree, resolve, resolve_all}
 use Rattle.type_rules.specs.Here.{called, variable}
 use Rattle.trap_laws.specs.Traps.{tree_traps, trees_traps}
-use Rattle.trap_places.proofs.Parts.{Each, IfThere, Gives, any, each, either, down, in_parens, name, next, none_not, perhaps, some_same, token, whole}
+use Rattle.trap_places.proofs.Words.{Stands, name}
 use Rattle.trap_places.proofs.Traps.{ExprPlaced, and_then, args_placed, binary_placed, both_placed, called_placed, operated, read_placed}
 
 module _ (P : Span → Type 0) where
@@ -97,7 +98,7 @@ module _ (P : Span → Type 0) where
   literal_word at (word.Name t) x p e = absurd (none_not e)
   literal_word at (word.Sign j) x p e = absurd (none_not e)
 
-  literal : Gives P IsPlaced w.literal
+  literal : Gives (Stands P) IsPlaced w.literal
   literal = token (λ t. w.literal_word t.span t.word) (λ t x p e. literal_word t.span t.word x p e)
 
   abbrev IsOp : Span × UnaryOp → Type 0
@@ -114,81 +115,81 @@ module _ (P : Span → Type 0) where
   op_place at (word.Text t) o p e = absurd (none_not e)
   op_place at (word.Key j) o p e = absurd (none_not e)
 
-  unary_op : Gives P IsOp w.unary_op
+  unary_op : Gives (Stands P) IsOp w.unary_op
   unary_op = token (λ t. w.unary_word t.span t.word) (λ t o p e. op_place t.span t.word o p e)
 
   -- ---- productions
 
-  operand : (item : Part ExprTree) (operator : Part BinaryOp) → Gives P IsPlaced item → Gives P IsOperand (g.operand operator item)
+  operand : (item : Part ExprTree) (operator : Part BinaryOp) → Gives (Stands P) IsPlaced item → Gives (Stands P) IsOperand (g.operand operator item)
   operand item operator F = next (any operator) (λ o _. next F (λ right f. whole (o, right) f))
 
-  chain : (item : Part ExprTree) (operator : Part BinaryOp) → Gives P IsPlaced item → Gives P IsPlaced (g.chain item operator)
+  chain : (item : Part ExprTree) (operator : Part BinaryOp) → Gives (Stands P) IsPlaced item → Gives (Stands P) IsPlaced (g.chain item operator)
   chain item operator F = next F (λ first f. next (each (operand item operator F)) (λ others os. whole (fold g.joined first others) (fold_is first others f os)))
 
   module _ (edition : Edition) where
-    module _ (u : Part ExprTree) (U : Gives P IsPlaced u) where
-      product : Gives P IsPlaced (g.product edition u)
+    module _ (u : Part ExprTree) (U : Gives (Stands P) IsPlaced u) where
+      product : Gives (Stands P) IsPlaced (g.product edition u)
       product = chain u (w.operator w.product_op) U
 
-      sum : Gives P IsPlaced (g.sum edition u)
+      sum : Gives (Stands P) IsPlaced (g.sum edition u)
       sum = chain (g.product edition u) (w.operator w.sum_op) product
 
-      comparison : Gives P IsPlaced (g.comparison edition u)
+      comparison : Gives (Stands P) IsPlaced (g.comparison edition u)
       comparison = next sum (λ left f. next (perhaps (operand (g.sum edition u) (w.operator w.comparison_op) sum)) (λ right r. whole (g.compared left right) (compared_is left right f r)))
 
-      conjunction : Gives P IsPlaced (g.conjunction edition u)
+      conjunction : Gives (Stands P) IsPlaced (g.conjunction edition u)
       conjunction = chain (g.comparison edition u) (w.operator w.and_op) comparison
 
-      expr : Gives P IsPlaced (g.expr edition u)
+      expr : Gives (Stands P) IsPlaced (g.expr edition u)
       expr = chain (g.conjunction edition u) (w.operator w.or_op) conjunction
 
-      arguments : Gives P (Each IsPlaced) (g.arguments edition u)
+      arguments : Gives (Stands P) (Each IsPlaced) (g.arguments edition u)
       arguments = in_parens (g.expr edition u) expr
 
-      bracketed : Gives P IsPlaced (g.bracketed edition u)
+      bracketed : Gives (Stands P) IsPlaced (g.bracketed edition u)
       bracketed = next (any (w.sign s.LeftBracket)) (λ at _. next expr (λ key f. next (any (w.sign s.RightBracket)) (λ to _. whole key f)))
 
-      parenthesized : Gives P IsPlaced (g.parenthesized edition u)
+      parenthesized : Gives (Stands P) IsPlaced (g.parenthesized edition u)
       parenthesized = next (any (w.sign s.LeftParen)) (λ at _. next expr (λ inner f. next (any (w.sign s.RightParen)) (λ to _. whole inner f)))
 
-      read : Gives P IsPlaced (g.read edition u)
-      read = next (name edition) (λ n p. whole (e.Read n.at n.text) (read_is n p))
+      read : Gives (Stands P) IsPlaced (g.read edition u)
+      read = next (name P edition) (λ n p. whole (e.Read n.at n.text) (read_is n p))
 
-      above : Gives P IsPlaced (g.above edition u)
-      above = next (name edition) (λ c p. next (any (g.field edition)) (λ f _. whole (e.Above c.at c.text f.text) (above_is c f p)))
+      above : Gives (Stands P) IsPlaced (g.above edition u)
+      above = next (name P edition) (λ c p. next (any (g.field edition)) (λ f _. whole (e.Above c.at c.text f.text) (above_is c f p)))
 
-      call : Gives P IsPlaced (g.call edition u)
-      call = next (name edition) (λ f p. next arguments (λ found ps. whole (e.Call f.at f.text (exprs_of found)) (call_is f found p ps)))
+      call : Gives (Stands P) IsPlaced (g.call edition u)
+      call = next (name P edition) (λ f p. next arguments (λ found ps. whole (e.Call f.at f.text (exprs_of found)) (call_is f found p ps)))
 
-      index : Gives P IsPlaced (g.index edition u)
-      index = next (name edition) (λ m p. next bracketed (λ key f. whole (e.Index m.at m.text key) (index_is m key p f)))
+      index : Gives (Stands P) IsPlaced (g.index edition u)
+      index = next (name P edition) (λ m p. next bracketed (λ key f. whole (e.Index m.at m.text key) (index_is m key p f)))
 
-      above_index : Gives P IsPlaced (g.above_index edition u)
-      above_index = next (name edition) (λ c p. next (any (g.field edition)) (λ n _. next bracketed (λ key f. whole (e.AboveIndex c.at c.text n.text key) (above_index_is c n key p f))))
+      above_index : Gives (Stands P) IsPlaced (g.above_index edition u)
+      above_index = next (name P edition) (λ c p. next (any (g.field edition)) (λ n _. next bracketed (λ key f. whole (e.AboveIndex c.at c.text n.text key) (above_index_is c n key p f))))
 
-      child_call : Gives P IsPlaced (g.child_call edition u)
-      child_call = next (name edition) (λ c p. next bracketed (λ key q. next (any (g.field edition)) (λ f _. next arguments (λ found ps. whole (e.ChildCall c.at c.text key f.text (exprs_of found)) (child_call_is c f key found p q ps)))))
+      child_call : Gives (Stands P) IsPlaced (g.child_call edition u)
+      child_call = next (name P edition) (λ c p. next bracketed (λ key q. next (any (g.field edition)) (λ f _. next arguments (λ found ps. whole (e.ChildCall c.at c.text key f.text (exprs_of found)) (child_call_is c f key found p q ps)))))
 
-      primary : Gives P IsPlaced (g.primary edition u)
+      primary : Gives (Stands P) IsPlaced (g.primary edition u)
       primary = either literal (either parenthesized (either read (either above (either call (either index (either above_index child_call))))))
 
-      signed : Gives P IsPlaced (g.signed edition u)
+      signed : Gives (Stands P) IsPlaced (g.signed edition u)
       signed = next unary_op (λ o p. next U (λ x f. whole (e.Unary o.0 o.1 x) (unary_is o x p f)))
 
-      signed_or_primary : Gives P IsPlaced (g.signed_or_primary edition u)
+      signed_or_primary : Gives (Stands P) IsPlaced (g.signed_or_primary edition u)
       signed_or_primary = either signed primary
 
-    unary : Gives P IsPlaced (g.unary edition)
+    unary : Gives (Stands P) IsPlaced (g.unary edition)
     unary = down signed_or_primary
 
-    pub any_expr : Gives P (ExprPlaced P) (g.any_expr edition)
+    pub any_expr : Gives (Stands P) (ExprPlaced P) (g.any_expr edition)
     unfolding g.any_expr
     any_expr = expr (g.unary edition) unary
 
-    pub any_arguments : Gives P (Each (ExprPlaced P)) (g.any_arguments edition)
+    pub any_arguments : Gives (Stands P) (Each (ExprPlaced P)) (g.any_arguments edition)
     unfolding g.any_arguments
     any_arguments = arguments (g.unary edition) unary
 
-    pub any_key : Gives P (ExprPlaced P) (g.any_key edition)
+    pub any_key : Gives (Stands P) (ExprPlaced P) (g.any_key edition)
     unfolding g.any_key
     any_key = bracketed (g.unary edition) unary

@@ -1,6 +1,6 @@
 pub mod Decls
 pub mod Exprs
-pub mod Parts
+pub mod Words
 pub mod Read
 pub mod Stmts
 pub mod Told

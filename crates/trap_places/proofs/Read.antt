@@ -13,7 +13,7 @@ use Rattle.type_rules.specs.Services.{resolve_service}
 use Rattle.trap_laws.specs.Traps.{ComesOf}
 use Rattle.trap_places.specs.Places.{BeginsToken, IsReadFrom}
 use Rattle.trap_places.proofs.Decls.{service, service_placed}
-use Rattle.trap_places.proofs.Parts.{Each, Stand}
+use Rattle.mace_grammar.proofs.Parts.{Each}
 use Rattle.trap_places.proofs.Views.{comes_of}
 
 weaker : {A : Type 0} (S T : A → Type 0) → ((a : A) → S a → T a) → (xs : List A) → Each S xs → Each T xs
@@ -45,7 +45,7 @@ past_on : (at : Span) (bytes : List ℕ) → OnLine at → OnLine (past at bytes
 past_on at [] h = h
 past_on at (b ∷ bs) h = past_on (past_byte at b) bs (next_line at (b == 10) h)
 
-lined : {at : Span} {from : ℕ} {text : List ℕ} {tokens : List Token} → Cuts at from text tokens → OnLine at → Stand OnLine tokens
+lined : {at : Span} {from : ℕ} {text : List ℕ} {tokens : List Token} → Cuts at from text tokens → OnLine at → Each (λ (t : Token). OnLine t.span) tokens
 lined at_end h = tt
 lined {at = at} {text = text} (gap {n = n} longest more) h = lined more (past_on at (take n text) h)
 lined {at = at} {text = text} (spelled {n = n} longest more) h = (h, lined more (past_on at (take n text) h))

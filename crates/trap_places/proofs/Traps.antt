@@ -19,7 +19,7 @@ use Rattle.type_rules.specs.Exprs.{resolve, resolve_all, read_tree, two, call_tr
 use Rattle.type_rules.specs.Here.{Here}
 use Rattle.type_rules.specs.Stmts.{after, cut_step, set_step, resolve_else, resolve_stmt, resolve_stmts}
 use Rattle.trap_laws.specs.Traps.{of_operators, raised, tree_traps, trees_traps, maybe_traps, step_traps, steps_traps, else_traps}
-use Rattle.trap_places.proofs.Parts.{Each, IfThere, each_append}
+use Rattle.mace_grammar.proofs.Parts.{Each, IfThere, each_append}
 
 module _ (P : Span → Type 0) where
   abbrev pub Placed : List Trap → Type 0

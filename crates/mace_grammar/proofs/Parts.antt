@@ -1,4 +1,4 @@
--- What a part of the grammar gives, where P holds of each token.
+-- What a part of the grammar gives, where P holds of each token: an induction over parts, for whoever says something of all that a text spells.
 use Rattle.std.proofs.Common.{◌≡◌, inl, inr, ℕ, zero, suc, List, [], ◌∷◌, ◌++◌, unwrap_or, Option, Some, None, sym, subst}
 use Rattle.std.specs.List.{AllByRecursion}
 use Rattle.mace_lexer.specs.declared.sign.Sign.TheVariants as s
