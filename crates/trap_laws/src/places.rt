@@ -1,8 +1,8 @@
-//! The laws of where traps stand: each is the contract of a function that does nothing.
+//! The laws of where the traps of a text stand: each is the contract of a function that does nothing.
 
-ghost use Rattle.trap_places.specs.Places.{BeginsToken, IsSomewhere, OfCalls, OfScripts};
+ghost use Rattle.trap_laws.specs.Places.{BeginsToken, IsSomewhere, OfCalls, OfScripts};
 
-use trap_laws::traps_stand_in_the_text;
+use crate::laws::traps_stand_in_the_text;
 
 /// Each trap of a service that was read from a text, with its names resolved, stands at the place of one of the text's tokens: of each
 /// call, and so of all that a script gives.

@@ -21,8 +21,8 @@ use Rattle.resolved_service.specs.View.{no_trees, tree}
 use Rattle.type_rules.specs.Exprs.{above_tree, kind_of, read_tree, resolve, resolve_all}
 use Rattle.type_rules.specs.Here.{called, variable}
 use Rattle.trap_laws.specs.Traps.{tree_traps, trees_traps}
-use Rattle.trap_places.proofs.Words.{Stands, name}
-use Rattle.trap_places.proofs.Traps.{ExprPlaced, and_then, args_placed, binary_placed, both_placed, called_placed, operated, read_placed}
+use Rattle.trap_laws.proofs.Words.{Stands, name}
+use Rattle.trap_laws.proofs.Placed.{ExprPlaced, and_then, args_placed, binary_placed, both_placed, called_placed, operated, read_placed}
 
 module _ (P : Span → Type 0) where
   abbrev IsPlaced : ExprTree → Type 0

@@ -22,10 +22,11 @@ use Rattle.type_rules.specs.Known.{known_of, methods_in, methods_of}
 use Rattle.type_rules.specs.Services.{resolve_context, resolve_contexts, resolve_methods, resolve_service}
 use Rattle.type_rules.specs.Stmts.{resolve_stmts}
 use Rattle.trap_laws.specs.Traps.{steps_traps}
-use Rattle.trap_places.proofs.Exprs.{any_expr, any_key}
-use Rattle.trap_places.proofs.Stmts.{any_block, stmts}
-use Rattle.trap_places.proofs.Traps.{ExprPlaced, Placed, StmtPlaced, and_then, if_placed, stmts_placed}
-use Rattle.trap_places.proofs.Views.{EventPlaced, MethodPlaced, ServicePlaced, last_of, phases_of}
+use Rattle.trap_laws.proofs.Exprs.{any_expr, any_key}
+use Rattle.trap_laws.proofs.Stmts.{any_block, stmts}
+use Rattle.trap_laws.proofs.Placed.{ExprPlaced, Placed, StmtPlaced, and_then, if_placed, stmts_placed}
+use Rattle.trap_laws.proofs.Words.{Stands, key}
+use Rattle.trap_laws.proofs.Views.{EventPlaced, MethodPlaced, ServicePlaced, last_of, phases_of}
 
 module _ (P : Span → Type 0) where
   -- ---- what stands in a method, a phase, an event and a service

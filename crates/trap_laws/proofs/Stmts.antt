@@ -17,9 +17,9 @@ use Rattle.type_rules.specs.Exprs.{resolve, resolve_all}
 use Rattle.type_rules.specs.Here.{behind, called, counted}
 use Rattle.type_rules.specs.Stmts.{after_all, resolve_else, resolve_stmts, target_variable}
 use Rattle.trap_laws.specs.Traps.{else_traps, steps_traps, tree_traps, trees_traps}
-use Rattle.trap_places.proofs.Exprs.{any_arguments, any_expr, any_key}
-use Rattle.trap_places.proofs.Words.{Stands, key, name}
-use Rattle.trap_places.proofs.Traps.{ExprPlaced, StmtPlaced, and_then, args_placed, called_placed, cut_placed, else_placed, for_placed, if_placed, maybe_placed, set_placed, stmts_placed}
+use Rattle.trap_laws.proofs.Exprs.{any_arguments, any_expr, any_key}
+use Rattle.trap_laws.proofs.Words.{Stands, key, name}
+use Rattle.trap_laws.proofs.Placed.{ExprPlaced, StmtPlaced, and_then, args_placed, called_placed, cut_placed, else_placed, for_placed, if_placed, maybe_placed, set_placed, stmts_placed}
 
 module _ (P : Span → Type 0) where
   abbrev IsPlaced : StmtTree → Type 0

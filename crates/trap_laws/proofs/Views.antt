@@ -16,7 +16,7 @@ use Rattle.type_rules.specs.Services.{ResolvedView}
 use Rattle.type_rules.specs.Views.{last_view, method_view, phase_view, event_view, resolved_view}
 use Rattle.trap_laws.specs.Traps.{ComesOf, event_traps, last_traps, method_traps, phases_traps, raised, steps_traps, tree_traps}
 use Rattle.mace_grammar.proofs.Parts.{Each, none_not, some_same}
-use Rattle.trap_places.proofs.Traps.{Placed}
+use Rattle.trap_laws.proofs.Placed.{Placed}
 
 abbrev pub last_of : Option LastView → List Trap
 last_of None = []

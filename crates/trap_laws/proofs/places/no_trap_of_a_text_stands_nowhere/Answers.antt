@@ -1,5 +1,5 @@
-use Rattle.trap_places.proofs.Read.{somewhere}
-use Rattle.trap_places.proofs.laws.no_trap_of_a_text_stands_nowhere.Goals as goal
+use Rattle.trap_laws.proofs.Read.{somewhere}
+use Rattle.trap_laws.proofs.places.no_trap_of_a_text_stands_nowhere.Goals as goal
 
 pub returns-clause-calls : goal.returns-clause-calls
 returns-clause-calls c = λ text service read before call trap traps. somewhere text trap.at (c.traps_stand_at_tokens.ensures.calls text service read before call trap traps)

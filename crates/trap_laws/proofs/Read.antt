@@ -11,10 +11,10 @@ use Rattle.resolved_service.specs.declared.service.Resolved.{Resolved}
 use Rattle.resolved_service.specs.Meaning.{nowhere}
 use Rattle.type_rules.specs.Services.{resolve_service}
 use Rattle.trap_laws.specs.Traps.{ComesOf}
-use Rattle.trap_places.specs.Places.{BeginsToken, IsReadFrom}
-use Rattle.trap_places.proofs.Decls.{service, service_placed}
+use Rattle.trap_laws.specs.Places.{BeginsToken, IsReadFrom}
+use Rattle.trap_laws.proofs.Decls.{service, service_placed}
 use Rattle.mace_grammar.proofs.Parts.{Each}
-use Rattle.trap_places.proofs.Views.{comes_of}
+use Rattle.trap_laws.proofs.Views.{comes_of}
 
 weaker : {A : Type 0} (S T : A → Type 0) → ((a : A) → S a → T a) → (xs : List A) → Each S xs → Each T xs
 weaker S T f [] ss = tt

@@ -1,7 +1,7 @@
-use Rattle.trap_places.specs.Places.{BeginsToken}
-use Rattle.trap_places.proofs.Read.{at_tokens}
-use Rattle.trap_places.proofs.Told.{of_scripts}
-use Rattle.trap_places.proofs.laws.traps_stand_at_tokens.Goals as goal
+use Rattle.trap_laws.specs.Places.{BeginsToken}
+use Rattle.trap_laws.proofs.Read.{at_tokens}
+use Rattle.trap_laws.proofs.Told.{of_scripts}
+use Rattle.trap_laws.proofs.places.traps_stand_at_tokens.Goals as goal
 
 pub returns-clause-calls : goal.returns-clause-calls
 returns-clause-calls c = λ text service read before call trap traps. at_tokens text service read call.event trap (c.traps_stand_in_the_text.ensures service before call trap traps)
