@@ -1,5 +1,5 @@
-use Rattle.plan_meaning.proofs.Meaning.{means, calls_same}
-use Rattle.plan_meaning.proofs.laws.calls_mean.Goals as goal
+use Rattle.code_meaning.proofs.Meaning.{means, calls_same}
+use Rattle.code_meaning.proofs.plans.calls_mean.Goals as goal
 
 pub returns-clause-same : goal.returns-clause-same
 returns-clause-same c = λ service program tree call code is job. calls_same service program code tree call is job

@@ -1,6 +1,6 @@
 use Rattle.std.proofs.Common.{◌≡◌, sym, ◌∙◌}
-use Rattle.plan_meaning.proofs.Meaning.{plan_means}
-use Rattle.plan_meaning.proofs.laws.finished_states_mean.Goals as goal
+use Rattle.code_meaning.proofs.Meaning.{plan_means}
+use Rattle.code_meaning.proofs.plans.finished_states_mean.Goals as goal
 
 pub returns : goal.returns
 returns c = λ service plan start code fits begins labels s run finished f.

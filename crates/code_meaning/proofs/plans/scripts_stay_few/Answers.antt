@@ -3,8 +3,8 @@ use Rattle.code_runner.specs.Coded.{IsTree, IsJob}
 use Rattle.code_meaning.specs.inner.Owing.{code_owes}
 use Rattle.fold_laws.proofs.Cutting.{more_few}
 use Rattle.fold_laws.proofs.Growing.{stays_few}
-use Rattle.plan_meaning.proofs.Cutting.{grows, keeps}
-use Rattle.plan_meaning.proofs.laws.scripts_stay_few.Goals as goal
+use Rattle.code_meaning.proofs.Cutting.{grows, keeps}
+use Rattle.code_meaning.proofs.plans.scripts_stay_few.Goals as goal
 
 pub returns-clause-one : goal.returns-clause-one
 returns-clause-one c = λ service program start a code s b. stays_few program.shape (call_ran service) (IsTree program.shape) (IsJob program) (code_owes service program code) (grows service program code) start a s b

@@ -11,7 +11,7 @@ use Rattle.code_runner.specs.Coded.{IsCode, IsTree, IsJob}
 use Rattle.code_meaning.specs.inner.Owing.{code_owes}
 use Rattle.fold_laws.specs.Growth.{GrowsBy}
 use Rattle.fold_laws.proofs.Touring.{code_grows}
-use Rattle.plan_meaning.proofs.Meaning.{means}
+use Rattle.code_meaning.proofs.Meaning.{means}
 
 module _ (service : Resolved) (program : Program) (code : IsCode service program) where
   pub keeps : KeepsShape program.shape (call_ran service) (IsTree program.shape) (IsJob program)
