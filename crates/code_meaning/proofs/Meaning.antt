@@ -1,6 +1,6 @@
 -- Calls run by the code of a service do what the service says; and so do scripts.
-use Rattle.std.proofs.Common.{◌≡◌, ◌≤◌, ◌+◌, ◌-◌, ◌^◌, ◌∙◌, List, [], length, sym, ap, subst, arith}
-use Rattle.std.specs.Prelude.{is_none, sum_by, unwrap_or}
+use Rattle.std.proofs.Common.{◌≡◌, ◌≤◌, ◌-◌, ◌^◌, ◌∙◌, [], length, sym, ap, subst, arith}
+use Rattle.std.specs.Prelude.{is_none, unwrap_or}
 use Rattle.wave_base.specs.declared.call.Call.{Call}
 use Rattle.wave_base.specs.declared.outcome.EventResult.{EventResult}
 use Rattle.wave_base.specs.declared.script.Script.{Script}

@@ -1,4 +1,4 @@
-use Rattle.std.proofs.Common.{◌≡◌, sym, ◌∙◌}
+use Rattle.std.proofs.Common.{sym, ◌∙◌}
 use Rattle.code_meaning.proofs.Meaning.{plan_means}
 use Rattle.code_meaning.proofs.plans.finished_states_mean.Goals as goal
 
