@@ -1,7 +1,5 @@
 -- From what is accepted of the parts of an input to what is accepted of the whole.
 use Rattle.std.proofs.Common.{◌≡◌, ◌≢◌, ℕ, ◌<◌, ◌≤◌, inl, inr, List, length, Result, Ok, Err, refl, sym, subst, arith}
-use Rattle.command_words.specs.declared.command.Crew.{Crew}
-use Rattle.command_words.specs.declared.command.Places.{Places}
 use Rattle.wave_base.specs.declared.limits.TheConstants.{SCRIPT_BYTES}
 use Rattle.wave_base.specs.declared.script.Script.{Script}
 use Rattle.wave_base.specs.declared.shape.Shape.{Shape}
@@ -17,7 +15,6 @@ use Rattle.script_reader.specs.Scripts.{IsAnswer, IsScriptOf}
 use Rattle.due_parts.specs.declared.refusal.Refusal.{Refusal}
 use Rattle.due_parts.specs.declared.refusal.Refusal.TheVariants.{Due, OutOfMemory}
 use Rattle.due_parts.specs.declared.answer.Answer.{Answer}
-use Rattle.due_parts.specs.declared.report.Report.{Report}
 use Rattle.due_parts.specs.declared.work.Work.{Work}
 use Rattle.due_parts.specs.Accepted.{IsAcceptedBy, report_of, trace_of}
 use Rattle.due_parts.specs.Answers.{Only, too_large_script}

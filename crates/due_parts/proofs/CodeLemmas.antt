@@ -12,12 +12,11 @@ use Rattle.type_rules.specs.Views.{resolved_view}
 use Rattle.context_types.specs.declared.Typed.{Typed}
 use Rattle.service_code.specs.declared.program.Function.{Function}
 use Rattle.service_code.specs.declared.program.Program.{Program}
-use Rattle.service_code.specs.Listing.{function_name, program_text}
+use Rattle.service_code.specs.Listing.{function_name}
 use Rattle.code_scheme.specs.Programs.{IsTooLong, scheme_program}
 use Rattle.typed_code.proofs.SameCode.{same_programs}
 use Rattle.due_parts.specs.declared.answer.Answer.{Answer}
-use Rattle.due_parts.specs.Coded.{IsCoded}
-use Rattle.due_parts.specs.Answers.{Only, refusal, written}
+use Rattle.due_parts.specs.Answers.{Only, refusal}
 use Rattle.due_parts.specs.Services.{AreShort, IsDueCoded, IsLong}
 use Rattle.due_parts.specs.Served.{IsTypedTree}
 

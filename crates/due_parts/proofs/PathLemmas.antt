@@ -37,7 +37,7 @@ use Rattle.plan_actors.specs.Plans.{Plan, Fits, FitsStart, begin_in}
 use Rattle.plan_actors.proofs.Folding.{folds_alike}
 use Rattle.plan_actors.proofs.Meeting.{folds_meet}
 use Rattle.plan_actors.proofs.Order.{at_path}
-use Rattle.plan_meaning.proofs.Meaning.{calls_same}
+use Rattle.code_meaning.proofs.Meaning.{calls_same}
 use Rattle.journal_text.specs.Fits.{HasPath}
 use Rattle.wave_labels.specs.declared.label.Act.{Act}
 use Rattle.wave_labels.specs.declared.label.Act.TheVariants as act

@@ -1,5 +1,5 @@
 -- What a script leaves that began with the root alone can be saved.
-use Rattle.std.proofs.Common.{◌≡◌, ℕ, ◌≤◌, ◌+◌, length, sum_by, arith}
+use Rattle.std.proofs.Common.{◌≤◌, arith}
 use Rattle.wave_base.specs.declared.finished.Finished.{Finished}
 use Rattle.wave_base.specs.declared.limits.TheConstants.{SAVED_TICKET}
 use Rattle.wave_base.specs.declared.script.Script.{Script}

@@ -35,7 +35,7 @@ use Rattle.plan_actors.specs.Plans.{Fits}
 use Rattle.checkpoint_store.specs.Points.{IsPoint}
 use Rattle.due_parts.proofs.PointLemmas.{FewAreSaved, PlansStayFew, RunsCome, can_be_saved}
 use Rattle.plan_actors.proofs.Folding.{whole_at}
-use Rattle.plan_meaning.proofs.Meaning.{plan_means, plan_ends}
+use Rattle.code_meaning.proofs.Meaning.{plan_means, plan_ends}
 use Rattle.journal_text.specs.JournalTexts.{journal_text}
 use Rattle.wave_labels.specs.declared.label.Label.{Label}
 use Rattle.wave_labels.specs.Labels.{label_of}

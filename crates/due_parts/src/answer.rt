@@ -1,6 +1,6 @@
 //! An answer that needs no run.
 
-ghost use Rattle.std.specs.Prelude.{◌≡◌, [], IfOk};
+ghost use Rattle.std.specs.Prelude.{◌≡◌, IfOk};
 ghost use Rattle.due_parts.specs.Answers.{refusal, too_large_input, written};
 
 use std::alloc::Global;

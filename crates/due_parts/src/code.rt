@@ -1,6 +1,6 @@
 //! The code of a typed service.
 
-ghost use Rattle.std.specs.Prelude.{◌≡◌, ◌<◌, ◌+◌, ◌^◌, ◌++◌, length, IfOk, OnOk, codes};
+ghost use Rattle.std.specs.Prelude.{◌≡◌, ◌<◌, ◌+◌, ◌^◌, ◌++◌, length, IfOk, OnOk};
 ghost use Rattle.resolved_service.specs.Fits.{FitsService};
 ghost use Rattle.code_scheme.specs.Typed.{IsTyped};
 ghost use Rattle.due_parts.specs.Coded.{IsCompiled, IsLongNamed, name_at};
@@ -11,7 +11,7 @@ use context_types::Typed;
 use service_compiler::{CompileError, compile_verified};
 use service_verify::Verified;
 use std::alloc::Global;
-use wave_base::{Class, OutOfMemory, Shape};
+use wave_base::OutOfMemory;
 
 // Writes a function's name: `Class.method` or `event`.
 fn put_name(note: &mut Vec<u8>, typed: &Typed, number: u16) -> Result<(), OutOfMemory>

@@ -15,8 +15,8 @@ ghost use Rattle.command_words.specs.declared.command.Places.{Places};
 ghost use Rattle.due_parts.specs.declared.answer.Answer.{Answer};
 ghost use Rattle.due_points.specs.Laws.{AreDue, AreScripts, GoesOn};
 
+use code_meaning::{scripts_are_cut, scripts_stay_few};
 use fold_laws::scripts_are_few;
-use plan_meaning::{scripts_are_cut, scripts_stay_few};
 use script_reader::scripts_go_on;
 use value_laws::texts_leave_shots;
 

@@ -22,7 +22,7 @@ use Rattle.service_code.specs.declared.program.Program.{Program}
 use Rattle.wave_meaning.specs.Meaning.{call_ran, results_at, results_of}
 use Rattle.code_runner.specs.Coded.{IsCode}
 use Rattle.code_runner.proofs.Meant.{code_fit, code_verified}
-use Rattle.plan_meaning.proofs.Meaning.{plan_means}
+use Rattle.code_meaning.proofs.Meaning.{plan_means}
 use Rattle.plan_actors.specs.Plans.{Fits}
 use Rattle.fold_laws.specs.Cuts.{AreJoined}
 use Rattle.listing_out.specs.Listing.{end_lines, last_ticket, lines_from, listing, places_of, shown_from}

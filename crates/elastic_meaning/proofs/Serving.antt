@@ -18,7 +18,7 @@ use Rattle.fold_laws.specs.Growth.{StaysFew}
 use Rattle.fold_laws.proofs.Cutting.{comes, cut, more_comes, more_few}
 use Rattle.fold_laws.proofs.Growing.{stays_few}
 use Rattle.fold_laws.proofs.Walk.{sane_after}
-use Rattle.plan_meaning.proofs.Cutting.{grows, keeps}
+use Rattle.code_meaning.proofs.Cutting.{grows, keeps}
 
 module _ (service : Resolved) (program : Program) (code : IsCode service program) where
   abbrev first : Start

@@ -16,7 +16,7 @@ use Rattle.service_code.specs.declared.program.Program.{Program}
 use Rattle.script_fold.specs.Runs.{finished_of}
 use Rattle.plan_actors.specs.Calls.{code_ran}
 use Rattle.plan_actors.specs.Plans as plans
-use Rattle.plan_meaning.proofs.Meaning.{plan_means}
+use Rattle.code_meaning.proofs.Meaning.{plan_means}
 use Rattle.resolved_service.specs.declared.service.Resolved.{Resolved}
 use Rattle.wave_meaning.specs.Meaning.{results_at}
 use Rattle.code_runner.specs.Coded.{IsCode}

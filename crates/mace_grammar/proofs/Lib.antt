@@ -21,3 +21,4 @@ pub mod PlainDecls
 pub mod Verdict
 pub mod Judge
 pub mod Versions
+pub mod Parts

@@ -13,7 +13,8 @@ mod traps;
 use eventwave::eventwave_alone;
 use std::alloc::Global;
 use std::process::Abort;
-use wave_base::{OutOfMemory, Seq, Words};
+use tests_services::words;
+use wave_base::{OutOfMemory, Seq};
 use wave_io::{MemSink, MemSource};
 
 /// What a call came to: its status, and what it wrote on the output and as a note.
@@ -26,10 +27,7 @@ struct Answer {
 
 // What a call on this thread comes to, for words with a blank between them and an input.
 fn due(rt: &impl Abort, alloc: Global, text: &str, input: &[u8]) -> Result<Answer, OutOfMemory> {
-    let mut words = Words::new(alloc);
-    for word in text.split(' ') {
-        words.push(word)?;
-    }
+    let words = words(alloc, text)?;
     let bytes = Seq::from_vec(Vec::from_slice(alloc, input)?);
     let mut source = MemSource::new(bytes, 4096, Seq::new(alloc));
     let mut out = MemSink::new(alloc, 4_000_000, 4096, Seq::new(alloc))?;

@@ -15,7 +15,7 @@ use Rattle.type_rules.specs.declared.meant.Variable.TheVariants as var
 use Rattle.type_rules.specs.Exprs.{binary_tree, call_tree, read_tree, resolve, resolve_all}
 use Rattle.type_rules.specs.Here.{Here}
 use Rattle.type_rules.specs.Stmts.{after, cut_step, set_step, resolve_else, resolve_stmt, resolve_stmts}
-use Rattle.value_laws.proofs.Parts.{Each, IfThere}
+use Rattle.mace_grammar.proofs.Parts.{Each, IfThere}
 use Rattle.value_laws.specs.Services.{BoundedElse, BoundedMaybe, BoundedStep, BoundedSteps, BoundedTree, BoundedTrees}
 
 -- ---- expressions, wherever their names are resolved

@@ -35,7 +35,7 @@ use Rattle.type_rules.specs.Stmts.{resolve_stmts}
 use Rattle.snapshot_text.specs.Shots.{IsValue}
 use Rattle.value_laws.proofs.Bounded.{IsExpr, IsStmt, stmts_bounded}
 use Rattle.value_laws.proofs.Exprs.{IsToken, IsWord, any_expr, any_key}
-use Rattle.value_laws.proofs.Parts.{Each, Gives, IfThere, any, down, each, each_append, either, next, none_not, perhaps, some_same, token, whole}
+use Rattle.mace_grammar.proofs.Parts.{Each, Gives, IfThere, any, down, each, each_append, either, next, none_not, perhaps, some_same, token, whole}
 use Rattle.value_laws.proofs.Stmts.{any_block, stmts}
 use Rattle.value_laws.specs.Services.{BoundedSteps, BoundedTree}
 use Rattle.value_laws.specs.Values.{BoundedClass}

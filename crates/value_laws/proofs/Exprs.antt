@@ -22,7 +22,7 @@ use Rattle.mace_grammar.specs.Words.{Edition}
 use Rattle.type_rules.specs.Exprs.{kind_of, resolve}
 use Rattle.type_rules.specs.Here.{called, variable}
 use Rattle.value_laws.proofs.Bounded.{IsExpr, args_bounded, binary_bounded, called_bounded, read_bounded}
-use Rattle.value_laws.proofs.Parts.{Each, IfThere, Gives, any, each, either, down, in_parens, next, none_not, perhaps, some_same, token, whole}
+use Rattle.mace_grammar.proofs.Parts.{Each, IfThere, Gives, any, each, either, down, in_parens, next, none_not, perhaps, some_same, token, whole}
 
 -- its number or its text is within the limits
 abbrev pub IsWord : Word → Type 0

@@ -3,7 +3,6 @@ mod Rows
 mod Acts
 pub mod Calls
 pub mod Scripts
-mod Parts
 mod Bounded
 mod Exprs
 mod Stmts

@@ -38,7 +38,7 @@ use Rattle.script_reader.specs.Judged.{as_event, call_at, call_with, event_lines
 use Rattle.script_reader.specs.Pieces.{ArePiecesOf, IsPiece, without_blanks}
 use Rattle.script_reader.specs.Scripts.{Goes, IsRead, IsSaid, IsScriptOf, closed_batches, judged, judged_after, open_batch, refused, script_of}
 use Rattle.snapshot_text.specs.Shots.{IsValue}
-use Rattle.value_laws.proofs.Parts.{Each}
+use Rattle.mace_grammar.proofs.Parts.{Each}
 use Rattle.value_laws.specs.Values.{AreValues, BoundedLine, BoundedScript, IsKeyed}
 
 -- ---- numbers

@@ -20,7 +20,7 @@ use Rattle.type_rules.specs.Services.{resolve_service}
 use Rattle.type_rules.specs.Views.{event_view, last_view, method_view, phase_view, resolved_view}
 use Rattle.value_laws.proofs.Decls.{EntryIs, EventIs, IsService, LastIs, MethodIs, PhaseIs, ServiceIs, entries_are, service, service_is}
 use Rattle.value_laws.proofs.Exprs.{IsToken, IsWord}
-use Rattle.value_laws.proofs.Parts.{Each}
+use Rattle.mace_grammar.proofs.Parts.{Each}
 use Rattle.value_laws.specs.Services.{BoundedEvent, BoundedLast, BoundedMethod, BoundedPhase, BoundedService}
 use Rattle.value_laws.specs.Values.{BoundedClass, BoundedShape}
 

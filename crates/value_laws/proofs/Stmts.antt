@@ -20,7 +20,7 @@ use Rattle.type_rules.specs.Here.{behind, called, counted}
 use Rattle.type_rules.specs.Stmts.{after_all, target_variable}
 use Rattle.value_laws.proofs.Bounded.{IsExpr, IsStmt, args_bounded, called_bounded, cut_bounded, else_bounded, maybe_bounded, set_bounded, stmts_bounded}
 use Rattle.value_laws.proofs.Exprs.{IsToken, IsWord, any_arguments, any_expr, any_key}
-use Rattle.value_laws.proofs.Parts.{Each, Gives, IfThere, any, down, each, either, next, none_not, perhaps, some_same, token, whole}
+use Rattle.mace_grammar.proofs.Parts.{Each, Gives, IfThere, any, down, each, either, next, none_not, perhaps, some_same, token, whole}
 
 -- ---- each statement
 

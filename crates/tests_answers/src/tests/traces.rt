@@ -4,21 +4,10 @@ use super::{Answer, due, has, joined, unmarked};
 use std::alloc::Global;
 use std::process::Abort;
 use std::test::Fail;
-use tests_services::{TICK, input_of};
+use tests_services::{ONE_EVENT, TICK, input_of};
 use wave_base::OutOfMemory;
 
-/// The one journal of one event with one segment at the root, by the generator from 0.
-const SEVEN: &[u8] = b"journal 7
-1 w0 h0 Admit #1
-2 w0 h0 Queue #1.1 /
-3 w0 h0 Grant #1 /
-4 w0 h0 Start #1 /
-5 w0 h0 Stop #1 /
-6 w0 h0 Commit #1
-7 w0 h0 Free #1.2 /
-";
-
-// It gives this listing, and behind it that journal.
+// It gives this listing, and behind it the one journal of one event, by the generator from 0.
 fn gives(
     rt: &impl Abort,
     alloc: Global,
@@ -26,7 +15,7 @@ fn gives(
     status: u8,
     listing: &[u8],
 ) -> Result<(), OutOfMemory> {
-    let text = joined(alloc, &[listing, SEVEN])?;
+    let text = joined(alloc, &[listing, ONE_EVENT])?;
     has(rt, answer, status, b"", text.as_slice());
     Ok(())
 }

@@ -7,22 +7,14 @@ use std::process::Abort;
 use std::sync::Wait;
 use std::test::Fail;
 use std::thread::Threads;
-use tests_services::MARKET;
+use tests_services::{MARKET, MOVES, ONE_EVENT, TO_AND_FRO};
 use wave_io::OpenGate;
 
-/// A script for the market: a hall moves between two purchases.
-pub const MOVES: &[u8] =
-    b"hosts 2\nrequest buy(1,1,3)\nmove /Hall[1] to 1\nrequest buy(1,2,4)\nrequest pair(1)\n";
-
-/// What it comes to, with places.
+/// What `MOVES` comes to, with places.
 pub const MOVED: &[u8] =
     b"#1 buy = 7\n#1 send \"till\" 3\n#2 moved /Hall[1] to 1\n#3 buy = 6\n#3 send \"till\" 7\n#4 pair = 11\nplace / 0\nplace /Hall[1] 1\nplace /Hall[1]/Stall[1] 0\nplace /Hall[1]/Stall[2] 1\ndone 4\n";
 
-/// To and fro, with a purchase between each two moves.
-pub const TO_AND_FRO: &[u8] =
-    b"hosts 2\nrequest buy(1,1,1)\nmove /Hall[1] to 1\nrequest buy(1,1,1)\nmove /Hall[1] to 0\nrequest buy(1,1,1)\nmove /Hall[1] to 1\nrequest buy(1,1,1)\n";
-
-/// What it comes to, with places.
+/// What `TO_AND_FRO` comes to.
 pub const WENT_TO_AND_FRO: &[u8] =
     b"#1 buy = 9\n#1 send \"till\" 1\n#2 moved /Hall[1] to 1\n#3 buy = 8\n#3 send \"till\" 2\n#4 moved /Hall[1] to 0\n#5 buy = 7\n#5 send \"till\" 3\n#6 moved /Hall[1] to 1\n#7 buy = 6\n#7 send \"till\" 4\ndone 7\n";
 
@@ -100,12 +92,13 @@ fn journals(rt: HostRuntime) -> Result<(), Fail> {
 /// A schedule has one journal.
 #[test]
 fn the_journal_of_a_schedule(rt: HostRuntime) -> Result<(), Fail> {
-    let told =
-        b"#1 hit = 1\ndone 1\njournal 7\n1 w0 h0 Admit #1\n2 w0 h0 Queue #1.1 /\n3 w0 h0 Grant #1 /\n4 w0 h0 Start #1 /\n5 w0 h0 Stop #1 /\n6 w0 h0 Commit #1\n7 w0 h0 Free #1.2 /\n";
+    let alloc = rt.alloc();
+    let mut told = Vec::from_slice(alloc, b"#1 hit = 1\ndone 1\n")?;
+    told.extend_from_slice(ONE_EVENT)?;
     holds(
         &rt,
-        rt.alloc(),
-        &plain("trace --schedule 0", TICK, 0, told, b""),
+        alloc,
+        &plain("trace --schedule 0", TICK, 0, told.as_slice(), b""),
     )?;
     Ok(())
 }

@@ -1,9 +1,9 @@
 //! How calls end: words, refusals in their order, faults of streams, the greatest input.
 
-use super::rows::{Row, bytes, call, call_alone, call_with, calls, holds, plain, words};
+use super::rows::{Row, bytes, call, call_alone, call_with, calls, holds, plain};
 use super::services::{FORMS, FORMS_PRINTED, TICK};
 use std::test::Fail;
-use tests_services::MARKET;
+use tests_services::{MARKET, words};
 use wave_base::{OutOfMemory, Seq};
 use wave_io::{MemSink, MemSource, OpenGate};
 

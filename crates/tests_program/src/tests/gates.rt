@@ -1,6 +1,6 @@
 //! Gates that hold events, or count them.
 
-use super::crews::{MOVED, MOVES};
+use super::crews::MOVED;
 use super::rows::{joined, ran_on};
 use std::alloc::Global;
 use std::hint::spin_loop;
@@ -8,66 +8,12 @@ use std::sync::Wait;
 use std::sync::atomic::{AtomicU64, Ordering};
 use std::test::Fail;
 use std::thread::Threads;
-use tests_services::MARKET;
-use wave_base::{Class, OutOfMemory, Path, Step, Ticket};
+use tests_services::{MARKET, MOVES, Meeting, hall, stall};
+use wave_base::{OutOfMemory, Path, Ticket};
 use wave_io::Gate;
-
-const HALL: Step = Step {
-    class: Class(1),
-    key: 1,
-};
-
-fn hall() -> Path {
-    Path::root().child(HALL)
-}
-
-fn stall(key: i64) -> Path {
-    let class = Class(2);
-    Path::root().child(HALL).child(Step { class, key })
-}
 
 // How often a gate looks at what it waits for.
 const TURNS: u32 = 10_000_000;
-
-// Holds two events at their stalls until each has reached its own.
-#[derive(Drop)]
-struct Meeting {
-    first: AtomicU64,
-    second: AtomicU64,
-    missed: AtomicU64,
-}
-
-impl Meeting {
-    fn new() -> Meeting {
-        Meeting {
-            first: AtomicU64::new(0),
-            second: AtomicU64::new(0),
-            missed: AtomicU64::new(0),
-        }
-    }
-
-    fn meet(&self, mine: &AtomicU64, other: &AtomicU64) {
-        mine.store(1, Ordering::SeqCst);
-        for _ in 0..TURNS {
-            if other.load(Ordering::SeqCst) == 1 {
-                return;
-            }
-            spin_loop();
-        }
-        self.missed.store(1, Ordering::SeqCst);
-    }
-}
-
-impl Gate for Meeting {
-    fn reach(&self, ticket: Ticket, path: &Path) {
-        if ticket.0 == 1 && *path == stall(1) {
-            self.meet(&self.first, &self.second);
-        }
-        if ticket.0 == 2 && *path == stall(2) {
-            self.meet(&self.second, &self.first);
-        }
-    }
-}
 
 // Holds each of the first events at its stall until all of them have come to theirs: so many segments are out at once.
 #[derive(Drop)]
@@ -79,7 +25,7 @@ struct Crowd {
 
 impl Gate for Crowd {
     fn reach(&self, ticket: Ticket, path: &Path) {
-        if ticket.0 <= self.many && *path == stall(i64::from(ticket.0)) {
+        if ticket.0 <= self.many && *path == stall(1, i64::from(ticket.0)) {
             self.come.fetch_add(1, Ordering::SeqCst);
             for _ in 0..TURNS {
                 if self.come.load(Ordering::SeqCst) == u64::from(self.many) {
@@ -158,10 +104,10 @@ fn two_segments_are_out_at_once(rt: HostRuntime) -> Result<(), Fail> {
     let alloc = rt.alloc();
     let input = joined(alloc, MARKET, b"request buy(1,1,1)\nrequest buy(1,2,1)\n")?;
     for words in ["run --workers 2", "trace --workers 2"] {
-        let gate = Meeting::new();
+        let gate = Meeting::at(stall(1, 1), stall(1, 2));
         let (status, out) = ran_on(&rt, alloc, words, input.as_slice(), &gate)?;
         assert_eq!(rt; status, 0);
-        assert_eq!(rt; gate.missed.load(Ordering::SeqCst), 0);
+        assert!(rt; !gate.missed());
         if words.starts_with("trace") {
             for started in [
                 b"Start #1 /Hall[1]/Stall[1]\n",
@@ -213,17 +159,17 @@ impl Counting {
         let root = Path::root();
         let each = vec![in alloc;
             stop_at(1, root, b"Start #1 /\n", 1),
-            stop_at(1, hall(), b"Start #1 /Hall[1]\n", 1),
-            stop_at(1, stall(1), b"Start #1 /Hall[1]/Stall[1]\n", 1),
+            stop_at(1, hall(1), b"Start #1 /Hall[1]\n", 1),
+            stop_at(1, stall(1, 1), b"Start #1 /Hall[1]/Stall[1]\n", 1),
             stop_at(2, root, b"Start #2 /\n", 1),
-            stop_at(2, hall(), b"Start #2 /Hall[1]\n", 1),
+            stop_at(2, hall(1), b"Start #2 /Hall[1]\n", 1),
             stop_at(3, root, b"Start #3 /\n", 1),
-            stop_at(3, hall(), b"Start #3 /Hall[1]\n", 1),
-            stop_at(3, stall(2), b"Start #3 /Hall[1]/Stall[2]\n", 1),
+            stop_at(3, hall(1), b"Start #3 /Hall[1]\n", 1),
+            stop_at(3, stall(1, 2), b"Start #3 /Hall[1]/Stall[2]\n", 1),
             stop_at(4, root, b"Start #4 /\n", 1),
-            stop_at(4, hall(), b"Start #4 /Hall[1]\n", 3),
-            stop_at(4, stall(1), b"Start #4 /Hall[1]/Stall[1]\n", 1),
-            stop_at(4, stall(2), b"Start #4 /Hall[1]/Stall[2]\n", 1),
+            stop_at(4, hall(1), b"Start #4 /Hall[1]\n", 3),
+            stop_at(4, stall(1, 1), b"Start #4 /Hall[1]/Stall[1]\n", 1),
+            stop_at(4, stall(1, 2), b"Start #4 /Hall[1]/Stall[2]\n", 1),
         ]?;
         Ok(Counting {
             all: AtomicU64::new(0),

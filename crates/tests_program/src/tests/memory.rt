@@ -1,9 +1,9 @@
 //! Want of memory.
 
-use super::crews::{MOVED, MOVES};
+use super::crews::MOVED;
 use super::rows::{joined, ran_on};
 use std::test::Fail;
-use tests_services::MARKET;
+use tests_services::{MARKET, MOVES};
 use wave_io::OpenGate;
 
 /// All is done, or memory was wanted and a front stands there: under `--fail-alloc` each request in turn is refused.

@@ -7,13 +7,9 @@ use std::process::Abort;
 use std::sync::Wait;
 use std::test::Fail;
 use std::thread::Threads;
-use tests_services::{CHAIN, MARKET};
+use tests_services::{CHAIN, MARKET, ONE_EVENT};
 use wave_base::OutOfMemory;
 use wave_io::OpenGate;
-
-/// The journal of one event with one segment at the root.
-const JOURNAL: &[u8] =
-    b"journal 7\n1 w0 h0 Admit #1\n2 w0 h0 Queue #1.1 /\n3 w0 h0 Grant #1 /\n4 w0 h0 Start #1 /\n5 w0 h0 Stop #1 /\n6 w0 h0 Commit #1\n7 w0 h0 Free #1.2 /\n";
 
 /// What the machine is after so many of its labels.
 const SHOWN: [(&str, &[u8]); 6] = [
@@ -76,7 +72,7 @@ fn the_machine_is_shown(rt: HostRuntime) -> Result<(), Fail> {
     let alloc = rt.alloc();
     let mut request = Vec::from_slice(alloc, TICK)?;
     request.push(b'\n')?;
-    let input = with_journal(alloc, request.as_slice(), JOURNAL)?;
+    let input = with_journal(alloc, request.as_slice(), ONE_EVENT)?;
     for (words, out) in SHOWN {
         holds(&rt, alloc, &plain(words, input.as_slice(), 0, out, b""))?;
     }

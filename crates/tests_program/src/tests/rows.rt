@@ -8,6 +8,7 @@ use std::process::Abort;
 use std::sync::Wait;
 use std::test::Fail;
 use std::thread::Threads;
+use tests_services::words;
 use wave_base::{OutOfMemory, Seq, Words};
 use wave_io::{Gate, MemSink, MemSource, OpenGate};
 
@@ -19,15 +20,6 @@ pub fn bytes(alloc: Global, text: &[u8]) -> Result<Seq<u8>, OutOfMemory> {
 /// The numbers of calls that are to fail.
 pub fn calls(alloc: Global, numbers: &[u64]) -> Result<Seq<u64>, OutOfMemory> {
     Ok(Seq::from_vec(Vec::from_slice(alloc, numbers)?))
-}
-
-/// The words of a text, each behind a blank.
-pub fn words(alloc: Global, text: &str) -> Result<Words, OutOfMemory> {
-    let mut words = Words::new(alloc);
-    for word in text.split(' ') {
-        words.push(word)?;
-    }
-    Ok(words)
 }
 
 /// The top call. What its contract says stands in these three functions alone, not in each test.

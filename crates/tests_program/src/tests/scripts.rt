@@ -1,9 +1,10 @@
 //! Scripts on services: what they come to.
 
+use super::crews::{MOVED, WENT_TO_AND_FRO};
 use super::rows::{all_hold, refuses, traps, works};
 use super::services::{CALC, EDGE, LONG, LOOP, SENDS, WIDE};
 use std::test::Fail;
-use tests_services::{CHAIN, MARKET};
+use tests_services::{CHAIN, MARKET, MOVES, TO_AND_FRO};
 
 /// Requests alone, with one worker and more, and none at all.
 #[test]
@@ -31,24 +32,14 @@ fn requests(rt: HostRuntime) -> Result<(), Fail> {
 #[test]
 fn moves(rt: HostRuntime) -> Result<(), Fail> {
     let cases = [
-        works(
-            "seq --map",
-            MARKET,
-            b"hosts 2\nrequest buy(1,1,3)\nmove /Hall[1] to 1\nrequest buy(1,2,4)\nrequest pair(1)\n",
-            b"#1 buy = 7\n#1 send \"till\" 3\n#2 moved /Hall[1] to 1\n#3 buy = 6\n#3 send \"till\" 7\n#4 pair = 11\nplace / 0\nplace /Hall[1] 1\nplace /Hall[1]/Stall[1] 0\nplace /Hall[1]/Stall[2] 1\ndone 4\n",
-        ),
+        works("seq --map", MARKET, MOVES, MOVED),
         works(
             "seq",
             MARKET,
             b"hosts 2\nmove /Hall[9] to 1\nsnapshot\n",
             b"#1 absent /Hall[9]\n#2 snapshot 1\n#2 at / seen=0\ndone 2\n",
         ),
-        works(
-            "seq",
-            MARKET,
-            b"hosts 2\nrequest buy(1,1,1)\nmove /Hall[1] to 1\nrequest buy(1,1,1)\nmove /Hall[1] to 0\nrequest buy(1,1,1)\nmove /Hall[1] to 1\nrequest buy(1,1,1)\n",
-            b"#1 buy = 9\n#1 send \"till\" 1\n#2 moved /Hall[1] to 1\n#3 buy = 8\n#3 send \"till\" 2\n#4 moved /Hall[1] to 0\n#5 buy = 7\n#5 send \"till\" 3\n#6 moved /Hall[1] to 1\n#7 buy = 6\n#7 send \"till\" 4\ndone 7\n",
-        ),
+        works("seq", MARKET, TO_AND_FRO, WENT_TO_AND_FRO),
         works(
             "seq --map",
             MARKET,

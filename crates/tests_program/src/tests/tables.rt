@@ -1,9 +1,9 @@
 //! Tables: each read and each write of a run that fails, each rule that picks, and the limits of events.
 
-use super::crews::{LOOKED, LOOKS, MOVED, MOVES, TO_AND_FRO, WENT_TO_AND_FRO};
+use super::crews::{LOOKED, LOOKS, MOVED, WENT_TO_AND_FRO};
 use super::rows::{Row, all_hold, broken, holds, joined, plain, ran_on, traps, works};
 use std::test::Fail;
-use tests_services::{CHAIN, MARKET};
+use tests_services::{CHAIN, MARKET, MOVES, TO_AND_FRO};
 use wave_io::OpenGate;
 
 const THREE: &[u8] = b"request buy(1,1,3)\nrequest buy(1,2,4)\nrequest pair(1)\n";

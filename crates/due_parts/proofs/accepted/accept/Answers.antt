@@ -1,12 +1,7 @@
-use Rattle.std.proofs.Common.{◌≡◌, ◌∙◌, Err, Ok, Some, IfSome, ap, subst, sym}
-use Rattle.code_scheme.proofs.Made.{program_shape}
+use Rattle.std.proofs.Common.{◌≡◌, Err, Some, IfSome, subst, sym}
 use Rattle.input_parts.specs.Parts.{service_of, script_of}
-use Rattle.service_code.specs.declared.program.Program.{Program}
 use Rattle.due_parts.specs.Accepted.{IsAcceptedBy}
-use Rattle.due_parts.specs.Answers.{Only}
-use Rattle.due_parts.specs.Coded.{IsCoded}
 use Rattle.due_parts.specs.Scripts.{IsDueBehind, IsDueScript}
-use Rattle.due_parts.specs.Served.{IsServed, IsTypedRead}
 use Rattle.due_parts.specs.Told.{IsDueFirst}
 use Rattle.due_parts.proofs.AcceptLemmas.{refused_accepted, typed_accepted}
 use Rattle.due_parts.proofs.DueLemmas.{typed_coded, typed_served}

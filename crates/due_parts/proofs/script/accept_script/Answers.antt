@@ -2,7 +2,7 @@ use Rattle.std.proofs.Common.{arith, subst, sym}
 use Rattle.script_reader.specs.Judged.{nothing_earlier}
 use Rattle.type_rules.specs.Known.{shape_of}
 use Rattle.due_parts.specs.Accepted.{IsAcceptedBy}
-use Rattle.due_parts.specs.Answers.{Only, too_large_script}
+use Rattle.due_parts.specs.Answers.{Only}
 use Rattle.due_parts.specs.Scripts.{IsDueLines, IsDueScript, IsDueShort}
 use Rattle.due_parts.specs.Told.{IsDueFirst}
 use Rattle.due_parts.proofs.AcceptLemmas.{only_long, short_accepted}

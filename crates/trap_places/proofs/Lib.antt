@@ -1,8 +1,0 @@
-pub mod Decls
-pub mod Exprs
-pub mod Parts
-pub mod Read
-pub mod Stmts
-pub mod Told
-pub mod Traps
-pub mod Views
