@@ -1,0 +1,125 @@
+//! How the labels of a log are kept.
+
+ghost use Rattle.std.specs.Prelude.{◌≡◌, ◌<◌, ◌++◌, ◌∷◌, [], length, slice_get, IfOk, IfSome, Some};
+ghost use Rattle.label_log.specs.Logs.{path_of};
+ghost use Rattle.label_log.specs.inner.Keeping.{HasRoom, IsKept, IsNumber, kept_labels, ready_in};
+
+use crate::entry::Entry;
+use crate::numbers::{number_of, path_at};
+use indexmap::IndexSet;
+use std::alloc::Global;
+use wave_base::{OutOfMemory, Path};
+use wave_labels::Label;
+
+/// Labels whose paths have numbers, and behind them, once the numbers of 32 bits are given, labels that are kept with their paths.
+#[derive(Drop)]
+pub(crate) struct Kept {
+    /// The paths that have numbers, each once.
+    pub paths: IndexSet<Path>,
+    /// The labels whose paths have numbers.
+    pub entries: Vec<Entry>,
+    /// Those that are kept with their paths.
+    pub whole: Vec<(Entry, Path)>,
+}
+
+/// What there is room for.
+#[derive(Clone, Copy, Debug)]
+pub(crate) enum Room {
+    /// Nothing.
+    Nothing,
+    /// A label whose path has this number.
+    Numbered(u32),
+    /// A label that is kept with its path, which is this one.
+    Whole(Path),
+}
+
+impl Kept {
+    /// No labels.
+    pub(crate) fn new(alloc: Global) -> Kept
+        ensures kept { IsKept result }
+        ensures labels { kept_labels result ≡ [] }
+    {
+        Kept {
+            paths: IndexSet::new(alloc),
+            entries: Vec::new(alloc),
+            whole: Vec::new(alloc),
+        }
+    }
+
+    /// How many labels there are.
+    pub(crate) fn len(&self) -> usize
+        ensures { result ≡ length (kept_labels self.now) }
+    {
+        self.entries.len() + self.whole.len()
+    }
+
+    /// The label at place `i`.
+    pub(crate) fn label_at(&self, i: usize) -> Label
+        requires { i < length (kept_labels self.now) }
+        ensures { slice_get (kept_labels self.now) i ≡ Some result }
+    {
+        if i < self.entries.len() {
+            let entry = self.entries[i];
+            return entry.label(path_at(&self.paths, entry.path));
+        }
+        let (entry, path) = self.whole[i - self.entries.len()];
+        entry.label(path)
+    }
+
+    /// Makes room for a label of this path.
+    pub(crate) fn room_for(&mut self, path: &Path) -> Result<Room, OutOfMemory>
+        requires { IsKept self.old }
+        ensures kept { IsKept self.new }
+        ensures labels { kept_labels self.new ≡ kept_labels self.old }
+        ensures room { IfOk result (HasRoom self.new) }
+        ensures ready { IfOk result (λ room. ready_in self.new room ≡ Some path.now) }
+    {
+        match self.number_of(path)? {
+            Some(number) => {
+                self.entries.reserve(1)?;
+                Ok(Room::Numbered(number))
+            }
+            None => {
+                self.whole.reserve(1)?;
+                Ok(Room::Whole(*path))
+            }
+        }
+    }
+
+    // The number of a path; none where labels are kept with their paths from now on.
+    fn number_of(&mut self, path: &Path) -> Result<Option<u32>, OutOfMemory>
+        requires { IsKept self.old }
+        ensures kept { IsKept self.new }
+        ensures labels { kept_labels self.new ≡ kept_labels self.old }
+        ensures numbered { IfOk result (λ o. IfSome o (IsNumber self.new path.now)) }
+    {
+        if !self.whole.is_empty() {
+            return Ok(None);
+        }
+        let number = number_of(&mut self.paths, last_number(&self.entries), path)?;
+        Ok(u32::try_from(number).ok())
+    }
+
+    /// Adds a label, for which there is room.
+    pub(crate) fn put(&mut self, room: Room, label: &Label)
+        requires kept { IsKept self.old }
+        requires room { HasRoom self.old room }
+        requires ready { ready_in self.old room ≡ Some (path_of label.now.act) }
+        ensures kept { IsKept self.new }
+        ensures labels { kept_labels self.new ≡ kept_labels self.old ++ label.now ∷ [] }
+    {
+        match room {
+            Room::Nothing => {}
+            Room::Numbered(number) => self.entries.push_reserved(Entry::of(label, number)),
+            Room::Whole(path) => self.whole.push_reserved((Entry::of(label, 0), path)),
+        }
+    }
+}
+
+// The number of the path of the last label; 0 where there is none.
+fn last_number(entries: &[Entry]) -> u32 {
+    match entries.last() {
+        Some(entry) => entry.path,
+        None => 0,
+    }
+}
