@@ -32,20 +32,20 @@ contexts-returns t c = list_done (edition_of c.args.self.version) (reader.if_key
 pub context-returns-in_err-inner : goal.context-returns-in_err-inner
 context-returns-in_err-inner t c =
     let p = err_from_is_err_and c.from_residual-in_err-inner.result c.from_residual-in_err-inner.ensures.1 in
-    rw (p.1, p.2) (fails_same c.in_err-inner.field-0.0 (deeper_pred (reader.one_context_at (edition_of c.args.self.version)) c.args.self.depth c.args.tokens.now c.if-depth-eq0.false) (inner_fails (edition_of c.args.self.version) (c.args.self.depth - 1) (reader.context_at (edition_of c.args.self.version) (c.args.self.depth - 1)) c.args.tokens.now c.in_ok-at.ensures c.in_ok-name.ensures c.in_ok-rest.ensures c.in_ok-rest-2.ensures c.in_ok-rest-3.ensures c.in_ok-rest-4.ensures c.in_ok-vars.ensures c.in_err-inner.field-0.0 c.in_err-inner.ensures))
+    rw (p.1, p.2) (fails_same c.in_err-inner.field-0.0 (deeper_pred (reader.one_context_at (edition_of c.args.self.version)) c.args.self.depth c.args.tokens.now c.if-self-eq0.false) (inner_fails (edition_of c.args.self.version) (c.args.self.depth - 1) (reader.context_at (edition_of c.args.self.version) (c.args.self.depth - 1)) c.args.tokens.now c.in_ok-at.ensures c.in_ok-name.ensures c.in_ok-rest.ensures c.in_ok-rest-2.ensures c.in_ok-rest-3.ensures c.in_ok-rest-4.ensures c.in_ok-vars.ensures c.in_err-inner.field-0.0 c.in_err-inner.ensures))
 
 pub context-returns-in_err-methods : goal.context-returns-in_err-methods
 context-returns-in_err-methods t c =
     let p = err_from_is_err_and c.from_residual-in_err-methods.result c.from_residual-in_err-methods.ensures.1 in
-    rw (p.1, p.2) (fails_same c.in_err-methods.field-0.0 (deeper_pred (reader.one_context_at (edition_of c.args.self.version)) c.args.self.depth c.args.tokens.now c.if-depth-eq0.false) (methods_fail (edition_of c.args.self.version) (c.args.self.depth - 1) (reader.context_at (edition_of c.args.self.version) (c.args.self.depth - 1)) c.args.tokens.now c.in_ok-at.ensures c.in_ok-name.ensures c.in_ok-rest.ensures c.in_ok-rest-2.ensures c.in_ok-rest-3.ensures c.in_ok-rest-4.ensures c.in_ok-vars.ensures c.in_ok-inner.ensures c.in_err-methods.field-0.0 c.in_err-methods.ensures))
+    rw (p.1, p.2) (fails_same c.in_err-methods.field-0.0 (deeper_pred (reader.one_context_at (edition_of c.args.self.version)) c.args.self.depth c.args.tokens.now c.if-self-eq0.false) (methods_fail (edition_of c.args.self.version) (c.args.self.depth - 1) (reader.context_at (edition_of c.args.self.version) (c.args.self.depth - 1)) c.args.tokens.now c.in_ok-at.ensures c.in_ok-name.ensures c.in_ok-rest.ensures c.in_ok-rest-2.ensures c.in_ok-rest-3.ensures c.in_ok-rest-4.ensures c.in_ok-vars.ensures c.in_ok-inner.ensures c.in_err-methods.field-0.0 c.in_err-methods.ensures))
 
 pub context-returns-in_err-rest-5 : goal.context-returns-in_err-rest-5
 context-returns-in_err-rest-5 t c =
     let p = err_from_is_err_and c.from_residual-in_err-rest-5.result c.from_residual-in_err-rest-5.ensures.1 in
-    rw (p.1, p.2) (fails_same c.in_err-rest-5.field-0.0 (deeper_pred (reader.one_context_at (edition_of c.args.self.version)) c.args.self.depth c.args.tokens.now c.if-depth-eq0.false) (brace_fails (edition_of c.args.self.version) (c.args.self.depth - 1) (reader.context_at (edition_of c.args.self.version) (c.args.self.depth - 1)) c.args.tokens.now c.in_ok-at.ensures c.in_ok-name.ensures c.in_ok-rest.ensures c.in_ok-rest-2.ensures c.in_ok-rest-3.ensures c.in_ok-rest-4.ensures c.in_ok-vars.ensures c.in_ok-inner.ensures c.in_ok-methods.ensures c.in_err-rest-5.field-0.0 c.in_err-rest-5.ensures))
+    rw (p.1, p.2) (fails_same c.in_err-rest-5.field-0.0 (deeper_pred (reader.one_context_at (edition_of c.args.self.version)) c.args.self.depth c.args.tokens.now c.if-self-eq0.false) (brace_fails (edition_of c.args.self.version) (c.args.self.depth - 1) (reader.context_at (edition_of c.args.self.version) (c.args.self.depth - 1)) c.args.tokens.now c.in_ok-at.ensures c.in_ok-name.ensures c.in_ok-rest.ensures c.in_ok-rest-2.ensures c.in_ok-rest-3.ensures c.in_ok-rest-4.ensures c.in_ok-vars.ensures c.in_ok-inner.ensures c.in_ok-methods.ensures c.in_err-rest-5.field-0.0 c.in_err-rest-5.ensures))
 
 pub context-returns : goal.context-returns
 context-returns t c =
-    (deeper_pred (reader.one_context_at (edition_of c.args.self.version)) c.args.self.depth c.args.tokens.now c.if-depth-eq0.false)
+    (deeper_pred (reader.one_context_at (edition_of c.args.self.version)) c.args.self.depth c.args.tokens.now c.if-self-eq0.false)
     ∙ context_gives (edition_of c.args.self.version) (c.args.self.depth - 1) (reader.context_at (edition_of c.args.self.version) (c.args.self.depth - 1)) c.args.tokens.now c.in_ok-at.ensures c.in_ok-name.ensures c.in_ok-rest.ensures c.in_ok-rest-2.ensures c.in_ok-rest-3.ensures c.in_ok-rest-4.ensures c.in_ok-vars.ensures c.in_ok-inner.ensures c.in_ok-methods.ensures c.in_ok-rest-5.ensures
     ∙ ap (λ x. Ok (x, c.in_ok-rest-5.rest.now)) (sym c.new.ensures)
