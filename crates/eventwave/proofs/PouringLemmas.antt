@@ -1,5 +1,6 @@
 -- What is written behind the lines of a run, part by part.
-use Rattle.std.proofs.Common.{◌≡◌, ◌∙◌, ℕ, suc, All, Some, map, ◌+◌, ◌<◌, List, [], ◌∷◌, ◌++◌, length, drop, get_or, Option, ap, subst, sym, append_assoc, drop-cons, arith}
+use Rattle.std.proofs.Common.{◌≡◌, ◌∙◌, ℕ, suc, All, Some, map, slice_get, ◌+◌, ◌<◌, List, [], ◌∷◌, ◌++◌, length, drop, get_or, Option, ap, subst, sym, append_assoc, drop-cons, arith}
+use Rattle.std.proofs.lemmas.Option.{get_or_from_slice_get, slice_get_within}
 use Rattle.std.specs.List.{concat}
 use Rattle.wave_base.specs.declared.finished.Finished.{Finished}
 use Rattle.wave_base.specs.declared.finished.Place.{Place}
@@ -37,19 +38,19 @@ module _ (shape : Shape) where
   head_first labels head e = sym (ap (λ z. z ++ labels_text shape 1 labels) e ∙ append_assoc (head_text (length labels)) (10 ∷ []) (labels_text shape 1 labels))
 
   -- the next line, and what stands behind it
-  pub label_next : (labels : List Label) (i : ℕ) (l : Label) (line : List ℕ) → i < length labels → l ≡ get_or labels i l → line ≡ line_text shape (i + 1) l ++ 10 ∷ []
+  pub label_next : (labels : List Label) (i : ℕ) (l : Label) (line : List ℕ) → slice_get labels i ≡ Some l → line ≡ line_text shape (i + 1) l ++ 10 ∷ []
       → labels_text shape (i + 1) (drop i labels) ≡ line ++ labels_text shape (i + 1 + 1) (drop (i + 1) labels)
-  label_next labels i l line below at e =
+  label_next labels i l line found e =
       let next : i + 1 ≡ suc i = omega arith in
+      let below : i < length labels = slice_get_within labels i l found in
+      let at : l ≡ get_or labels i l = sym (get_or_from_slice_get labels i l l found) in
       let rest : List ℕ = labels_text shape (i + 1 + 1) (drop (i + 1) labels) in
       let front : drop i labels ≡ l ∷ drop (i + 1) labels = drop-cons labels i l below ∙ (λ j. sym at j ∷ drop (sym next j) labels) in
       ap (labels_text shape (i + 1)) front ∙ sym (ap (λ z. z ++ rest) e ∙ append_assoc (line_text shape (i + 1) l) (10 ∷ []) rest)
 
-  pub journal_whole : (old new : Option (List ℕ)) (labels journal : List Label) → labels ≡ journal → Appends old new (journal_text shape labels) → Appends old new (journal_text shape journal)
-  journal_whole old new labels journal e = subst (λ ls. Appends old new (journal_text shape ls)) e
-
-  pub journal_front : (old new : Option (List ℕ)) (labels journal : List Label) → labels ≡ journal → AppendsFront old new (journal_text shape labels) → AppendsFront old new (journal_text shape journal)
-  journal_front old new labels journal e = subst (λ ls. AppendsFront old new (journal_text shape ls)) e
+  -- the path of a label among those that have paths
+  pub path_at : (labels : List Label) (i : ℕ) (l : Label) → All (λ (l : Label). HasPath shape l.act) labels → slice_get labels i ≡ Some l → HasPath shape l.act
+  path_at labels i l all found = subst (λ (x : Label). HasPath shape x.act) (get_or_from_slice_get labels i l l found) (all i l (slice_get_within labels i l found))
 
 -- ---- what stands behind the lines of a trace
 

@@ -14,6 +14,7 @@ use crate::made::Made;
 use crate::team::Team;
 use due_answer::Engine;
 use host_workers::{RunError, run_plan_at};
+use label_log::LabelLog;
 use listing_out::{ListError, write_results};
 use plan_actors::{PlanActors, plans_drive};
 use resolved_service::Resolved;
@@ -22,6 +23,7 @@ use std::sync::Wait;
 use std::thread::Threads;
 use wave_base::{OutOfMemory, Start};
 use wave_io::{Gate, Sink};
+use wave_labels::Label;
 use wave_machine::{PickRule, Plan, drive_with};
 use wave_meaning::run_script_at;
 use wave_theory::rules_pick;
@@ -94,11 +96,23 @@ fn drive(alloc: Global, plan: &Plan, start: &Start, rule: PickRule) -> Result<Ma
 {
     plans_drive();
     rules_pick::<PlanActors>();
-    let (done, journal) = drive_with(alloc, plan, start, rule)?;
+    let (done, labels) = drive_with(alloc, plan, start, rule)?;
+    let journal = log_of(alloc, labels.as_slice())?;
     Ok(Made {
         done,
         journal: Some(journal),
     })
+}
+
+// These labels as a log.
+fn log_of(alloc: Global, labels: &[Label]) -> Result<LabelLog, OutOfMemory>
+    ensures { IfOk result (λ log. log ≡ labels.now) }
+{
+    let mut log = LabelLog::new(alloc);
+    for label in labels {
+        log.push(label)?;
+    }
+    Ok(log)
 }
 
 /// Runs a plan by its workers, each in a thread of its own where one can be made. The lines are written while they run.

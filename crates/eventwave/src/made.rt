@@ -1,7 +1,7 @@
 //! What an engine gives back of a plan.
 
-use wave_base::{Finished, Seq};
-use wave_labels::Label;
+use label_log::LabelLog;
+use wave_base::Finished;
 
 /// What an engine made of a plan.
 #[derive(Drop)]
@@ -9,5 +9,5 @@ pub struct Made {
     /// What was done.
     pub done: Finished,
     /// The labels that were taken, where the machine ran it.
-    pub journal: Option<Seq<Label>>,
+    pub journal: Option<LabelLog>,
 }

@@ -18,11 +18,11 @@ use crate::made::Made;
 use command_words::Places;
 use due_parts::{Answer, Report, Telling, runs_have_paths, saved, status_of, summed};
 use journal_text::{head_line, label_line};
+use label_log::LabelLog;
 use listing_out::{ListError, write_end};
 use std::alloc::Global;
 use wave_base::{Finished, OutOfMemory, Place, Seq, Shape, Start, Ticket};
 use wave_io::{HeldBytes, Sink};
-use wave_labels::Label;
 use wave_machine::Plan;
 
 /// Writes what is told of a run behind the lines of its events, which are written.
@@ -117,7 +117,7 @@ fn places_of(done: &Finished, places: Places) -> Option<&Seq<Place>>
 fn write_journal<K: Sink>(
     alloc: Global,
     shape: &Shape,
-    journal: &Seq<Label>,
+    journal: &LabelLog,
     out: &mut K,
 ) -> Result<(), ListError>
     requires { All (λ (l : Label). HasPath shape.now l.act) journal.now }
@@ -127,11 +127,12 @@ fn write_journal<K: Sink>(
     ensures later { K.faults out.old ≤ K.faults out.new }
 {
     let mut held = HeldBytes::new(alloc)?;
-    let labels = journal.as_slice();
-    let head = head_line(alloc, labels.len())?;
+    let count = journal.len();
+    let head = head_line(alloc, count)?;
     held.write_all(out, head.as_slice())?;
-    for (i, label) in labels.iter().enumerate() {
-        let line = label_line(alloc, shape, i as u64 + 1, label)?;
+    for i in 0..count {
+        let label = journal.label_at(i);
+        let line = label_line(alloc, shape, i as u64 + 1, &label)?;
         held.write_all(out, line.as_slice())?;
     }
     held.flush(out)?;

@@ -93,8 +93,8 @@ module _ (o : Origin) (k : Known Trail) (w : Worker) (ready : IsReady o k w) (y 
       by_other : (why : StopCause) → history_of z ≡ history_of y → option_map (λ x. x.why) y.word ≡ Some why → IsHaltedBy k'.number why k'.seen
       by_other why h set =
           let x = word_why y.word why set in
-          let word : IsWord x.0 (length y.journal.items) = subst (λ w. WordStands w (length y.journal.items)) x.1 meets.stands_for_name.1.word in
-          let there : Contains (history_of y) (Halt x.0.worker why) = subst (λ c. Contains (history_of y) (Halt x.0.worker c)) x.2 (word_halts y.word x.0 (map Step y.journal.items) x.1) in
+          let word : IsWord x.0 (length y.journal.labels) = subst (λ w. WordStands w (length y.journal.labels)) x.1 meets.stands_for_name.1.word in
+          let there : Contains (history_of y) (Halt x.0.worker why) = subst (λ c. Contains (history_of y) (Halt x.0.worker c)) x.2 (word_halts y.word x.0 (map Step y.journal.labels) x.1) in
           record {
             who = x.0.worker;
             other = λ mine. ready.no_halts x.0.worker why (subst (λ ts. Contains ts (Halt x.0.worker why)) meets.agrees.1 (own_contains k.number (history_of y) (Halt x.0.worker why) (mine ∙ (same h).number) there));

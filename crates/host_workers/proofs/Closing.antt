@@ -89,7 +89,7 @@ module _ (o : Origin) (b : Board) (s : TheState) (at : IsAt b o s) (seen : List 
   is_finished = subst (λ (p : Plan). Finished (plan_actors p.program) p.workers s) (sym at.plan) done
 
   -- and its parts are those of a run
-  pub is_run : FinishedRunsAreMeasured → FinishedStatesTell → PlansHaveOwners → PlansAreSerial → (r : declared_finished.Finished × List declared_label.Label) → r.1 ≡ b.journal.items
+  pub is_run : FinishedRunsAreMeasured → FinishedStatesTell → PlansHaveOwners → PlansAreSerial → (r : declared_finished.Finished × List declared_label.Label) → r.1 ≡ b.journal.labels
       → ((o : Origin) (s : TheState) → IsAt b o s → r.0 ≡ finished_of (code_ran o.plan.now.program) o.plan.now.program.shape o.start.now o.plan.now.script) → IsRun o.plan.now o.start.now r
   is_run measured tell owned serial r journal told =
       let run : IsReached plan o.start.now (map label_of r.1) s = subst (λ js. IsReached plan o.start.now (map label_of js) s) (sym journal) reached in

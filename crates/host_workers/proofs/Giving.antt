@@ -111,6 +111,6 @@ module _ (o : Origin) (k : Known Trail) (w : Worker) (y : Board) (meets : Finds 
             let x = left_same k k' y z is h meets.agrees.0 in
             record {
               on = x.on;
-              halted = (s.worker, s.why, subst (λ ts. Contains ts (Halt s.worker s.why)) (sym (x.seen ∙ h)) (word_halts y.word s (map Step y.journal.items) e));
+              halted = (s.worker, s.why, subst (λ ts. Contains ts (Halt s.worker s.why)) (sym (x.seen ∙ h)) (word_halts y.word s (map Step y.journal.labels) e));
               own = subst (λ ts. OnlyHalts ts why) (sym x.made) (only_none k.made why calm.no_halts);
             }

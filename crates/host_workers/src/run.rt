@@ -20,15 +20,15 @@ use crate::post::Post;
 use crate::team::{helpers_of, run_team};
 use context_tree::trees_that_fit;
 use kept_lock::{KeptLock, Pass};
+use label_log::LabelLog;
 use plan_actors::finished_states_tell;
 use serial_runs::{plans_are_serial, plans_have_owners};
 use std::alloc::Global;
 use std::sync::Wait;
 use std::thread::Threads;
-use wave_base::{Finished, OutOfMemory, Seq, Start, Ticket, Worker};
+use wave_base::{Finished, OutOfMemory, Start, Ticket, Worker};
 use wave_board::{Board, Origin, StopCause};
 use wave_io::{Gate, Sink};
-use wave_labels::Label;
 use wave_machine::{Plan, runs_are_measured};
 
 /// Runs a plan from a Start by its workers, each in a thread of its own where one can be made. It gives what the script gives, and the journal of
@@ -42,7 +42,7 @@ pub fn run_plan_at<R: Threads + Wait + Sync, G: Gate + Sync, K: Sink + Send>(
     start: &Start,
     gate: &G,
     out: &mut K,
-) -> Result<(Finished, Seq<Label>), RunError>
+) -> Result<(Finished, LabelLog), RunError>
     requires fits { Fits (plan_of plan.now) }
     requires begins { FitsStart (plan_of plan.now) start.now }
     ensures run { IfOk result (λ r. IsWholeRun plan.now start.now r) }
@@ -78,7 +78,7 @@ pub fn run_plan<R: Threads + Wait + Sync, G: Gate + Sync, K: Sink + Send>(
     plan: &Plan,
     gate: &G,
     out: &mut K,
-) -> Result<(Finished, Seq<Label>), RunError>
+) -> Result<(Finished, LabelLog), RunError>
     requires { Fits (plan_of plan.now) }
     ensures run { IfOk result (λ r. IsWholeRun plan.now (first_start plan.now.program.shape) r) }
     ensures lines { OnOk result (Appends (K.written out.old) (K.written out.new) (event_lines plan.now (first_start plan.now.program.shape))) }
@@ -126,7 +126,7 @@ fn parts_of<'p, R: Wait>(
     rt: &R,
     lock: KeptLock<Board<'p>>,
     first: Pass<Board<'p>>,
-) -> Result<(Finished, Seq<Label>), OutOfMemory>
+) -> Result<(Finished, LabelLog), OutOfMemory>
     requires of_lock { IsPassOf lock first }
     requires finished { IsFinishedRun (name_of lock).plan.now (name_of lock).start.now (labels_in (known first).seen) }
     ensures { IfOk result (λ r. IsWholeRun (name_of lock.entry).plan.now (name_of lock.entry).start.now r) }

@@ -15,6 +15,8 @@ mod hosts;
 #[cfg(test)]
 mod labels;
 #[cfg(test)]
+mod logs;
+#[cfg(test)]
 mod moves;
 #[cfg(test)]
 mod outputs;

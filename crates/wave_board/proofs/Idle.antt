@@ -237,9 +237,9 @@ pub idle : (b : Board) (o : Origin) (s : TheState) (w : ℕ) → IsAt b o s → 
 idle b o s w h stay even =
     let p = b.machine.kept.plan in
     let from = start_state (begin_in p o.start.now) p.script.batches in
-    let x : full (from.hands w) + count begins w (map Step b.journal.items) ≡ count ends w (map Step b.journal.items) + full (s.hands w) = walk (plan_actors p.program) stay p.workers w b.journal.items from s h.reached in
+    let x : full (from.hands w) + count begins w (map Step b.journal.labels) ≡ count ends w (map Step b.journal.labels) + full (s.hands w) = walk (plan_actors p.program) stay p.workers w b.journal.labels from s h.reached in
     let none : full (from.hands w) ≡ 0 = refl in
-    let y : count begins w (history_of b) ≡ count begins w (map Step b.journal.items) = count_halt begins w (λ u why. refl) b.word (map Step b.journal.items) in
-    let z : count ends w (history_of b) ≡ count ends w (map Step b.journal.items) = count_halt ends w (λ u why. refl) b.word (map Step b.journal.items) in
+    let y : count begins w (history_of b) ≡ count begins w (map Step b.journal.labels) = count_halt begins w (λ u why. refl) b.word (map Step b.journal.labels) in
+    let z : count ends w (history_of b) ≡ count ends w (map Step b.journal.labels) = count_halt ends w (λ u why. refl) b.word (map Step b.journal.labels) in
     let e : count begins w (history_of b) ≡ count ends w (history_of b) = even in
     empty_hand (s.hands w) (omega (arith, x, none, y, z, e))

@@ -1,12 +1,15 @@
--- The lease of a Start.
-use Rattle.std.proofs.Common.{◌≡◌, ◌∙◌, ℕ, true, Option, Some, None, refl, sym, arith}
+-- The lease of a Start, and of a Stop.
+use Rattle.std.proofs.Common.{◌≡◌, ◌∙◌, ℕ, true, Option, Some, None, refl, sym, ap, arith}
 use Rattle.wave_labels.specs.declared.label.Act.{Act}
 use Rattle.wave_labels.specs.declared.label.Act.TheVariants.{Admit, Queue, Grant, Visit, Start, Stop, Free, Pass, Land, Commit}
-use Rattle.wave_labels.specs.Labels.{act_of}
+use Rattle.wave_labels.specs.declared.label.Label.{Label}
+use Rattle.wave_labels.specs.Labels.{act_of, label_of}
+use Rattle.label_log.specs.Logs.{path_of}
 use Rattle.wave_base.specs.declared.numbers.Ticket.{Ticket}
 use Rattle.wave_base.specs.declared.path.Path.{Path}
 use Rattle.service_code.specs.declared.program.Program.{Program}
 use Rattle.code_actor.specs.CodeActors.{Fields}
+use Rattle.wave_states.specs.Labels as theory
 use Rattle.wave_states.specs.States.{Hand}
 use Rattle.wave_states.specs.Steps.{step}
 use Rattle.plan_actors.specs.PlanActors as actors
@@ -15,7 +18,7 @@ use Rattle.wave_machine.specs.declared.lease.Lease.{Lease}
 use Rattle.wave_machine.specs.Leases.{StandsFor}
 use Rattle.wave_machine.specs.Machines.{TheState}
 use Rattle.wave_machine.specs.Prepared.{is_start}
-use Rattle.wave_machine.specs.Running.{IsInHand}
+use Rattle.wave_machine.specs.Running.{IsInHand, stop_of}
 use Rattle.wave_board.proofs.Idle.{begun}
 
 pub record InHand (program : Program) (lease : Lease) (o : Option (Hand actors.Actor Fields)) : Type 0 where
@@ -46,3 +49,19 @@ module _ (program : Program) (workers : ℕ) (s v : TheState) (w host : ℕ) (le
   start_is (Pass k p g) e f = absurd (grind arith)
   start_is (Land k p) e f = absurd (grind arith)
   start_is (Commit t) e f = absurd (grind arith)
+
+path_of_stop : (a : Act) (t : ℕ) (p : Path) → act_of a ≡ theory.Stop t p → path_of a ≡ p
+path_of_stop (Stop u q) t p e = cc
+path_of_stop (Start u q) t p e = cc
+path_of_stop (Admit u) t p e = cc
+path_of_stop (Queue k q) t p e = cc
+path_of_stop (Grant u q) t p e = cc
+path_of_stop (Visit k q) t p e = cc
+path_of_stop (Free k q) t p e = cc
+path_of_stop (Pass k q g) t p e = cc
+path_of_stop (Land k q) t p e = cc
+path_of_stop (Commit u) t p e = cc
+
+-- the Stop of a lease is done to the lease's context
+pub stop_path : (lease : Lease) (l : Label) → label_of l ≡ stop_of lease l.host.0 → path_of l.act ≡ lease.path
+stop_path lease l e = path_of_stop l.act lease.ticket.0 lease.path (ap (λ (x : theory.Label). x.act) e)

@@ -41,7 +41,7 @@ unfolding run
 at_start p start = refl
 
 -- a new one
-pub opens : (b : Board) (p : declared.Plan) (start : Start) → b.machine.kept.plan ≡ plan_of p → b.journal.items ≡ [] → b.word ≡ None
+pub opens : (b : Board) (p : declared.Plan) (start : Start) → b.machine.kept.plan ≡ plan_of p → b.journal.labels ≡ [] → b.word ≡ None
     → Stands b.machine.kept start (start_state (begin_in (plan_of p) start) p.script.batches)
     → (o : Origin) → o.plan.now ≡ p → o.start.now ≡ start → StandsFor b o
 opens b p start plan empty unset h o same begins = (
@@ -52,7 +52,7 @@ opens b p start plan empty unset h o same begins = (
     begins = subst (FitsStart b.machine.kept.plan) (sym begins) h.begins;
     reached = subst (λ x. IsReached b.machine.kept.plan x (labels_of b) (start_state (begin_in (plan_of p) start) p.script.batches)) (sym begins) from_start;
     shows = h.shows;
-    word = subst (λ w. WordStands w (length b.journal.items)) (sym unset) tt;
+    word = subst (λ w. WordStands w (length b.journal.labels)) (sym unset) tt;
   },
 )
   where
@@ -71,7 +71,7 @@ history_on (Some x) ts t h =
     ∙ ap (λ z. take x.place ts ++ Halt x.worker x.why ∷ z) (drop-append-le x.place ts (t ∷ []) h.place)
     ∙ sym (append_assoc (take x.place ts) (Halt x.worker x.why ∷ drop x.place ts) (t ∷ []))
 
-module _ (b b' : Board) (journal : b'.journal.items ≡ b.journal.items) (plan : b'.machine.kept.plan ≡ b.machine.kept.plan) (word : WordStands b.word (length b.journal.items) → WordStands b'.word (length b.journal.items)) where
+module _ (b b' : Board) (journal : b'.journal.labels ≡ b.journal.labels) (plan : b'.machine.kept.plan ≡ b.machine.kept.plan) (word : WordStands b.word (length b.journal.labels) → WordStands b'.word (length b.journal.labels)) where
   -- nothing was taken
   pub still : Keeps b.machine.kept b'.machine.kept → StandsStill b b'
   still keeps o at =
@@ -87,19 +87,19 @@ module _ (b b' : Board) (journal : b'.journal.items ≡ b.journal.items) (plan :
         },
       )
 
-module _ (b b' : Board) (l : Label) (journal : b'.journal.items ≡ b.journal.items ++ l ∷ []) (word : b'.word ≡ b.word) (plan : b'.machine.kept.plan ≡ b.machine.kept.plan) where
+module _ (b b' : Board) (l : Label) (journal : b'.journal.labels ≡ b.journal.labels ++ l ∷ []) (word : b'.word ≡ b.word) (plan : b'.machine.kept.plan ≡ b.machine.kept.plan) where
   labels : labels_of b' ≡ labels_of b ++ label_of l ∷ []
-  labels = ap (map label_of) journal ∙ map-append label_of b.journal.items (l ∷ [])
+  labels = ap (map label_of) journal ∙ map-append label_of b.journal.labels (l ∷ [])
 
-  longer : length b.journal.items ≤ length b'.journal.items
-  longer = (let e : length b'.journal.items ≡ length b.journal.items + 1 = ap length journal ∙ length-append b.journal.items (l ∷ []) in omega (arith, e))
+  longer : length b.journal.labels ≤ length b'.journal.labels
+  longer = (let e : length b'.journal.labels ≡ length b.journal.labels + 1 = ap length journal ∙ length-append b.journal.labels (l ∷ []) in omega (arith, e))
 
-  pub history_more : WordStands b.word (length b.journal.items) → history_of b' ≡ history_of b ++ Step l ∷ []
+  pub history_more : WordStands b.word (length b.journal.labels) → history_of b' ≡ history_of b ++ Step l ∷ []
   history_more h =
-      ap (λ w. with_halt w (map Step b'.journal.items)) word
+      ap (λ w. with_halt w (map Step b'.journal.labels)) word
       ∙ ap (λ js. with_halt b.word (map Step js)) journal
-      ∙ ap (with_halt b.word) (map-append Step b.journal.items (l ∷ []))
-      ∙ history_on b.word (map Step b.journal.items) (Step l) (subst (WordStands b.word) (sym (length-map b.journal.items Step)) h)
+      ∙ ap (with_halt b.word) (map-append Step b.journal.labels (l ∷ []))
+      ∙ history_on b.word (map Step b.journal.labels) (Step l) (subst (WordStands b.word) (sym (length-map b.journal.labels Step)) h)
 
   -- the label leads there
   leads : (o : Origin) (s s' : TheState) → IsAt b o s → step (plan_actors b.machine.kept.plan.program) b.machine.kept.plan.workers s (label_of l) ≡ Some s' → IsReached b'.machine.kept.plan o.start.now (labels_of b') s'
@@ -118,7 +118,7 @@ module _ (b b' : Board) (l : Label) (journal : b'.journal.items ≡ b.journal.it
       begins = subst (λ p. FitsStart p o.start.now) (sym plan) h.begins;
       reached = leads o s s' h e;
       shows = after.shows;
-      word = subst (λ w. WordStands w (length b'.journal.items)) (sym word) (word_on b.word (length b.journal.items) (length b'.journal.items) longer h.word);
+      word = subst (λ w. WordStands w (length b'.journal.labels)) (sym word) (word_on b.word (length b.journal.labels) (length b'.journal.labels) longer h.word);
     },
   )
 

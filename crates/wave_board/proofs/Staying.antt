@@ -50,7 +50,7 @@ labels_kept (Some x) ts =
 
 -- the labels of the history are those of the journal
 pub labels_are : (b : Board) → labels_in (history_of b) ≡ labels_of b
-labels_are b = labels_kept b.word (map Step b.journal.items) ∙ labels_of_steps b.journal.items
+labels_are b = labels_kept b.word (map Step b.journal.labels) ∙ labels_of_steps b.journal.labels
 
 module _ {A F R J : Type 0} (sys : Actors A F R J) (workers : ℕ) where
   -- what follows a run goes on from where it led

@@ -24,7 +24,7 @@ with_halt (Some x) steps = take x.place steps ++ Halt x.worker x.why ∷ drop x.
 
 -- the journal, with the Halt where the stop word is set
 abbrev pub history_of : Board → List Trail
-history_of b = with_halt b.word (map Step b.journal.items)
+history_of b = with_halt b.word (map Step b.journal.labels)
 
 -- the labels among these entries, as the theory has them
 abbrev pub labels_in : List Trail → List Label
@@ -34,7 +34,7 @@ labels_in (Halt worker why ∷ ts) = labels_in ts
 
 -- the labels of the journal, which are those of the history
 abbrev pub labels_of : Board → List Label
-labels_of b = map label_of b.journal.items
+labels_of b = map label_of b.journal.labels
 
 -- A stop word's place is in a journal of so many labels, or at its end. It is worker 0 that could not write: no other writes.
 pub record IsWord (x : StopWord) (n : ℕ) : Type 0 where
@@ -54,7 +54,7 @@ pub record IsAt (b : Board) (o : Origin) (s : TheState) : Type 0 where
   pub begins : FitsStart b.machine.kept.plan o.start.now
   pub reached : IsReached b.machine.kept.plan o.start.now (labels_of b) s
   pub shows : Shows b.machine.kept s
-  pub word : WordStands b.word (length b.journal.items)
+  pub word : WordStands b.word (length b.journal.labels)
 
 -- what the board stands for
 abbrev pub StandsFor : Board → Origin → Type 0

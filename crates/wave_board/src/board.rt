@@ -12,9 +12,9 @@ use crate::crew::Crew;
 use crate::origin::Origin;
 use crate::trail::{StopCause, Trail};
 use kept_lock::Kept;
+use label_log::Recorder;
 use std::alloc::Global;
 use wave_base::{OutOfMemory, Start, Worker};
-use wave_labels::Label;
 use wave_machine::{Machine, Plan};
 
 /// Who stopped the workers, why, and after how many labels of the journal.
@@ -31,9 +31,8 @@ pub struct StopWord {
 /// A machine with its journal. Its history is the journal, with the Halt where the workers were stopped.
 #[derive(Drop)]
 pub struct Board<'p> {
-    pub(crate) alloc: Global,
     pub(crate) machine: Machine<'p>,
-    pub(crate) journal: Vec<Label>,
+    pub(crate) journal: Recorder,
     pub(crate) word: Option<StopWord>,
     // What its workers left for each other.
     pub(crate) crew: Crew,
@@ -62,9 +61,8 @@ impl<'p> Board<'p> {
     {
         let machine = Machine::new(alloc, plan)?;
         Ok(Board {
-            alloc,
             machine,
-            journal: Vec::new(alloc),
+            journal: Recorder::new(alloc),
             word: None,
             crew: Crew::nobody(true),
         })
@@ -79,9 +77,8 @@ impl<'p> Board<'p> {
     {
         let machine = Machine::new_at(alloc, plan, start)?;
         Ok(Board {
-            alloc,
             machine,
-            journal: Vec::new(alloc),
+            journal: Recorder::new(alloc),
             word: None,
             crew: Crew::nobody(true),
         })

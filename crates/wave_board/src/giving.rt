@@ -5,7 +5,7 @@ ghost use Rattle.wave_board.specs.Boards.{StandsStill, history_of};
 ghost use Rattle.wave_board.specs.Giving.{CanGive, Gives, IsGiven};
 
 use crate::board::Board;
-use wave_base::{OutOfMemory, Pause};
+use wave_base::Pause;
 use wave_machine::{Lease, Refused};
 
 impl<'p> Board<'p> {
@@ -19,16 +19,16 @@ impl<'p> Board<'p> {
         ensures still { OnErr result (StandsStill self.old self.new) }
         ensures same { OnErr result (history_of self.new ≡ history_of self.old) }
     {
-        if let Err(refused) = self.journal.reserve(1) {
+        if let Err(error) = self.journal.reserve(&lease.path) {
             return Err(Refused {
                 lease,
                 pause,
-                error: OutOfMemory::from(refused),
+                error,
             });
         }
         match self.machine.stop(lease, pause) {
             Ok(label) => {
-                self.journal.push_reserved(label);
+                self.journal.push_reserved(&label);
                 Ok(())
             }
             Err(refused) => Err(refused),

@@ -9,7 +9,8 @@ ghost use Rattle.wave_board.specs.inner.Doing.{Appends, CanAppend, Chooses};
 use crate::board::Board;
 use crate::known::{idle_hands_are_empty, lists_are_known};
 use crate::work::Work;
-use wave_base::{Copied, OutOfMemory, Worker};
+use label_log::path_of;
+use wave_base::{OutOfMemory, Worker};
 use wave_labels::{Act, Label};
 
 impl<'p> Board<'p> {
@@ -64,16 +65,15 @@ impl<'p> Board<'p> {
         ensures took { IfOk result (λ work. Appends self.old label self.new work) }
         ensures same { OnErr result (history_of self.new ≡ history_of self.old) }
     {
-        let written = label.copied(self.alloc)?;
-        self.journal.reserve(1)?;
+        self.journal.reserve(&path_of(&label.act))?;
         self.machine.reserve(&label)?;
         if is_start(&label.act) {
             let lease = self.machine.start(&label);
-            self.journal.push_reserved(written);
+            self.journal.push_reserved(&label);
             return Ok(Work::Segment(lease));
         }
         self.machine.step(&label);
-        self.journal.push_reserved(written);
+        self.journal.push_reserved(&label);
         Ok(Work::Stepped(label))
     }
 }

@@ -11,12 +11,12 @@ ghost use Rattle.wave_board.specs.Taking.{IsFinished};
 ghost use Rattle.board_runs.specs.inner.Ready.{IsReady};
 
 use super::turns::{first_of, give_back, opened, plan_for};
+use label_log::LabelLog;
 use std::alloc::Global;
 use std::process::Abort;
 use std::test::Fail;
-use wave_base::{Finished, OutOfMemory, Seq, Start, Worker};
+use wave_base::{Finished, OutOfMemory, Start, Worker};
 use wave_board::{Board, Work};
-use wave_labels::Label;
 use wave_machine::Plan;
 
 // The one worker takes something, and gives back a segment that it got.
@@ -73,7 +73,7 @@ pub(super) fn ended(
     rt: &impl Abort,
     plan: &Plan,
     board: Board,
-) -> Result<(Finished, Seq<Label>), OutOfMemory>
+) -> Result<(Finished, LabelLog), OutOfMemory>
     requires { IsReady plan.now board }
 {
     let mut board = board;
@@ -86,7 +86,7 @@ pub(super) fn ended(
     }
 }
 
-fn parts(board: Board) -> Result<(Finished, Seq<Label>), OutOfMemory>
+fn parts(board: Board) -> Result<(Finished, LabelLog), OutOfMemory>
     requires { (o : Origin) × (s : TheState) × IsAt board o s × IsFinished board s }
 {
     match board.into_parts() {
@@ -117,7 +117,7 @@ fn finished(
     alloc: Global,
     plan: &Plan,
     start: &Start,
-) -> Result<(Finished, Seq<Label>), OutOfMemory>
+) -> Result<(Finished, LabelLog), OutOfMemory>
     requires fits { Fits (plan_of plan.now) }
     requires first { start.now ≡ first_start plan.now.program.shape }
 {

@@ -8,13 +8,13 @@ ghost use Rattle.board_runs.specs.inner.Ready.{IsOut, IsReady};
 
 use super::ends::ended;
 use super::turns::{find_nothing, first_of, give_back, opened, plan_for, take_segment, take_step};
+use label_log::LabelLog;
 use std::alloc::Global;
 use std::process::Abort;
 use std::test::Fail;
 use tests_services::TICK;
-use wave_base::{OutOfMemory, Seq, Start, Worker};
+use wave_base::{OutOfMemory, Start, Worker};
 use wave_board::Board;
-use wave_labels::Label;
 use wave_machine::{Lease, Plan};
 
 // The first worker takes the one event as far as its segment.
@@ -54,7 +54,7 @@ fn shared(
     alloc: Global,
     plan: &Plan,
     start: &Start,
-) -> Result<Seq<Label>, OutOfMemory>
+) -> Result<LabelLog, OutOfMemory>
     requires fits { Fits (plan_of plan.now) }
     requires first { start.now ≡ first_start plan.now.program.shape }
 {

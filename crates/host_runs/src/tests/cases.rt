@@ -4,14 +4,14 @@ ghost use Rattle.plan_actors.specs.Plans.{Fits};
 ghost use Rattle.wave_machine.specs.Plans.{plan_of};
 
 use host_workers::{RunError, run_plan};
+use label_log::LabelLog;
 use std::alloc::Global;
 use std::process::Abort;
 use std::sync::Wait;
 use std::thread::Threads;
 use tests_machine::Case;
-use wave_base::{Finished, Seq};
+use wave_base::Finished;
 use wave_io::{Gate, Sink};
-use wave_labels::Label;
 use wave_machine::Plan;
 
 // The plan of a case, which is right.
@@ -47,7 +47,7 @@ pub(super) fn told<R: Threads + Wait + Sync, G: Gate + Sync, K: Sink + Send>(
     plan: &Plan,
     gate: &G,
     sink: &mut K,
-) -> Result<(Finished, Seq<Label>), RunError>
+) -> Result<(Finished, LabelLog), RunError>
     requires { Fits (plan_of plan.now) }
 {
     run_plan(rt, alloc, plan, gate, sink)

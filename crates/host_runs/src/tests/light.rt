@@ -1,6 +1,7 @@
 //! Events that are light for sure are done by one worker.
 
 use super::cases::{plan_for, told};
+use label_log::LabelLog;
 use std::alloc::Global;
 use std::process::Abort;
 use std::sync::Wait;
@@ -10,7 +11,6 @@ use tests_machine::Case;
 use tests_services::MARKET;
 use wave_base::{OutOfMemory, Seq, Worker};
 use wave_io::{MemSink, OpenGate};
-use wave_labels::Label;
 
 // More tickets than lines are written at once.
 fn sales(alloc: Global) -> Result<String, OutOfMemory> {
@@ -22,10 +22,10 @@ fn sales(alloc: Global) -> Result<String, OutOfMemory> {
 }
 
 // How many labels another worker than the first took.
-fn by_others(journal: &Seq<Label>) -> usize {
+fn by_others(journal: &LabelLog) -> usize {
     let mut others = 0usize;
-    for label in journal.as_slice() {
-        if label.worker != Worker(0) {
+    for i in 0..journal.len() {
+        if journal.label_at(i).worker != Worker(0) {
             others = others.saturating_add(1);
         }
     }

@@ -5,6 +5,6 @@ use Rattle.eventwave.proofs.pouring.write_journal.Given as goal
 
 abbrev pub invariant-loop-i : goal.invariant-loop-i
 invariant-loop-i g l = record {
-  taken : IsTaken [] l.held (g.K.Sink.written l.fn.out) (g.K.Sink.written l.out) (labels_text l.shape (l.i + 1) (drop l.i l.labels)) (journal_text l.shape l.labels);
+  taken : IsTaken [] l.held (g.K.Sink.written l.fn.out) (g.K.Sink.written l.out) (labels_text l.shape (l.i + 1) (drop l.i l.journal)) (journal_text l.shape l.journal);
   later : g.K.Sink.faults l.fn.out ≤ g.K.Sink.faults l.out;
 }

@@ -1,4 +1,4 @@
-use Rattle.std.proofs.Common.{◌≡◌, ◌∙◌, ◌∷◌, ◌++◌, [], true, refl, ap, ap₂, sym}
+use Rattle.std.proofs.Common.{◌≡◌, ◌∙◌, ◌∷◌, ◌++◌, [], true, refl, ap, sym}
 use Rattle.wave_base.specs.declared.numbers.Worker.{Worker}
 use Rattle.wave_labels.specs.Labels.{label_of}
 use Rattle.wave_machine.specs.Prepared.{is_start}
@@ -12,12 +12,12 @@ reserve-requires-2 c = enabled_in c.args.self.now c.args.label c.requires.can
 pub returns-in_err-reserve-clause-stands : goal.returns-in_err-reserve-clause-stands
 returns-in_err-reserve-clause-stands c =
     let after : Board = record c.args.self.now { journal = c.reserve.new.self } in
-    still c.args.self.now after c.reserve.ensures.items refl (λ h. h) (λ start s stands. stands)
+    still c.args.self.now after c.reserve.ensures.labels refl (λ h. h) (λ start s stands. stands)
 
 pub returns-in_err-reserve-2-clause-stands : goal.returns-in_err-reserve-2-clause-stands
 returns-in_err-reserve-2-clause-stands c =
     let after : Board = record c.args.self.now { machine = c.reserve-2.new.self; journal = c.reserve.new.self } in
-    still c.args.self.now after c.reserve.ensures.items c.reserve-2.ensures.plan (λ h. h) c.reserve-2.ensures.keeps
+    still c.args.self.now after c.reserve.ensures.labels c.reserve-2.ensures.plan (λ h. h) c.reserve-2.ensures.keeps
 
 pub start-lease-requires-clause-enabled : goal.start-lease-requires-clause-enabled
 start-lease-requires-clause-enabled c =
@@ -31,7 +31,7 @@ pub returns-then-is_start-clause-stands : goal.returns-then-is_start-clause-stan
 returns-then-is_start-clause-stands c =
     let b = c.args.self.now in
     let after : Board = record b { machine = c.start-lease.new.self; journal = c.push_reserved.new.self } in
-    taken b after c.args.label (c.push_reserved.ensures.items ∙ ap₂ (λ xs l. xs ++ l ∷ []) c.reserve.ensures.items c.in_ok-written.ensures) refl (c.start-lease.ensures.plan ∙ c.reserve-2.ensures.plan) c.requires.can.enabled
+    taken b after c.args.label (c.push_reserved.ensures ∙ ap (λ xs. xs ++ c.args.label ∷ []) c.reserve.ensures.labels) refl (c.start-lease.ensures.plan ∙ c.reserve-2.ensures.plan) c.requires.can.enabled
     (takes_still b.machine.kept c.reserve-2.new.self.kept c.reserve-2.ensures.keeps c.reserve-2.ensures.plan c.start-lease.new.self.kept (label_of c.args.label) c.start-lease.ensures.takes)
 
 pub returns-then-is_start-clause-took : goal.returns-then-is_start-clause-took
@@ -39,7 +39,7 @@ returns-then-is_start-clause-took c =
     let b = c.args.self.now in
     let lease = c.start-lease.result in
     let after : Board = record b { machine = c.start-lease.new.self; journal = c.push_reserved.new.self } in
-    let items = c.push_reserved.ensures.items ∙ ap₂ (λ xs l. xs ++ l ∷ []) c.reserve.ensures.items c.in_ok-written.ensures in
+    let items = c.push_reserved.ensures ∙ ap (λ xs. xs ++ c.args.label ∷ []) c.reserve.ensures.labels in
     let plan = c.start-lease.ensures.plan ∙ c.reserve-2.ensures.plan in
     let kind : is_start c.args.label.act ≡ true = sym c.if-is_start.ensures in
     let leases = leases_still b.machine.kept c.reserve-2.new.self.kept c.reserve-2.ensures.keeps c.reserve-2.ensures.plan (label_of c.args.label) lease c.start-lease.ensures.leases in (
@@ -59,14 +59,14 @@ pub returns-clause-stands : goal.returns-clause-stands
 returns-clause-stands c =
     let b = c.args.self.now in
     let after : Board = record b { machine = c.step.new.self; journal = c.push_reserved-2.new.self } in
-    taken b after c.args.label (c.push_reserved-2.ensures.items ∙ ap₂ (λ xs l. xs ++ l ∷ []) c.reserve.ensures.items c.in_ok-written.ensures) refl (c.step.ensures.plan ∙ c.reserve-2.ensures.plan) c.requires.can.enabled
+    taken b after c.args.label (c.push_reserved-2.ensures ∙ ap (λ xs. xs ++ c.args.label ∷ []) c.reserve.ensures.labels) refl (c.step.ensures.plan ∙ c.reserve-2.ensures.plan) c.requires.can.enabled
     (takes_still b.machine.kept c.reserve-2.new.self.kept c.reserve-2.ensures.keeps c.reserve-2.ensures.plan c.step.new.self.kept (label_of c.args.label) c.step.ensures.takes)
 
 pub returns-clause-took : goal.returns-clause-took
 returns-clause-took c =
     let b = c.args.self.now in
     let after : Board = record b { machine = c.step.new.self; journal = c.push_reserved-2.new.self } in
-    let items = c.push_reserved-2.ensures.items ∙ ap₂ (λ xs l. xs ++ l ∷ []) c.reserve.ensures.items c.in_ok-written.ensures in (
+    let items = c.push_reserved-2.ensures ∙ ap (λ xs. xs ++ c.args.label ∷ []) c.reserve.ensures.labels in (
       record {
         goes_on = c.requires.can.goes_on;
         history = history_more b after c.args.label items refl (c.step.ensures.plan ∙ c.reserve-2.ensures.plan) c.requires.can.standing.at.word;
