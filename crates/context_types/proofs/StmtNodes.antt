@@ -16,10 +16,9 @@ use Rattle.resolved_service.specs.declared.stmt.Stmt as made
 use Rattle.resolved_service.specs.declared.stmt.Action as effect
 use Rattle.resolved_service.specs.declared.stmt.Action.TheVariants as done
 use Rattle.resolved_service.specs.Steps as r
-use Rattle.resolved_service.specs.Steps.{Step, action_step, row_steps, step_of, steps_of, steps_in}
+use Rattle.resolved_service.specs.Steps.{Step, action_step, row_steps, step_of, steps_of, steps_in, else_in}
 use Rattle.resolved_service.specs.View.{tree_of}
 use Rattle.type_rules.specs.Stmts.{start_of}
-use Rattle.context_types.specs.inner.Places.{else_in}
 
 -- ---- the syntax tree
 

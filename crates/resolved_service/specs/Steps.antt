@@ -1,5 +1,6 @@
 -- Resolved statements as contracts see them: no pointers.
-use Rattle.std.specs.Prelude.{ℕ, Bool, true, false, ◌&&◌, List, [], ◌∷◌, map, Option}
+use Rattle.std.specs.Prelude.{ℕ, Bool, true, false, ◌&&◌, List, [], ◌∷◌, map, Option, Some, None, Vec}
+use Rattle.std.specs.Global.{Global}
 use Rattle.std.specs.Option.{option_map}
 use Rattle.wave_base.specs.declared.span.Span.{Span}
 use Rattle.resolved_service.specs.View.{Tree, Trees, tree_of, trees_of}
@@ -68,6 +69,11 @@ steps_of (s ∷ ss) = step s (steps_of ss)
 
 abbrev pub steps_in : List Stmt → Steps
 steps_in stmts = steps_of (map step_of stmts)
+
+-- what stands behind `else`, if anything
+abbrev pub else_in : Option (Vec Stmt Global) → Else
+else_in None = no_else
+else_in (Some stmts) = otherwise (steps_in stmts.items)
 
 -- ---- whether nothing can come behind
 

@@ -1,9 +1,9 @@
 -- Where the walk stands, as the rules see it; and what it makes of an expression.
-use Rattle.std.specs.Prelude.{◌≡◌, List, Option, Some, None, Vec}
+use Rattle.std.specs.Prelude.{◌≡◌, List, Option, Some, Vec}
 use Rattle.std.specs.Global.{Global}
 use Rattle.wave_base.specs.declared.value.Kind.{Kind}
 use Rattle.resolved_service.specs.declared.stmt.Stmt.{Stmt}
-use Rattle.resolved_service.specs.Steps.{Step, Steps, Else, no_else, otherwise, step_of, steps_in}
+use Rattle.resolved_service.specs.Steps.{Step, Steps, Else, step_of, steps_in, else_in}
 use Rattle.resolved_service.specs.View.{Tree, tree_of}
 use Rattle.type_rules.specs.Here as rules
 use Rattle.context_types.specs.declared.here.Here.{Here}
@@ -38,10 +38,6 @@ pub record IsStep (behind : rules.Here) (resolved : Step) (place : Here) (made :
 pub record AreSteps (behind : rules.Here) (resolved : Steps) (place : Here) (made : List Stmt) : Type 0 where
   pub here : behind ≡ here_of place
   pub steps : resolved ≡ steps_in made
-
-abbrev pub else_in : Option (Vec Stmt Global) → Else
-else_in None = no_else
-else_in (Some made) = otherwise (steps_in made.items)
 
 -- the same for what stands behind `else`, if anything
 pub record IsOther (behind : rules.Here) (resolved : Else) (place : Here) (made : Option (Vec Stmt Global)) : Type 0 where

@@ -5,7 +5,7 @@ use Rattle.mace_ast.specs.Exprs.{expr_tree}
 use Rattle.mace_ast.specs.Stmts as s
 use Rattle.mace_ast.specs.Stmts.{stmt_tree, stmts_of, action_tree, else_of}
 use Rattle.resolved_service.specs.Steps as r
-use Rattle.resolved_service.specs.Steps.{step_of, steps_of, steps_in, is_end}
+use Rattle.resolved_service.specs.Steps.{step_of, steps_of, steps_in, else_in, is_end}
 use Rattle.resolved_service.specs.View.{tree_of}
 use Rattle.std.specs.Option.{option_map}
 use Rattle.type_rules.specs.declared.error.TypeError.TheVariants.{Unreachable}
@@ -13,7 +13,7 @@ use Rattle.type_rules.specs.Demands.{ask, first_wrong, Fails}
 use Rattle.type_rules.specs.Here.{behind}
 use Rattle.type_rules.specs.Stmts.{start_of, stmt_demands, stmts_demands}
 use Rattle.type_rules.proofs.First.{told_past, fails_at, fails_past, fails_same}
-use Rattle.context_types.specs.inner.Places.{here_of, else_in}
+use Rattle.context_types.specs.inner.Places.{here_of}
 use Rattle.context_types.proofs.Exits.{exit}
 use Rattle.context_types.proofs.Lists.{next_stmt, stmt_asks, stmt_made, stmts_walk, stmts_ends, stmts_made}
 use Rattle.context_types.proofs.Scopes.{cut_block, cut_loop, behind_is}
