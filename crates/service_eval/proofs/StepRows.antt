@@ -6,9 +6,8 @@ use Rattle.resolved_service.specs.declared.stmt.Stmt.{Stmt}
 use Rattle.resolved_service.specs.declared.stmt.Action.TheVariants as action
 use Rattle.resolved_service.specs.declared.stmt.Action.{Row_of-Stmt, end_of-Stmt, more_of-Stmt, items-the_row-Stmt, the_lemmas}
 use Rattle.resolved_service.specs.Steps as s
-use Rattle.resolved_service.specs.Steps.{Steps, step, action_step, row_steps, steps_in, no_else, otherwise}
+use Rattle.resolved_service.specs.Steps.{step, action_step, row_steps, steps_in, else_in}
 use Rattle.resolved_service.specs.View.{tree_of, trees_of}
-use Rattle.service_eval.specs.inner.Items.{else_in}
 
 pub row_steps-items : (n : _) (k : Row_of-Stmt n) → row_steps k ≡ steps_in (items-the_row-Stmt n k)
 row_steps-items _ end_of-Stmt = refl

@@ -2,8 +2,8 @@
 
 ghost use Rattle.std.specs.Prelude.{◌≡◌, [], ◌∷◌, IfOk, IfErr, IsNone, IfSome};
 ghost use Rattle.resolved_service.specs.Fits.{FitsSteps};
-ghost use Rattle.resolved_service.specs.Steps.{step, step_of, steps_in};
-ghost use Rattle.service_eval.specs.inner.Items.{else_steps, else_in};
+ghost use Rattle.resolved_service.specs.Steps.{step, step_of, steps_in, else_in};
+ghost use Rattle.service_eval.specs.inner.Items.{else_steps};
 ghost use Rattle.service_eval.specs.inner.Ready.{Ready};
 ghost use Rattle.service_eval.specs.inner.Ahead.{Advances, AdvancesBy, StopsIn, Chooses};
 ghost use Rattle.service_eval.specs.inner.Turns.{mach};

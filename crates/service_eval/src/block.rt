@@ -5,7 +5,7 @@ ghost use Rattle.std.specs.Option.{option_map};
 ghost use Rattle.resolved_service.specs.Steps.{For, Return, Finish, step, step_of, steps_in};
 ghost use Rattle.resolved_service.specs.View.{tree_of};
 ghost use Rattle.service_eval.specs.inner.Changes.{IsOther};
-ghost use Rattle.service_eval.specs.inner.Items.{end_of, else_steps, else_in};
+ghost use Rattle.service_eval.specs.inner.Items.{end_of};
 ghost use Rattle.service_eval.specs.inner.Items as i;
 ghost use Rattle.service_eval.specs.inner.Turns.{IsNext, Goes, AreNext, GoOn};
 

@@ -1,9 +1,7 @@
 -- What is still to be done, item by item, as contracts see it: no pointers.
-use Rattle.std.specs.Prelude.{ℕ, Bool, true, false, List, [], ◌∷◌, map, Option, Some, None, Vec}
-use Rattle.std.specs.Global.{Global}
+use Rattle.std.specs.Prelude.{ℕ, Bool, true, false, List, [], ◌∷◌, map}
 use Rattle.wave_base.specs.declared.span.Span.{Span}
 use Rattle.wave_base.specs.declared.value.Value.{Value}
-use Rattle.resolved_service.specs.declared.stmt.Stmt.{Stmt}
 use Rattle.resolved_service.specs.Steps.{Step, Steps, no_steps, Else, no_else, otherwise, steps_in}
 use Rattle.resolved_service.specs.View.{Tree, Trees, tree_of, trees_of}
 use Rattle.service_eval.specs.declared.work.Caller.{Caller}
@@ -91,10 +89,6 @@ item_of (work.Return caller) = return_of caller
 abbrev pub else_steps : Else → Steps
 else_steps no_else = no_steps
 else_steps (otherwise ss) = ss
-
-abbrev pub else_in : Option (Vec Stmt Global) → Else
-else_in None = no_else
-else_in (Some v) = otherwise (steps_in v.items)
 
 -- what is left behind a method that ends early: its return, and all that follows
 abbrev pub to_return : List Item → List Item

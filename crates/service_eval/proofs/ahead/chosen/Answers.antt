@@ -1,9 +1,8 @@
 use Rattle.std.proofs.Common.{sym, ap, subst, ◌∙◌}
 use Rattle.wave_base.specs.declared.limits.TheConstants.{TICKS}
 use Rattle.resolved_service.specs.Meaning.{effect, called}
-use Rattle.resolved_service.specs.Steps.{Step, If, action_step, steps_in}
+use Rattle.resolved_service.specs.Steps.{Step, If, action_step, steps_in, else_in}
 use Rattle.resolved_service.specs.View.{tree_of}
-use Rattle.service_eval.specs.inner.Items.{else_in}
 use Rattle.service_eval.specs.inner.Turns.{mach}
 use Rattle.service_eval.specs.inner.Traces.{Traps}
 use Rattle.service_eval.specs.inner.Ahead.{Stands}
