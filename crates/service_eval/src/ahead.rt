@@ -32,7 +32,7 @@ pub fn as_far<'s>(
 {
     let mut rest = stmts;
     'statements: loop {
-        match first_of(rest) {
+        match rest.split_first() {
             None => return Ok(rest),
             Some((first, others)) => match one_ahead(code, contexts, m, first, others) {
                 Ok(Some(next)) => rest = next,
@@ -64,7 +64,7 @@ fn one_ahead<'s>(
         }
         Err(e) => return Err(e),
     }
-    match first_of(others) {
+    match others.split_first() {
         None => chosen(code, contexts, m, first),
         Some(_) => Ok(None),
     }
@@ -92,17 +92,6 @@ fn chosen<'c>(
             Err(e) => Err(e),
         },
         _ => Ok(None),
-    }
-}
-
-/// The first of some statements, and the others.
-pub fn first_of(stmts: &[Stmt]) -> Option<(&Stmt, &[Stmt])>
-    ensures none { IsNone result → stmts.now ≡ [] }
-    ensures some { IfSome result (λ parts. stmts.now ≡ parts.0.now ∷ parts.1.now) }
-{
-    match stmts {
-        [] => None,
-        [first, others @ ..] => Some((first, others)),
     }
 }
 

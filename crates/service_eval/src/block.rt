@@ -9,7 +9,7 @@ ghost use Rattle.service_eval.specs.inner.Items.{end_of};
 ghost use Rattle.service_eval.specs.inner.Items as i;
 ghost use Rattle.service_eval.specs.inner.Turns.{IsNext, Goes, AreNext, GoOn};
 
-use crate::ahead::{as_far, else_of, first_of};
+use crate::ahead::{as_far, else_of};
 use crate::assignments::{assignment_in, begin_assignment};
 use crate::calls::give_back;
 use crate::code::Code;
@@ -48,7 +48,7 @@ pub fn begin_rest<'s>(
     requires { IsNext code contexts.old m.old (i.Block (steps_in rest.now)) }
     ensures { Goes code.entry contexts.old m.old (i.Block (steps_in rest.now)) result contexts.new m.new }
 {
-    match first_of(rest) {
+    match rest.split_first() {
         None => Ok(()),
         Some((first, others)) => begin_first(code, contexts, m, first, others),
     }
@@ -65,7 +65,7 @@ fn begin_first<'s>(
     requires { IsNext code contexts.old m.old (i.Block (step (step_of first.now) (steps_in others.now))) }
     ensures { Goes code.entry contexts.old m.old (i.Block (step (step_of first.now) (steps_in others.now))) result contexts.new m.new }
 {
-    match first_of(others) {
+    match others.split_first() {
         None => begin(code, contexts, m, first),
         Some(_) => match m.push(Work::Block(others)) {
             Ok(()) => begin(code, contexts, m, first),

@@ -177,19 +177,9 @@ pub fn evals<'s>(
     requires { IsNext code contexts.now m.old (i.Evals (trees_of (map tree_of es.now))) }
     ensures { Goes code.entry contexts.now m.old (i.Evals (trees_of (map tree_of es.now))) result contexts.now m.new }
 {
-    match first_of(es) {
+    match es.split_first() {
         None => Ok(()),
         Some((first, others)) => m.push_two(Work::Eval(first), Work::Evals(others)),
-    }
-}
-
-fn first_of(es: &[Expr]) -> Option<(&Expr, &[Expr])>
-    ensures none { IsNone result → es.now ≡ [] }
-    ensures some { IfSome result (λ parts. es.now ≡ parts.0.now ∷ parts.1.now) }
-{
-    match es {
-        [] => None,
-        [first, others @ ..] => Some((first, others)),
     }
 }
 

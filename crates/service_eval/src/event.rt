@@ -231,7 +231,7 @@ fn phases_from<'s>(
     ensures rests { OnOk result (Rests code.entry contexts.new m.new) }
     ensures holds { Holds code.entry.shape.now (shown code.entry.shape.now contexts.new) }
 {
-    match first_of(phases) {
+    match phases.split_first() {
         None => reply(code, contexts, m, last),
         Some((phase, others)) => {
             let key = match value_of(code, contexts, m, &phase.key) {
@@ -248,16 +248,6 @@ fn phases_from<'s>(
             }
             phases_from(code, contexts, m, others, last)
         }
-    }
-}
-
-fn first_of(phases: &[Phase]) -> Option<(&Phase, &[Phase])>
-    ensures none { IsNone result → phases.now ≡ [] }
-    ensures some { IfSome result (λ parts. phases.now ≡ parts.0.now ∷ parts.1.now) }
-{
-    match phases {
-        [] => None,
-        [first, others @ ..] => Some((first, others)),
     }
 }
 

@@ -11,7 +11,7 @@ ghost use Rattle.service_eval.specs.inner.Turns.{IsNext, Goes, AreNext, GoesTo};
 ghost use Rattle.value_ops.specs.Operators.{apply_row};
 ghost use Rattle.wave_base.specs.declared.value.Value.TheVariants.{Int};
 
-use crate::ahead::{as_far, first_of};
+use crate::ahead::as_far;
 use crate::block::begin_rest;
 use crate::code::Code;
 use crate::eval::found;
@@ -152,7 +152,7 @@ fn while_body<'s>(
     ensures { GoesTo code.entry contexts.old m.old (i.Block (steps_in cycle.entry.body.now) ∷ turns_of cycle.entry ∷ []) (turns_of cycle.entry ∷ []) result contexts.new m.new }
 {
     match as_far(code, contexts, m, cycle.body) {
-        Ok(rest) => match first_of(rest) {
+        Ok(rest) => match rest.split_first() {
             None => Ok(true),
             Some(_) => leave_turn(code, contexts, m, rest, Work::Turns(cycle)),
         },
@@ -264,7 +264,7 @@ fn turn_body<'s>(
     ensures { GoesTo code.entry contexts.old m.old (i.Block (steps_in cycle.entry.body.now) ∷ again_of cycle.entry ∷ []) (counts_of cycle.entry ∷ []) result contexts.new m.new }
 {
     match as_far(code, contexts, m, cycle.body) {
-        Ok(rest) => match first_of(rest) {
+        Ok(rest) => match rest.split_first() {
             None => go_on(code, contexts, m, cycle),
             Some(_) => leave_turn(code, contexts, m, rest, Work::Counts(cycle, true)),
         },

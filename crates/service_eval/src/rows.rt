@@ -15,10 +15,10 @@ ghost use Rattle.wave_base.specs.Values.{kind_of};
 use crate::stop::Stop;
 use std::alloc::Global;
 use std::slice;
-use value_ops::rows::{ADD, CUT, DIV, EQ, GE, GT, LE, LT, MAX, MIN, MUL, NE, PUT, REM, STR, SUB};
+use value_ops::rows::{CUT, PUT, STR};
 use value_ops::{
     OpError, Takes, apply, apply_int, apply_ints, apply_texts, compare_flags, part, put_pair,
-    read_map, read_text, sum_up, takes_of,
+    read_map, read_text, sum_up, takes_ints, takes_of,
 };
 use wave_base::{Kind, OPERATORS, Span, TABLE_PAIRS, Table, Trap, TrapKind, Value};
 
@@ -89,7 +89,7 @@ pub fn apply_two(alloc: Global, row: usize, a: &Value, b: &Value, at: Span) -> R
     ensures { Gives (apply_row row (a.now ∷ b.now ∷ [])) at result }
 {
     match (a, b) {
-        (Value::Int(x), Value::Int(y)) if is_ints(row) => trapping(apply_ints(row, *x, *y), at),
+        (Value::Int(x), Value::Int(y)) if takes_ints(row) => trapping(apply_ints(row, *x, *y), at),
         _ => apply_others(alloc, row, a, b, at),
     }
 }
@@ -176,19 +176,6 @@ fn is_full(map: &Table, key: i64) -> bool
     ensures { result ≡ is_full map.now key }
 {
     map.len() >= TABLE_PAIRS && map.get(key).is_none()
-}
-
-// Whether a row takes two ints.
-#[tactic(auto, unfolding(value_ops::specs::Operators::takes_of, value_ops::specs::Operators::operators))]
-fn is_ints(row: usize) -> bool
-    ensures { IsTrue result → takes_of row ≡ Kind.Int ∷ Kind.Int ∷ [] }
-{
-    match row {
-        ADD | SUB | MUL | DIV | REM => true,
-        EQ | NE | LT | LE | GT | GE => true,
-        MIN | MAX => true,
-        _ => false,
-    }
 }
 
 // The answer of an operator at a place.

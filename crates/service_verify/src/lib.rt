@@ -19,6 +19,6 @@ pub use laws::{
     copies_are_kept, events_begin, events_end, instructions_meet_the_rules, kept_fields_are_enough,
     peeking_only_looks, segments_pause,
 };
-pub use links::{Link, takes_ints};
+pub use links::Link;
 pub use stack::Stack;
 pub use verified::{Verified, verify};

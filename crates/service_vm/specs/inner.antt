@@ -1,6 +1,6 @@
 pub mod Acts
 pub mod Aheads
 pub mod Groups
+pub mod Links
 pub mod Stacks
-pub mod Sums
 pub mod Windows

@@ -14,7 +14,6 @@ mod places;
 mod plain;
 mod run;
 mod step;
-mod sum;
 mod values;
 
 pub use event::{EventBox, segment};

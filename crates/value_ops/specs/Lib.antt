@@ -4,4 +4,5 @@ pub mod Meanings
 pub mod Numbers
 pub mod Operators
 pub mod Rows
+pub mod Scalars
 pub mod Takes
