@@ -21,13 +21,14 @@ use Rattle.plan_actors.specs.PlanActors as actors
 use Rattle.plan_actors.specs.PlanActors.{plan_actors}
 use Rattle.plan_actors.specs.Plans.{Plan, begin_in}
 use Rattle.wave_machine.specs.declared.ends.End.{End}
-use Rattle.wave_machine.specs.Always.{Holds}
-use Rattle.wave_machine.specs.Machines.{IsReached, Kept, Stands, TheState}
-use Rattle.wave_machine.specs.Running.{CanStop, IsBack, Stops, stop_of}
+use Rattle.wave_effects.specs.Always.{Holds}
+use Rattle.wave_effects.specs.Machines.{IsReached, Kept, Stands, TheState}
+use Rattle.wave_effects.specs.Running.{CanStop, IsBack, Stops, stop_of}
 use Rattle.wave_machine.specs.inner.Driving.{IsEnd, IsTaking, IsUnder, Leads}
-use Rattle.wave_machine.proofs.Driven.{back_of, others, stopped_by}
-use Rattle.wave_machine.proofs.Placing.{take_next}
-use Rattle.wave_machine.proofs.Taking.{run_more}
+use Rattle.wave_machine.proofs.Driven.{back_of, others}
+use Rattle.wave_effects.proofs.Stopped.{stopped_by}
+use Rattle.wave_effects.proofs.Placing.{take_next}
+use Rattle.wave_effects.proofs.Taking.{run_more}
 use Rattle.journal_replay.specs.declared.walk.Walk.{Walk}
 use Rattle.journal_replay.specs.Replays.{LeadsTo}
 use Rattle.journal_replay.specs.inner.Walks.{IsWalking}

@@ -2,7 +2,7 @@
 
 ghost use Rattle.std.specs.Prelude.{◌<◌, ◌^◌, length, IfErr, IfOk, Ok};
 ghost use Rattle.plan_actors.specs.Plans.{Fits};
-ghost use Rattle.wave_machine.specs.Plans.{plan_of};
+ghost use Rattle.wave_effects.specs.Plans.{plan_of};
 ghost use Rattle.journal_replay.specs.Replays.{IsOnlyOutcome};
 ghost use Rattle.journal_replay.specs.inner.Walks.{StopsIn};
 
@@ -10,8 +10,8 @@ use crate::error::ReplayError;
 use crate::walk::Walk;
 use std::alloc::Global;
 use wave_base::Seq;
+use wave_effects::{Glance, Plan, contexts_have_owners};
 use wave_labels::{Label, labels_tell};
-use wave_machine::{Glance, Plan, contexts_have_owners};
 
 /// A journal that is a run, and what is shown of it.
 #[derive(Debug, Drop)]

@@ -4,15 +4,16 @@ ghost use Rattle.std.specs.Prelude.{◌≡◌, ◌≤◌, ◌<◌, ◌+◌, ◌^
 ghost use Rattle.wave_labels.specs.Labels.{label_of};
 ghost use Rattle.wave_states.specs.Labels.{Stop};
 ghost use Rattle.plan_actors.specs.Plans.{Fits};
-ghost use Rattle.wave_machine.specs.Plans.{plan_of};
-ghost use Rattle.wave_machine.specs.Prepared.{is_start, is_step};
+ghost use Rattle.wave_effects.specs.Plans.{plan_of};
+ghost use Rattle.wave_effects.specs.Acts.{is_start, is_step};
 ghost use Rattle.wave_machine.specs.inner.Driving.{IsTaking, Leads};
 
 use crate::error::ReplayError;
 use std::alloc::Global;
 use wave_base::{Host, OutOfMemory, Path, Ticket, Worker};
+use wave_effects::{Plan, contexts_have_owners, run_lease};
 use wave_labels::{Act, Label};
-use wave_machine::{End, Machine, Plan, contexts_have_owners, run_lease};
+use wave_machine::{End, Machine};
 
 /// A machine, and by worker how the segment ended that it has out: each is run as it begins.
 #[derive(Drop)]

@@ -28,26 +28,27 @@ use Rattle.wave_machine.specs.declared.ends.End.{End}
 use Rattle.std.proofs.lemmas.Bool.Decides.{nat_tests}
 use Rattle.wave_machine.specs.declared.rules.PickRule.{PickRule}
 use Rattle.wave_machine.specs.declared.rules.PickRule.TheVariants as rule
-use Rattle.wave_machine.specs.Kinds.{is_move, kind_of}
+use Rattle.wave_effects.specs.Kinds.{is_move, kind_of}
 use Rattle.wave_machine.specs.Rules.{number_of, rule_of}
 use Rattle.wave_theory.specs.Drives.{Picks, RulesPick}
 use Rattle.wave_theory.specs.Listed.{IsIn}
-use Rattle.wave_machine.specs.declared.lease.Lease.{Lease}
-use Rattle.wave_machine.specs.Actors.{MayRun}
-use Rattle.wave_machine.specs.Leases.{HasRun, StandsFor}
-use Rattle.wave_machine.specs.Prepared.{is_step}
-use Rattle.wave_machine.specs.Machines.{IsEnabled, Keeps, Kept, Stands, Takes, TheState}
+use Rattle.wave_effects.specs.declared.lease.Lease.{Lease}
+use Rattle.wave_effects.specs.Actors.{MayRun}
+use Rattle.wave_effects.specs.Leases.{HasRun, StandsFor}
+use Rattle.wave_effects.specs.Acts.{is_step}
+use Rattle.wave_effects.specs.Machines.{IsEnabled, Keeps, Kept, Stands, Takes, TheState}
 use Rattle.wave_states.specs.Owners.{IsOwner}
 use Rattle.wave_theory.proofs.Frames.{option_some}
-use Rattle.wave_machine.specs.Running.{CanStop, IsBack, IsInHand, Leases, Stops, stop_of}
+use Rattle.wave_effects.specs.Running.{CanStop, IsBack, IsInHand, Leases, Stops, stop_of}
 use Rattle.wave_machine.specs.inner.Drivable.{CanDrive}
 use Rattle.wave_machine.specs.inner.Listable.{CanList}
 use Rattle.wave_machine.specs.inner.Driving.{DrivesTo, IsDriving, first_state, IsEnd, IsTaking, IsUnder, Leads}
-use Rattle.wave_machine.proofs.Depth.{leased_may_run}
-use Rattle.wave_machine.proofs.Halting.{Segments}
-use Rattle.wave_machine.proofs.Headed.{admits, commits}
-use Rattle.wave_machine.proofs.Opening.{Left, left_by, free_found, grant_found, land_found, pass_found, queue_found, visit_found}
-use Rattle.wave_machine.proofs.Parts.{set_same}
+use Rattle.wave_effects.proofs.Depth.{leased_may_run}
+use Rattle.wave_effects.proofs.Halting.{Segments}
+use Rattle.wave_effects.proofs.Headed.{admits, commits}
+use Rattle.wave_effects.proofs.Opening.{Left, left_by, free_found, grant_found, land_found, pass_found, queue_found, visit_found}
+use Rattle.wave_effects.proofs.Parts.{set_same}
+use Rattle.wave_effects.proofs.Stopped.{stopped_by}
 
 -- ---- one label more
 
@@ -109,36 +110,6 @@ module _ {A F R J : Type 0} (sys : Actors A F R J) (workers : ℕ) (s v : State 
       ap (λ (x : State A F R J). x.hands u) (sym left.gives) ∙ set_same s.hands w left.bench.hand (calm.hand ∙ sym calm.idle) u
   calm_hands w host (Begin t p) z e u = cc
   calm_hands w host (Stop t p) z e u = cc
-
-  -- what a Stop found in its worker's hand, and that it leaves nothing there
-  pub record Stopped (w t : ℕ) (p : Path) : Type 0 where
-    pub hand : Hand A F
-    pub there : s.hands w ≡ Some hand
-    pub ticket : hand.ticket ≡ t
-    pub path : hand.path ≡ p
-    pub empty : v.hands w ≡ None
-
-  pub stopped_by : (w host t : ℕ) (p : Path) → step sys workers s (record { worker = w; host = host; act = Stop t p }) ≡ Some v → Stopped w t p
-  stopped_by w host t p e = by_hand (s.hands w) refl left.found
-    where
-      left : Left sys workers s v (record { worker = w; host = host; act = Stop t p })
-      left = left_by sys workers s v (record { worker = w; host = host; act = Stop t p }) refl e
-
-      none_left : (o : Option (Part A F R)) (y : Bench A F R) → with_hand None o ≡ Some y → y.hand ≡ None
-      none_left None y k = absurd (none_not k)
-      none_left (Some x) y k = ap (λ (b : Bench A F R). b.hand) (sym (some_same (record { part = x; hand = None }) y k))
-
-      by_hand : (o : Option (Hand A F)) → s.hands w ≡ o → act_bench sys (Stop t p) host (part_of s t p) o ≡ Some left.bench → Stopped w t p
-      by_hand None at k = absurd (none_not k)
-      by_hand (Some g) at k =
-          let r = if_some ((g.ticket == t) && path_eq g.path p) (with_hand None (stop sys p host g (part_of s t p))) left.bench k in
-          record {
-            hand = g;
-            there = at;
-            ticket = number_is g.ticket t (and_first (g.ticket == t) (path_eq g.path p) r.0);
-            path = path_is g.path p (and_second (g.ticket == t) (path_eq g.path p) r.0);
-            empty = ap (λ (x : State A F R J). x.hands w) (sym left.gives) ∙ set_at s.hands w left.bench.hand ∙ none_left (stop sys p host g (part_of s t p)) left.bench r.1;
-          }
 
 -- ---- lists that were set at a place
 

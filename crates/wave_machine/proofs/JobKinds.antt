@@ -23,11 +23,11 @@ use Rattle.wave_theory.proofs.Frames.{option_some}
 use Rattle.code_actor.specs.CodeActors.{Fields}
 use Rattle.plan_actors.specs.PlanActors as actors
 use Rattle.plan_actors.specs.PlanActors.{plan_actors, plan_kind}
-use Rattle.wave_machine.specs.Kinds.{is_move, kind_of}
-use Rattle.wave_machine.specs.Machines.{Kept, Known, Stands, TheState}
+use Rattle.wave_effects.specs.Kinds.{is_move, kind_of}
+use Rattle.wave_effects.specs.Machines.{Kept, Known, Stands, TheState}
 use Rattle.wave_machine.specs.inner.Moving.{first_move, line_moves, moves_by, moves_in}
-use Rattle.wave_machine.proofs.Opening.{left_by}
-use Rattle.wave_machine.proofs.Taking.{Laws, now}
+use Rattle.wave_effects.proofs.Opening.{left_by}
+use Rattle.wave_effects.proofs.Taking.{Laws, now}
 
 abbrev line_is_move : Line → Bool
 line_is_move line = is_move (kind_of line)

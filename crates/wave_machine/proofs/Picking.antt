@@ -7,7 +7,7 @@ use Rattle.wave_labels.specs.Labels.{label_of}
 use Rattle.wave_states.specs.Labels.{Label, takes_mail}
 use Rattle.wave_states.specs.Runs.{last_of, seed}
 use Rattle.wave_base.specs.Draws.{next_draw, drawn}
-use Rattle.wave_machine.specs.Machines.{TheState}
+use Rattle.wave_effects.specs.Machines.{TheState}
 
 slice_of_map : {X Y : Type 0} (f : X → Y) (xs : List X) (i : ℕ) → slice_get (map f xs) i ≡ option_map f (slice_get xs i)
 slice_of_map f [] i = refl

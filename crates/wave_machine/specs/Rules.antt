@@ -7,7 +7,7 @@ use Rattle.code_actor.specs.CodeActors.{Fields}
 use Rattle.plan_actors.specs.PlanActors as actors
 use Rattle.wave_machine.specs.declared.rules.PickRule.{PickRule}
 use Rattle.wave_machine.specs.declared.rules.PickRule.TheVariants.{Seed, Oldest, Newest, Movers, MailLast}
-use Rattle.wave_machine.specs.Kinds.{is_move, kind_of}
+use Rattle.wave_effects.specs.Kinds.{is_move, kind_of}
 
 -- the rule that the theory has
 abbrev pub rule_of : PickRule → Rule actors.Actor Fields EventResult Line

@@ -9,15 +9,15 @@ ghost use Rattle.wave_states.specs.Runs.{IsDrive};
 ghost use Rattle.script_fold.specs.Runs.{finished_of};
 ghost use Rattle.plan_actors.specs.Calls.{code_ran};
 ghost use Rattle.plan_actors.specs.Plans.{Fits, FitsStart, begin_in};
-ghost use Rattle.wave_machine.specs.Plans.{plan_of};
+ghost use Rattle.wave_effects.specs.Plans.{plan_of};
 ghost use Rattle.wave_machine.specs.declared.rules.PickRule.TheVariants as rule;
 ghost use Rattle.wave_labels.specs.Labels.{label_of};
 ghost use Rattle.wave_states.specs.Labels.{Stop};
 ghost use Rattle.plan_actors.specs.PlanActors.{plan_actors};
-ghost use Rattle.wave_machine.specs.Keeping.{kept_of};
-ghost use Rattle.wave_machine.specs.Lengths.{IsMeasured};
-ghost use Rattle.wave_machine.specs.Machines.{Stands, TheState};
-ghost use Rattle.wave_machine.specs.Prepared.{is_start, is_step};
+ghost use Rattle.wave_effects.specs.Keeping.{kept_of};
+ghost use Rattle.wave_effects.specs.Lengths.{IsMeasured};
+ghost use Rattle.wave_effects.specs.Machines.{Stands, TheState};
+ghost use Rattle.wave_effects.specs.Acts.{is_start, is_step};
 ghost use Rattle.wave_machine.specs.Readies.{enabled_in};
 ghost use Rattle.wave_machine.specs.Rules.{number_of, rule_of};
 ghost use Rattle.wave_machine.specs.inner.Driving.{IsTaking, Leads, first_state};
@@ -26,19 +26,16 @@ ghost use Rattle.wave_machine.specs.inner.Index.{IsListed};
 use crate::adding::push;
 use crate::drivable::states_drive;
 use crate::ends::End;
-use crate::engine::Engine;
-use crate::hands::segments_are_known;
-use crate::laws::states_are_known;
-use crate::lengths::runs_are_measured;
 use crate::listable::states_list;
 use crate::listed::Listed;
-use crate::plan::Plan;
+use crate::measured::drives_are_measured;
+use crate::movers::by_movers;
 use crate::rules::{PickRule, by_mail_last, by_newest, by_oldest, by_seed};
-use crate::runs::run_lease;
 use context_tree::trees_that_fit;
 use plan_actors::{PlanActors, runs_are_short};
 use std::alloc::Global;
 use wave_base::{Finished, Host, OutOfMemory, Path, Seq, Start, Ticket, Worker};
+use wave_effects::{Engine, Plan, run_lease, segments_are_known, states_are_known};
 use wave_labels::{Act, Label};
 use wave_theory::{empty_at_end, rules_pick};
 
@@ -61,7 +58,7 @@ fn pick(engine: &Engine, rule: PickRule, draw: &mut u64, labels: &[Label]) -> Op
         PickRule::Seed(_) => by_seed(draw, labels),
         PickRule::Oldest => by_oldest(labels),
         PickRule::Newest => by_newest(labels),
-        PickRule::Movers => engine.by_movers(labels),
+        PickRule::Movers => by_movers(engine, labels),
         PickRule::MailLast => by_mail_last(labels),
     }
 }
@@ -214,7 +211,7 @@ pub fn drive_with(
     ensures driven { IfOk result (λ r. IsDrive (plan_actors plan.now.program) plan.now.workers plan.now.script.hosts (rule_of rule) (number_of rule) (start_state (begin_in (plan_of plan.now) start.now) plan.now.script.batches) (map label_of r.1)) }
     ensures measured { IfOk result (λ r. IsMeasured (plan_of plan.now) start.now (map label_of r.1)) }
 {
-    runs_are_measured();
+    drives_are_measured();
     let mut listed = Listed::new_at(alloc, plan, start)?;
     let labels = drive_on(alloc, &mut listed, start, rule)?;
     let finished = told(alloc, listed.engine)?;

@@ -1,7 +1,7 @@
 //! A segment that is given back.
 
-use crate::lease::Lease;
 use wave_base::Pause;
+use wave_effects::Lease;
 
 /// A segment that was run, and is still out: what was leased, and how it paused.
 #[derive(Drop)]

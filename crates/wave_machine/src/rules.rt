@@ -4,7 +4,7 @@ ghost use Rattle.std.specs.Prelude.{◌≡◌, ℕ, nat_lt, nat_le, if◌then◌
 ghost use Rattle.wave_labels.specs.Labels.{act_of, label_of};
 ghost use Rattle.wave_states.specs.Labels.{takes_mail, ticket_of};
 ghost use Rattle.wave_states.specs.Runs.{seed, oldest, newest, mail_last, last_of};
-ghost use Rattle.wave_machine.specs.Machines.{TheState};
+ghost use Rattle.wave_effects.specs.Machines.{TheState};
 
 use wave_base::Draws;
 use wave_labels::{Act, Label};

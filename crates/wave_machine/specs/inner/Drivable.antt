@@ -4,7 +4,7 @@ use Rattle.wave_theory.specs.Listed.{Listed}
 use Rattle.wave_theory.specs.Owners.{ByOwners}
 use Rattle.plan_actors.specs.PlanActors.{plan_kind}
 use Rattle.plan_actors.specs.Plans.{Plan, begin_in}
-use Rattle.wave_machine.specs.Machines.{TheState}
+use Rattle.wave_effects.specs.Machines.{TheState}
 
 -- the canonical list has what is enabled, and each label is taken by an owner
 pub record CanDrive (plan : Plan) (start : Start) (s : TheState) : Type 0 where

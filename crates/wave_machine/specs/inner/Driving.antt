@@ -15,8 +15,8 @@ use Rattle.plan_actors.specs.PlanActors.{plan_actors}
 use Rattle.plan_actors.specs.Plans.{Plan, begin_in}
 use Rattle.wave_machine.specs.declared.ends.End.{End}
 use Rattle.wave_machine.specs.declared.rules.PickRule.{PickRule}
-use Rattle.wave_machine.specs.Leases.{HasRun}
-use Rattle.wave_machine.specs.Machines.{Kept, Stands, TheState}
+use Rattle.wave_effects.specs.Leases.{HasRun}
+use Rattle.wave_effects.specs.Machines.{Kept, Stands, TheState}
 use Rattle.wave_machine.specs.Rules.{number_of, rule_of}
 
 module _ {A F R J : Type 0} (sys : Actors A F R J) (workers hosts : ℕ) (rule : Rule A F R J) where

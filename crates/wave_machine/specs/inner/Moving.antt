@@ -6,8 +6,8 @@ use Rattle.event_cells.specs.declared.cell.JobKind.{JobKind}
 use Rattle.head_tickets.specs.Heads.{next_line}
 use Rattle.wave_states.specs.Labels.{Label, ticket_of}
 use Rattle.wave_states.specs.Runs.{first_of, or_else}
-use Rattle.wave_machine.specs.Kinds.{is_move, kind_of}
-use Rattle.wave_machine.specs.Machines.{Kept}
+use Rattle.wave_effects.specs.Kinds.{is_move, kind_of}
+use Rattle.wave_effects.specs.Machines.{Kept}
 
 abbrev pub line_moves : Option Line → Bool
 line_moves None = false

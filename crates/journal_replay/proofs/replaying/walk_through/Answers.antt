@@ -5,7 +5,7 @@ use Rattle.wave_base.specs.Starts.{first_start}
 use Rattle.wave_states.specs.Runs.{Finished}
 use Rattle.plan_actors.specs.PlanActors.{plan_actors}
 use Rattle.plan_actors.specs.Plans.{Plan}
-use Rattle.wave_machine.specs.Plans.{plan_of}
+use Rattle.wave_effects.specs.Plans.{plan_of}
 use Rattle.journal_replay.specs.declared.replaying.Replayed.{Replayed}
 use Rattle.journal_replay.specs.Replays.{IsReplay, LeadsTo}
 use Rattle.journal_replay.specs.inner.Walks.{IsWalking}

@@ -5,11 +5,11 @@ use Rattle.wave_states.specs.States.{Hand}
 use Rattle.code_actor.specs.CodeActors.{Fields}
 use Rattle.plan_actors.specs.PlanActors as actors
 use Rattle.wave_machine.specs.declared.ends.End.{End}
-use Rattle.wave_machine.specs.declared.plan.Plan.{Plan}
-use Rattle.wave_machine.specs.Actors.{MayRun}
-use Rattle.wave_machine.specs.Keeping.{kept_of}
-use Rattle.wave_machine.specs.Leases.{HasRun, StandsFor}
-use Rattle.wave_machine.specs.Plans.{plan_of}
+use Rattle.wave_effects.specs.declared.plan.Plan.{Plan}
+use Rattle.wave_effects.specs.Actors.{MayRun}
+use Rattle.wave_effects.specs.Keeping.{kept_of}
+use Rattle.wave_effects.specs.Leases.{HasRun, StandsFor}
+use Rattle.wave_effects.specs.Plans.{plan_of}
 use Rattle.wave_machine.proofs.Driven.{begun_leads, enabled_of, keeps_enabled, keeps_takes, lease_may_run, lease_ran, within_ends}
 use Rattle.wave_machine.proofs.drives.begin.Goals as goal
 

@@ -11,8 +11,8 @@ use Rattle.wave_states.specs.Runs.{IsDrive}
 use Rattle.plan_actors.specs.Calls.{code_ran}
 use Rattle.plan_actors.specs.PlanActors.{plan_actors}
 use Rattle.plan_actors.specs.Plans.{begin_in}
-use Rattle.wave_machine.specs.Lengths.{IsMeasured}
-use Rattle.wave_machine.specs.Plans.{plan_of}
+use Rattle.wave_effects.specs.Lengths.{IsMeasured}
+use Rattle.wave_effects.specs.Plans.{plan_of}
 use Rattle.wave_machine.specs.Rules.{rule_of}
 use Rattle.wave_machine.specs.declared.rules.PickRule.TheVariants.{Seed}
 use Rattle.wave_machine.proofs.drives.drive.Goals as goal

@@ -10,7 +10,7 @@ use Rattle.plan_actors.specs.Plans.{Plan, Setting, begin_in}
 use Rattle.plan_actors.specs.PlanActors.{plan_actors}
 use Rattle.plan_actors.proofs.Meeting.{plan_fits, begin_fits}
 use Rattle.plan_actors.proofs.Owing.{setting_of}
-use Rattle.wave_machine.specs.Keeping.{kept_of}
+use Rattle.wave_effects.specs.Keeping.{kept_of}
 use Rattle.wave_machine.specs.Rules.{number_of, rule_of}
 use Rattle.wave_machine.specs.inner.Driving.{IsDriving, first_state}
 use Rattle.wave_machine.proofs.Driven.{drive_done, drive_run, driving_more, next_taking, nothing_left}

@@ -1,7 +1,7 @@
 use Rattle.std.proofs.Common.{◌-◌, length, map}
 use Rattle.wave_labels.specs.Labels.{label_of}
 use Rattle.plan_actors.specs.Efforts.{most_labels}
-use Rattle.wave_machine.specs.Keeping.{kept_of}
+use Rattle.wave_effects.specs.Keeping.{kept_of}
 use Rattle.wave_machine.specs.inner.Driving.{IsDriving}
 use Rattle.wave_machine.specs.inner.Index.{IsListed}
 use Rattle.wave_machine.proofs.drives.drive_on.Given as goal

@@ -5,10 +5,10 @@ use Rattle.wave_states.specs.Runs.{Finished, IsDrive}
 use Rattle.plan_actors.specs.Calls.{code_ran}
 use Rattle.plan_actors.specs.PlanActors.{plan_actors}
 use Rattle.plan_actors.specs.Plans.{Plan}
-use Rattle.wave_machine.specs.Keeping.{kept_of}
-use Rattle.wave_machine.specs.Lengths.{IsMeasured}
-use Rattle.wave_machine.specs.Machines.{Stands}
-use Rattle.wave_machine.specs.Plans.{plan_of}
+use Rattle.wave_effects.specs.Keeping.{kept_of}
+use Rattle.wave_effects.specs.Lengths.{IsMeasured}
+use Rattle.wave_effects.specs.Machines.{Stands}
+use Rattle.wave_effects.specs.Plans.{plan_of}
 use Rattle.wave_machine.specs.Rules.{number_of, rule_of}
 use Rattle.wave_machine.specs.inner.Driving.{first_state}
 use Rattle.wave_machine.proofs.drives.drive_with.Goals as goal
@@ -37,4 +37,4 @@ pub returns-clause-measured : goal.returns-clause-measured
 returns-clause-measured c =
     let driven = subst (λ (p : Plan). IsDrive (plan_actors p.program) p.workers p.script.hosts (rule_of c.args.rule) (number_of c.args.rule) (first_state p c.args.start.now) (map label_of c.in_ok-labels.labels.items)) c.in_ok-listed.ensures.plan c.in_ok-labels.ensures.driven in
     subst (λ xs. IsMeasured (plan_of c.args.plan.now) c.args.start.now (map label_of xs)) (sym c.from_vec.ensures)
-    (c.runs_are_measured.ensures.drives (plan_of c.args.plan.now) c.args.start.now c.requires.fits c.requires.begins c.args.rule (map label_of c.in_ok-labels.labels.items) driven)
+    (c.drives_are_measured.ensures (plan_of c.args.plan.now) c.args.start.now c.requires.fits c.requires.begins c.args.rule (map label_of c.in_ok-labels.labels.items) driven)

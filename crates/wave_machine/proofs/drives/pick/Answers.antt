@@ -2,7 +2,7 @@ use Rattle.std.proofs.Common.{◌≡◌, ◌∙◌, map, sym, ap, subst}
 use Rattle.std.specs.Prelude.{option_map}
 use Rattle.wave_labels.specs.Labels.{label_of}
 use Rattle.wave_machine.specs.declared.rules.PickRule.{PickRule}
-use Rattle.wave_machine.specs.Keeping.{kept_of}
+use Rattle.wave_effects.specs.Keeping.{kept_of}
 use Rattle.wave_machine.specs.Rules.{rule_of}
 use Rattle.wave_machine.proofs.JobKinds.{movers_is}
 use Rattle.wave_machine.proofs.drives.pick.Goals as goal

@@ -1,8 +1,8 @@
 use Rattle.std.proofs.Common.{◌∙◌, ap, Bor}
 use Rattle.wave_labels.specs.Labels.{label_of}
-use Rattle.wave_machine.specs.declared.plan.Plan.{Plan}
-use Rattle.wave_machine.specs.Keeping.{kept_of}
-use Rattle.wave_machine.specs.Plans.{plan_of}
+use Rattle.wave_effects.specs.declared.plan.Plan.{Plan}
+use Rattle.wave_effects.specs.Keeping.{kept_of}
+use Rattle.wave_effects.specs.Plans.{plan_of}
 use Rattle.wave_machine.proofs.Driven.{calm_leads, enabled_of, keeps_enabled, keeps_takes, step_is_calm}
 use Rattle.wave_machine.proofs.drives.step.Goals as goal
 

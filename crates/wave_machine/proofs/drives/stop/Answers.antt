@@ -4,11 +4,12 @@ use Rattle.std.proofs.lemmas.Option.{slice_get_read}
 use Rattle.wave_states.specs.Labels.{Label, Stop}
 use Rattle.plan_actors.specs.PlanActors.{plan_actors}
 use Rattle.wave_machine.specs.declared.ends.End.{End}
-use Rattle.wave_machine.specs.declared.plan.Plan.{Plan}
-use Rattle.wave_machine.specs.Keeping.{kept_of}
-use Rattle.wave_machine.specs.Plans.{plan_of}
+use Rattle.wave_effects.specs.declared.plan.Plan.{Plan}
+use Rattle.wave_effects.specs.Keeping.{kept_of}
+use Rattle.wave_effects.specs.Plans.{plan_of}
 use Rattle.wave_machine.specs.inner.Driving.{IsEnd, Leads}
-use Rattle.wave_machine.proofs.Driven.{back_of, has_end, stopped_by, stopped_leads, within_ends}
+use Rattle.wave_machine.proofs.Driven.{back_of, has_end, stopped_leads, within_ends}
+use Rattle.wave_effects.proofs.Stopped.{stopped_by}
 use Rattle.wave_machine.proofs.drives.stop.Goals as goal
 
 pub index_mut-requires : goal.index_mut-requires

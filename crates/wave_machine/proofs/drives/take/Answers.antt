@@ -2,7 +2,7 @@ use Rattle.std.proofs.Common.{sym, subst}
 use Rattle.std.specs.Prelude.{OnOk}
 use Rattle.wave_labels.specs.declared.label.Act.{Act}
 use Rattle.wave_labels.specs.Labels.{act_of}
-use Rattle.wave_machine.specs.Keeping.{kept_of}
+use Rattle.wave_effects.specs.Keeping.{kept_of}
 use Rattle.wave_machine.specs.inner.Driving.{Leads}
 use Rattle.wave_machine.proofs.drives.take.Goals as goal
 

@@ -8,8 +8,8 @@ use Rattle.wave_labels.specs.Labels.{label_of}
 use Rattle.wave_states.specs.Canonical.{enabled}
 use Rattle.plan_actors.specs.PlanActors.{plan_actors}
 use Rattle.plan_actors.specs.Plans.{Plan}
-use Rattle.wave_machine.specs.Plans.{plan_of}
-use Rattle.wave_machine.proofs.Placing.{take_next}
+use Rattle.wave_effects.specs.Plans.{plan_of}
+use Rattle.wave_effects.proofs.Placing.{take_next}
 use Rattle.journal_replay.specs.inner.Walks.{IsWalking}
 use Rattle.journal_replay.proofs.Walking.{is_taking, no_step, parts_at, walks_on}
 use Rattle.journal_replay.proofs.walk.Walk.advance.Goals as goal

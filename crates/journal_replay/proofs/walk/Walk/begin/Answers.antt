@@ -7,8 +7,8 @@ use Rattle.code_actor.specs.CodeActors.{Fields}
 use Rattle.plan_actors.specs.PlanActors as actors
 use Rattle.plan_actors.specs.Plans.{Plan}
 use Rattle.wave_machine.specs.declared.ends.End.{End}
-use Rattle.wave_machine.specs.Actors.{MayRun}
-use Rattle.wave_machine.specs.Leases.{HasRun, StandsFor}
+use Rattle.wave_effects.specs.Actors.{MayRun}
+use Rattle.wave_effects.specs.Leases.{HasRun, StandsFor}
 use Rattle.wave_machine.proofs.Driven.{begun_leads, enabled_of, keeps_enabled, keeps_takes, lease_ran, within_ends}
 use Rattle.journal_replay.proofs.walk.Walk.begin.Goals as goal
 

@@ -5,7 +5,8 @@ use Rattle.wave_states.specs.Labels.{Label, Stop}
 use Rattle.plan_actors.specs.PlanActors.{plan_actors}
 use Rattle.wave_machine.specs.declared.ends.End.{End}
 use Rattle.wave_machine.specs.inner.Driving.{IsEnd, Leads}
-use Rattle.wave_machine.proofs.Driven.{back_of, has_end, stopped_by, within_ends}
+use Rattle.wave_machine.proofs.Driven.{back_of, has_end, within_ends}
+use Rattle.wave_effects.proofs.Stopped.{stopped_by}
 use Rattle.journal_replay.proofs.Walking.{stop_leads}
 use Rattle.journal_replay.proofs.walk.Walk.end.Goals as goal
 

@@ -1,5 +1,5 @@
 use Rattle.std.proofs.Common.{take}
-use Rattle.wave_machine.specs.Plans.{plan_of}
+use Rattle.wave_effects.specs.Plans.{plan_of}
 use Rattle.journal_replay.specs.inner.Walks.{IsWalking}
 use Rattle.journal_replay.proofs.walk.Walk.go.Given as goal
 

@@ -2,7 +2,7 @@ use Rattle.std.proofs.Common.{◌∙◌, refl, subst}
 use Rattle.wave_base.specs.Starts.{first_start}
 use Rattle.wave_states.specs.Begins.{start_state}
 use Rattle.plan_actors.specs.Plans.{begin_in}
-use Rattle.wave_machine.specs.Plans.{plan_of}
+use Rattle.wave_effects.specs.Plans.{plan_of}
 use Rattle.journal_replay.proofs.Walking.{at_start, first_walk}
 use Rattle.journal_replay.proofs.walk.Walk.new.Goals as goal
 
