@@ -29,8 +29,8 @@ use script_reader::{ScriptError, read_script};
 use service_verify::Verified;
 use std::alloc::Global;
 use wave_base::{OutOfMemory, SCRIPT_BYTES, Script, Start};
+use wave_drives::drives_are_measured;
 use wave_effects::runs_are_measured;
-use wave_machine::drives_are_measured;
 use wave_theory::rules_pick;
 
 /// The refusal of a script with this fault.

@@ -22,10 +22,10 @@ use std::alloc::Global;
 use std::sync::Wait;
 use std::thread::Threads;
 use wave_base::{OutOfMemory, Start};
+use wave_drives::{PickRule, drive_with};
 use wave_effects::Plan;
 use wave_io::{Gate, Sink};
 use wave_labels::Label;
-use wave_machine::{PickRule, drive_with};
 use wave_meaning::run_script_at;
 use wave_theory::rules_pick;
 

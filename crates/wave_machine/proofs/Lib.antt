@@ -4,9 +4,6 @@ pub mod ListingKinds
 pub mod ListingCells
 pub mod ListingAll
 pub mod ListingOwn
-pub mod Picking
-pub mod JobKinds
-pub mod Driven
 pub mod Lasting
 pub mod Untouched
 pub mod Skipping

@@ -1,6 +1,5 @@
-pub mod Rules
 pub mod inner
 pub mod Prepared
 pub mod Picks
 pub mod Readies
-pub mod Measured
+pub mod Movers

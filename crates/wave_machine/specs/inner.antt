@@ -1,8 +1,5 @@
 pub mod Asking
 pub mod Listable
-pub mod Moving
-pub mod Driving
-pub mod Drivable
 pub mod Done
 pub mod Others
 pub mod Index

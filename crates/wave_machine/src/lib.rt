@@ -5,7 +5,7 @@
 //! - what is asked for, label by label: `asking`, and in which order: `order`; an entry of the list: `ready`;
 //! - the list in its order, a place of which is found by halves: `index`; what a label changes in it: `renewing`, by what is looked at
 //!   before and after it: `looks`, `done`;
-//! - what is read off the list: `choosing`, `takeable`, and with who takes it `enabled`, `takers`, `adding`;
+//! - what is read off the list: `choosing`, `takeable`, `movers`, and with who takes it `enabled`, `takers`, `adding`;
 //! - what is known of states that are listed: `listable`.
 #![tactic(auto)]
 
@@ -13,27 +13,18 @@ mod adding;
 mod asking;
 mod choosing;
 mod done;
-mod drivable;
-mod drives;
 mod enabled;
-mod ends;
 mod index;
 mod listable;
 mod listed;
 mod looks;
 mod machine;
-mod measured;
 mod movers;
 mod order;
 mod ready;
 mod renewing;
-mod rules;
 mod takeable;
 mod takers;
 
-pub use drives::{drive, drive_at, drive_with};
-pub use ends::End;
 pub use machine::{Machine, machine_stands};
-pub use measured::drives_are_measured;
 pub use ready::Ready;
-pub use rules::PickRule;

@@ -18,16 +18,18 @@ ghost use Rattle.wave_effects.specs.Plans.{plan_of};
 ghost use Rattle.wave_effects.specs.Acts.{is_start, is_step};
 ghost use Rattle.wave_effects.specs.Running.{CanStop, IsStopping, Leases, Stops, stop_of};
 ghost use Rattle.wave_effects.specs.Actors.{MayRun};
+ghost use Rattle.wave_machine.specs.Movers.{moves_in};
 ghost use Rattle.wave_machine.specs.Picks.{IsOneOf};
 ghost use Rattle.wave_machine.specs.Readies.{choice_of, enabled_by, enabled_in, ready_in};
 ghost use Rattle.wave_effects.specs.Showing.{IsLineOf};
 
 use crate::listed::Listed;
+use crate::movers::is_mover;
 use crate::ready::Ready;
 use context_tree::trees_that_fit;
 use std::alloc::Global;
 use std::marker::Model;
-use wave_base::{Finished, OutOfMemory, Pause, Seq, Shown, Start, Worker};
+use wave_base::{Finished, OutOfMemory, Pause, Seq, Shown, Start, Ticket, Worker};
 use wave_effects::{Glance, Lease, Plan, Prepared, Refused};
 use wave_labels::Label;
 
@@ -228,6 +230,13 @@ impl<'p> Machine<'p> {
         ensures { (start : Start) (s : TheState) → Stands self.now.kept start s → IsTrue result ↔ (is_some (step (plan_actors self.now.kept.plan.program) self.now.kept.plan.workers s (label_of label.now)) ≡ true) }
     {
         self.listed.can_take(label)
+    }
+
+    /// Whether the job of a ticket is a move: one that was admitted, or the one that is admitted next.
+    pub fn is_move(&self, ticket: Ticket) -> bool
+        ensures { result ≡ moves_in self.now.kept ticket.0 }
+    {
+        is_mover(&self.listed.engine, ticket)
     }
 
     /// How far the run has come, and where its contexts are.

@@ -1,35 +1,20 @@
 //! Which tickets are moves.
 
-ghost use Rattle.std.specs.Prelude.{◌≡◌, Some, map, option_map};
+ghost use Rattle.std.specs.Prelude.{◌≡◌, Some};
 ghost use Rattle.head_tickets.specs.Heads.{next_line};
-ghost use Rattle.wave_labels.specs.Labels.{label_of};
-ghost use Rattle.wave_machine.specs.inner.Moving.{first_move, line_moves, moves_in};
-ghost use Rattle.wave_effects.specs.Kinds.{is_move};
 ghost use Rattle.wave_effects.specs.Keeping.{kept_of};
+ghost use Rattle.wave_effects.specs.Kinds.{is_move};
+ghost use Rattle.wave_machine.specs.Movers.{line_moves, moves_in};
 
-use crate::rules::ticket_of;
 use event_cells::JobKind;
-use wave_base::Line;
+use wave_base::{Line, Ticket};
 use wave_effects::Engine;
-use wave_labels::Label;
-
-// The first label of a move, else the first.
-pub(crate) fn by_movers(engine: &Engine, labels: &[Label]) -> Option<Label>
-    ensures { option_map label_of result ≡ first_move (kept_of engine.now) (map label_of labels.now) }
-{
-    for label in labels {
-        if job_moves(engine, ticket_of(&label.act)) {
-            return Some(*label);
-        }
-    }
-    labels.first().copied()
-}
 
 // Whether the job of a ticket is a move that was admitted, or that is admitted next.
-fn job_moves(engine: &Engine, ticket: u32) -> bool
-    ensures { result ≡ moves_in (kept_of engine.now) ticket }
+pub(crate) fn is_mover(engine: &Engine, ticket: Ticket) -> bool
+    ensures { result ≡ moves_in (kept_of engine.now) ticket.0 }
 {
-    let place = ticket.saturating_sub(engine.first) as usize;
+    let place = ticket.0.saturating_sub(engine.first) as usize;
     match engine.kinds.get(place) {
         Some(kind) => is_move(*kind),
         None => next_moves(engine),

@@ -8,9 +8,9 @@ use crate::{Case, start_on};
 use std::alloc::Global;
 use std::process::Abort;
 use wave_base::{Finished, Host, OutOfMemory, START_TICKET, Seq, Start, Ticket};
+use wave_drives::{PickRule, drive, drive_at, drive_with};
 use wave_effects::Plan;
 use wave_labels::Label;
-use wave_machine::{PickRule, drive, drive_at, drive_with};
 
 // The plan of a case, which is right.
 pub(super) fn plan_for(rt: &impl Abort, alloc: Global, case: &Case) -> Plan
