@@ -24,7 +24,7 @@ use Rattle.wave_drives.specs.declared.ends.End.{End}
 use Rattle.wave_effects.specs.Always.{Holds}
 use Rattle.wave_effects.specs.Machines.{IsReached, Kept, Stands, TheState}
 use Rattle.wave_effects.specs.Running.{CanStop, IsBack, Stops, stop_of}
-use Rattle.wave_drives.specs.inner.Driving.{IsEnd, IsTaking, IsUnder, Leads}
+use Rattle.wave_drives.specs.Walks.{IsEnd, IsTaking, IsUnder, Leads}
 use Rattle.wave_drives.proofs.Driven.{back_of, others}
 use Rattle.wave_effects.proofs.Stopped.{stopped_by}
 use Rattle.wave_effects.proofs.Placing.{take_next}

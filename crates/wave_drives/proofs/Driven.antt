@@ -42,7 +42,8 @@ use Rattle.wave_states.specs.Owners.{IsOwner}
 use Rattle.wave_theory.proofs.Frames.{option_some}
 use Rattle.wave_effects.specs.Running.{CanStop, IsBack, IsInHand, Leases, Stops, stop_of}
 use Rattle.wave_drives.specs.inner.Drivable.{CanDrive}
-use Rattle.wave_drives.specs.inner.Driving.{DrivesTo, IsDriving, first_state, IsEnd, IsTaking, IsUnder, Leads}
+use Rattle.wave_drives.specs.Walks.{IsEnd, IsTaking, IsUnder, Leads}
+use Rattle.wave_drives.specs.inner.Driving.{DrivesTo, IsDriving, first_state}
 use Rattle.wave_effects.proofs.Headed.{admits, commits}
 use Rattle.wave_effects.proofs.Opening.{Left, left_by, free_found, grant_found, land_found, pass_found, queue_found, visit_found}
 use Rattle.wave_effects.proofs.Parts.{set_same}

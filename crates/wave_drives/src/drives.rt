@@ -17,7 +17,8 @@ ghost use Rattle.wave_effects.specs.Plans.{plan_of};
 ghost use Rattle.wave_machine.specs.Readies.{enabled_in};
 ghost use Rattle.wave_drives.specs.declared.rules.PickRule.TheVariants as rule;
 ghost use Rattle.wave_drives.specs.Rules.{number_of, rule_of};
-ghost use Rattle.wave_drives.specs.inner.Driving.{IsUnder, first_state};
+ghost use Rattle.wave_drives.specs.Walks.{IsUnder};
+ghost use Rattle.wave_drives.specs.inner.Driving.{first_state};
 
 use crate::drivable::states_drive;
 use crate::measured::drives_are_measured;

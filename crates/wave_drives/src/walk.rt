@@ -5,7 +5,7 @@ ghost use Rattle.wave_labels.specs.Labels.{label_of};
 ghost use Rattle.wave_states.specs.Labels.{Stop};
 ghost use Rattle.wave_effects.specs.Acts.{is_start, is_step};
 ghost use Rattle.wave_effects.specs.Plans.{plan_of};
-ghost use Rattle.wave_drives.specs.inner.Driving.{IsTaking, Leads};
+ghost use Rattle.wave_drives.specs.Walks.{IsTaking, Leads};
 
 use crate::ends::End;
 use std::alloc::Global;

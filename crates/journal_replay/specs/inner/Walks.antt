@@ -4,7 +4,7 @@ use Rattle.wave_base.specs.Starts.{first_start}
 use Rattle.wave_labels.specs.declared.label.Label.{Label}
 use Rattle.plan_actors.specs.Plans.{Plan}
 use Rattle.wave_effects.specs.Machines.{TheState}
-use Rattle.wave_drives.specs.inner.Driving.{IsUnder}
+use Rattle.wave_drives.specs.Walks.{IsUnder}
 use Rattle.journal_replay.specs.declared.error.ReplayError.{ReplayError}
 use Rattle.journal_replay.specs.declared.error.ReplayError.TheVariants.{Refused, OutOfMemory}
 use Rattle.wave_drives.specs.declared.walk.Walk.{Walk}

@@ -4,7 +4,7 @@ use Rattle.std.proofs.lemmas.Option.{slice_get_read}
 use Rattle.wave_states.specs.Labels.{Label, Stop}
 use Rattle.plan_actors.specs.PlanActors.{plan_actors}
 use Rattle.wave_drives.specs.declared.ends.End.{End}
-use Rattle.wave_drives.specs.inner.Driving.{IsEnd, Leads}
+use Rattle.wave_drives.specs.Walks.{IsEnd, Leads}
 use Rattle.wave_drives.proofs.Driven.{back_of, has_end, stop_leads, within_ends}
 use Rattle.wave_effects.proofs.Stopped.{stopped_by}
 use Rattle.wave_drives.proofs.walk.Walk.stop.Goals as goal
