@@ -1,33 +1,19 @@
 -- A replay, label by label.
-use Rattle.std.proofs.Common.{◌≡◌, ◌≢◌, ◌∙◌, inl, inr, ℕ, zero, suc, ◌+◌, ◌<◌, Bool, true, false, List, [], ◌∷◌, ◌++◌, length, map, take, drop, Option, Some, None, is_some, refl, sym, ap, subst, true≢false, arith}
-use Rattle.std.specs.Prelude.{◌↔◌, IsTrue, slice_get, slice_set}
-use Rattle.std.proofs.lemmas.List.{length-set, map-append}
-use Rattle.wave_base.specs.declared.path.Path.{Path}
-use Rattle.wave_base.specs.declared.start.Start.{Start}
+use Rattle.std.proofs.Common.{◌≡◌, ◌∙◌, ℕ, zero, suc, ◌+◌, true, List, [], ◌∷◌, ◌++◌, map, take, drop, Option, Some, None, is_some, refl, sym, ap, subst}
+use Rattle.std.specs.Prelude.{slice_get}
+use Rattle.std.proofs.lemmas.List.{map-append}
 use Rattle.wave_base.specs.Starts.{first_start}
 use Rattle.wave_labels.specs.declared.label.Label as program
 use Rattle.wave_labels.specs.Labels.{label_of}
 use Rattle.wave_states.specs.Begins.{start_state}
-use Rattle.wave_states.specs.Labels.{Label, Stop}
-use Rattle.wave_states.specs.Owners.{IsOwner}
+use Rattle.wave_states.specs.Labels.{Label}
 use Rattle.wave_states.specs.Runs.{run}
-use Rattle.wave_states.specs.States.{Hand}
 use Rattle.wave_states.specs.Steps.{step}
-use Rattle.wave_theory.specs.Owners.{ByOwners, OneOwner}
-use Rattle.wave_theory.proofs.Basics.{none_not, not_same, number_cases}
 use Rattle.wave_theory.proofs.Frames.{option_some}
-use Rattle.code_actor.specs.CodeActors.{Fields}
-use Rattle.plan_actors.specs.PlanActors as actors
 use Rattle.plan_actors.specs.PlanActors.{plan_actors}
 use Rattle.plan_actors.specs.Plans.{Plan, begin_in}
-use Rattle.wave_drives.specs.declared.ends.End.{End}
-use Rattle.wave_effects.specs.Always.{Holds}
-use Rattle.wave_effects.specs.Machines.{IsReached, Kept, Stands, TheState}
-use Rattle.wave_effects.specs.Running.{CanStop, IsBack, Stops, stop_of}
-use Rattle.wave_drives.specs.Walks.{IsEnd, IsTaking, IsUnder, Leads}
-use Rattle.wave_drives.proofs.Driven.{back_of, others}
-use Rattle.wave_effects.proofs.Stopped.{stopped_by}
-use Rattle.wave_effects.proofs.Placing.{take_next}
+use Rattle.wave_effects.specs.Machines.{IsReached, TheState}
+use Rattle.wave_drives.specs.Walks.{IsTaking, Leads}
 use Rattle.wave_effects.proofs.Taking.{run_more}
 use Rattle.wave_drives.specs.declared.walk.Walk.{Walk}
 use Rattle.journal_replay.specs.Replays.{LeadsTo}

@@ -1,5 +1,5 @@
 -- Drives: what the rule picks next, and what taking it leaves of the segments that are out.
-use Rattle.std.proofs.Common.{◌≡◌, ◌≢◌, ◌∙◌, inl, inr, ℕ, zero, suc, ◌<◌, ◌&&◌, ◌==◌, Bool, true, false, List, [], ◌∷◌, ◌++◌, length, is_some, Option, Some, None, refl, sym, ap, subst, arith}
+use Rattle.std.proofs.Common.{◌≡◌, ◌≢◌, ◌∙◌, inl, inr, ℕ, zero, suc, ◌<◌, Bool, true, false, List, [], ◌∷◌, ◌++◌, length, is_some, Option, Some, None, refl, sym, ap, subst, arith}
 use Rattle.std.specs.Prelude.{nat_lt, option_and_then, slice_get, slice_set}
 use Rattle.std.proofs.lemmas.List.{length-set}
 use Rattle.wave_base.specs.declared.outcome.EventResult.{EventResult}
@@ -7,15 +7,14 @@ use Rattle.wave_base.specs.declared.path.Path.{Path}
 use Rattle.wave_base.specs.declared.pause.Pause.{Pause}
 use Rattle.wave_base.specs.declared.script.Line.{Line}
 use Rattle.wave_base.specs.declared.start.Start.{Start}
-use Rattle.wave_base.specs.Paths.{path_eq}
 use Rattle.service_code.specs.declared.program.Program.{Program}
 use Rattle.wave_states.specs.Actors.{Actors}
 use Rattle.wave_states.specs.Canonical.{enabled}
 use Rattle.wave_states.specs.Labels.{Act, Label, Admit, Queue, Grant, Visit, Start as Begin, Stop, Free, Pass, Land, Commit}
 use Rattle.wave_states.specs.Runs.{IsDrive, Rule, run}
 use Rattle.wave_states.specs.States.{Hand, State}
-use Rattle.wave_states.specs.Steps.{Bench, Part, act_bench, part_of, step, stop, with_hand}
-use Rattle.wave_theory.proofs.Basics.{and_first, and_second, if_some, none_not, not_same, number_cases, number_is, path_is, set_at, some_same}
+use Rattle.wave_states.specs.Steps.{part_of, step}
+use Rattle.wave_theory.proofs.Basics.{if_some, none_not, not_same, number_cases, some_same}
 use Rattle.wave_theory.proofs.InHand.{hands_stay}
 use Rattle.code_actor.specs.CodeActors.{Fields}
 use Rattle.plan_actors.specs.PlanActors as actors
@@ -45,7 +44,7 @@ use Rattle.wave_drives.specs.inner.Drivable.{CanDrive}
 use Rattle.wave_drives.specs.Walks.{IsEnd, IsTaking, IsUnder, Leads}
 use Rattle.wave_drives.specs.inner.Driving.{DrivesTo, IsDriving, first_state}
 use Rattle.wave_effects.proofs.Headed.{admits, commits}
-use Rattle.wave_effects.proofs.Opening.{Left, left_by, free_found, grant_found, land_found, pass_found, queue_found, visit_found}
+use Rattle.wave_effects.proofs.Opening.{left_by, free_found, grant_found, land_found, pass_found, queue_found, visit_found}
 use Rattle.wave_effects.proofs.Parts.{set_same}
 use Rattle.wave_effects.proofs.Stopped.{stopped_by}
 

@@ -1,5 +1,5 @@
 -- What is asked for, read off what is kept of the head, the cells, the stores and the hands; and its order.
-use Rattle.std.specs.Prelude.{◌+◌, ◌&&◌, ◌==◌, ℕ, suc, Bool, true, false, if◌then◌else◌, List, [], ◌∷◌, ◌++◌, flat_map, filter, length, Option, Some, None, is_some, option_map, slice_get}
+use Rattle.std.specs.Prelude.{◌+◌, ◌&&◌, ◌==◌, ℕ, suc, Bool, false, if◌then◌else◌, List, [], ◌∷◌, ◌++◌, flat_map, filter, length, Option, Some, None, option_map, slice_get}
 use Rattle.std.specs.FinMap as table
 use Rattle.wave_base.specs.declared.path.Path.{Path}
 use Rattle.wave_base.specs.Fold.{tickets_from}

@@ -1,4 +1,4 @@
-use Rattle.std.proofs.Common.{◌≡◌, ◌∙◌, ◌+◌, ◌∷◌, ◌++◌, List, [], suc, Some, drop, length, map, refl, sym, ap, subst, take, true≢false, arith}
+use Rattle.std.proofs.Common.{◌≡◌, ◌∙◌, List, suc, Some, drop, length, map, refl, sym, subst, take, true≢false, arith}
 use Rattle.std.specs.Prelude.{min, slice_get}
 use Rattle.std.proofs.lemmas.List.{length-take}
 use Rattle.std.proofs.lemmas.Option.{slice_get_read}

@@ -2,7 +2,7 @@ use Rattle.std.proofs.Common.{sym, subst}
 use Rattle.std.specs.Prelude.{OnOk}
 use Rattle.wave_labels.specs.declared.label.Act.{Act}
 use Rattle.wave_labels.specs.Labels.{act_of}
-use Rattle.wave_drives.specs.Walks.{IsTaking, Leads}
+use Rattle.wave_drives.specs.Walks.{Leads}
 use Rattle.wave_drives.proofs.walk.Walk.take.Goals as goal
 
 pub returns-in-Stop-clause-leads : goal.returns-in-Stop-clause-leads
