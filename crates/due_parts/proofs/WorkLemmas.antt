@@ -48,7 +48,8 @@ use Rattle.due_parts.specs.Told.{IsDueFirst, IsDueFold, IsDueTold, IsDueTrace, p
 use Rattle.due_parts.specs.Coded.{IsCoded}
 use Rattle.due_parts.specs.Served.{IsTypedTree}
 use Rattle.due_parts.proofs.DueLemmas.{only_fold}
-use Rattle.wave_machine.specs.Lengths.{DrivesAreMeasured, FinishedRunsAreMeasured}
+use Rattle.wave_drives.specs.Measured.{DrivesAreMeasured}
+use Rattle.wave_effects.specs.Lengths.{FinishedRunsAreMeasured}
 use Rattle.due_parts.specs.Runs.{ComesTo, IsRunOf, nearest_workers}
 use Rattle.due_parts.proofs.NameLemmas.{code_typed}
 use Rattle.due_parts.proofs.RunLemmas.{FinishedStatesMean, PlansDrive, TheRulesPick, few_nearest, run_comes, some_nearest, some_run}

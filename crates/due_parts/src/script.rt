@@ -29,7 +29,8 @@ use script_reader::{ScriptError, read_script};
 use service_verify::Verified;
 use std::alloc::Global;
 use wave_base::{OutOfMemory, SCRIPT_BYTES, Script, Start};
-use wave_machine::runs_are_measured;
+use wave_drives::drives_are_measured;
+use wave_effects::runs_are_measured;
 use wave_theory::rules_pick;
 
 /// The refusal of a script with this fault.
@@ -50,6 +51,7 @@ pub fn ready(typed: Typed, program: Verified, start: Start, script: Script) -> W
     plans_drive();
     rules_pick::<PlanActors>();
     runs_are_measured();
+    drives_are_measured();
     finished_states_mean();
     plans_stay_few();
     scripts_are_few();

@@ -1,14 +1,14 @@
 //! What is accepted of an input.
 
 ghost use Rattle.std.specs.Prelude.{◌≡◌};
-ghost use Rattle.wave_machine.specs.Plans.{plan_of};
+ghost use Rattle.wave_effects.specs.Plans.{plan_of};
 ghost use Rattle.due_parts.specs.Accepted.{CanRun, plan_with};
 ghost use Rattle.due_parts.specs.Runs.{nearest_workers};
 
 use resolved_service::Resolved;
 use service_verify::Verified;
 use wave_base::{Script, Start, WORKERS};
-use wave_machine::Plan;
+use wave_effects::Plan;
 
 /// What is to be run: a service with each name resolved, its code, a script for it, and where its run begins.
 #[derive(Debug, Drop)]

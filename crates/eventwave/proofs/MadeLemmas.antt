@@ -29,8 +29,8 @@ use Rattle.listing_out.specs.Listing.{end_lines, last_ticket, lines_from, places
 use Rattle.listing_out.specs.declared.write.ListError.{ListError}
 use Rattle.listing_out.specs.declared.write.ListError.TheVariants as list
 use Rattle.listing_out.proofs.SinkLemmas.{front_written, nothing_written}
-use Rattle.wave_machine.specs.Plans.{plan_of}
-use Rattle.wave_machine.specs.declared.plan.Plan.{Plan}
+use Rattle.wave_effects.specs.Plans.{plan_of}
+use Rattle.wave_effects.specs.declared.plan.Plan.{Plan}
 use Rattle.host_workers.specs.Endings as hosts
 use Rattle.host_workers.specs.Lines.{event_lines}
 use Rattle.host_workers.specs.Runs.{IsWholeRun}

@@ -14,7 +14,7 @@ use Rattle.listing_out.proofs.SinkLemmas.{all_written, front_written, more_writt
 use Rattle.kept_lock.specs.declared.view.Known.{Known}
 use Rattle.kept_lock.specs.History.{StartsWith}
 use Rattle.kept_lock.proofs.Entries.{starts_longer}
-use Rattle.wave_machine.specs.declared.plan.Plan.{Plan}
+use Rattle.wave_effects.specs.declared.plan.Plan.{Plan}
 use Rattle.wave_board.specs.declared.origin.Origin.{Origin}
 use Rattle.wave_board.specs.declared.trail.StopCause.TheVariants.{SinkFault}
 use Rattle.wave_board.specs.declared.trail.Trail.{Trail}

@@ -6,9 +6,9 @@ use Rattle.plan_actors.specs.PlanActors.{plan_actors}
 use Rattle.wave_states.specs.Labels.{Label}
 use Rattle.wave_states.specs.Runs as runs
 use Rattle.wave_base.specs.declared.start.Start.{Start}
-use Rattle.wave_machine.specs.declared.plan.Plan.{Plan}
-use Rattle.wave_machine.specs.Machines.{IsReached, TheState}
-use Rattle.wave_machine.specs.Plans.{plan_of}
+use Rattle.wave_effects.specs.declared.plan.Plan.{Plan}
+use Rattle.wave_effects.specs.Machines.{IsReached, TheState}
+use Rattle.wave_effects.specs.Plans.{plan_of}
 use Rattle.wave_board.specs.declared.origin.Origin.{Origin}
 use Rattle.wave_board.specs.declared.trail.StopCause.{StopCause}
 use Rattle.wave_board.specs.declared.trail.StopCause.TheVariants.{Memory, SinkFault}

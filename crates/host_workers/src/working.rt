@@ -18,8 +18,8 @@ use std::alloc::Global;
 use std::sync::Wait;
 use wave_base::{OutOfMemory, Worker};
 use wave_board::{Board, StopCause};
+use wave_effects::{Lease, Plan, run_lease};
 use wave_io::Gate;
-use wave_machine::{Lease, Plan, run_lease};
 
 /// Takes what can be done and runs segments until all is done, or somebody stops the workers. A segment is run outside the lock, and given
 /// back at the visit that asks for the next. Where there is nothing to do, or others do it, the worker naps.

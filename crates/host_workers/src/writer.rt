@@ -25,8 +25,8 @@ use std::alloc::Global;
 use std::sync::Wait;
 use wave_base::{OutOfMemory, Seq, Shown, Ticket, Worker};
 use wave_board::{Board, StopCause};
+use wave_effects::Plan;
 use wave_io::{Gate, Sink};
-use wave_machine::Plan;
 
 /// Worker 0, which writes the lines of the events that are committed, between its steps and outside the lock.
 pub fn writing_worker<'p, R: Wait, G: Gate, K: Sink>(

@@ -17,12 +17,12 @@ use Rattle.plan_actors.specs.Plans.{Plan, Fits, FitsStart, begin_in}
 use Rattle.code_actor.specs.CodeActors.{Fields}
 use Rattle.plan_actors.specs.PlanActors as actors
 use Rattle.wave_states.specs.States.{Hand}
-use Rattle.wave_machine.specs.declared.kept.Out.{Out}
-use Rattle.wave_machine.specs.Machines.{IsOut, IsReached, Stands, TheState}
+use Rattle.wave_effects.specs.declared.kept.Out.{Out}
+use Rattle.wave_effects.specs.Machines.{IsOut, IsReached, Stands, TheState}
 use Rattle.wave_machine.specs.Picks.{IsOneOf}
-use Rattle.wave_machine.proofs.Ending.{some_at}
-use Rattle.wave_machine.specs.Prepared.{is_start, is_step}
-use Rattle.wave_machine.proofs.Queueing.{some_is}
+use Rattle.wave_effects.proofs.Ending.{some_at}
+use Rattle.wave_effects.specs.Acts.{is_start, is_step}
+use Rattle.wave_effects.proofs.Queueing.{some_is}
 use Rattle.wave_board.specs.declared.board.Board.{Board}
 use Rattle.wave_board.specs.declared.origin.Origin.{Origin}
 use Rattle.wave_board.specs.Boards.{IsAt, IsStanding, labels_of}

@@ -10,11 +10,11 @@ use Rattle.wave_states.specs.Runs as runs
 use Rattle.wave_states.specs.Steps.{step}
 use Rattle.plan_actors.specs.PlanActors.{plan_actors}
 use Rattle.kept_lock.specs.History.{entries_of}
-use Rattle.wave_machine.specs.declared.lease.Lease.{Lease}
-use Rattle.wave_machine.specs.Actors.{MayRun}
-use Rattle.wave_machine.specs.Machines.{TheState}
-use Rattle.wave_machine.specs.Prepared.{is_step}
-use Rattle.wave_machine.specs.Running.{IsInHand}
+use Rattle.wave_effects.specs.declared.lease.Lease.{Lease}
+use Rattle.wave_effects.specs.Actors.{MayRun}
+use Rattle.wave_effects.specs.Machines.{TheState}
+use Rattle.wave_effects.specs.Acts.{is_step}
+use Rattle.wave_effects.specs.Running.{IsInHand}
 use Rattle.wave_board.specs.declared.board.Board.{Board}
 use Rattle.wave_board.specs.declared.origin.Origin.{Origin}
 use Rattle.wave_board.specs.declared.trail.Trail.{Trail}

@@ -1,7 +1,7 @@
 //! Work from a board.
 
 ghost use Rattle.std.specs.Prelude.{◌≡◌, true, false, None, IfOk, OnErr};
-ghost use Rattle.wave_machine.specs.Prepared.{is_start, is_step};
+ghost use Rattle.wave_effects.specs.Acts.{is_start, is_step};
 ghost use Rattle.wave_board.specs.Boards.{IsStanding, StandsStill, history_of};
 ghost use Rattle.wave_board.specs.Taking.{MayTake, Took};
 ghost use Rattle.wave_board.specs.inner.Doing.{Appends, CanAppend, Chooses};

@@ -1,8 +1,8 @@
 //! What a worker gets from a board.
 
 use crate::trail::StopCause;
+use wave_effects::Lease;
 use wave_labels::Label;
-use wave_machine::Lease;
 
 /// What a worker gets from a board.
 #[derive(Drop)]

@@ -3,8 +3,8 @@
 ghost use Rattle.std.specs.Prelude.{◌≡◌, OnOk};
 ghost use Rattle.wave_base.specs.Starts.{first_start};
 ghost use Rattle.plan_actors.specs.Plans.{Fits};
-ghost use Rattle.wave_machine.specs.Machines.{TheState};
-ghost use Rattle.wave_machine.specs.Plans.{plan_of};
+ghost use Rattle.wave_effects.specs.Machines.{TheState};
+ghost use Rattle.wave_effects.specs.Plans.{plan_of};
 ghost use Rattle.wave_board.specs.declared.origin.Origin.{Origin};
 ghost use Rattle.wave_board.specs.Boards.{IsAt};
 ghost use Rattle.wave_board.specs.Taking.{IsFinished};
@@ -17,7 +17,7 @@ use std::process::Abort;
 use std::test::Fail;
 use wave_base::{Finished, OutOfMemory, Start, Worker};
 use wave_board::{Board, Work};
-use wave_machine::Plan;
+use wave_effects::Plan;
 
 // The one worker takes something, and gives back a segment that it got.
 fn take_turn(

@@ -3,7 +3,7 @@
 ghost use Rattle.std.specs.Prelude.{◌≡◌};
 ghost use Rattle.wave_base.specs.Starts.{first_start};
 ghost use Rattle.plan_actors.specs.Plans.{Fits};
-ghost use Rattle.wave_machine.specs.Plans.{plan_of};
+ghost use Rattle.wave_effects.specs.Plans.{plan_of};
 ghost use Rattle.board_runs.specs.inner.Ready.{IsReady};
 
 use super::turns::{first_of, opened, plan_for, take_step};
@@ -14,7 +14,7 @@ use std::thread::{Threads, join};
 use tests_services::TICK;
 use wave_base::{OutOfMemory, Start, Worker};
 use wave_board::{Board, StopCause, Work};
-use wave_machine::Plan;
+use wave_effects::Plan;
 
 fn stop(plan: &Plan, board: &mut Board, worker: Worker, why: StopCause)
     requires ready { IsReady plan.now board.old }

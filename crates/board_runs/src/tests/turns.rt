@@ -3,7 +3,7 @@
 ghost use Rattle.std.specs.Prelude.{◌≡◌, IfErr, IfOk, OnOk};
 ghost use Rattle.wave_base.specs.Starts.{first_start};
 ghost use Rattle.plan_actors.specs.Plans.{Fits};
-ghost use Rattle.wave_machine.specs.Plans.{plan_of};
+ghost use Rattle.wave_effects.specs.Plans.{plan_of};
 ghost use Rattle.board_runs.specs.inner.Ready.{HasRun, IsOut, IsReady};
 
 use plan_actors::PlanActors;
@@ -12,7 +12,7 @@ use std::process::Abort;
 use tests_machine::Case;
 use wave_base::{OutOfMemory, Pause, Start, Worker};
 use wave_board::{Board, Work};
-use wave_machine::{Lease, Plan, Refused, run_lease};
+use wave_effects::{Lease, Plan, Refused, run_lease};
 use wave_theory::hands_stay_over;
 
 // The plan of a service's text and a script's, which are right.

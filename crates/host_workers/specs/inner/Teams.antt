@@ -9,7 +9,7 @@ use Rattle.kept_lock.specs.declared.view.Known.{Known}
 use Rattle.kept_lock.specs.declared.lock.KeptLock.{KeptLock}
 use Rattle.kept_lock.specs.declared.lock.Pass.{Pass}
 use Rattle.kept_lock.specs.Locks.{name_of, known, IsPassOf}
-use Rattle.wave_machine.specs.declared.plan.Plan.{Plan}
+use Rattle.wave_effects.specs.declared.plan.Plan.{Plan}
 use Rattle.wave_board.specs.declared.board.Board.{Board}
 use Rattle.wave_board.specs.declared.origin.Origin.{Origin}
 use Rattle.wave_board.specs.declared.trail.Trail.{Trail}

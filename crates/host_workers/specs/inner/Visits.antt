@@ -4,7 +4,7 @@ use Rattle.wave_base.specs.declared.memory.OutOfMemory.{OutOfMemory}
 use Rattle.wave_base.specs.declared.numbers.Worker.{Worker}
 use Rattle.wave_base.specs.declared.shown.Shown.{Shown}
 use Rattle.wave_labels.specs.declared.label.Label.{Label}
-use Rattle.wave_machine.specs.Prepared.{is_step}
+use Rattle.wave_effects.specs.Acts.{is_step}
 use Rattle.wave_board.specs.declared.board.Board.{Board}
 use Rattle.wave_board.specs.declared.crew.Crew.{Crew}
 use Rattle.wave_board.specs.declared.trail.StopCause.{StopCause}

@@ -10,7 +10,7 @@ use Rattle.kept_lock.specs.History.{StartsWith}
 use Rattle.wave_io.specs.Causes.{Rose}
 use Rattle.wave_io.specs.Streams.{AppendsFront}
 use Rattle.listing_out.specs.Parts.{AreShownFrom, first_lines}
-use Rattle.wave_machine.specs.Machines.{TheState}
+use Rattle.wave_effects.specs.Machines.{TheState}
 use Rattle.wave_board.specs.declared.board.Board.{Board}
 use Rattle.wave_board.specs.declared.origin.Origin.{Origin}
 use Rattle.wave_board.specs.declared.trail.Trail.{Trail}

@@ -5,8 +5,8 @@ use Rattle.wave_labels.specs.declared.label.Label.{Label}
 use Rattle.wave_labels.specs.Labels.{label_of}
 use Rattle.wave_states.specs.Steps.{step}
 use Rattle.plan_actors.specs.PlanActors.{plan_actors}
-use Rattle.wave_machine.specs.Machines.{TheState}
-use Rattle.wave_machine.specs.Prepared.{is_start, is_step}
+use Rattle.wave_effects.specs.Machines.{TheState}
+use Rattle.wave_effects.specs.Acts.{is_start, is_step}
 use Rattle.wave_board.specs.declared.board.Board.{Board}
 use Rattle.wave_board.specs.Boards.{InEachState, IsStanding}
 use Rattle.wave_board.specs.declared.work.Work.{Work}
