@@ -21,7 +21,7 @@ use Rattle.wave_board.specs.declared.origin.Origin.{Origin}
 use Rattle.wave_board.specs.declared.trail.StopCause.{StopCause}
 use Rattle.wave_board.specs.declared.trail.Trail.{Trail}
 use Rattle.wave_board.specs.declared.trail.Trail.TheVariants.{Step, Halt}
-use Rattle.wave_board.specs.declared.work.Work.TheVariants as work
+use Rattle.wave_board.specs.declared.turn.Turn.TheVariants as work
 use Rattle.wave_board.specs.Boards.{InEachState, IsAt, IsWord, StandsFor, StandsStill, WordStands, history_of, labels_in, labels_of, owner_of}
 use Rattle.wave_board.specs.Taking.{AreEven, IsFinished, Took, begins, ends}
 use Rattle.wave_board.proofs.Staying.{labels_are}

@@ -12,7 +12,7 @@ use Rattle.wave_effects.specs.Acts.{is_step}
 use Rattle.wave_board.specs.declared.board.Board.{Board}
 use Rattle.wave_board.specs.declared.trail.Trail.{Trail}
 use Rattle.wave_board.specs.declared.trail.Trail.TheVariants.{Step}
-use Rattle.wave_board.specs.declared.work.Work.TheVariants.{Stepped}
+use Rattle.wave_board.specs.declared.turn.Turn.TheVariants.{Stepped}
 use Rattle.wave_board.specs.Boards.{IsStanding, StandsStill, history_of, owner_of}
 use Rattle.wave_board.specs.Taking.{AreEven, MayTake, Took}
 use Rattle.host_workers.specs.declared.task.Task.{Task}

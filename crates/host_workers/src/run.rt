@@ -15,7 +15,7 @@ ghost use Rattle.host_workers.specs.Lines.{event_lines};
 ghost use Rattle.host_workers.specs.Runs.{IsWholeRun};
 
 use crate::boards::board_at;
-use crate::ending::{Ending, RunError};
+use crate::ending::{RunError, WorkerEnd};
 use crate::post::Post;
 use crate::team::{helpers_of, run_team};
 use context_tree::trees_that_fit;
@@ -113,11 +113,11 @@ fn run_workers<'l, 'p, R: Threads + Wait + Sync, G: Gate + Sync, K: Sink + Send>
 {
     let helpers = helpers_of(post, first)?;
     match run_team(post, first, helpers, from, out) {
-        Ending::Finished => Ok(()),
-        Ending::WriteFault => Err(RunError::WriteFault),
-        Ending::Stopped(StopCause::Memory(refused)) => Err(RunError::OutOfMemory(refused)),
-        Ending::Stopped(StopCause::SinkFault) => unreachable!(),
-        Ending::OutOfMemory(refused) => Err(RunError::OutOfMemory(refused)),
+        WorkerEnd::Finished => Ok(()),
+        WorkerEnd::WriteFault => Err(RunError::WriteFault),
+        WorkerEnd::Stopped(StopCause::Memory(refused)) => Err(RunError::OutOfMemory(refused)),
+        WorkerEnd::Stopped(StopCause::SinkFault) => unreachable!(),
+        WorkerEnd::OutOfMemory(refused) => Err(RunError::OutOfMemory(refused)),
     }
 }
 

@@ -13,7 +13,7 @@ use std::test::Fail;
 use std::thread::{Threads, join};
 use tests_services::TICK;
 use wave_base::{OutOfMemory, Start, Worker};
-use wave_board::{Board, StopCause, Work};
+use wave_board::{Board, StopCause, Turn};
 use wave_effects::Plan;
 
 fn stop(plan: &Plan, board: &mut Board, worker: Worker, why: StopCause)
@@ -30,12 +30,12 @@ fn is_stopped(rt: &impl Abort, plan: &Plan, board: &mut Board) -> Result<(), Out
 {
     let work = board.take(Worker(0))?;
     match work {
-        Work::Stopped(StopCause::SinkFault) => Ok(()),
-        Work::Stopped(StopCause::Memory(_))
-        | Work::Stepped(_)
-        | Work::Segment(_)
-        | Work::Nothing
-        | Work::Finished => panic!(rt; "not stopped"),
+        Turn::Stopped(StopCause::SinkFault) => Ok(()),
+        Turn::Stopped(StopCause::Memory(_))
+        | Turn::Stepped(_)
+        | Turn::Segment(_)
+        | Turn::Nothing
+        | Turn::Finished => panic!(rt; "not stopped"),
     }
 }
 

@@ -11,7 +11,7 @@ use std::alloc::Global;
 use std::process::Abort;
 use tests_machine::Case;
 use wave_base::{OutOfMemory, Pause, Start, Worker};
-use wave_board::{Board, Work};
+use wave_board::{Board, Turn};
 use wave_effects::{Lease, Plan, Refused, run_lease};
 use wave_theory::hands_stay_over;
 
@@ -72,8 +72,8 @@ pub(super) fn take_step(
     }
     let work = board.take(worker)?;
     match work {
-        Work::Stepped(_) => Ok(()),
-        Work::Segment(_) | Work::Nothing | Work::Finished | Work::Stopped(_) => {
+        Turn::Stepped(_) => Ok(()),
+        Turn::Segment(_) | Turn::Nothing | Turn::Finished | Turn::Stopped(_) => {
             panic!(rt; "no step")
         }
     }
@@ -94,8 +94,8 @@ pub(super) fn take_segment(
     }
     let work = board.take(worker)?;
     match work {
-        Work::Segment(lease) => Ok(lease),
-        Work::Stepped(_) | Work::Nothing | Work::Finished | Work::Stopped(_) => {
+        Turn::Segment(lease) => Ok(lease),
+        Turn::Stepped(_) | Turn::Nothing | Turn::Finished | Turn::Stopped(_) => {
             panic!(rt; "no segment")
         }
     }
@@ -121,8 +121,8 @@ pub(super) fn find_nothing(
     }
     let work = board.take(worker)?;
     match work {
-        Work::Nothing => Ok(()),
-        Work::Stepped(_) | Work::Segment(_) | Work::Finished | Work::Stopped(_) => {
+        Turn::Nothing => Ok(()),
+        Turn::Stepped(_) | Turn::Segment(_) | Turn::Finished | Turn::Stopped(_) => {
             panic!(rt; "not nothing")
         }
     }

@@ -6,7 +6,7 @@ use wave_labels::Label;
 
 /// What a worker gets from a board.
 #[derive(Drop)]
-pub enum Work {
+pub enum Turn {
     /// This label was taken, and it is done.
     Stepped(Label),
     /// A segment is out: it is to be run, and given back.

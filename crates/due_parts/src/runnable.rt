@@ -12,7 +12,7 @@ use wave_effects::Plan;
 
 /// What is to be run: a service with each name resolved, its code, a script for it, and where its run begins.
 #[derive(Debug, Drop)]
-pub struct Work {
+pub struct Runnable {
     /// The service, with each name resolved.
     pub service: Resolved,
     /// Its code, verified.
@@ -23,7 +23,7 @@ pub struct Work {
     pub start: Start,
 }
 
-impl Work {
+impl Runnable {
     /// Its service, a plan of it for 1 to 16 workers, and where it begins; another number is taken for the nearest of these.
     pub fn into_plan(self, workers: u8) -> (Resolved, Plan, Start)
         requires { CanRun self }

@@ -1,6 +1,6 @@
 use Rattle.std.proofs.Common.{rules, ◌≡◌}
 use Rattle.due_parts.specs.Runs.{nearest_workers}
-use Rattle.due_parts.proofs.work.Work.into_plan.Goals as goal
+use Rattle.due_parts.proofs.runnable.Runnable.into_plan.Goals as goal
 
 pub returns-clause-plan : goal.returns-clause-plan
 returns-clause-plan c =
