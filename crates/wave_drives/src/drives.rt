@@ -28,9 +28,9 @@ use crate::walk::Walk;
 use context_tree::trees_that_fit;
 use plan_actors::{PlanActors, runs_are_short};
 use std::alloc::Global;
-use wave_base::{Finished, OutOfMemory, Seq, Start};
+use wave_base::{Finished, Host, OutOfMemory, Seq, Start, Worker};
 use wave_effects::{Plan, states_are_known};
-use wave_labels::Label;
+use wave_labels::{Act, Label};
 use wave_machine::Machine;
 use wave_theory::{empty_at_end, rules_pick};
 
@@ -78,16 +78,16 @@ fn drive_on(
     let mut labels = Vec::new(alloc);
     while let Some(label) = next(&walk.machine, rule, &mut draw)? {
         walk.take(alloc, plan, &label)?;
-        push(&mut labels, label)?;
+        push(&mut labels, label.worker, label.host, label.act)?;
     }
     Ok(labels)
 }
 
 // Adds a label.
-fn push(labels: &mut Vec<Label>, label: Label) -> Result<(), OutOfMemory>
-    ensures { OnOk result (labels.new.items ≡ labels.old.items ++ label ∷ []) }
+fn push(labels: &mut Vec<Label>, worker: Worker, host: Host, act: Act) -> Result<(), OutOfMemory>
+    ensures { OnOk result (labels.new.items ≡ labels.old.items ++ record { worker = worker; host = host; act = act } ∷ []) }
 {
-    labels.push(label)?;
+    labels.push(Label { worker, host, act })?;
     Ok(())
 }
 
