@@ -1,19 +1,15 @@
-//! Tests of the kept lock, over several threads.
+//! Counters under the lock, over several threads.
 
 ghost use Rattle.std.specs.Prelude.{◌≡◌, IfOk};
 ghost use Rattle.kept_lock.specs.Knowing.{first as opening};
 ghost use Rattle.kept_lock.specs.Locks.{known, IsPassOf};
-ghost use Rattle.lock_counter.specs.Passes.{IsFresh};
 ghost use Rattle.lock_counter.specs.Jobs.{IsReady, IsDone};
 
-mod cross;
-mod notes;
-
-use crate::{
+use kept_lock::{KeptLock, Pass, Wakes};
+use lock_counter::{
     Addition, Counter, Done, Job, Order, Plan, Turn, add, add_again, add_below, add_by_four,
     add_by_two, add_one, run, run_all, total, wait_for,
 };
-use kept_lock::{KeptLock, Pass, Wakes};
 use std::hint::spin_loop;
 use std::sync::Wait;
 use std::test::Fail;

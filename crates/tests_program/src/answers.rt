@@ -10,7 +10,7 @@ mod second;
 mod traces;
 mod traps;
 
-use eventwave::eventwave_alone;
+use crate::tests::rows::call_alone;
 use std::alloc::Global;
 use std::process::Abort;
 use tests_services::words;
@@ -32,7 +32,7 @@ fn due(rt: &impl Abort, alloc: Global, text: &str, input: &[u8]) -> Result<Answe
     let mut source = MemSource::new(bytes, 4096, Seq::new(alloc));
     let mut out = MemSink::new(alloc, 4_000_000, 4096, Seq::new(alloc))?;
     let mut notes = MemSink::new(alloc, 1000, 1000, Seq::new(alloc))?;
-    let status = eventwave_alone(alloc, &words, &mut source, &mut out, &mut notes);
+    let status = call_alone(alloc, &words, &mut source, &mut out, &mut notes);
     assert!(rt; status.is_some());
     Ok(Answer {
         status: status.unwrap_or(0),

@@ -1,5 +1,6 @@
-// That a lock may be sent and shared, and a pass sent, wherever its value may be sent, and its name sent and shared.
-// It is shown here once, for every value: a proof of it that is missing would else show only at the first use above.
+//! That a lock may be sent and shared, and a pass sent, wherever its value may be sent, and its name sent and shared.
+//! It is shown here once, for every value: a proof of it that is missing would else show only at the first use above.
+
 ghost use Rattle.std.specs.Prelude.{◌≡◌};
 
 use kept_lock::{Kept, KeptLock, Pass};

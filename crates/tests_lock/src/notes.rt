@@ -3,7 +3,7 @@
 ghost use Rattle.std.specs.Prelude.{◌≡◌, ◌++◌, ◌∷◌, [], MatchResult};
 ghost use Rattle.kept_lock.specs.Locks.{known, IsPassOf};
 
-use super::cross::{sent_lock, sent_pass, shared_lock};
+use crate::cross::{sent_lock, sent_pass, shared_lock};
 use kept_lock::{Kept, KeptLock, Parting, Pass, Wakes, passes_share_one_history};
 use std::alloc::Global;
 use std::sync::Wait;
