@@ -14,7 +14,7 @@ use Rattle.due_parts.specs.declared.report.Report.{Report}
 use Rattle.due_parts.specs.declared.report.Report.TheVariants.{Listing, Point}
 use Rattle.due_parts.specs.declared.telling.Telling.{Telling}
 use Rattle.due_parts.specs.declared.telling.Telling.TheVariants.{Reports, Traces}
-use Rattle.due_parts.specs.declared.work.Work.{Work}
+use Rattle.due_parts.specs.declared.runnable.Runnable.{Runnable}
 use Rattle.due_parts.specs.Accepted.{IsAccepted, IsAcceptedBy, IsOnlyDueOf, IsReady, IsTraced, report_of, trace_of}
 use Rattle.due_parts.specs.Answers.{Only}
 use Rattle.due_parts.specs.Scripts.{IsDueScripted}
@@ -42,12 +42,12 @@ module _ (c : Command) (bytes : List ℕ) where
   given_found P (Err (OutOfMemory refused)) lift o = tt
 
   -- the report of work that is ready
-  pub reports_for : (P : Telling → Answer → Type 0) (report : Report) (work : Work) → IsReady P work → ((due : Answer) → Only (P (Reports report)) due → IsToldFor c bytes due)
+  pub reports_for : (P : Telling → Answer → Type 0) (report : Report) (work : Runnable) → IsReady P work → ((due : Answer) → Only (P (Reports report)) due → IsToldFor c bytes due)
       → (a : Answer) → a ≡ report_of work report → IsToldFor c bytes a
   reports_for P report work ready lift a is = subst (IsToldFor c bytes) (sym is) (lift (report_of work report) (ready.due report))
 
   -- its trace by a crew
-  pub traces_for : (P : Telling → Answer → Type 0) (places : Places) (crew : Crew) (work : Work) → IsReady P work → ((due : Answer) → P (Traces places crew) due → IsToldFor c bytes due)
+  pub traces_for : (P : Telling → Answer → Type 0) (places : Places) (crew : Crew) (work : Runnable) → IsReady P work → ((due : Answer) → P (Traces places crew) due → IsToldFor c bytes due)
       → (a : Answer) → IsTraced crew work places a → IsToldFor c bytes a
   traces_for P places crew work ready also a t = subst (IsToldFor c bytes) (sym t.is) (also (trace_of work places t.journal) (ready.traced places crew t.journal t.run))
 
@@ -112,7 +112,7 @@ module _ (places : Places) (crew : Crew) (bytes : List ℕ) where
   resumed_lift small due o = sized_fine LONG_INPUT_BYTES (IsDueResumed (Reports (Listing places))) bytes due small o
 
   -- a script that is run from a checkpoint
-  pub resumed_found : (engine : Engine) (work : Work) → length bytes ≤ LONG_INPUT_BYTES → engine ≡ engine_of crew → IsAcceptedBy (λ telling. IsDueResumed telling bytes) (Ok work)
+  pub resumed_found : (engine : Engine) (work : Runnable) → length bytes ≤ LONG_INPUT_BYTES → engine ≡ engine_of crew → IsAcceptedBy (λ telling. IsDueResumed telling bytes) (Ok work)
       → IsFound (Resume places crew) bytes (Ok (Run (record { telling = Reports (Listing places); engine = engine }) work))
   resumed_found engine work small is h = record {
     asked = (λ i. Some (record { telling = Reports (Listing places); engine = sym is i }));

@@ -10,7 +10,7 @@ use Rattle.due_parts.specs.declared.refusal.Refusal.TheVariants.{Due, OutOfMemor
 use Rattle.due_parts.specs.declared.report.Report.TheVariants.{Point}
 use Rattle.due_parts.specs.declared.telling.Telling.{Telling}
 use Rattle.due_parts.specs.declared.telling.Telling.TheVariants.{Reports, Traces}
-use Rattle.due_parts.specs.declared.work.Work.{Work}
+use Rattle.due_parts.specs.declared.runnable.Runnable.{Runnable}
 use Rattle.due_parts.specs.Accepted.{CanRun, IsTraced, point_of, report_of}
 use Rattle.due_stages.specs.declared.work.StagedWork.{StagedWork}
 use Rattle.due_stages.specs.Accepted.{CanStage}
@@ -23,12 +23,12 @@ use Rattle.due_answer.specs.Due.{IsToldFor}
 use Rattle.due_answer.specs.Tasks.{staged_of, task_of}
 
 -- what is told of work that was run: the report; or the listing, and the journal of a run of the crew
-abbrev pub Tells : Telling → Work → Answer → Type 0
+abbrev pub Tells : Telling → Runnable → Answer → Type 0
 Tells (Reports report) work a = a ≡ report_of work report
 Tells (Traces places crew) work a = IsTraced crew work places a
 
--- Work can be run, and where its point is asked for it has one; it is run for what the command asks for; and whatever is told of it so is due.
-pub record IsRunFor (c : Command) (bytes : List ℕ) (task : Task) (work : Work) : Type 0 where
+-- The work can be run, and where its point is asked for it has one; it is run for what the command asks for; and whatever is told of it so is due.
+pub record IsRunFor (c : Command) (bytes : List ℕ) (task : Task) (work : Runnable) : Type 0 where
   pub asked : task_of c ≡ Some task
   pub can_run : CanRun work
   pub saved : task.telling ≡ Reports Point → IsPoint work.program.shape (point_of work)

@@ -6,7 +6,7 @@ ghost use Rattle.due_answer.specs.Tasks.{engine_of, workers_of};
 
 use command_words::{Crew, Schedule};
 use due_parts::Telling;
-use wave_machine::PickRule;
+use wave_drives::PickRule;
 
 /// What runs a script.
 #[derive(Clone, Copy, Debug, PartialEq, Eq)]

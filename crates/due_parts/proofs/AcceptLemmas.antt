@@ -15,7 +15,7 @@ use Rattle.script_reader.specs.Scripts.{IsAnswer, IsScriptOf}
 use Rattle.due_parts.specs.declared.refusal.Refusal.{Refusal}
 use Rattle.due_parts.specs.declared.refusal.Refusal.TheVariants.{Due, OutOfMemory}
 use Rattle.due_parts.specs.declared.answer.Answer.{Answer}
-use Rattle.due_parts.specs.declared.work.Work.{Work}
+use Rattle.due_parts.specs.declared.runnable.Runnable.{Runnable}
 use Rattle.due_parts.specs.Accepted.{IsAcceptedBy, report_of, trace_of}
 use Rattle.due_parts.specs.Answers.{Only, too_large_script}
 use Rattle.due_parts.specs.Scripts.{IsDueLines, IsDueRead, IsDueShort}
@@ -31,7 +31,7 @@ use Rattle.wave_base.specs.Memory.{the_refusal}
 -- ---- what is accepted, from one to the other
 
 module _ (P Q : Telling → Answer → Type 0) (also : (telling : Telling) (due : Answer) → P telling due → Q telling due) (lift : (telling : Telling) (due : Answer) → Only (P telling) due → Only (Q telling) due) where
-  pub accepted_as : (x : Result Work Refusal) → IsAcceptedBy P x → IsAcceptedBy Q x
+  pub accepted_as : (x : Result Runnable Refusal) → IsAcceptedBy P x → IsAcceptedBy Q x
   accepted_as (Err (Due answer)) h = λ telling. lift telling answer (h telling)
   accepted_as (Err (OutOfMemory refused)) h = tt
   accepted_as (Ok work) h = record {
@@ -42,7 +42,7 @@ module _ (P Q : Telling → Answer → Type 0) (also : (telling : Telling) (due 
 
 -- ---- a service, and a script that is to be there
 
-module _ (P : Telling → ServiceTree → Answer → Type 0) (text : List ℕ) (typed : Typed) (program : Program) (r : Result Work Refusal) where
+module _ (P : Telling → ServiceTree → Answer → Type 0) (text : List ℕ) (typed : Typed) (program : Program) (r : Result Runnable Refusal) where
   typed_as_read : (read : Result ServiceTree TextFault) → IsOnlyParse text read → IsTypedRead typed program read →
       ((tree : ServiceTree) → IsTypedTree tree typed → IsCoded typed.shape typed.resolved program → IsAcceptedBy (λ telling. P telling tree) r) → IsAcceptedBy (λ telling. IsDueService (P telling) text) r
   typed_as_read (Err e) parse is o = absurd is
@@ -72,7 +72,7 @@ only_long P text long = record { is_due = inl (long, refl); only = others }
     others other (inr h) = let small = h.0 in absurd (omega arith)
 
 -- what is accepted of a text that isn't too long
-pub short_accepted : (P : Telling → List ℕ → Answer → Type 0) (text : List ℕ) (r : Result Work Refusal) → length text ≤ SCRIPT_BYTES → IsAcceptedBy (λ telling. P telling text) r → IsAcceptedBy (λ telling. IsDueShort (P telling) text) r
+pub short_accepted : (P : Telling → List ℕ → Answer → Type 0) (text : List ℕ) (r : Result Runnable Refusal) → length text ≤ SCRIPT_BYTES → IsAcceptedBy (λ telling. P telling text) r → IsAcceptedBy (λ telling. IsDueShort (P telling) text) r
 short_accepted P text r small h =
     accepted_as (λ telling. P telling text) (λ telling. IsDueShort (P telling) text) (λ telling due p. inr (small, p)) (λ telling due o. only_short (P telling) text due small o) r h
 
@@ -84,7 +84,7 @@ module _ (P : Script → Answer → Type 0) (shape : Shape) (earlier : Earlier) 
   }
 
 -- what is accepted of a script that was read
-pub read_accepted : (P : Telling → Script → Answer → Type 0) (shape : Shape) (earlier : Earlier) (text : List ℕ) (script : Script) (r : Result Work Refusal) → IsScriptOf shape earlier text (Ok script)
+pub read_accepted : (P : Telling → Script → Answer → Type 0) (shape : Shape) (earlier : Earlier) (text : List ℕ) (script : Script) (r : Result Runnable Refusal) → IsScriptOf shape earlier text (Ok script)
     → IsAcceptedBy (λ telling. P telling script) r → IsAcceptedBy (λ telling. IsDueLines (P telling) shape earlier text) r
 read_accepted P shape earlier text script r so h =
     accepted_as (λ telling. P telling script) (λ telling. IsDueLines (P telling) shape earlier text) (λ telling due p. record { read = Ok script; reads = so.read; due_is = p })

@@ -43,9 +43,9 @@ use Rattle.wave_labels.specs.declared.label.Act.{Act}
 use Rattle.wave_labels.specs.declared.label.Act.TheVariants as act
 use Rattle.wave_labels.specs.declared.label.Label.{Label}
 use Rattle.wave_labels.specs.Labels.{act_of, label_of}
-use Rattle.wave_machine.specs.Machines.{IsReached, TheState}
-use Rattle.wave_machine.proofs.Opening.{left_by, pass_found}
-use Rattle.wave_machine.proofs.Taking.{run_more}
+use Rattle.wave_effects.specs.Machines.{IsReached, TheState}
+use Rattle.wave_effects.proofs.Opening.{left_by, pass_found}
+use Rattle.wave_effects.proofs.Taking.{run_more}
 
 module _ (plan : Plan) (service : Resolved) (code : IsCode service plan.program) (fits : Fits plan) (start : Start) (begins : FitsStart plan start) where
   -- ---- the trees of the fold are of the shape

@@ -41,14 +41,15 @@ use Rattle.wave_labels.specs.declared.label.Label.{Label}
 use Rattle.wave_labels.specs.Labels.{label_of}
 use Rattle.due_parts.specs.declared.report.Report.{Report}
 use Rattle.due_parts.specs.declared.report.Report.TheVariants.{Listing}
-use Rattle.due_parts.specs.declared.work.Work.{Work}
+use Rattle.due_parts.specs.declared.runnable.Runnable.{Runnable}
 use Rattle.due_parts.specs.Accepted.{CanRun, IsJournalOf, IsReady, plan_with, point_of, ran, report_of, trace_of}
 use Rattle.due_parts.specs.Answers.{Only, with_text}
 use Rattle.due_parts.specs.Told.{IsDueFirst, IsDueFold, IsDueTold, IsDueTrace, point_behind, reported}
 use Rattle.due_parts.specs.Coded.{IsCoded}
 use Rattle.due_parts.specs.Served.{IsTypedTree}
 use Rattle.due_parts.proofs.DueLemmas.{only_fold}
-use Rattle.wave_machine.specs.Lengths.{DrivesAreMeasured, FinishedRunsAreMeasured}
+use Rattle.wave_drives.specs.Measured.{DrivesAreMeasured}
+use Rattle.wave_effects.specs.Lengths.{FinishedRunsAreMeasured}
 use Rattle.due_parts.specs.Runs.{ComesTo, IsRunOf, nearest_workers}
 use Rattle.due_parts.proofs.NameLemmas.{code_typed}
 use Rattle.due_parts.proofs.RunLemmas.{FinishedStatesMean, PlansDrive, TheRulesPick, few_nearest, run_comes, some_nearest, some_run}
@@ -73,7 +74,7 @@ first_begins tree typed script start t fits is =
     subst (IsStart typed.shape script.hosts) (sym is) (first_fits typed.shape script.hosts (trees.first_fits typed.shape t.well_formed) fits.some_host)
 
 -- from it on
-pub ready_first : (tree : ServiceTree) (typed : Typed) (script : Script) (start : Start) (work : Work) → IsTypedTree tree typed → start ≡ first_start typed.shape → IsReady (λ telling. IsDueTold telling tree start script) work
+pub ready_first : (tree : ServiceTree) (typed : Typed) (script : Script) (start : Start) (work : Runnable) → IsTypedTree tree typed → start ≡ first_start typed.shape → IsReady (λ telling. IsDueTold telling tree start script) work
     → IsReady (λ telling. IsDueFirst telling tree script) work
 ready_first tree typed script start work t is h =
     subst (λ s. IsReady (λ telling. IsDueTold telling tree s script) work) (is ∙ ap first_start t.shape_is) h
@@ -81,7 +82,7 @@ ready_first tree typed script start work t is h =
 module _ (tree : ServiceTree) (typed : Typed) (program : Program) (start : Start) (script : Script) (t : IsTypedTree tree typed) (coded : IsCoded typed.shape typed.resolved program)
     (begun : IsStart typed.shape script.hosts start) (fits : IsScript typed.shape script) (rules : TheRulesPick) (drives : PlansDrive) (finished_measured : FinishedRunsAreMeasured) (drives_measured : DrivesAreMeasured) (finished_mean : FinishedStatesMean)
     (plans_few : PlansStayFew) (few_saved : FewAreSaved) (runs_come : RunsCome) where
-  abbrev work : Work
+  abbrev work : Runnable
   work = record { service = typed.resolved; program = program; script = script; start = start }
 
   same_shape : program.shape ≡ typed.shape
@@ -155,5 +156,5 @@ module _ (tree : ServiceTree) (typed : Typed) (program : Program) (start : Start
   }
 
 -- what the evaluator gives of it is the same
-pub evaluated : (work : Work) → CanRun work → ran work ≡ results_at work.program.shape work.service work.start work.script
+pub evaluated : (work : Runnable) → CanRun work → ran work ≡ results_at work.program.shape work.service work.start work.script
 evaluated work h = plan_means work.service work.program h.code work.start work.script h.begins (h.fits 1 (omega arith) (omega arith)).script

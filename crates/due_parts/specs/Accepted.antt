@@ -22,14 +22,14 @@ use Rattle.due_parts.specs.declared.telling.Telling.TheVariants.{Reports, Traces
 use Rattle.due_parts.specs.declared.answer.Answer.{Answer}
 use Rattle.due_parts.specs.declared.report.Report.{Report}
 use Rattle.due_parts.specs.declared.report.Report.TheVariants.{Listing}
-use Rattle.due_parts.specs.declared.work.Work.{Work}
+use Rattle.due_parts.specs.declared.runnable.Runnable.{Runnable}
 use Rattle.due_parts.specs.Answers.{Only, with_text}
 use Rattle.due_parts.specs.Scripts.{IsDueScripted}
 use Rattle.due_parts.specs.Told.{point_behind, reported}
 use Rattle.due_parts.specs.Runs.{IsRunOf, nearest_workers}
 
 -- the plan of so many workers
-abbrev pub plan_with : Work → ℕ → Plan
+abbrev pub plan_with : Runnable → ℕ → Plan
 plan_with work workers = record { program = work.program; script = work.script; workers = workers }
 
 -- a plan that fits, and whose program is the code of a service
@@ -39,34 +39,34 @@ pub record HasCode (plan : Plan) : Type 0 where
   pub fits : Fits plan
 
 -- what its script gives from its Start, with calls run by their code
-abbrev pub ran : Work → Finished
+abbrev pub ran : Runnable → Finished
 ran work = finished_of (code_ran work.program) work.program.shape work.start work.script
 
 -- a report of that
-abbrev pub report_of : Work → Report → Answer
+abbrev pub report_of : Runnable → Report → Answer
 report_of work report = reported work.program.shape work.start work.script report (ran work)
 
 -- what is told of it where it is traced, with this journal
-abbrev pub trace_of : Work → Places → List Label → Answer
+abbrev pub trace_of : Runnable → Places → List Label → Answer
 trace_of work places journal = with_text (report_of work (Listing places)) (journal_text work.program.shape journal)
 
 -- where it has come to then
-abbrev pub point_of : Work → Checkpoint
+abbrev pub point_of : Runnable → Checkpoint
 point_of work = point_behind work.start work.script (ran work)
 
 -- the labels of a journal are a run of the crew
-abbrev pub IsJournalOf : Crew → Work → List Label → Type 0
+abbrev pub IsJournalOf : Crew → Runnable → List Label → Type 0
 IsJournalOf crew work journal = IsRunOf crew (plan_with work (nearest_workers crew.workers)) work.start (map label_of journal)
 
 -- what is told of it where a crew traces it
-pub record IsTraced (crew : Crew) (work : Work) (places : Places) (answer : Answer) : Type 0 where
+pub record IsTraced (crew : Crew) (work : Runnable) (places : Places) (answer : Answer) : Type 0 where
   pub journal : List Label
   pub run : IsJournalOf crew work journal
   pub is : answer ≡ trace_of work places journal
 
 -- The program is the code of the service; with 1 to 16 workers its plan fits, and so does its Start; there is a ticket for
 -- each result; each crew has a run; and what it leaves that begins with the root alone can be saved.
-pub record CanRun (work : Work) : Type 0 where
+pub record CanRun (work : Runnable) : Type 0 where
   pub code : IsCode work.service work.program
   pub fits : (workers : ℕ) → 1 ≤ workers → workers ≤ WORKERS → Fits (plan_with work workers)
   pub begins : IsStart work.program.shape work.script.hosts work.start
@@ -75,19 +75,19 @@ pub record CanRun (work : Work) : Type 0 where
   pub saved : work.start ≡ first_start work.program.shape → IsPoint work.program.shape (point_of work)
 
 -- Whatever is to be told: what is reported of all that it gives is due, and nothing else; and what is traced of a run of the crew is due.
-pub record IsReady (P : Telling → Answer → Type 0) (work : Work) : Type 0 where
+pub record IsReady (P : Telling → Answer → Type 0) (work : Runnable) : Type 0 where
   pub can_run : CanRun work
   pub due : (report : Report) → Only (P (Reports report)) (report_of work report)
   pub traced : (places : Places) (crew : Crew) (journal : List Label) → IsJournalOf crew work journal → P (Traces places crew) (trace_of work places journal)
 
 -- a refusal is due, whatever is to be told, and nothing else
-abbrev pub IsAcceptedBy : (Telling → Answer → Type 0) → Result Work Refusal → Type 0
+abbrev pub IsAcceptedBy : (Telling → Answer → Type 0) → Result Runnable Refusal → Type 0
 IsAcceptedBy P (Err (Due answer)) = (telling : Telling) → Only (P telling) answer
 IsAcceptedBy P (Err (OutOfMemory refused)) = Unit {0}
 IsAcceptedBy P (Ok work) = IsReady P work
 
 -- of the bytes of a service and a script
-abbrev pub IsAccepted : List ℕ → Result Work Refusal → Type 0
+abbrev pub IsAccepted : List ℕ → Result Runnable Refusal → Type 0
 IsAccepted bytes accepted = IsAcceptedBy (λ telling. IsDueScripted telling bytes) accepted
 
 -- an answer that was found, or a refusal: it is so of that, and of no other

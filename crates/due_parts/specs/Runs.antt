@@ -12,11 +12,11 @@ use Rattle.wave_states.specs.Runs as runs
 use Rattle.plan_actors.specs.Finishing.{Tells}
 use Rattle.plan_actors.specs.PlanActors.{plan_actors}
 use Rattle.plan_actors.specs.Plans.{Plan, begin_in}
-use Rattle.wave_machine.specs.declared.rules.PickRule.{PickRule}
-use Rattle.wave_machine.specs.declared.rules.PickRule.TheVariants.{Seed, Oldest, Newest, Movers, MailLast}
-use Rattle.wave_machine.specs.Lengths.{IsMeasured}
-use Rattle.wave_machine.specs.Machines.{IsReached, TheState}
-use Rattle.wave_machine.specs.Rules.{number_of, rule_of}
+use Rattle.wave_drives.specs.declared.rules.PickRule.{PickRule}
+use Rattle.wave_drives.specs.declared.rules.PickRule.TheVariants.{Seed, Oldest, Newest, Movers, MailLast}
+use Rattle.wave_effects.specs.Lengths.{IsMeasured}
+use Rattle.wave_effects.specs.Machines.{IsReached, TheState}
+use Rattle.wave_drives.specs.Rules.{number_of, rule_of}
 
 -- a plan has 1 to 16 workers, and another number is taken for the nearest of these
 abbrev pub nearest_workers : ℕ → ℕ

@@ -6,15 +6,15 @@ ghost use Rattle.due_parts.specs.Accepted.{IsAccepted};
 
 use crate::answer::refused;
 use crate::refusal::Refusal;
+use crate::runnable::Runnable;
 use crate::script::accept_script;
 use crate::service::served;
-use crate::work::Work;
 use input_parts::parts_of;
 use std::alloc::Global;
 
 /// Reads a service and a script. A refusal that is due is the only answer that is, whatever is to be told; and where there is something to run,
 /// what it gives when its calls run by its code, from the first Start, is told by the only answer that is due.
-pub fn accept(alloc: Global, input: &[u8]) -> Result<Work, Refusal>
+pub fn accept(alloc: Global, input: &[u8]) -> Result<Runnable, Refusal>
     ensures due { IsAccepted input.now result }
     ensures first { IfOk result (λ work. work.start ≡ first_start work.program.shape) }
 {

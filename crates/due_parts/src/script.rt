@@ -19,7 +19,7 @@ ghost use Rattle.wave_base.specs.Memory.{the_refusal};
 
 use crate::answer::{Answer, refused};
 use crate::refusal::Refusal;
-use crate::work::Work;
+use crate::runnable::Runnable;
 use code_meaning::finished_states_mean;
 use context_types::Typed;
 use fault_notes::script_note;
@@ -29,7 +29,8 @@ use script_reader::{ScriptError, read_script};
 use service_verify::Verified;
 use std::alloc::Global;
 use wave_base::{OutOfMemory, SCRIPT_BYTES, Script, Start};
-use wave_machine::runs_are_measured;
+use wave_drives::drives_are_measured;
+use wave_effects::runs_are_measured;
 use wave_theory::rules_pick;
 
 /// The refusal of a script with this fault.
@@ -42,7 +43,7 @@ pub fn refused_script(alloc: Global, error: &ScriptError) -> Result<Answer, OutO
 }
 
 /// A script that was read, with its service, the code, and the Start: it can be run, and what is told of it is due.
-pub fn ready(typed: Typed, program: Verified, start: Start, script: Script) -> Work
+pub fn ready(typed: Typed, program: Verified, start: Start, script: Script) -> Runnable
     ensures ready { (tree : ServiceTree) → IsTypedTree tree typed → IsCoded typed.shape typed.resolved program → IsStart typed.shape script.hosts start → IsScript typed.shape script → IsReady (λ telling. IsDueTold telling tree start script) result }
     ensures program { result.program ≡ program }
     ensures start { result.start ≡ start }
@@ -50,6 +51,7 @@ pub fn ready(typed: Typed, program: Verified, start: Start, script: Script) -> W
     plans_drive();
     rules_pick::<PlanActors>();
     runs_are_measured();
+    drives_are_measured();
     finished_states_mean();
     plans_stay_few();
     scripts_are_few();
@@ -59,7 +61,7 @@ pub fn ready(typed: Typed, program: Verified, start: Start, script: Script) -> W
         shape: _,
         resolved,
     } = typed;
-    Work {
+    Runnable {
         service: resolved,
         program,
         script,
@@ -73,7 +75,7 @@ fn accept_lines(
     typed: Typed,
     program: Verified,
     text: &[u8],
-) -> Result<Work, Refusal>
+) -> Result<Runnable, Refusal>
     requires shape { IsShape typed.shape }
     requires short { length text.now ≤ SCRIPT_BYTES }
     ensures due { (tree : ServiceTree) → IsTypedTree tree typed → IsCoded typed.shape typed.resolved program → IsAcceptedBy (λ telling. IsDueLines (IsDueFirst telling tree) typed.shape nothing_earlier text.now) result }
@@ -94,7 +96,7 @@ pub fn accept_script(
     typed: Typed,
     program: Verified,
     text: &[u8],
-) -> Result<Work, Refusal>
+) -> Result<Runnable, Refusal>
     requires { IsShape typed.shape }
     ensures due { (tree : ServiceTree) → IsTypedTree tree typed → IsCoded typed.shape typed.resolved program → IsAcceptedBy (λ telling. IsDueScript (IsDueFirst telling) text.now tree) result }
     ensures first { program.shape ≡ typed.shape → IfOk result (λ work. work.start ≡ first_start work.program.shape) }

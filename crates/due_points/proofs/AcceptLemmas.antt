@@ -19,7 +19,7 @@ use Rattle.script_reader.specs.Scripts.{IsScriptOf}
 use Rattle.due_parts.specs.declared.answer.Answer.{Answer}
 use Rattle.due_parts.specs.declared.refusal.Refusal.{Refusal}
 use Rattle.due_parts.specs.declared.telling.Telling.{Telling}
-use Rattle.due_parts.specs.declared.work.Work.{Work}
+use Rattle.due_parts.specs.declared.runnable.Runnable.{Runnable}
 use Rattle.due_parts.specs.Accepted.{IsAcceptedBy}
 use Rattle.due_parts.specs.Answers.{Only}
 use Rattle.due_parts.specs.Scripts.{IsDueLines, IsDueShort}
@@ -65,14 +65,14 @@ module _ (shape : Shape) (text : List ℕ) where
   only_fault P e due told v o = let k = told_fault shape text e told v in only_read P (Err e) due k.0 k.1 o
 
   -- what is accepted behind its point
-  pub point_accepted : (P : Telling → Checkpoint → Answer → Type 0) (point : Checkpoint) (r : Result Work Refusal) → IsOnlyVerdict shape text (Ok point) → IsAcceptedBy (λ telling. P telling point) r → IsAcceptedBy (λ telling. IsDuePoint (P telling) shape text) r
+  pub point_accepted : (P : Telling → Checkpoint → Answer → Type 0) (point : Checkpoint) (r : Result Runnable Refusal) → IsOnlyVerdict shape text (Ok point) → IsAcceptedBy (λ telling. P telling point) r → IsAcceptedBy (λ telling. IsDuePoint (P telling) shape text) r
   point_accepted P point r v h =
       accepted_as (λ telling. P telling point) (λ telling. IsDuePoint (P telling) shape text) (λ telling due p. record { read = Ok point; reads = v.0; due_is = p })
       (λ telling due o. only_read (P telling) (Ok point) due v.0 v.1 o) r h
 
 -- ---- a script that goes on from a point
 
-pub from_accepted : (tree : ServiceTree) (typed : Typed) (point : Checkpoint) (text : List ℕ) (script : Script) (r : Result Work Refusal) → IsTypedTree tree typed → length text ≤ SCRIPT_BYTES
+pub from_accepted : (tree : ServiceTree) (typed : Typed) (point : Checkpoint) (text : List ℕ) (script : Script) (r : Result Runnable Refusal) → IsTypedTree tree typed → length text ≤ SCRIPT_BYTES
     → IsScriptOf typed.shape (script_earlier point.hosts point.lines) text (Ok script) → IsAcceptedBy (λ telling. IsDueTold telling tree point.start script) r → IsAcceptedBy (λ telling. IsDueFrom telling tree text point) r
 from_accepted tree typed point text script r t small so h =
     let P : Telling → Script → Answer → Type 0 = λ telling. IsDueTold telling tree point.start in

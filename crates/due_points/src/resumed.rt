@@ -17,7 +17,7 @@ ghost use Rattle.due_points.specs.Resumed.{IsDueFrom, IsDuePoint, IsDueResumed};
 
 use checkpoint_store::{CheckError, Checkpoint, read_checkpoint};
 use context_types::Typed;
-use due_parts::{Answer, Refusal, Work, ready, refused, refused_script, served, three_parts};
+use due_parts::{Answer, Refusal, Runnable, ready, refused, refused_script, served, three_parts};
 use fault_notes::check_note;
 use script_reader::read_script_at;
 use service_verify::Verified;
@@ -34,7 +34,7 @@ fn refused_point(alloc: Global, error: &CheckError) -> Result<Answer, OutOfMemor
 
 /// Reads a service, a checkpoint and a script. A refusal that is due is the only answer that is, whatever is to be told; and where there is
 /// something to run, what it gives when its calls run by its code, from the point on, is told by the only answer that is due.
-pub fn accept_resumed(alloc: Global, input: &[u8]) -> Result<Work, Refusal>
+pub fn accept_resumed(alloc: Global, input: &[u8]) -> Result<Runnable, Refusal>
     requires { length input.now ≤ LONG_INPUT_BYTES }
     ensures { IsAcceptedBy (λ telling. IsDueResumed telling input.now) result }
 {
@@ -55,7 +55,7 @@ fn accept_point(
     program: Verified,
     point: &[u8],
     script: &[u8],
-) -> Result<Work, Refusal>
+) -> Result<Runnable, Refusal>
     requires shape { IsShape typed.shape }
     requires names { HasNames typed.shape }
     requires short { length point.now ≤ PLACED_BYTES }
@@ -74,7 +74,7 @@ fn accept_from(
     program: Verified,
     point: Checkpoint,
     text: &[u8],
-) -> Result<Work, Refusal>
+) -> Result<Runnable, Refusal>
     requires shape { IsShape typed.shape }
     requires point { IsPoint typed.shape point }
     ensures { (tree : ServiceTree) → IsTypedTree tree typed → IsCoded typed.shape typed.resolved program → IsAcceptedBy (λ telling. IsDueFrom telling tree text.now point) result }

@@ -16,7 +16,7 @@ ghost use Rattle.due_parts.specs.Scripts.{IsDueScript};
 ghost use Rattle.due_parts.specs.Served.{IsTypedTree};
 ghost use Rattle.plan_actors.specs.Plans.{Fits};
 ghost use Rattle.type_rules.specs.Known.{shape_of};
-ghost use Rattle.wave_machine.specs.Plans.{plan_of};
+ghost use Rattle.wave_effects.specs.Plans.{plan_of};
 ghost use Rattle.due_replay.specs.Replayed.{IsDueJournal, IsDueReplay, IsDueReplayed, refused_label};
 ghost use Rattle.due_replay.specs.inner.Outcomes.{IsOnlyOutcomeOf};
 ghost use Rattle.due_replay.specs.inner.Trees.{HasTree};
@@ -31,8 +31,8 @@ use script_reader::read_script;
 use service_verify::Verified;
 use std::alloc::Global;
 use wave_base::{OutOfMemory, SCRIPT_BYTES, Script, Seq, Shape, WORKERS};
+use wave_effects::Plan;
 use wave_labels::Label;
-use wave_machine::Plan;
 
 /// What a journal is shown after, and by whom it is replayed.
 #[derive(Clone, Copy)]

@@ -29,8 +29,8 @@ use Rattle.listing_out.specs.Listing.{end_lines, last_ticket, lines_from, places
 use Rattle.listing_out.specs.declared.write.ListError.{ListError}
 use Rattle.listing_out.specs.declared.write.ListError.TheVariants as list
 use Rattle.listing_out.proofs.SinkLemmas.{front_written, nothing_written}
-use Rattle.wave_machine.specs.Plans.{plan_of}
-use Rattle.wave_machine.specs.declared.plan.Plan.{Plan}
+use Rattle.wave_effects.specs.Plans.{plan_of}
+use Rattle.wave_effects.specs.declared.plan.Plan.{Plan}
 use Rattle.host_workers.specs.Endings as hosts
 use Rattle.host_workers.specs.Lines.{event_lines}
 use Rattle.host_workers.specs.Runs.{IsWholeRun}
@@ -44,7 +44,7 @@ use Rattle.due_parts.specs.declared.report.Report.{Report}
 use Rattle.due_parts.specs.declared.report.Report.TheVariants.{Listing, Summary, Point}
 use Rattle.due_parts.specs.declared.telling.Telling.{Telling}
 use Rattle.due_parts.specs.declared.telling.Telling.TheVariants.{Reports, Traces}
-use Rattle.due_parts.specs.declared.work.Work.{Work}
+use Rattle.due_parts.specs.declared.runnable.Runnable.{Runnable}
 use Rattle.due_parts.specs.Accepted.{CanRun, plan_with, point_of, ran, report_of, trace_of}
 use Rattle.due_parts.specs.Runs.{IsFinishedRun, IsRunBy, nearest_workers}
 use Rattle.due_parts.proofs.RunLemmas.{few_nearest, some_nearest}
@@ -85,22 +85,22 @@ gave_behind old mid new lines a (Answered status note) p g = (g.0, g.1, Appends-
 abbrev pub lines_by : plans.Plan → Start → List ℕ
 lines_by plan start = concat (lines_from plan.program.shape start.next.0 (shown_of (given_by plan start)))
 
-abbrev pub lines_of : Work → List ℕ
+abbrev pub lines_of : Runnable → List ℕ
 lines_of work = lines_by (plan_with work 1) work.start
 
 -- what stands behind them in a listing
-abbrev end_of : Places → Work → List ℕ
+abbrev end_of : Places → Runnable → List ℕ
 end_of places work = end_text places work.program.shape work.start.next.0 (ran work)
 
-listing_is : (work : Work) (places : Places) → (report_of work (Listing places)).text ≡ lines_of work ++ end_of places work
+listing_is : (work : Runnable) (places : Places) → (report_of work (Listing places)).text ≡ lines_of work ++ end_of places work
 listing_is work places =
     concat-append (lines_from work.program.shape work.start.next.0 (shown_of (ran work))) (end_lines work.program.shape (places_of (ran work) (is_listed places)) (last_ticket work.start.next.0 (ran work)))
 
 -- an answer with the status of work that was run
-abbrev as_told : Work → List ℕ → Answer
+abbrev as_told : Runnable → List ℕ → Answer
 as_told work text = record { status = if any_trap (ran work).results then 1 else 0; note = []; text = text }
 
-module _ (work : Work) (workers : ℕ) (plan : plans.Plan) (start : Start) (p : plan ≡ plan_with work workers) (b : start ≡ work.start) where
+module _ (work : Runnable) (workers : ℕ) (plan : plans.Plan) (start : Start) (p : plan ≡ plan_with work workers) (b : start ≡ work.start) where
   pub same_lines : lines_by plan start ≡ lines_of work
   same_lines = λ i. lines_by (p i) (b i)
 
@@ -124,18 +124,18 @@ module _ (work : Work) (workers : ℕ) (plan : plans.Plan) (start : Start) (p : 
   journal_run None n None is = absurd is
 
 -- a plan of work that can be run, for as many workers as its engine has
-pub plan_fits : (work : Work) (n : ℕ) (plan : plans.Plan) → plan ≡ plan_with work (nearest_workers n) → CanRun work → plans.Fits plan
+pub plan_fits : (work : Runnable) (n : ℕ) (plan : plans.Plan) → plan ≡ plan_with work (nearest_workers n) → CanRun work → plans.Fits plan
 plan_fits work n plan p can = subst plans.Fits (sym p) (can.fits (nearest_workers n) (some_nearest n) (few_nearest n))
 
-pub plan_begins : (work : Work) (n : ℕ) (plan : plans.Plan) (start : Start) → plan ≡ plan_with work (nearest_workers n) → start ≡ work.start → CanRun work → plans.FitsStart plan start
+pub plan_begins : (work : Runnable) (n : ℕ) (plan : plans.Plan) (start : Start) → plan ≡ plan_with work (nearest_workers n) → start ≡ work.start → CanRun work → plans.FitsStart plan start
 plan_begins work n plan start p b can = subst (plans.FitsStart plan) (sym b) (subst (λ (q : plans.Plan). plans.FitsStart q work.start) (sym p) can.begins)
 
-pub make_of : (work : Work) (n : ℕ) (service : Resolved) (plan : plans.Plan) (start : Start) → service ≡ work.service → plan ≡ plan_with work (nearest_workers n) → start ≡ work.start → CanRun work → CanMake service plan start
+pub make_of : (work : Runnable) (n : ℕ) (service : Resolved) (plan : plans.Plan) (start : Start) → service ≡ work.service → plan ≡ plan_with work (nearest_workers n) → start ≡ work.start → CanRun work → CanMake service plan start
 make_of work n service plan start v p b can =
     subst (λ s. CanMake s plan start) (sym v) (can_make work (nearest_workers n) plan start p b can (plan_fits work n plan p can))
 
 -- the plan of an engine
-pub for_engine : (work : Work) (engine : Engine) (n : ℕ) (plan : plans.Plan) → plan ≡ plan_with work (nearest_workers n) → n ≡ workers_of engine → plan ≡ plan_with work (nearest_workers (workers_of engine))
+pub for_engine : (work : Runnable) (engine : Engine) (n : ℕ) (plan : plans.Plan) → plan ≡ plan_with work (nearest_workers n) → n ≡ workers_of engine → plan ≡ plan_with work (nearest_workers (workers_of engine))
 for_engine work engine n plan p e = p ∙ ap (λ m. plan_with work (nearest_workers m)) e
 
 -- ---- what the evaluator made
@@ -146,10 +146,10 @@ evaluated service plan start can = plan_means service plan.program can.code star
 -- ---- what is told of work that was run
 
 -- the lines of the events, and what stands behind them
-abbrev told_with : Telling → Work → Made → Answer
+abbrev told_with : Telling → Runnable → Made → Answer
 told_with telling work made = with_lines (lines_of work) (rest_of telling work.program.shape work.start.next.0 made)
 
-tells_rest : (telling : Telling) (work : Work) (made : Made) → made.done ≡ ran work → has_lines telling ≡ true
+tells_rest : (telling : Telling) (work : Runnable) (made : Made) → made.done ≡ ran work → has_lines telling ≡ true
     → ((places : Places) (crew : Crew) → telling ≡ Traces places crew → (labels : List Label) × (made.journal ≡ Some labels) × IsRunBy crew.schedule (plan_with work (nearest_workers crew.workers)) work.start (map label_of labels))
     → Tells telling work (told_with telling work made)
 tells_rest (Reports (Listing places)) work made done lines journal =
@@ -168,7 +168,7 @@ tells_rest (Traces places crew) work made done lines journal =
     }
 
 -- where the lines broke off, they are a front of what is told of some run
-tells_front : (telling : Telling) (work : Work) (old new : Option (List ℕ)) (e : Ending) → CanRun work → has_lines telling ≡ true → AppendsFront old new (lines_of work)
+tells_front : (telling : Telling) (work : Runnable) (old new : Option (List ℕ)) (e : Ending) → CanRun work → has_lines telling ≡ true → AppendsFront old new (lines_of work)
     → ((a : Answer) → AppendsFront old new a.text → Gave a old new e) → Gives (Tells telling work) old new e
 tells_front (Reports (Listing places)) work old new e can lines front g =
     let a : Answer = report_of work (Listing places) in
@@ -186,7 +186,7 @@ tells_front (Traces places crew) work old new e can lines front g =
     }
 
 -- the crew of a trace is that which ran
-journal_of : (engine : Engine) (work : Work) (plan : plans.Plan) (start : Start) (telling : Telling) (made : Made) → plan ≡ plan_with work (nearest_workers (workers_of engine)) → start ≡ work.start
+journal_of : (engine : Engine) (work : Runnable) (plan : plans.Plan) (start : Start) (telling : Telling) (made : Made) → plan ≡ plan_with work (nearest_workers (workers_of engine)) → start ≡ work.start
     → Suits telling engine → IsJournalBy engine plan start made.journal → (places : Places) (crew : Crew) → telling ≡ Traces places crew
     → (labels : List Label) × (made.journal ≡ Some labels) × IsRunBy crew.schedule (plan_with work (nearest_workers crew.workers)) work.start (map label_of labels)
 journal_of engine work plan start telling made p b suits by places crew is =
@@ -198,7 +198,7 @@ journal_of engine work plan start telling made p b suits by places crew is =
     crew_workers n (Some schedule) = refl
     crew_workers n None = refl
 
-module _ (telling : Telling) (engine : Engine) (work : Work) (plan : Plan) (start : Start) (p : plan_of plan ≡ plan_with work (nearest_workers (workers_of engine))) (b : start ≡ work.start) (can : CanRun work) (suits : Suits telling engine) (lines : has_lines telling ≡ true) where
+module _ (telling : Telling) (engine : Engine) (work : Runnable) (plan : Plan) (start : Start) (p : plan_of plan ≡ plan_with work (nearest_workers (workers_of engine))) (b : start ≡ work.start) (can : CanRun work) (suits : Suits telling engine) (lines : has_lines telling ≡ true) where
   -- a run that came to its end, with all that was written behind its lines
   pub run_gives : (made : Made) (old mid new : Option (List ℕ)) (e : Ending) → IsMade engine (plan_of plan) start made → Appends old mid (event_lines plan start)
       → Gave (rest_of telling plan.program.shape start.next.0 made) mid new e → SomeGave (Tells telling work) old new e
@@ -247,7 +247,7 @@ module _ (telling : Telling) (engine : Engine) (work : Work) (plan : Plan) (star
 
 -- ---- what is told at once
 
-module _ (report : Report) (engine : Engine) (work : Work) (plan : Plan) (start : Start) (p : plan_of plan ≡ plan_with work (nearest_workers (workers_of engine))) (b : start ≡ work.start) where
+module _ (report : Report) (engine : Engine) (work : Runnable) (plan : Plan) (start : Start) (p : plan_of plan ≡ plan_with work (nearest_workers (workers_of engine))) (b : start ≡ work.start) where
   -- the report of what was made is that of the work
   pub report_is : (made : Made) → IsMade engine (plan_of plan) start made → reported plan.program.shape start plan.script report made.done ≡ report_of work report
   report_is made is =

@@ -17,7 +17,7 @@ use crate::reading::prepare_input;
 use crate::staged::stage_alone;
 use command_words::Command;
 use due_answer::{Prepared, Task};
-use due_parts::Work;
+use due_parts::Runnable;
 use std::alloc::Global;
 use wave_io::{Sink, Source};
 
@@ -42,7 +42,7 @@ pub fn perform<S: Source, K: Sink>(
 }
 
 // Runs work on this thread, and tells what the task asks for.
-fn run_task<K: Sink>(alloc: Global, task: Task, work: Work, out: &mut K) -> Ending
+fn run_task<K: Sink>(alloc: Global, task: Task, work: Runnable, out: &mut K) -> Ending
     requires { IsDone false task work }
     ensures gave { SomeGave (Tells task.telling work) (K.written out.old) (K.written out.new) result }
     ensures fault { result ≡ Ending.WriteFault → Rose (K.faults out.old) (K.faults out.new) }

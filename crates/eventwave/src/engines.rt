@@ -8,7 +8,7 @@ ghost use Rattle.plan_actors.specs.Plans.{Fits, FitsStart};
 ghost use Rattle.eventwave.specs.inner.Engines.{CanMake, IsMade, is_alone};
 ghost use Rattle.wave_io.specs.Causes.{Rose};
 ghost use Rattle.wave_io.specs.Streams.{AppendsFront};
-ghost use Rattle.wave_machine.specs.Plans.{plan_of};
+ghost use Rattle.wave_effects.specs.Plans.{plan_of};
 
 use crate::made::Made;
 use crate::team::Team;
@@ -22,9 +22,10 @@ use std::alloc::Global;
 use std::sync::Wait;
 use std::thread::Threads;
 use wave_base::{OutOfMemory, Start};
+use wave_drives::{PickRule, drive_with};
+use wave_effects::Plan;
 use wave_io::{Gate, Sink};
 use wave_labels::Label;
-use wave_machine::{PickRule, Plan, drive_with};
 use wave_meaning::run_script_at;
 use wave_theory::rules_pick;
 

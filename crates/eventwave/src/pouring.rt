@@ -11,7 +11,7 @@ ghost use Rattle.wave_io.specs.Causes.{Rose};
 ghost use Rattle.wave_io.specs.Streams.{AppendsFront};
 ghost use Rattle.eventwave.specs.inner.Pouring.{IsPoured, IsTellable, end_text, rest_of, rest_text};
 ghost use Rattle.eventwave.specs.inner.Parts.{Gave};
-ghost use Rattle.wave_machine.specs.Plans.{plan_of};
+ghost use Rattle.wave_effects.specs.Plans.{plan_of};
 
 use crate::ending::{Ending, broken_off};
 use crate::made::Made;
@@ -22,8 +22,8 @@ use label_log::LabelLog;
 use listing_out::{ListError, write_end};
 use std::alloc::Global;
 use wave_base::{Finished, OutOfMemory, Place, Seq, Shape, Start, Ticket};
+use wave_effects::Plan;
 use wave_io::{HeldBytes, Sink};
-use wave_machine::Plan;
 
 /// Writes what is told of a run behind the lines of its events, which are written.
 pub fn pour<K: Sink>(

@@ -5,7 +5,7 @@ ghost use Rattle.std.specs.Prelude.{◌≡◌, ◌≤◌, ◌-◌, ◌^◌, leng
 ghost use Rattle.std.specs.Io.KnownBytes.{Appends};
 ghost use Rattle.wave_io.specs.Causes.{Rose};
 ghost use Rattle.wave_io.specs.Streams.{AppendsFront};
-ghost use Rattle.wave_machine.specs.Plans.{plan_of};
+ghost use Rattle.wave_effects.specs.Plans.{plan_of};
 ghost use Rattle.elastic_policy.specs.Stages.{IsStaged, MayFollow, staged_after};
 ghost use Rattle.due_parts.specs.Told.{any_trap};
 ghost use Rattle.due_stages.specs.Listed.{end_from, events_from, placed, ran_by};
@@ -30,8 +30,8 @@ use std::alloc::Global;
 use std::sync::Wait;
 use std::thread::Threads;
 use wave_base::{Finished, Place, Script, Seq, Shape, Start, Ticket, WORKERS};
+use wave_effects::Plan;
 use wave_io::{Gate, Sink};
-use wave_machine::Plan;
 use wave_meaning::Evaluator;
 
 /// Runs a script with policies on this thread, and lists it.

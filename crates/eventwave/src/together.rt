@@ -18,7 +18,7 @@ use crate::staged::stage_together;
 use crate::team::Team;
 use command_words::Command;
 use due_answer::{Prepared, Task};
-use due_parts::{Report, Telling, Work};
+use due_parts::{Report, Runnable, Telling};
 use listing_out::ListError;
 use std::sync::Wait;
 use std::thread::Threads;
@@ -48,7 +48,7 @@ pub fn perform_together<R: Threads + Wait + Sync, S: Source, K: Sink + Send, G: 
 fn run_task<R: Threads + Wait + Sync, K: Sink + Send, G: Gate + Sync>(
     team: &Team<R, G>,
     task: Task,
-    work: Work,
+    work: Runnable,
     out: &mut K,
 ) -> Ending
     requires done { IsDone true task work }
@@ -67,7 +67,7 @@ fn run_task<R: Threads + Wait + Sync, K: Sink + Send, G: Gate + Sync>(
 fn run_listed<R: Threads + Wait + Sync, K: Sink + Send, G: Gate + Sync>(
     team: &Team<R, G>,
     task: Task,
-    work: Work,
+    work: Runnable,
     out: &mut K,
 ) -> Ending
     requires done { IsDone true task work }
@@ -87,7 +87,7 @@ fn run_quietly<R: Threads + Wait + Sync, K: Sink, G: Gate + Sync>(
     team: &Team<R, G>,
     task: Task,
     report: Report,
-    work: Work,
+    work: Runnable,
     out: &mut K,
 ) -> Ending
     requires done { IsDone true task work }

@@ -9,10 +9,10 @@ use Rattle.kept_lock.specs.Knowing.{entered, left_at}
 use Rattle.kept_lock.specs.History.{Adds}
 use Rattle.wave_labels.specs.Labels.{act_of}
 use Rattle.wave_states.specs.Labels as theory
-use Rattle.wave_machine.specs.declared.lease.Lease.{Lease}
-use Rattle.wave_machine.specs.Actors.{MayRun}
-use Rattle.wave_machine.specs.Machines.{IsReached, TheState}
-use Rattle.wave_machine.specs.Running.{IsInHand}
+use Rattle.wave_effects.specs.declared.lease.Lease.{Lease}
+use Rattle.wave_effects.specs.Actors.{MayRun}
+use Rattle.wave_effects.specs.Machines.{IsReached, TheState}
+use Rattle.wave_effects.specs.Running.{IsInHand}
 use Rattle.plan_actors.specs.Plans.{Plan}
 use Rattle.plan_actors.specs.PlanActors.{plan_actors}
 use Rattle.wave_states.specs.Runs as runs
@@ -21,7 +21,7 @@ use Rattle.wave_board.specs.declared.origin.Origin.{Origin}
 use Rattle.wave_board.specs.declared.trail.StopCause.{StopCause}
 use Rattle.wave_board.specs.declared.trail.Trail.{Trail}
 use Rattle.wave_board.specs.declared.trail.Trail.TheVariants.{Step, Halt}
-use Rattle.wave_board.specs.declared.work.Work.TheVariants as work
+use Rattle.wave_board.specs.declared.turn.Turn.TheVariants as work
 use Rattle.wave_board.specs.Boards.{InEachState, IsAt, IsWord, StandsFor, StandsStill, WordStands, history_of, labels_in, labels_of, owner_of}
 use Rattle.wave_board.specs.Taking.{AreEven, IsFinished, Took, begins, ends}
 use Rattle.wave_board.proofs.Staying.{labels_are}

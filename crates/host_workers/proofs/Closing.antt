@@ -23,10 +23,10 @@ use Rattle.plan_actors.specs.PlanActors.{plan_actors, plan_kind}
 use Rattle.plan_actors.specs.Plans.{Plan, Fits, FitsStart, begin_in}
 use Rattle.serial_runs.specs.Journals.{OwnersTake}
 use Rattle.serial_runs.specs.Serial.{HasSerial}
-use Rattle.wave_machine.specs.declared.plan.Plan as declared_plan
-use Rattle.wave_machine.specs.Lengths.{FinishedRunsAreMeasured}
-use Rattle.wave_machine.specs.Machines.{IsReached, TheState}
-use Rattle.wave_machine.specs.Plans.{plan_of}
+use Rattle.wave_effects.specs.declared.plan.Plan as declared_plan
+use Rattle.wave_effects.specs.Lengths.{FinishedRunsAreMeasured}
+use Rattle.wave_effects.specs.Machines.{IsReached, TheState}
+use Rattle.wave_effects.specs.Plans.{plan_of}
 use Rattle.wave_board.specs.declared.board.Board.{Board}
 use Rattle.wave_board.specs.declared.origin.Origin.{Origin}
 use Rattle.wave_board.specs.declared.trail.Trail.{Trail}

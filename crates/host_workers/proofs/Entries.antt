@@ -10,7 +10,7 @@ use Rattle.wave_labels.specs.declared.label.Act.TheVariants.{Admit, Queue, Grant
 use Rattle.wave_labels.specs.declared.label.Label.{Label}
 use Rattle.wave_labels.specs.Labels.{act_of}
 use Rattle.wave_states.specs.Labels as theory
-use Rattle.wave_machine.specs.Prepared.{is_step}
+use Rattle.wave_effects.specs.Acts.{is_step}
 use Rattle.wave_board.specs.declared.board.StopWord.{StopWord}
 use Rattle.wave_board.specs.declared.trail.StopCause.{StopCause}
 use Rattle.wave_board.specs.declared.trail.Trail.{Trail}

@@ -10,8 +10,8 @@ use Rattle.kept_lock.specs.Knowing.{entered, left_at}
 use Rattle.kept_lock.proofs.Entries.{starts_whole}
 use Rattle.wave_states.specs.Labels as theory
 use Rattle.plan_actors.specs.Plans.{Plan}
-use Rattle.wave_machine.specs.declared.lease.Lease.{Lease}
-use Rattle.wave_machine.specs.Running.{IsBack}
+use Rattle.wave_effects.specs.declared.lease.Lease.{Lease}
+use Rattle.wave_effects.specs.Running.{IsBack}
 use Rattle.wave_board.specs.declared.board.Board.{Board}
 use Rattle.wave_board.specs.declared.board.StopWord.{StopWord}
 use Rattle.wave_board.specs.declared.origin.Origin.{Origin}

@@ -22,9 +22,9 @@ use Rattle.plan_actors.specs.PlanActors.{plan_actors}
 use Rattle.plan_actors.specs.Plans.{Plan, Fits, FitsStart}
 use Rattle.wave_states.specs.Labels.{Label}
 use Rattle.wave_states.specs.Runs as runs
-use Rattle.wave_machine.specs.Heading.{KnownHead}
-use Rattle.wave_machine.specs.Machines.{IsReached, TheState}
-use Rattle.wave_machine.specs.Showing.{IsLineOf}
+use Rattle.wave_effects.specs.Heading.{KnownHead}
+use Rattle.wave_effects.specs.Machines.{IsReached, TheState}
+use Rattle.wave_effects.specs.Showing.{IsLineOf}
 use Rattle.wave_board.specs.declared.board.Board.{Board}
 use Rattle.wave_board.specs.declared.origin.Origin.{Origin}
 use Rattle.wave_board.specs.declared.trail.Trail.{Trail}

@@ -6,10 +6,10 @@ use Rattle.kept_lock.specs.declared.view.Known.{Known}
 use Rattle.code_actor.specs.CodeActors.{Fields}
 use Rattle.wave_states.specs.States.{Hand}
 use Rattle.plan_actors.specs.PlanActors as theory
-use Rattle.wave_machine.specs.declared.lease.Lease.{Lease}
-use Rattle.wave_machine.specs.declared.plan.Plan.{Plan}
-use Rattle.wave_machine.specs.Leases as leases
-use Rattle.wave_machine.specs.Running.{IsInHand}
+use Rattle.wave_effects.specs.declared.lease.Lease.{Lease}
+use Rattle.wave_effects.specs.declared.plan.Plan.{Plan}
+use Rattle.wave_effects.specs.Leases as leases
+use Rattle.wave_effects.specs.Running.{IsInHand}
 use Rattle.wave_board.specs.declared.origin.Origin.{Origin}
 use Rattle.wave_board.specs.declared.trail.Trail.{Trail}
 use Rattle.host_workers.specs.Passes.{IsReady}

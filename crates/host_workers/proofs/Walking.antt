@@ -8,11 +8,11 @@ use Rattle.kept_lock.specs.History.{entries_of}
 use Rattle.kept_lock.proofs.Entries.{grown_own}
 use Rattle.wave_labels.specs.declared.label.Label.{Label}
 use Rattle.plan_actors.specs.Plans.{Plan}
-use Rattle.wave_machine.specs.Prepared.{is_step}
+use Rattle.wave_effects.specs.Acts.{is_step}
 use Rattle.wave_board.specs.declared.board.Board.{Board}
 use Rattle.wave_board.specs.declared.trail.Trail.{Trail}
 use Rattle.wave_board.specs.declared.trail.Trail.TheVariants.{Step}
-use Rattle.wave_board.specs.declared.work.Work.TheVariants.{Stepped}
+use Rattle.wave_board.specs.declared.turn.Turn.TheVariants.{Stepped}
 use Rattle.wave_board.specs.Boards.{IsStanding, StandsStill, history_of, owner_of}
 use Rattle.wave_board.specs.Taking.{AreEven, MayTake, Took}
 use Rattle.host_workers.specs.declared.task.Task.{Task}

@@ -14,12 +14,12 @@ use Rattle.listing_out.proofs.SinkLemmas.{all_written, front_written, more_writt
 use Rattle.kept_lock.specs.declared.view.Known.{Known}
 use Rattle.kept_lock.specs.History.{StartsWith}
 use Rattle.kept_lock.proofs.Entries.{starts_longer}
-use Rattle.wave_machine.specs.declared.plan.Plan.{Plan}
+use Rattle.wave_effects.specs.declared.plan.Plan.{Plan}
 use Rattle.wave_board.specs.declared.origin.Origin.{Origin}
 use Rattle.wave_board.specs.declared.trail.StopCause.TheVariants.{SinkFault}
 use Rattle.wave_board.specs.declared.trail.Trail.{Trail}
-use Rattle.host_workers.specs.declared.ending.Ending.{Ending}
-use Rattle.host_workers.specs.declared.ending.Ending.TheVariants as ending
+use Rattle.host_workers.specs.declared.ending.WorkerEnd.{WorkerEnd}
+use Rattle.host_workers.specs.declared.ending.WorkerEnd.TheVariants as ending
 use Rattle.host_workers.specs.declared.offer.Offer.TheVariants as offer
 use Rattle.host_workers.specs.declared.packet.Packet.{Packet}
 use Rattle.host_workers.specs.declared.task.Task.{Task}
@@ -136,13 +136,13 @@ module _ (o : Origin) (k : Known Trail) (w : Worker) (written : ℕ) where
     sink_failed number halted own broke rose = (number, (halted, own), broke, (λ is. absurd cc), (λ is. rose))
 
     -- there was no memory
-    pub no_memory : (e : Ending) → e ≡ ending.OutOfMemory the_refusal → k.number ≡ w.0 → Ended o k e → BreaksOff o written a b → HasWritten o k w written a b f g (Err e)
+    pub no_memory : (e : WorkerEnd) → e ≡ ending.OutOfMemory the_refusal → k.number ≡ w.0 → Ended o k e → BreaksOff o written a b → HasWritten o k w written a b f g (Err e)
     no_memory e memory number ended broke = (number, ended, broke, (λ is. absurd (clash e memory is)), (λ is. absurd (fault e memory is)))
       where
-        clash : (e : Ending) → e ≡ ending.OutOfMemory the_refusal → e ≡ ending.Finished → ⊥
+        clash : (e : WorkerEnd) → e ≡ ending.OutOfMemory the_refusal → e ≡ ending.Finished → ⊥
         clash e p q = cc
 
-        fault : (e : Ending) → e ≡ ending.OutOfMemory the_refusal → e ≡ ending.WriteFault → ⊥
+        fault : (e : WorkerEnd) → e ≡ ending.OutOfMemory the_refusal → e ≡ ending.WriteFault → ⊥
         fault e p q = cc
 
   module _ (a : Option (List ℕ)) (f g : ℕ) where
@@ -150,7 +150,7 @@ module _ (o : Origin) (k : Known Trail) (w : Worker) (written : ℕ) where
     pub nothing_came : (packet : Option Packet) → Brings o k w packet → AreCommitted o k written → HasWritten o k w written a a f g (Ok (packet, written))
     nothing_came packet brings there = (brings, there, stays o written a)
 
-    pub ends_so : (e : Ending) → k.number ≡ w.0 → Ended o k e → e ≢ ending.WriteFault → (e ≡ ending.Finished → written ≡ length (told_of o).results) → HasWritten o k w written a a f g (Err e)
+    pub ends_so : (e : WorkerEnd) → k.number ≡ w.0 → Ended o k e → e ≢ ending.WriteFault → (e ≡ ending.Finished → written ≡ length (told_of o).results) → HasWritten o k w written a a f g (Err e)
     ends_so e number ended no_sink all = (number, ended, breaks_here o written a, (λ is. (all is, all_written a a [] [] (nothing_written a []) refl)), (λ sink. absurd (no_sink sink)))
 
 -- ---- the run of the worker that writes, as it ends after a round
@@ -158,7 +158,7 @@ module _ (o : Origin) (k : Known Trail) (w : Worker) (written : ℕ) where
 pub rose_since : (before now later : ℕ) → before ≤ now → Rose now later → Rose before later
 rose_since before now later less rose = omega (arith, less, rose)
 
-module _ (o : Origin) (k : Known Trail) (w : Worker) (written : ℕ) (plan : Plan) (is : o.plan.now ≡ plan) (a b c : Option (List ℕ)) (before : AreWritten o written a b) (f g : ℕ) (e : Ending)
+module _ (o : Origin) (k : Known Trail) (w : Worker) (written : ℕ) (plan : Plan) (is : o.plan.now ≡ plan) (a b c : Option (List ℕ)) (before : AreWritten o written a b) (f g : ℕ) (e : WorkerEnd)
     (h : HasWritten o k w written b c f g (Err e)) where
   pub run_whole : e ≡ ending.Finished → Appends a c (event_lines plan o.start.now)
   run_whole over = subst (λ p. Appends a c (event_lines p o.start.now)) is (whole o written a b before c (h.3 over).0 (h.3 over).1)

@@ -6,17 +6,17 @@ use Rattle.plan_actors.specs.PlanActors.{plan_actors}
 use Rattle.wave_states.specs.Labels.{Label}
 use Rattle.wave_states.specs.Runs as runs
 use Rattle.wave_base.specs.declared.start.Start.{Start}
-use Rattle.wave_machine.specs.declared.plan.Plan.{Plan}
-use Rattle.wave_machine.specs.Machines.{IsReached, TheState}
-use Rattle.wave_machine.specs.Plans.{plan_of}
+use Rattle.wave_effects.specs.declared.plan.Plan.{Plan}
+use Rattle.wave_effects.specs.Machines.{IsReached, TheState}
+use Rattle.wave_effects.specs.Plans.{plan_of}
 use Rattle.wave_board.specs.declared.origin.Origin.{Origin}
 use Rattle.wave_board.specs.declared.trail.StopCause.{StopCause}
 use Rattle.wave_board.specs.declared.trail.StopCause.TheVariants.{Memory, SinkFault}
 use Rattle.wave_board.specs.declared.trail.Trail.{Trail}
 use Rattle.wave_board.specs.declared.trail.Trail.TheVariants.{Halt}
 use Rattle.wave_board.specs.Boards.{labels_in}
-use Rattle.host_workers.specs.declared.ending.Ending.{Ending}
-use Rattle.host_workers.specs.declared.ending.Ending.TheVariants.{Finished, Stopped, WriteFault, OutOfMemory}
+use Rattle.host_workers.specs.declared.ending.WorkerEnd.{WorkerEnd}
+use Rattle.host_workers.specs.declared.ending.WorkerEnd.TheVariants.{Finished, Stopped, WriteFault, OutOfMemory}
 use Rattle.host_workers.specs.Passes.{NoHalts, OnlyHalts}
 
 -- these labels lead from the Start to a state in which the plan is finished
@@ -38,7 +38,7 @@ pub record IsHaltedBy (worker : ℕ) (why : StopCause) (seen : List Trail) : Typ
 
 -- Finished: what was seen is a finished run. Stopped: another worker's Halt of that cause was seen. Else a Halt was seen, and one that the
 -- worker made has the ending's cause; with the other endings it made none.
-abbrev pub Ended : Origin → Known Trail → Ending → Type 0
+abbrev pub Ended : Origin → Known Trail → WorkerEnd → Type 0
 Ended origin pass Finished = IsFinishedRun origin.plan.now origin.start.now (labels_in pass.seen) × NoHalts pass.made
 Ended origin pass (Stopped why) = IsHaltedBy pass.number why pass.seen × NoHalts pass.made
 Ended origin pass WriteFault = IsHalted pass.seen × OnlyHalts pass.made SinkFault

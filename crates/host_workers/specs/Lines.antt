@@ -6,7 +6,7 @@ use Rattle.wave_base.specs.declared.start.Start.{Start}
 use Rattle.script_fold.specs.Runs.{finished_of}
 use Rattle.plan_actors.specs.Calls.{code_ran}
 use Rattle.listing_out.specs.Listing.{lines_from, shown_of}
-use Rattle.wave_machine.specs.declared.plan.Plan.{Plan}
+use Rattle.wave_effects.specs.declared.plan.Plan.{Plan}
 
 -- what the script gives from this Start, each call run by its code
 abbrev pub told_by : Plan → Start → Finished

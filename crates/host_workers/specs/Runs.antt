@@ -9,9 +9,9 @@ use Rattle.serial_runs.specs.Journals.{OwnersTake}
 use Rattle.serial_runs.specs.Serial.{HasSerial}
 use Rattle.wave_labels.specs.declared.label.Label.{Label}
 use Rattle.wave_labels.specs.Labels.{label_of}
-use Rattle.wave_machine.specs.declared.plan.Plan.{Plan}
-use Rattle.wave_machine.specs.Lengths.{IsMeasured}
-use Rattle.wave_machine.specs.Plans.{plan_of}
+use Rattle.wave_effects.specs.declared.plan.Plan.{Plan}
+use Rattle.wave_effects.specs.Lengths.{IsMeasured}
+use Rattle.wave_effects.specs.Plans.{plan_of}
 use Rattle.host_workers.specs.Endings.{IsFinishedRun}
 use Rattle.host_workers.specs.Lines.{told_by}
 

@@ -2,14 +2,14 @@
 
 ghost use Rattle.std.specs.Prelude.{◌≡◌, [], IfOk};
 ghost use Rattle.plan_actors.specs.Plans.{Fits, FitsStart};
-ghost use Rattle.wave_machine.specs.Plans.{plan_of};
+ghost use Rattle.wave_effects.specs.Plans.{plan_of};
 ghost use Rattle.wave_board.specs.declared.origin.Origin.{Origin};
 ghost use Rattle.wave_board.specs.Boards.{StandsFor, history_of};
 
 use std::alloc::Global;
 use wave_base::{OutOfMemory, Start};
 use wave_board::{Board, Crew};
-use wave_machine::Plan;
+use wave_effects::Plan;
 
 /// A board whose machine begins as a Start says. Segments count as heavy at first where they may be: where a gate may hold them, or the service has a loop.
 pub(crate) fn board_at<'p>(

@@ -6,7 +6,7 @@ use wave_board::StopCause;
 
 /// How a worker ended.
 #[derive(Clone, Copy, PartialEq, Eq, Debug)]
-pub enum Ending {
+pub enum WorkerEnd {
     /// All is done.
     Finished,
     /// Another worker stopped the workers.

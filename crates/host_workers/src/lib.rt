@@ -18,7 +18,7 @@ mod visits;
 mod working;
 mod writer;
 
-pub use ending::{Ending, RunError};
+pub use ending::{RunError, WorkerEnd};
 pub use run::{run_plan, run_plan_at};
 pub use working::worker;
 pub use writer::writing_worker;

@@ -1,7 +1,7 @@
 //! What a worker brings to its next visit.
 
 use wave_base::Pause;
-use wave_machine::Lease;
+use wave_effects::Lease;
 
 /// What a worker brings back to the board: a segment that was run.
 #[derive(Drop)]

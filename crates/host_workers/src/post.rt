@@ -4,7 +4,7 @@ use kept_lock::KeptLock;
 use std::alloc::Global;
 use wave_base::Worker;
 use wave_board::Board;
-use wave_machine::Plan;
+use wave_effects::Plan;
 
 /// Where a worker works: the lock of a board, the plan that the board runs, which of the plan's workers it is, and what it comes to
 /// before each segment.

@@ -6,7 +6,7 @@ ghost use Rattle.wave_base.specs.Starts.{first_start};
 ghost use Rattle.wave_io.specs.Causes.{Rose};
 ghost use Rattle.wave_io.specs.Streams.{AppendsFront};
 ghost use Rattle.plan_actors.specs.Plans.{Fits, FitsStart};
-ghost use Rattle.wave_machine.specs.Plans.{plan_of};
+ghost use Rattle.wave_effects.specs.Plans.{plan_of};
 ghost use Rattle.kept_lock.specs.Locks.{name_of, known, IsPassOf};
 ghost use Rattle.wave_board.specs.Boards.{labels_in};
 ghost use Rattle.host_workers.specs.Endings.{IsFinishedRun};
@@ -15,7 +15,7 @@ ghost use Rattle.host_workers.specs.Lines.{event_lines};
 ghost use Rattle.host_workers.specs.Runs.{IsWholeRun};
 
 use crate::boards::board_at;
-use crate::ending::{Ending, RunError};
+use crate::ending::{RunError, WorkerEnd};
 use crate::post::Post;
 use crate::team::{helpers_of, run_team};
 use context_tree::trees_that_fit;
@@ -28,8 +28,8 @@ use std::sync::Wait;
 use std::thread::Threads;
 use wave_base::{Finished, OutOfMemory, Start, Ticket, Worker};
 use wave_board::{Board, Origin, StopCause};
+use wave_effects::{Plan, runs_are_measured};
 use wave_io::{Gate, Sink};
-use wave_machine::{Plan, runs_are_measured};
 
 /// Runs a plan from a Start by its workers, each in a thread of its own where one can be made. It gives what the script gives, and the journal of
 /// the labels that the workers took. That is a run of the machine from the Start to its end, each label taken by an owner of its context; what the
@@ -113,11 +113,11 @@ fn run_workers<'l, 'p, R: Threads + Wait + Sync, G: Gate + Sync, K: Sink + Send>
 {
     let helpers = helpers_of(post, first)?;
     match run_team(post, first, helpers, from, out) {
-        Ending::Finished => Ok(()),
-        Ending::WriteFault => Err(RunError::WriteFault),
-        Ending::Stopped(StopCause::Memory(refused)) => Err(RunError::OutOfMemory(refused)),
-        Ending::Stopped(StopCause::SinkFault) => unreachable!(),
-        Ending::OutOfMemory(refused) => Err(RunError::OutOfMemory(refused)),
+        WorkerEnd::Finished => Ok(()),
+        WorkerEnd::WriteFault => Err(RunError::WriteFault),
+        WorkerEnd::Stopped(StopCause::Memory(refused)) => Err(RunError::OutOfMemory(refused)),
+        WorkerEnd::Stopped(StopCause::SinkFault) => unreachable!(),
+        WorkerEnd::OutOfMemory(refused) => Err(RunError::OutOfMemory(refused)),
     }
 }
 

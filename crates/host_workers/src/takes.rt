@@ -7,7 +7,7 @@ ghost use Rattle.host_workers.specs.inner.Visits.{HasTaken, HasWalked};
 
 use crate::task::Task;
 use wave_base::{OutOfMemory, Worker};
-use wave_board::{Board, Work};
+use wave_board::{Board, Turn};
 
 /// Takes what there is for a worker. Labels that are done at once are taken one after the other, until a segment comes or nothing is left.
 pub(crate) fn take(board: &mut Board, number: Worker) -> Result<Task, OutOfMemory>
@@ -18,11 +18,11 @@ pub(crate) fn take(board: &mut Board, number: Worker) -> Result<Task, OutOfMemor
     ensures idle { result ≡ Ok Task.Rest → IsIdle board.new number }
 {
     match board.take(number) {
-        Ok(Work::Stepped(_)) => Ok(walk(board, number)),
-        Ok(Work::Segment(lease)) => Ok(Task::Segment(lease)),
-        Ok(Work::Nothing) => Ok(Task::Rest),
-        Ok(Work::Finished) => Ok(Task::Finished),
-        Ok(Work::Stopped(why)) => Ok(Task::Stopped(why)),
+        Ok(Turn::Stepped(_)) => Ok(walk(board, number)),
+        Ok(Turn::Segment(lease)) => Ok(Task::Segment(lease)),
+        Ok(Turn::Nothing) => Ok(Task::Rest),
+        Ok(Turn::Finished) => Ok(Task::Finished),
+        Ok(Turn::Stopped(why)) => Ok(Task::Stopped(why)),
         Err(refused) => Err(refused),
     }
 }
@@ -37,11 +37,11 @@ fn walk(board: &mut Board, number: Worker) -> Task
 {
     for _ in 0..u64::MAX {
         match board.take(number) {
-            Ok(Work::Stepped(_)) => {}
-            Ok(Work::Segment(lease)) => return Task::Segment(lease),
-            Ok(Work::Nothing) => return Task::Rest,
-            Ok(Work::Finished) => return Task::Again,
-            Ok(Work::Stopped(_)) => return Task::Again,
+            Ok(Turn::Stepped(_)) => {}
+            Ok(Turn::Segment(lease)) => return Task::Segment(lease),
+            Ok(Turn::Nothing) => return Task::Rest,
+            Ok(Turn::Finished) => return Task::Again,
+            Ok(Turn::Stopped(_)) => return Task::Again,
             Err(_) => return Task::Again,
         }
     }

@@ -1,7 +1,7 @@
 //! What is to be done next by a worker.
 
 use wave_board::StopCause;
-use wave_machine::Lease;
+use wave_effects::Lease;
 
 /// What a visit comes to for a worker.
 #[derive(Drop)]

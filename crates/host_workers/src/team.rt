@@ -7,7 +7,7 @@ ghost use Rattle.host_workers.specs.inner.Teams.{HasEnded, IsAtPost, IsSeated};
 ghost use Rattle.host_workers.specs.inner.Writing.{AreWritten, Stands};
 
 use crate::begun::Begun;
-use crate::ending::Ending;
+use crate::ending::WorkerEnd;
 use crate::post::Post;
 use crate::working::work_at;
 use crate::writer::{write_alone, write_at, write_on};
@@ -64,7 +64,7 @@ pub(crate) fn run_team<'l, 'p, R: Threads + Wait + Sync, G: Gate + Sync, K: Sink
     helpers: Vec<Helper<'l, 'p, R, G>>,
     from: Ticket,
     out: &mut K,
-) -> Ending
+) -> WorkerEnd
     requires of_lock { IsPassOf post.now.lock.now first.old }
     requires post { IsAtPost (name_of post.now.lock.now) post.now.plan.now post.now.number from }
     requires ready { IsReady (name_of post.now.lock.now) (known first.old) post.now.number }
@@ -88,7 +88,7 @@ fn write_beside<'l, 'p, R: Threads + Wait + Sync, G: Gate + Sync, K: Sink + Send
     from: Ticket,
     begun: Begun,
     out: &mut K,
-) -> Ending
+) -> WorkerEnd
     requires of_lock { IsPassOf post.now.lock.now first.old }
     requires post { IsAtPost (name_of post.now.lock.now) post.now.plan.now post.now.number from }
     requires stands { Stands (name_of post.now.lock.now) (known first.old) post.now.number begun }
@@ -115,7 +115,7 @@ fn write_begun<'l, 'p, R: Wait, G: Gate, K: Sink>(
     from: Ticket,
     begun: &mut Option<Begun>,
     out: &mut K,
-) -> Ending
+) -> WorkerEnd
     requires of_lock { IsPassOf post.now.lock.now first.old }
     requires post { IsAtPost (name_of post.now.lock.now) post.now.plan.now post.now.number from }
     requires some { IsSome begun.old }
@@ -139,16 +139,16 @@ fn help<'l, 'p, R: Threads + Wait + Sync, G: Gate + Sync>(
         let _ = map_vec(
             rt,
             helpers,
-            &|helper: Helper<R, G>| -> Ending
-                ensures { result ≢ Ending.WriteFault }
+            &|helper: Helper<R, G>| -> WorkerEnd
+                ensures { result ≢ WorkerEnd.WriteFault }
             { run(helper) },
         );
     }
 }
 
 // One of them, which writes nothing.
-fn run<'l, 'p, R: Wait, G: Gate>(helper: Helper<'l, 'p, R, G>) -> Ending
-    ensures { result ≢ Ending.WriteFault }
+fn run<'l, 'p, R: Wait, G: Gate>(helper: Helper<'l, 'p, R, G>) -> WorkerEnd
+    ensures { result ≢ WorkerEnd.WriteFault }
 {
     let Helper { post, mut pass } = helper;
     work_at(&post, &mut pass)

@@ -15,7 +15,7 @@ use kept_lock::{Parting, Pass};
 use plan_actors::finished_states_tell;
 use std::sync::Wait;
 use wave_board::{Board, StopCause, leases_stay, results_stay};
-use wave_machine::heads_are_known;
+use wave_effects::heads_are_known;
 
 /// Gives back what the worker brings, and asks for lines and for work.
 pub(crate) fn visit<'l, 'p, R: Wait, G>(

@@ -7,7 +7,7 @@ ghost use Rattle.host_workers.specs.Passes.{GoesOn, IsReady};
 ghost use Rattle.host_workers.specs.inner.Rounds.{Asked, Brings, HasLease, HasPaused, IsCalm, Rounded};
 ghost use Rattle.wave_base.specs.Memory.{the_refusal};
 
-use crate::ending::Ending;
+use crate::ending::WorkerEnd;
 use crate::offer::Offer;
 use crate::packet::Packet;
 use crate::post::Post;
@@ -18,8 +18,8 @@ use std::alloc::Global;
 use std::sync::Wait;
 use wave_base::{OutOfMemory, Worker};
 use wave_board::{Board, StopCause};
+use wave_effects::{Lease, Plan, run_lease};
 use wave_io::Gate;
-use wave_machine::{Lease, Plan, run_lease};
 
 /// Takes what can be done and runs segments until all is done, or somebody stops the workers. A segment is run outside the lock, and given
 /// back at the visit that asks for the next. Where there is nothing to do, or others do it, the worker naps.
@@ -31,14 +31,14 @@ pub fn worker<'p, R: Wait, G: Gate>(
     plan: &'p Plan,
     number: Worker,
     gate: &G,
-) -> Ending
+) -> WorkerEnd
     requires of_lock { IsPassOf lock.now pass.old }
     requires plan { (name_of lock.now).plan.now ≡ plan.now }
     requires ready { IsReady (name_of lock.now) (known pass.old) number }
     ensures of_lock { IsPassOf lock.now pass.new }
     ensures number { (known pass.new).number ≡ number.0 }
     ensures ended { Ended (name_of lock.now) (known pass.new) result }
-    ensures no_sink { result ≢ Ending.WriteFault }
+    ensures no_sink { result ≢ WorkerEnd.WriteFault }
 {
     let post = Post {
         rt,
@@ -55,14 +55,14 @@ pub fn worker<'p, R: Wait, G: Gate>(
 pub(crate) fn work_at<'l, 'p, R: Wait, G: Gate>(
     post: &Post<'l, 'p, R, G>,
     pass: &mut Pass<Board<'p>>,
-) -> Ending
+) -> WorkerEnd
     requires of_lock { IsPassOf post.now.lock.now pass.old }
     requires plan { (name_of post.now.lock.now).plan.now ≡ post.now.plan.now }
     requires ready { IsReady (name_of post.now.lock.now) (known pass.old) post.now.number }
     ensures of_lock { IsPassOf post.now.lock.now pass.new }
     ensures number { (known pass.new).number ≡ post.now.number.0 }
     ensures ended { Ended (name_of post.now.lock.now) (known pass.new) result }
-    ensures no_sink { result ≢ Ending.WriteFault }
+    ensures no_sink { result ≢ WorkerEnd.WriteFault }
 {
     let mut packet = None;
     for _ in post.rt.forever() {
@@ -79,7 +79,7 @@ fn round<'l, 'p, R: Wait, G: Gate>(
     post: &Post<'l, 'p, R, G>,
     pass: &mut Pass<Board<'p>>,
     packet: Option<Packet>,
-) -> Result<Option<Packet>, Ending>
+) -> Result<Option<Packet>, WorkerEnd>
     requires of_lock { IsPassOf post.now.lock.now pass.old }
     requires plan { (name_of post.now.lock.now).plan.now ≡ post.now.plan.now }
     requires brings { Brings (name_of post.now.lock.now) (known pass.old) post.now.number packet }
@@ -98,14 +98,14 @@ pub(crate) fn carry_out<'l, 'p, R: Wait, G: Gate>(
     post: &Post<'l, 'p, R, G>,
     pass: &mut Pass<Board<'p>>,
     task: Task,
-) -> Result<Option<Packet>, Ending>
+) -> Result<Option<Packet>, WorkerEnd>
     requires of_lock { IsPassOf post.now.lock.now pass.old }
     requires plan { (name_of post.now.lock.now).plan.now ≡ post.now.plan.now }
     requires asked { Asked (name_of post.now.lock.now) (known pass.old) post.now.number (Ok task) }
     ensures of_lock { IsPassOf post.now.lock.now pass.new }
     ensures on { GoesOn (known pass.old) (known pass.new) }
     ensures rounded { Rounded (name_of post.now.lock.now) (known pass.new) post.now.number result }
-    ensures finished { result ≡ Err Ending.Finished → task ≡ Task.Finished }
+    ensures finished { result ≡ Err WorkerEnd.Finished → task ≡ Task.Finished }
 {
     match task {
         Task::Again => Ok(None),
@@ -117,8 +117,8 @@ pub(crate) fn carry_out<'l, 'p, R: Wait, G: Gate>(
             post.lock.nap(post.rt, pass);
             Ok(None)
         }
-        Task::Finished => Err(Ending::Finished),
-        Task::Stopped(why) => Err(Ending::Stopped(why)),
+        Task::Finished => Err(WorkerEnd::Finished),
+        Task::Stopped(why) => Err(WorkerEnd::Stopped(why)),
     }
 }
 
@@ -148,14 +148,14 @@ pub(crate) fn give_up<'l, 'p, R: Wait, G>(
     post: &Post<'l, 'p, R, G>,
     pass: &mut Pass<Board<'p>>,
     refused: OutOfMemory,
-) -> Ending
+) -> WorkerEnd
     requires of_lock { IsPassOf post.now.lock.now pass.old }
     requires calm { IsCalm (name_of post.now.lock.now) (known pass.old) post.now.number }
     ensures of_lock { IsPassOf post.now.lock.now pass.new }
     ensures on { GoesOn (known pass.old) (known pass.new) }
     ensures ended { Ended (name_of post.now.lock.now) (known pass.new) result }
-    ensures memory { result ≡ Ending.OutOfMemory the_refusal }
+    ensures memory { result ≡ WorkerEnd.OutOfMemory the_refusal }
 {
     halt(post, pass, StopCause::Memory(refused));
-    Ending::OutOfMemory(refused)
+    WorkerEnd::OutOfMemory(refused)
 }

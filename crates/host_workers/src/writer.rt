@@ -12,7 +12,7 @@ ghost use Rattle.host_workers.specs.inner.Teams.{HasEnded, IsAtPost};
 ghost use Rattle.host_workers.specs.inner.Writing.{AreCommitted, AreNext, AreWritten, HasBegun, HasWritten, Offered, Stands};
 
 use crate::begun::Begun;
-use crate::ending::Ending;
+use crate::ending::WorkerEnd;
 use crate::offer::Offer;
 use crate::packet::Packet;
 use crate::post::Post;
@@ -25,8 +25,8 @@ use std::alloc::Global;
 use std::sync::Wait;
 use wave_base::{OutOfMemory, Seq, Shown, Ticket, Worker};
 use wave_board::{Board, StopCause};
+use wave_effects::Plan;
 use wave_io::{Gate, Sink};
-use wave_machine::Plan;
 
 /// Worker 0, which writes the lines of the events that are committed, between its steps and outside the lock.
 pub fn writing_worker<'p, R: Wait, G: Gate, K: Sink>(
@@ -38,7 +38,7 @@ pub fn writing_worker<'p, R: Wait, G: Gate, K: Sink>(
     gate: &G,
     from: Ticket,
     out: &mut K,
-) -> Ending
+) -> WorkerEnd
     requires of_lock { IsPassOf lock.now pass.old }
     requires plan { (name_of lock.now).plan.now ≡ plan.now }
     requires from { (name_of lock.now).start.now.next ≡ from }
@@ -46,9 +46,9 @@ pub fn writing_worker<'p, R: Wait, G: Gate, K: Sink>(
     ensures of_lock { IsPassOf lock.now pass.new }
     ensures number { (known pass.new).number ≡ 0 }
     ensures ended { Ended (name_of lock.now) (known pass.new) result }
-    ensures whole { result ≡ Ending.Finished → Appends (K.written out.old) (K.written out.new) (event_lines plan.now (name_of lock.now).start.now) }
+    ensures whole { result ≡ WorkerEnd.Finished → Appends (K.written out.old) (K.written out.new) (event_lines plan.now (name_of lock.now).start.now) }
     ensures front { AppendsFront (K.written out.old) (K.written out.new) (event_lines plan.now (name_of lock.now).start.now) }
-    ensures fault { result ≡ Ending.WriteFault → Rose (K.faults out.old) (K.faults out.new) }
+    ensures fault { result ≡ WorkerEnd.WriteFault → Rose (K.faults out.old) (K.faults out.new) }
     ensures later { K.faults out.old ≤ K.faults out.new }
 {
     let post = Post {
@@ -68,7 +68,7 @@ pub(crate) fn write_at<'l, 'p, R: Wait, G: Gate, K: Sink>(
     pass: &mut Pass<Board<'p>>,
     from: Ticket,
     out: &mut K,
-) -> Ending
+) -> WorkerEnd
     requires of_lock { IsPassOf post.now.lock.now pass.old }
     requires post { IsAtPost (name_of post.now.lock.now) post.now.plan.now post.now.number from }
     requires ready { IsReady (name_of post.now.lock.now) (known pass.old) post.now.number }
@@ -87,7 +87,7 @@ pub(crate) fn write_alone<'l, 'p, R: Wait, G: Gate, K: Sink>(
     pass: &mut Pass<Board<'p>>,
     from: Ticket,
     out: &mut K,
-) -> Result<Begun, Ending>
+) -> Result<Begun, WorkerEnd>
     requires of_lock { IsPassOf post.now.lock.now pass.old }
     requires post { IsAtPost (name_of post.now.lock.now) post.now.plan.now post.now.number from }
     requires ready { IsReady (name_of post.now.lock.now) (known pass.old) post.now.number }
@@ -121,7 +121,7 @@ pub(crate) fn write_on<'l, 'p, R: Wait, G: Gate, K: Sink>(
     from: Ticket,
     begun: Begun,
     out: &mut K,
-) -> Ending
+) -> WorkerEnd
     requires of_lock { IsPassOf post.now.lock.now pass.old }
     requires post { IsAtPost (name_of post.now.lock.now) post.now.plan.now post.now.number from }
     requires stands { Stands (name_of post.now.lock.now) (known pass.old) post.now.number begun }
@@ -156,7 +156,7 @@ fn follow<'l, 'p, R: Wait, G: Gate, K: Sink>(
     offer: Result<Offer, OutOfMemory>,
     written: u32,
     out: &mut K,
-) -> Result<(Option<Packet>, u32), Ending>
+) -> Result<(Option<Packet>, u32), WorkerEnd>
     requires of_lock { IsPassOf post.now.lock.now pass.old }
     requires post { IsAtPost (name_of post.now.lock.now) post.now.plan.now post.now.number from }
     requires offered { Offered (name_of post.now.lock.now) (known pass.old) post.now.number (Some written) offer }
@@ -183,7 +183,7 @@ fn write_part<'l, 'p, R: Wait, G, K: Sink>(
     written: u32,
     lines: &Seq<Shown>,
     out: &mut K,
-) -> Result<(Option<Packet>, u32), Ending>
+) -> Result<(Option<Packet>, u32), WorkerEnd>
     requires of_lock { IsPassOf post.now.lock.now pass.old }
     requires post { IsAtPost (name_of post.now.lock.now) post.now.plan.now post.now.number from }
     requires ready { IsReady (name_of post.now.lock.now) (known pass.old) post.now.number }
@@ -199,7 +199,7 @@ fn write_part<'l, 'p, R: Wait, G, K: Sink>(
         Ok(()) => Ok((None, written + lines.len() as u32)),
         Err(ListError::WriteFault) => {
             halt(post, pass, StopCause::SinkFault);
-            Err(Ending::WriteFault)
+            Err(WorkerEnd::WriteFault)
         }
         Err(ListError::OutOfMemory(refused)) => Err(give_up(post, pass, refused)),
     }

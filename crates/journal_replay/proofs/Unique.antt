@@ -21,9 +21,9 @@ use Rattle.plan_actors.specs.Finishing.{path_of}
 use Rattle.plan_actors.specs.PlanActors.{plan_actors}
 use Rattle.plan_actors.specs.Plans.{Plan, begin_in}
 use Rattle.plan_actors.proofs.Order.{sorted_same}
-use Rattle.wave_machine.specs.declared.glance.Glance.{Glance}
-use Rattle.wave_machine.specs.Glances.{IsGlance}
-use Rattle.wave_machine.specs.Machines.{TheState}
+use Rattle.wave_effects.specs.declared.glance.Glance.{Glance}
+use Rattle.wave_effects.specs.Glances.{IsGlance}
+use Rattle.wave_effects.specs.Machines.{TheState}
 use Rattle.journal_replay.specs.declared.error.ReplayError.{ReplayError}
 use Rattle.journal_replay.specs.declared.error.ReplayError.TheVariants.{Refused, OutOfMemory}
 use Rattle.journal_replay.specs.declared.replaying.Replayed.{Replayed}

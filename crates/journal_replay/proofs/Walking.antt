@@ -1,34 +1,21 @@
 -- A replay, label by label.
-use Rattle.std.proofs.Common.{◌≡◌, ◌≢◌, ◌∙◌, inl, inr, ℕ, zero, suc, ◌+◌, ◌<◌, Bool, true, false, List, [], ◌∷◌, ◌++◌, length, map, take, drop, Option, Some, None, is_some, refl, sym, ap, subst, true≢false, arith}
-use Rattle.std.specs.Prelude.{◌↔◌, IsTrue, slice_get, slice_set}
-use Rattle.std.proofs.lemmas.List.{length-set, map-append}
-use Rattle.wave_base.specs.declared.path.Path.{Path}
-use Rattle.wave_base.specs.declared.start.Start.{Start}
+use Rattle.std.proofs.Common.{◌≡◌, ◌∙◌, ℕ, zero, suc, ◌+◌, true, List, [], ◌∷◌, ◌++◌, map, take, drop, Option, Some, None, is_some, refl, sym, ap, subst}
+use Rattle.std.specs.Prelude.{slice_get}
+use Rattle.std.proofs.lemmas.List.{map-append}
 use Rattle.wave_base.specs.Starts.{first_start}
 use Rattle.wave_labels.specs.declared.label.Label as program
 use Rattle.wave_labels.specs.Labels.{label_of}
 use Rattle.wave_states.specs.Begins.{start_state}
-use Rattle.wave_states.specs.Labels.{Label, Stop}
-use Rattle.wave_states.specs.Owners.{IsOwner}
+use Rattle.wave_states.specs.Labels.{Label}
 use Rattle.wave_states.specs.Runs.{run}
-use Rattle.wave_states.specs.States.{Hand}
 use Rattle.wave_states.specs.Steps.{step}
-use Rattle.wave_theory.specs.Owners.{ByOwners, OneOwner}
-use Rattle.wave_theory.proofs.Basics.{none_not, not_same, number_cases}
 use Rattle.wave_theory.proofs.Frames.{option_some}
-use Rattle.code_actor.specs.CodeActors.{Fields}
-use Rattle.plan_actors.specs.PlanActors as actors
 use Rattle.plan_actors.specs.PlanActors.{plan_actors}
 use Rattle.plan_actors.specs.Plans.{Plan, begin_in}
-use Rattle.wave_machine.specs.declared.ends.End.{End}
-use Rattle.wave_machine.specs.Always.{Holds}
-use Rattle.wave_machine.specs.Machines.{IsReached, Kept, Stands, TheState}
-use Rattle.wave_machine.specs.Running.{CanStop, IsBack, Stops, stop_of}
-use Rattle.wave_machine.specs.inner.Driving.{IsEnd, IsTaking, IsUnder, Leads}
-use Rattle.wave_machine.proofs.Driven.{back_of, others, stopped_by}
-use Rattle.wave_machine.proofs.Placing.{take_next}
-use Rattle.wave_machine.proofs.Taking.{run_more}
-use Rattle.journal_replay.specs.declared.walk.Walk.{Walk}
+use Rattle.wave_effects.specs.Machines.{IsReached, TheState}
+use Rattle.wave_drives.specs.Walks.{IsTaking, Leads}
+use Rattle.wave_effects.proofs.Taking.{run_more}
+use Rattle.wave_drives.specs.declared.walk.Walk.{Walk}
 use Rattle.journal_replay.specs.Replays.{LeadsTo}
 use Rattle.journal_replay.specs.inner.Walks.{IsWalking}
 
@@ -40,10 +27,6 @@ parts_at (y ∷ xs) zero x e = let same : y ≡ x = cc in ap (λ z. z ∷ xs) sa
 parts_at (y ∷ xs) (suc i) x e = ap (λ ys. y ∷ ys) (parts_at xs i x e)
 
 -- ---- where a run begins
-
-pub first_walk : (m : Kept) (plan : Plan) (ends : List (Option End)) → m.plan ≡ plan → length ends ≡ plan.workers → Stands m (first_start plan.program.shape) (start_state (begin_in plan (first_start plan.program.shape)) plan.script.batches)
-    → IsUnder m ends (first_start plan.program.shape) (start_state (begin_in plan (first_start plan.program.shape)) plan.script.batches)
-first_walk m plan ends same many stands = record { stands = stands; as_many = many ∙ ap (λ (p : Plan). p.workers) (sym same); ends = λ w hand there. absurd (none_not there) }
 
 pub at_start : (p : Plan) → LeadsTo p [] (start_state (begin_in p (first_start p.program.shape)) p.script.batches)
 unfolding run
@@ -80,30 +63,3 @@ module _ (plan : Plan) (w : Walk) (labels : List program.Label) (d : IsWalking p
       none_if : (o : Option TheState) → (is_some o ≡ true → ⊥) → o ≡ None
       none_if None h = refl
       none_if (Some x) h = absurd (h refl)
-
--- ---- a Stop: its worker, ticket and path are those of the hand, and no context has two owners
-
-module _ (one : Holds OneOwner) (by_owners : Holds ByOwners) (m m' : Kept) (ends : List (Option End)) (end : End) (w host to t : ℕ) (p : Path) (plan : m'.plan ≡ m.plan) (within : w < length ends) (there : slice_get ends w ≡ Some (Some end)) where
-  abbrev picked : Label
-  picked = record { worker = w; host = host; act = Stop t p }
-
-  pub stop_leads : CanStop m end.lease end.pause to → Stops m end.lease end.pause to m' → Leads m ends picked m' (slice_set ends w None)
-  stop_leads can stops start s s' under e =
-      let of = stopped_by (plan_actors m.plan.program) m.plan.workers s s' w host t p e in
-      let back = back_of m m' ends end w host to t p plan within there start s s' under e in
-      let it : IsEnd m.plan.program w of.hand (Some (Some end)) = subst (λ (x : Option (Option End)). IsEnd m.plan.program w of.hand x) there (under.ends w of.hand of.there) in
-      let other = option_some (step (plan_actors m.plan.program) m.plan.workers s (stop_of end.lease to)) (can start s under.stands back) in
-      let owns = by_owners m start s under.stands in
-      let path : end.lease.path ≡ p = sym (it.1).path ∙ of.path in
-      let ticket : end.lease.ticket.0 ≡ t = sym (it.1).ticket ∙ of.ticket in
-      let same : to ≡ host = (one m start s under.stands).one p to host (subst (λ q. IsOwner s q to) path (owns (stop_of end.lease to) other.0 other.1).0) (owns picked s' e).0 in
-      let label : picked ≡ stop_of end.lease to = λ i. record { worker = sym it.0 i; host = sym same i; act = Stop (sym ticket i) (sym path i) } in
-      let taking : step (plan_actors m.plan.program) m.plan.workers s (stop_of end.lease to) ≡ Some s' = ap (step (plan_actors m.plan.program) m.plan.workers s) (sym label) ∙ e in
-      record {
-        stands = stops start s s' under.stands back taking;
-        as_many = length-set ends w None ∙ under.as_many ∙ ap (λ (x : Plan). x.workers) (sym plan);
-        ends = λ v hand at. elim (number_cases w v) [
-          | inr apart ↦ others m m' ends picked plan within start s s' None under e v hand (not_same w v apart) at
-          | inl is ↦ absurd (none_not (sym of.empty ∙ ap s'.hands is ∙ at))
-        ];
-      }

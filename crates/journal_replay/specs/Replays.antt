@@ -9,8 +9,8 @@ use Rattle.wave_states.specs.Runs as runs
 use Rattle.wave_states.specs.Steps as steps
 use Rattle.plan_actors.specs.PlanActors.{plan_actors}
 use Rattle.plan_actors.specs.Plans.{Plan}
-use Rattle.wave_machine.specs.Glances.{IsGlance}
-use Rattle.wave_machine.specs.Machines.{IsReached, TheState}
+use Rattle.wave_effects.specs.Glances.{IsGlance}
+use Rattle.wave_effects.specs.Machines.{IsReached, TheState}
 use Rattle.journal_replay.specs.declared.error.ReplayError.{ReplayError}
 use Rattle.journal_replay.specs.declared.error.ReplayError.TheVariants.{Refused, OutOfMemory}
 use Rattle.journal_replay.specs.declared.replaying.Replayed.{Replayed}

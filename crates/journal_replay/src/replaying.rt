@@ -2,16 +2,16 @@
 
 ghost use Rattle.std.specs.Prelude.{◌<◌, ◌^◌, length, IfErr, IfOk, Ok};
 ghost use Rattle.plan_actors.specs.Plans.{Fits};
-ghost use Rattle.wave_machine.specs.Plans.{plan_of};
+ghost use Rattle.wave_effects.specs.Plans.{plan_of};
 ghost use Rattle.journal_replay.specs.Replays.{IsOnlyOutcome};
 ghost use Rattle.journal_replay.specs.inner.Walks.{StopsIn};
 
 use crate::error::ReplayError;
-use crate::walk::Walk;
+use crate::walk::{first_walk, go};
 use std::alloc::Global;
 use wave_base::Seq;
+use wave_effects::{Glance, Plan, contexts_have_owners};
 use wave_labels::{Label, labels_tell};
-use wave_machine::{Glance, Plan, contexts_have_owners};
 
 /// A journal that is a run, and what is shown of it.
 #[derive(Debug, Drop)]
@@ -61,10 +61,10 @@ fn walk_through(
     contexts_have_owners();
     let count = journal.len();
     let shown = (show as usize).min(count);
-    let mut walk = Walk::new(alloc, plan)?;
-    walk.go(alloc, plan, journal, 0, shown)?;
+    let mut walk = first_walk(alloc, plan)?;
+    go(&mut walk, alloc, plan, journal, 0, shown)?;
     let glance = walk.machine.glance()?;
-    walk.go(alloc, plan, journal, shown, count)?;
+    go(&mut walk, alloc, plan, journal, shown, count)?;
     Ok(Replayed {
         steps: count as u32,
         finished: walk.machine.finished(),

@@ -6,8 +6,6 @@ mod counter;
 mod four;
 mod guarded;
 mod many;
-#[cfg(test)]
-mod tests;
 mod thread;
 mod two;
 mod work;

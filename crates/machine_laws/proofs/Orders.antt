@@ -11,7 +11,7 @@ use Rattle.wave_theory.proofs.Basics.{some_same, then_some}
 use Rattle.plan_actors.specs.PlanActors.{plan_actors}
 use Rattle.plan_actors.specs.Plans.{Plan}
 use Rattle.serial_runs.specs.Orders.{EitherOrder, StandApart}
-use Rattle.wave_machine.specs.Machines.{Kept, Stands, TheState}
+use Rattle.wave_effects.specs.Machines.{Kept, Stands, TheState}
 use Rattle.machine_laws.specs.Turns.{Allows, InEitherOrder, InOrder, IsBackIn, IsMade, IsStill, MayTurn, Turn, Take, Give, label_in}
 use Rattle.machine_laws.proofs.Hands.{busy}
 

@@ -8,7 +8,7 @@ use Rattle.wave_states.specs.Labels.{Label}
 use Rattle.code_actor.specs.CodeActors.{Fields}
 use Rattle.plan_actors.specs.PlanActors.{Actor, plan_kind}
 use Rattle.plan_actors.specs.Plans.{begin_in}
-use Rattle.wave_machine.specs.Machines.{TheState}
+use Rattle.wave_effects.specs.Machines.{TheState}
 use Rattle.wave_board.specs.declared.board.Board.{Board}
 use Rattle.wave_board.specs.declared.origin.Origin.{Origin}
 use Rattle.wave_board.specs.Always.{the_plan}

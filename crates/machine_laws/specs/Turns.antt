@@ -6,10 +6,10 @@ use Rattle.service_code.specs.declared.program.Program.{Program}
 use Rattle.wave_states.specs.Labels.{Label}
 use Rattle.plan_actors.specs.PlanActors.{plan_actors}
 use Rattle.serial_runs.specs.Orders.{IsEnabled, LeadToOne, StandApart}
-use Rattle.wave_machine.specs.declared.lease.Lease.{Lease}
-use Rattle.wave_machine.specs.Machines as machines
-use Rattle.wave_machine.specs.Machines.{Keeps, Kept, Stands, Takes, TheState}
-use Rattle.wave_machine.specs.Running.{IsBack, IsStopping, Stops, stop_of}
+use Rattle.wave_effects.specs.declared.lease.Lease.{Lease}
+use Rattle.wave_effects.specs.Machines as machines
+use Rattle.wave_effects.specs.Machines.{Keeps, Kept, Stands, Takes, TheState}
+use Rattle.wave_effects.specs.Running.{IsBack, IsStopping, Stops, stop_of}
 
 -- `step` and `start` take a label; `stop` gives a lease back with its pause, and takes the lease's Stop at a host.
 pub data Turn : Type 0 where

@@ -1,6 +1,6 @@
 //! Statements that are done at once, one after the other, as far as no call is met.
 
-ghost use Rattle.std.specs.Prelude.{◌≡◌, [], ◌∷◌, IfOk, IfErr, IsNone, IfSome};
+ghost use Rattle.std.specs.Prelude.{◌≡◌, [], IfOk, IfErr};
 ghost use Rattle.resolved_service.specs.Fits.{FitsSteps};
 ghost use Rattle.resolved_service.specs.Steps.{step, step_of, steps_in, else_in};
 ghost use Rattle.service_eval.specs.inner.Items.{else_steps};
@@ -14,6 +14,7 @@ use crate::code::Code;
 use crate::eval::found;
 use crate::machine::Machine;
 use crate::operand::is_true;
+use crate::parts::first_of;
 use crate::stop::Stop;
 use context_tree::Tree;
 use resolved_service::{Action, Stmt};
@@ -32,7 +33,7 @@ pub fn as_far<'s>(
 {
     let mut rest = stmts;
     'statements: loop {
-        match rest.split_first() {
+        match first_of(rest) {
             None => return Ok(rest),
             Some((first, others)) => match one_ahead(code, contexts, m, first, others) {
                 Ok(Some(next)) => rest = next,
@@ -64,7 +65,7 @@ fn one_ahead<'s>(
         }
         Err(e) => return Err(e),
     }
-    match others.split_first() {
+    match first_of(others) {
         None => chosen(code, contexts, m, first),
         Some(_) => Ok(None),
     }

@@ -1,6 +1,6 @@
 //! Statements: their expressions come first.
 
-ghost use Rattle.std.specs.Prelude.{◌≡◌, [], ◌∷◌, OnOk, IfErr, IsNone, IfSome, length};
+ghost use Rattle.std.specs.Prelude.{[], ◌∷◌, length};
 ghost use Rattle.std.specs.Option.{option_map};
 ghost use Rattle.resolved_service.specs.Steps.{For, Return, Finish, step, step_of, steps_in};
 ghost use Rattle.resolved_service.specs.View.{tree_of};
@@ -16,6 +16,7 @@ use crate::code::Code;
 use crate::eval::found;
 use crate::finish::finish;
 use crate::machine::Machine;
+use crate::parts::first_of;
 use crate::stop::Stop;
 use crate::work::{Branches, Ending, ForLoop, Variable, WhileLoop, Work};
 use context_tree::Tree;
@@ -48,7 +49,7 @@ pub fn begin_rest<'s>(
     requires { IsNext code contexts.old m.old (i.Block (steps_in rest.now)) }
     ensures { Goes code.entry contexts.old m.old (i.Block (steps_in rest.now)) result contexts.new m.new }
 {
-    match rest.split_first() {
+    match first_of(rest) {
         None => Ok(()),
         Some((first, others)) => begin_first(code, contexts, m, first, others),
     }
@@ -65,7 +66,7 @@ fn begin_first<'s>(
     requires { IsNext code contexts.old m.old (i.Block (step (step_of first.now) (steps_in others.now))) }
     ensures { Goes code.entry contexts.old m.old (i.Block (step (step_of first.now) (steps_in others.now))) result contexts.new m.new }
 {
-    match others.split_first() {
+    match first_of(others) {
         None => begin(code, contexts, m, first),
         Some(_) => match m.push(Work::Block(others)) {
             Ok(()) => begin(code, contexts, m, first),

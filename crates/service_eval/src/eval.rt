@@ -1,6 +1,6 @@
 //! Expressions on their way to their values.
 
-ghost use Rattle.std.specs.Prelude.{◌≡◌, ◌≤◌, ◌⊎◌, [], ◌∷◌, true, false, map, length, OnOk, IfOk, IfErr, IsNone, IfSome};
+ghost use Rattle.std.specs.Prelude.{◌≡◌, ◌≤◌, ◌⊎◌, true, false, map, length, OnOk, IfOk, IfErr};
 ghost use Rattle.context_tree.specs.Contexts.{tree_of as shown};
 ghost use Rattle.resolved_service.specs.Meaning.{value, called};
 ghost use Rattle.service_eval.specs.inner.Answers.{Finds};
@@ -21,6 +21,7 @@ use crate::code::Code;
 use crate::fields::{field, item};
 use crate::look::{View, above, look, look_row};
 use crate::machine::Machine;
+use crate::parts::first_of;
 use crate::plain::plain;
 use crate::rows::apply_any;
 use crate::stop::Stop;
@@ -177,7 +178,7 @@ pub fn evals<'s>(
     requires { IsNext code contexts.now m.old (i.Evals (trees_of (map tree_of es.now))) }
     ensures { Goes code.entry contexts.now m.old (i.Evals (trees_of (map tree_of es.now))) result contexts.now m.new }
 {
-    match es.split_first() {
+    match first_of(es) {
         None => Ok(()),
         Some((first, others)) => m.push_two(Work::Eval(first), Work::Evals(others)),
     }

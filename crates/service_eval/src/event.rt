@@ -1,6 +1,6 @@
 //! Whole events.
 
-ghost use Rattle.std.specs.Prelude.{◌≡◌, ◌≤◌, ◌∷◌, [], slice_get, IsSome, IfOk, OnOk, OnErr, IsNone, IfSome, All};
+ghost use Rattle.std.specs.Prelude.{◌≡◌, ◌≤◌, [], slice_get, IsSome, IfOk, OnOk, OnErr, All};
 ghost use Rattle.context_tree.specs.Contexts.{tree_of as shown};
 ghost use Rattle.resolved_service.specs.Fits.{FitsMethod, FitsService, FitsEvent, FitsPhases, FitsLast, FitsSteps, FitsTree, IsChildClass};
 ghost use Rattle.resolved_service.specs.Jobs.{call_meaning, meant_by, first_world, replied};
@@ -19,6 +19,7 @@ ghost use Rattle.wave_base.specs.Shapes.{IsShape, class_of};
 use crate::calls::{enter, with_blanks};
 use crate::code::Code;
 use crate::machine::Machine;
+use crate::parts::first_of;
 use crate::run::run;
 use crate::stop::Stop;
 use crate::trace::Trace;
@@ -231,7 +232,7 @@ fn phases_from<'s>(
     ensures rests { OnOk result (Rests code.entry contexts.new m.new) }
     ensures holds { Holds code.entry.shape.now (shown code.entry.shape.now contexts.new) }
 {
-    match phases.split_first() {
+    match first_of(phases) {
         None => reply(code, contexts, m, last),
         Some((phase, others)) => {
             let key = match value_of(code, contexts, m, &phase.key) {

@@ -17,6 +17,7 @@ mod look;
 mod loops;
 mod machine;
 mod operand;
+mod parts;
 mod plain;
 mod rows;
 mod run;

@@ -18,6 +18,7 @@ use crate::eval::found;
 use crate::fields::item;
 use crate::machine::Machine;
 use crate::operand::is_true;
+use crate::parts::first_of;
 use crate::rows::apply_two;
 use crate::stop::Stop;
 use crate::work::{ForLoop, WhileLoop, Work};
@@ -152,7 +153,7 @@ fn while_body<'s>(
     ensures { GoesTo code.entry contexts.old m.old (i.Block (steps_in cycle.entry.body.now) ∷ turns_of cycle.entry ∷ []) (turns_of cycle.entry ∷ []) result contexts.new m.new }
 {
     match as_far(code, contexts, m, cycle.body) {
-        Ok(rest) => match rest.split_first() {
+        Ok(rest) => match first_of(rest) {
             None => Ok(true),
             Some(_) => leave_turn(code, contexts, m, rest, Work::Turns(cycle)),
         },
@@ -264,7 +265,7 @@ fn turn_body<'s>(
     ensures { GoesTo code.entry contexts.old m.old (i.Block (steps_in cycle.entry.body.now) ∷ again_of cycle.entry ∷ []) (counts_of cycle.entry ∷ []) result contexts.new m.new }
 {
     match as_far(code, contexts, m, cycle.body) {
-        Ok(rest) => match rest.split_first() {
+        Ok(rest) => match first_of(rest) {
             None => go_on(code, contexts, m, cycle),
             Some(_) => leave_turn(code, contexts, m, rest, Work::Counts(cycle, true)),
         },

@@ -15,11 +15,10 @@ use Rattle.code_actor.specs.CodeActors.{Fields}
 use Rattle.plan_actors.specs.PlanActors as actors
 use Rattle.plan_actors.specs.PlanActors.{plan_actors, plan_kind}
 use Rattle.plan_actors.specs.Plans.{Plan, begin_in}
-use Rattle.wave_machine.specs.declared.lease.Lease.{Lease}
-use Rattle.wave_machine.specs.Leases.{HasRun, StandsFor}
-use Rattle.wave_machine.specs.Machines.{IsEnabled, Kept, Takes}
-use Rattle.wave_machine.specs.Prepared.{IsStood}
-use Rattle.wave_machine.specs.Running.{IsInHand, IsStopping, Leases}
+use Rattle.wave_effects.specs.declared.lease.Lease.{Lease}
+use Rattle.wave_effects.specs.Leases.{HasRun, StandsFor}
+use Rattle.wave_effects.specs.Machines.{IsEnabled, Kept, Takes, IsStood}
+use Rattle.wave_effects.specs.Running.{IsInHand, IsStopping, Leases}
 
 -- the first of the canonical list can be taken
 pub first_enabled : (m : Kept) (ls : List program.Label) (l : program.Label) (on : IsStood m) → map label_of ls ≡ enabled (plan_actors m.plan.program) m.plan.workers m.plan.script.hosts on.state → slice_get ls 0 ≡ Some l

@@ -2,13 +2,13 @@
 
 ghost use Rattle.std.specs.Prelude.{◌≡◌, IfSome};
 ghost use Rattle.plan_actors.specs.Plans.{Fits};
-ghost use Rattle.wave_machine.specs.Plans.{plan_of};
+ghost use Rattle.wave_effects.specs.Plans.{plan_of};
 
 use std::alloc::Global;
 use tests_code::coded_texts;
 use tests_services::LOOK;
 use wave_base::WORKERS;
-use wave_machine::Plan;
+use wave_effects::Plan;
 
 /// A service, a script for it, and how many workers there are.
 #[derive(Clone, Copy)]

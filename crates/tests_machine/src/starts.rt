@@ -3,12 +3,12 @@
 ghost use Rattle.std.specs.Prelude.{◌≤◌, ◌<◌, IfOk};
 ghost use Rattle.wave_base.specs.declared.limits.TheConstants.{START_TICKET};
 ghost use Rattle.plan_actors.specs.Plans.{Fits, FitsStart};
-ghost use Rattle.wave_machine.specs.Plans.{plan_of};
+ghost use Rattle.wave_effects.specs.Plans.{plan_of};
 
 use context_tree::trees_that_fit;
 use std::alloc::Global;
 use wave_base::{Host, OutOfMemory, Path, Place, Seq, Start, Ticket};
-use wave_machine::Plan;
+use wave_effects::Plan;
 
 /// A Start of a plan with the root alone, as it begins, on a host, and a next ticket.
 pub fn start_on(alloc: Global, plan: &Plan, host: Host, next: Ticket) -> Result<Start, OutOfMemory>

@@ -6,6 +6,7 @@ use context_queue::Entry;
 use host_map::{Found, HostStore, Mark};
 use migration_core::*;
 use std::alloc::Global;
+use std::process::Abort;
 use std::test::Fail;
 use wave_base::{
     Child, Children, Class, Host, OutOfMemory, Outcome, Path, Pause, Record, Seq, Step, Ticket,
@@ -93,21 +94,30 @@ fn with_child(alloc: Global, child: Step) -> Result<Record, OutOfMemory> {
     Ok(record)
 }
 
+// The mover takes its next step at this context.
+fn goes_to(rt: &impl Abort, alloc: Global, mover: &mut Mover, record: &Record, next: Step) {
+    assert!(rt; advance(alloc, mover, record) == Pause::Go(next));
+}
+
+// The mover is over at a context without children.
+fn ends(rt: &impl Abort, alloc: Global, mover: &mut Mover, outcome: Outcome) {
+    match advance(alloc, mover, &record(alloc)) {
+        Pause::Over(result) => assert!(rt; result.outcome == outcome),
+        _ => assert!(rt; false),
+    }
+}
+
 #[test]
 fn a_mover_goes_down_and_ends(rt: HostRuntime) -> Result<(), Fail> {
     let alloc = rt.alloc();
+    let root = with_child(alloc, step(4))?;
+    let hall = with_child(alloc, step(7))?;
     let target = Path::root().child(step(4)).child(step(7));
     let mut mover = Mover::new(Ticket(9), target, Host(3));
-    assert!(rt; advance(alloc, &mut mover, &with_child(alloc, step(4))?) == Pause::Go(step(4)));
-    match advance(alloc, &mut mover, &record(alloc)) {
-        Pause::Over(result) => assert!(rt; result.outcome == Outcome::Absent(target)),
-        _ => assert!(rt; false),
-    }
-    assert!(rt; advance(alloc, &mut mover, &with_child(alloc, step(7))?) == Pause::Go(step(7)));
-    match advance(alloc, &mut mover, &record(alloc)) {
-        Pause::Over(result) => assert!(rt; result.outcome == Outcome::Moved(target, Host(3))),
-        _ => assert!(rt; false),
-    }
+    goes_to(&rt, alloc, &mut mover, &root, step(4));
+    ends(&rt, alloc, &mut mover, Outcome::Absent(target));
+    goes_to(&rt, alloc, &mut mover, &hall, step(7));
+    ends(&rt, alloc, &mut mover, Outcome::Moved(target, Host(3)));
     assert!(rt; mover.ticket() == Ticket(9));
     Ok(())
 }

@@ -1,11 +1,12 @@
 //! Small trees: contexts join, are read, set and listed.
 
-ghost use Rattle.std.specs.Prelude.{◌≡◌, ◌∷◌, [], pos, length, Some, IfOk};
-ghost use Rattle.context_tree.specs.Contexts.{IsOrdered, HasField};
+ghost use Rattle.std.specs.Prelude.{◌≡◌, ◌∷◌, [], pos, length, true, Some, IfOk};
+ghost use Rattle.context_tree.specs.Contexts.{IsOrdered, HasField, is_there};
 ghost use Rattle.wave_base.specs.Shapes.{parent_class};
 
 use context_tree::*;
 use std::alloc::Global;
+use std::process::Abort;
 use std::test::Fail;
 use tests_services::{class, hall, number, shot};
 use wave_base::{Class, OutOfMemory, Path, Seq, Shape, Shot, Step, Value};
@@ -15,16 +16,13 @@ fn halls(alloc: Global) -> Result<Shape, OutOfMemory>
     ensures classes { IfOk result (λ s. length s.classes ≡ 2) }
     ensures hall { IfOk result (λ s. parent_class s 1 ≡ Some (record { 0 = 0 })) }
 {
-    let root = class(
-        alloc,
-        b"Market",
-        None,
-        vec![in alloc; number(alloc, b"seen", 3)?]?,
-    )?;
-    let count = number(alloc, b"count", 7)?;
-    let hall = class(alloc, b"Hall", Some(Class(0)), vec![in alloc; count]?)?;
+    let mut classes = Vec::new(alloc);
+    let seen = vec![in alloc; number(alloc, b"seen", 3)?]?;
+    classes.push(class(alloc, b"Market", None, seen)?)?;
+    let count = vec![in alloc; number(alloc, b"count", 7)?]?;
+    classes.push(class(alloc, b"Hall", Some(Class(0)), count)?)?;
     Ok(Shape {
-        classes: Seq::from_vec(vec![in alloc; root, hall]?),
+        classes: Seq::from_vec(classes),
         events: Seq::new(alloc),
     })
 }
@@ -39,14 +37,36 @@ fn join(alloc: Global, shape: &Shape, tree: &mut Tree, key: i64) -> Result<(), O
     Ok(())
 }
 
-// Two contexts in path order.
-fn two(alloc: Global) -> Result<Seq<Shot>, OutOfMemory>
+// Two contexts in path order, with these numbers.
+fn two(alloc: Global, low: i64, high: i64) -> Result<Seq<Shot>, OutOfMemory>
     ensures ordered { IfOk result IsOrdered }
     ensures field { IfOk result (λ shots. HasField (record { shots = shots; joined = [] }) (record { class = record { 0 = 1 }; key = pos 2 } ∷ []) 0) }
 {
-    let low = shot(alloc, hall(-5), 1)?;
-    let high = shot(alloc, hall(2), 9)?;
+    let low = shot(alloc, hall(-5), low)?;
+    let high = shot(alloc, hall(2), high)?;
     Ok(Seq::from_vec(vec![in alloc; low, high]?))
+}
+
+// The tree of two contexts, with 1 and 9.
+fn tree(alloc: Global) -> Result<Tree, OutOfMemory>
+    ensures there { IfOk result (λ t. is_there t (record { class = record { 0 = 1 }; key = pos 2 } ∷ []) ≡ true) }
+    ensures field { IfOk result (λ t. HasField t (record { class = record { 0 = 1 }; key = pos 2 } ∷ []) 0) }
+{
+    let shots = two(alloc, 1, 9)?;
+    Tree::from_shots(alloc, shots.as_slice())
+}
+
+// It has these numbers.
+fn has(
+    rt: &impl Abort,
+    alloc: Global,
+    tree: &Tree,
+    low: i64,
+    high: i64,
+) -> Result<(), OutOfMemory> {
+    let wanted = two(alloc, low, high)?;
+    assert!(rt; tree.shots(alloc)?.as_slice() == wanted.as_slice());
+    Ok(())
 }
 
 #[test]
@@ -60,8 +80,7 @@ fn contexts_join_with_initial_fields(rt: HostRuntime) -> Result<(), Fail> {
         None => assert!(rt; false),
     }
     assert!(rt; tree.get(&hall(-2)).is_none());
-    let shots = tree.shots(alloc)?;
-    assert!(rt; shots.len() == 2);
+    assert!(rt; tree.shots(alloc)?.len() == 2);
     Ok(())
 }
 
@@ -105,35 +124,28 @@ fn contexts_are_listed_in_path_order(rt: HostRuntime) -> Result<(), Fail> {
 #[test]
 fn a_field_is_replaced(rt: HostRuntime) -> Result<(), Fail> {
     let alloc = rt.alloc();
-    let shots = two(alloc)?;
-    let mut tree = Tree::from_shots(alloc, shots.as_slice())?;
+    let mut tree = tree(alloc)?;
     assert!(rt; tree.replace(&hall(2), 0, Value::Int(4)) == Value::Int(9));
-    let wanted = [shot(alloc, hall(-5), 1)?, shot(alloc, hall(2), 4)?];
-    assert!(rt; tree.shots(alloc)?.as_slice() == wanted.as_slice());
+    has(&rt, alloc, &tree, 1, 4)?;
     Ok(())
 }
 
 #[test]
 fn a_field_is_set(rt: HostRuntime) -> Result<(), Fail> {
     let alloc = rt.alloc();
-    let shots = two(alloc)?;
-    let mut tree = Tree::from_shots(alloc, shots.as_slice())?;
+    let mut tree = tree(alloc)?;
     tree.set(&hall(2), 0, Value::Int(4));
-    let wanted = [shot(alloc, hall(-5), 1)?, shot(alloc, hall(2), 4)?];
-    assert!(rt; tree.shots(alloc)?.as_slice() == wanted.as_slice());
+    has(&rt, alloc, &tree, 1, 4)?;
     Ok(())
 }
 
 #[test]
 fn fields_are_exchanged(rt: HostRuntime) -> Result<(), Fail> {
     let alloc = rt.alloc();
-    let shots = two(alloc)?;
-    let mut tree = Tree::from_shots(alloc, shots.as_slice())?;
+    let mut tree = tree(alloc)?;
     let fields = Seq::from_vec(vec![in alloc; Value::Int(5)]?);
-    let before = tree.exchange(&hall(2), fields);
-    assert!(rt; before.as_slice() == [Value::Int(9)].as_slice());
-    let wanted = [shot(alloc, hall(-5), 1)?, shot(alloc, hall(2), 5)?];
-    assert!(rt; tree.shots(alloc)?.as_slice() == wanted.as_slice());
+    assert!(rt; tree.exchange(&hall(2), fields).as_slice() == [Value::Int(9)].as_slice());
+    has(&rt, alloc, &tree, 1, 5)?;
     Ok(())
 }
 

@@ -127,20 +127,58 @@ fn rows_of_ints(rt: HostRuntime) -> Result<(), Fail> {
     Ok(())
 }
 
+fn of_int(rt: &impl Abort, alloc: Global, row: usize, a: i64, wanted: Result<Value, OpError>)
+    requires row { row < OPERATORS }
+    requires kinds { takes_of row ≡ Kind.Int ∷ [] }
+{
+    assert!(rt; apply(alloc, row, &[Value::Int(a)]) == wanted, "row {row}");
+}
+
+fn of_flags(rt: &impl Abort, alloc: Global, row: usize, a: bool, b: bool, wanted: bool)
+    requires row { row < OPERATORS }
+    requires kinds { takes_of row ≡ Kind.Bool ∷ Kind.Bool ∷ [] }
+{
+    let operands = [Value::Bool(a), Value::Bool(b)];
+    assert!(rt; apply(alloc, row, &operands) == flag(wanted), "row {row}");
+}
+
+// The row's answer at a map.
+fn of_table(alloc: Global, row: usize, map: Table) -> Result<Value, OpError>
+    requires row { row < OPERATORS }
+    requires kinds { takes_of row ≡ Kind.Map ∷ [] }
+{
+    apply(alloc, row, &[Value::Map(map)])
+}
+
+// The row's answer at the text of a number.
+fn of_digits(alloc: Global, row: usize, n: i64) -> Result<Value, OpError>
+    requires row { row < OPERATORS }
+    requires kinds { takes_of row ≡ Kind.Text ∷ [] }
+{
+    apply(alloc, row, &[Value::Str(digits(alloc, n)?)])
+}
+
 #[test]
 #[tactic(auto, unfolding(value_ops::specs::Operators::takes_of, value_ops::specs::Operators::operators))]
 fn rows_of_one_operand(rt: HostRuntime) -> Result<(), Fail> {
     let alloc = rt.alloc();
-    assert!(rt; apply(alloc, NEG, &[Value::Int(LEAST)]) == trap(TrapKind::Overflow));
-    assert!(rt; apply(alloc, ABS, &[Value::Int(LEAST)]) == trap(TrapKind::Overflow));
-    assert!(rt; apply(alloc, ABS, &[Value::Int(-GREATEST)]) == int(GREATEST));
+    of_int(&rt, alloc, NEG, LEAST, trap(TrapKind::Overflow));
+    of_int(&rt, alloc, ABS, LEAST, trap(TrapKind::Overflow));
+    of_int(&rt, alloc, ABS, -GREATEST, int(GREATEST));
     assert!(rt; apply(alloc, NOT, &[Value::Bool(true)]) == flag(false));
-    assert!(rt; apply(alloc, BEQ, &[Value::Bool(false), Value::Bool(false)]) == flag(true));
-    assert!(rt; apply(alloc, BNE, &[Value::Bool(false), Value::Bool(false)]) == flag(false));
-    assert!(rt; apply(alloc, SIZE, &[Value::Map(sample(alloc)?)]) == int(2));
-    assert!(rt; apply(alloc, LEN, &[Value::Str(digits(alloc, LEAST)?)]) == int(20));
-    assert!(rt; apply(alloc, SUM, &[Value::Map(sample(alloc)?)]) == int(9));
-    assert!(rt; apply(alloc, NUM, &[Value::Str(digits(alloc, LEAST)?)]) == int(LEAST));
+    of_flags(&rt, alloc, BEQ, false, false, true);
+    of_flags(&rt, alloc, BNE, false, false, false);
+    Ok(())
+}
+
+#[test]
+#[tactic(auto, unfolding(value_ops::specs::Operators::takes_of, value_ops::specs::Operators::operators))]
+fn rows_of_one_text_or_map(rt: HostRuntime) -> Result<(), Fail> {
+    let alloc = rt.alloc();
+    assert!(rt; of_table(alloc, SIZE, sample(alloc)?) == int(2));
+    assert!(rt; of_digits(alloc, LEN, LEAST) == int(20));
+    assert!(rt; of_table(alloc, SUM, sample(alloc)?) == int(9));
+    assert!(rt; of_digits(alloc, NUM, LEAST) == int(LEAST));
     Ok(())
 }
 

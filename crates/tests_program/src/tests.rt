@@ -6,7 +6,7 @@ mod gates;
 mod memory;
 mod points;
 mod replays;
-mod rows;
+pub(crate) mod rows;
 mod scripts;
 mod second;
 mod services;

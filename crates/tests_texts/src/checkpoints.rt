@@ -1,14 +1,14 @@
 //! Checkpoints are written, read back and refused line by line.
 
-ghost use Rattle.std.specs.Prelude.{◌≤◌, length};
 ghost use Rattle.wave_base.specs.Names.{HasNames};
 ghost use Rattle.wave_base.specs.Shapes.{IsShape};
 
 use crate::shapes::market_shape;
 use checkpoint_store::{CheckError, read_checkpoint, write_checkpoint};
 use std::alloc::Global;
+use std::process::Abort;
 use std::test::Fail;
-use wave_base::{Host, OutOfMemory, Seq, Shape, Ticket};
+use wave_base::{Host, OutOfMemory, Shape, Ticket};
 
 // More bytes than any text here has.
 const ENOUGH: usize = 100_000;
@@ -32,23 +32,17 @@ const LINES: [&[u8]; 15] = [
 ];
 
 // The text of these lines, the one of this number in another wording.
-fn text_with(alloc: Global, number: usize, other: &[u8]) -> Result<Vec<u8>, OutOfMemory> {
+fn text_with(alloc: Global, number: u32, other: &[u8]) -> Result<Vec<u8>, OutOfMemory> {
     let mut text = Vec::new(alloc);
     for (i, line) in LINES.iter().enumerate() {
-        text.extend_from_slice(if i + 1 == number { other } else { *line })?;
+        text.extend_from_slice(if i + 1 == number as usize {
+            other
+        } else {
+            *line
+        })?;
         text.push(b'\n')?;
     }
     Ok(text)
-}
-
-// The text of what is read of a text.
-fn again(alloc: Global, shape: &Shape, text: &[u8]) -> Result<Seq<u8>, CheckError>
-    requires shape { IsShape shape.now }
-    requires names { HasNames shape.now }
-    requires short { length text.now ≤ 100000 }
-{
-    let point = read_checkpoint(alloc, shape, text)?;
-    Ok(write_checkpoint(alloc, shape, &point)?)
 }
 
 // Why a text is refused.
@@ -66,7 +60,7 @@ fn refused(alloc: Global, shape: &Shape, text: &[u8]) -> Option<CheckError>
 fn refused_with(
     alloc: Global,
     shape: &Shape,
-    number: usize,
+    number: u32,
     other: &[u8],
 ) -> Result<Option<CheckError>, OutOfMemory>
     requires shape { IsShape shape.now }
@@ -76,57 +70,68 @@ fn refused_with(
     Ok(refused(alloc, shape, text.as_slice()))
 }
 
+// The text is read, and what is read is written as it.
+fn is_read_and_written(
+    rt: &impl Abort,
+    alloc: Global,
+    shape: &Shape,
+    text: &[u8],
+) -> Result<(), CheckError>
+    requires shape { IsShape shape.now }
+    requires names { HasNames shape.now }
+{
+    assert!(rt; text.len() <= ENOUGH);
+    let point = read_checkpoint(alloc, shape, text)?;
+    assert!(rt; point.hosts == 2 && point.lines == 1);
+    assert!(rt; point.start.next == Ticket(20_000_000));
+    assert!(rt; point.start.shots.len() == 3);
+    assert!(rt; matches!(point.start.places.get(1), Some(place) if place.host == Host(1)));
+    assert!(rt; write_checkpoint(alloc, shape, &point)?.as_slice() == text);
+    Ok(())
+}
+
 #[test]
 fn reads_what_it_writes(rt: HostRuntime) -> Result<(), Fail> {
     let alloc = rt.alloc();
     let shape = market_shape(alloc)?;
     let text = text_with(alloc, 0, b"")?;
-    if text.len() <= ENOUGH {
-        let point = read_checkpoint(alloc, &shape, text.as_slice())?;
-        assert!(rt; point.hosts == 2 && point.lines == 1);
-        assert!(rt; point.start.next == Ticket(20_000_000));
-        assert!(rt; point.start.shots.len() == 3);
-        assert!(rt; point.start.places.as_slice()[1].host == Host(1));
-        let written = again(alloc, &shape, text.as_slice())?;
-        assert!(rt; written.as_slice() == text.as_slice());
-    }
+    is_read_and_written(&rt, alloc, &shape, text.as_slice())?;
     Ok(())
 }
+
+// Lines that have not the form of that of their number.
+const OTHER_FORMS: [(u32, &[u8]); 22] = [
+    (1, b"checkpoint 2"),
+    (1, b"checkpoint 1\r"),
+    (2, b"hosts 02 lines 1 next 2"),
+    (2, b"hosts 9 lines x next 2"),
+    (2, b"hosts 2 lines 1 next 2 "),
+    (3, b"classes 04"),
+    (3, b"classes"),
+    (5, b"class Hall  Market count:int"),
+    (5, b"class Hall"),
+    (5, b"class Hall Market count:number"),
+    (5, b"class Hall Market count:int:int"),
+    (7, b"snapshot 3"),
+    (8, b"snapshot 2"),
+    (8, b"snapshot 0"),
+    (10, b"at /Hall[1] count=03"),
+    (13, b"place /Hall[01] 1"),
+    (13, b"place /Hall[10000000000000000000] 1"),
+    (13, b"place /Hall[1] 01"),
+    (13, b"place /Hall[1]"),
+    (14, b"end"),
+    (15, b"end "),
+    (15, b"place /Cell[1] 0"),
+];
 
 #[test]
 fn refuses_other_forms(rt: HostRuntime) -> Result<(), Fail> {
     let alloc = rt.alloc();
     let shape = market_shape(alloc)?;
-    for (number, line) in [
-        (1, b"checkpoint 2".as_slice()),
-        (1, b"checkpoint 1\r".as_slice()),
-        (2, b"hosts 02 lines 1 next 2".as_slice()),
-        (2, b"hosts 9 lines x next 2".as_slice()),
-        (2, b"hosts 2 lines 1 next 2 ".as_slice()),
-        (3, b"classes 04".as_slice()),
-        (3, b"classes".as_slice()),
-        (5, b"class Hall  Market count:int".as_slice()),
-        (5, b"class Hall".as_slice()),
-        (5, b"class Hall Market count:number".as_slice()),
-        (5, b"class Hall Market count:int:int".as_slice()),
-        (7, b"snapshot 3".as_slice()),
-        (8, b"snapshot 2".as_slice()),
-        (8, b"snapshot 0".as_slice()),
-        (10, b"at /Hall[1] count=03".as_slice()),
-        (13, b"place /Hall[01] 1".as_slice()),
-        (13, b"place /Hall[10000000000000000000] 1".as_slice()),
-        (13, b"place /Hall[1] 01".as_slice()),
-        (13, b"place /Hall[1]".as_slice()),
-        (14, b"end".as_slice()),
-        (15, b"end ".as_slice()),
-        (15, b"place /Cell[1] 0".as_slice()),
-    ] {
-        let said = refused_with(alloc, &shape, number, line)?;
-        assert!(rt;
-            said == Some(CheckError::Syntax {
-                line: number as u32
-            })
-        );
+    for (number, line) in &OTHER_FORMS {
+        let said = refused_with(alloc, &shape, *number, line)?;
+        assert!(rt; said == Some(CheckError::Syntax { line: *number }));
     }
     // a line `at ..` that is none counts for the head of the snapshot
     let said = refused_with(alloc, &shape, 9, b"et / seen=1")?;
@@ -134,65 +139,54 @@ fn refuses_other_forms(rt: HostRuntime) -> Result<(), Fail> {
     Ok(())
 }
 
+// Lines of another service, each with the number of the one that it stands for.
+const OTHER_SERVICES: [(u32, &[u8]); 8] = [
+    (3, b"classes 3"),
+    (3, b"classes 99999999999999999999999"),
+    (4, b"class Market Market seen:int"),
+    (5, b"class Hall Market count:text"),
+    (5, b"class while - count:int"),
+    (6, b"class Stall Market open:bool label:text best:map"),
+    (6, b"class Stall Hall open:bool best:map label:text"),
+    (7, b"class Cell Market size:int"),
+];
+
 #[test]
 fn refuses_other_services(rt: HostRuntime) -> Result<(), Fail> {
     let alloc = rt.alloc();
     let shape = market_shape(alloc)?;
-    for (number, line) in [
-        (3, b"classes 3".as_slice()),
-        (3, b"classes 99999999999999999999999".as_slice()),
-        (4, b"class Market Market seen:int".as_slice()),
-        (5, b"class Hall Market count:text".as_slice()),
-        (5, b"class while - count:int".as_slice()),
-        (
-            6,
-            b"class Stall Market open:bool label:text best:map".as_slice(),
-        ),
-        (
-            6,
-            b"class Stall Hall open:bool best:map label:text".as_slice(),
-        ),
-        (7, b"class Cell Market size:int".as_slice()),
-    ] {
-        let said = refused_with(alloc, &shape, number, line)?;
-        assert!(rt;
-            said == Some(CheckError::Service {
-                line: number as u32
-            })
-        );
+    for (number, line) in &OTHER_SERVICES {
+        let said = refused_with(alloc, &shape, *number, line)?;
+        assert!(rt; said == Some(CheckError::Service { line: *number }));
     }
     Ok(())
 }
+
+// Lines of no tree of the service, each with the number of the one that it stands for.
+const OTHER_TREES: [(u32, &[u8]); 14] = [
+    (2, b"hosts 0 lines 1 next 2"),
+    (2, b"hosts 9 lines 1 next 2"),
+    (2, b"hosts 258 lines 1 next 2"),
+    (2, b"hosts 2 lines 4001 next 2"),
+    (2, b"hosts 2 lines 1 next 0"),
+    (2, b"hosts 2 lines 1 next 20000001"),
+    (2, b"hosts 99999999999999999999999 lines 1 next 2"),
+    (9, b"at /None[1] seen=1"),
+    (10, b"at /Hall[1] count=true"),
+    (10, b"at / seen=1"),
+    (13, b"place /Hall[1] 2"),
+    (13, b"place /Hall[2] 0"),
+    (13, b"place /None[1] 0"),
+    (13, b"place /Hall[9999999999999999999] 0"),
+];
 
 #[test]
 fn refuses_other_trees(rt: HostRuntime) -> Result<(), Fail> {
     let alloc = rt.alloc();
     let shape = market_shape(alloc)?;
-    for (number, line) in [
-        (2, b"hosts 0 lines 1 next 2".as_slice()),
-        (2, b"hosts 9 lines 1 next 2".as_slice()),
-        (2, b"hosts 258 lines 1 next 2".as_slice()),
-        (2, b"hosts 2 lines 4001 next 2".as_slice()),
-        (2, b"hosts 2 lines 1 next 0".as_slice()),
-        (2, b"hosts 2 lines 1 next 20000001".as_slice()),
-        (
-            2,
-            b"hosts 99999999999999999999999 lines 1 next 2".as_slice(),
-        ),
-        (9, b"at /None[1] seen=1".as_slice()),
-        (10, b"at /Hall[1] count=true".as_slice()),
-        (10, b"at / seen=1".as_slice()),
-        (13, b"place /Hall[1] 2".as_slice()),
-        (13, b"place /Hall[2] 0".as_slice()),
-        (13, b"place /None[1] 0".as_slice()),
-        (13, b"place /Hall[9999999999999999999] 0".as_slice()),
-    ] {
-        let said = refused_with(alloc, &shape, number, line)?;
-        assert!(rt;
-            said == Some(CheckError::Tree {
-                line: number as u32
-            })
-        );
+    for (number, line) in &OTHER_TREES {
+        let said = refused_with(alloc, &shape, *number, line)?;
+        assert!(rt; said == Some(CheckError::Tree { line: *number }));
     }
     Ok(())
 }
@@ -208,28 +202,31 @@ fn text_from(alloc: Global, count: usize, more: &[u8]) -> Result<Vec<u8>, OutOfM
     Ok(text)
 }
 
+// How many lines stand before another end, that end, and the line that is refused.
+const OTHER_ENDS: [(usize, &[u8], u32); 13] = [
+    (0, b"", 1),
+    (0, b"checkpoint 1", 1),
+    (2, b"", 3),
+    (6, b"", 7),
+    (7, b"", 8),
+    (7, b"snapshot 1\nat / seen=1", 9),
+    (7, b"snapshot 1\n", 8),
+    (12, b"", 13),
+    (14, b"", 15),
+    (14, b"end", 15),
+    (14, b"\nend\n", 15),
+    (15, b"\n", 16),
+    (15, b"end", 16),
+];
+
 #[test]
 fn refuses_what_is_missing_or_too_many(rt: HostRuntime) -> Result<(), Fail> {
     let alloc = rt.alloc();
     let shape = market_shape(alloc)?;
-    for (count, more, number) in [
-        (0, b"".as_slice(), 1),
-        (0, b"checkpoint 1".as_slice(), 1),
-        (2, b"".as_slice(), 3),
-        (6, b"".as_slice(), 7),
-        (7, b"".as_slice(), 8),
-        (7, b"snapshot 1\nat / seen=1".as_slice(), 9),
-        (7, b"snapshot 1\n".as_slice(), 8),
-        (12, b"".as_slice(), 13),
-        (14, b"".as_slice(), 15),
-        (14, b"end".as_slice(), 15),
-        (14, b"\nend\n".as_slice(), 15),
-        (15, b"\n".as_slice(), 16),
-        (15, b"end".as_slice(), 16),
-    ] {
-        let text = text_from(alloc, count, more)?;
+    for (count, more, number) in &OTHER_ENDS {
+        let text = text_from(alloc, *count, more)?;
         let said = refused(alloc, &shape, text.as_slice());
-        assert!(rt; said == Some(CheckError::Syntax { line: number }));
+        assert!(rt; said == Some(CheckError::Syntax { line: *number }));
     }
     let empty = text_from(alloc, 7, b"snapshot 0\nend\n")?;
     let said = refused(alloc, &shape, empty.as_slice());

@@ -2,18 +2,81 @@
 
 use command_words::{Command, Crew, Places, Schedule, command_of};
 use std::alloc::Global;
-use std::process::Abort;
 use std::test::Fail;
 use tests_services::words;
 use wave_base::{OutOfMemory, Words};
 
-fn crew(workers: u8, schedule: Option<Schedule>) -> Crew {
-    Crew { workers, schedule }
-}
+const FOUR: Crew = Crew {
+    workers: 4,
+    schedule: None,
+};
 
-fn run(workers: u8, schedule: Option<Schedule>) -> Command {
-    Command::Run(Places::Unlisted, crew(workers, schedule))
-}
+const SIXTEEN: Crew = Crew {
+    workers: 16,
+    schedule: None,
+};
+
+/// Words, each with the command that they ask for.
+const COMMANDS: [(&str, Command); 15] = [
+    ("run", Command::Run(Places::Unlisted, FOUR)),
+    ("seq", Command::Seq(Places::Unlisted)),
+    ("--map seq", Command::Seq(Places::Listed)),
+    ("trace", Command::Trace(Places::Unlisted, FOUR)),
+    ("check", Command::Check),
+    ("print", Command::Print),
+    ("code", Command::Code),
+    ("gen 7", Command::Gen(7)),
+    ("gen -- 7", Command::Gen(7)),
+    ("gen 00000000000000000007", Command::Gen(7)),
+    ("gen 18446744073709551615", Command::Gen(u64::MAX)),
+    ("load 7", Command::Load(7, FOUR)),
+    ("load --workers 16 7", Command::Load(7, SIXTEEN)),
+    ("-- run", Command::Run(Places::Unlisted, FOUR)),
+    ("run --", Command::Run(Places::Unlisted, FOUR)),
+];
+
+/// Words that ask for a run without places, each with its crew.
+const RUNS: [(&str, u8, Option<Schedule>); 9] = [
+    ("run --workers=4", 4, None),
+    ("run --workers 004", 4, None),
+    ("--workers 1 run", 1, None),
+    ("--workers=2 -- run", 2, None),
+    ("run --schedule=0 --workers 1", 1, Some(Schedule::Seed(0))),
+    ("run --schedule oldest", 4, Some(Schedule::Oldest)),
+    ("run --schedule newest", 4, Some(Schedule::Newest)),
+    ("run --schedule movers", 4, Some(Schedule::Movers)),
+    ("run --schedule maillast", 4, Some(Schedule::MailLast)),
+];
+
+const BY_SEED: Crew = Crew {
+    workers: 4,
+    schedule: Some(Schedule::Seed(0)),
+};
+
+const NEWEST_OF_TWO: Crew = Crew {
+    workers: 2,
+    schedule: Some(Schedule::Newest),
+};
+
+/// Words of other commands with a crew.
+const CREWS: [(&str, Command); 4] = [
+    (
+        "--map run --workers=16",
+        Command::Run(Places::Listed, SIXTEEN),
+    ),
+    (
+        "--map trace --workers 16",
+        Command::Trace(Places::Listed, SIXTEEN),
+    ),
+    (
+        "trace --schedule 0",
+        Command::Trace(Places::Unlisted, BY_SEED),
+    ),
+    (
+        "trace --schedule=newest --workers=2",
+        Command::Trace(Places::Unlisted, NEWEST_OF_TWO),
+    ),
+];
 
 /// Words that ask for none; an empty text is one empty word.
 const REFUSED: [&str; 43] = [
@@ -62,45 +125,25 @@ const REFUSED: [&str; 43] = [
     "-- run --map",
 ];
 
-// Each of these words asks for its command.
-fn are_read(
-    rt: &impl Abort,
-    alloc: Global,
-    accepted: &[(&str, Command)],
-) -> Result<(), OutOfMemory> {
-    for (text, command) in accepted {
-        assert_eq!(rt;
-            command_of(alloc, &words(alloc, text)?)?,
-            Some(*command),
-            "at {text}"
-        );
-    }
-    Ok(())
+// What these words ask for.
+fn asked(alloc: Global, text: &str) -> Result<Option<Command>, OutOfMemory> {
+    command_of(alloc, &words(alloc, text)?)
 }
 
 #[test]
 fn commands_are_read(rt: HostRuntime) -> Result<(), Fail> {
     let alloc = rt.alloc();
-    let accepted = [
-        ("run", run(4, None)),
-        ("seq", Command::Seq(Places::Unlisted)),
-        ("--map seq", Command::Seq(Places::Listed)),
-        ("trace", Command::Trace(Places::Unlisted, crew(4, None))),
-        ("check", Command::Check),
-        ("print", Command::Print),
-        ("code", Command::Code),
-        ("gen 7", Command::Gen(7)),
-        ("gen -- 7", Command::Gen(7)),
-        ("gen 00000000000000000007", Command::Gen(7)),
-        ("gen 18446744073709551615", Command::Gen(u64::MAX)),
-        ("load 7", Command::Load(7, crew(4, None))),
-        ("load --workers 16 7", Command::Load(7, crew(16, None))),
-        ("-- run", run(4, None)),
-        ("run --", run(4, None)),
-    ];
-    are_read(&rt, alloc, &accepted)?;
+    for (text, command) in &COMMANDS {
+        assert_eq!(rt; asked(alloc, text)?, Some(*command), "at {text}");
+    }
+    Ok(())
+}
+
+#[test]
+fn other_words_are_refused(rt: HostRuntime) -> Result<(), Fail> {
+    let alloc = rt.alloc();
     for text in &REFUSED {
-        assert_eq!(rt; command_of(alloc, &words(alloc, text)?)?, None, "at {text}");
+        assert_eq!(rt; asked(alloc, text)?, None, "at {text}");
     }
     assert_eq!(rt; command_of(alloc, &Words::new(alloc))?, None);
     Ok(())
@@ -109,37 +152,16 @@ fn commands_are_read(rt: HostRuntime) -> Result<(), Fail> {
 #[test]
 fn crews_are_read(rt: HostRuntime) -> Result<(), Fail> {
     let alloc = rt.alloc();
-    let seed = Some(Schedule::Seed(0));
-    let newest = Some(Schedule::Newest);
-    let unlisted = Places::Unlisted;
-    let listed = Places::Listed;
-    let accepted = [
-        ("run --workers=4", run(4, None)),
-        ("run --workers 004", run(4, None)),
-        ("--workers 1 run", run(1, None)),
-        ("--workers=2 -- run", run(2, None)),
-        (
-            "--map run --workers=16",
-            Command::Run(listed, crew(16, None)),
-        ),
-        (
-            "--map trace --workers 16",
-            Command::Trace(listed, crew(16, None)),
-        ),
-        (
-            "trace --schedule 0",
-            Command::Trace(unlisted, crew(4, seed)),
-        ),
-        (
-            "trace --schedule=newest --workers=2",
-            Command::Trace(unlisted, crew(2, newest)),
-        ),
-        ("run --schedule=0 --workers 1", run(1, seed)),
-        ("run --schedule oldest", run(4, Some(Schedule::Oldest))),
-        ("run --schedule newest", run(4, newest)),
-        ("run --schedule movers", run(4, Some(Schedule::Movers))),
-        ("run --schedule maillast", run(4, Some(Schedule::MailLast))),
-    ];
-    are_read(&rt, alloc, &accepted)?;
+    for (text, workers, schedule) in &RUNS {
+        let crew = Crew {
+            workers: *workers,
+            schedule: *schedule,
+        };
+        let run = Command::Run(Places::Unlisted, crew);
+        assert_eq!(rt; asked(alloc, text)?, Some(run), "at {text}");
+    }
+    for (text, command) in &CREWS {
+        assert_eq!(rt; asked(alloc, text)?, Some(*command), "at {text}");
+    }
     Ok(())
 }

@@ -23,43 +23,46 @@ drain 1 to 00
 settle
 balance by 1";
 
-fn batches(alloc: Global, lines: Vec<Line>) -> Result<Seq<Seq<Line>>, OutOfMemory> {
-    let mut batches = Seq::new(alloc);
-    for line in lines {
-        let mut batch = Seq::new(alloc);
-        batch.add(line)?;
-        batches.add(batch)?;
-    }
-    Ok(batches)
+// A batch of one line.
+fn batch(alloc: Global, line: Line) -> Result<Seq<Line>, OutOfMemory> {
+    let mut batch = Seq::new(alloc);
+    batch.add(line)?;
+    Ok(batch)
 }
 
-fn part(alloc: Global, policy: Option<Policy>, lines: Vec<Line>) -> Result<Part, OutOfMemory> {
-    let batches = batches(alloc, lines)?;
-    Ok(Part { policy, batches })
+// A part of its policy alone.
+fn part(alloc: Global, policy: Option<Policy>) -> Part {
+    Part {
+        policy,
+        batches: Seq::new(alloc),
+    }
+}
+
+fn first_part(alloc: Global) -> Result<Part, OutOfMemory> {
+    let mut first = part(alloc, None);
+    first.batches.add(batch(alloc, Line::Snapshot)?)?;
+    Ok(first)
+}
+
+fn second_part(alloc: Global) -> Result<Part, OutOfMemory> {
+    let mut second = part(alloc, Some(Policy::Balance(EVENT_LINES as u32)));
+    second
+        .batches
+        .add(batch(alloc, Line::Move(Path::root(), Host(1)))?)?;
+    second
+        .batches
+        .add(batch(alloc, Line::Move(Path::root(), Host(0)))?)?;
+    Ok(second)
 }
 
 // Its parts: one without a policy, one with two batches, and two without any.
 fn wanted(alloc: Global) -> Result<Elastic, OutOfMemory> {
-    let first = part(alloc, None, vec![in alloc; Line::Snapshot]?)?;
-    let away = Line::Move(Path::root(), Host(1));
-    let home = Line::Move(Path::root(), Host(0));
-    let most = EVENT_LINES as u32;
-    let second = part(
-        alloc,
-        Some(Policy::Balance(most)),
-        vec![in alloc; away, home]?,
-    )?;
-    let third = part(
-        alloc,
-        Some(Policy::Drain(Host(1), Host(0))),
-        Vec::new(alloc),
-    )?;
-    let last = part(alloc, Some(Policy::Balance(1)), Vec::new(alloc))?;
-    let parts = vec![in alloc; first, second, third, last]?;
-    Ok(Elastic {
-        hosts: 2,
-        parts: Seq::from_vec(parts),
-    })
+    let mut parts = Seq::new(alloc);
+    parts.add(first_part(alloc)?)?;
+    parts.add(second_part(alloc)?)?;
+    parts.add(part(alloc, Some(Policy::Drain(Host(1), Host(0)))))?;
+    parts.add(part(alloc, Some(Policy::Balance(1))))?;
+    Ok(Elastic { hosts: 2, parts })
 }
 
 #[test]
@@ -80,38 +83,59 @@ fn refusal(alloc: Global, shape: &Shape, text: &[u8]) -> Option<ScriptError>
     read_elastic(alloc, shape, text).err()
 }
 
+// Lines that have not the form of a policy.
+const OTHER_FORMS: [&[u8]; 5] = [
+    b"\nbalance 1",
+    b"\nbalance by -1",
+    b"\nbalance by 1 #",
+    b"\ndrain 0 by 1",
+    b"\ndrain / to 1",
+];
+
 #[test]
 fn a_policy_has_its_form(rt: HostRuntime) -> Result<(), Fail> {
     let alloc = rt.alloc();
     let shape = event_shape(alloc)?;
-    let unknown = Some(ScriptError::UnknownCommand { line: 2 });
-    assert!(rt; refusal(alloc, &shape, b"\nbalance 1") == unknown);
-    assert!(rt; refusal(alloc, &shape, b"\nbalance by -1") == unknown);
-    assert!(rt; refusal(alloc, &shape, b"\nbalance by 1 #") == unknown);
-    assert!(rt; refusal(alloc, &shape, b"\ndrain 0 by 1") == unknown);
-    assert!(rt; refusal(alloc, &shape, b"\ndrain / to 1") == unknown);
+    let unknown = ScriptError::UnknownCommand { line: 2 };
+    for text in &OTHER_FORMS {
+        assert!(rt; text.len() <= 1000);
+        assert_eq!(rt; refusal(alloc, &shape, text), Some(unknown));
+    }
     let plain = Err(ScriptError::UnknownCommand { line: 1 });
     assert!(rt; read_script(alloc, &shape, b"balance by 1") == plain);
     Ok(())
 }
 
+// Texts, each with the fault that is told of it.
+const FAULTS: [(&[u8], ScriptError); 9] = [
+    (b"balance by 0", ScriptError::CountRange { line: 1 }),
+    (b"balance by 4001", ScriptError::CountRange { line: 1 }),
+    (
+        b"balance by 18446744073709551617",
+        ScriptError::CountRange { line: 1 },
+    ),
+    (b"hosts 2\ndrain 1 to 1", ScriptError::HostRange { line: 2 }),
+    (b"hosts 2\ndrain 2 to 0", ScriptError::HostRange { line: 2 }),
+    (b"hosts 2\ndrain 0 to 2", ScriptError::HostRange { line: 2 }),
+    (
+        b"snapshot\nbalance by 0",
+        ScriptError::PolicyLate { line: 2 },
+    ),
+    (
+        b"balance by 1\ndrain 7 to 7",
+        ScriptError::PolicyLate { line: 2 },
+    ),
+    (b"balance by 1\nhosts 2", ScriptError::HostsLate { line: 2 }),
+];
+
 #[test]
 fn refuses_each_fault_of_a_policy(rt: HostRuntime) -> Result<(), Fail> {
     let alloc = rt.alloc();
     let shape = event_shape(alloc)?;
-    let count = Some(ScriptError::CountRange { line: 1 });
-    assert!(rt; refusal(alloc, &shape, b"balance by 0") == count);
-    assert!(rt; refusal(alloc, &shape, b"balance by 4001") == count);
-    assert!(rt; refusal(alloc, &shape, b"balance by 18446744073709551617") == count);
-    let range = Some(ScriptError::HostRange { line: 2 });
-    assert!(rt; refusal(alloc, &shape, b"hosts 2\ndrain 1 to 1") == range);
-    assert!(rt; refusal(alloc, &shape, b"hosts 2\ndrain 2 to 0") == range);
-    assert!(rt; refusal(alloc, &shape, b"hosts 2\ndrain 0 to 2") == range);
-    let late = Some(ScriptError::PolicyLate { line: 2 });
-    assert!(rt; refusal(alloc, &shape, b"snapshot\nbalance by 0") == late);
-    assert!(rt; refusal(alloc, &shape, b"balance by 1\ndrain 7 to 7") == late);
-    let hosts = Some(ScriptError::HostsLate { line: 2 });
-    assert!(rt; refusal(alloc, &shape, b"balance by 1\nhosts 2") == hosts);
+    for (text, fault) in &FAULTS {
+        assert!(rt; text.len() <= 1000);
+        assert_eq!(rt; refusal(alloc, &shape, text), Some(*fault));
+    }
     Ok(())
 }
 

@@ -7,7 +7,7 @@ use mace_lexer::{Keyword, LexError, Sign, Token, Word, lex};
 use std::alloc::Global;
 use std::process::Abort;
 use std::test::Fail;
-use wave_base::{Seq, Span, Txt};
+use wave_base::{OutOfMemory, PLACED_BYTES, Seq, Span, Txt};
 
 fn refuses(rt: &impl Abort, alloc: Global, text: &[u8], error: LexError)
     requires { length text.now ≤ PLACED_BYTES }
@@ -43,53 +43,75 @@ fn each_fault_has_its_place(rt: HostRuntime) {
     refuses(&rt, alloc, b" \"a\\", LexError::OpenText(at(1, 2)));
 }
 
+// What is said of this front, so many letters, and this end.
+fn fault_of(
+    alloc: Global,
+    front: &[u8],
+    letters: usize,
+    end: &[u8],
+) -> Result<Option<LexError>, OutOfMemory> {
+    let mut text = Vec::from_slice(alloc, front)?;
+    for _ in 0..letters {
+        text.push(b'b')?;
+    }
+    text.extend_from_slice(end)?;
+    if text.len() > PLACED_BYTES {
+        return Ok(None);
+    }
+    Ok(lex(alloc, text.as_slice()).err())
+}
+
 #[test]
 fn words_have_a_greatest_length(rt: HostRuntime) -> Result<(), Fail> {
     let alloc = rt.alloc();
-    let mut name = vec![in alloc; b'a'; 64]?;
-    assert!(rt; lex(alloc, name.as_slice()).is_ok());
-    name.push(b'_')?;
-    refuses(&rt, alloc, name.as_slice(), LexError::NameLong(at(1, 1)));
+    let long = Some(LexError::NameLong(at(1, 1)));
+    assert!(rt; fault_of(alloc, b"", 64, b"")?.is_none());
+    assert!(rt; fault_of(alloc, b"", 64, b"_")? == long);
 
     // an escape counts as one
-    let mut text = vec![in alloc; b'"'; 1]?;
-    text.extend_from_slice(vec![in alloc; b'b'; 199]?.as_slice())?;
-    text.extend_from_slice(b"\\\"\"")?;
-    assert!(rt; lex(alloc, text.as_slice()).is_ok());
-    text.insert(1, b'b')?;
-    refuses(&rt, alloc, text.as_slice(), LexError::TextLong(at(1, 1)));
+    let long = Some(LexError::TextLong(at(1, 1)));
+    assert!(rt; fault_of(alloc, b"\"", 199, b"\\\"\"")?.is_none());
+    assert!(rt; fault_of(alloc, b"\"", 200, b"\\\"\"")? == long);
     Ok(())
+}
+
+fn token(word: Word, span: Span, from: usize, to: usize) -> Token {
+    Token {
+        word,
+        span,
+        from,
+        to,
+    }
+}
+
+const TEXT: &[u8] = b"if n_1<=007{ // small\r\nt=\"a\\\"\"";
+
+// The tokens of its first line.
+fn first_line(alloc: Global) -> Result<Seq<Token>, OutOfMemory> {
+    let mut tokens = Seq::new(alloc);
+    tokens.add(token(Word::Key(Keyword::If), at(1, 1), 0, 2))?;
+    let name = Word::Name(Txt::from_bytes(alloc, b"n_1")?);
+    tokens.add(token(name, at(1, 4), 3, 6))?;
+    tokens.add(token(Word::Sign(Sign::LessEquals), at(1, 7), 6, 8))?;
+    tokens.add(token(Word::Number(7), at(1, 9), 8, 11))?;
+    tokens.add(token(Word::Sign(Sign::LeftBrace), at(1, 12), 11, 12))?;
+    Ok(tokens)
+}
+
+// And those of its second.
+fn add_second_line(alloc: Global, tokens: &mut Seq<Token>) -> Result<(), OutOfMemory> {
+    let name = Word::Name(Txt::from_bytes(alloc, b"t")?);
+    tokens.add(token(name, at(2, 1), 23, 24))?;
+    tokens.add(token(Word::Sign(Sign::Equals), at(2, 2), 24, 25))?;
+    let text = Word::Text(Txt::from_bytes(alloc, b"a\"")?);
+    tokens.add(token(text, at(2, 3), 25, 30))
 }
 
 #[test]
 fn cuts_a_text(rt: HostRuntime) -> Result<(), Fail> {
     let alloc = rt.alloc();
-    let tokens = lex(alloc, b"if n_1<=007{ // small\r\nt=\"a\\\"\"")?;
-    let words = [
-        (Word::Key(Keyword::If), at(1, 1), 0, 2),
-        (Word::Name(Txt::from_bytes(alloc, b"n_1")?), at(1, 4), 3, 6),
-        (Word::Sign(Sign::LessEquals), at(1, 7), 6, 8),
-        (Word::Number(7), at(1, 9), 8, 11),
-        (Word::Sign(Sign::LeftBrace), at(1, 12), 11, 12),
-        (Word::Name(Txt::from_bytes(alloc, b"t")?), at(2, 1), 23, 24),
-        (Word::Sign(Sign::Equals), at(2, 2), 24, 25),
-        (
-            Word::Text(Txt::from_bytes(alloc, b"a\"")?),
-            at(2, 3),
-            25,
-            30,
-        ),
-    ];
-    let mut wanted = Seq::new(alloc);
-    for (word, span, from, to) in words {
-        let token = Token {
-            word,
-            span,
-            from,
-            to,
-        };
-        assert!(rt; wanted.push(token).is_ok());
-    }
-    assert_eq!(rt; tokens, wanted);
+    let mut wanted = first_line(alloc)?;
+    add_second_line(alloc, &mut wanted)?;
+    assert_eq!(rt; lex(alloc, TEXT)?, wanted);
     Ok(())
 }

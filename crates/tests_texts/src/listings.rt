@@ -6,10 +6,10 @@ ghost use Rattle.wave_base.specs.Text.{IsText};
 use listing_out::{ListError, listing, write_end, write_lines, write_listing, write_listing_at};
 use std::alloc::Global;
 use std::test::Fail;
-use tests_services::{class, event, hall, number};
+use tests_services::{class, event, hall, number, shot};
 use wave_base::{
-    Class, EventResult, Finished, Host, Message, OutOfMemory, Outcome, Path, Place, Seq, Shape,
-    Shot, Shown, Span, Table, Ticket, Trap, TrapKind, Txt, Value,
+    Class, ClassInfo, EventResult, Finished, Host, Message, OutOfMemory, Outcome, Path, Place, Seq,
+    Shape, Shot, Shown, Span, Table, Ticket, Trap, TrapKind, Txt, Value,
 };
 use wave_io::MemSink;
 
@@ -27,16 +27,25 @@ fn two_pairs(alloc: Global) -> Value {
     Value::Map(table)
 }
 
-// A root with a field, a Hall with two, and an event.
-fn shape(alloc: Global) -> Result<Shape, OutOfMemory> {
+// A root with a field, and a Hall with two.
+fn classes(alloc: Global) -> Result<Seq<ClassInfo>, OutOfMemory> {
+    let mut classes = Seq::new(alloc);
     let seen = vec![in alloc; number(alloc, b"seen", 0)?]?;
-    let two = vec![in alloc; number(alloc, b"count", 0)?, number(alloc, b"tag", 0)?]?;
-    let root = class(alloc, b"Market", None, seen)?;
-    let hall = class(alloc, b"Hall", Some(Class(0)), two)?;
-    let event = event(alloc, b"buy", Vec::new(alloc), None)?;
+    classes.add(class(alloc, b"Market", None, seen)?)?;
+    let mut two = Vec::new(alloc);
+    two.push(number(alloc, b"count", 0)?)?;
+    two.push(number(alloc, b"tag", 0)?)?;
+    classes.add(class(alloc, b"Hall", Some(Class(0)), two)?)?;
+    Ok(classes)
+}
+
+// These two, and an event.
+fn shape(alloc: Global) -> Result<Shape, OutOfMemory> {
+    let mut events = Seq::new(alloc);
+    events.add(event(alloc, b"buy", Vec::new(alloc), None)?)?;
     Ok(Shape {
-        classes: Seq::from_vec(vec![in alloc; root, hall]?),
-        events: Seq::from_vec(vec![in alloc; event]?),
+        classes: classes(alloc)?,
+        events,
     })
 }
 
@@ -49,34 +58,40 @@ pub(crate) fn ended(alloc: Global, outcome: Outcome) -> EventResult {
     }
 }
 
+fn message(alloc: Global, label: &[u8], value: Value) -> Result<Message, OutOfMemory>
+    requires { IsText label.now }
+{
+    let label = Txt::from_bytes(alloc, label)?;
+    Ok(Message { label, value })
+}
+
 // A reply, and two messages.
 fn replied(alloc: Global) -> Result<EventResult, OutOfMemory> {
-    let first = Message {
-        label: Txt::from_bytes(alloc, b"till")?,
-        value: Value::Int(-3),
-    };
-    let second = Message {
-        label: Txt::from_bytes(alloc, b"a\"b")?,
-        value: text(alloc, b"c\\d")?,
-    };
+    let mut messages = Seq::new(alloc);
+    messages.add(message(alloc, b"till", Value::Int(-3))?)?;
+    let said = text(alloc, b"c\\d")?;
+    messages.add(message(alloc, b"a\"b", said)?)?;
     Ok(EventResult {
         outcome: Outcome::Reply(two_pairs(alloc)),
-        messages: Seq::from_vec(vec![in alloc; first, second]?),
+        messages,
         created: Seq::new(alloc),
     })
 }
 
+// A Hall with a quote.
+fn hall_shot(alloc: Global) -> Result<Shot, OutOfMemory> {
+    let quote = text(alloc, b"\"")?;
+    let fields = Seq::from_vec(vec![in alloc; Value::Bool(true), quote]?);
+    let path = hall(-1);
+    Ok(Shot { path, fields })
+}
+
 // The root and a Hall.
 fn shots(alloc: Global) -> Result<Outcome, OutOfMemory> {
-    let root = Shot {
-        path: Path::root(),
-        fields: Seq::from_vec(vec![in alloc; Value::Int(i64::MAX)]?),
-    };
-    let one = Shot {
-        path: hall(-1),
-        fields: Seq::from_vec(vec![in alloc; Value::Bool(true), text(alloc, b"\"")?]?),
-    };
-    Ok(Outcome::Shots(Seq::from_vec(vec![in alloc; root, one]?)))
+    let mut shots = Seq::new(alloc);
+    shots.add(shot(alloc, Path::root(), i64::MAX)?)?;
+    shots.add(hall_shot(alloc)?)?;
+    Ok(Outcome::Shots(shots))
 }
 
 fn trapped() -> Outcome {
@@ -89,20 +104,30 @@ fn trapped() -> Outcome {
 fn results(alloc: Global) -> Result<Vec<EventResult>, OutOfMemory>
     ensures { IfOk result (λ v. length v.items ≤ 6) }
 {
-    let first = replied(alloc)?;
-    let second = ended(alloc, Outcome::Done);
-    let third = ended(alloc, trapped());
-    let fourth = ended(alloc, Outcome::Moved(hall(1), Host(1)));
-    let fifth = ended(alloc, Outcome::Absent(hall(9)));
-    let last = ended(alloc, shots(alloc)?);
     let mut all = Vec::new(alloc);
-    all.push(first)?;
-    all.push(second)?;
-    all.push(third)?;
-    all.push(fourth)?;
-    all.push(fifth)?;
-    all.push(last)?;
+    all.push(replied(alloc)?)?;
+    all.push(ended(alloc, Outcome::Done))?;
+    all.push(ended(alloc, trapped()))?;
+    all.push(ended(alloc, Outcome::Moved(hall(1), Host(1))))?;
+    all.push(ended(alloc, Outcome::Absent(hall(9))))?;
+    all.push(ended(alloc, shots(alloc)?))?;
     Ok(all)
+}
+
+// What the first ticket created.
+fn made(alloc: Global, first: u32) -> Result<Seq<Seq<Ticket>>, OutOfMemory>
+    requires { first ≤ 1000 }
+{
+    let created = vec![in alloc; Ticket(first + 1), Ticket(first + 2)]?;
+    let mut made = Seq::new(alloc);
+    made.add(Seq::from_vec(created))?;
+    Ok(made)
+}
+
+fn one_place(alloc: Global, path: Path, host: Host) -> Result<Seq<Place>, OutOfMemory> {
+    let mut places = Seq::new(alloc);
+    places.add(Place { path, host })?;
+    Ok(places)
 }
 
 // A run of six tickets, of which the first created the second and the third.
@@ -110,17 +135,14 @@ fn finished(alloc: Global, first: u32) -> Result<Finished, OutOfMemory>
     requires { first ≤ 1000 }
     ensures { IfOk result (λ d. length d.results ≤ 2 ^ 32 - 1) }
 {
-    let results = results(alloc)?;
-    let created = vec![in alloc; Ticket(first + 1), Ticket(first + 2)]?;
-    let place = Place {
-        path: hall(1),
-        host: Host(1),
-    };
+    let names = vec![in alloc; Some(0), Some(0), Some(0), None, None, None]?;
+    let made = made(alloc, first)?;
+    let places = one_place(alloc, hall(1), Host(1))?;
     Ok(Finished {
-        results: Seq::from_vec(results),
-        made: Seq::from_vec(vec![in alloc; Seq::from_vec(created)]?),
-        names: Seq::from_vec(vec![in alloc; Some(0), Some(0), Some(0), None, None, None]?),
-        places: Seq::from_vec(vec![in alloc; place]?),
+        results: Seq::from_vec(results(alloc)?),
+        made,
+        names: Seq::from_vec(names),
+        places,
         shots: Seq::new(alloc),
         loads: Seq::new(alloc),
     })
@@ -147,8 +169,7 @@ fn lists_every_kind_of_line(rt: HostRuntime) -> Result<(), Fail> {
     let alloc = rt.alloc();
     let shape = shape(alloc)?;
     let done = finished(alloc, 7)?;
-    let text = listing(alloc, &shape, Ticket(7), &done, true)?;
-    assert!(rt; text.as_slice() == FROM_7);
+    assert!(rt; listing(alloc, &shape, Ticket(7), &done, true)?.as_slice() == FROM_7);
     let mut sink = MemSink::new(alloc, 400, 7, Seq::new(alloc))?;
     assert!(rt; write_listing_at(alloc, &mut sink, &shape, Ticket(7), &done, true) == Ok(()));
     assert!(rt; sink.bytes() == FROM_7);
@@ -167,17 +188,13 @@ fn done_by(alloc: Global, name: Option<u16>) -> Shown {
 #[test]
 fn writes_part_by_part(rt: HostRuntime) -> Result<(), Fail> {
     let alloc = rt.alloc();
+    let places = one_place(alloc, Path::root(), Host(0))?;
     let shape = shape(alloc)?;
     let mut sink = MemSink::new(alloc, 400, 7, Seq::new(alloc))?;
     let mut part = Seq::new(alloc);
     assert!(rt; part.push(done_by(alloc, Some(0))).is_ok());
     assert!(rt; write_lines(alloc, &mut sink, &shape, Ticket(1), &part) == Ok(()));
     assert!(rt; write_lines(alloc, &mut sink, &shape, Ticket(2), &part) == Ok(()));
-    let place = Place {
-        path: Path::root(),
-        host: Host(0),
-    };
-    let places = Seq::from_vec(vec![in alloc; place]?);
     assert!(rt; write_end(alloc, &mut sink, &shape, Some(&places), 2) == Ok(()));
     assert!(rt; sink.bytes() == b"#1 buy ok\n#2 buy ok\nplace / 0\ndone 2\n".as_slice());
     Ok(())
@@ -201,8 +218,8 @@ fn names_the_ticket_before_the_first(rt: HostRuntime) -> Result<(), Fail> {
     let alloc = rt.alloc();
     let shape = shape(alloc)?;
     let done = nothing(alloc);
-    let text = listing(alloc, &shape, Ticket(7), &done, true)?;
-    assert!(rt; text.as_slice() == b"done 6\n".as_slice());
+    let none = b"done 6\n".as_slice();
+    assert!(rt; listing(alloc, &shape, Ticket(7), &done, true)?.as_slice() == none);
     let mut sink = MemSink::new(alloc, 400, 7, Seq::new(alloc))?;
     assert!(rt; write_listing(alloc, &mut sink, &shape, &done, false) == Ok(()));
     assert!(rt; sink.bytes() == b"done 0\n".as_slice());

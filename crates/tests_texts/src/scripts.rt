@@ -23,7 +23,8 @@ move /Hall[9223372036854775807] to 1
 snapshot
  move / to 0";
 
-fn wanted(alloc: Global) -> Result<Script, OutOfMemory> {
+// The batch of the request.
+fn first_batch(alloc: Global) -> Result<Seq<Line>, OutOfMemory> {
     let text = Txt::from_bytes(alloc, b"a\"\\")?;
     let args = vec![in alloc; Value::Int(i64::MIN), Value::Str(text), Value::Bool(true)]?;
     let call = Line::Request(Call {
@@ -31,15 +32,21 @@ fn wanted(alloc: Global) -> Result<Script, OutOfMemory> {
         args: Seq::from_vec(args),
         generation: 0,
     });
-    let first = vec![in alloc; call]?;
+    Ok(Seq::from_vec(vec![in alloc; call]?))
+}
+
+// And that of the moves.
+fn second_batch(alloc: Global) -> Result<Seq<Line>, OutOfMemory> {
     let away = Line::Move(hall(i64::MAX), Host(1));
     let home = Line::Move(Path::root(), Host(0));
-    let second = vec![in alloc; away, Line::Snapshot, home]?;
-    let batches = vec![in alloc; Seq::from_vec(first), Seq::from_vec(second)]?;
-    Ok(Script {
-        hosts: 2,
-        batches: Seq::from_vec(batches),
-    })
+    Ok(Seq::from_vec(vec![in alloc; away, Line::Snapshot, home]?))
+}
+
+fn wanted(alloc: Global) -> Result<Script, OutOfMemory> {
+    let mut batches = Seq::new(alloc);
+    batches.add(first_batch(alloc)?)?;
+    batches.add(second_batch(alloc)?)?;
+    Ok(Script { hosts: 2, batches })
 }
 
 #[test]
@@ -60,40 +67,72 @@ fn refusal(alloc: Global, shape: &Shape, text: &[u8]) -> Option<ScriptError>
     read_script(alloc, shape, text).err()
 }
 
+// Texts, each with the fault that is told of it.
+const FAULTS: [(&[u8], ScriptError); 10] = [
+    (
+        b"\nrequest pair(- 5)",
+        ScriptError::UnknownCommand { line: 2 },
+    ),
+    (
+        b"\nrequest pair(1,)",
+        ScriptError::UnknownCommand { line: 2 },
+    ),
+    (
+        b"\nmove /Hall[ 1] to 0",
+        ScriptError::UnknownCommand { line: 2 },
+    ),
+    (
+        b"\nrequest pair(1) #",
+        ScriptError::UnknownCommand { line: 2 },
+    ),
+    (b"request service(1)", ScriptError::UnknownEvent { line: 1 }),
+    (b"request pair(true,1)", ScriptError::ArgCount { line: 1 }),
+    (b"request pair(true)", ScriptError::ArgType { line: 1 }),
+    (
+        b"request pair(9223372036854775808)",
+        ScriptError::ArgType { line: 1 },
+    ),
+    (b"move /Market[1] to 9", ScriptError::BadPath { line: 1 }),
+    (
+        b"move /Hall[9223372036854775808] to 0",
+        ScriptError::BadPath { line: 1 },
+    ),
+];
+
 #[test]
 fn refuses_each_fault_with_its_line(rt: HostRuntime) -> Result<(), Fail> {
     let alloc = rt.alloc();
     let shape = event_shape(alloc)?;
-    let unknown = Some(ScriptError::UnknownCommand { line: 2 });
-    assert!(rt; refusal(alloc, &shape, b"\nrequest pair(- 5)") == unknown);
-    assert!(rt; refusal(alloc, &shape, b"\nrequest pair(1,)") == unknown);
-    assert!(rt; refusal(alloc, &shape, b"\nmove /Hall[ 1] to 0") == unknown);
-    assert!(rt; refusal(alloc, &shape, b"\nrequest pair(1) #") == unknown);
-    let event = Some(ScriptError::UnknownEvent { line: 1 });
-    assert!(rt; refusal(alloc, &shape, b"request service(1)") == event);
-    let count = Some(ScriptError::ArgCount { line: 1 });
-    assert!(rt; refusal(alloc, &shape, b"request pair(true,1)") == count);
-    let kind = Some(ScriptError::ArgType { line: 1 });
-    assert!(rt; refusal(alloc, &shape, b"request pair(true)") == kind);
-    assert!(rt; refusal(alloc, &shape, b"request pair(9223372036854775808)") == kind);
-    let path = Some(ScriptError::BadPath { line: 1 });
-    assert!(rt; refusal(alloc, &shape, b"move /Market[1] to 9") == path);
-    assert!(rt; refusal(alloc, &shape, b"move /Hall[9223372036854775808] to 0") == path);
+    for (text, fault) in &FAULTS {
+        assert!(rt; text.len() <= 1000);
+        assert_eq!(rt; refusal(alloc, &shape, text), Some(*fault));
+    }
     Ok(())
 }
+
+// And such of hosts.
+const HOST_FAULTS: [(&[u8], ScriptError); 5] = [
+    (b"hosts 0", ScriptError::HostRange { line: 1 }),
+    (
+        b"hosts 99999999999999999999",
+        ScriptError::HostRange { line: 1 },
+    ),
+    (
+        b"hosts 2\nmove /Hall[1] to 2",
+        ScriptError::HostRange { line: 2 },
+    ),
+    (b"settle\nhosts 9", ScriptError::HostsLate { line: 2 }),
+    (b"hosts 2\nhosts 2", ScriptError::HostsLate { line: 2 }),
+];
 
 #[test]
 fn refuses_hosts_with_its_line(rt: HostRuntime) -> Result<(), Fail> {
     let alloc = rt.alloc();
     let shape = event_shape(alloc)?;
-    let range = Some(ScriptError::HostRange { line: 1 });
-    assert!(rt; refusal(alloc, &shape, b"hosts 0") == range);
-    assert!(rt; refusal(alloc, &shape, b"hosts 99999999999999999999") == range);
-    let to = Some(ScriptError::HostRange { line: 2 });
-    assert!(rt; refusal(alloc, &shape, b"hosts 2\nmove /Hall[1] to 2") == to);
-    let late = Some(ScriptError::HostsLate { line: 2 });
-    assert!(rt; refusal(alloc, &shape, b"settle\nhosts 9") == late);
-    assert!(rt; refusal(alloc, &shape, b"hosts 2\nhosts 2") == late);
+    for (text, fault) in &HOST_FAULTS {
+        assert!(rt; text.len() <= 1000);
+        assert_eq!(rt; refusal(alloc, &shape, text), Some(*fault));
+    }
     Ok(())
 }
 
@@ -155,10 +194,11 @@ fn reads_a_text_past_what_an_input_may_have(rt: HostRuntime) -> Result<(), Fail>
     let shape = event_shape(alloc)?;
     let mut text = vec![in alloc; b' '; 1_048_577]?;
     text.extend_from_slice(b"\nsnapshot")?;
-    if text.len() <= PLACED_BYTES {
-        let script = read_script(alloc, &shape, text.as_slice())?;
-        assert_eq!(rt; script.batches.len(), 1);
-    }
+    assert!(rt; text.len() <= PLACED_BYTES);
+    assert_eq!(rt;
+        read_script(alloc, &shape, text.as_slice())?.batches.len(),
+        1
+    );
     Ok(())
 }
 

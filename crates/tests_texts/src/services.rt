@@ -15,22 +15,23 @@ fn refuses(rt: &impl Abort, alloc: Global, text: &[u8], fault: TextFault) {
     }
 }
 
+fn stuck_at(token: usize, line: u32, col: u32) -> TextFault {
+    let at = Span { line, col };
+    TextFault::Parse(ParseError::Expected { token, at })
+}
+
+fn open_at(line: u32, col: u32) -> TextFault {
+    TextFault::Lex(LexError::OpenText(Span { line, col }))
+}
+
 #[test]
 fn the_first_fault_decides(rt: HostRuntime) -> Result<(), Fail> {
     let alloc = rt.alloc();
-    let lex = |line, col| TextFault::Lex(LexError::OpenText(Span { line, col }));
-    refuses(&rt, alloc, b"service A { }\n\"", lex(2, 1));
-    refuses(&rt, alloc, b"service { \"", lex(1, 11));
-    let at = Span { line: 1, col: 9 };
-    let stuck = ParseError::Expected { token: 1, at };
-    refuses(&rt, alloc, b"service { }", TextFault::Parse(stuck));
+    refuses(&rt, alloc, b"service A { }\n\"", open_at(2, 1));
+    refuses(&rt, alloc, b"service { \"", open_at(1, 11));
+    refuses(&rt, alloc, b"service { }", stuck_at(1, 1, 9));
     let mut blanks = Vec::from_elem(alloc, b' ', 262_144)?;
-    let at = Span {
-        line: 1,
-        col: 262_145,
-    };
-    let stuck = ParseError::Expected { token: 0, at };
-    refuses(&rt, alloc, blanks.as_slice(), TextFault::Parse(stuck));
+    refuses(&rt, alloc, blanks.as_slice(), stuck_at(0, 1, 262_145));
     blanks.push(b' ')?;
     refuses(&rt, alloc, blanks.as_slice(), TextFault::TooLarge);
     Ok(())
@@ -48,30 +49,40 @@ fn a_service_is_read(rt: HostRuntime) -> Result<(), Fail> {
     Ok(())
 }
 
-fn stuck_at(token: usize, line: u32, col: u32) -> TextFault {
-    let at = Span { line, col };
-    TextFault::Parse(ParseError::Expected { token, at })
+// The service is read, in this version.
+fn is_of(rt: &impl Abort, alloc: Global, text: &[u8], version: Version) {
+    let read = parse_text(alloc, text);
+    assert!(rt; matches!(&read, Ok(service) if service.version == version));
 }
 
 // In version 2 `return` and `finish` are statements, and `finish` names nothing behind the number.
 #[test]
 fn what_stands_behind_the_number_is_of_that_version(rt: HostRuntime) -> Result<(), Fail> {
     let alloc = rt.alloc();
-    let two = parse_text(
+    is_of(
+        &rt,
         alloc,
         b"service finish 2 { event e() { here { finish; } } }",
+        Version::Second,
     );
-    assert!(rt; matches!(&two, Ok(service) if service.version == Version::Second));
-    let two = parse_text(
+    is_of(
+        &rt,
         alloc,
         b"service A 2 { method m(): int { return 1; return 2; } }",
+        Version::Second,
     );
-    assert!(rt; matches!(&two, Ok(service) if service.version == Version::Second));
-    let one = parse_text(
+    is_of(
+        &rt,
         alloc,
         b"service A { var finish: int = 0; event finish() { here { finish = 1; } } }",
+        Version::First,
     );
-    assert!(rt; matches!(&one, Ok(service) if service.version == Version::First));
+    Ok(())
+}
+
+#[test]
+fn what_is_of_another_version_is_refused(rt: HostRuntime) -> Result<(), Fail> {
+    let alloc = rt.alloc();
     refuses(
         &rt,
         alloc,

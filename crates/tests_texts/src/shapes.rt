@@ -14,11 +14,9 @@ use wave_base::{Class, ClassInfo, EventInfo, Kind, OutOfMemory, Seq, Shape, Tabl
 fn two_classes(alloc: Global) -> Result<Seq<ClassInfo>, OutOfMemory>
     ensures { IfOk result (λ cs. cs ≡ market_class ∷ hall_class ∷ []) }
 {
-    let root = class(alloc, b"Market", None, Vec::new(alloc))?;
-    let hall = class(alloc, b"Hall", Some(Class(0)), Vec::new(alloc))?;
     let mut classes = Vec::new(alloc);
-    classes.push(root)?;
-    classes.push(hall)?;
+    classes.push(class(alloc, b"Market", None, Vec::new(alloc))?)?;
+    classes.push(class(alloc, b"Hall", Some(Class(0)), Vec::new(alloc))?)?;
     Ok(Seq::from_vec(classes))
 }
 
@@ -50,9 +48,10 @@ pub(crate) fn event_shape(alloc: Global) -> Result<Shape, OutOfMemory>
     ensures { IfOk result IsShape }
 {
     let three = vec![in alloc; Kind::Int, Kind::Text, Kind::Bool]?;
-    let put = event(alloc, b"put", three, None)?;
-    let pair = event(alloc, b"pair", vec![in alloc; Kind::Int]?, None)?;
-    shape_with(alloc, vec![in alloc; put, pair]?)
+    let mut events = Vec::new(alloc);
+    events.push(event(alloc, b"put", three, None)?)?;
+    events.push(event(alloc, b"pair", vec![in alloc; Kind::Int]?, None)?)?;
+    shape_with(alloc, events)
 }
 
 fn market_class(alloc: Global) -> Result<ClassInfo, OutOfMemory>
@@ -81,8 +80,8 @@ fn stall_class(alloc: Global) -> Result<ClassInfo, OutOfMemory>
     ensures { IfOk result (λ c. c ≡ sample.stall_class) }
 {
     let mut fields = Vec::new(alloc);
-    let empty = Txt::from_bytes(alloc, b"")?;
     fields.push(field(alloc, b"open", Kind::Bool, Value::Bool(false))?)?;
+    let empty = Txt::from_bytes(alloc, b"")?;
     fields.push(field(alloc, b"label", Kind::Text, Value::Str(empty))?)?;
     fields.push(field(alloc, b"best", Kind::Map, Value::Map(Table::new(alloc)))?)?;
     class(alloc, b"Stall", Some(Class(1)), fields)

@@ -8,7 +8,8 @@ use crate::shapes::market_shape;
 use snapshot_text::{ShotError, read_snapshot, write_snapshot};
 use std::alloc::Global;
 use std::test::Fail;
-use wave_base::{Class, OutOfMemory, Path, Seq, Shape, Shot, Step, Table, Txt, Value};
+use tests_services::stall;
+use wave_base::{OutOfMemory, Seq, Shape, Shot, Table, Txt, Value};
 
 // More bytes than any text here has.
 const ENOUGH: usize = 100_000;
@@ -37,34 +38,27 @@ fn again(alloc: Global, shape: &Shape, text: &[u8]) -> Result<Seq<u8>, ShotError
 fn reads_what_it_writes(rt: HostRuntime) -> Result<(), Fail> {
     let alloc = rt.alloc();
     let shape = market_shape(alloc)?;
-    let text = again(alloc, &shape, WHOLE)?;
-    assert!(rt; text.as_slice() == WHOLE);
+    assert!(rt; again(alloc, &shape, WHOLE)?.as_slice() == WHOLE);
     let root = b"snapshot 1\nat / seen=0\n".as_slice();
     assert!(rt; again(alloc, &shape, root)?.as_slice() == root);
     Ok(())
+}
+
+// The first of the two stalls.
+fn first_stall(alloc: Global) -> Result<Shot, OutOfMemory> {
+    let label = Value::Str(Txt::from_bytes(alloc, b"a\"b\\ c=d")?);
+    let empty = Value::Map(Table::new(alloc));
+    let fields = Seq::from_vec(vec![in alloc; Value::Bool(true), label, empty]?);
+    let path = stall(1, 0);
+    Ok(Shot { path, fields })
 }
 
 #[test]
 fn reads_each_kind(rt: HostRuntime) -> Result<(), Fail> {
     let alloc = rt.alloc();
     let shape = market_shape(alloc)?;
-    let shots = read_snapshot(alloc, &shape, WHOLE)?;
-    let hall = Path::root().child(Step {
-        class: Class(1),
-        key: 1,
-    });
-    let stall = Shot {
-        path: hall.child(Step {
-            class: Class(2),
-            key: 0,
-        }),
-        fields: Seq::from_vec(vec![in alloc;
-            Value::Bool(true),
-            Value::Str(Txt::from_bytes(alloc, b"a\"b\\ c=d")?),
-            Value::Map(Table::new(alloc)),
-        ]?),
-    };
-    assert!(rt; shots.get(3) == Some(&stall));
+    let first = first_stall(alloc)?;
+    assert!(rt; read_snapshot(alloc, &shape, WHOLE)?.get(3) == Some(&first));
     Ok(())
 }
 
@@ -79,18 +73,21 @@ fn refused(alloc: Global, shape: &Shape, text: &[u8]) -> Option<ShotError>
     read_snapshot(alloc, shape, text).err()
 }
 
+// Texts that are refused at their first line.
+const HEADS: [&[u8]; 6] = [
+    b"",
+    b"snapshot 0",
+    b"snapshot 2\nat / seen=0\n",
+    b"snapshot 01\nat / seen=0\n",
+    b"snapshot 1\nat / seen=0\nat",
+    b"snapshot 1 \nat / seen=0\n",
+];
+
 #[test]
 fn refuses_heads(rt: HostRuntime) -> Result<(), Fail> {
     let alloc = rt.alloc();
     let shape = market_shape(alloc)?;
-    for text in [
-        b"".as_slice(),
-        b"snapshot 0".as_slice(),
-        b"snapshot 2\nat / seen=0\n".as_slice(),
-        b"snapshot 01\nat / seen=0\n".as_slice(),
-        b"snapshot 1\nat / seen=0\nat".as_slice(),
-        b"snapshot 1 \nat / seen=0\n".as_slice(),
-    ] {
+    for text in &HEADS {
         assert!(rt; refused(alloc, &shape, text) == Some(ShotError::Syntax { line: 1 }));
     }
     let none = Some(ShotError::Order { line: 1 });
@@ -111,112 +108,127 @@ fn behind_root(alloc: Global, shape: &Shape, line: &[u8]) -> Result<Option<ShotE
     Ok(refused(alloc, shape, text.as_slice()))
 }
 
+// Lines that have not the form.
+const BAD_FORMS: [&[u8]; 26] = [
+    b"",
+    b"at",
+    b"at ",
+    b"at /Cell[1] ",
+    b"at /Cell[01]",
+    b"at /Nothing[-0]",
+    b"at /Nothing[12345678901234567890]",
+    b"at /Nothing[1] x=",
+    b"at /Nothing[1] x=01",
+    b"at /Nothing[1] x=-0",
+    b"at /Nothing[1] x=+1",
+    b"at /Nothing[1] x=yes",
+    b"at /Nothing[1] x=\"a",
+    b"at /Nothing[1] x=\"a\\n\"",
+    b"at /Nothing[1] x=\"\x7f\"",
+    b"at /Nothing[1] x=\"a\"y=1",
+    b"at /Nothing[1] x=\"a\" ",
+    b"at /Nothing[1] x={1: 2",
+    b"at /Nothing[1] x={1:2}",
+    b"at /Nothing[1] x={1: 2,3: 4}",
+    b"at /Nothing[1] x={1: 2, }",
+    b"at /Nothing[1] 1x=1",
+    b"at /Nothing[1]  x=1",
+    b"at  /Cell[1]",
+    b"at Cell[1]",
+    b"at /Cell[1]\r",
+];
+
 #[test]
 fn refuses_bad_forms(rt: HostRuntime) -> Result<(), Fail> {
     let alloc = rt.alloc();
     let shape = market_shape(alloc)?;
-    for line in [
-        b"".as_slice(),
-        b"at".as_slice(),
-        b"at ".as_slice(),
-        b"at /Cell[1] ".as_slice(),
-        b"at /Cell[01]".as_slice(),
-        b"at /Nothing[-0]".as_slice(),
-        b"at /Nothing[12345678901234567890]".as_slice(),
-        b"at /Nothing[1] x=".as_slice(),
-        b"at /Nothing[1] x=01".as_slice(),
-        b"at /Nothing[1] x=-0".as_slice(),
-        b"at /Nothing[1] x=+1".as_slice(),
-        b"at /Nothing[1] x=yes".as_slice(),
-        b"at /Nothing[1] x=\"a".as_slice(),
-        b"at /Nothing[1] x=\"a\\n\"".as_slice(),
-        b"at /Nothing[1] x=\"\x7f\"".as_slice(),
-        b"at /Nothing[1] x=\"a\"y=1".as_slice(),
-        b"at /Nothing[1] x=\"a\" ".as_slice(),
-        b"at /Nothing[1] x={1: 2".as_slice(),
-        b"at /Nothing[1] x={1:2}".as_slice(),
-        b"at /Nothing[1] x={1: 2,3: 4}".as_slice(),
-        b"at /Nothing[1] x={1: 2, }".as_slice(),
-        b"at /Nothing[1] 1x=1".as_slice(),
-        b"at /Nothing[1]  x=1".as_slice(),
-        b"at  /Cell[1]".as_slice(),
-        b"at Cell[1]".as_slice(),
-        b"at /Cell[1]\r".as_slice(),
-    ] {
+    for line in &BAD_FORMS {
         let said = behind_root(alloc, &shape, line)?;
         assert!(rt; said == Some(ShotError::Syntax { line: 3 }));
     }
     Ok(())
 }
+
+// Lines whose keys are not in order.
+const KEYS_OUT_OF_ORDER: [&[u8]; 7] = [
+    b"at /Nothing[1] x={2: 1, 1: 2}",
+    b"at /Nothing[1] x={1: 1, 1: 2}",
+    b"at /Nothing[1] x={-1: 1, -2: 2}",
+    b"at /Nothing[1] x={10: 1, 9: 2}",
+    b"at /Nothing[1] x={0: 1, -1: 2}",
+    b"at /Nothing[1] x={99999999999999999999: 1, 99999999999999999998: 2}",
+    b"at /Nothing[1] x={01: 1}",
+];
 
 #[test]
 fn refuses_keys_out_of_order(rt: HostRuntime) -> Result<(), Fail> {
     let alloc = rt.alloc();
     let shape = market_shape(alloc)?;
-    for line in [
-        b"at /Nothing[1] x={2: 1, 1: 2}".as_slice(),
-        b"at /Nothing[1] x={1: 1, 1: 2}".as_slice(),
-        b"at /Nothing[1] x={-1: 1, -2: 2}".as_slice(),
-        b"at /Nothing[1] x={10: 1, 9: 2}".as_slice(),
-        b"at /Nothing[1] x={0: 1, -1: 2}".as_slice(),
-        b"at /Nothing[1] x={99999999999999999999: 1, 99999999999999999998: 2}".as_slice(),
-        b"at /Nothing[1] x={01: 1}".as_slice(),
-    ] {
+    for line in &KEYS_OUT_OF_ORDER {
         let said = behind_root(alloc, &shape, line)?;
         assert!(rt; said == Some(ShotError::Syntax { line: 3 }));
     }
     Ok(())
 }
 
+// Lines of contexts that the service has not.
+const OTHER_PATHS: [&[u8]; 5] = [
+    b"at /Nothing[1]",
+    b"at /Market[1] seen=0",
+    b"at /Stall[1] open=true",
+    b"at /Hall[9223372036854775808] x=1",
+    b"at /Nothing[1] x={1: 2, 99999999999999999999: -99999999999999999999}",
+];
+
 #[test]
 fn refuses_other_paths(rt: HostRuntime) -> Result<(), Fail> {
     let alloc = rt.alloc();
     let shape = market_shape(alloc)?;
-    for line in [
-        b"at /Nothing[1]".as_slice(),
-        b"at /Market[1] seen=0".as_slice(),
-        b"at /Stall[1] open=true".as_slice(),
-        b"at /Hall[9223372036854775808] x=1".as_slice(),
-        b"at /Nothing[1] x={1: 2, 99999999999999999999: -99999999999999999999}".as_slice(),
-    ] {
+    for line in &OTHER_PATHS {
         let said = behind_root(alloc, &shape, line)?;
         assert!(rt; said == Some(ShotError::Class { line: 3 }));
     }
     Ok(())
 }
 
+// Lines with fields that their contexts have not.
+const OTHER_FIELDS: [&[u8]; 12] = [
+    b"at /Hall[1]",
+    b"at /Hall[1] count=0 more=1",
+    b"at /Hall[1] amount=0",
+    b"at /Hall[1] count=true",
+    b"at /Hall[1] count=9223372036854775808",
+    b"at /Hall[1] count=-9223372036854775809",
+    b"at /Cell[1] x=1",
+    b"at / seen=9223372036854775808",
+    b"at /Hall[1]/Stall[1] label=\"\" open=true best={}",
+    b"at /Hall[1]/Stall[1] open=1 label=\"\" best={}",
+    b"at /Hall[1]/Stall[1] open=true label=1 best={}",
+    b"at /Hall[1]/Stall[1] open=true label=\"\" best={1: 9223372036854775808}",
+];
+
 #[test]
 fn refuses_other_fields(rt: HostRuntime) -> Result<(), Fail> {
     let alloc = rt.alloc();
     let shape = market_shape(alloc)?;
-    for line in [
-        b"at /Hall[1]".as_slice(),
-        b"at /Hall[1] count=0 more=1".as_slice(),
-        b"at /Hall[1] amount=0".as_slice(),
-        b"at /Hall[1] count=true".as_slice(),
-        b"at /Hall[1] count=9223372036854775808".as_slice(),
-        b"at /Hall[1] count=-9223372036854775809".as_slice(),
-        b"at /Cell[1] x=1".as_slice(),
-        b"at / seen=9223372036854775808".as_slice(),
-        b"at /Hall[1]/Stall[1] label=\"\" open=true best={}".as_slice(),
-        b"at /Hall[1]/Stall[1] open=1 label=\"\" best={}".as_slice(),
-        b"at /Hall[1]/Stall[1] open=true label=1 best={}".as_slice(),
-        b"at /Hall[1]/Stall[1] open=true label=\"\" best={1: 9223372036854775808}".as_slice(),
-    ] {
+    for line in &OTHER_FIELDS {
         let said = behind_root(alloc, &shape, line)?;
         assert!(rt; said == Some(ShotError::Field { line: 3 }));
     }
     Ok(())
 }
 
+// Lines that may not stand behind the root.
+const OUT_OF_ORDER: [&[u8]; 2] = [
+    b"at / seen=1",
+    b"at /Hall[1]/Stall[1] open=true label=\"\" best={}",
+];
+
 #[test]
 fn refuses_paths_out_of_order(rt: HostRuntime) -> Result<(), Fail> {
     let alloc = rt.alloc();
     let shape = market_shape(alloc)?;
-    for line in [
-        b"at / seen=1".as_slice(),
-        b"at /Hall[1]/Stall[1] open=true label=\"\" best={}".as_slice(),
-    ] {
+    for line in &OUT_OF_ORDER {
         let said = behind_root(alloc, &shape, line)?;
         assert!(rt; said == Some(ShotError::Order { line: 3 }));
     }
@@ -227,6 +239,16 @@ fn refuses_paths_out_of_order(rt: HostRuntime) -> Result<(), Fail> {
     let parent =
         b"snapshot 3\nat / seen=0\nat /Hall[2]/Stall[1] open=true label=\"\" best={}\nat /Hall[2] count=0\n".as_slice();
     assert!(rt; refused(alloc, &shape, parent) == Some(ShotError::Order { line: 3 }));
+    Ok(())
+}
+
+// So many pairs in the order of their keys.
+fn add_pairs(alloc: Global, text: &mut Vec<u8>, pairs: usize) -> Result<(), Fail> {
+    for i in 0..pairs {
+        let comma = if i == 0 { "" } else { ", " };
+        let pair = format!(in alloc; "{comma}{i}: 0")?;
+        text.extend_from_slice(pair.as_bytes())?;
+    }
     Ok(())
 }
 
@@ -246,11 +268,7 @@ fn sized(
         text.push(b'x')?;
     }
     text.extend_from_slice(b"\" best={")?;
-    for i in 0..pairs {
-        let comma = if i == 0 { "" } else { ", " };
-        let pair = format!(in alloc; "{comma}{i}: 0")?;
-        text.extend_from_slice(pair.as_bytes())?;
-    }
+    add_pairs(alloc, &mut text, pairs)?;
     text.extend_from_slice(b"}\n")?;
     Ok(refused(alloc, shape, text.as_slice()))
 }

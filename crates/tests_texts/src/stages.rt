@@ -2,6 +2,7 @@
 
 ghost use Rattle.std.specs.Prelude.{◌≡◌, ◌∷◌, [], length, IfOk};
 
+use crate::listings::ended;
 use crate::shapes::event_shape;
 use elastic_policy::Stages;
 use script_reader::read_elastic;
@@ -11,6 +12,22 @@ use wave_base::{
     EventResult, Finished, Host, Line, OutOfMemory, Outcome, Path, Place, Script, Seq, Shot, Ticket,
 };
 
+fn one_result(alloc: Global, outcome: Outcome) -> Result<Seq<EventResult>, OutOfMemory>
+    ensures { IfOk result (λ rs. length rs ≡ 1) }
+{
+    let mut results = Seq::new(alloc);
+    results.add(ended(alloc, outcome))?;
+    Ok(results)
+}
+
+// A context without fields.
+fn one_shot(alloc: Global, path: Path) -> Result<Seq<Shot>, OutOfMemory> {
+    let fields = Seq::new(alloc);
+    let mut shots = Seq::new(alloc);
+    shots.add(Shot { path, fields })?;
+    Ok(shots)
+}
+
 // A run of one ticket, which entered the root; it is alone, on host 0.
 fn done(alloc: Global) -> Result<Finished, OutOfMemory>
     ensures places { IfOk result (λ f. f.places ≡ record { path = []; host = record { 0 = 0 } } ∷ []) }
@@ -19,22 +36,14 @@ fn done(alloc: Global) -> Result<Finished, OutOfMemory>
 {
     let path = Path::root();
     let host = Host(0);
-    let result = EventResult {
-        outcome: Outcome::Moved(path, host),
-        messages: Seq::new(alloc),
-        created: Seq::new(alloc),
-    };
-    let fields = Seq::new(alloc);
-    let results = Seq::from_vec(vec![in alloc; result]?);
-    let places = Seq::from_vec(vec![in alloc; Place { path, host }]?);
-    let shots = Seq::from_vec(vec![in alloc; Shot { path, fields }]?);
     let loads = Seq::from_vec(vec![in alloc; 1]?);
+    let places = Seq::from_vec(vec![in alloc; Place { path, host }]?);
     Ok(Finished {
-        results,
+        results: one_result(alloc, Outcome::Moved(path, host))?,
         made: Seq::new(alloc),
         names: Seq::new(alloc),
         places,
-        shots,
+        shots: one_shot(alloc, path)?,
         loads,
     })
 }
@@ -51,12 +60,10 @@ fn pieces_come_one_after_the_other(rt: HostRuntime) -> Result<(), Fail> {
     let text = b"hosts 2\nbalance by 2\nsnapshot\nsettle\ndrain 0 to 1";
     let elastic = read_elastic(alloc, &shape, text)?;
     let mut stages = Stages::first(alloc, &shape, elastic)?;
-    let batches = stages.next(alloc)?;
-    assert!(rt; matches!(line(&batches), Some(Line::Snapshot)));
+    assert!(rt; matches!(line(&stages.next(alloc)?), Some(Line::Snapshot)));
     stages.after(done(alloc)?);
     assert!(rt; stages.start().next == Ticket(2));
-    let moves = stages.next(alloc)?;
-    assert!(rt; matches!(line(&moves), Some(Line::Move(_, Host(1)))));
+    assert!(rt; matches!(line(&stages.next(alloc)?), Some(Line::Move(_, Host(1)))));
     stages.after(done(alloc)?);
     assert!(rt; stages.start().next == Ticket(3));
     assert!(rt; stages.next(alloc)?.is_none());

@@ -1,28 +1,38 @@
 //! Sources and sinks, and what is said where one fails.
 
-ghost use Rattle.std.specs.Prelude.{◌≡◌, IfOk};
+ghost use Rattle.std.specs.Prelude.{◌≡◌, ◌<◌, IfOk};
 
 use std::alloc::Global;
 use std::io::{self, ErrorKind, Read, Write};
 use std::process::Abort;
 use std::test::Fail;
-use wave_base::{Path, Seq, Ticket};
+use wave_base::{OutOfMemory, Path, Seq, Ticket};
 use wave_io::{
     Failed, Gate, MemSink, MemSource, OpenGate, ReadError, Sink, Source, StdSink, StdSource,
     SureSink, SureSource, read_all, write_all,
 };
 
+// What is read of `hello`, where so many bytes come at a time and these reads fail.
+fn read_in_pieces(
+    alloc: Global,
+    most: usize,
+    fails: &[u64],
+    limit: usize,
+) -> Result<Result<Seq<u8>, ReadError>, OutOfMemory>
+    requires { 0 < most }
+{
+    let bytes = Seq::from_slice(alloc, b"hello")?;
+    let mut source = MemSource::new(bytes, most, Seq::from_slice(alloc, fails)?);
+    Ok(read_all(alloc, &mut source, limit))
+}
+
 #[test]
 fn reads_to_the_end_in_small_pieces(rt: HostRuntime) -> Result<(), Fail> {
     let alloc = rt.alloc();
-    let mut source = MemSource::new(Seq::from_slice(alloc, b"hello")?, 2, Seq::new(alloc));
-    let read = read_all(alloc, &mut source, 5)?;
-    assert_eq!(rt; read.as_slice(), b"hello".as_slice());
-    let mut sure = SureSource::new(Seq::from_slice(alloc, b"hello")?);
-    assert_eq!(rt;
-        read_all(alloc, &mut sure, 9)?.as_slice(),
-        b"hello".as_slice()
-    );
+    let hello = b"hello".as_slice();
+    assert_eq!(rt; read_in_pieces(alloc, 2, &[], 5)??.as_slice(), hello);
+    let mut sure = SureSource::new(Seq::from_slice(alloc, hello)?);
+    assert_eq!(rt; read_all(alloc, &mut sure, 9)?.as_slice(), hello);
     let mut none: &[u8] = b"";
     let mut real = StdSource::new(&mut none);
     assert!(rt; read_all(alloc, &mut real, 9)?.is_empty());
@@ -32,35 +42,38 @@ fn reads_to_the_end_in_small_pieces(rt: HostRuntime) -> Result<(), Fail> {
 #[test]
 fn says_why_it_stopped(rt: HostRuntime) -> Result<(), Fail> {
     let alloc = rt.alloc();
-    let mut third_fails = MemSource::new(
-        Seq::from_slice(alloc, b"hello")?,
-        2,
-        Seq::from_slice(alloc, &[3])?,
-    );
-    assert!(rt; read_all(alloc, &mut third_fails, 9) == Err(ReadError::ReadFault));
-    let mut long = MemSource::new(Seq::from_slice(alloc, b"hello")?, 2, Seq::new(alloc));
-    assert!(rt; read_all(alloc, &mut long, 4) == Err(ReadError::TooLarge));
+    assert!(rt; read_in_pieces(alloc, 2, &[3], 9)? == Err(ReadError::ReadFault));
+    assert!(rt; read_in_pieces(alloc, 2, &[], 4)? == Err(ReadError::TooLarge));
+    Ok(())
+}
+
+// `hello` is written two bytes at a time, where so many have room and these writes fail: this is said, and that is there.
+fn writes_in_pieces(
+    rt: &impl Abort,
+    alloc: Global,
+    room: usize,
+    fails: &[u64],
+    said: Result<(), Failed>,
+    there: &[u8],
+) -> Result<(), OutOfMemory> {
+    let mut sink = MemSink::new(alloc, room, 2, Seq::from_slice(alloc, fails)?)?;
+    assert_eq!(rt; write_all(&mut sink, b"hello"), said);
+    assert_eq!(rt; sink.bytes(), there);
     Ok(())
 }
 
 #[test]
 fn writes_a_front_where_the_sink_fails(rt: HostRuntime) -> Result<(), Fail> {
     let alloc = rt.alloc();
-    let mut second_fails = MemSink::new(alloc, 9, 2, Seq::from_slice(alloc, &[2])?)?;
-    assert_eq!(rt; write_all(&mut second_fails, b"hello"), Err(Failed));
-    assert_eq!(rt; second_fails.bytes(), b"he".as_slice());
-    let mut full = MemSink::new(alloc, 3, 2, Seq::new(alloc))?;
-    assert_eq!(rt; write_all(&mut full, b"hello"), Err(Failed));
-    assert_eq!(rt; full.bytes(), b"hel".as_slice());
+    writes_in_pieces(&rt, alloc, 9, &[2], Err(Failed), b"he")?;
+    writes_in_pieces(&rt, alloc, 3, &[], Err(Failed), b"hel")?;
     Ok(())
 }
 
 #[test]
 fn writes_all(rt: HostRuntime) -> Result<(), Fail> {
     let alloc = rt.alloc();
-    let mut sink = MemSink::new(alloc, 9, 2, Seq::new(alloc))?;
-    assert_eq!(rt; write_all(&mut sink, b"hello"), Ok(()));
-    assert_eq!(rt; sink.bytes(), b"hello".as_slice());
+    writes_in_pieces(&rt, alloc, 9, &[], Ok(()), b"hello")?;
     assert_eq!(rt; write_all(&mut SureSink::new(), b"hello"), Ok(()));
     let mut kept = Vec::new(alloc);
     let mut real = StdSink::new(&mut kept);

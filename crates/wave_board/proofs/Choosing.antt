@@ -17,17 +17,17 @@ use Rattle.plan_actors.specs.Plans.{Plan, Fits, FitsStart, begin_in}
 use Rattle.code_actor.specs.CodeActors.{Fields}
 use Rattle.plan_actors.specs.PlanActors as actors
 use Rattle.wave_states.specs.States.{Hand}
-use Rattle.wave_machine.specs.declared.kept.Out.{Out}
-use Rattle.wave_machine.specs.Machines.{IsOut, IsReached, Stands, TheState}
+use Rattle.wave_effects.specs.declared.kept.Out.{Out}
+use Rattle.wave_effects.specs.Machines.{IsOut, IsReached, Stands, TheState}
 use Rattle.wave_machine.specs.Picks.{IsOneOf}
-use Rattle.wave_machine.proofs.Ending.{some_at}
-use Rattle.wave_machine.specs.Prepared.{is_start, is_step}
-use Rattle.wave_machine.proofs.Queueing.{some_is}
+use Rattle.wave_effects.proofs.Ending.{some_at}
+use Rattle.wave_effects.specs.Acts.{is_start, is_step}
+use Rattle.wave_effects.proofs.Queueing.{some_is}
 use Rattle.wave_board.specs.declared.board.Board.{Board}
 use Rattle.wave_board.specs.declared.origin.Origin.{Origin}
 use Rattle.wave_board.specs.Boards.{IsAt, IsStanding, labels_of}
-use Rattle.wave_board.specs.declared.work.Work.{Work}
-use Rattle.wave_board.specs.declared.work.Work.TheVariants.{Stepped, Segment, Nothing, Finished, Stopped}
+use Rattle.wave_board.specs.declared.turn.Turn.{Turn}
+use Rattle.wave_board.specs.declared.turn.Turn.TheVariants.{Stepped, Segment, Nothing, Finished, Stopped}
 use Rattle.wave_board.specs.Taking.{IsAppended, Took}
 use Rattle.wave_board.specs.inner.Doing.{Appends, Chooses}
 use Rattle.wave_board.proofs.Idle.{no_stop}
@@ -88,13 +88,13 @@ module _ (lists : Lists) (b : Board) (worker : Worker) where
       }
 
 -- what was appended is what a worker took
-took_of : (b b' : Board) (worker : Worker) (l : Label) → l.worker ≡ worker → (work : Work) → Appends b l b' work → Took b worker b' work
+took_of : (b b' : Board) (worker : Worker) (l : Label) → l.worker ≡ worker → (work : Turn) → Appends b l b' work → Took b worker b' work
 took_of b b' worker l own (Stepped m) h = subst (λ (x : Label). IsAppended b b' x × (x.worker ≡ worker) × (is_step x.act ≡ true)) (sym h.1) (h.0, own, h.2)
 took_of b b' worker l own (Segment lease) h = (l, h.0, own, h.1)
 took_of b b' worker l own Nothing h = absurd h
 took_of b b' worker l own Finished h = absurd h
 took_of b b' worker l own (Stopped why) h = absurd h
 
-pub took_by : {E : Type 0} (b b' : Board) (worker : Worker) (l : Label) → l.worker ≡ worker → (r : Result Work E) → IfOk r (λ work. Appends b l b' work) → IfOk r (λ work. Took b worker b' work)
+pub took_by : {E : Type 0} (b b' : Board) (worker : Worker) (l : Label) → l.worker ≡ worker → (r : Result Turn E) → IfOk r (λ work. Appends b l b' work) → IfOk r (λ work. Took b worker b' work)
 took_by b b' worker l own (Ok work) h = took_of b b' worker l own work h
 took_by b b' worker l own (Err e) h = tt

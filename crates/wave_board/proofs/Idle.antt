@@ -19,10 +19,10 @@ use Rattle.wave_theory.proofs.Opened.{starts}
 use Rattle.plan_actors.specs.PlanActors.{plan_actors}
 use Rattle.plan_actors.specs.Plans.{begin_in}
 use Rattle.kept_lock.specs.History.{entries_of}
-use Rattle.wave_machine.specs.Machines.{TheState}
-use Rattle.wave_machine.proofs.Opening.{Left, left_by, free_found, grant_found, land_found, pass_found, queue_found, visit_found}
-use Rattle.wave_machine.proofs.Starting.{start_found}
-use Rattle.wave_machine.proofs.Stopping.{stop_found}
+use Rattle.wave_effects.specs.Machines.{TheState}
+use Rattle.wave_effects.proofs.Opening.{Left, left_by, free_found, grant_found, land_found, pass_found, queue_found, visit_found}
+use Rattle.wave_effects.proofs.Starting.{start_found}
+use Rattle.wave_effects.proofs.Stopping.{stop_found}
 use Rattle.wave_board.specs.declared.board.Board.{Board}
 use Rattle.wave_board.specs.declared.board.StopWord.{StopWord}
 use Rattle.wave_board.specs.declared.origin.Origin.{Origin}

@@ -14,11 +14,11 @@ use Rattle.wave_states.specs.States.{Hand}
 use Rattle.wave_states.specs.Steps.{step}
 use Rattle.plan_actors.specs.PlanActors as actors
 use Rattle.plan_actors.specs.PlanActors.{plan_actors}
-use Rattle.wave_machine.specs.declared.lease.Lease.{Lease}
-use Rattle.wave_machine.specs.Leases.{StandsFor}
-use Rattle.wave_machine.specs.Machines.{TheState}
-use Rattle.wave_machine.specs.Prepared.{is_start}
-use Rattle.wave_machine.specs.Running.{IsInHand, stop_of}
+use Rattle.wave_effects.specs.declared.lease.Lease.{Lease}
+use Rattle.wave_effects.specs.Leases.{StandsFor}
+use Rattle.wave_effects.specs.Machines.{TheState}
+use Rattle.wave_effects.specs.Acts.{is_start}
+use Rattle.wave_effects.specs.Running.{IsInHand, stop_of}
 use Rattle.wave_board.proofs.Idle.{begun}
 
 pub record InHand (program : Program) (lease : Lease) (o : Option (Hand actors.Actor Fields)) : Type 0 where

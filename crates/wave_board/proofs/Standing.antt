@@ -13,15 +13,15 @@ use Rattle.wave_states.specs.Steps.{step}
 use Rattle.wave_theory.proofs.Basics.{some_same}
 use Rattle.plan_actors.specs.PlanActors.{plan_actors}
 use Rattle.plan_actors.specs.Plans.{Plan, Fits, FitsStart, begin_in}
-use Rattle.wave_machine.specs.declared.lease.Lease.{Lease}
-use Rattle.wave_machine.specs.declared.plan.Plan as declared
-use Rattle.wave_machine.specs.Machines as machines
-use Rattle.wave_machine.specs.Machines.{IsReached, Keeps, Kept, Stands, Takes, TheState}
-use Rattle.wave_machine.specs.Plans.{plan_of}
-use Rattle.wave_machine.specs.Prepared.{is_start}
-use Rattle.wave_machine.specs.Running.{IsInHand, IsStopping, Leases, Stops, CanStop, stop_of}
-use Rattle.wave_machine.proofs.Queueing.{some_is}
-use Rattle.wave_machine.proofs.Taking.{run_more}
+use Rattle.wave_effects.specs.declared.lease.Lease.{Lease}
+use Rattle.wave_effects.specs.declared.plan.Plan as declared
+use Rattle.wave_effects.specs.Machines as machines
+use Rattle.wave_effects.specs.Machines.{IsReached, Keeps, Kept, Stands, Takes, TheState}
+use Rattle.wave_effects.specs.Plans.{plan_of}
+use Rattle.wave_effects.specs.Acts.{is_start}
+use Rattle.wave_effects.specs.Running.{IsInHand, IsStopping, Leases, Stops, CanStop, stop_of}
+use Rattle.wave_effects.proofs.Queueing.{some_is}
+use Rattle.wave_effects.proofs.Taking.{run_more}
 use Rattle.wave_board.specs.declared.board.Board.{Board}
 use Rattle.wave_board.specs.declared.board.StopWord.{StopWord}
 use Rattle.wave_board.specs.declared.origin.Origin.{Origin}

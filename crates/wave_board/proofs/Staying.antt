@@ -21,9 +21,9 @@ use Rattle.plan_actors.specs.Plans.{Plan, begin_in}
 use Rattle.kept_lock.specs.declared.view.Known.{Known}
 use Rattle.kept_lock.specs.History.{StartsWith, entries_of}
 use Rattle.kept_lock.specs.Knowing.{Agrees}
-use Rattle.wave_machine.specs.Machines.{IsReached, TheState}
-use Rattle.wave_machine.specs.Plans.{plan_of}
-use Rattle.wave_machine.proofs.Opening.{left_by}
+use Rattle.wave_effects.specs.Machines.{IsReached, TheState}
+use Rattle.wave_effects.specs.Plans.{plan_of}
+use Rattle.wave_effects.proofs.Opening.{left_by}
 use Rattle.wave_board.specs.declared.board.Board.{Board}
 use Rattle.wave_board.specs.declared.board.StopWord.{StopWord}
 use Rattle.wave_board.specs.declared.origin.Origin.{Origin}

@@ -9,9 +9,9 @@ use Rattle.wave_base.specs.Fold.{Head}
 use Rattle.script_fold.specs.Runs.{finished_of}
 use Rattle.plan_actors.specs.Calls.{code_ran}
 use Rattle.plan_actors.specs.Plans.{Plan}
-use Rattle.wave_machine.specs.Machines.{Stands, TheState}
-use Rattle.wave_machine.specs.Plans.{plan_of}
-use Rattle.wave_machine.specs.Showing.{IsLineOf}
+use Rattle.wave_effects.specs.Machines.{Stands, TheState}
+use Rattle.wave_effects.specs.Plans.{plan_of}
+use Rattle.wave_effects.specs.Showing.{IsLineOf}
 use Rattle.wave_board.specs.declared.board.Board.{Board}
 use Rattle.wave_board.specs.declared.origin.Origin.{Origin}
 use Rattle.wave_board.specs.Boards.{IsAt}

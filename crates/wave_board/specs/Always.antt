@@ -11,9 +11,9 @@ use Rattle.code_actor.specs.CodeActors.{Fields}
 use Rattle.plan_actors.specs.Efforts.{most_labels}
 use Rattle.plan_actors.specs.PlanActors.{Actor, plan_actors, plan_kind}
 use Rattle.plan_actors.specs.Plans.{Plan, begin_in}
-use Rattle.wave_machine.specs.Lengths.{IsMeasured}
-use Rattle.wave_machine.specs.Machines.{TheState}
-use Rattle.wave_machine.specs.Plans.{plan_of}
+use Rattle.wave_effects.specs.Lengths.{IsMeasured}
+use Rattle.wave_effects.specs.Machines.{TheState}
+use Rattle.wave_effects.specs.Plans.{plan_of}
 use Rattle.wave_board.specs.declared.board.Board.{Board}
 use Rattle.wave_board.specs.declared.origin.Origin.{Origin}
 use Rattle.wave_board.specs.Boards.{IsAt, labels_of}

@@ -3,8 +3,8 @@ use Rattle.std.specs.Prelude.{◌≡◌, ◌≤◌, ◌++◌, ◌∷◌, [], ℕ
 use Rattle.wave_labels.specs.Labels.{label_of}
 use Rattle.wave_states.specs.Labels.{Label}
 use Rattle.plan_actors.specs.Plans.{Fits, FitsStart}
-use Rattle.wave_machine.specs.Machines.{IsReached, Shows, TheState}
-use Rattle.wave_machine.specs.Plans.{plan_of}
+use Rattle.wave_effects.specs.Machines.{IsReached, Shows, TheState}
+use Rattle.wave_effects.specs.Plans.{plan_of}
 use Rattle.wave_board.specs.declared.board.Board.{Board}
 use Rattle.wave_board.specs.declared.board.StopWord.{StopWord}
 use Rattle.wave_board.specs.declared.origin.Origin.{Origin}

@@ -3,8 +3,8 @@ use Rattle.std.specs.Prelude.{◌≡◌, ◌⊎◌, ◌≤◌, ◌<◌, ◌+◌,
 use Rattle.script_fold.specs.Runs.{finished_of}
 use Rattle.plan_actors.specs.Calls.{code_ran}
 use Rattle.wave_base.specs.declared.shown.Shown.{Shown}
-use Rattle.wave_machine.specs.Machines.{TheState}
-use Rattle.wave_machine.specs.Showing.{IsLineOf}
+use Rattle.wave_effects.specs.Machines.{TheState}
+use Rattle.wave_effects.specs.Showing.{IsLineOf}
 use Rattle.wave_board.specs.declared.board.Board.{Board}
 use Rattle.wave_board.specs.declared.origin.Origin.{Origin}
 use Rattle.wave_board.specs.Boards.{IsAt}

@@ -3,7 +3,7 @@ use Rattle.std.specs.Prelude.{◌≡◌, ◌≤◌}
 use Rattle.kept_lock.specs.declared.view.Known.{Known}
 use Rattle.kept_lock.specs.History.{StartsWith}
 use Rattle.kept_lock.specs.Knowing.{Agrees}
-use Rattle.wave_machine.specs.Machines.{TheState}
+use Rattle.wave_effects.specs.Machines.{TheState}
 use Rattle.wave_board.specs.declared.board.Board.{Board}
 use Rattle.wave_board.specs.declared.origin.Origin.{Origin}
 use Rattle.wave_board.specs.declared.trail.Trail.{Trail}

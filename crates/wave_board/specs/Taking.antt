@@ -10,17 +10,17 @@ use Rattle.wave_states.specs.Runs as runs
 use Rattle.wave_states.specs.Steps.{step}
 use Rattle.plan_actors.specs.PlanActors.{plan_actors}
 use Rattle.kept_lock.specs.History.{entries_of}
-use Rattle.wave_machine.specs.declared.lease.Lease.{Lease}
-use Rattle.wave_machine.specs.Actors.{MayRun}
-use Rattle.wave_machine.specs.Machines.{TheState}
-use Rattle.wave_machine.specs.Prepared.{is_step}
-use Rattle.wave_machine.specs.Running.{IsInHand}
+use Rattle.wave_effects.specs.declared.lease.Lease.{Lease}
+use Rattle.wave_effects.specs.Actors.{MayRun}
+use Rattle.wave_effects.specs.Machines.{TheState}
+use Rattle.wave_effects.specs.Acts.{is_step}
+use Rattle.wave_effects.specs.Running.{IsInHand}
 use Rattle.wave_board.specs.declared.board.Board.{Board}
 use Rattle.wave_board.specs.declared.origin.Origin.{Origin}
 use Rattle.wave_board.specs.declared.trail.Trail.{Trail}
 use Rattle.wave_board.specs.declared.trail.Trail.TheVariants.{Step, Halt}
-use Rattle.wave_board.specs.declared.work.Work.{Work}
-use Rattle.wave_board.specs.declared.work.Work.TheVariants.{Stepped, Segment, Nothing, Finished, Stopped}
+use Rattle.wave_board.specs.declared.turn.Turn.{Turn}
+use Rattle.wave_board.specs.declared.turn.Turn.TheVariants.{Stepped, Segment, Nothing, Finished, Stopped}
 use Rattle.wave_board.specs.Boards.{IsAt, InEachState, history_of, owner_of}
 
 -- a segment begins, or ends
@@ -64,7 +64,7 @@ pub record IsLeased (before after : Board) (l : Label) (lease : Lease) : Type 0 
 module _ (before : Board) (worker : Worker) (after : Board) where
   -- Stopped where the stop word is set, with its cause; else Finished where the run is finished; else Nothing where no label of
   -- this worker is enabled; else one of them is appended: a segment where it is a Start, and else that label.
-  abbrev pub Took : Work → Type 0
+  abbrev pub Took : Turn → Type 0
   Took (Stopped why) = (option_map (λ x. x.why) before.word ≡ Some why) × (history_of after ≡ history_of before)
   Took Finished = (before.word ≡ None) × InEachState before (IsFinished before) × (history_of after ≡ history_of before)
   Took Nothing = (before.word ≡ None) × InEachState before (λ s. IsFinished before s → ⊥) × InEachState before (HasNothing before worker) × (history_of after ≡ history_of before)

@@ -3,7 +3,7 @@
 ghost use Rattle.std.specs.Prelude.{◌≡◌, ◌++◌, ◌∷◌, [], None, IfOk, IsSome};
 ghost use Rattle.wave_base.specs.Starts.{first_start};
 ghost use Rattle.plan_actors.specs.Plans.{Fits, FitsStart};
-ghost use Rattle.wave_machine.specs.Plans.{plan_of};
+ghost use Rattle.wave_effects.specs.Plans.{plan_of};
 ghost use Rattle.wave_board.specs.declared.origin.Origin.{Origin};
 ghost use Rattle.wave_board.specs.declared.trail.Trail.TheVariants.{Halt};
 ghost use Rattle.wave_board.specs.Boards.{StandsFor, StandsStill, history_of};
@@ -15,7 +15,8 @@ use kept_lock::Kept;
 use label_log::Recorder;
 use std::alloc::Global;
 use wave_base::{OutOfMemory, Start, Worker};
-use wave_machine::{Machine, Plan};
+use wave_effects::Plan;
+use wave_machine::Machine;
 
 /// Who stopped the workers, why, and after how many labels of the journal.
 #[derive(Clone, Copy)]

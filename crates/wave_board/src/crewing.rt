@@ -1,7 +1,7 @@
 //! What a board tells its workers of each other, and of what is left to do.
 
 ghost use Rattle.std.specs.Prelude.{◌≡◌, ◌≢◌, ◌↔◌, [], None, IsTrue};
-ghost use Rattle.wave_machine.specs.Machines.{TheState};
+ghost use Rattle.wave_effects.specs.Machines.{TheState};
 ghost use Rattle.wave_machine.specs.Readies.{ready_in};
 ghost use Rattle.wave_board.specs.declared.origin.Origin.{Origin};
 ghost use Rattle.wave_board.specs.Boards.{IsAt};

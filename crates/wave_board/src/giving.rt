@@ -6,7 +6,7 @@ ghost use Rattle.wave_board.specs.Giving.{CanGive, Gives, IsGiven};
 
 use crate::board::Board;
 use wave_base::Pause;
-use wave_machine::{Lease, Refused};
+use wave_effects::{Lease, Refused};
 
 impl<'p> Board<'p> {
     /// Takes the Stop of a segment that is out: lease and pause are what one segment gave on what the lease's worker has in its hand.

@@ -6,7 +6,7 @@ ghost use Rattle.plan_actors.specs.PlanActors.{plan_kind};
 ghost use Rattle.plan_actors.specs.Plans.{Plan, Fits, FitsStart, begin_in};
 ghost use Rattle.wave_states.specs.Labels.{Label};
 ghost use Rattle.wave_theory.specs.Listed.{ListedFor};
-ghost use Rattle.wave_machine.specs.Machines.{IsReached, TheState};
+ghost use Rattle.wave_effects.specs.Machines.{IsReached, TheState};
 ghost use Rattle.wave_board.specs.inner.Idle.{IdleHandsAreEmpty};
 
 use plan_actors::PlanActors;

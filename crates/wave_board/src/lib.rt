@@ -14,7 +14,7 @@ mod seat;
 mod showing;
 mod taking;
 mod trail;
-mod work;
+mod turn;
 
 pub use always::{boards_go_on, journals_are_short, workers_wait_for_segments};
 pub use board::{Board, StopWord};
@@ -23,4 +23,4 @@ pub use laws::{finished_stays, leases_stay, results_stay};
 pub use origin::Origin;
 pub use seat::Seat;
 pub use trail::{StopCause, Trail};
-pub use work::Work;
+pub use turn::Turn;

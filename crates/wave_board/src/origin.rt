@@ -1,7 +1,7 @@
 //! What a board's run begins with.
 
 use wave_base::Start;
-use wave_machine::Plan;
+use wave_effects::Plan;
 
 /// What a board stands for: the run of a plan that begins as a Start says. It is the name of the board's lock.
 #[derive(Clone, Copy)]

@@ -4,7 +4,7 @@ ghost use Rattle.std.specs.Prelude.{◌≡◌, IfErr, IfOk};
 ghost use Rattle.wave_board.specs.declared.origin.Origin.{Origin};
 ghost use Rattle.script_fold.specs.Runs.{finished_of};
 ghost use Rattle.plan_actors.specs.Calls.{code_ran};
-ghost use Rattle.wave_machine.specs.Machines.{TheState};
+ghost use Rattle.wave_effects.specs.Machines.{TheState};
 ghost use Rattle.wave_board.specs.Boards.{IsAt};
 ghost use Rattle.wave_board.specs.Taking.{IsFinished};
 

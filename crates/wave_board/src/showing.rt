@@ -1,7 +1,7 @@
 //! What is new to whoever writes the lines.
 
 ghost use Rattle.std.specs.Prelude.{◌↔◌, IfOk, IsTrue};
-ghost use Rattle.wave_machine.specs.Machines.{TheState};
+ghost use Rattle.wave_effects.specs.Machines.{TheState};
 ghost use Rattle.wave_board.specs.declared.origin.Origin.{Origin};
 ghost use Rattle.wave_board.specs.Boards.{IsAt};
 ghost use Rattle.wave_board.specs.Fresh.{CanTell, IsDue, TellsFresh};

@@ -1,21 +1,21 @@
-//! Work from a board.
+//! What a worker is given to do by a board.
 
 ghost use Rattle.std.specs.Prelude.{◌≡◌, true, false, None, IfOk, OnErr};
-ghost use Rattle.wave_machine.specs.Prepared.{is_start, is_step};
+ghost use Rattle.wave_effects.specs.Acts.{is_start, is_step};
 ghost use Rattle.wave_board.specs.Boards.{IsStanding, StandsStill, history_of};
 ghost use Rattle.wave_board.specs.Taking.{MayTake, Took};
 ghost use Rattle.wave_board.specs.inner.Doing.{Appends, CanAppend, Chooses};
 
 use crate::board::Board;
 use crate::known::{idle_hands_are_empty, lists_are_known};
-use crate::work::Work;
+use crate::turn::Turn;
 use label_log::path_of;
 use wave_base::{OutOfMemory, Worker};
 use wave_labels::{Act, Label};
 
 impl<'p> Board<'p> {
     /// Takes a label of this worker, where there is one. After want of memory the board is as before.
-    pub fn take(&mut self, worker: Worker) -> Result<Work, OutOfMemory>
+    pub fn take(&mut self, worker: Worker) -> Result<Turn, OutOfMemory>
         requires stands { IsStanding self.old }
         requires may { MayTake self.old worker }
         ensures stands { StandsStill self.old self.new }
@@ -23,13 +23,13 @@ impl<'p> Board<'p> {
         ensures same { OnErr result (history_of self.new ≡ history_of self.old) }
     {
         match self.word {
-            Some(word) => Ok(Work::Stopped(word.why)),
+            Some(word) => Ok(Turn::Stopped(word.why)),
             None => self.go_on(worker),
         }
     }
 
     // The same, where the workers were not stopped.
-    fn go_on(&mut self, worker: Worker) -> Result<Work, OutOfMemory>
+    fn go_on(&mut self, worker: Worker) -> Result<Turn, OutOfMemory>
         requires stands { IsStanding self.old }
         requires may { MayTake self.old worker }
         requires goes_on { self.old.word ≡ None }
@@ -38,10 +38,10 @@ impl<'p> Board<'p> {
         ensures same { OnErr result (history_of self.new ≡ history_of self.old) }
     {
         if self.machine.finished() {
-            return Ok(Work::Finished);
+            return Ok(Turn::Finished);
         }
         match self.choice(worker) {
-            None => Ok(Work::Nothing),
+            None => Ok(Turn::Nothing),
             Some(label) => self.append(label),
         }
     }
@@ -58,7 +58,7 @@ impl<'p> Board<'p> {
     }
 
     // Takes a label: all that wants memory comes first.
-    fn append(&mut self, label: Label) -> Result<Work, OutOfMemory>
+    fn append(&mut self, label: Label) -> Result<Turn, OutOfMemory>
         requires can { CanAppend self.old label }
         requires kind { is_start label.act ≡ false → is_step label.act ≡ true }
         ensures stands { StandsStill self.old self.new }
@@ -70,11 +70,11 @@ impl<'p> Board<'p> {
         if is_start(&label.act) {
             let lease = self.machine.start(&label);
             self.journal.push_reserved(&label);
-            return Ok(Work::Segment(lease));
+            return Ok(Turn::Segment(lease));
         }
         self.machine.step(&label);
         self.journal.push_reserved(&label);
-        Ok(Work::Stepped(label))
+        Ok(Turn::Stepped(label))
     }
 }
 

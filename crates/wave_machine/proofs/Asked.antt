@@ -8,16 +8,13 @@ use Rattle.wave_base.specs.Fold.{tickets_from}
 use Rattle.wave_states.specs.Labels.{Label, Admit, Commit}
 use Rattle.wave_theory.proofs.Basics.{none_not}
 use Rattle.wave_machine.specs.declared.ready.Ready.{Ready}
-use Rattle.wave_machine.specs.Machines.{Kept}
-use Rattle.wave_machine.specs.inner.Apart.{AsksTheSame, Moves}
+use Rattle.wave_effects.specs.Machines.{Kept, Keeps, IsStood}
+use Rattle.wave_effects.specs.Apart.{AsksTheSame, Moves}
 use Rattle.wave_machine.specs.inner.Asking.{in_order, label_at}
-use Rattle.wave_machine.specs.inner.Index.{IsIndex, asked_at, by_part, has_at, head_in, next_at}
+use Rattle.wave_machine.specs.inner.Index.{IsIndex, asked_at, by_part, has_at, head_in, next_at, HasRoom, IsListed, weight_of}
 use Rattle.wave_machine.specs.declared.listed.Listed.{Listed}
-use Rattle.wave_machine.specs.Keeping.{kept_of}
-use Rattle.wave_machine.specs.Machines.{Keeps}
-use Rattle.wave_machine.specs.Prepared.{IsStood}
+use Rattle.wave_effects.specs.Keeping.{kept_of}
 use Rattle.wave_machine.specs.inner.Done.{AreDone}
-use Rattle.wave_machine.specs.inner.Index.{HasRoom, IsListed, weight_of}
 use Rattle.wave_machine.proofs.Elsewhere.{others_ask}
 use Rattle.wave_machine.proofs.Untouched.{kept_done}
 use Rattle.wave_machine.proofs.Weighing.{weight_asks}

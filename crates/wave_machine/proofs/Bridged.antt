@@ -19,13 +19,14 @@ use Rattle.wave_states.specs.Labels.{Act, Label, Admit, Commit, Grant}
 use Rattle.wave_theory.specs.Listed.{IsIn, kind_of}
 use Rattle.wave_theory.proofs.Basics.{some_same}
 use Rattle.plan_actors.specs.PlanActors.{plan_actors}
-use Rattle.wave_machine.specs.declared.actor.Actor.{Actor}
-use Rattle.wave_machine.specs.declared.kept.Out.{Out}
+use Rattle.wave_effects.specs.declared.actor.Actor.{Actor}
+use Rattle.wave_effects.specs.declared.kept.Out.{Out}
 use Rattle.wave_machine.specs.declared.ready.Ready.{Ready}
-use Rattle.wave_machine.specs.Ending.{is_done}
-use Rattle.wave_machine.specs.Machines.{Kept, Shows, TheState}
+use Rattle.wave_effects.specs.Ending.{is_done}
+use Rattle.wave_effects.specs.Machines.{Kept, Shows, TheState}
 use Rattle.wave_machine.specs.Readies.{choice_of, ready_in, unlabelled}
-use Rattle.wave_machine.specs.inner.Asking.{admit_labels, asked_in, by_ticket, cell_labels, commit_labels, grant_labels, in_order, is_next, label_at, mail_act, mail_labels, mails_labels, of_kind, place_in, start_labels, status_labels, stop_if, stop_labels, stops_labels, runs_out}
+use Rattle.wave_machine.specs.inner.Asking.{admit_labels, asked_in, by_ticket, cell_labels, commit_labels, grant_labels, in_order, is_next, label_at, mail_act, mail_labels, mails_labels, of_kind, start_labels, status_labels, stop_if, stop_labels, stops_labels, runs_out}
+use Rattle.wave_effects.specs.Keeping.{place_in}
 use Rattle.wave_machine.specs.inner.Index.{IsIndex, asked_at, asked_of, by_none, by_part, head_in}
 use Rattle.wave_machine.specs.inner.Listable.{CanList, one_more}
 use Rattle.wave_machine.proofs.ListingLists.{by_ticket_is, filter_of_map, flat_same, map_flat}

@@ -23,10 +23,11 @@ use Rattle.wave_states.specs.States as theory
 use Rattle.wave_states.specs.States.{Claim}
 use Rattle.wave_states.specs.Steps.{Deliver, route_by}
 use Rattle.wave_theory.proofs.Basics.{differ, not_same, number_cases, path_cases, path_self}
-use Rattle.wave_machine.specs.declared.actor.Actor.{Actor}
-use Rattle.wave_machine.specs.Machines.{Kept}
-use Rattle.wave_machine.specs.inner.Apart.{AnswersAs, AsksAs, Moves, grown}
-use Rattle.wave_machine.specs.inner.Asking.{enter_act, grant_labels, is_claim, is_next, is_next_in, label_at, mail_act, mail_labels, place_in, route_at, start_labels, status_labels}
+use Rattle.wave_effects.specs.declared.actor.Actor.{Actor}
+use Rattle.wave_effects.specs.Machines.{Kept}
+use Rattle.wave_effects.specs.Apart.{AnswersAs, AsksAs, Moves, grown}
+use Rattle.wave_machine.specs.inner.Asking.{enter_act, grant_labels, is_claim, is_next, is_next_in, label_at, mail_act, mail_labels, route_at, start_labels, status_labels}
+use Rattle.wave_effects.specs.Keeping.{place_in}
 use Rattle.wave_machine.specs.inner.Index.{KeepsMails, asked_as, asked_at, asked_by, asked_of, cell_at, has_at, next_at, next_of, number_of, sent_at, sent_by, slot_at, slot_by}
 use Rattle.wave_machine.proofs.ListingKinds.{slice_none}
 use Rattle.wave_machine.proofs.ListingLists.{flat_same}

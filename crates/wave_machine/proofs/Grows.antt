@@ -3,9 +3,9 @@ use Rattle.std.proofs.Common.{◌≡◌, ◌+◌, length, Some, arith}
 use Rattle.wave_states.specs.Labels.{Act, Label, Admit, Queue, Grant, Visit, Start, Stop, Free, Pass, Land, Commit, ticket_of}
 use Rattle.wave_states.specs.Steps.{step}
 use Rattle.plan_actors.specs.PlanActors.{plan_actors}
-use Rattle.wave_machine.specs.Machines.{IsEnabled, Kept}
-use Rattle.wave_machine.specs.inner.Apart.{grown}
-use Rattle.wave_machine.proofs.Headed.{admits}
+use Rattle.wave_effects.specs.Machines.{IsEnabled, Kept}
+use Rattle.wave_effects.specs.Apart.{grown}
+use Rattle.wave_effects.proofs.Headed.{admits}
 
 pub admit_grows : (m : Kept) (l : Label) → IsEnabled m l → grown l.act ≡ 1 → ticket_of l.act ≡ m.first + length m.cells
 admit_grows m l on one = by_act l.act on.enabled one

@@ -12,7 +12,7 @@ use Rattle.wave_theory.proofs.Basics.{and_first, and_second, number_is, number_s
 use Rattle.wave_machine.specs.declared.ready.Ready.{Ready}
 use Rattle.wave_machine.specs.inner.Index.{Parted, by_none, number_of, under}
 use Rattle.wave_machine.proofs.Bridged.{with_worker}
-use Rattle.wave_machine.proofs.Ending.{and_true}
+use Rattle.wave_effects.proofs.Ending.{and_true}
 
 -- ---- a list in its order, at the place of one that is in it
 

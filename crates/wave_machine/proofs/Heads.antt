@@ -11,7 +11,7 @@ use Rattle.wave_states.specs.Labels.{Label, Admit, Commit, ticket_of}
 use Rattle.wave_theory.specs.Listed.{kind_of}
 use Rattle.wave_theory.proofs.Basics.{and_first, differ, number_is}
 use Rattle.wave_machine.specs.declared.ready.Ready.{Ready}
-use Rattle.wave_machine.specs.Machines.{Kept}
+use Rattle.wave_effects.specs.Machines.{Kept}
 use Rattle.wave_machine.specs.inner.Asking.{admit_labels, commit_labels, in_order, label_at, of_kind}
 use Rattle.wave_machine.specs.inner.Index.{Goes, High, IsHead, IsInner, Low, by_none, head_in, head_of, is_admit, number_of}
 use Rattle.wave_machine.proofs.Ordering.{all_filter, all_flat, all_map}

@@ -23,21 +23,21 @@ use Rattle.wave_theory.proofs.Reading.{changes}
 use Rattle.code_actor.specs.CodeActors.{Fields}
 use Rattle.plan_actors.specs.PlanActors.{plan_actors, plan_kind}
 use Rattle.plan_actors.specs.Plans.{begin_in}
-use Rattle.wave_machine.specs.declared.actor.Actor.{Actor}
-use Rattle.wave_machine.specs.declared.lease.Lease.{Lease}
-use Rattle.wave_machine.specs.Machines.{IsCell, IsEnabled, Kept, Stands, Takes, TheState, event_as}
-use Rattle.wave_machine.specs.Prepared.{IsStood}
-use Rattle.wave_machine.specs.Running.{CanStop, IsStopping, Stops, stop_of}
-use Rattle.wave_machine.specs.inner.Apart.{grown}
-use Rattle.wave_machine.specs.inner.Asking.{IsNumbered, enter_act, label_at, mail_act, mail_labels, route_at}
+use Rattle.wave_effects.specs.declared.actor.Actor.{Actor}
+use Rattle.wave_effects.specs.declared.lease.Lease.{Lease}
+use Rattle.wave_effects.specs.Machines.{IsCell, IsEnabled, Kept, Stands, Takes, TheState, event_as, IsStood}
+use Rattle.wave_effects.specs.Running.{CanStop, IsStopping, Stops, stop_of}
+use Rattle.wave_effects.specs.Apart.{grown}
+use Rattle.wave_effects.specs.Sized.{IsNumbered}
+use Rattle.wave_machine.specs.inner.Asking.{enter_act, label_at, mail_act, mail_labels, route_at}
 use Rattle.wave_machine.specs.inner.Index.{KeepsMails, number_of, sent_at, sent_by}
-use Rattle.wave_machine.proofs.Ending.{none_carries}
+use Rattle.wave_effects.proofs.Ending.{none_carries}
 use Rattle.wave_machine.proofs.Grows.{admit_grows}
 use Rattle.wave_machine.proofs.OwnMails.{KeepsOwn, own_by}
 use Rattle.wave_machine.proofs.Owned as owned
-use Rattle.wave_machine.proofs.Queueing.{some_is}
-use Rattle.wave_machine.proofs.Reached.{mailed_is}
-use Rattle.wave_machine.proofs.Taking.{Laws, now}
+use Rattle.wave_effects.proofs.Queueing.{some_is}
+use Rattle.wave_effects.proofs.Reached.{mailed_is}
+use Rattle.wave_effects.proofs.Taking.{Laws, now}
 
 -- ---- a mail, as a listing reads it
 module _ (stores : List Stores) (t k h : ℕ) (p : Path) where

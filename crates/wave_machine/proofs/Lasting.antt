@@ -20,18 +20,18 @@ use Rattle.wave_labels.specs.declared.label.Act.TheVariants.{Admit, Queue, Grant
 use Rattle.wave_labels.specs.declared.label.Label.{Label}
 use Rattle.wave_states.specs.States.{holds_as_peek}
 use Rattle.wave_states.specs.Steps.{new_entry}
-use Rattle.wave_machine.specs.declared.actor.Actor.{Actor}
-use Rattle.wave_machine.specs.declared.engine.Engine.{Engine}
+use Rattle.wave_effects.specs.declared.actor.Actor.{Actor}
+use Rattle.wave_effects.specs.declared.engine.Engine.{Engine}
 use Rattle.wave_machine.specs.declared.listed.Listed.{Listed}
-use Rattle.wave_machine.specs.declared.prepared.Prepared.{Prepared}
-use Rattle.wave_machine.specs.Heading.{AreCreated, IsMade, IsNext, RoomToAdmit, RoomToCommit}
-use Rattle.wave_machine.specs.Keeping.{RoomToGrant, RoomToLand, kept_of}
+use Rattle.wave_effects.specs.declared.prepared.Prepared.{Prepared}
+use Rattle.wave_effects.specs.Heading.{AreCreated, IsMade, IsNext, RoomToAdmit, RoomToCommit}
+use Rattle.wave_effects.specs.Keeping.{RoomToGrant, RoomToLand, kept_of}
 use Rattle.wave_machine.specs.inner.Index.{HasRoom, RoomFor}
-use Rattle.wave_machine.specs.inner.Made.{IsPart, IsPrepared}
-use Rattle.wave_machine.specs.Rooms.{PartToQueue, RoomInLine}
-use Rattle.wave_machine.specs.Running.{IsCopy, copy_of}
-use Rattle.wave_machine.specs.inner.Spare.{IsAsLong, SameButRooms}
-use Rattle.wave_machine.specs.inner.Taken.{calls_in, cell_in, copy_in, entry_in}
+use Rattle.wave_effects.specs.Made.{IsPart, IsPrepared}
+use Rattle.wave_effects.specs.Rooms.{PartToQueue, RoomInLine}
+use Rattle.wave_effects.specs.Running.{IsCopy, copy_of}
+use Rattle.wave_effects.specs.Spare.{IsAsLong, SameButRooms}
+use Rattle.wave_effects.specs.Taken.{calls_in, cell_in, copy_in, entry_in}
 
 on_some : {X : Type 0} (o : Option X) (P Q : X → Type 0) → ((x : X) → P x → Q x) → IsSomeAnd o P → IsSomeAnd o Q
 on_some None P Q f h = h

@@ -27,9 +27,10 @@ use Rattle.wave_theory.proofs.Basics.{number_is, path_is, and_first, and_second}
 use Rattle.code_actor.specs.CodeActors.{Fields}
 use Rattle.plan_actors.specs.PlanActors as actors
 use Rattle.plan_actors.specs.PlanActors.{plan_actors}
-use Rattle.wave_machine.specs.declared.actor.Actor.{Actor}
-use Rattle.wave_machine.specs.Machines.{IsCell, Kept, Shows, TheState}
-use Rattle.wave_machine.specs.inner.Asking.{admit_labels, asked_in, by_taker, by_ticket, cell_labels, commit_labels, in_order, label_at, mails_labels, of_kind, place_in, runs_out, status_labels, stop_labels, stops_labels}
+use Rattle.wave_effects.specs.declared.actor.Actor.{Actor}
+use Rattle.wave_effects.specs.Machines.{IsCell, Kept, Shows, TheState}
+use Rattle.wave_machine.specs.inner.Asking.{admit_labels, asked_in, by_taker, by_ticket, cell_labels, commit_labels, in_order, label_at, mails_labels, of_kind, runs_out, status_labels, stop_labels, stops_labels}
+use Rattle.wave_effects.specs.Keeping.{place_in}
 use Rattle.wave_machine.specs.inner.Listable.{CanList}
 use Rattle.wave_machine.proofs.ListingLists.{by_ticket_is, filter_by_ticket, filter_flat, filter_passed, flat_none, map_flat}
 use Rattle.wave_machine.proofs.ListingSteps.{admit_can, commit_can, taken_one}

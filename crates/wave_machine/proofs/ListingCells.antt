@@ -24,9 +24,10 @@ use Rattle.wave_theory.specs.Listed.{kind_of}
 use Rattle.code_actor.specs.CodeActors.{Fields}
 use Rattle.plan_actors.specs.PlanActors as actors
 use Rattle.plan_actors.specs.PlanActors.{plan_actors}
-use Rattle.wave_machine.specs.declared.actor.Actor.{Actor}
-use Rattle.wave_machine.specs.declared.kept.Out.{Out}
-use Rattle.wave_machine.specs.inner.Asking.{by_taker, cell_labels, enter_act, grant_labels, is_next, label_at, mail_act as act_of_mail, mail_labels, mails_labels, of_kind, place_in, route_at, runs_out, start_labels, status_labels, stop_if, stop_labels, stops_labels}
+use Rattle.wave_effects.specs.declared.actor.Actor.{Actor}
+use Rattle.wave_effects.specs.declared.kept.Out.{Out}
+use Rattle.wave_machine.specs.inner.Asking.{by_taker, cell_labels, enter_act, grant_labels, is_next, label_at, mail_act as act_of_mail, mail_labels, mails_labels, of_kind, route_at, runs_out, start_labels, status_labels, stop_if, stop_labels, stops_labels}
+use Rattle.wave_effects.specs.Keeping.{place_in}
 use Rattle.wave_machine.proofs.ListingLists.{filter_flat, flat_none, flat_same}
 
 -- ---- what is of which kind

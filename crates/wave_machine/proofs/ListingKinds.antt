@@ -36,15 +36,16 @@ use Rattle.wave_theory.proofs.Frames.{option_some}
 use Rattle.code_actor.specs.CodeActors.{Fields}
 use Rattle.plan_actors.specs.PlanActors as actors
 use Rattle.plan_actors.specs.PlanActors.{plan_actors, plan_kind}
-use Rattle.wave_machine.specs.declared.actor.Actor.{Actor}
-use Rattle.wave_machine.specs.declared.kept.Out.{Out}
-use Rattle.wave_machine.specs.Machines.{IsCell, event_as, IsOut, Kept, Shows, TheState}
-use Rattle.wave_machine.specs.inner.Asking.{enter_act, is_claim, is_next, is_next_in, label_at, mail_act as act_of_mail, mail_labels, mails_labels, of_kind, place_in, grant_labels, start_labels, status_labels, route_at, runs_out}
+use Rattle.wave_effects.specs.declared.actor.Actor.{Actor}
+use Rattle.wave_effects.specs.declared.kept.Out.{Out}
+use Rattle.wave_effects.specs.Machines.{IsCell, event_as, IsOut, Kept, Shows, TheState}
+use Rattle.wave_machine.specs.inner.Asking.{enter_act, is_claim, is_next, is_next_in, label_at, mail_act as act_of_mail, mail_labels, mails_labels, of_kind, grant_labels, start_labels, status_labels, route_at, runs_out}
+use Rattle.wave_effects.specs.Keeping.{place_in}
 use Rattle.wave_machine.specs.inner.Listable.{CanList}
-use Rattle.wave_machine.proofs.CellParts.{ThePart}
-use Rattle.wave_machine.proofs.Opening.{left_by, queue_found}
-use Rattle.wave_machine.proofs.Parts.{set_here_path}
-use Rattle.wave_machine.proofs.StoreParts.{at_host as at_written_host}
+use Rattle.wave_effects.proofs.CellParts.{ThePart}
+use Rattle.wave_effects.proofs.Opening.{left_by, queue_found}
+use Rattle.wave_effects.proofs.Parts.{set_here_path}
+use Rattle.wave_effects.proofs.StoreParts.{at_host as at_written_host}
 use Rattle.wave_machine.proofs.ListingLists.{map_flat, filter_flat, first_place, flat_same}
 use Rattle.wave_machine.proofs.ListingSteps.{act_for, followed_in, frees, grant_can, is_next_at, lands, passes, queues, taken_one, visits}
 

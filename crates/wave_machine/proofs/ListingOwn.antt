@@ -17,9 +17,10 @@ use Rattle.wave_theory.proofs.Basics.{none_not, some_same}
 use Rattle.code_actor.specs.CodeActors.{Fields}
 use Rattle.plan_actors.specs.PlanActors as actors
 use Rattle.plan_actors.specs.PlanActors.{plan_actors}
-use Rattle.wave_machine.specs.declared.kept.Out.{Out}
-use Rattle.wave_machine.specs.Machines.{IsOut, Kept, Shows, TheState}
-use Rattle.wave_machine.specs.inner.Asking.{asked_in, in_order, place_in, runs_out, stop_if, stop_labels}
+use Rattle.wave_effects.specs.declared.kept.Out.{Out}
+use Rattle.wave_effects.specs.Machines.{IsOut, Kept, Shows, TheState}
+use Rattle.wave_machine.specs.inner.Asking.{asked_in, in_order, runs_out, stop_if, stop_labels}
+use Rattle.wave_effects.specs.Keeping.{place_in}
 use Rattle.wave_machine.specs.inner.Listable.{CanList}
 use Rattle.wave_machine.proofs.ListingLists.{flat_none}
 use Rattle.wave_machine.proofs.ListingSteps.{step_is, taken_one}

@@ -10,10 +10,10 @@ use Rattle.event_cells.specs.declared.cell.Cell.{Cell}
 use Rattle.host_map.specs.Stores.{Stores}
 use Rattle.wave_states.specs.Labels.{Label, Admit, Commit}
 use Rattle.wave_theory.proofs.Basics.{differ}
-use Rattle.wave_machine.specs.declared.actor.Actor.{Actor}
+use Rattle.wave_effects.specs.declared.actor.Actor.{Actor}
 use Rattle.wave_machine.specs.declared.ready.Ready.{Ready}
-use Rattle.wave_machine.specs.Ending.{is_done}
-use Rattle.wave_machine.specs.Machines.{Kept}
+use Rattle.wave_effects.specs.Ending.{is_done}
+use Rattle.wave_effects.specs.Machines.{Kept}
 use Rattle.wave_machine.specs.inner.Asking.{admit_labels, asked_in, by_taker, by_ticket, cell_labels, commit_labels, in_order, label_at, mails_labels, of_kind, status_labels, stops_labels}
 use Rattle.wave_machine.specs.inner.Index.{IsIndex, Parted, asked_at, asked_by, asked_of, by_none, by_part, cell_at, head_in}
 use Rattle.wave_machine.proofs.Bridged.{all_as, map_twice, no_workers, with_worker}

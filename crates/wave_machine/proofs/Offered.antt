@@ -22,20 +22,20 @@ use Rattle.code_actor.specs.CodeActors.{Fields}
 use Rattle.plan_actors.specs.PlanActors as actors
 use Rattle.plan_actors.specs.PlanActors.{plan_actors, plan_kind}
 use Rattle.plan_actors.specs.Plans.{begin_in}
-use Rattle.wave_machine.specs.declared.kept.Out.{Out}
+use Rattle.wave_effects.specs.declared.kept.Out.{Out}
 use Rattle.wave_machine.specs.declared.ready.Ready.{Ready}
-use Rattle.wave_machine.specs.Machines.{IsOut, Kept, Shows, TheState}
+use Rattle.wave_effects.specs.Machines.{IsOut, Kept, Shows, TheState}
 use Rattle.wave_machine.specs.inner.Index.{IsIndex, by_none, has_at}
 use Rattle.wave_machine.specs.inner.Listable.{CanList}
 use Rattle.wave_machine.specs.inner.Takeable.{CanTake, is_stop_of}
 use Rattle.wave_machine.proofs.Bridged.{in_mapped, taken_is, with_worker}
-use Rattle.wave_machine.proofs.Driven.{stopped_by}
-use Rattle.wave_machine.proofs.Ending.{and_true, some_at}
-use Rattle.wave_machine.proofs.Glancing.{matched, there_is}
+use Rattle.wave_effects.proofs.Stopped.{stopped_by}
+use Rattle.wave_effects.proofs.Ending.{and_true, some_at}
+use Rattle.wave_effects.proofs.Glancing.{matched, there_is}
 use Rattle.wave_machine.proofs.Halves.{InOrder, Rises, in_order_too}
 use Rattle.wave_machine.proofs.ListingOwn.{past_lists}
-use Rattle.wave_machine.proofs.Reached.{has_it, host_is}
-use Rattle.wave_machine.proofs.StoreParts.{TheEntry}
+use Rattle.wave_effects.proofs.Reached.{has_it, host_is}
+use Rattle.wave_effects.proofs.StoreParts.{TheEntry}
 
 -- ---- a worker that has a segment out takes its Stop alone
 

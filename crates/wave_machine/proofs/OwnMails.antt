@@ -14,12 +14,12 @@ use Rattle.wave_states.specs.Steps.{Bench, Part, act_bench, desk_back, ended, gr
 use Rattle.wave_states.specs.Desks.{Desk, give_up, kept_of, left_of, not_at, nothing_kept, release, send, with_held, with_status}
 use Rattle.wave_theory.proofs.Basics.{differ, if_some, none_not, set_at, set_there, some_same}
 use Rattle.wave_theory.proofs.Opened.{frees, grants, lands, passes, queues, starts, stopping, visits}
-use Rattle.wave_machine.specs.inner.Apart.{grown}
+use Rattle.wave_effects.specs.Apart.{grown}
 use Rattle.wave_machine.specs.inner.Index.{number_of}
-use Rattle.wave_machine.proofs.CellParts.{same_event}
-use Rattle.wave_machine.proofs.Headed.{commits}
-use Rattle.wave_machine.proofs.Opening.{free_found, grant_found, land_found, left_by, pass_found, queue_found, visit_found}
-use Rattle.wave_machine.proofs.Starting.{start_found}
+use Rattle.wave_effects.proofs.CellParts.{same_event}
+use Rattle.wave_effects.proofs.Headed.{commits}
+use Rattle.wave_effects.proofs.Opening.{free_found, grant_found, land_found, left_by, pass_found, queue_found, visit_found}
+use Rattle.wave_effects.proofs.Starting.{start_found}
 
 -- ---- a desk on which more was sent
 record SentMore {A F : Type 0} (d d' : Desk A F) : Type 0 where

@@ -20,11 +20,12 @@ use Rattle.wave_states.specs.Labels.{Act, Label, Grant, ticket_of}
 use Rattle.wave_states.specs.Steps.{Route, Deliver, Born, Wait, Forward}
 use Rattle.wave_theory.specs.Listed.{IsIn, kind_of}
 use Rattle.wave_theory.proofs.Basics.{differ, none_not, not_same, number_cases, number_self}
-use Rattle.wave_machine.specs.declared.actor.Actor.{Actor}
+use Rattle.wave_effects.specs.declared.actor.Actor.{Actor}
 use Rattle.wave_machine.specs.declared.ready.Ready.{Ready}
-use Rattle.wave_machine.specs.Ending.{is_done}
-use Rattle.wave_machine.specs.Machines.{Kept}
-use Rattle.wave_machine.specs.inner.Asking.{enter_act, grant_labels, in_order, is_next, label_at, labels_in, mail_act, mail_labels, mails_labels, place_in, route_at, start_labels, status_labels}
+use Rattle.wave_effects.specs.Ending.{is_done}
+use Rattle.wave_effects.specs.Machines.{Kept}
+use Rattle.wave_machine.specs.inner.Asking.{enter_act, grant_labels, in_order, is_next, label_at, labels_in, mail_act, mail_labels, mails_labels, route_at, start_labels, status_labels}
+use Rattle.wave_effects.specs.Keeping.{place_in}
 use Rattle.wave_machine.specs.inner.Done.{AreDone}
 use Rattle.wave_machine.specs.inner.Index.{AreOwn, Below, From, IsBelow, IsFrom, IsOwn, Lists, asked_as, asked_at, asked_by, asked_of, by_none, by_part, by_slot, cell_at, kinds_at, number_of, numbers_in, share_of, slot_at, slot_by, weight_of, with_next, with_slot}
 use Rattle.wave_machine.proofs.ListingLists.{flat_none, flat_same}

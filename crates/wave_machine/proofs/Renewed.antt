@@ -20,10 +20,11 @@ use Rattle.event_cells.specs.Keeps.{Sending, is_empty, mail_in}
 use Rattle.host_map.specs.Stores.{Stores}
 use Rattle.wave_states.specs.Labels.{Label, Admit, Commit}
 use Rattle.wave_theory.proofs.Basics.{differ, not_same, number_cases, number_is, number_self, some_not}
-use Rattle.wave_machine.specs.declared.actor.Actor.{Actor}
+use Rattle.wave_effects.specs.declared.actor.Actor.{Actor}
 use Rattle.wave_machine.specs.declared.ready.Ready.{Ready}
-use Rattle.wave_machine.specs.Machines.{Kept}
-use Rattle.wave_machine.specs.inner.Asking.{IsNumbered, in_order, label_at, mail_labels}
+use Rattle.wave_effects.specs.Machines.{Kept}
+use Rattle.wave_effects.specs.Sized.{IsNumbered}
+use Rattle.wave_machine.specs.inner.Asking.{in_order, label_at, mail_labels}
 use Rattle.wave_machine.specs.inner.Index.{AreOwn, Below, Cuts, From, Goes, IsBelow, IsFrom, IsHead, IsOwn, Lists, ListsNew, Relists, RelistsBoth, RelistsNear, RelistsNext, RelistsOwn, asked_as, by_none, by_slot, cell_at, numbers_in, slot_at, share_of, slot_by, with_above, with_next, with_own, with_slot}
 use Rattle.wave_machine.specs.inner.Others.{but}
 use Rattle.wave_machine.proofs.ListingLists.{by_number, find_apart, find_first, flat_none, less_is}

@@ -1,7 +1,7 @@
 -- What has no more room is the same too.
 use Rattle.std.proofs.Common.{refl, arith}
-use Rattle.wave_machine.specs.Machines.{Kept}
-use Rattle.wave_machine.specs.inner.Spare.{SameButRooms}
+use Rattle.wave_effects.specs.Machines.{Kept}
+use Rattle.wave_effects.specs.Spare.{SameButRooms}
 
 pub same_self : (m : Kept) → SameButRooms m m
 same_self m = record {

@@ -21,24 +21,23 @@ use Rattle.code_actor.specs.CodeActors.{Fields}
 use Rattle.plan_actors.specs.PlanActors as actors
 use Rattle.plan_actors.specs.PlanActors.{plan_actors, plan_kind}
 use Rattle.plan_actors.specs.Plans.{begin_in}
-use Rattle.wave_machine.specs.declared.actor.Actor.{Actor}
-use Rattle.wave_machine.specs.declared.lease.Lease.{Lease}
-use Rattle.wave_machine.specs.Ending.{is_done}
-use Rattle.wave_machine.specs.Machines.{IsCell, IsEnabled, Keeps, Kept, Known, Shows, Stands, Takes, TheState, event_as}
-use Rattle.wave_machine.specs.Prepared.{IsStood}
-use Rattle.wave_machine.specs.Running.{CanStop, IsStopping, Stops, stop_of}
+use Rattle.wave_effects.specs.declared.actor.Actor.{Actor}
+use Rattle.wave_effects.specs.declared.lease.Lease.{Lease}
+use Rattle.wave_effects.specs.Ending.{is_done}
+use Rattle.wave_effects.specs.Machines.{IsCell, IsEnabled, Keeps, Kept, Known, Shows, Stands, Takes, TheState, event_as, IsStood}
+use Rattle.wave_effects.specs.Running.{CanStop, IsStopping, Stops, stop_of}
 use Rattle.wave_machine.specs.inner.Done.{AreDone, DoneStays}
-use Rattle.wave_machine.proofs.Calm.{grant_on}
-use Rattle.wave_machine.proofs.CellParts.{same_event}
-use Rattle.wave_machine.proofs.Driven.{stopped_by}
-use Rattle.wave_machine.proofs.Ending.{all_empty, and_left, and_right, and_true, carries_none, empty_mail, is_over_by, none_carries, not_both, over_is, some_at}
-use Rattle.wave_machine.proofs.Halting.{Segments}
-use Rattle.wave_machine.proofs.Headed.{admits, commits}
-use Rattle.wave_machine.proofs.Opening.{free_found, land_found, left_by, pass_found, queue_found, visit_found}
-use Rattle.wave_machine.proofs.Queueing.{some_is}
-use Rattle.wave_machine.proofs.Reached.{admitted_is}
-use Rattle.wave_machine.proofs.Starting.{start_found}
-use Rattle.wave_machine.proofs.Taking.{Laws, after, now}
+use Rattle.wave_effects.proofs.Calm.{grant_on}
+use Rattle.wave_effects.proofs.CellParts.{same_event}
+use Rattle.wave_effects.proofs.Stopped.{stopped_by}
+use Rattle.wave_effects.proofs.Ending.{all_empty, and_left, and_right, and_true, carries_none, empty_mail, is_over_by, none_carries, not_both, over_is, some_at}
+use Rattle.wave_effects.proofs.Halting.{Segments}
+use Rattle.wave_effects.proofs.Headed.{admits, commits}
+use Rattle.wave_effects.proofs.Opening.{free_found, land_found, left_by, pass_found, queue_found, visit_found}
+use Rattle.wave_effects.proofs.Queueing.{some_is}
+use Rattle.wave_effects.proofs.Reached.{admitted_is}
+use Rattle.wave_effects.proofs.Starting.{start_found}
+use Rattle.wave_effects.proofs.Taking.{Laws, after, now}
 
 -- a ticket that has ended, and has no mail under way
 pub record IsOver (s : TheState) (t : ℕ) : Type 0 where

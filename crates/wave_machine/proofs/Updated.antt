@@ -9,12 +9,13 @@ use Rattle.event_cells.specs.declared.cell.Cell.{Cell}
 use Rattle.host_map.specs.Stores.{Stores}
 use Rattle.wave_states.specs.Labels.{Label, path_of, ticket_of}
 use Rattle.wave_theory.proofs.Basics.{and_both, and_first, and_second, clash, none_not, not_same, number_cases, number_is, number_self}
-use Rattle.wave_machine.specs.declared.actor.Actor.{Actor}
+use Rattle.wave_effects.specs.declared.actor.Actor.{Actor}
 use Rattle.wave_machine.specs.declared.listed.Seen.{Seen}
 use Rattle.wave_machine.specs.declared.ready.Ready.{Ready}
-use Rattle.wave_machine.specs.Machines.{Kept}
-use Rattle.wave_machine.specs.inner.Apart.{Moves, grown}
-use Rattle.wave_machine.specs.inner.Asking.{IsNumbered, in_order, mail_labels}
+use Rattle.wave_effects.specs.Machines.{Kept}
+use Rattle.wave_effects.specs.Apart.{Moves, grown}
+use Rattle.wave_effects.specs.Sized.{IsNumbered}
+use Rattle.wave_machine.specs.inner.Asking.{in_order, mail_labels}
 use Rattle.wave_machine.specs.inner.Index.{IsHead, IsInner, IsOwn, KeepsMails, RelistsNear, Taken, asked_as, asked_at, asked_by, asked_of, by_none, by_part, by_slot, cell_at, has_at, next_at, number_of, numbers_in, sent_at, sent_by, slot_at, slot_by, with_above, with_next, with_slot}
 use Rattle.wave_machine.proofs.Elsewhere.{asked_mail, grown_few, others_slot, own_slot}
 use Rattle.wave_machine.proofs.ListingLists.{flat_none, flat_same}

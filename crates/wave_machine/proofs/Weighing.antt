@@ -10,10 +10,10 @@ use Rattle.event_cells.specs.Cells.{is_over}
 use Rattle.event_cells.specs.Keeps.{is_empty}
 use Rattle.wave_states.specs.Labels.{Label, ticket_of}
 use Rattle.wave_theory.proofs.Basics.{not_same, number_cases}
-use Rattle.wave_machine.specs.declared.actor.Actor.{Actor}
-use Rattle.wave_machine.specs.Ending.{is_done}
-use Rattle.wave_machine.specs.Machines.{Kept}
-use Rattle.wave_machine.specs.inner.Apart.{AsksAs, AsksTheSame, Moves, grown}
+use Rattle.wave_effects.specs.declared.actor.Actor.{Actor}
+use Rattle.wave_effects.specs.Ending.{is_done}
+use Rattle.wave_effects.specs.Machines.{Kept}
+use Rattle.wave_effects.specs.Apart.{AsksAs, AsksTheSame, Moves, grown}
 use Rattle.wave_machine.specs.inner.Index.{cell_at, share_at, share_by, share_of, weight_of}
 use Rattle.wave_machine.proofs.ListingKinds.{slice_none}
 use Rattle.wave_machine.proofs.Elsewhere.{grown_few}

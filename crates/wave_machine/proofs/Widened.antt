@@ -12,8 +12,8 @@ use Rattle.wave_theory.proofs.Basics.{none_not, some_same, then_some}
 use Rattle.code_actor.specs.CodeActors.{Fields}
 use Rattle.plan_actors.specs.PlanActors as actors
 use Rattle.plan_actors.specs.Plans.{Plan}
-use Rattle.wave_machine.specs.declared.kept.Out.{Out}
-use Rattle.wave_machine.specs.Machines.{IsOut, Kept, Shows, TheState}
+use Rattle.wave_effects.specs.declared.kept.Out.{Out}
+use Rattle.wave_effects.specs.Machines.{IsOut, Kept, Shows, TheState}
 use Rattle.wave_machine.specs.inner.Listable.{CanList, one_more}
 use Rattle.wave_machine.proofs.ListingCells.{slice_after}
 

@@ -6,7 +6,7 @@ use Rattle.wave_states.specs.Labels.{Choice, Label}
 use Rattle.plan_actors.specs.PlanActors.{plan_actors}
 use Rattle.plan_actors.specs.Plans.{Plan}
 use Rattle.wave_machine.specs.declared.ready.Ready.{Ready}
-use Rattle.wave_machine.specs.Machines.{TheState}
+use Rattle.wave_effects.specs.Machines.{TheState}
 
 abbrev pub choice_of : Ready → Choice
 choice_of r = record { host = r.host.0; act = act_of r.act }

@@ -3,7 +3,7 @@
 ghost use Rattle.std.specs.Prelude.{◌≡◌, ℕ, Some, None, map, slice_get};
 ghost use Rattle.wave_base.specs.declared.start.Start.{Start};
 ghost use Rattle.wave_states.specs.Canonical.{taken_as};
-ghost use Rattle.wave_machine.specs.Machines.{Stands, TheState};
+ghost use Rattle.wave_effects.specs.Machines.{Stands, TheState};
 ghost use Rattle.wave_machine.specs.Picks.{IsOneOf};
 ghost use Rattle.wave_machine.specs.Readies.{choice_of, enabled_by, ready_in};
 ghost use Rattle.wave_machine.specs.inner.Index.{IsListed, IsPickOf};
@@ -17,7 +17,7 @@ use wave_base::{Ticket, Worker};
 use wave_labels::Label;
 
 impl<'p> Listed<'p> {
-    ghost use Rattle.wave_machine.specs.Keeping.{kept_of};
+    ghost use Rattle.wave_effects.specs.Keeping.{kept_of};
 
     // What an idle worker can do, in the canonical order, without who does it.
     pub(crate) fn ready(&self) -> &[Ready]

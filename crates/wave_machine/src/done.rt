@@ -1,26 +1,21 @@
 //! What is done, and need not be looked at any more.
 
 ghost use Rattle.wave_machine.specs.inner.Done.{AreDone, DoneStays};
+ghost use Rattle.wave_effects.specs.Keeping.{kept_of};
 
-use crate::engine::Engine;
-use crate::hands::segments_are_known;
-use crate::laws::states_are_known;
+use wave_effects::{Engine, segments_are_known, states_are_known};
 
-impl<'p> Engine<'p> {
-    ghost use Rattle.wave_machine.specs.Keeping.{kept_of};
-
-    // How many of the first tickets are done, where so many are.
-    pub(crate) fn count_done(&self, done: usize) -> usize
-        requires { AreDone (kept_of self.now) done }
-        ensures { AreDone (kept_of self.now) result }
-    {
-        for i in done..self.cells.len() {
-            if !self.cells[i].is_done() {
-                return i;
-            }
+// How many of the first tickets are done, where so many are.
+pub(crate) fn count_done(engine: &Engine, done: usize) -> usize
+    requires { AreDone (kept_of engine.now) done }
+    ensures { AreDone (kept_of engine.now) result }
+{
+    for i in done..engine.cells.len() {
+        if !engine.cells[i].is_done() {
+            return i;
         }
-        self.cells.len()
     }
+    engine.cells.len()
 }
 
 // What is done stays done: the contract of a function that does nothing.

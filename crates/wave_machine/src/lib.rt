@@ -1,72 +1,30 @@
-//! The machine: it stands for a state of the theory, and each of its calls is the label that it names.
+//! The machine: it stands for a state of the theory, and each of its calls is the label that it names (`machine`).
+//!
+//! What a label does is told in `wave_effects`. Here is the list of what can be done, which is kept from label to label (`listed`):
+//!
+//! - what is asked for, label by label: `asking`, and in which order: `order`; an entry of the list: `ready`;
+//! - the list in its order, a place of which is found by halves: `index`; what a label changes in it: `renewing`, by what is looked at
+//!   before and after it: `looks`, `done`;
+//! - what is read off the list: `choosing`, `takeable`, `movers`, and with who takes it `enabled`, `takers`, `adding`;
+//! - what is known of states that are listed: `listable`.
 #![tactic(auto)]
 
-mod actor;
-mod acts;
 mod adding;
-mod always;
 mod asking;
-mod begin;
 mod choosing;
 mod done;
-mod drivable;
-mod drives;
-mod ends;
-mod engine;
-mod finds;
-mod finish;
-mod first;
-mod glance;
-mod hands;
-mod heading;
+mod enabled;
 mod index;
-mod joining;
-mod kept;
-mod known;
-mod laws;
-mod lease;
-mod leaving;
-mod lengths;
 mod listable;
 mod listed;
-mod listing;
-mod loops;
+mod looks;
 mod machine;
-mod makes;
-mod moves;
-mod moving;
+mod movers;
 mod order;
-mod places;
-mod plan;
-mod prepared;
 mod ready;
-mod records;
-mod refused;
-mod relisting;
-mod rooms;
-mod rules;
-mod running;
-mod runs;
-mod shown;
+mod renewing;
 mod takeable;
 mod takers;
 
-pub use actor::Actor;
-pub use always::{
-    contexts_have_owners, labels_are_apart, machines_come_to_an_end, machines_follow_the_fold,
-};
-pub use drives::{drive, drive_at, drive_with};
-pub use ends::End;
-pub use glance::Glance;
-pub use hands::segments_are_known;
-pub use kept::{Out, Settled};
-pub use known::heads_are_known;
-pub use laws::states_are_known;
-pub use lease::Lease;
-pub use lengths::{orders_are_alike, runs_are_measured};
 pub use machine::{Machine, machine_stands};
-pub use plan::Plan;
 pub use ready::Ready;
-pub use refused::Refused;
-pub use rules::PickRule;
-pub use runs::run_lease;

@@ -4,7 +4,7 @@ ghost use Rattle.std.specs.Prelude.{List};
 ghost use Rattle.wave_base.specs.declared.start.Start.{Start};
 ghost use Rattle.plan_actors.specs.Plans.{Plan, Fits, FitsStart};
 ghost use Rattle.wave_states.specs.Labels.{Label};
-ghost use Rattle.wave_machine.specs.Machines.{IsReached, TheState};
+ghost use Rattle.wave_effects.specs.Machines.{IsReached, TheState};
 ghost use Rattle.wave_machine.specs.inner.Listable.{CanList, one_more};
 
 use plan_actors::PlanActors;

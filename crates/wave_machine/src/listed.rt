@@ -9,32 +9,27 @@ ghost use Rattle.wave_states.specs.Runs as runs;
 ghost use Rattle.plan_actors.specs.Calls.{code_ran};
 ghost use Rattle.plan_actors.specs.PlanActors.{plan_actors};
 ghost use Rattle.plan_actors.specs.Plans.{Fits, FitsStart, begin_in};
-ghost use Rattle.wave_machine.specs.Actors.{MayRun};
-ghost use Rattle.wave_machine.specs.Keeping.{kept_of};
-ghost use Rattle.wave_machine.specs.Machines.{IsEnabled, Keeps, Kept, Stands, Takes, TheState};
-ghost use Rattle.wave_machine.specs.Plans.{plan_of};
-ghost use Rattle.wave_machine.specs.Prepared.{is_start, is_step};
-ghost use Rattle.wave_machine.specs.Running.{CanStop, IsStopping, Leases, Stops, stop_of};
-ghost use Rattle.wave_machine.specs.inner.Asking.{place_in};
+ghost use Rattle.wave_effects.specs.Actors.{MayRun};
+ghost use Rattle.wave_effects.specs.Keeping.{kept_of, place_in};
+ghost use Rattle.wave_effects.specs.Machines.{IsEnabled, Keeps, Kept, Stands, Takes, TheState};
+ghost use Rattle.wave_effects.specs.Plans.{plan_of};
+ghost use Rattle.wave_effects.specs.Acts.{is_start, is_step};
+ghost use Rattle.wave_effects.specs.Running.{CanStop, IsStopping, Leases, Stops, stop_of};
 ghost use Rattle.wave_machine.specs.inner.Index.{HasRoom, IsListed, SameList, Sees, Updating, held_at};
-ghost use Rattle.wave_machine.specs.inner.Made.{IsPart};
-ghost use Rattle.wave_machine.specs.inner.Spare.{IsAsLong, SameButRooms};
+ghost use Rattle.wave_effects.specs.Made.{IsPart};
+ghost use Rattle.wave_effects.specs.Spare.{IsAsLong, SameButRooms};
 
-use crate::done::done_stays;
-use crate::engine::Engine;
-use crate::hands::segments_are_known;
+use crate::done::{count_done, done_stays};
 use crate::index::ticket_of;
-use crate::known::heads_are_known;
-use crate::laws::states_are_known;
-use crate::lease::Lease;
-use crate::plan::Plan;
-use crate::prepared::Prepared;
+use crate::looks::{line_at, may_leave, path_of, sent_at, share_at};
 use crate::ready::Ready;
-use crate::refused::Refused;
-use crate::relisting::path_of;
+use crate::renewing::{relist_after, relist_head};
 use host_map::{HostStore, place_of};
 use std::alloc::Global;
 use wave_base::{Finished, Host, OutOfMemory, Path, Pause, Start, Ticket};
+use wave_effects::{
+    Engine, Lease, Plan, Prepared, Refused, heads_are_known, segments_are_known, states_are_known,
+};
 use wave_labels::Label;
 
 /// An engine, and in canonical order what can be done by an idle worker. A label changes what the status of its ticket asks for, its own
@@ -78,7 +73,7 @@ impl<'p> Listed<'p> {
         let engine = Engine::new_at(alloc, plan, start)?;
         let mut index = Vec::new(alloc);
         index.reserve(2)?;
-        engine.relist_head(&mut index);
+        relist_head(&engine, &mut index);
         Ok(Listed {
             engine,
             index,
@@ -193,7 +188,7 @@ impl<'p> Listed<'p> {
         ensures listed { IsListed self.new }
         ensures room { OnErr result ((more : ℕ) → HasRoom self.old more → HasRoom self.new more) }
     {
-        let more = self.engine.may_leave(lease.ticket);
+        let more = may_leave(&self.engine, lease.ticket);
         match self.reserve(more) {
             Ok(()) => self.stop_in_room(lease, pause),
             Err(error) => Err(Refused {
@@ -239,12 +234,12 @@ impl<'p> Listed<'p> {
     fn look(&self, host: Host, ticket: Ticket, path: &Path) -> Seen
         ensures { Sees (kept_of self.now.engine) host.0 ticket.0 path.now result }
     {
-        let (here, next) = self.engine.line_at(host, path);
+        let (here, next) = line_at(&self.engine, host, path);
         Seen {
             next,
             here,
-            share: self.engine.share(ticket),
-            sent: self.engine.sent(ticket),
+            share: share_at(&self.engine, ticket),
+            sent: sent_at(&self.engine, ticket),
         }
     }
 
@@ -256,12 +251,11 @@ impl<'p> Listed<'p> {
     {
         states_are_known();
         heads_are_known();
-        let share = self.engine.share(ticket_of(&label.act));
+        let share = share_at(&self.engine, ticket_of(&label.act));
         self.weight = self.weight - seen.share + share;
-        self.engine
-            .relist_after(label, seen, self.done, &mut self.index);
-        self.engine.relist_head(&mut self.index);
-        self.done = self.engine.count_done(self.done);
+        relist_after(&self.engine, label, seen, self.done, &mut self.index);
+        relist_head(&self.engine, &mut self.index);
+        self.done = count_done(&self.engine, self.done);
     }
 }
 

@@ -12,27 +12,25 @@ ghost use Rattle.wave_states.specs.Steps.{step};
 ghost use Rattle.plan_actors.specs.Calls.{code_ran};
 ghost use Rattle.plan_actors.specs.PlanActors.{plan_actors};
 ghost use Rattle.plan_actors.specs.Plans.{Fits, FitsStart, begin_in};
-ghost use Rattle.wave_machine.specs.Glances.{IsGlance};
-ghost use Rattle.wave_machine.specs.Machines.{IsEnabled, Keeps, Stands, Takes, TheState};
-ghost use Rattle.wave_machine.specs.Plans.{plan_of};
-ghost use Rattle.wave_machine.specs.Prepared.{IsStood, is_start, is_step};
-ghost use Rattle.wave_machine.specs.Running.{CanStop, IsStopping, Leases, Stops, stop_of};
-ghost use Rattle.wave_machine.specs.Actors.{MayRun};
+ghost use Rattle.wave_effects.specs.Glances.{IsGlance};
+ghost use Rattle.wave_effects.specs.Machines.{IsEnabled, Keeps, Stands, Takes, TheState, IsStood};
+ghost use Rattle.wave_effects.specs.Plans.{plan_of};
+ghost use Rattle.wave_effects.specs.Acts.{is_start, is_step};
+ghost use Rattle.wave_effects.specs.Running.{CanStop, IsStopping, Leases, Stops, stop_of};
+ghost use Rattle.wave_effects.specs.Actors.{MayRun};
+ghost use Rattle.wave_machine.specs.Movers.{moves_in};
 ghost use Rattle.wave_machine.specs.Picks.{IsOneOf};
 ghost use Rattle.wave_machine.specs.Readies.{choice_of, enabled_by, enabled_in, ready_in};
-ghost use Rattle.wave_machine.specs.Showing.{IsLineOf};
+ghost use Rattle.wave_effects.specs.Showing.{IsLineOf};
 
-use crate::glance::Glance;
-use crate::lease::Lease;
 use crate::listed::Listed;
-use crate::plan::Plan;
-use crate::prepared::Prepared;
+use crate::movers::is_mover;
 use crate::ready::Ready;
-use crate::refused::Refused;
 use context_tree::trees_that_fit;
 use std::alloc::Global;
 use std::marker::Model;
-use wave_base::{Finished, OutOfMemory, Pause, Seq, Shown, Start, Worker};
+use wave_base::{Finished, OutOfMemory, Pause, Seq, Shown, Start, Ticket, Worker};
+use wave_effects::{Glance, Lease, Plan, Prepared, Refused};
 use wave_labels::Label;
 
 /// A machine that runs a plan. It stands for a state of the theory that labels lead to from a start state of its plan, and keeps all of
@@ -50,10 +48,11 @@ impl<'p> Model for Machine<'p> {
     ghost use Rattle.commit_order.specs.contracts.commits.Commits as commits;
     ghost use Rattle.context_queue.specs.contracts.entry.Entry as entry;
     ghost use Rattle.host_map.specs.contracts.store.HostStore as store;
-    ghost use Rattle.wave_machine.specs.Keeping.{kept_of};
-    ghost use Rattle.wave_machine.specs.Prepared.{Shown, IsStood, shown_of};
+    ghost use Rattle.wave_effects.specs.Keeping.{kept_of};
+    ghost use Rattle.wave_machine.specs.Prepared.{Shown, shown_of};
+    ghost use Rattle.wave_effects.specs.Machines.{IsStood};
     ghost use Rattle.wave_machine.specs.inner.Index.{IsListed, RoomFor};
-    ghost use Rattle.wave_machine.specs.inner.Made.{IsPrepared};
+    ghost use Rattle.wave_effects.specs.Made.{IsPrepared};
 
     ghost Value = { Shown };
 
@@ -231,6 +230,13 @@ impl<'p> Machine<'p> {
         ensures { (start : Start) (s : TheState) → Stands self.now.kept start s → IsTrue result ↔ (is_some (step (plan_actors self.now.kept.plan.program) self.now.kept.plan.workers s (label_of label.now)) ≡ true) }
     {
         self.listed.can_take(label)
+    }
+
+    /// Whether the job of a ticket is a move: one that was admitted, or the one that is admitted next.
+    pub fn is_move(&self, ticket: Ticket) -> bool
+        ensures { result ≡ moves_in self.now.kept ticket.0 }
+    {
+        is_mover(&self.listed.engine, ticket)
     }
 
     /// How far the run has come, and where its contexts are.

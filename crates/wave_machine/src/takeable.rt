@@ -8,20 +8,20 @@ ghost use Rattle.wave_states.specs.Steps.{step};
 ghost use Rattle.wave_theory.specs.Listed.{Before, IsIn, Rising};
 ghost use Rattle.plan_actors.specs.PlanActors.{plan_actors};
 ghost use Rattle.plan_actors.specs.Plans.{Plan, Fits, FitsStart};
-ghost use Rattle.wave_machine.specs.Keeping.{kept_of};
-ghost use Rattle.wave_machine.specs.Machines.{IsReached, Stands, TheState};
+ghost use Rattle.wave_effects.specs.Keeping.{kept_of};
+ghost use Rattle.wave_effects.specs.Machines.{IsReached, Stands, TheState};
 ghost use Rattle.wave_machine.specs.inner.Index.{IsListed, by_none};
 ghost use Rattle.wave_machine.specs.inner.Takeable.{CanTake, is_stop_of};
 
-use crate::engine::Engine;
 use crate::index::{number_of, place, ticket_of};
-use crate::kept::Out;
 use crate::listable::states_list;
 use crate::listed::Listed;
+use crate::looks::has_at;
 use crate::order::kind_of;
 use crate::ready::Ready;
 use plan_actors::PlanActors;
 use wave_base::{Host, Worker};
+use wave_effects::{Engine, Out};
 use wave_labels::{Act, Label, labels_tell};
 use wave_theory::{by_owners, listed_for};
 
@@ -34,8 +34,8 @@ impl<'p> Listed<'p> {
         states_list();
         states_take();
         labels_tell();
-        match self.engine.hand(label.worker) {
-            Some(Some(out)) => self.engine.stops(&out, label.host, &label.act),
+        match hand_of(&self.engine, label.worker) {
+            Some(Some(out)) => is_stop_of(&self.engine, &out, label.host, &label.act),
             Some(None) => {
                 let ready = Ready {
                     host: label.host,
@@ -48,24 +48,22 @@ impl<'p> Listed<'p> {
     }
 }
 
-impl<'p> Engine<'p> {
-    // What a worker has out, if there is such a worker.
-    fn hand(&self, worker: Worker) -> Option<Option<Out>>
-        ensures { result ≡ slice_get self.now.hands.items worker.0 }
-    {
-        self.hands.get(worker.0 as usize).copied()
-    }
+// What a worker has out, if there is such a worker.
+fn hand_of(engine: &Engine, worker: Worker) -> Option<Option<Out>>
+    ensures { result ≡ slice_get engine.now.hands.items worker.0 }
+{
+    engine.hands.get(worker.0 as usize).copied()
+}
 
-    // Whether the act is the Stop of what is out, at a host whose store has the context.
-    fn stops(&self, out: &Out, host: Host, act: &Act) -> bool
-        ensures { result ≡ is_stop_of self.now.stores.items out.now host.0 (act_of act.now) }
-    {
-        match act {
-            Act::Stop(ticket, path) => {
-                out.ticket == *ticket && out.path == *path && self.has_at(host, path)
-            }
-            _ => false,
+// Whether the act is the Stop of what is out, at a host whose store has the context.
+fn is_stop_of(engine: &Engine, out: &Out, host: Host, act: &Act) -> bool
+    ensures { result ≡ is_stop_of engine.now.stores.items out.now host.0 (act_of act.now) }
+{
+    match act {
+        Act::Stop(ticket, path) => {
+            out.ticket == *ticket && out.path == *path && has_at(engine, host, path)
         }
+        _ => false,
     }
 }
 

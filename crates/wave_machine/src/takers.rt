@@ -2,8 +2,8 @@
 
 ghost use Rattle.std.specs.Prelude.{◌≡◌, ◌+◌, ◌<◌, ◌≤◌, if◌then◌else◌, length, position, is_none, IfSome, Some, option_map};
 
-use crate::kept::Out;
 use wave_base::Worker;
+use wave_effects::Out;
 
 // Who takes labels: the idle worker all but the Stops, and the workers from one on, below another, the Stops of their own.
 #[derive(Clone, Copy)]

@@ -3,12 +3,12 @@ use Rattle.std.specs.Prelude.{◌≡◌, ◌+◌, ℕ, nat_eq, false, Bool, List
 use Rattle.wave_base.specs.declared.numbers.Worker.{Worker}
 use Rattle.wave_base.specs.declared.pause.Pause.{Pause}
 use Rattle.kept_lock.specs.History.{entries_of}
-use Rattle.wave_machine.specs.declared.lease.Lease.{Lease}
-use Rattle.wave_machine.specs.declared.plan.Plan.{Plan}
-use Rattle.wave_machine.specs.Actors.{MayRun}
-use Rattle.wave_machine.specs.Machines.{TheState}
-use Rattle.wave_machine.specs.Plans.{plan_of}
-use Rattle.wave_machine.specs.Running.{IsBack, IsInHand}
+use Rattle.wave_effects.specs.declared.lease.Lease.{Lease}
+use Rattle.wave_effects.specs.declared.plan.Plan.{Plan}
+use Rattle.wave_effects.specs.Actors.{MayRun}
+use Rattle.wave_effects.specs.Machines.{TheState}
+use Rattle.wave_effects.specs.Plans.{plan_of}
+use Rattle.wave_effects.specs.Running.{IsBack, IsInHand}
 use Rattle.wave_board.specs.declared.board.Board.{Board}
 use Rattle.wave_board.specs.declared.origin.Origin.{Origin}
 use Rattle.wave_board.specs.declared.trail.Trail.{Trail}

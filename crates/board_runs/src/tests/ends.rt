@@ -3,8 +3,8 @@
 ghost use Rattle.std.specs.Prelude.{◌≡◌, OnOk};
 ghost use Rattle.wave_base.specs.Starts.{first_start};
 ghost use Rattle.plan_actors.specs.Plans.{Fits};
-ghost use Rattle.wave_machine.specs.Machines.{TheState};
-ghost use Rattle.wave_machine.specs.Plans.{plan_of};
+ghost use Rattle.wave_effects.specs.Machines.{TheState};
+ghost use Rattle.wave_effects.specs.Plans.{plan_of};
 ghost use Rattle.wave_board.specs.declared.origin.Origin.{Origin};
 ghost use Rattle.wave_board.specs.Boards.{IsAt};
 ghost use Rattle.wave_board.specs.Taking.{IsFinished};
@@ -16,8 +16,8 @@ use std::alloc::Global;
 use std::process::Abort;
 use std::test::Fail;
 use wave_base::{Finished, OutOfMemory, Start, Worker};
-use wave_board::{Board, Work};
-use wave_machine::Plan;
+use wave_board::{Board, Turn};
+use wave_effects::Plan;
 
 // The one worker takes something, and gives back a segment that it got.
 fn take_turn(
@@ -31,9 +31,9 @@ fn take_turn(
 {
     let work = board.take(Worker(0))?;
     match work {
-        Work::Stepped(_) => Ok(()),
-        Work::Segment(lease) => give_back(alloc, plan, board, lease),
-        Work::Nothing | Work::Finished | Work::Stopped(_) => panic!(rt; "no turn"),
+        Turn::Stepped(_) => Ok(()),
+        Turn::Segment(lease) => give_back(alloc, plan, board, lease),
+        Turn::Nothing | Turn::Finished | Turn::Stopped(_) => panic!(rt; "no turn"),
     }
 }
 
@@ -79,8 +79,8 @@ pub(super) fn ended(
     let mut board = board;
     let work = board.take(Worker(0))?;
     match work {
-        Work::Finished => parts(board),
-        Work::Stepped(_) | Work::Segment(_) | Work::Nothing | Work::Stopped(_) => {
+        Turn::Finished => parts(board),
+        Turn::Stepped(_) | Turn::Segment(_) | Turn::Nothing | Turn::Stopped(_) => {
             panic!(rt; "not finished")
         }
     }

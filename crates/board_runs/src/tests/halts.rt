@@ -3,7 +3,7 @@
 ghost use Rattle.std.specs.Prelude.{◌≡◌};
 ghost use Rattle.wave_base.specs.Starts.{first_start};
 ghost use Rattle.plan_actors.specs.Plans.{Fits};
-ghost use Rattle.wave_machine.specs.Plans.{plan_of};
+ghost use Rattle.wave_effects.specs.Plans.{plan_of};
 ghost use Rattle.board_runs.specs.inner.Ready.{IsReady};
 
 use super::turns::{first_of, opened, plan_for, take_step};
@@ -13,8 +13,8 @@ use std::test::Fail;
 use std::thread::{Threads, join};
 use tests_services::TICK;
 use wave_base::{OutOfMemory, Start, Worker};
-use wave_board::{Board, StopCause, Work};
-use wave_machine::Plan;
+use wave_board::{Board, StopCause, Turn};
+use wave_effects::Plan;
 
 fn stop(plan: &Plan, board: &mut Board, worker: Worker, why: StopCause)
     requires ready { IsReady plan.now board.old }
@@ -30,12 +30,12 @@ fn is_stopped(rt: &impl Abort, plan: &Plan, board: &mut Board) -> Result<(), Out
 {
     let work = board.take(Worker(0))?;
     match work {
-        Work::Stopped(StopCause::SinkFault) => Ok(()),
-        Work::Stopped(StopCause::Memory(_))
-        | Work::Stepped(_)
-        | Work::Segment(_)
-        | Work::Nothing
-        | Work::Finished => panic!(rt; "not stopped"),
+        Turn::Stopped(StopCause::SinkFault) => Ok(()),
+        Turn::Stopped(StopCause::Memory(_))
+        | Turn::Stepped(_)
+        | Turn::Segment(_)
+        | Turn::Nothing
+        | Turn::Finished => panic!(rt; "not stopped"),
     }
 }
 

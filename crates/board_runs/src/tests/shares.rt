@@ -3,7 +3,7 @@
 ghost use Rattle.std.specs.Prelude.{◌≡◌, OnOk, IfOk};
 ghost use Rattle.wave_base.specs.Starts.{first_start};
 ghost use Rattle.plan_actors.specs.Plans.{Fits};
-ghost use Rattle.wave_machine.specs.Plans.{plan_of};
+ghost use Rattle.wave_effects.specs.Plans.{plan_of};
 ghost use Rattle.board_runs.specs.inner.Ready.{IsOut, IsReady};
 
 use super::ends::ended;
@@ -15,7 +15,7 @@ use std::test::Fail;
 use tests_services::TICK;
 use wave_base::{OutOfMemory, Start, Worker};
 use wave_board::Board;
-use wave_machine::{Lease, Plan};
+use wave_effects::{Lease, Plan};
 
 // The first worker takes the one event as far as its segment.
 fn begin(rt: &impl Abort, plan: &Plan, board: &mut Board) -> Result<Lease, OutOfMemory>

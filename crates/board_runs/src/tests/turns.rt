@@ -3,7 +3,7 @@
 ghost use Rattle.std.specs.Prelude.{◌≡◌, IfErr, IfOk, OnOk};
 ghost use Rattle.wave_base.specs.Starts.{first_start};
 ghost use Rattle.plan_actors.specs.Plans.{Fits};
-ghost use Rattle.wave_machine.specs.Plans.{plan_of};
+ghost use Rattle.wave_effects.specs.Plans.{plan_of};
 ghost use Rattle.board_runs.specs.inner.Ready.{HasRun, IsOut, IsReady};
 
 use plan_actors::PlanActors;
@@ -11,8 +11,8 @@ use std::alloc::Global;
 use std::process::Abort;
 use tests_machine::Case;
 use wave_base::{OutOfMemory, Pause, Start, Worker};
-use wave_board::{Board, Work};
-use wave_machine::{Lease, Plan, Refused, run_lease};
+use wave_board::{Board, Turn};
+use wave_effects::{Lease, Plan, Refused, run_lease};
 use wave_theory::hands_stay_over;
 
 // The plan of a service's text and a script's, which are right.
@@ -72,8 +72,8 @@ pub(super) fn take_step(
     }
     let work = board.take(worker)?;
     match work {
-        Work::Stepped(_) => Ok(()),
-        Work::Segment(_) | Work::Nothing | Work::Finished | Work::Stopped(_) => {
+        Turn::Stepped(_) => Ok(()),
+        Turn::Segment(_) | Turn::Nothing | Turn::Finished | Turn::Stopped(_) => {
             panic!(rt; "no step")
         }
     }
@@ -94,8 +94,8 @@ pub(super) fn take_segment(
     }
     let work = board.take(worker)?;
     match work {
-        Work::Segment(lease) => Ok(lease),
-        Work::Stepped(_) | Work::Nothing | Work::Finished | Work::Stopped(_) => {
+        Turn::Segment(lease) => Ok(lease),
+        Turn::Stepped(_) | Turn::Nothing | Turn::Finished | Turn::Stopped(_) => {
             panic!(rt; "no segment")
         }
     }
@@ -121,8 +121,8 @@ pub(super) fn find_nothing(
     }
     let work = board.take(worker)?;
     match work {
-        Work::Nothing => Ok(()),
-        Work::Stepped(_) | Work::Segment(_) | Work::Finished | Work::Stopped(_) => {
+        Turn::Nothing => Ok(()),
+        Turn::Stepped(_) | Turn::Segment(_) | Turn::Finished | Turn::Stopped(_) => {
             panic!(rt; "not nothing")
         }
     }

@@ -5,7 +5,7 @@ use Rattle.due_parts.specs.declared.answer.Answer.{Answer}
 use Rattle.due_parts.specs.declared.refusal.Refusal.{Refusal}
 use Rattle.due_parts.specs.declared.refusal.Refusal.TheVariants.{Due, OutOfMemory}
 use Rattle.due_parts.specs.declared.telling.Telling.{Telling}
-use Rattle.due_parts.specs.declared.work.Work.{Work}
+use Rattle.due_parts.specs.declared.runnable.Runnable.{Runnable}
 use Rattle.due_parts.specs.Accepted.{IsReady, point_of}
 use Rattle.due_parts.specs.Answers.{Only}
 use Rattle.due_parts.specs.Scripts.{IsDueScripted}
@@ -15,7 +15,7 @@ use Rattle.due_answer.specs.declared.task.Engine.{Engine}
 use Rattle.due_answer.specs.declared.task.Task.{Task}
 
 -- the task is this, and the work is ready for it; the point that it leaves can be saved
-pub record IsReadyFor (telling : Telling) (engine : Engine) (bytes : List ℕ) (task : Task) (work : Work) : Type 0 where
+pub record IsReadyFor (telling : Telling) (engine : Engine) (bytes : List ℕ) (task : Task) (work : Runnable) : Type 0 where
   pub task_is : task ≡ record { telling = telling; engine = engine }
   pub ready : IsReady (λ t. IsDueScripted t bytes) work
   pub saved : IsPoint work.program.shape (point_of work)

@@ -1,4 +1,4 @@
--- Work that is run for a command.
+-- What is run for a command.
 use Rattle.std.specs.Prelude.{◌≡◌, Bool, true, false, Some}
 use Rattle.checkpoint_store.specs.Points.{IsPoint}
 use Rattle.command_words.specs.declared.command.Command.{Command}
@@ -8,11 +8,11 @@ use Rattle.due_answer.specs.Tasks.{task_of}
 use Rattle.due_parts.specs.declared.report.Report.TheVariants.{Listing, Point}
 use Rattle.due_parts.specs.declared.telling.Telling.{Telling}
 use Rattle.due_parts.specs.declared.telling.Telling.TheVariants.{Reports, Traces}
-use Rattle.due_parts.specs.declared.work.Work.{Work}
+use Rattle.due_parts.specs.declared.runnable.Runnable.{Runnable}
 use Rattle.due_parts.specs.Accepted.{CanRun, point_of}
 
 -- a command asks for this task, and workers run it or do not; the work can be run, and where its point is asked for it has one
-pub record IsDone (by_workers : Bool) (task : Task) (work : Work) : Type 0 where
+pub record IsDone (by_workers : Bool) (task : Task) (work : Runnable) : Type 0 where
   pub command : Command
   pub who : runs_workers command ≡ by_workers
   pub asked : task_of command ≡ Some task

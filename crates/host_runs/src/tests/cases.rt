@@ -1,7 +1,7 @@
 //! What the tests run.
 
 ghost use Rattle.plan_actors.specs.Plans.{Fits};
-ghost use Rattle.wave_machine.specs.Plans.{plan_of};
+ghost use Rattle.wave_effects.specs.Plans.{plan_of};
 
 use host_workers::{RunError, run_plan};
 use label_log::LabelLog;
@@ -11,8 +11,8 @@ use std::sync::Wait;
 use std::thread::Threads;
 use tests_machine::Case;
 use wave_base::Finished;
+use wave_effects::Plan;
 use wave_io::{Gate, Sink};
-use wave_machine::Plan;
 
 // The plan of a case, which is right.
 pub(super) fn plan_for(rt: &impl Abort, alloc: Global, case: &Case) -> Plan

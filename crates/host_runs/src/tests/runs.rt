@@ -12,8 +12,8 @@ use std::thread::Threads;
 use tests_machine::Case;
 use tests_services::{CHAIN, MARKET, MOVES, TICK};
 use wave_base::{Finished, OutOfMemory, Seq};
+use wave_effects::Plan;
 use wave_io::{MemSink, OpenGate};
-use wave_machine::Plan;
 
 // The end of the listing of a run, places among it.
 fn write_places(

@@ -6,17 +6,17 @@ use Rattle.wave_base.specs.declared.numbers.Worker.{Worker}
 use Rattle.wave_base.specs.declared.pause.Pause.{Pause}
 use Rattle.kept_lock.specs.declared.view.Known.{Known}
 use Rattle.kept_lock.specs.History.{entries_of}
-use Rattle.wave_machine.specs.declared.lease.Lease.{Lease}
-use Rattle.wave_machine.specs.Actors.{MayRun}
-use Rattle.wave_machine.specs.Machines.{TheState}
-use Rattle.wave_machine.specs.Running.{IsBack, IsInHand}
+use Rattle.wave_effects.specs.declared.lease.Lease.{Lease}
+use Rattle.wave_effects.specs.Actors.{MayRun}
+use Rattle.wave_effects.specs.Machines.{TheState}
+use Rattle.wave_effects.specs.Running.{IsBack, IsInHand}
 use Rattle.wave_board.specs.declared.board.Board.{Board}
 use Rattle.wave_board.specs.declared.origin.Origin.{Origin}
 use Rattle.wave_board.specs.declared.trail.Trail.{Trail}
 use Rattle.wave_board.specs.Boards.{IsAt, history_of, labels_in, owner_of}
 use Rattle.wave_board.specs.Taking.{begins, ends}
-use Rattle.host_workers.specs.declared.ending.Ending.{Ending}
-use Rattle.host_workers.specs.declared.ending.Ending.TheVariants as ending
+use Rattle.host_workers.specs.declared.ending.WorkerEnd.{WorkerEnd}
+use Rattle.host_workers.specs.declared.ending.WorkerEnd.TheVariants as ending
 use Rattle.host_workers.specs.declared.packet.Packet.{Packet}
 use Rattle.host_workers.specs.declared.task.Task.{Task}
 use Rattle.host_workers.specs.declared.task.Task.TheVariants.{Segment, Again, Rest, Finished, Stopped}
@@ -68,6 +68,6 @@ module _ (origin : Origin) (pass : Known Trail) (worker : Worker) where
   Asked (Err e) = IsCalm
 
   -- the worker goes on with what it brings, or has ended
-  abbrev pub Rounded : Result (Option Packet) Ending → Type 0
+  abbrev pub Rounded : Result (Option Packet) WorkerEnd → Type 0
   Rounded (Ok packet) = Brings packet
   Rounded (Err e) = (pass.number ≡ worker.0) × Ended origin pass e × (e ≢ ending.WriteFault)

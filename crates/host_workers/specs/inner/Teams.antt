@@ -9,12 +9,12 @@ use Rattle.kept_lock.specs.declared.view.Known.{Known}
 use Rattle.kept_lock.specs.declared.lock.KeptLock.{KeptLock}
 use Rattle.kept_lock.specs.declared.lock.Pass.{Pass}
 use Rattle.kept_lock.specs.Locks.{name_of, known, IsPassOf}
-use Rattle.wave_machine.specs.declared.plan.Plan.{Plan}
+use Rattle.wave_effects.specs.declared.plan.Plan.{Plan}
 use Rattle.wave_board.specs.declared.board.Board.{Board}
 use Rattle.wave_board.specs.declared.origin.Origin.{Origin}
 use Rattle.wave_board.specs.declared.trail.Trail.{Trail}
-use Rattle.host_workers.specs.declared.ending.Ending.{Ending}
-use Rattle.host_workers.specs.declared.ending.Ending.TheVariants as ending
+use Rattle.host_workers.specs.declared.ending.WorkerEnd.{WorkerEnd}
+use Rattle.host_workers.specs.declared.ending.WorkerEnd.TheVariants as ending
 use Rattle.host_workers.specs.Endings.{Ended}
 use Rattle.host_workers.specs.Lines.{event_lines}
 use Rattle.host_workers.specs.Passes.{IsReady}
@@ -32,7 +32,7 @@ pub record IsAtPost (origin : Origin) (plan : Plan) (worker : Worker) (from : Ti
   pub writes : worker.0 ≡ 0
 
 -- how worker 0 ended, and what was written of the lines of the plan's events
-pub record HasEnded (origin : Origin) (plan : Plan) (pass : Known Trail) (old new : Option (List ℕ)) (faults faults' : ℕ) (e : Ending) : Type 0 where
+pub record HasEnded (origin : Origin) (plan : Plan) (pass : Known Trail) (old new : Option (List ℕ)) (faults faults' : ℕ) (e : WorkerEnd) : Type 0 where
   pub number : pass.number ≡ 0
   pub ended : Ended origin pass e
   pub whole : e ≡ ending.Finished → Appends old new (event_lines plan origin.start.now)

@@ -4,12 +4,12 @@ use Rattle.wave_base.specs.declared.memory.OutOfMemory.{OutOfMemory}
 use Rattle.wave_base.specs.declared.numbers.Worker.{Worker}
 use Rattle.wave_base.specs.declared.shown.Shown.{Shown}
 use Rattle.wave_labels.specs.declared.label.Label.{Label}
-use Rattle.wave_machine.specs.Prepared.{is_step}
+use Rattle.wave_effects.specs.Acts.{is_step}
 use Rattle.wave_board.specs.declared.board.Board.{Board}
 use Rattle.wave_board.specs.declared.crew.Crew.{Crew}
 use Rattle.wave_board.specs.declared.trail.StopCause.{StopCause}
 use Rattle.wave_board.specs.declared.trail.Trail.TheVariants.{Halt, Step}
-use Rattle.wave_board.specs.declared.work.Work.TheVariants as work
+use Rattle.wave_board.specs.declared.turn.Turn.TheVariants as work
 use Rattle.wave_board.specs.Boards.{IsStanding, StandsStill, history_of}
 use Rattle.wave_board.specs.Fresh.{CanTell, TellsFresh}
 use Rattle.wave_board.specs.Giving.{CanGive, Gives, IsGiven}

@@ -10,14 +10,14 @@ use Rattle.kept_lock.specs.History.{StartsWith}
 use Rattle.wave_io.specs.Causes.{Rose}
 use Rattle.wave_io.specs.Streams.{AppendsFront}
 use Rattle.listing_out.specs.Parts.{AreShownFrom, first_lines}
-use Rattle.wave_machine.specs.Machines.{TheState}
+use Rattle.wave_effects.specs.Machines.{TheState}
 use Rattle.wave_board.specs.declared.board.Board.{Board}
 use Rattle.wave_board.specs.declared.origin.Origin.{Origin}
 use Rattle.wave_board.specs.declared.trail.Trail.{Trail}
 use Rattle.wave_board.specs.Boards.{IsAt, history_of}
 use Rattle.host_workers.specs.declared.begun.Begun.{Begun}
-use Rattle.host_workers.specs.declared.ending.Ending.{Ending}
-use Rattle.host_workers.specs.declared.ending.Ending.TheVariants as ending
+use Rattle.host_workers.specs.declared.ending.WorkerEnd.{WorkerEnd}
+use Rattle.host_workers.specs.declared.ending.WorkerEnd.TheVariants as ending
 use Rattle.host_workers.specs.declared.offer.Offer.{Offer}
 use Rattle.host_workers.specs.declared.offer.Offer.TheVariants.{Lines, Task}
 use Rattle.host_workers.specs.declared.packet.Packet.{Packet}
@@ -100,7 +100,7 @@ pub record BreaksOff (origin : Origin) (written : ℕ) (old new : Option (List �
   pub front : AppendsFront old new rest
 
 -- a round of the worker that writes: what it brings then, and how many tickets' lines are written; or how it ended
-abbrev pub HasWritten : Origin → Known Trail → Worker → ℕ → Option (List ℕ) → Option (List ℕ) → ℕ → ℕ → Result (Option Packet × ℕ) Ending → Type 0
+abbrev pub HasWritten : Origin → Known Trail → Worker → ℕ → Option (List ℕ) → Option (List ℕ) → ℕ → ℕ → Result (Option Packet × ℕ) WorkerEnd → Type 0
 HasWritten origin pass worker written old new faults faults' (Ok r) = Brings origin pass worker r.0 × AreCommitted origin pass r.1 × WritesUpTo origin written r.1 old new
 HasWritten origin pass worker written old new faults faults' (Err e) =
     (pass.number ≡ worker.0) × Ended origin pass e × BreaksOff origin written old new

@@ -3,11 +3,11 @@ use Rattle.std.specs.Prelude.{◌≡◌, List}
 use Rattle.wave_base.specs.Starts.{first_start}
 use Rattle.wave_labels.specs.declared.label.Label.{Label}
 use Rattle.plan_actors.specs.Plans.{Plan}
-use Rattle.wave_machine.specs.Machines.{TheState}
-use Rattle.wave_machine.specs.inner.Driving.{IsUnder}
+use Rattle.wave_effects.specs.Machines.{TheState}
+use Rattle.wave_drives.specs.Walks.{IsUnder}
 use Rattle.journal_replay.specs.declared.error.ReplayError.{ReplayError}
 use Rattle.journal_replay.specs.declared.error.ReplayError.TheVariants.{Refused, OutOfMemory}
-use Rattle.journal_replay.specs.declared.walk.Walk.{Walk}
+use Rattle.wave_drives.specs.declared.walk.Walk.{Walk}
 use Rattle.journal_replay.specs.Replays.{IsRefusal, LeadsTo}
 
 -- the labels lead to a state for which the machine stands, and each segment that is out was run

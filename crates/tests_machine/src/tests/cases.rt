@@ -2,14 +2,15 @@
 
 ghost use Rattle.std.specs.Prelude.{IfOk};
 ghost use Rattle.plan_actors.specs.Plans.{Fits, FitsStart};
-ghost use Rattle.wave_machine.specs.Plans.{plan_of};
+ghost use Rattle.wave_effects.specs.Plans.{plan_of};
 
 use crate::{Case, start_on};
 use std::alloc::Global;
 use std::process::Abort;
 use wave_base::{Finished, Host, OutOfMemory, START_TICKET, Seq, Start, Ticket};
+use wave_drives::{PickRule, drive, drive_at, drive_with};
+use wave_effects::Plan;
 use wave_labels::Label;
-use wave_machine::{PickRule, Plan, drive, drive_at, drive_with};
 
 // The plan of a case, which is right.
 pub(super) fn plan_for(rt: &impl Abort, alloc: Global, case: &Case) -> Plan

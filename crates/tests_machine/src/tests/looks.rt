@@ -6,8 +6,8 @@ use crate::TWO_LOOKS;
 use std::test::Fail;
 use tests_services::hall;
 use wave_base::Ticket;
+use wave_drives::PickRule;
 use wave_labels::Act;
-use wave_machine::PickRule;
 
 fn start(ticket: u32) -> Act {
     Act::Start(Ticket(ticket), hall(1))

@@ -8,7 +8,7 @@ use std::process::Abort;
 use std::test::Fail;
 use tests_services::{CHAIN, MARKET, TO_AND_FRO, hall, shot, stall};
 use wave_base::{OutOfMemory, Outcome, Path, Place, Seq, Ticket};
-use wave_machine::PickRule;
+use wave_drives::PickRule;
 
 const RULES: [PickRule; 6] = [
     PickRule::Seed(0),

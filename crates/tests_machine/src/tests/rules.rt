@@ -7,8 +7,8 @@ use std::process::Abort;
 use std::test::Fail;
 use tests_services::{MARKET, mail};
 use wave_base::{Path, Ticket};
+use wave_drives::PickRule;
 use wave_labels::Act;
-use wave_machine::PickRule;
 
 const MOVE_AND_SALE: Case = Case {
     service: MARKET,

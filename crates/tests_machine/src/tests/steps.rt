@@ -3,9 +3,9 @@
 ghost use Rattle.std.specs.Prelude.{◌≡◌, true, IfOk, IfSome};
 ghost use Rattle.plan_actors.specs.Plans.{Fits};
 ghost use Rattle.wave_labels.specs.Labels.{label_of};
-ghost use Rattle.wave_machine.specs.Machines.{IsEnabled};
-ghost use Rattle.wave_machine.specs.Plans.{plan_of};
-ghost use Rattle.wave_machine.specs.Prepared.{is_start, is_step};
+ghost use Rattle.wave_effects.specs.Machines.{IsEnabled};
+ghost use Rattle.wave_effects.specs.Plans.{plan_of};
+ghost use Rattle.wave_effects.specs.Acts.{is_start, is_step};
 
 use super::cases::{plan_for, start_for};
 use super::wants::{comes_to, moved, reply};
@@ -16,8 +16,9 @@ use std::process::Abort;
 use std::test::Fail;
 use tests_services::{MARKET, TICK, hall};
 use wave_base::{Finished, Host, OutOfMemory, Outcome, Ticket, Worker};
+use wave_effects::{Plan, run_lease};
 use wave_labels::{Act, Label};
-use wave_machine::{Machine, Plan, machine_stands, run_lease};
+use wave_machine::{Machine, machine_stands};
 use wave_theory::listed;
 
 // The first label that can be taken.

@@ -60,6 +60,49 @@ fn point(alloc: Global) -> Result<Vec<u8>, OutOfMemory> {
     point_with(alloc, 0, b"")
 }
 
+// The status of a call, what it writes, and its note.
+type Wanted<'a> = (u8, &'a [u8], &'a [u8]);
+
+// A point is saved behind a script, or not.
+fn saves<R: Abort + Threads + Wait + Sync>(
+    rt: &R,
+    alloc: Global,
+    service: &[u8],
+    script: &[u8],
+    wanted: Wanted,
+) -> Result<(), OutOfMemory> {
+    let input = joined(alloc, service, script)?;
+    let row = plain("save", input.as_slice(), wanted.0, wanted.1, wanted.2);
+    holds(rt, alloc, &row)
+}
+
+// A run goes on behind a point, or not.
+fn resumes<R: Abort + Threads + Wait + Sync>(
+    rt: &R,
+    alloc: Global,
+    service: &[u8],
+    point: &[u8],
+    script: &[u8],
+    wanted: Wanted,
+) -> Result<(), OutOfMemory> {
+    let input = with_point(alloc, service, point, script)?;
+    let row = plain("resume", input.as_slice(), wanted.0, wanted.1, wanted.2);
+    holds(rt, alloc, &row)
+}
+
+// The same for the market, behind the point with another line in the place of one.
+fn resumes_with<R: Abort + Threads + Wait + Sync>(
+    rt: &R,
+    alloc: Global,
+    place: usize,
+    line: &[u8],
+    script: &[u8],
+    wanted: Wanted,
+) -> Result<(), OutOfMemory> {
+    let point = point_with(alloc, place, line)?;
+    resumes(rt, alloc, MARKET, point.as_slice(), script, wanted)
+}
+
 #[test]
 fn a_point_is_saved(rt: HostRuntime) -> Result<(), Fail> {
     let alloc = rt.alloc();
@@ -72,18 +115,13 @@ fn a_point_is_saved(rt: HostRuntime) -> Result<(), Fail> {
             &plain(words, input.as_slice(), 0, saved.as_slice(), b""),
         )?;
     }
-    let none = joined(alloc, MARKET, b"")?;
     let first =
         b"checkpoint 1\nhosts 1 lines 0 next 1\nclasses 3\nclass Market - seen:int\nclass Hall Market count:int\nclass Stall Hall stock:int\nsnapshot 1\nat / seen=0\nplace / 0\nend\n";
-    holds(&rt, alloc, &plain("save", none.as_slice(), 0, first, b""))?;
-    let moved = joined(
-        alloc,
-        CHAIN,
-        b"hosts 3\nmove / to 2\nrequest two()\nsnapshot\n",
-    )?;
+    saves(&rt, alloc, MARKET, b"", (0, first, b""))?;
+    let moved = b"hosts 3\nmove / to 2\nrequest two()\nsnapshot\n";
     let behind =
         b"checkpoint 1\nhosts 3 lines 3 next 6\nclasses 1\nclass Chain - n:int\nsnapshot 1\nat / n=21\nplace / 2\nend\n";
-    holds(&rt, alloc, &plain("save", moved.as_slice(), 0, behind, b""))?;
+    saves(&rt, alloc, CHAIN, moved, (0, behind, b""))?;
     Ok(())
 }
 
@@ -91,26 +129,25 @@ fn a_point_is_saved(rt: HostRuntime) -> Result<(), Fail> {
 fn a_point_is_saved_where_an_event_traps(rt: HostRuntime) -> Result<(), Fail> {
     let alloc = rt.alloc();
     let service = b"service T { var n: int = 1; event e() { here { n = 5; require n < 0; } } }\n";
-    let input = joined(alloc, service, b"request e()\n")?;
     let saved =
         b"checkpoint 1\nhosts 1 lines 1 next 2\nclasses 1\nclass T - n:int\nsnapshot 1\nat / n=5\nplace / 0\nend\n";
-    holds(&rt, alloc, &plain("save", input.as_slice(), 1, saved, b""))?;
+    saves(&rt, alloc, service, b"request e()\n", (1, saved, b""))?;
     // the run that goes on traps nowhere
-    let resumed = with_point(alloc, service, saved, b"snapshot\n")?;
     let listed = b"#2 snapshot 1\n#2 at / n=5\ndone 2\n";
-    holds(
-        &rt,
-        alloc,
-        &plain("resume", resumed.as_slice(), 0, listed, b""),
-    )?;
+    resumes(&rt, alloc, service, saved, b"snapshot\n", (0, listed, b""))?;
     Ok(())
+}
+
+// The market, the point behind one sale, and a script.
+fn market_point(alloc: Global, script: &[u8]) -> Result<Vec<u8>, OutOfMemory> {
+    let saved = point(alloc)?;
+    with_point(alloc, MARKET, saved.as_slice(), script)
 }
 
 #[test]
 fn a_run_goes_on(rt: HostRuntime) -> Result<(), Fail> {
     let alloc = rt.alloc();
-    let saved = point(alloc)?;
-    let input = with_point(alloc, MARKET, saved.as_slice(), NEXT_SALE)?;
+    let input = market_point(alloc, NEXT_SALE)?;
     for words in [
         "resume",
         "resume --workers 1",
@@ -129,12 +166,7 @@ fn a_run_goes_on(rt: HostRuntime) -> Result<(), Fail> {
     for words in ["resume --map", "resume --schedule 5 --map"] {
         holds(&rt, alloc, &plain(words, input.as_slice(), 0, places, b""))?;
     }
-    let none = with_point(alloc, MARKET, saved.as_slice(), b"")?;
-    holds(
-        &rt,
-        alloc,
-        &plain("resume", none.as_slice(), 0, b"done 1\n", b""),
-    )?;
+    resumes_with(&rt, alloc, 0, b"", b"", (0, b"done 1\n", b""))?;
     Ok(())
 }
 
@@ -161,58 +193,40 @@ const WRONG: [(usize, &[u8], &[u8]); 12] = [
 #[test]
 fn a_point_is_refused(rt: HostRuntime) -> Result<(), Fail> {
     let alloc = rt.alloc();
-    for (place, line, note) in WRONG {
-        let wrong = point_with(alloc, place, line)?;
-        let input = with_point(alloc, MARKET, wrong.as_slice(), b"nonsense\n")?;
-        holds(&rt, alloc, &plain("resume", input.as_slice(), 8, b"", note))?;
+    for (place, line, note) in &WRONG {
+        resumes_with(&rt, alloc, *place, line, b"nonsense\n", (8, b"", *note))?;
     }
-    let longer = point_with(alloc, 14, b"end\n\n")?;
-    let input = with_point(alloc, MARKET, longer.as_slice(), b"")?;
-    holds(
-        &rt,
-        alloc,
-        &plain("resume", input.as_slice(), 8, b"", b"K1 Syntax line 15\n"),
-    )?;
+    let longer = b"end\n\n";
+    let note = b"K1 Syntax line 15\n";
+    resumes_with(&rt, alloc, 14, longer, b"", (8, b"", note))?;
     Ok(())
 }
 
 #[test]
 fn refusals_of_a_resumed_script_in_order(rt: HostRuntime) -> Result<(), Fail> {
     let alloc = rt.alloc();
-    let saved = point(alloc)?;
     let two = joined(alloc, MARKET, SALE)?;
     holds(
         &rt,
         alloc,
         &plain("resume", two.as_slice(), 3, b"", b"NoScript\n"),
     )?;
-    let late = with_point(alloc, MARKET, saved.as_slice(), b"hosts 1\n")?;
-    holds(
-        &rt,
-        alloc,
-        &plain("resume", late.as_slice(), 4, b"", b"S7 HostsLate line 1\n"),
-    )?;
-    let dashes = with_point(alloc, MARKET, saved.as_slice(), b"snapshot\n----\n")?;
-    holds(
-        &rt,
-        alloc,
-        &plain(
-            "resume",
-            dashes.as_slice(),
-            4,
-            b"",
-            b"S1 UnknownCommand line 2\n",
-        ),
-    )?;
-    let most = point_with(alloc, 2, b"hosts 1 lines 3999 next 2\n")?;
-    let many = with_point(alloc, MARKET, most.as_slice(), b"snapshot\nsnapshot\n")?;
-    holds(
-        &rt,
-        alloc,
-        &plain("resume", many.as_slice(), 4, b"", b"S8 TooMany line 2\n"),
-    )?;
+    let late = b"S7 HostsLate line 1\n";
+    resumes_with(&rt, alloc, 0, b"", b"hosts 1\n", (4, b"", late))?;
+    let dashes = b"snapshot\n----\n";
+    let unknown = b"S1 UnknownCommand line 2\n";
+    resumes_with(&rt, alloc, 0, b"", dashes, (4, b"", unknown))?;
+    let most = b"hosts 1 lines 3999 next 2\n";
+    let many = b"snapshot\nsnapshot\n";
+    resumes_with(&rt, alloc, 2, most, many, (4, b"", b"S8 TooMany line 2\n"))?;
+    Ok(())
+}
+
+#[test]
+fn a_resumed_script_may_be_too_large(rt: HostRuntime) -> Result<(), Fail> {
+    let alloc = rt.alloc();
     let long = Vec::from_elem(alloc, b' ', 1_048_577)?;
-    let large = with_point(alloc, MARKET, saved.as_slice(), long.as_slice())?;
+    let large = market_point(alloc, long.as_slice())?;
     let row = plain("resume", large.as_slice(), 4, b"", b"TooLarge script\n");
     assert_eq!(rt;
         ran_on(&rt, alloc, row.words, row.input, &OpenGate)?.0,
@@ -259,9 +273,17 @@ fn each_read_and_each_write_of_a_point_fails(rt: HostRuntime) -> Result<(), Fail
     let saved = point(alloc)?;
     let first = joined(alloc, MARKET, SALE)?;
     fails_at_each(&rt, alloc, "save", first.as_slice(), saved.as_slice())?;
-    let second = with_point(alloc, MARKET, saved.as_slice(), b"")?;
+    let second = market_point(alloc, b"")?;
     fails_at_each(&rt, alloc, "resume", second.as_slice(), b"done 1\n")?;
     Ok(())
+}
+
+// The market, and a script of these two batches.
+fn in_batches(alloc: Global, one: &[u8], other: &[u8]) -> Result<Vec<u8>, OutOfMemory> {
+    let mut input = joined(alloc, MARKET, one)?;
+    input.extend_from_slice(b"settle\n")?;
+    input.extend_from_slice(other)?;
+    Ok(input)
 }
 
 /// A script cut where a batch ends: the point behind the first half, and the run of the second from there, give what the whole gives.
@@ -271,10 +293,7 @@ fn two_halves_are_the_whole(rt: HostRuntime) -> Result<(), Fail> {
     let one: &[u8] = b"hosts 2\nrequest buy(1,1,3)\nmove /Hall[1] to 1\nrequest pair(1)\n";
     let other: &[u8] =
         b"request buy(2,1,4)\nmove /Hall[1]/Stall[1] to 1\nrequest pair(1)\nsnapshot\n";
-    let mut both = Vec::from_slice(alloc, one)?;
-    both.extend_from_slice(b"settle\n")?;
-    both.extend_from_slice(other)?;
-    let whole = joined(alloc, MARKET, both.as_slice())?;
+    let whole = in_batches(alloc, one, other)?;
     let (_, listed) = ran_on(&rt, alloc, "run --map", whole.as_slice(), &OpenGate)?;
     let first = joined(alloc, MARKET, one)?;
     let (_, saved) = ran_on(&rt, alloc, "save", first.as_slice(), &OpenGate)?;

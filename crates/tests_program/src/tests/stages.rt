@@ -234,39 +234,38 @@ fn listed(alloc: Global, staged: &Staged, places: &[u8]) -> Result<Vec<u8>, OutO
     Ok(text)
 }
 
+// By these words a script with policies comes to its lines, these places and its last line.
+fn lists<R: Abort + Threads + Wait + Sync>(
+    rt: &R,
+    alloc: Global,
+    words: &str,
+    staged: &Staged,
+    places: &[u8],
+) -> Result<(), OutOfMemory> {
+    let input = joined(alloc, staged.service, staged.script)?;
+    let out = listed(alloc, staged, places)?;
+    let row = plain(words, input.as_slice(), staged.status, out.as_slice(), b"");
+    holds(rt, alloc, &row)
+}
+
+const STAGED: [Staged; 8] = [
+    BALANCED,
+    DRAINED,
+    LOADED,
+    UNMOVED,
+    TRAPPED_FIRST,
+    TRAPPED_LAST,
+    CREATED,
+    EMPTY,
+];
+
 #[test]
 fn policies_move_contexts(rt: HostRuntime) -> Result<(), Fail> {
     let alloc = rt.alloc();
-    for staged in [
-        BALANCED,
-        DRAINED,
-        LOADED,
-        UNMOVED,
-        TRAPPED_FIRST,
-        TRAPPED_LAST,
-        CREATED,
-        EMPTY,
-    ] {
-        let input = joined(alloc, staged.service, staged.script)?;
-        let alone = listed(alloc, &staged, b"")?;
-        let placed = listed(alloc, &staged, staged.places)?;
-        for (unlisted, with_places) in ENGINES {
-            let row = plain(
-                unlisted,
-                input.as_slice(),
-                staged.status,
-                alone.as_slice(),
-                b"",
-            );
-            holds(&rt, alloc, &row)?;
-            let row = plain(
-                with_places,
-                input.as_slice(),
-                staged.status,
-                placed.as_slice(),
-                b"",
-            );
-            holds(&rt, alloc, &row)?;
+    for staged in &STAGED {
+        for (unlisted, with_places) in &ENGINES {
+            lists(&rt, alloc, unlisted, staged, b"")?;
+            lists(&rt, alloc, with_places, staged, staged.places)?;
         }
     }
     Ok(())
@@ -303,6 +302,27 @@ fn is_refused<R: Abort + Threads + Wait + Sync>(
     all_hold(rt, alloc, &[refuses(MARKET, script, note)])
 }
 
+// 3,999 event lines, and then these lines.
+fn behind_3999(alloc: Global, lines: &[u8]) -> Result<Vec<u8>, OutOfMemory> {
+    let mut script = Vec::new(alloc);
+    for _ in 0..3999 {
+        script.extend_from_slice(b"snapshot\n")?;
+    }
+    script.extend_from_slice(lines)?;
+    Ok(script)
+}
+
+// A policy is an event line, and what is asked of its place and its number comes behind.
+#[test]
+fn policies_are_counted(rt: HostRuntime) -> Result<(), Fail> {
+    let alloc = rt.alloc();
+    let late = behind_3999(alloc, b"snapshot\nbalance by 0\n")?;
+    is_refused(&rt, alloc, late.as_slice(), b"S8 TooMany line 4001\n")?;
+    let counted = behind_3999(alloc, b"settle\nbalance by 1\nsnapshot\n")?;
+    is_refused(&rt, alloc, counted.as_slice(), b"S8 TooMany line 4002\n")?;
+    Ok(())
+}
+
 #[test]
 fn policies_are_refused_in_order(rt: HostRuntime) -> Result<(), Fail> {
     let alloc = rt.alloc();
@@ -314,17 +334,6 @@ fn policies_are_refused_in_order(rt: HostRuntime) -> Result<(), Fail> {
         };
         all_hold(&rt, alloc, &[case, run])?;
     }
-    // a policy is an event line, and what is asked of its place and its number comes behind
-    let mut many = Vec::new(alloc);
-    for _ in 0..3999 {
-        many.extend_from_slice(b"snapshot\n")?;
-    }
-    let mut late = many.clone()?;
-    late.extend_from_slice(b"snapshot\nbalance by 0\n")?;
-    let mut counted = many;
-    counted.extend_from_slice(b"settle\nbalance by 1\nsnapshot\n")?;
-    is_refused(&rt, alloc, late.as_slice(), b"S8 TooMany line 4001\n")?;
-    is_refused(&rt, alloc, counted.as_slice(), b"S8 TooMany line 4002\n")?;
     // no other command knows them
     let unknown = refuses(MARKET, b"balance by 1\n", b"S1 UnknownCommand line 1\n");
     for words in ["trace", "save"] {

@@ -5,12 +5,12 @@ use Rattle.wave_labels.specs.declared.label.Label.{Label}
 use Rattle.wave_labels.specs.Labels.{label_of}
 use Rattle.wave_states.specs.Steps.{step}
 use Rattle.plan_actors.specs.PlanActors.{plan_actors}
-use Rattle.wave_machine.specs.Machines.{TheState}
-use Rattle.wave_machine.specs.Prepared.{is_start, is_step}
+use Rattle.wave_effects.specs.Machines.{TheState}
+use Rattle.wave_effects.specs.Acts.{is_start, is_step}
 use Rattle.wave_board.specs.declared.board.Board.{Board}
 use Rattle.wave_board.specs.Boards.{InEachState, IsStanding}
-use Rattle.wave_board.specs.declared.work.Work.{Work}
-use Rattle.wave_board.specs.declared.work.Work.TheVariants.{Stepped, Segment}
+use Rattle.wave_board.specs.declared.turn.Turn.{Turn}
+use Rattle.wave_board.specs.declared.turn.Turn.TheVariants.{Stepped, Segment}
 use Rattle.wave_board.specs.Taking.{HasNothing, IsAppended, IsLeased}
 
 -- the label is enabled in a state
@@ -35,7 +35,7 @@ Chooses b worker None = InEachState b (HasNothing b worker)
 Chooses b worker (Some l) = IsChoice b worker l
 
 -- the label was appended, and this is given for it: a segment for a Start, else the label
-abbrev pub Appends : Board → Label → Board → Work → Type 0
+abbrev pub Appends : Board → Label → Board → Turn → Type 0
 Appends b l b' (Stepped m) = IsAppended b b' l × (m ≡ l) × (is_step l.act ≡ true)
 Appends b l b' (Segment lease) = IsAppended b b' l × IsLeased b b' l lease
 Appends b l b' _ = ⊥

@@ -1,7 +1,7 @@
 -- Workers that have given back what they got.
 use Rattle.std.specs.Prelude.{◌≡◌, ℕ, None}
 use Rattle.kept_lock.specs.History.{entries_of}
-use Rattle.wave_machine.specs.Machines.{TheState}
+use Rattle.wave_effects.specs.Machines.{TheState}
 use Rattle.wave_board.specs.declared.board.Board.{Board}
 use Rattle.wave_board.specs.declared.origin.Origin.{Origin}
 use Rattle.wave_board.specs.Boards.{IsAt, history_of, owner_of}

@@ -1,5 +1,5 @@
 -- What is asked for, read off what is kept of the head, the cells, the stores and the hands; and its order.
-use Rattle.std.specs.Prelude.{◌≡◌, ◌≤◌, ◌<◌, ◌+◌, ◌^◌, ◌&&◌, ◌==◌, ℕ, suc, Bool, true, false, if◌then◌else◌, List, [], ◌∷◌, ◌++◌, flat_map, filter, length, position, Option, Some, None, is_some, option_map, slice_get}
+use Rattle.std.specs.Prelude.{◌+◌, ◌&&◌, ◌==◌, ℕ, suc, Bool, false, if◌then◌else◌, List, [], ◌∷◌, ◌++◌, flat_map, filter, length, Option, Some, None, option_map, slice_get}
 use Rattle.std.specs.FinMap as table
 use Rattle.wave_base.specs.declared.path.Path.{Path}
 use Rattle.wave_base.specs.Fold.{tickets_from}
@@ -10,7 +10,7 @@ use Rattle.head_tickets.specs.Heads.{Heading, next_ticket}
 use Rattle.commit_order.specs.Commits.{Committing, ready_result}
 use Rattle.context_queue.specs.declared.entry.Entry.{Entry}
 use Rattle.context_queue.specs.Entries.{entry_of, next_in}
-use Rattle.host_map.specs.Stores.{Stores, column_of, has}
+use Rattle.host_map.specs.Stores.{Stores, column_of}
 use Rattle.migration_core.specs.declared.mail.Letter.{Letter}
 use Rattle.migration_core.specs.declared.mail.Letter.TheVariants as letter
 use Rattle.event_cells.specs.declared.cell.Cell.{Cell}
@@ -23,9 +23,10 @@ use Rattle.wave_states.specs.Labels.{Act, Label, Admit, Queue, Grant, Visit, Sta
 use Rattle.wave_states.specs.States.{Claim}
 use Rattle.wave_states.specs.Steps.{Route, Deliver, Born, Wait, Forward, route}
 use Rattle.wave_theory.specs.Listed.{kind_of}
-use Rattle.wave_machine.specs.declared.actor.Actor.{Actor}
-use Rattle.wave_machine.specs.declared.kept.Out.{Out}
-use Rattle.wave_machine.specs.Machines.{Kept}
+use Rattle.wave_effects.specs.declared.actor.Actor.{Actor}
+use Rattle.wave_effects.specs.declared.kept.Out.{Out}
+use Rattle.wave_effects.specs.Keeping.{place_in}
+use Rattle.wave_effects.specs.Machines.{Kept}
 
 -- one that may be there, as the theory has it
 abbrev pub labels_in : Option program.Label → List Label
@@ -96,10 +97,6 @@ module _ (stores : List Stores) where
   abbrev pub mails_labels : ℕ → ℕ → Sending → List Label
   mails_labels w t o = flat_map (λ k. mail_labels w t k (mail_in o.mails k)) (tickets_from 1 o.sent)
 
-  -- the host that has a context
-  abbrev pub place_in : Path → Option ℕ
-  place_in p = position (has p) stores
-
   abbrev pub grant_labels : ℕ → ℕ → Path → Option ℕ → List Label
   grant_labels w t p None = []
   grant_labels w t p (Some h) = if is_next t p (slice_get stores h) then record { worker = w; host = h; act = Grant t p } ∷ [] else []
@@ -110,8 +107,8 @@ module _ (stores : List Stores) where
 
   -- what an idle worker can do by a status
   abbrev pub status_labels : ℕ → ℕ → Status → List Label
-  status_labels w t (Waiting p) = grant_labels w t p (place_in p)
-  status_labels w t (Ready p) = start_labels w t p (place_in p)
+  status_labels w t (Waiting p) = grant_labels w t p (place_in stores p)
+  status_labels w t (Ready p) = start_labels w t p (place_in stores p)
   status_labels w t _ = []
 
   module _ (hands : List (Option Out)) where
@@ -121,7 +118,7 @@ module _ (stores : List Stores) where
     stop_labels ws t p (Some h) = flat_map (λ w. stop_if (runs_out (slice_get hands w) t p) w h t p) ws
 
     abbrev pub stops_labels : List ℕ → ℕ → Status → List Label
-    stops_labels ws t (Running p) = stop_labels ws t p (place_in p)
+    stops_labels ws t (Running p) = stop_labels ws t p (place_in stores p)
     stops_labels ws t _ = []
 
     -- what a ticket's status and mails ask for; one that is done is passed by
@@ -149,16 +146,3 @@ of_kind k ls = filter (λ l. kind_of l.act == k) ls
 
 abbrev pub in_order : List Label → List Label
 in_order ls = flat_map (λ k. of_kind k ls) (tickets_from 0 10)
-
--- no mail has the number 0, or one past those that were sent
-pub record IsNumbered (o : Sending) : Type 0 where
-  pub from_one : mail_in o.mails 0 ≡ None
-  pub below : (k : ℕ) → o.sent < k → mail_in o.mails k ≡ None
-
--- what is kept is of a size that can be listed
-pub record IsListable (m : Kept) : Type 0 where
-  pub few_stores : length m.stores ≤ 8
-  pub few_hands : length m.hands ≤ 16
-  pub tickets : m.first + length m.cells ≤ 2 ^ 32
-  pub commits : is_some (ready_result m.commits) ≡ true → m.first + length m.settled.results < 2 ^ 32
-  pub numbered : (i : ℕ) (c : Cell Actor) → slice_get m.cells i ≡ Some c → IsNumbered c.outbox

@@ -5,9 +5,9 @@ use Rattle.event_cells.specs.declared.cell.Cell.{Cell}
 use Rattle.wave_states.specs.Labels.{Label}
 use Rattle.wave_states.specs.Steps.{step}
 use Rattle.plan_actors.specs.PlanActors.{plan_actors}
-use Rattle.wave_machine.specs.declared.actor.Actor.{Actor}
-use Rattle.wave_machine.specs.Ending.{is_done}
-use Rattle.wave_machine.specs.Machines.{Kept, Stands, TheState}
+use Rattle.wave_effects.specs.declared.actor.Actor.{Actor}
+use Rattle.wave_effects.specs.Ending.{is_done}
+use Rattle.wave_effects.specs.Machines.{Kept, Stands, TheState}
 
 -- so many of the first cells are done
 pub record AreDone (m : Kept) (n : ℕ) : Type 0 where

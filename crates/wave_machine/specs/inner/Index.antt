@@ -15,16 +15,17 @@ use Rattle.event_cells.specs.Keeps.{mail_in}
 use Rattle.host_map.specs.Stores.{Stores, has}
 use Rattle.wave_states.specs.Labels.{Act, Label, Admit, Queue, Visit, Free, Pass, Land, Commit, path_of, ticket_of}
 use Rattle.wave_theory.specs.Listed.{IsIn, kind_of}
-use Rattle.wave_machine.specs.declared.actor.Actor.{Actor}
+use Rattle.wave_effects.specs.declared.actor.Actor.{Actor}
 use Rattle.wave_machine.specs.declared.listed.Listed.{Listed}
 use Rattle.wave_machine.specs.declared.listed.Seen.{Seen}
-use Rattle.wave_machine.specs.declared.prepared.Prepared.{Prepared}
+use Rattle.wave_effects.specs.declared.prepared.Prepared.{Prepared}
 use Rattle.wave_machine.specs.declared.ready.Ready.{Ready}
-use Rattle.wave_machine.specs.Ending.{is_done}
-use Rattle.wave_machine.specs.Keeping.{kept_of}
-use Rattle.wave_machine.specs.Machines.{Kept, Stands, TheState}
-use Rattle.wave_machine.specs.inner.Apart.{Moves, grown}
-use Rattle.wave_machine.specs.inner.Asking.{IsNumbered, admit_labels, commit_labels, in_order, label_at, mail_labels, mails_labels, status_labels}
+use Rattle.wave_effects.specs.Ending.{is_done}
+use Rattle.wave_effects.specs.Keeping.{kept_of}
+use Rattle.wave_effects.specs.Machines.{Kept, Stands, TheState}
+use Rattle.wave_effects.specs.Apart.{Moves, grown}
+use Rattle.wave_effects.specs.Sized.{IsNumbered}
+use Rattle.wave_machine.specs.inner.Asking.{admit_labels, commit_labels, in_order, label_at, mail_labels, mails_labels, status_labels}
 use Rattle.wave_machine.specs.inner.Done.{AreDone}
 
 -- as worker 0 takes it

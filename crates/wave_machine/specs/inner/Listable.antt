@@ -8,7 +8,7 @@ use Rattle.wave_theory.specs.Hands.{Stoppable}
 use Rattle.wave_theory.specs.Owners.{OneOwner}
 use Rattle.plan_actors.specs.PlanActors.{plan_actors, plan_kind}
 use Rattle.plan_actors.specs.Plans.{Plan, begin_in}
-use Rattle.wave_machine.specs.Machines.{Known, TheState}
+use Rattle.wave_effects.specs.Machines.{Known, TheState}
 
 -- What there is to do can be done, a segment that is out can be stopped, and no context has two owners; the state keeps within its
 -- bounds and its parts agree, and so it is after one label more.

@@ -8,8 +8,8 @@ use Rattle.wave_theory.specs.Listed.{ListedFor}
 use Rattle.wave_theory.specs.Owners.{ByOwners}
 use Rattle.plan_actors.specs.PlanActors.{plan_kind}
 use Rattle.plan_actors.specs.Plans.{Plan, begin_in}
-use Rattle.wave_machine.specs.declared.kept.Out.{Out}
-use Rattle.wave_machine.specs.Machines.{TheState}
+use Rattle.wave_effects.specs.declared.kept.Out.{Out}
+use Rattle.wave_effects.specs.Machines.{TheState}
 use Rattle.wave_machine.specs.inner.Index.{has_at}
 
 -- a worker's list has exactly what it can take, and each label is taken by an owner

@@ -1,6 +1,6 @@
 use Rattle.std.proofs.Common.{◌≡◌, ◌≤◌, ◌∙◌, Err, IfOk, Ok, ap, arith, length, subst}
 use Rattle.service_code.specs.declared.program.Program.{Program}
-use Rattle.wave_machine.specs.Plans.{plan_of}
+use Rattle.wave_effects.specs.Plans.{plan_of}
 use Rattle.due_parts.specs.Answers.{written}
 use Rattle.journal_replay.specs.declared.error.ReplayError.TheVariants.{Refused}
 use Rattle.journal_replay.specs.Replays.{IsOnlyOutcome}

@@ -1,5 +1,5 @@
 use Rattle.std.proofs.Common.{sym, subst}
-use Rattle.wave_machine.specs.Plans.{plan_of}
+use Rattle.wave_effects.specs.Plans.{plan_of}
 use Rattle.due_answer.specs.Prepared.{Tells}
 use Rattle.eventwave.specs.inner.Parts.{SomeGave}
 use Rattle.eventwave.proofs.GivingLemmas.{rose_later}

@@ -1,6 +1,6 @@
 use Rattle.std.proofs.Common.{◌∙◌, map, subst, sym}
 use Rattle.wave_labels.specs.Labels.{label_of}
-use Rattle.wave_machine.specs.Plans.{plan_of}
+use Rattle.wave_effects.specs.Plans.{plan_of}
 use Rattle.due_parts.specs.Runs.{IsDriveBy}
 use Rattle.due_parts.proofs.RunLemmas.{drive_finished}
 use Rattle.eventwave.proofs.engines.drive.Goals as goal

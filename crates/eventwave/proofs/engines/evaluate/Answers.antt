@@ -1,7 +1,7 @@
 use Rattle.std.proofs.Common.{◌∙◌, ap, sym}
 use Rattle.service_code.specs.declared.program.Program.{Program}
 use Rattle.wave_meaning.specs.Meaning.{results_at}
-use Rattle.wave_machine.specs.Plans.{plan_of}
+use Rattle.wave_effects.specs.Plans.{plan_of}
 use Rattle.eventwave.proofs.MadeLemmas.{evaluated}
 use Rattle.eventwave.proofs.engines.evaluate.Goals as goal
 

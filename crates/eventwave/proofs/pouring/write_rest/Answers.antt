@@ -2,7 +2,7 @@ use Rattle.std.proofs.Common.{◌≡◌, All, ap, subst, sym}
 use Rattle.service_code.specs.declared.program.Program.{Program}
 use Rattle.wave_io.proofs.HeldLemmas.{err_by}
 use Rattle.wave_labels.specs.declared.label.Label.{Label}
-use Rattle.wave_machine.specs.Plans.{plan_of}
+use Rattle.wave_effects.specs.Plans.{plan_of}
 use Rattle.journal_text.specs.Fits.{HasPath}
 use Rattle.listing_out.proofs.SinkLemmas.{on_err}
 use Rattle.eventwave.specs.inner.Pouring.{IsPoured}

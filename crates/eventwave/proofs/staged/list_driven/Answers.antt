@@ -1,6 +1,6 @@
 use Rattle.std.proofs.Common.{◌≡◌, ◌∙◌, ap, arith, refl, subst, sym}
 use Rattle.service_code.specs.declared.program.Program.{Program}
-use Rattle.wave_machine.specs.Plans.{plan_of}
+use Rattle.wave_effects.specs.Plans.{plan_of}
 use Rattle.listing_out.proofs.SinkLemmas.{on_err}
 use Rattle.eventwave.specs.inner.Engines.{IsMade}
 use Rattle.eventwave.proofs.StageLemmas.{can_make_it, come_front, end_front, end_status, end_whole, fewer_turns, has_begun, has_come, its_workers, may_follow, next_piece, piece_front, some_ticket, status_is}

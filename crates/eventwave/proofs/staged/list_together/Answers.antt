@@ -1,6 +1,6 @@
 use Rattle.std.proofs.Common.{◌≡◌, ◌∙◌, ap, arith, refl, subst, sym}
 use Rattle.service_code.specs.declared.program.Program.{Program}
-use Rattle.wave_machine.specs.Plans.{plan_of}
+use Rattle.wave_effects.specs.Plans.{plan_of}
 use Rattle.listing_out.proofs.SinkLemmas.{on_err}
 use Rattle.due_answer.specs.Tasks.{workers_of}
 use Rattle.eventwave.specs.inner.Engines.{IsMade}

@@ -1,5 +1,5 @@
 use Rattle.std.proofs.Common.{◌≡◌, ◌∙◌, true, false, subst, sym}
-use Rattle.wave_machine.specs.Plans.{plan_of}
+use Rattle.wave_effects.specs.Plans.{plan_of}
 use Rattle.due_answer.specs.Prepared.{Tells}
 use Rattle.due_answer.specs.Tasks.{workers_of}
 use Rattle.eventwave.specs.inner.Engines.{IsMade}

@@ -1,6 +1,6 @@
 use Rattle.std.proofs.Common.{ap, arith}
 use Rattle.kept_lock.specs.Locks.{name_of, known}
-use Rattle.wave_machine.specs.declared.plan.Plan.{Plan}
+use Rattle.wave_effects.specs.declared.plan.Plan.{Plan}
 use Rattle.host_workers.proofs.Teams.{next_ready, split_counts, split_ready}
 use Rattle.host_workers.proofs.team.helpers_of.Goals as goal
 

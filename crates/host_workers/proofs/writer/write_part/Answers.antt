@@ -2,7 +2,7 @@ use Rattle.std.proofs.Common.{◌∙◌, ◌+◌, Err, ap, arith, sym}
 use Rattle.wave_base.specs.declared.numbers.Ticket.{Ticket}
 use Rattle.kept_lock.specs.Locks.{name_of, known}
 use Rattle.service_code.specs.declared.program.Program.{Program}
-use Rattle.wave_machine.specs.declared.plan.Plan.{Plan}
+use Rattle.wave_effects.specs.declared.plan.Plan.{Plan}
 use Rattle.host_workers.proofs.Rounding.{is_calm}
 use Rattle.host_workers.proofs.Writing.{no_memory, part_broke, part_written, sink_failed}
 use Rattle.host_workers.proofs.writer.write_part.Goals as goal

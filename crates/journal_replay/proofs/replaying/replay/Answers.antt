@@ -1,5 +1,5 @@
 use Rattle.std.proofs.Common.{Ok, subst}
-use Rattle.wave_machine.specs.Plans.{plan_of}
+use Rattle.wave_effects.specs.Plans.{plan_of}
 use Rattle.journal_replay.specs.Replays.{IsOnlyOutcome}
 use Rattle.journal_replay.specs.inner.Walks.{StopsIn}
 use Rattle.journal_replay.proofs.Unique.{only_stop}

@@ -5,7 +5,7 @@ use Rattle.wave_base.specs.Starts.{first_start}
 use Rattle.wave_states.specs.Runs.{Finished}
 use Rattle.plan_actors.specs.PlanActors.{plan_actors}
 use Rattle.plan_actors.specs.Plans.{Plan}
-use Rattle.wave_machine.specs.Plans.{plan_of}
+use Rattle.wave_effects.specs.Plans.{plan_of}
 use Rattle.journal_replay.specs.declared.replaying.Replayed.{Replayed}
 use Rattle.journal_replay.specs.Replays.{IsReplay, LeadsTo}
 use Rattle.journal_replay.specs.inner.Walks.{IsWalking}
@@ -19,8 +19,8 @@ returns-clause-only c =
     let journal = c.args.journal.now in
     let count = length journal in
     let shown = c.min-shown.result in
-    let seen : IsWalking p (take shown journal) c.go.new.self = c.in_ok-go.ensures.walking in
-    let done : IsWalking p (take count journal) c.go-2.new.self = c.in_ok-go-2.ensures.walking in
+    let seen : IsWalking p (take shown journal) c.go.new.walk = c.in_ok-go.ensures.walking in
+    let done : IsWalking p (take count journal) c.go-2.new.walk = c.in_ok-go-2.ensures.walking in
     let r : Replayed = record { steps = count; finished = c.finished.result; shown = shown; glance = c.in_ok-glance.glance } in
     let whole : LeadsTo p journal done.state = subst (λ ls. LeadsTo p ls done.state) (take-length journal) done.run in
     let ended = subst (λ (q : Plan). IsTrue c.finished.result ↔ Finished (plan_actors q.program) q.workers done.state) done.same (c.finished.ensures start done.state done.under.stands) in
@@ -34,4 +34,4 @@ returns-clause-only c =
       seen = seen.run;
       glance = c.in_ok-glance.ensures start seen.state seen.under.stands;
     } in
-    (h, replay_is_one p journal c.args.show r h (c.contexts_have_owners.ensures.one c.go.new.self.machine.kept start seen.state seen.under.stands).one)
+    (h, replay_is_one p journal c.args.show r h (c.contexts_have_owners.ensures.one c.go.new.walk.machine.kept start seen.state seen.under.stands).one)

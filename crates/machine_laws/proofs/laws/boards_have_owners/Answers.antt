@@ -1,6 +1,6 @@
 use Rattle.std.proofs.Common.{subst}
 use Rattle.plan_actors.specs.Plans.{Plan, Fits, FitsStart}
-use Rattle.wave_machine.specs.Machines.{IsReached}
+use Rattle.wave_effects.specs.Machines.{IsReached}
 use Rattle.wave_board.specs.Always.{the_plan}
 use Rattle.wave_board.specs.Boards.{labels_of}
 use Rattle.machine_laws.proofs.laws.boards_have_owners.Goals as goal

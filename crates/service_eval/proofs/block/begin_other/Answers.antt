@@ -3,7 +3,7 @@ use Rattle.resolved_service.specs.Steps as s
 use Rattle.resolved_service.specs.Steps.{action_step, step_of, steps_in, else_in}
 use Rattle.resolved_service.specs.View.{tree_of, trees_of}
 use Rattle.service_eval.specs.inner.Items as i
-use Rattle.service_eval.specs.inner.Items.{Eval, Evals, Block, Begin, Finish, Turns, Counts}
+use Rattle.service_eval.specs.inner.Items.{Eval, Evals, Block, Begin, Finish, Turns, Counts, else_steps}
 use Rattle.service_eval.specs.inner.Machines.{on_top, comes_to}
 use Rattle.service_eval.specs.inner.Turns.{mach, IsNext, Goes}
 use Rattle.resolved_service.specs.Fits.{FitsSteps, FitsElse}

@@ -2,7 +2,7 @@ use Rattle.std.proofs.Common.{subst}
 use Rattle.wave_states.specs.Runs.{Finished}
 use Rattle.plan_actors.specs.PlanActors.{plan_actors}
 use Rattle.plan_actors.specs.Plans.{Plan, Fits, FitsStart}
-use Rattle.wave_machine.specs.Machines.{IsReached}
+use Rattle.wave_effects.specs.Machines.{IsReached}
 use Rattle.wave_board.specs.Always.{the_plan}
 use Rattle.wave_board.specs.Boards.{labels_of}
 use Rattle.wave_board.proofs.always.journals_are_short.Goals as goal

@@ -8,7 +8,7 @@ use Rattle.plan_actors.specs.Plans.{Plan, Setting, Fits, FitsStart, begin_in}
 use Rattle.plan_actors.proofs.Meeting.{plan_fits, begin_fits}
 use Rattle.plan_actors.proofs.Owing.{setting_of}
 use Rattle.wave_theory.proofs.Basics.{none_not}
-use Rattle.wave_machine.specs.Machines.{IsReached}
+use Rattle.wave_effects.specs.Machines.{IsReached}
 use Rattle.wave_board.specs.Always.{the_plan}
 use Rattle.wave_board.specs.Boards.{labels_of}
 use Rattle.wave_board.proofs.Segments.{not_enabled, some_out}

@@ -1,5 +1,5 @@
 use Rattle.plan_actors.proofs.Owing.{setting_of}
-use Rattle.wave_machine.specs.Plans.{plan_of}
+use Rattle.wave_effects.specs.Plans.{plan_of}
 use Rattle.std.proofs.Common.{subst}
 use Rattle.plan_actors.specs.Plans.{Fits}
 use Rattle.wave_board.proofs.Staying.{hand_stays}

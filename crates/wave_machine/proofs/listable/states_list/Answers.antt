@@ -8,9 +8,9 @@ use Rattle.plan_actors.specs.PlanActors.{plan_actors, plan_kind}
 use Rattle.plan_actors.specs.Plans.{Plan, Fits, FitsStart, Setting, begin_in}
 use Rattle.plan_actors.proofs.Meeting.{plan_fits, begin_fits}
 use Rattle.plan_actors.proofs.Owing.{setting_of}
-use Rattle.wave_machine.specs.Machines.{TheState}
+use Rattle.wave_effects.specs.Machines.{TheState}
 use Rattle.wave_machine.specs.inner.Listable.{CanList}
-use Rattle.wave_machine.proofs.Taking.{run_more}
+use Rattle.wave_effects.proofs.Taking.{run_more}
 use Rattle.wave_machine.proofs.Widened.{run_wider, with_workers}
 use Rattle.wave_machine.proofs.listable.states_list.Goals as goal
 

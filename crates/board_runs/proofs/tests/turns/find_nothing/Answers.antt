@@ -2,7 +2,7 @@ use Rattle.std.proofs.Common.{◌<◌, ◌≡◌, inl, inr, nat_eq, false, subst
 use Rattle.wave_theory.proofs.Basics.{number_cases}
 use Rattle.plan_actors.specs.Plans.{Fits}
 use Rattle.plan_actors.proofs.Owing.{setting_of}
-use Rattle.wave_machine.specs.Plans.{plan_of}
+use Rattle.wave_effects.specs.Plans.{plan_of}
 use Rattle.wave_board.specs.Taking.{Took}
 use Rattle.board_runs.proofs.Turning.{other_may_take, out_same, standing}
 use Rattle.board_runs.proofs.tests.turns.find_nothing.Goals as goal

@@ -1,7 +1,7 @@
 use Rattle.std.proofs.Common.{subst}
 use Rattle.plan_actors.specs.Plans.{Fits}
 use Rattle.plan_actors.proofs.Owing.{setting_of}
-use Rattle.wave_machine.specs.Plans.{plan_of}
+use Rattle.wave_effects.specs.Plans.{plan_of}
 use Rattle.board_runs.proofs.Turning.{can_give, given_back, refused}
 use Rattle.board_runs.proofs.tests.turns.give.Goals as goal
 

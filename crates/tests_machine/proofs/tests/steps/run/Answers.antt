@@ -5,9 +5,9 @@ use Rattle.wave_states.specs.States.{Hand}
 use Rattle.code_actor.specs.CodeActors.{Fields}
 use Rattle.plan_actors.specs.PlanActors as actors
 use Rattle.plan_actors.specs.Plans.{Plan}
-use Rattle.wave_machine.specs.Actors.{MayRun}
-use Rattle.wave_machine.specs.Leases.{HasRun, StandsFor}
-use Rattle.wave_machine.proofs.Driven.{keeps_enabled}
+use Rattle.wave_effects.specs.Actors.{MayRun}
+use Rattle.wave_effects.specs.Leases.{HasRun, StandsFor}
+use Rattle.wave_drives.proofs.Driven.{keeps_enabled}
 use Rattle.tests_machine.proofs.Stepping.{is_stopping}
 use Rattle.tests_machine.proofs.tests.steps.run.Goals as goal
 

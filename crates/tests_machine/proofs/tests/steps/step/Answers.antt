@@ -1,5 +1,5 @@
 use Rattle.wave_labels.specs.Labels.{label_of}
-use Rattle.wave_machine.proofs.Driven.{keeps_enabled}
+use Rattle.wave_drives.proofs.Driven.{keeps_enabled}
 use Rattle.tests_machine.proofs.tests.steps.step.Goals as goal
 
 pub step-requires-clause-enabled : goal.step-requires-clause-enabled

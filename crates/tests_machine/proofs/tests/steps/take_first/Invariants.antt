@@ -1,5 +1,5 @@
 use Rattle.std.specs.Prelude.{◌≡◌}
-use Rattle.wave_machine.specs.Plans.{plan_of}
+use Rattle.wave_effects.specs.Plans.{plan_of}
 use Rattle.tests_machine.proofs.tests.steps.take_first.Given as goal
 
 abbrev pub invariant-loop-turn : goal.invariant-loop-turn

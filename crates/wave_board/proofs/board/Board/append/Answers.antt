@@ -1,7 +1,7 @@
 use Rattle.std.proofs.Common.{◌≡◌, ◌∙◌, ◌∷◌, ◌++◌, [], true, refl, ap, sym}
 use Rattle.wave_base.specs.declared.numbers.Worker.{Worker}
 use Rattle.wave_labels.specs.Labels.{label_of}
-use Rattle.wave_machine.specs.Prepared.{is_start}
+use Rattle.wave_effects.specs.Acts.{is_start}
 use Rattle.wave_board.specs.declared.board.Board.{Board}
 use Rattle.wave_board.proofs.Standing.{enabled_in, enabled_still, history_more, leased, leased_start, leases_still, still, taken, takes_still}
 use Rattle.wave_board.proofs.board.Board.append.Goals as goal

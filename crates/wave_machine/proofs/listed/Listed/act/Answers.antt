@@ -1,13 +1,13 @@
 use Rattle.std.proofs.Common.{◌∙◌, sym, ap, subst}
 use Rattle.wave_labels.specs.Labels.{label_of}
 use Rattle.wave_states.specs.Labels.{path_of}
-use Rattle.wave_machine.specs.declared.engine.Engine.{Engine}
-use Rattle.wave_machine.specs.Keeping.{kept_of}
-use Rattle.wave_machine.specs.Machines.{Takes}
+use Rattle.wave_effects.specs.declared.engine.Engine.{Engine}
+use Rattle.wave_effects.specs.Keeping.{kept_of}
+use Rattle.wave_effects.specs.Machines.{Takes}
 use Rattle.wave_machine.specs.inner.Index.{Sees}
 use Rattle.wave_machine.proofs.Grows.{admit_grows}
 use Rattle.wave_machine.proofs.KeptMails.{mails_taken, numbered_stood}
-use Rattle.wave_machine.proofs.Labelled.{stood_after}
+use Rattle.wave_effects.proofs.Labelled.{stood_after}
 use Rattle.wave_machine.proofs.Untouched.{taken_done}
 use Rattle.wave_machine.proofs.listed.Listed.act.Goals as goal
 

@@ -3,7 +3,7 @@ use Rattle.std.specs.Prelude.{◌↔◌, IsTrue, List, option_map, slice_get}
 use Rattle.wave_labels.specs.Labels.{act_of, label_of}
 use Rattle.wave_theory.specs.Listed.{IsIn}
 use Rattle.wave_machine.specs.declared.ready.Ready.{Ready}
-use Rattle.wave_machine.specs.Keeping.{kept_of}
+use Rattle.wave_effects.specs.Keeping.{kept_of}
 use Rattle.wave_machine.proofs.Halves.{InOrder}
 use Rattle.wave_machine.proofs.Offered.{busy_can, idle_can, idle_order, nobody_can}
 use Rattle.wave_machine.proofs.listed.Listed.can_take.Goals as goal
@@ -15,7 +15,7 @@ returns-in-Some-Some c = λ start s stands.
     let list = c.states_list.ensures.can m.plan start stands.labels s stands.fits stands.begins stands.reached in
     let take = c.states_take.ensures m.plan start stands.labels s stands.fits stands.begins stands.reached in
     let can = busy_can m start s stands.shows list take l.worker.0 l.host.0 c.in-Some-Some.out (sym c.in-Some-Some.ensures ∙ ap Some c.in-Some-Some.field-0-is) (act_of l.act) in
-    (λ e. can.0 (sym c.stops.ensures ∙ e), λ e. c.stops.ensures ∙ can.1 e)
+    (λ e. can.0 (sym c.is_stop_of.ensures ∙ e), λ e. c.is_stop_of.ensures ∙ can.1 e)
 
 pub returns-in-Some-None : goal.returns-in-Some-None
 returns-in-Some-None c = λ start s stands.

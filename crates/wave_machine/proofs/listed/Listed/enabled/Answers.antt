@@ -1,11 +1,11 @@
 use Rattle.std.proofs.Common.{◌∙◌, ◌-◌, ap, position, is_none, List, Option, ℕ}
 use Rattle.wave_base.specs.Fold.{tickets_from}
-use Rattle.wave_machine.specs.Keeping.{kept_of}
-use Rattle.wave_machine.specs.declared.kept.Out.{Out}
+use Rattle.wave_effects.specs.Keeping.{kept_of}
+use Rattle.wave_effects.specs.declared.kept.Out.{Out}
 use Rattle.wave_machine.specs.inner.Asking.{asked_in, in_order}
 use Rattle.wave_machine.proofs.ListingAll.{enabled_is}
 use Rattle.wave_machine.proofs.ListingCells.{if_ok}
-use Rattle.wave_machine.proofs.ListingSizes.{listable}
+use Rattle.wave_effects.proofs.Sized.{listable}
 use Rattle.wave_machine.proofs.listed.Listed.enabled.Goals as goal
 
 pub listing-requires-clause-listable : goal.listing-requires-clause-listable

@@ -1,11 +1,11 @@
 use Rattle.std.proofs.Common.{◌∙◌, ◌-◌, ap, map}
 use Rattle.wave_base.specs.Fold.{tickets_from}
 use Rattle.wave_labels.specs.Labels.{label_of}
-use Rattle.wave_machine.specs.Keeping.{kept_of}
+use Rattle.wave_effects.specs.Keeping.{kept_of}
 use Rattle.wave_machine.specs.inner.Asking.{asked_in, in_order}
 use Rattle.wave_machine.proofs.ListingCells.{if_ok}
 use Rattle.wave_machine.proofs.ListingOwn.{own_lists, past_lists}
-use Rattle.wave_machine.proofs.ListingSizes.{listable}
+use Rattle.wave_effects.proofs.Sized.{listable}
 use Rattle.wave_machine.proofs.listed.Listed.enabled_for.Goals as goal
 
 pub listing-requires-clause-listable : goal.listing-requires-clause-listable

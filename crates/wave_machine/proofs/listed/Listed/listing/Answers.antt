@@ -3,7 +3,7 @@ use Rattle.std.specs.Prelude.{option_map}
 use Rattle.wave_base.specs.Fold.{tickets_from}
 use Rattle.wave_labels.specs.declared.label.Label.{Label}
 use Rattle.wave_labels.specs.Labels.{label_of}
-use Rattle.wave_machine.specs.Keeping.{kept_of}
+use Rattle.wave_effects.specs.Keeping.{kept_of}
 use Rattle.wave_machine.specs.inner.Asking.{asked_in}
 use Rattle.wave_machine.specs.inner.Index.{IsIndex}
 use Rattle.wave_machine.proofs.ListingParts.{about_stops, all, listing_is, taken}

@@ -2,8 +2,8 @@ use Rattle.std.proofs.Common.{◌≡◌, ◌∙◌, ◌≤◌, List, [], ◌∷�
 use Rattle.std.specs.Prelude.{flat_map}
 use Rattle.wave_base.specs.Fold.{tickets_from}
 use Rattle.event_cells.specs.declared.cell.Cell.{Cell}
-use Rattle.wave_machine.specs.declared.actor.Actor.{Actor}
-use Rattle.wave_machine.specs.Keeping.{kept_of}
+use Rattle.wave_effects.specs.declared.actor.Actor.{Actor}
+use Rattle.wave_effects.specs.Keeping.{kept_of}
 use Rattle.wave_machine.specs.inner.Asking.{in_order}
 use Rattle.wave_machine.specs.inner.Index.{asked_at, by_none, by_part, head_in, weight_of}
 use Rattle.wave_machine.proofs.Heads.{no_head}

@@ -1,8 +1,8 @@
 use Rattle.std.proofs.Common.{subst}
-use Rattle.wave_machine.specs.declared.engine.Engine.{Engine}
-use Rattle.wave_machine.specs.Keeping.{kept_of}
-use Rattle.wave_machine.specs.Machines.{Keeps}
-use Rattle.wave_machine.specs.inner.Apart.{AsksTheSame}
+use Rattle.wave_effects.specs.declared.engine.Engine.{Engine}
+use Rattle.wave_effects.specs.Keeping.{kept_of}
+use Rattle.wave_effects.specs.Machines.{Keeps}
+use Rattle.wave_effects.specs.Apart.{AsksTheSame}
 use Rattle.wave_machine.proofs.Asked.{listed_same}
 use Rattle.wave_machine.proofs.listed.Listed.prepare.Goals as goal
 

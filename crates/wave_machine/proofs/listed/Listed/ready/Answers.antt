@@ -1,7 +1,7 @@
 use Rattle.std.proofs.Common.{◌∙◌, map, ap}
 use Rattle.wave_states.specs.Canonical.{taken_as}
 use Rattle.wave_machine.specs.declared.ready.Ready.{Ready}
-use Rattle.wave_machine.specs.Keeping.{kept_of}
+use Rattle.wave_effects.specs.Keeping.{kept_of}
 use Rattle.wave_machine.specs.Readies.{choice_of}
 use Rattle.wave_machine.proofs.Bridged.{choices_are, taken_is}
 use Rattle.wave_machine.proofs.listed.Listed.ready.Goals as goal

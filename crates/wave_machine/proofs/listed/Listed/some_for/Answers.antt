@@ -2,7 +2,7 @@ use Rattle.std.proofs.Common.{◌≡◌, ◌∙◌, [], map, sym, ap, subst}
 use Rattle.wave_labels.specs.Labels.{label_of}
 use Rattle.wave_theory.specs.Listed.{IsIn}
 use Rattle.wave_machine.specs.declared.ready.Ready.{Ready}
-use Rattle.wave_machine.specs.Keeping.{kept_of}
+use Rattle.wave_effects.specs.Keeping.{kept_of}
 use Rattle.wave_machine.specs.inner.Index.{by_none}
 use Rattle.wave_machine.proofs.Bridged.{in_mapped, taken_is, with_worker}
 use Rattle.wave_machine.proofs.listed.Listed.some_for.Goals as goal

@@ -1,9 +1,9 @@
 use Rattle.std.proofs.Common.{ℕ, Result, Ok, Err, subst, sym}
 use Rattle.std.specs.Prelude.{IfOk, OnErr}
-use Rattle.wave_machine.specs.declared.engine.Engine.{Engine}
-use Rattle.wave_machine.specs.Keeping.{kept_of}
-use Rattle.wave_machine.specs.Running.{CanStop, Stops}
-use Rattle.wave_machine.specs.inner.Spare.{SameButRooms}
+use Rattle.wave_effects.specs.declared.engine.Engine.{Engine}
+use Rattle.wave_effects.specs.Keeping.{kept_of}
+use Rattle.wave_effects.specs.Running.{CanStop, Stops}
+use Rattle.wave_effects.specs.Spare.{SameButRooms}
 use Rattle.wave_machine.specs.inner.Index.{HasRoom}
 use Rattle.wave_machine.proofs.Asked.{room_same}
 use Rattle.wave_machine.proofs.Roomier.{same_self}

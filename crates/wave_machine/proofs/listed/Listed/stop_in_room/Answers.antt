@@ -1,18 +1,17 @@
 use Rattle.std.proofs.Common.{◌≡◌, ◌∙◌, ◌+◌, ◌-◌, length, refl, sym, ap, subst, arith}
 use Rattle.wave_labels.specs.Labels.{label_of}
 use Rattle.wave_states.specs.Labels.{Label, path_of, ticket_of}
-use Rattle.wave_machine.specs.declared.engine.Engine.{Engine}
-use Rattle.wave_machine.specs.Keeping.{kept_of}
-use Rattle.wave_machine.specs.Running.{Stops, stop_of}
-use Rattle.wave_machine.specs.inner.Apart.{Moves, grown}
-use Rattle.wave_machine.specs.inner.Asking.{place_in}
+use Rattle.wave_effects.specs.declared.engine.Engine.{Engine}
+use Rattle.wave_effects.specs.Keeping.{kept_of, place_in}
+use Rattle.wave_effects.specs.Running.{Stops, stop_of}
+use Rattle.wave_effects.specs.Apart.{Moves, grown}
 use Rattle.wave_machine.specs.inner.Index.{HasRoom, KeepsMails, Sees, held_at, held_by}
 use Rattle.wave_machine.proofs.Asked.{listed_same}
-use Rattle.wave_machine.proofs.Halting.{cell_at}
+use Rattle.wave_effects.proofs.Halting.{cell_at}
 use Rattle.wave_machine.proofs.KeptMails.{mails_stopped, numbered_stood}
-use Rattle.wave_machine.proofs.Labelled.{stood_stopped}
+use Rattle.wave_effects.proofs.Labelled.{stood_stopped}
 use Rattle.wave_machine.proofs.Owned as owned
-use Rattle.wave_machine.proofs.Unasked.{same_asks}
+use Rattle.wave_effects.proofs.Unasked.{same_asks}
 use Rattle.wave_machine.proofs.Untouched.{stopped_done}
 use Rattle.wave_machine.proofs.listed.Listed.stop_in_room.Goals as goal
 

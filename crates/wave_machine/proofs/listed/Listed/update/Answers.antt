@@ -1,9 +1,9 @@
 use Rattle.std.proofs.Common.{◌∙◌, ap, arith}
 use Rattle.wave_labels.specs.Labels.{label_of}
-use Rattle.wave_machine.specs.Keeping.{kept_of}
+use Rattle.wave_effects.specs.Keeping.{kept_of}
 use Rattle.wave_machine.specs.inner.Index.{asked_at, by_part, head_in, share_at}
 use Rattle.wave_machine.proofs.Heads.{head_is}
-use Rattle.wave_machine.proofs.ListingSizes.{listable}
+use Rattle.wave_effects.proofs.Sized.{listable}
 use Rattle.wave_machine.proofs.Updated.{inner_part}
 use Rattle.wave_machine.proofs.Weighed.{weighed}
 use Rattle.wave_machine.proofs.listed.Listed.update.Goals as goal
@@ -12,14 +12,14 @@ pub overflow_sub-self : goal.overflow_sub-self
 overflow_sub-self c =
     let u = c.requires in
     let l = label_of c.args.label.now in
-    let w = weighed u.0 c.args.self.now l c.args.seen u.1 c.share-share.result u.2 (c.share-share.ensures ∙ ap (share_at (kept_of c.args.self.now.engine)) c.ticket_of.ensures) in
+    let w = weighed u.0 c.args.self.now l c.args.seen u.1 c.share_at-share.result u.2 (c.share_at-share.ensures ∙ ap (share_at (kept_of c.args.self.now.engine)) c.ticket_of.ensures) in
     w.part
 
 pub overflow_add-self : goal.overflow_add-self
 overflow_add-self c =
     let u = c.requires in
     let l = label_of c.args.label.now in
-    let w = weighed u.0 c.args.self.now l c.args.seen u.1 c.share-share.result u.2 (c.share-share.ensures ∙ ap (share_at (kept_of c.args.self.now.engine)) c.ticket_of.ensures) in
+    let w = weighed u.0 c.args.self.now l c.args.seen u.1 c.share_at-share.result u.2 (c.share_at-share.ensures ∙ ap (share_at (kept_of c.args.self.now.engine)) c.ticket_of.ensures) in
     let bound = w.bound in
     let fits = (u.2).room.fits in
     omega (arith, bound, fits)
@@ -40,7 +40,7 @@ pub relist_after-requires-clause-room : goal.relist_after-requires-clause-room
 relist_after-requires-clause-room c =
     let u = c.requires in
     let l = label_of c.args.label.now in
-    let w = weighed u.0 c.args.self.now l c.args.seen u.1 c.share-share.result u.2 (c.share-share.ensures ∙ ap (share_at (kept_of c.args.self.now.engine)) c.ticket_of.ensures) in
+    let w = weighed u.0 c.args.self.now l c.args.seen u.1 c.share_at-share.result u.2 (c.share_at-share.ensures ∙ ap (share_at (kept_of c.args.self.now.engine)) c.ticket_of.ensures) in
     let small = w.small in
     let room = (u.2).room.room in
     omega (arith, small, room)
@@ -55,7 +55,7 @@ pub relist_head-requires-clause-room : goal.relist_head-requires-clause-room
 relist_head-requires-clause-room c =
     let u = c.requires in
     let l = label_of c.args.label.now in
-    let w = weighed u.0 c.args.self.now l c.args.seen u.1 c.share-share.result u.2 (c.share-share.ensures ∙ ap (share_at (kept_of c.args.self.now.engine)) c.ticket_of.ensures) in
+    let w = weighed u.0 c.args.self.now l c.args.seen u.1 c.share_at-share.result u.2 (c.share_at-share.ensures ∙ ap (share_at (kept_of c.args.self.now.engine)) c.ticket_of.ensures) in
     let small = w.small in
     let room = (u.2).room.room in
     omega (arith, small, room, c.relist_after.ensures.len, c.relist_after.ensures.capacity)
@@ -65,7 +65,7 @@ returns-clause-listed c =
     let u = c.requires in
     let m' = kept_of c.args.self.now.engine in
     let l = label_of c.args.label.now in
-    let w = weighed u.0 c.args.self.now l c.args.seen u.1 c.share-share.result u.2 (c.share-share.ensures ∙ ap (share_at m') c.ticket_of.ensures) in
+    let w = weighed u.0 c.args.self.now l c.args.seen u.1 c.share_at-share.result u.2 (c.share_at-share.ensures ∙ ap (share_at m') c.ticket_of.ensures) in
     let after = c.relist_after.ensures.all in
     record {
       index = c.relist_head.ensures.parts after.0 (by_part m' (asked_at m')) after.1 (inner_part m') after.2;

@@ -2,8 +2,8 @@ use Rattle.std.proofs.Common.{◌≡◌, ◌∙◌, length, sym, ap, subst, arit
 use Rattle.wave_base.specs.Fold.{Head}
 use Rattle.wave_base.specs.declared.script.Line.{Line}
 use Rattle.wave_base.specs.declared.start.Start.{Start}
-use Rattle.wave_machine.specs.Keeping.{kept_of}
-use Rattle.wave_machine.specs.Machines.{Kept, Stands, TheState}
+use Rattle.wave_effects.specs.Keeping.{kept_of}
+use Rattle.wave_effects.specs.Machines.{Kept, Stands, TheState}
 use Rattle.wave_machine.specs.Prepared.{Shown}
 use Rattle.wave_machine.proofs.machine.Machine.committed.Goals as goal
 

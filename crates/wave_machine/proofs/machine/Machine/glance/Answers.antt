@@ -1,8 +1,8 @@
 use Rattle.std.proofs.Common.{subst}
 use Rattle.std.specs.Prelude.{IfOk}
 use Rattle.wave_base.specs.declared.start.Start.{Start}
-use Rattle.wave_machine.specs.Glances.{IsGlance}
-use Rattle.wave_machine.specs.Machines.{Stands, TheState}
+use Rattle.wave_effects.specs.Glances.{IsGlance}
+use Rattle.wave_effects.specs.Machines.{Stands, TheState}
 use Rattle.wave_machine.specs.Prepared.{Shown}
 use Rattle.wave_machine.proofs.machine.Machine.glance.Goals as goal
 

@@ -4,7 +4,7 @@ use Rattle.wave_base.specs.declared.start.Start.{Start}
 use Rattle.wave_states.specs.Canonical.{enabled_for, taken_as}
 use Rattle.plan_actors.specs.PlanActors.{plan_actors}
 use Rattle.wave_machine.specs.declared.ready.Ready.{Ready}
-use Rattle.wave_machine.specs.Machines.{Stands, TheState}
+use Rattle.wave_effects.specs.Machines.{Stands, TheState}
 use Rattle.wave_machine.specs.Prepared.{Shown}
 use Rattle.wave_machine.specs.Readies.{choice_of, ready_in}
 use Rattle.wave_machine.proofs.machine.Machine.index.Goals as goal

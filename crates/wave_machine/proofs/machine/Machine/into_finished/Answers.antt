@@ -4,7 +4,7 @@ use Rattle.wave_base.specs.declared.start.Start.{Start}
 use Rattle.wave_states.specs.Runs.{Finished}
 use Rattle.plan_actors.specs.Calls.{code_ran}
 use Rattle.plan_actors.specs.PlanActors.{plan_actors}
-use Rattle.wave_machine.specs.Machines.{Stands, TheState}
+use Rattle.wave_effects.specs.Machines.{Stands, TheState}
 use Rattle.wave_machine.specs.Prepared.{Shown}
 use Rattle.wave_machine.proofs.machine.Machine.into_finished.Goals as goal
 

@@ -6,8 +6,8 @@ use Rattle.script_fold.proofs.StartLemmas.{first_fits}
 use Rattle.service_code.specs.declared.program.Program.{Program}
 use Rattle.wave_states.specs.Begins.{start_state}
 use Rattle.plan_actors.specs.Plans.{begin_in}
-use Rattle.wave_machine.specs.Machines.{Stands}
-use Rattle.wave_machine.specs.Plans.{plan_of}
+use Rattle.wave_effects.specs.Machines.{Stands}
+use Rattle.wave_effects.specs.Plans.{plan_of}
 use Rattle.wave_machine.specs.Prepared.{Shown}
 use Rattle.wave_machine.proofs.machine.Machine.new.Goals as goal
 

@@ -1,6 +1,6 @@
 use Rattle.wave_states.specs.Begins.{start_state}
 use Rattle.plan_actors.specs.Plans.{begin_in}
-use Rattle.wave_machine.specs.Plans.{plan_of}
+use Rattle.wave_effects.specs.Plans.{plan_of}
 use Rattle.wave_machine.proofs.machine.Machine.new_at.Goals as goal
 
 pub invariant_of-result : goal.invariant_of-result

@@ -4,9 +4,9 @@ use Rattle.script_fold.specs.Runs.{finished_of}
 use Rattle.wave_base.specs.declared.start.Start.{Start}
 use Rattle.plan_actors.specs.Calls.{code_ran}
 use Rattle.wave_base.specs.declared.shown.Shown.{Shown as Line}
-use Rattle.wave_machine.specs.Machines.{Stands, TheState}
+use Rattle.wave_effects.specs.Machines.{Stands, TheState}
 use Rattle.wave_machine.specs.Prepared.{Shown}
-use Rattle.wave_machine.specs.Showing.{IsLineOf}
+use Rattle.wave_effects.specs.Showing.{IsLineOf}
 use Rattle.wave_machine.proofs.machine.Machine.shown.Goals as goal
 
 pub returns-clause-lines : goal.returns-clause-lines

@@ -1,11 +1,11 @@
 use Rattle.std.proofs.Common.{sym, subst}
 use Rattle.wave_labels.specs.Labels.{label_of}
-use Rattle.wave_machine.specs.Keeping.{kept_of}
-use Rattle.wave_machine.specs.Machines.{IsEnabled, Takes}
+use Rattle.wave_effects.specs.Keeping.{kept_of}
+use Rattle.wave_effects.specs.Machines.{IsEnabled, Takes}
 use Rattle.wave_machine.specs.Prepared.{Shown}
 use Rattle.wave_machine.specs.inner.Index.{RoomFor}
-use Rattle.wave_machine.specs.inner.Made.{IsPrepared}
-use Rattle.wave_machine.proofs.Labelled.{stood_after}
+use Rattle.wave_effects.specs.Made.{IsPrepared}
+use Rattle.wave_effects.proofs.Labelled.{stood_after}
 use Rattle.wave_machine.proofs.machine.Machine.step.Goals as goal
 
 pub invariant_of-self : goal.invariant_of-self

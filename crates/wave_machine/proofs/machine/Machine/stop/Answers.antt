@@ -1,11 +1,11 @@
 use Rattle.std.proofs.Common.{sym, subst, ap}
-use Rattle.wave_machine.specs.Keeping.{kept_of}
-use Rattle.wave_machine.specs.Machines.{Keeps}
+use Rattle.wave_effects.specs.Keeping.{kept_of}
+use Rattle.wave_effects.specs.Machines.{Keeps}
 use Rattle.wave_machine.specs.Prepared.{Shown}
 use Rattle.wave_machine.specs.inner.Index.{RoomFor}
-use Rattle.wave_machine.specs.inner.Made.{IsPrepared}
-use Rattle.wave_machine.specs.Running.{CanStop, IsStopping, Stops}
-use Rattle.wave_machine.proofs.Labelled.{stood_kept, stood_stopped}
+use Rattle.wave_effects.specs.Made.{IsPrepared}
+use Rattle.wave_effects.specs.Running.{CanStop, IsStopping, Stops}
+use Rattle.wave_effects.proofs.Labelled.{stood_kept, stood_stopped}
 use Rattle.wave_machine.proofs.Lasting.{prepared_still, room_still}
 use Rattle.wave_machine.proofs.machine.Machine.stop.Goals as goal
 

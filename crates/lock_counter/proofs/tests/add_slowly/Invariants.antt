@@ -1,6 +1,0 @@
-use Rattle.std.specs.Prelude.{◌≡◌}
-use Rattle.kept_lock.specs.Locks.{known, IsPassOf}
-use Rattle.lock_counter.proofs.tests.add_slowly.Given as goal
-
-abbrev pub invariant-loop : goal.invariant-loop
-invariant-loop g l = IsPassOf l.lock l.pass × ((known l.pass).number ≡ l.me)

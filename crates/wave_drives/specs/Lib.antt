@@ -1,0 +1,4 @@
+pub mod Walks
+pub mod Rules
+pub mod Measured
+pub mod inner

@@ -1,0 +1,3 @@
+pub mod Moving
+pub mod Driving
+pub mod Drivable

@@ -1,6 +1,0 @@
-use Rattle.std.proofs.Common.{take}
-use Rattle.wave_machine.specs.inner.Endings.{IsLoadOf, Paired}
-use Rattle.wave_machine.proofs.places.loads.Given as goal
-
-abbrev pub invariant-loop-place : goal.invariant-loop-place
-invariant-loop-place l = Paired (IsLoadOf l.stores l.first.0) (take l.place-index l.places) l.loads.items
