@@ -38,12 +38,12 @@ fn join(alloc: Global, shape: &Shape, tree: &mut Tree, key: i64) -> Result<(), O
 }
 
 // Two contexts in path order, with these numbers.
-fn two(alloc: Global, low: i64, high: i64) -> Result<Seq<Shot>, OutOfMemory>
+fn two(alloc: Global, first: i64, second: i64) -> Result<Seq<Shot>, OutOfMemory>
     ensures ordered { IfOk result IsOrdered }
     ensures field { IfOk result (λ shots. HasField (record { shots = shots; joined = [] }) (record { class = record { 0 = 1 }; key = pos 2 } ∷ []) 0) }
 {
-    let low = shot(alloc, hall(-5), low)?;
-    let high = shot(alloc, hall(2), high)?;
+    let low = shot(alloc, hall(-5), first)?;
+    let high = shot(alloc, hall(2), second)?;
     Ok(Seq::from_vec(vec![in alloc; low, high]?))
 }
 
@@ -53,7 +53,8 @@ fn tree(alloc: Global) -> Result<Tree, OutOfMemory>
     ensures field { IfOk result (λ t. HasField t (record { class = record { 0 = 1 }; key = pos 2 } ∷ []) 0) }
 {
     let shots = two(alloc, 1, 9)?;
-    Tree::from_shots(alloc, shots.as_slice())
+    let tree = Tree::from_shots(alloc, shots.as_slice())?;
+    Ok(tree)
 }
 
 // It has these numbers.
@@ -61,10 +62,10 @@ fn has(
     rt: &impl Abort,
     alloc: Global,
     tree: &Tree,
-    low: i64,
-    high: i64,
+    first: i64,
+    second: i64,
 ) -> Result<(), OutOfMemory> {
-    let wanted = two(alloc, low, high)?;
+    let wanted = two(alloc, first, second)?;
     assert!(rt; tree.shots(alloc)?.as_slice() == wanted.as_slice());
     Ok(())
 }
