@@ -1,11 +1,13 @@
 -- How an entry stands for an entry of the machine's theory: its record, who holds it, what it served, and who waits.
-use Rattle.std.specs.Prelude.{◌≡◌, ℕ, suc, ◌&&◌, ◌==◌, Bool, true, false, not, List, [], ◌∷◌, ◌++◌, map, Option, Some, None, option_map}
+use Rattle.std.specs.Prelude.{◌≡◌, ℕ, suc, ◌&&◌, ◌==◌, Bool, true, false, not, List, [], ◌∷◌, ◌++◌, map, Option, Some, None, option_map, is_some}
 use Rattle.std.specs.List.{list_any}
 use Rattle.std.specs.FinMap as table
 use Rattle.std.specs.FinSet as set
 use Rattle.wave_base.specs.declared.numbers.Ticket.{Ticket}
+use Rattle.wave_base.specs.declared.path.Step.{Step}
 use Rattle.wave_base.specs.declared.record.Record.{Record}
 use Rattle.wave_base.specs.declared.value.Value.{Value}
+use Rattle.wave_base.specs.Kids.{child_at}
 use Rattle.context_queue.specs.declared.entry.Entry.{Entry}
 use Rattle.context_queue.specs.declared.waiting.Claim.{Claim}
 use Rattle.wave_states.specs.States as theory
@@ -63,6 +65,15 @@ module _ {F : Type 0} where
   abbrev pub with_next : theory.Entry F → Option theory.Claim → theory.Entry F
   with_next en None = en
   with_next en (Some c) = let_in en c
+
+  -- the same with these counts: how many tickets were let in, and how often the context moved
+  abbrev pub with_counts : theory.Entry F → ℕ → ℕ → theory.Entry F
+  with_counts en served moves = record { body = en.body; holders = en.holders; served = served; waiting = en.waiting; moves = moves }
+
+-- the record is here, and has a child at the step
+abbrev pub has_child : Option Record → Step → Bool
+has_child None step = false
+has_child (Some r) step = is_some (child_at r.children step)
 
 -- the same but for the rooms
 pub record SameButRooms (e f : Entry) : Type 0 where

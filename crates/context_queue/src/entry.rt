@@ -1,17 +1,18 @@
 //! A context at its host: its record, who holds it and who waits for it.
 
-ghost use Rattle.std.specs.Prelude.{◌≡◌, ◌≤◌, ◌+◌, ◌<◌, ◌^◌, List, [], Some, None, IsNone, IfSome, OnOk, is_none, option_map, true, false};
+ghost use Rattle.std.specs.Prelude.{◌≡◌, ◌≤◌, ◌+◌, ◌<◌, ◌^◌, List, [], Some, None, IsNone, IsSome, IfSome, OnOk, is_none, option_map, true, false};
 ghost use Rattle.std.specs.FinMap as map;
 ghost use Rattle.std.specs.FinSet as set;
+ghost use Rattle.wave_base.specs.Kids.{child_at, with_child};
 ghost use Rattle.wave_base.specs.declared.value.Value.{Value};
 ghost use Rattle.wave_states.specs.States as theory;
 ghost use Rattle.context_queue.specs.inner.Admits.{is_either, admits};
-ghost use Rattle.wave_states.specs.Steps.{in_line, others, with_holders};
+ghost use Rattle.wave_states.specs.Steps.{in_line, others, with_body, with_holders};
 
 use crate::peeks::Peeks;
 use crate::waiting::{Claim, Waiting};
 use std::alloc::Global;
-use wave_base::{OutOfMemory, Record, Ticket};
+use wave_base::{Child, OutOfMemory, Record, Step, Ticket};
 
 /// What a host keeps of a context.
 #[derive(Drop)]
@@ -32,7 +33,7 @@ pub struct Entry {
 }
 
 impl Entry {
-    ghost use Rattle.context_queue.specs.Entries.{StandsFor, SameButRooms, claim_of, is_holder, next_in, with_next};
+    ghost use Rattle.context_queue.specs.Entries.{StandsFor, SameButRooms, claim_of, has_child, is_holder, next_in, with_counts, with_next};
 
     /// The entry of a new context with this record.
     pub fn new(alloc: Global, body: Record) -> Entry
@@ -148,5 +149,26 @@ impl Entry {
     {
         self.holder = None;
         self.peeks.clear();
+    }
+    /// Counts anew: so many tickets were let in, and so often the context moved. Whoever holds the context or waits stays.
+    pub fn recount(&mut self, served: u64, moves: u64)
+        ensures entry { (en : theory.Entry (List Value)) → StandsFor self.old en → StandsFor self.new (with_counts en served moves) }
+        ensures waiting_room { self.new.waiting.room ≡ self.old.waiting.room }
+        ensures peeks_room { self.new.peeks.room ≡ self.old.peeks.room }
+    {
+        self.served = served;
+        self.moves = moves;
+    }
+
+    /// Sets what the record keeps of a child that it has, without memory.
+    pub fn put_child(&mut self, step: Step, child: Child)
+        requires { has_child self.old.body step ≡ true }
+        ensures entry { (en : theory.Entry (List Value)) (r : theory.Record (List Value)) → StandsFor self.old en → en.body ≡ Some r → StandsFor self.new (with_body en (Some (record { fields = r.fields; children = with_child r.children step child }))) }
+        ensures waiting_room { self.new.waiting.room ≡ self.old.waiting.room }
+        ensures peeks_room { self.new.peeks.room ≡ self.old.peeks.room }
+    {
+        if let Some(body) = &mut self.body {
+            let _ = body.children.put(step, child);
+        }
     }
 }

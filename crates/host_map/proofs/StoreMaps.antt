@@ -1,14 +1,17 @@
 -- The lemmas of tables at paths.
-use Rattle.std.proofs.Common.{◌≡◌, ◌||◌, ℕ, zero, suc, Bool, true, false, List, [], ◌∷◌, Some, None, is_some, cond, position, slice_get, get_or, refl, sym, ap, ◌∙◌}
-use Rattle.std.specs.List.{list_any}
+use Rattle.std.proofs.Common.{◌≡◌, ◌||◌, ℕ, zero, suc, Bool, true, false, List, [], ◌∷◌, Option, Some, None, is_some, cond, length, filter, position, slice_get, get_or, refl, sym, ap, ◌∙◌}
+use Rattle.std.specs.List.{list_any, IsDistinct}
 use Rattle.std.proofs.lemmas.List.Quantifiers.{position-Some}
+use Rattle.std.proofs.lemmas.Map.Entries.{lookup-filter-values, option_filter}
 use Rattle.std.specs.Option.{unwrap_or}
 use Rattle.std.specs.Map.{lookup, keys_of, values_of}
 use Rattle.std.specs.FinMap as table
 use Rattle.wave_base.specs.declared.path.Path.{Path}
 use Rattle.wave_base.specs.Paths.{path_eq, path_cmp}
 use Rattle.wave_base.specs.PathLaws.{path_cmp_total, path_eq_equiv, path_eq_ties, path_eq_decides, same_path}
+use Rattle.context_queue.specs.declared.entry.Entry.{Entry}
 use Rattle.context_queue.proofs.MapLemmas as m
+use Rattle.host_map.specs.Stores.{is_counted}
 use Rattle.indexmap.specs.IndexMap.{IndexMap, IsUnique, keys, values, with_value_at}
 use Rattle.indexmap.proofs.CallerLemmas.{updates-with_value_at}
 
@@ -23,6 +26,13 @@ module _ {X : Type 0} where
   pub removed : (es fs : List (Path × X)) (k : Path) → ((q : Path) → lookup (path_eq q) fs ≡ cond (path_eq k q) None (lookup (path_eq q) es))
       → table.from_entries {R = path_cmp} fs ≡ table.remove (table.from_entries es) k
   removed = m.removed path_cmp path_eq path_cmp_total same_path path_eq_equiv.symm path_eq_ties
+
+  pub len_is_length : (es : List (Path × X)) → IsDistinct path_eq (keys_of es) → table.len (table.from_entries {R = path_cmp} es) ≡ length es
+  len_is_length = m.len_is_length path_cmp path_eq path_cmp_total same_path path_eq_equiv.symm path_eq_ties
+
+  -- a table without entries has none
+  pub none_left : (es : List (Path × X)) → es ≡ [] → table.from_entries {R = path_cmp} es ≡ table.empty
+  none_left es e = ap (λ xs. table.from_entries {R = path_cmp} xs) e
 
 -- ---- a write behind a reference into the table
 
@@ -58,3 +68,21 @@ module _ {X : Type 0} where
   -- a path is among the keys exactly where the table has it
   pub among_keys : (q : Path) (es : List (Path × X)) → list_any (path_eq q) (keys_of es) ≡ table.contains_key (table.from_entries {R = path_cmp} es) q
   among_keys q es = sym (looked_up q es) ∙ ap is_some (sym (get_is_lookup q es))
+
+-- ---- those that were entered or moved
+
+abbrev pub says : Path × Entry → Bool
+says e = is_counted (Some e.1)
+
+counted_some : (o : Option Entry) → is_some (option_filter (λ e. is_counted (Some e)) o) ≡ is_counted o
+counted_some None = refl
+counted_some (Some e) = by_test (is_counted (Some e))
+  where
+    by_test : (b : Bool) → is_some (cond b (Some e) None) ≡ b
+    by_test true = refl
+    by_test false = refl
+
+-- a path is among theirs exactly where the table has such an entry of it
+pub among_counted : (p : Path) (es : List (Path × Entry)) → IsDistinct path_eq (keys_of es) → list_any (path_eq p) (keys_of (filter says es)) ≡ is_counted (table.get (table.from_entries {R = path_cmp} es) p)
+among_counted p es d =
+    sym (looked_up p (filter says es)) ∙ ap is_some (lookup-filter-values path_eq_equiv (λ e. is_counted (Some e)) p es d) ∙ counted_some (lookup (path_eq p) es) ∙ ap is_counted (sym (get_is_lookup p es))

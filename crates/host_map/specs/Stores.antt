@@ -1,5 +1,5 @@
 -- The store of a host, and what it stands for in the machine's theory.
-use Rattle.std.specs.Prelude.{◌≡◌, ℕ, Bool, List, Option, Some, None, option_map, if◌then◌else◌, refl}
+use Rattle.std.specs.Prelude.{◌≡◌, ◌==◌, ◌||◌, ℕ, Bool, false, not, List, Option, Some, None, option_map, if◌then◌else◌, refl}
 use Rattle.std.specs.Coded.{Coded, code_by, coded×, coded_ℕ}
 use Rattle.std.specs.FinMap as map
 use Rattle.wave_base.specs.declared.path.Path.{Path}
@@ -32,6 +32,11 @@ stores_code =
 -- the store has the path
 abbrev pub has : Path → Stores → Bool
 has p s = map.contains_key s.store p
+
+-- it says that a ticket was let in, or that the context moved
+abbrev pub is_counted : Option Entry → Bool
+is_counted None = false
+is_counted (Some e) = not (e.served == 0) || not (e.moves == 0)
 
 -- the store has another entry at a path
 abbrev pub with_entry : Stores → Path → Entry → Stores

@@ -1,9 +1,9 @@
 //! The contexts at a host, and where those went that left it.
 
-ghost use Rattle.std.specs.Prelude.{◌≡◌, ◌≤◌, ◌+◌, OnOk, IfOk, option_copied, option_map, position, length, IfSome, ◌<◌};
+ghost use Rattle.std.specs.Prelude.{◌≡◌, ◌≤◌, ◌+◌, OnOk, IfOk, Some, option_copied, option_map, position, length, IfSome, ◌<◌};
 ghost use Rattle.std.specs.List.{list_any, IsDistinct};
 ghost use Rattle.std.specs.FinMap as map;
-ghost use Rattle.host_map.specs.Stores.{find_in, has};
+ghost use Rattle.host_map.specs.Stores.{find_in, has, is_counted};
 ghost use Rattle.indexmap.specs.IndexMap.{keys};
 ghost use Rattle.wave_base.specs.declared.path.Path as path;
 ghost use Rattle.wave_base.specs.Paths.{path_eq};
@@ -112,6 +112,19 @@ impl HostStore {
         Ok(paths)
     }
 
+    /// The paths of the contexts here that a ticket was let in to, or that moved, in any order.
+    pub fn counted(&self, alloc: Global) -> Result<Vec<Path>, OutOfMemory>
+        ensures { IfOk result (λ touched. (p : path.Path) → list_any (path_eq p) touched.items ≡ is_counted (map.get self.now.store p)) }
+    {
+        let mut touched = Vec::new(alloc);
+        for (path, entry) in self.store.iter() {
+            if counts(entry) {
+                touched.push(*path)?;
+            }
+        }
+        Ok(touched)
+    }
+
     /// Makes room for one more entry and for one more mark.
     pub fn reserve(&mut self) -> Result<(), OutOfMemory>
         ensures path { OnOk result (1 ≤ self.new.path_room) }
@@ -168,6 +181,25 @@ impl HostStore {
     {
         let _ = self.gone.swap_remove(path);
     }
+
+    /// Clears all marks. There is room then for as many as there were.
+    pub fn forget_marks(&mut self)
+        ensures gone { self.new.gone ≡ map.empty }
+        ensures store { self.new.store ≡ self.old.store }
+        ensures path_room { self.new.path_room ≡ self.old.path_room }
+        ensures mark_room { map.len self.old.gone + self.old.mark_room ≤ self.new.mark_room }
+    {
+        // a number, which counts each mark once
+        let _ = self.gone.len();
+        self.gone.clear();
+    }
+}
+
+// Whether an entry says that a ticket was let in, or that its context moved.
+fn counts(entry: &Entry) -> bool
+    ensures { result ≡ is_counted (Some entry.now) }
+{
+    entry.served != 0 || entry.moves != 0
 }
 
 // The keys of a table, in its order.

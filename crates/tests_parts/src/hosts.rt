@@ -45,6 +45,34 @@ fn entries_come_and_go(rt: HostRuntime) -> Result<(), Fail> {
 }
 
 #[test]
+fn what_was_touched_is_told(rt: HostRuntime) -> Result<(), Fail> {
+    let alloc = rt.alloc();
+    let mut store = HostStore::new(alloc);
+    let there = Mark {
+        to: Host(2),
+        number: 1,
+    };
+    for number in 4..7 {
+        store.reserve()?;
+        store.birth(hall(number), entry(alloc));
+    }
+    assert!(rt; store.counted(alloc)?.is_empty());
+    if store.has(&hall(5)) {
+        store.entry_mut(&hall(5)).recount(2, 0);
+    }
+    let paths = store.counted(alloc)?;
+    assert!(rt; paths.len() == 1);
+    for path in &paths {
+        assert!(rt; *path == hall(5));
+    }
+    store.reserve()?;
+    store.mark(hall(8), there);
+    store.forget_marks();
+    assert!(rt; store.find(&hall(8)) == Found::Unknown);
+    Ok(())
+}
+
+#[test]
 fn a_context_has_its_place(rt: HostRuntime) -> Result<(), Fail> {
     let alloc = rt.alloc();
     let mut near = HostStore::new(alloc);
