@@ -57,10 +57,7 @@ impl Mover {
     fn next(&self) -> Option<Step>
         ensures { result ≡ first_of self.now.mover.rest }
     {
-        match self.path.as_slice().get(self.gone) {
-            Some(step) => Some(*step),
-            None => None,
-        }
+        self.path.step(self.gone)
     }
 
     // One step more is gone.

@@ -39,12 +39,12 @@ pub fn put_path(
     ensures keys { OnOk result (All (λ (s : Step). FitsSigned w64 s.key) path.now) }
     ensures short { length path.now ≤ CLASS_DEPTH }
 {
-    let steps = path.as_slice();
-    if steps.is_empty() {
+    if path.len() == 0 {
         return put_bytes(out, b"/");
     }
-    for step in steps {
-        put_step(alloc, out, shape, step)?;
+    for i in 0..path.len() {
+        let step = path.step(i).unwrap();
+        put_step(alloc, out, shape, &step)?;
     }
     Ok(())
 }

@@ -107,8 +107,8 @@ fn fronts_there(alloc: Global, contexts: &Tree, path: &Path) -> Result<Vec<Path>
     let mut entered = Vec::new(alloc);
     let mut front = Path::root();
     push_there(contexts, &mut entered, &front)?;
-    for step in path.as_slice() {
-        front = front.child(*step);
+    for i in 0..path.len() {
+        front = front.child(path.step(i).unwrap());
         push_there(contexts, &mut entered, &front)?;
     }
     Ok(entered)

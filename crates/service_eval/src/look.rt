@@ -242,7 +242,7 @@ pub fn above(path: &Path, level: usize) -> Path
     ensures { result ≡ take level path.now }
 {
     let mut above = *path;
-    while above.as_slice().len() > level {
+    while above.len() > level {
         match above.parent() {
             Some(parent) => above = parent,
             None => return above,

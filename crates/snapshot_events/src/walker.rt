@@ -118,8 +118,6 @@ pub fn walk(alloc: Global, walker: &mut Walker, body: &Record) -> Result<Pause, 
 fn last(path: &Path) -> Option<Step>
     ensures { result ≡ last_step path.now }
 {
-    match path.as_slice() {
-        [.., last] => Some(*last),
-        [] => None,
-    }
+    let n = path.len();
+    if n == 0 { None } else { path.step(n - 1) }
 }

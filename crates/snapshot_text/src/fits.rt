@@ -43,9 +43,8 @@ fn fields_fit(values: &[Value])
 fn keys_fit(path: &Path)
     ensures { HasKeys path.now }
 {
-    let steps = path.as_slice();
-    for step in steps {
-        let _key = step.key;
+    for i in 0..path.len() {
+        let _key = path.step(i).unwrap().key;
     }
 }
 

@@ -21,6 +21,8 @@ mod moves;
 #[cfg(test)]
 mod outputs;
 #[cfg(test)]
+mod paths;
+#[cfg(test)]
 mod policies;
 #[cfg(test)]
 mod queues;

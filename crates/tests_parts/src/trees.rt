@@ -113,7 +113,7 @@ fn contexts_are_listed_in_path_order(rt: HostRuntime) -> Result<(), Fail> {
     }
     let mut keys = Vec::new(alloc);
     for shot in tree.shots(alloc)?.as_slice() {
-        if let [step] = shot.path.as_slice() {
+        if let Some(step) = shot.path.step(0) {
             keys.push(step.key)?;
         }
     }

@@ -176,10 +176,9 @@ fn child_step(path: &Path, below: &Path) -> Option<Step>
     requires { is_above path.now below.now ≡ true }
     ensures { result ≡ child_step path.now below.now }
 {
-    let steps = below.as_slice();
-    let depth = path.as_slice().len();
-    if steps.len() == depth + 1 {
-        Some(steps[depth])
+    let depth = path.len();
+    if below.len() == depth + 1 {
+        below.step(depth)
     } else {
         None
     }

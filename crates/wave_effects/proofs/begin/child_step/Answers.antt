@@ -1,19 +1,18 @@
-use Rattle.std.proofs.Common.{◌≡◌, ◌∙◌, ◌+◌, length, ap, ap₂, sym, arith}
+use Rattle.std.proofs.Common.{◌≡◌, ◌∙◌, ◌+◌, Some, length, get_or, ap, sym, arith}
 use Rattle.std.specs.Prelude.{slice_get}
 use Rattle.std.proofs.lemmas.Option.{slice_get-get_or}
+use Rattle.wave_base.proofs.Kept.{no_step}
 use Rattle.wave_effects.proofs.Placing.{child_here, child_not}
 use Rattle.wave_effects.proofs.begin.child_step.Goals as goal
 
-pub returns-then-steps-depth : goal.returns-then-steps-depth
-returns-then-steps-depth c =
-    let steps = c.as_slice-steps.ensures.steps in
-    let depth = c.as_slice-depth.ensures.steps in
-    let long : length c.args.below.now ≡ length c.args.path.now + 1 = ap length (sym steps) ∙ c.if-steps-depth.true ∙ ap (λ n. n + 1) (ap length depth) in
-    sym (child_here c.args.path.now c.args.below.now _ c.requires long
-    (ap₂ (λ xs n. slice_get xs n) (sym steps) (ap length (sym depth)) ∙ slice_get-get_or c.as_slice-steps.result.now (length c.as_slice-depth.result.now) _ (omega (arith, c.if-steps-depth.true))))
+pub returns-then-len-depth : goal.returns-then-len-depth
+returns-then-len-depth c =
+    let p = c.args.path.now in
+    let q = c.args.below.now in
+    let long : length q ≡ length p + 1 = omega (arith, c.if-len-depth.true, c.len-depth.ensures.len, c.len.ensures.len) in
+    let here : slice_get q (length p) ≡ Some (get_or q (length p) no_step) = slice_get-get_or q (length p) no_step (omega (arith, long)) in
+    c.step.ensures ∙ ap (slice_get q) c.len-depth.ensures.len ∙ here ∙ sym (child_here p q _ c.requires long here)
 
-pub returns-else-steps-depth : goal.returns-else-steps-depth
-returns-else-steps-depth c =
-    let steps = c.as_slice-steps.ensures.steps in
-    let depth = c.as_slice-depth.ensures.steps in
-    sym (child_not c.args.path.now c.args.below.now (λ e. c.if-steps-depth.false (ap length steps ∙ e ∙ ap (λ n. n + 1) (ap length (sym depth)))))
+pub returns-else-len-depth : goal.returns-else-len-depth
+returns-else-len-depth c =
+    sym (child_not c.args.path.now c.args.below.now (λ e. c.if-len-depth.false (omega (arith, e, c.len-depth.ensures.len, c.len.ensures.len))))
