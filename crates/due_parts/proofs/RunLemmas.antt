@@ -28,11 +28,11 @@ use Rattle.wave_labels.specs.Labels.{act_of, label_of}
 use Rattle.wave_drives.specs.declared.rules.PickRule.{PickRule}
 use Rattle.wave_drives.specs.declared.rules.PickRule.TheVariants as rule
 use Rattle.wave_effects.specs.Kinds.{is_move, kind_of}
-use Rattle.wave_effects.specs.Machines.{IsReached, TheState}
+use Rattle.wave_effects.specs.Machines.{IsFinishedRun, IsReached, TheState}
 use Rattle.wave_drives.specs.Rules.{number_of, rule_of}
 use Rattle.wave_drives.specs.Measured.{DrivesAreMeasured}
 use Rattle.wave_effects.specs.Lengths.{FinishedRunsAreMeasured, IsMeasured}
-use Rattle.due_parts.specs.Runs.{ComesTo, IsDriveBy, IsFinishedRun, IsRunBy, IsRunOf, nearest_workers, rule_by}
+use Rattle.due_parts.specs.Runs.{ComesTo, IsDriveBy, IsRunBy, IsRunOf, nearest_workers, rule_by}
 
 -- ---- the label of a program for each label of the theory
 

@@ -15,7 +15,7 @@ use Rattle.plan_actors.specs.Plans.{Plan, begin_in}
 use Rattle.wave_drives.specs.declared.rules.PickRule.{PickRule}
 use Rattle.wave_drives.specs.declared.rules.PickRule.TheVariants.{Seed, Oldest, Newest, Movers, MailLast}
 use Rattle.wave_effects.specs.Lengths.{IsMeasured}
-use Rattle.wave_effects.specs.Machines.{IsReached, TheState}
+use Rattle.wave_effects.specs.Machines.{IsFinishedRun, IsReached, TheState}
 use Rattle.wave_drives.specs.Rules.{number_of, rule_of}
 
 -- a plan has 1 to 16 workers, and another number is taken for the nearest of these
@@ -29,12 +29,6 @@ rule_by schedule.Oldest = Oldest
 rule_by schedule.Newest = Newest
 rule_by schedule.Movers = Movers
 rule_by schedule.MailLast = MailLast
-
--- they lead from the Start to a state in which nothing is left to do
-pub record IsFinishedRun (plan : Plan) (start : Start) (labels : List Label) : Type 0 where
-  pub state : TheState
-  pub reached : IsReached plan start labels state
-  pub finished : runs.Finished (plan_actors plan.program) plan.workers state
 
 -- This is what the machine's run comes to: the labels lead, one after the other, from the Start to a state in which nothing is left to do, and
 -- that state tells just what was done. They are as many as the plan's work asks for, and the Passes.

@@ -7,7 +7,7 @@ ghost use Rattle.plan_actors.specs.Plans as plans;
 ghost use Rattle.wave_labels.specs.declared.label.Label.{Label};
 ghost use Rattle.wave_labels.specs.Labels.{label_of};
 ghost use Rattle.due_parts.specs.Accepted.{HasCode};
-ghost use Rattle.due_parts.specs.Runs.{IsFinishedRun};
+ghost use Rattle.wave_effects.specs.Machines.{IsFinishedRun};
 
 use plan_actors::PlanActors;
 use wave_theory::{by_owners, complete, one_owner, trails};

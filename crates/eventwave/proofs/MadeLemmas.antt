@@ -31,7 +31,6 @@ use Rattle.listing_out.specs.declared.write.ListError.TheVariants as list
 use Rattle.listing_out.proofs.SinkLemmas.{front_written, nothing_written}
 use Rattle.wave_effects.specs.Plans.{plan_of}
 use Rattle.wave_effects.specs.declared.plan.Plan.{Plan}
-use Rattle.host_workers.specs.Endings as hosts
 use Rattle.host_workers.specs.Lines.{event_lines}
 use Rattle.host_workers.specs.Runs.{IsWholeRun}
 use Rattle.wave_states.specs.Labels as theory
@@ -46,7 +45,7 @@ use Rattle.due_parts.specs.declared.telling.Telling.{Telling}
 use Rattle.due_parts.specs.declared.telling.Telling.TheVariants.{Reports, Traces}
 use Rattle.due_parts.specs.declared.runnable.Runnable.{Runnable}
 use Rattle.due_parts.specs.Accepted.{CanRun, plan_with, point_of, ran, report_of, trace_of}
-use Rattle.due_parts.specs.Runs.{IsFinishedRun, IsRunBy, nearest_workers}
+use Rattle.due_parts.specs.Runs.{IsRunBy, nearest_workers}
 use Rattle.due_parts.proofs.RunLemmas.{few_nearest, some_nearest}
 use Rattle.due_parts.specs.Told.{any_trap, is_listed, point_behind, reported}
 use Rattle.eventwave.specs.declared.ending.Ending.{Ending}
@@ -266,10 +265,6 @@ module _ (report : Report) (engine : Engine) (work : Runnable) (plan : Plan) (st
 
 -- ---- what the workers made
 
--- their run, in words of plans
-finished_run : (plan : Plan) (start : Start) (labels : List theory.Label) → hosts.IsFinishedRun plan start labels → IsFinishedRun (plan_of plan) start labels
-finished_run plan start labels h = record { state = h.state; reached = h.reached; finished = h.finished }
-
 pub made_together : (workers : ℕ) (plan : Plan) (start : Start) (done : Finished) (journal : List Label) → IsWholeRun plan start (done, journal) → IsMade (Workers workers) (plan_of plan) start (record { done = done; journal = Some journal })
 unfolding IsWholeRun
-made_together workers plan start done journal h = record { done = h.done; journal = finished_run plan start (map label_of journal) h.run; run = finished_run plan start (map label_of journal) h.run }
+made_together workers plan start done journal h = record { done = h.done; journal = h.run; run = h.run }

@@ -18,7 +18,7 @@ use Rattle.wave_base.specs.declared.start.Start.{Start}
 use Rattle.command_words.specs.declared.command.Crew.{Crew}
 use Rattle.journal_text.specs.Fits.{HasPath}
 use Rattle.due_parts.specs.Accepted.{HasCode}
-use Rattle.due_parts.specs.Runs.{IsFinishedRun}
+use Rattle.wave_effects.specs.Machines.{IsFinishedRun}
 use Rattle.due_parts.specs.Told.{is_listed}
 use Rattle.due_parts.specs.declared.telling.Telling.{Telling}
 use Rattle.due_parts.specs.declared.telling.Telling.TheVariants.{Traces}

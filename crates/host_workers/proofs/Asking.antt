@@ -11,7 +11,8 @@ use Rattle.wave_labels.specs.Labels.{act_of}
 use Rattle.wave_states.specs.Labels as theory
 use Rattle.wave_effects.specs.declared.lease.Lease.{Lease}
 use Rattle.wave_effects.specs.Actors.{MayRun}
-use Rattle.wave_effects.specs.Machines.{IsReached, TheState}
+use Rattle.wave_effects.specs.Machines.{IsFinishedRun, IsReached, TheState}
+use Rattle.wave_effects.specs.Plans.{plan_of}
 use Rattle.wave_effects.specs.Running.{IsInHand}
 use Rattle.plan_actors.specs.Plans.{Plan}
 use Rattle.plan_actors.specs.PlanActors.{plan_actors}
@@ -27,7 +28,7 @@ use Rattle.wave_board.specs.Taking.{AreEven, IsFinished, Took, begins, ends}
 use Rattle.wave_board.proofs.Staying.{labels_are}
 use Rattle.host_workers.specs.declared.task.Task.{Task}
 use Rattle.host_workers.specs.declared.task.Task.TheVariants.{Segment, Again, Rest, Finished, Stopped}
-use Rattle.host_workers.specs.Endings.{IsFinishedRun, IsHaltedBy}
+use Rattle.host_workers.specs.Endings.{IsHaltedBy}
 use Rattle.host_workers.specs.Passes.{GoesOn, IsReady, NoHalts}
 use Rattle.host_workers.specs.inner.Rounds.{Asked, HasLease}
 use Rattle.host_workers.specs.inner.Visits.{HasTaken, Walked}
@@ -79,7 +80,7 @@ module _ (o : Origin) (k : Known Trail) (w : Worker) (ready : IsReady o k w) (y 
       goes_still h = ((same h).on, ready_still h)
 
       -- what was seen is a finished run
-      over : history_of z ≡ history_of y → InEachState y (IsFinished y) → IsFinishedRun o.plan.now o.start.now (labels_in k'.seen)
+      over : history_of z ≡ history_of y → InEachState y (IsFinished y) → IsFinishedRun (plan_of o.plan.now) o.start.now (labels_in k'.seen)
       over h f =
           let at = meets.stands_for_name in
           let labels : labels_of y ≡ labels_in k'.seen = sym (labels_are y) ∙ ap labels_in (sym ((same h).seen ∙ h)) in

@@ -25,7 +25,7 @@ use Rattle.serial_runs.specs.Journals.{OwnersTake}
 use Rattle.serial_runs.specs.Serial.{HasSerial}
 use Rattle.wave_effects.specs.declared.plan.Plan as declared_plan
 use Rattle.wave_effects.specs.Lengths.{FinishedRunsAreMeasured}
-use Rattle.wave_effects.specs.Machines.{IsReached, TheState}
+use Rattle.wave_effects.specs.Machines.{IsFinishedRun, IsReached, TheState}
 use Rattle.wave_effects.specs.Plans.{plan_of}
 use Rattle.wave_board.specs.declared.board.Board.{Board}
 use Rattle.wave_board.specs.declared.origin.Origin.{Origin}
@@ -34,7 +34,6 @@ use Rattle.wave_board.specs.declared.trail.Trail.TheVariants.{Step, Halt}
 use Rattle.wave_board.specs.Boards.{IsAt, StandsFor, history_of, labels_in, labels_of}
 use Rattle.wave_board.specs.Taking.{IsFinished}
 use Rattle.wave_board.proofs.Staying.{ends_there, labels_are}
-use Rattle.host_workers.specs.Endings.{IsFinishedRun}
 use Rattle.host_workers.specs.Lines.{event_lines}
 use Rattle.host_workers.specs.Runs.{IsRun}
 
@@ -66,7 +65,7 @@ abbrev PlansAreSerial : Type 0
 PlansAreSerial = (plan : Plan) (start : Start) → Fits plan → FitsStart plan start → (labels : List Label) (s : TheState) → IsReached plan start labels s
     → Finished (plan_actors plan.program) plan.workers s → HasSerial (plan_kind plan.program plan.script.hosts) plan.workers (begin_in plan start) plan.script.batches s
 
-module _ (o : Origin) (b : Board) (s : TheState) (at : IsAt b o s) (seen : List Trail) (over : IsFinishedRun o.plan.now o.start.now (labels_in seen)) (begins : StartsWith (history_of b) seen) where
+module _ (o : Origin) (b : Board) (s : TheState) (at : IsAt b o s) (seen : List Trail) (over : IsFinishedRun (plan_of o.plan.now) o.start.now (labels_in seen)) (begins : StartsWith (history_of b) seen) where
   abbrev pub plan : Plan
   plan = plan_of o.plan.now
 
@@ -105,7 +104,7 @@ module _ (o : Origin) (b : Board) (s : TheState) (at : IsAt b o s) (seen : List 
       }
 
 -- a board that stands for the origin may be taken apart
-pub can_part : (o : Origin) (b : Board) (seen : List Trail) → StandsFor b o → IsFinishedRun o.plan.now o.start.now (labels_in seen) → StartsWith (history_of b) seen → (o : Origin) × (s : TheState) × IsAt b o s × IsFinished b s
+pub can_part : (o : Origin) (b : Board) (seen : List Trail) → StandsFor b o → IsFinishedRun (plan_of o.plan.now) o.start.now (labels_in seen) → StartsWith (history_of b) seen → (o : Origin) × (s : TheState) × IsAt b o s × IsFinished b s
 can_part o b seen stands over begins = (o, stands.0, stands.1, is_finished o b stands.0 stands.1 seen over begins)
 
 -- the lines from the origin are those from its Start: a front of them, or all, which are a front too

@@ -2,12 +2,7 @@
 use Rattle.std.specs.Prelude.{◌≡◌, ◌≢◌, ℕ, List, Contains}
 use Rattle.wave_base.specs.declared.numbers.Worker.{Worker}
 use Rattle.kept_lock.specs.declared.view.Known.{Known}
-use Rattle.plan_actors.specs.PlanActors.{plan_actors}
-use Rattle.wave_states.specs.Labels.{Label}
-use Rattle.wave_states.specs.Runs as runs
-use Rattle.wave_base.specs.declared.start.Start.{Start}
-use Rattle.wave_effects.specs.declared.plan.Plan.{Plan}
-use Rattle.wave_effects.specs.Machines.{IsReached, TheState}
+use Rattle.wave_effects.specs.Machines.{IsFinishedRun}
 use Rattle.wave_effects.specs.Plans.{plan_of}
 use Rattle.wave_board.specs.declared.origin.Origin.{Origin}
 use Rattle.wave_board.specs.declared.trail.StopCause.{StopCause}
@@ -18,12 +13,6 @@ use Rattle.wave_board.specs.Boards.{labels_in}
 use Rattle.host_workers.specs.declared.ending.WorkerEnd.{WorkerEnd}
 use Rattle.host_workers.specs.declared.ending.WorkerEnd.TheVariants.{Finished, Stopped, WriteFault, OutOfMemory}
 use Rattle.host_workers.specs.Passes.{NoHalts, OnlyHalts}
-
--- these labels lead from the Start to a state in which the plan is finished
-pub record IsFinishedRun (plan : Plan) (start : Start) (labels : List Label) : Type 0 where
-  pub state : TheState
-  pub reached : IsReached (plan_of plan) start labels state
-  pub finished : runs.Finished (plan_actors plan.program) plan.workers state
 
 -- the workers were stopped
 abbrev pub IsHalted : List Trail → Type 0
@@ -39,7 +28,7 @@ pub record IsHaltedBy (worker : ℕ) (why : StopCause) (seen : List Trail) : Typ
 -- Finished: what was seen is a finished run. Stopped: another worker's Halt of that cause was seen. Else a Halt was seen, and one that the
 -- worker made has the ending's cause; with the other endings it made none.
 abbrev pub Ended : Origin → Known Trail → WorkerEnd → Type 0
-Ended origin pass Finished = IsFinishedRun origin.plan.now origin.start.now (labels_in pass.seen) × NoHalts pass.made
+Ended origin pass Finished = IsFinishedRun (plan_of origin.plan.now) origin.start.now (labels_in pass.seen) × NoHalts pass.made
 Ended origin pass (Stopped why) = IsHaltedBy pass.number why pass.seen × NoHalts pass.made
 Ended origin pass WriteFault = IsHalted pass.seen × OnlyHalts pass.made SinkFault
 Ended origin pass (OutOfMemory refused) = IsHalted pass.seen × OnlyHalts pass.made (Memory refused)

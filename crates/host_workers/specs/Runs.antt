@@ -12,7 +12,7 @@ use Rattle.wave_labels.specs.Labels.{label_of}
 use Rattle.wave_effects.specs.declared.plan.Plan.{Plan}
 use Rattle.wave_effects.specs.Lengths.{IsMeasured}
 use Rattle.wave_effects.specs.Plans.{plan_of}
-use Rattle.host_workers.specs.Endings.{IsFinishedRun}
+use Rattle.wave_effects.specs.Machines.{IsFinishedRun}
 use Rattle.host_workers.specs.Lines.{told_by}
 
 -- The journal is a run of the machine, label by label from the Start to a state in which nothing is left to do. What was done is what that very
@@ -20,7 +20,7 @@ use Rattle.host_workers.specs.Lines.{told_by}
 -- wherever it stands, is taken by a host that owns its context just before it or just after it. And to the very state in which the run ends a
 -- serial run of the same plan leads, which takes all labels of one ticket, and then all of the next, by one worker alone.
 pub record IsRun (plan : Plan) (start : Start) (r : Finished × List Label) : Type 0 where
-  pub run : IsFinishedRun plan start (map label_of r.1)
+  pub run : IsFinishedRun (plan_of plan) start (map label_of r.1)
   pub tells : Tells run.state start plan.script.batches r.0
   pub done : r.0 ≡ told_by plan start
   pub measured : IsMeasured (plan_of plan) start (map label_of r.1)

@@ -1,7 +1,7 @@
 -- Drives: what the rule picks next, and what taking it leaves of the segments that are out.
 use Rattle.std.proofs.Common.{◌≡◌, ◌≢◌, ◌∙◌, inl, inr, ℕ, zero, suc, ◌<◌, Bool, true, false, List, [], ◌∷◌, ◌++◌, length, is_some, Option, Some, None, refl, sym, ap, subst, arith}
-use Rattle.std.specs.Prelude.{nat_lt, option_and_then, slice_get, slice_set}
-use Rattle.std.proofs.lemmas.List.{length-set}
+use Rattle.std.specs.Prelude.{nat_lt, option_and_then, replicate, slice_get, slice_set}
+use Rattle.std.proofs.lemmas.List.{length-replicate, length-set}
 use Rattle.wave_base.specs.declared.outcome.EventResult.{EventResult}
 use Rattle.wave_base.specs.declared.path.Path.{Path}
 use Rattle.wave_base.specs.declared.pause.Pause.{Pause}
@@ -125,8 +125,8 @@ set_elsewhere (y ∷ ys) (suc i) (suc j) x n = set_elsewhere ys i j x (λ e. n (
 
 -- ---- where a run begins
 
-pub first_under : (m : Kept) (plan : Plan) (start : Start) (ends : List (Option End)) → m.plan ≡ plan → length ends ≡ plan.workers → Stands m start (first_state plan start) → IsUnder m ends start (first_state plan start)
-first_under m plan start ends same many stands = record { stands = stands; as_many = many ∙ ap (λ (p : Plan). p.workers) (sym same); ends = λ w hand there. absurd (none_not there) }
+pub first_under : (m : Kept) (plan : Plan) (start : Start) (ends : List (Option End)) → m.plan ≡ plan → ends ≡ replicate plan.workers None → Stands m start (first_state plan start) → IsUnder m ends start (first_state plan start)
+first_under m plan start ends same none stands = record { stands = stands; as_many = ap length none ∙ length-replicate plan.workers None ∙ ap (λ (p : Plan). p.workers) (sym same); ends = λ w hand there. absurd (none_not there) }
 
 -- ---- what was reserved for
 

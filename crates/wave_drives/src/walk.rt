@@ -1,6 +1,6 @@
 //! A machine, and how the segments ended that are out.
 
-ghost use Rattle.std.specs.Prelude.{◌≡◌, length, true, IfOk, OnOk};
+ghost use Rattle.std.specs.Prelude.{◌≡◌, None, length, replicate, true, IfOk, OnOk};
 ghost use Rattle.wave_labels.specs.Labels.{label_of};
 ghost use Rattle.wave_states.specs.Labels.{Stop};
 ghost use Rattle.wave_effects.specs.Acts.{is_start, is_step};
@@ -27,7 +27,7 @@ impl<'p> Walk<'p> {
     /// A machine none of whose segments is out.
     pub fn new(alloc: Global, machine: Machine<'p>, workers: u8) -> Result<Walk<'p>, OutOfMemory>
         ensures machine { IfOk result (λ w. w.machine ≡ machine.entry) }
-        ensures ends { IfOk result (λ w. length w.ends.items ≡ workers) }
+        ensures ends { IfOk result (λ w. w.ends.items ≡ replicate workers None) }
     {
         let ends = no_ends(alloc, workers)?;
         Ok(Walk { machine, ends })
@@ -97,8 +97,9 @@ impl<'p> Walk<'p> {
 }
 
 // No segment is out.
+#[tactic(auto, using(std::proofs::lemmas::List::replicate_more))]
 fn no_ends(alloc: Global, workers: u8) -> Result<Vec<Option<End>>, OutOfMemory>
-    ensures { IfOk result (λ ends. length ends.items ≡ workers) }
+    ensures { IfOk result (λ ends. ends.items ≡ replicate workers None) }
 {
     let mut ends = Vec::new(alloc);
     for worker in 0..workers {

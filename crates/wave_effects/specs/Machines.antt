@@ -19,6 +19,7 @@ use Rattle.wave_states.specs.States.{State, Event, Hand}
 use Rattle.wave_states.specs.Desks.{Desk}
 use Rattle.wave_states.specs.Steps.{step}
 use Rattle.wave_states.specs.Labels.{Label}
+use Rattle.wave_states.specs.Runs as runs
 use Rattle.wave_states.specs.Runs.{run}
 use Rattle.wave_theory.specs.Agree.{Agree}
 use Rattle.wave_theory.specs.Bounds.{Bounds}
@@ -127,6 +128,12 @@ module _ (m : Kept) (s : TheState) where
 -- what is known of a state that labels lead to
 abbrev pub IsReached : Plan → Start → List Label → TheState → Type 0
 IsReached plan start labels s = IsRunTo plan start labels s
+
+-- they lead from the Start to a state in which nothing is left to do
+pub record IsFinishedRun (plan : Plan) (start : Start) (labels : List Label) : Type 0 where
+  pub state : TheState
+  pub reached : IsReached plan start labels state
+  pub finished : runs.Finished (plan_actors plan.program) plan.workers state
 
 -- The machine stands for a state that some list of labels leads to from what a Start says; plan and Start fit.
 pub record Stands (m : Kept) (start : Start) (s : TheState) : Type 0 where

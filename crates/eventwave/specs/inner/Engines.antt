@@ -11,7 +11,8 @@ use Rattle.wave_labels.specs.declared.label.Label.{Label}
 use Rattle.wave_labels.specs.Labels.{label_of}
 use Rattle.due_answer.specs.declared.task.Engine.{Engine}
 use Rattle.due_answer.specs.declared.task.Engine.TheVariants.{Evaluator, Drive, Workers}
-use Rattle.due_parts.specs.Runs.{IsDriveBy, IsFinishedRun}
+use Rattle.due_parts.specs.Runs.{IsDriveBy}
+use Rattle.wave_effects.specs.Machines.{IsFinishedRun}
 use Rattle.eventwave.specs.declared.made.Made.{Made}
 
 -- it runs on the thread of the caller

@@ -18,7 +18,7 @@ use Rattle.due_parts.specs.declared.report.Report.TheVariants.{Listing, Summary,
 use Rattle.due_parts.specs.declared.telling.Telling.{Telling}
 use Rattle.due_parts.specs.declared.telling.Telling.TheVariants.{Reports, Traces}
 use Rattle.due_parts.specs.Accepted.{HasCode}
-use Rattle.due_parts.specs.Runs.{IsFinishedRun}
+use Rattle.wave_effects.specs.Machines.{IsFinishedRun}
 use Rattle.due_parts.specs.Told.{any_trap, is_listed}
 use Rattle.eventwave.specs.declared.made.Made.{Made}
 

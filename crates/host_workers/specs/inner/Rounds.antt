@@ -8,7 +8,8 @@ use Rattle.kept_lock.specs.declared.view.Known.{Known}
 use Rattle.kept_lock.specs.History.{entries_of}
 use Rattle.wave_effects.specs.declared.lease.Lease.{Lease}
 use Rattle.wave_effects.specs.Actors.{MayRun}
-use Rattle.wave_effects.specs.Machines.{TheState}
+use Rattle.wave_effects.specs.Machines.{IsFinishedRun, TheState}
+use Rattle.wave_effects.specs.Plans.{plan_of}
 use Rattle.wave_effects.specs.Running.{IsBack, IsInHand}
 use Rattle.wave_board.specs.declared.board.Board.{Board}
 use Rattle.wave_board.specs.declared.origin.Origin.{Origin}
@@ -20,7 +21,7 @@ use Rattle.host_workers.specs.declared.ending.WorkerEnd.TheVariants as ending
 use Rattle.host_workers.specs.declared.packet.Packet.{Packet}
 use Rattle.host_workers.specs.declared.task.Task.{Task}
 use Rattle.host_workers.specs.declared.task.Task.TheVariants.{Segment, Again, Rest, Finished, Stopped}
-use Rattle.host_workers.specs.Endings.{Ended, IsFinishedRun, IsHaltedBy}
+use Rattle.host_workers.specs.Endings.{Ended, IsHaltedBy}
 use Rattle.host_workers.specs.Passes.{IsReady, NoHalts}
 
 module _ (origin : Origin) (pass : Known Trail) (worker : Worker) where
@@ -63,7 +64,7 @@ module _ (origin : Origin) (pass : Known Trail) (worker : Worker) where
   Asked (Ok (Segment lease)) = HasLease lease
   Asked (Ok Again) = IsReady origin pass worker
   Asked (Ok Rest) = IsReady origin pass worker
-  Asked (Ok Finished) = IsReady origin pass worker × IsFinishedRun origin.plan.now origin.start.now (labels_in pass.seen)
+  Asked (Ok Finished) = IsReady origin pass worker × IsFinishedRun (plan_of origin.plan.now) origin.start.now (labels_in pass.seen)
   Asked (Ok (Stopped why)) = IsReady origin pass worker × IsHaltedBy pass.number why pass.seen
   Asked (Err e) = IsCalm
 
