@@ -2,10 +2,13 @@
 use Rattle.std.proofs.Common.{◌≡◌, ◌<◌, ℕ, Bool, true, false, cond, if◌then◌else◌, ◌||◌, List, [], ◌∷◌, length, map, Option, Some, None, IsSome, option_map, unwrap_or, is_some, IsNone, IfSome, IsSomeAnd, ◌↔◌, Bor, refl, sym, ap, subst, ◌∙◌}
 use mathlib.Core.Bool.{true≢false}
 use Rattle.std.specs.BTreeSet.{insert_key}
+use Rattle.std.specs.FinMap as table
 use Rattle.std.specs.List.{list_any}
 use Rattle.std.specs.List.Sorted.{IsStrictlySortedBy}
 use Rattle.std.specs.Map.{lookup, keys_of}
 use Rattle.std.specs.Option.{option_copied}
+use Rattle.std.specs.Ordering.{match_ordering}
+use Rattle.std.specs.declared.cmp.Ordering.TheVariants.{Less, Equal, Greater}
 use Rattle.wave_base.proofs.Trees.{enter_there}
 use Rattle.wave_base.specs.declared.path.Path.{Path}
 use Rattle.wave_base.specs.declared.record.Record.{Record}
@@ -17,7 +20,7 @@ use Rattle.wave_base.specs.PathLaws.{path_eq_equiv, path_eq_decides}
 use Rattle.wave_base.specs.Shapes.{initial_fields}
 use Rattle.wave_base.specs.Starts.{shown_fields}
 use Rattle.wave_base.specs.Tree.{put, enter}
-use Rattle.context_tree.specs.Contexts.{Contexts, shot_at, in_order, kept, paths_of, is_there, fields_in, HasField, tree_of}
+use Rattle.context_tree.specs.Contexts.{Contexts, shot_at, in_order, kept, shots_with, with_fields, paths_of, is_there, fields_in, HasField, tree_of}
 use Rattle.context_tree.proofs.Ordered.{Entries, lookup_ordered, ordered_update, ordered_rises, keys_put}
 
 -- a key is found where the paths are equal
@@ -154,3 +157,26 @@ there_by_field t p field h = sym (there_in t.shots p) ∙ some (fields_in t.shot
     some : (o : Option (List Value)) → IsSomeAnd o (λ fields. field < length fields) → is_some o ≡ true
     some None k = absurd k
     some (Some fields) k = refl
+
+-- one context with other fields
+shots_put : (p : Path) (r : Record) (es : Entries) → map shot_at (table.put path_cmp p r es) ≡ shots_with p r.fields (map shot_at es)
+shots_put p r [] = refl
+shots_put p r (e ∷ es) =
+    elim (path_cmp p e.0) as (λ o. map shot_at (match_ordering o ((p, r) ∷ e ∷ es) ((e.0, r) ∷ es) (e ∷ table.put path_cmp p r es))
+    ≡ match_ordering o (shot_at (p, r) ∷ shot_at e ∷ map shot_at es) (shot_at (e.0, r) ∷ map shot_at es) (shot_at e ∷ shots_with p r.fields (map shot_at es))) [
+      | Less ↦ refl
+      | Equal ↦ refl
+      | Greater ↦ ap (λ shots. shot_at e ∷ shots) (shots_put p r es)
+    ]
+
+pub kept_with : (es fs : Entries) (p : Path) (r : Record) → ((q : Path) → lookup (path_eq q) fs ≡ cond (path_eq p q) (Some r) (lookup (path_eq q) es)) → keys_of fs ≡ keys_of es
+    → kept fs ≡ with_fields (kept es) p r.fields
+kept_with es fs p r h keys = λ i. record { shots = (ap (map shot_at) (ordered_update es fs p r h) ∙ shots_put p r (in_order es)) i; joined = keys i }
+
+pub put_fields : (shape : Shape) (es : Entries) (p : Path) (fields : List Value) → is_there (kept es) p ≡ true → tree_of shape (with_fields (kept es) p fields) ≡ put (tree_of shape (kept es)) p fields
+put_fields shape es p fields there =
+    let r : Record = record { fields = fields; children = [] } in
+    let fs : Entries = (p, r) ∷ es in
+    let found : (q : Path) → lookup (path_eq q) fs ≡ cond (path_eq p q) (Some r) (lookup (path_eq q) es) = λ q. ap (λ b. cond b (Some r) (lookup (path_eq q) es)) (path_eq_equiv.symm q p) in
+    let shots = ap (map shot_at) (ordered_update es fs p r found) ∙ shots_put p r (in_order es) in
+    (λ i. tree_of shape (record { shots = sym shots i; joined = [] })) ∙ tree_changed shape es fs p r found (there_kept es p ∙ there)

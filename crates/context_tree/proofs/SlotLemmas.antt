@@ -1,9 +1,10 @@
 -- Slots: the order in which contexts join.
-use Rattle.std.proofs.Common.{◌≡◌, ◌+◌, ◌<◌, ℕ, suc, Bool, true, false, not, cond, nat_lt, if◌then◌else◌, List, [], ◌∷◌, ◌++◌, length, map, position, slice_get, Option, Some, None, option_map, is_some, unwrap_or, refl, sym, ap, subst, ◌∙◌, arith}
+use Rattle.std.proofs.Common.{◌≡◌, ◌+◌, ◌<◌, ◌≤◌, ◌↔◌, ◌||◌, ℕ, zero, suc, Bool, true, false, not, cond, nat_lt, if◌then◌else◌, List, [], ◌∷◌, ◌++◌, length, map, position, slice_get, get_or, MutBor, Option, Some, None, IsSome, IsNone, option_map, is_some, unwrap_or, refl, sym, ap, subst, ◌∙◌, arith}
 use mathlib.Core.Bool.{true≢false}
 use Rattle.std.proofs.lemmas.Bool.{ltb-true, lt-ltb}
 use Rattle.std.proofs.lemmas.List.{length-append}
-use Rattle.std.proofs.lemmas.Option.{slice_get-map}
+use Rattle.std.proofs.lemmas.List.Quantifiers.{position-Some}
+use Rattle.std.proofs.lemmas.Option.{slice_get-map, slice_get-get_or}
 use Rattle.std.specs.List.{position_or_len}
 use Rattle.std.specs.List.{list_any}
 use Rattle.std.specs.Map.{lookup, keys_of}
@@ -106,3 +107,51 @@ module _ (es : Entries) (slot : ℕ) (p : Path) (is : slice_get (keys_of es) slo
       by : (o : Option (Path × Record)) → option_map (λ (e : Path × Record). e.0) o ≡ Some p → option_map (λ (e : Path × Record). e.1) o ≡ Some r → o ≡ Some (p, r)
       by None k v = absurd (true≢false (sym (ap is_some k)))
       by (Some e) k v = λ i. Some (same_Some e.0 p k i, same_Some e.1 r v i)
+
+-- what stands in a slot is there
+any_at : (p : Path) (ps : List Path) (slot : ℕ) → slice_get ps slot ≡ Some p → list_any (path_eq p) ps ≡ true
+any_at p [] slot h = absurd (true≢false (ap is_some (sym h)))
+any_at p (q ∷ ps) zero h = ap (λ b. b || list_any (path_eq p) ps) ((path_eq_decides p q).1 (sym (same_Some q p h)))
+any_at p (q ∷ ps) (suc slot) h = ap (λ b. path_eq p q || b) (any_at p ps slot h) ∙ or_true (path_eq p q)
+  where
+    or_true : (b : Bool) → (b || true) ≡ true
+    or_true true = refl
+    or_true false = refl
+
+pub slot_there : (es : Entries) (p : Path) (slot : ℕ) → slice_get (keys_of es) slot ≡ Some p → is_there (kept es) p ≡ true
+slot_there es p slot h = sym (there_kept es p) ∙ sym (any_found p es) ∙ any_at p (keys_of es) slot h
+
+keys_length : (es : Entries) → length (keys_of es) ≡ length es
+keys_length [] = refl
+keys_length (e ∷ es) = ap suc (keys_length es)
+
+-- a path's place among others
+pub place_of : (p : Path) (ps : List Path) (place : ℕ) → position (path_eq p) ps ≡ Some place → slice_get ps place ≡ Some p
+place_of p ps place h =
+    let at = position-Some (path_eq p) ps place p h in
+    slice_get-get_or ps place p at.0 ∙ ap Some (sym ((path_eq_decides p (get_or ps place p)).0 at.1))
+
+slot_below : (ps : List Path) (slot : ℕ) (p : Path) → slice_get ps slot ≡ Some p → slot < length ps
+slot_below [] slot p h = absurd (true≢false (ap is_some (sym h)))
+slot_below (q ∷ ps) zero p h = omega arith
+slot_below (q ∷ ps) (suc slot) p h = omega (arith, slot_below ps slot p h)
+
+-- the slot of a path that is there, or one past all
+module _ (es : Entries) (p : Path) (place : ℕ) (at : is_there (kept es) p ≡ true → slice_get (keys_of es) place ≡ Some p) (past : is_there (kept es) p ≡ false → length (keys_of es) ≤ place) where
+  pub there_below : place < length es → is_there (kept es) p ≡ true
+  there_below l = by (is_there (kept es) p) refl
+    where
+      by : (b : Bool) → is_there (kept es) p ≡ b → b ≡ true
+      by true e = refl
+      by false e = absurd (omega (arith, l, past e, keys_length es))
+
+  below_there : is_there (kept es) p ≡ true → place < length es
+  below_there there = omega (arith, slot_below (keys_of es) place p (at there), keys_length es)
+
+  pub none_past : (o : Option (MutBor Record)) → IsSome o ↔ (place < length es) → IsNone o ↔ (is_there (kept es) p ≡ false)
+  none_past None f = (λ n. by (is_there (kept es) p) refl, λ e. refl)
+    where
+      by : (b : Bool) → is_there (kept es) p ≡ b → b ≡ false
+      by true e = absurd (true≢false (sym (f.1 (below_there e))))
+      by false e = refl
+  none_past (Some r) f = (λ n. absurd (true≢false n), λ e. absurd (true≢false (sym (there_below (f.0 refl)) ∙ e)))

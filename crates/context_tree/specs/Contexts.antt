@@ -4,6 +4,7 @@ use Rattle.std.specs.FinMap as table
 use Rattle.std.specs.List.{list_any}
 use Rattle.std.specs.List.Sorted.{IsStrictlySortedBy}
 use Rattle.std.specs.Map.{keys_of}
+use Rattle.std.specs.Ordering.{match_ordering}
 use Rattle.wave_base.specs.declared.path.Path.{Path}
 use Rattle.wave_base.specs.declared.record.Record.{Record}
 use Rattle.wave_base.specs.declared.shape.Shape.{Shape}
@@ -59,6 +60,16 @@ tree_of shape t = record { paths = paths_of t; fields = shown_fields shape t.sho
 -- one field of a context set
 abbrev pub with_field : Tree (List Value) → Path → ℕ → Value → Tree (List Value)
 with_field t p field value = put t p (slice_set (t.fields p) field value)
+
+-- the contexts in path order, one of them with other fields
+abbrev pub shots_with : Path → List Value → List Shot → List Shot
+shots_with p fields [] = record { path = p; fields = fields } ∷ []
+shots_with p fields (s ∷ shots) =
+    match_ordering (path_cmp p s.path) (record { path = p; fields = fields } ∷ s ∷ shots) (record { path = s.path; fields = fields } ∷ shots) (s ∷ shots_with p fields shots)
+
+-- a context that is there with other fields
+abbrev pub with_fields : Contexts → Path → List Value → Contexts
+with_fields t p fields = record { shots = shots_with p fields t.shots; joined = t.joined }
 
 -- each context once, in path order
 abbrev pub IsOrdered : List Shot → Type 0

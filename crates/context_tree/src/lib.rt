@@ -2,6 +2,7 @@
 #![tactic(auto)]
 
 mod laws;
+mod lends;
 mod tree;
 
 pub use laws::{slots_stay, trees_tell_contexts, trees_that_fit};

@@ -20,7 +20,7 @@ use wave_base::{Children, Class, OutOfMemory, Path, Record, Seq, Shape, Shot, Va
 /// changes.
 #[derive(Debug, Drop)]
 pub struct Tree {
-    contexts: IndexMap<Path, Record>,
+    pub(crate) contexts: IndexMap<Path, Record>,
 }
 
 impl Model for Tree {
@@ -150,44 +150,6 @@ impl Tree {
     {
         match self.contexts.get_mut(path) {
             Some(record) => std::mem::replace(&mut record.fields, fields),
-            None => unreachable!(),
-        }
-    }
-
-    /// The same, where the context is looked for in a slot first. It may stand in another one: then it is looked up.
-    pub fn exchange_near(&mut self, slot: usize, path: &Path, fields: Seq<Value>) -> Seq<Value>
-        requires { is_there self.old path.now ≡ true }
-        ensures put { (shape : Shape) → tree_of shape self.new ≡ put (tree_of shape self.old) path.now fields }
-        ensures before { (shape : Shape) → (tree_of shape self.old).fields path.now ≡ result }
-        ensures joined { self.new.joined ≡ self.old.joined }
-    {
-        if self.stands_in(slot, path) {
-            self.exchange_at(slot, path, fields)
-        } else {
-            self.exchange(path, fields)
-        }
-    }
-
-    // Whether a slot is that of a path.
-    fn stands_in(&self, slot: usize, path: &Path) -> bool
-        ensures { IsTrue result → slice_get self.now.joined slot ≡ Some path.now }
-    {
-        if let Some((found, _)) = self.contexts.get_index(slot) {
-            found == path
-        } else {
-            false
-        }
-    }
-
-    // The same at the slot of the context.
-    fn exchange_at(&mut self, slot: usize, path: &Path, fields: Seq<Value>) -> Seq<Value>
-        requires { slice_get self.old.joined slot ≡ Some path.now }
-        ensures put { (shape : Shape) → tree_of shape self.new ≡ put (tree_of shape self.old) path.now fields }
-        ensures before { (shape : Shape) → (tree_of shape self.old).fields path.now ≡ result }
-        ensures joined { self.new.joined ≡ self.old.joined }
-    {
-        match self.contexts.get_index_mut(slot) {
-            Some(found) => std::mem::replace(&mut found.fields, fields),
             None => unreachable!(),
         }
     }

@@ -9,9 +9,9 @@ use Rattle.wave_base.specs.Shapes.{class_of}
 use Rattle.context_tree.specs.Contexts.{Contexts}
 use Rattle.resolved_service.specs.declared.service.Method.{Method}
 use Rattle.resolved_service.specs.declared.stmt.Stmt.{Stmt}
-use Rattle.resolved_service.specs.Fits.{FitsSteps, FitsElse}
+use Rattle.resolved_service.specs.Fits.{FitsSteps}
 use Rattle.resolved_service.specs.Meaning.{State, Outcome, Done, Trapped, Left, Act, and_then, give, choose, value, effect, effects, else_effect, called}
-use Rattle.resolved_service.specs.Steps.{Step, Steps, no_steps, step, If, Else, no_else, otherwise, steps_in}
+use Rattle.resolved_service.specs.Steps.{Step, Steps, no_steps, step, If, Else, steps_in}
 use Rattle.resolved_service.specs.View.{Tree}
 use Rattle.resolved_service.specs.World.{is_true}
 use Rattle.service_eval.specs.declared.code.Code.{Code}
@@ -24,7 +24,8 @@ use Rattle.service_eval.specs.inner.Turns.{mach, Does, AtOnce, GoesTo}
 use Rattle.service_eval.specs.Worlds.{Holds}
 use Rattle.service_eval.specs.inner.Traces.{Traps}
 use Rattle.service_eval.specs.inner.Ahead.{Advances, AdvancesBy, StopsIn, Stands, Chooses}
-use Rattle.service_eval.specs.inner.Weight.{steps_weight, else_weight, load}
+use Rattle.service_eval.specs.inner.Weight.{steps_weight, load}
+use Rattle.service_eval.proofs.ElseLemmas.{fits_else, else_weighs, else_is}
 use Rattle.service_eval.proofs.FinishTurns.{goes_from}
 use Rattle.service_eval.proofs.Outcomes.{traps_then, fails_through}
 use Rattle.service_eval.proofs.ReadyLemmas.{ready_with}
@@ -147,18 +148,6 @@ module _ (code : Code) (c0 c1 : Contexts) (m0 m1 : Machine) (s : Step) (is : mac
       one_stops code c0 c1 m0 m1 s no_steps e (here, subst (λ (x : Mach). Holds code.shape.now x.state.world.tree) (sym is) ready.holds)
 
 -- the blocks of an `if`
-fits_else : (shape : Shape) (methods : List Method) (class : ℕ) (other : Else) → FitsElse shape methods class other → FitsSteps shape methods class (else_steps other)
-fits_else shape methods class no_else h = tt
-fits_else shape methods class (otherwise ss) h = h
-
-else_weighs : (n : ℕ) (other : Else) → steps_weight n (else_steps other) ≡ else_weight n other
-else_weighs n no_else = refl
-else_weighs n (otherwise ss) = refl
-
-else_is : (call : ℕ → Path → List Value → Act (Option Value)) (n : ℕ) (p : Path) (other : Else) (st : State) → else_effect call n p other st ≡ effects call n p (else_steps other) st
-else_is call n p no_else st = refl
-else_is call n p (otherwise ss) st = refl
-
 module _ (code : Code) (contexts : Contexts) (m : Machine) (at : Span) (test : Tree) (body : Steps) (other : Else) where
   abbrev st : State
   st = (mach code contexts m).state

@@ -7,11 +7,12 @@ use Rattle.wave_base.specs.declared.value.Value.{Value}
 use Rattle.resolved_service.specs.declared.service.Method.{Method}
 use Rattle.resolved_service.specs.Meaning.{State, Returned, Finished, Outcome, Done, Trapped, Left, Act, and_then, ◌>>=◌, ◌>>◌, give, with_world, leave, choose, set_local, put_field, value, values, while_turns, for_test, for_body, effect, effects, else_effect, called}
 use Rattle.resolved_service.specs.Steps as s
-use Rattle.resolved_service.specs.Steps.{Step, Steps, no_steps, step, Else, no_else, otherwise}
+use Rattle.resolved_service.specs.Steps.{Step, Steps, no_steps, step, Else}
 use Rattle.resolved_service.specs.View.{Tree, Trees}
 use Rattle.resolved_service.specs.World.{is_true, spawning}
 use Rattle.service_eval.specs.inner.Items.{End, SetLocal, SetField, PutLocal, PutField, CutLocal, CutField, Branch, Require, Send, Spawn, Drop, Returns, Finishes, Eval, Evals, Block, Begin, Finish, Counts, else_steps}
 use Rattle.service_eval.specs.inner.Machines.{Mach, Rest, on_top, act, finish, come_of, comes_to}
+use Rattle.service_eval.proofs.ElseLemmas.{else_is}
 use Rattle.service_eval.proofs.Outcomes.{assoc, feeds, below, upon}
 
 module _ (methods : List Method) (m : Mach) where
@@ -92,13 +93,9 @@ module _ (methods : List Method) (m : Mach) where
   pub finish_parts : (at : Span) (e : Tree) → comes_to methods (on_top (Begin (s.Finish at (Some e))) m) ≡ comes_to methods (on_top (Eval e) (on_top (Finish at Finishes (length m.values)) m))
   finish_parts at e = one (s.Finish at (Some e)) e at Finishes (λ v. leave Finished (Some v)) (assoc (value k m.path e m.state) (λ v. give (Some v)) (leave Finished)) (λ v st. refl)
 
-  else_is : (other : Else) (st : State) → else_effect k TICKS m.path other st ≡ effects k TICKS m.path (else_steps other) st
-  else_is no_else st = refl
-  else_is (otherwise ss) st = refl
-
   chosen : (b : Bool) (body : Steps) (other : Else) (st : State) → choose b (effects k TICKS m.path body) (else_effect k TICKS m.path other) st ≡ choose b (effects k TICKS m.path body) (effects k TICKS m.path (else_steps other)) st
   chosen true body other st = refl
-  chosen false body other st = else_is other st
+  chosen false body other st = else_is k TICKS m.path other st
 
   pub if_parts : (at : Span) (e : Tree) (body : Steps) (other : Else) → comes_to methods (on_top (Begin (s.If at e body other)) m) ≡ comes_to methods (on_top (Eval e) (on_top (Finish at (Branch body (else_steps other)) (length m.values)) m))
   if_parts at e body other =

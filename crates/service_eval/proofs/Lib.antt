@@ -8,6 +8,7 @@ pub mod LeaveTurns
 pub mod LookLemmas
 pub mod PlainLemmas
 pub mod WantLemmas
+pub mod ElseLemmas
 pub mod Outcomes
 pub mod EvalLemmas
 pub mod Likeness

@@ -8,13 +8,14 @@ use Rattle.resolved_service.specs.declared.service.Last.{Last}
 use Rattle.resolved_service.specs.declared.service.Method.{Method}
 use Rattle.resolved_service.specs.Meaning.{State}
 use Rattle.resolved_service.specs.Steps as s
-use Rattle.resolved_service.specs.Steps.{Step, Steps, step, Else, no_else, otherwise, steps_in}
+use Rattle.resolved_service.specs.Steps.{Step, Steps, step, Else, steps_in}
 use Rattle.resolved_service.specs.View.{Tree, Trees, no_trees, tree, Op, And, Or, Call as CallOf, Child as ChildOf}
 use Rattle.service_eval.specs.declared.work.Caller.{Caller}
 use Rattle.service_eval.specs.inner.Items as i
 use Rattle.service_eval.specs.inner.Items.{Item, Eval, Evals, Apply, AndThen, OrElse, Invoke, Child, Block, Begin, Finish, Turns, Check, Counts, Again, Return, End, Branch, else_steps, return_of, to_return}
 use Rattle.service_eval.specs.inner.Machines.{Mach, on_top, with_value, cut_to, in_state, back_to, started, with_last}
-use Rattle.service_eval.specs.inner.Weight.{tree_weight, step_weight, steps_weight, else_weight, item_weight, items_weight, last_weight, methods_weight, load}
+use Rattle.service_eval.specs.inner.Weight.{tree_weight, step_weight, steps_weight, item_weight, items_weight, last_weight, methods_weight, load}
+use Rattle.service_eval.proofs.ElseLemmas.{else_weighs}
 use Rattle.service_eval.proofs.WeightLemmas.{tree_weighs, items_less, lighter, no_heavier, lighter_ticked, method_weighs, turn_weighs}
 
 end_weighs : (ticks : ℕ) (at : Span) (what : End) (base : ℕ) → 0 < item_weight ticks (Finish at what base)
@@ -31,10 +32,6 @@ end_weighs ticks at (i.Spawn event) base = omega arith
 end_weighs ticks at i.Drop base = omega arith
 end_weighs ticks at i.Returns base = omega arith
 end_weighs ticks at i.Finishes base = omega arith
-
-else_weighs : (ticks : ℕ) (other : Else) → steps_weight ticks (else_steps other) ≡ else_weight ticks other
-else_weighs ticks no_else = refl
-else_weighs ticks (otherwise steps) = refl
 
 -- what is left behind a method that ends early
 pub return_weighs : (ticks : ℕ) (items : List Item) → items_weight ticks (to_return items) ≤ items_weight ticks items

@@ -1,5 +1,5 @@
 -- Values that a row doesn't take.
-use Rattle.std.proofs.Common.{◌≡◌, ℕ, zero, suc, ◌<◌, ◌≤◌, Bool, true, false, ◌&&◌, nat_le, nat_lt, List, [], ◌∷◌, length, map, Some, Result, Err, refl, sym, ap, subst, ◌∙◌, arith}
+use Rattle.std.proofs.Common.{◌≡◌, ℕ, zero, suc, ◌<◌, ◌≤◌, ◌+◌, Bool, true, false, ◌&&◌, nat_le, nat_lt, List, [], ◌∷◌, length, map, Some, Result, Err, refl, sym, ap, subst, ◌∙◌, arith}
 use mathlib.Core.Bool.{true≢false}
 use Rattle.std.proofs.lemmas.Bool.Decides.{nat_tests}
 use Rattle.std.proofs.lemmas.List.{get_or_past}
@@ -12,7 +12,7 @@ use Rattle.wave_base.specs.Values.{kind_of}
 use Rattle.value_ops.specs.Answers.{Answers}
 use Rattle.value_ops.specs.declared.error.OpError.{OpError}
 use Rattle.value_ops.specs.Kinds.{Answer, From, answer_of, at_values}
-use Rattle.value_ops.specs.Operators.{Operator, no_operator, operators, operator_at, takes_of, apply_row}
+use Rattle.value_ops.specs.Operators.{Operator, no_operator, operators, operator_at, takes_of, gives_of, apply_row}
 use Rattle.value_ops.specs.Rows.{three}
 use Rattle.service_eval.specs.inner.Answers.{is_kind, are_kinds}
 
@@ -153,6 +153,38 @@ lesser_or_greater row low high =
     elim (nat_lt row 29) as (λ b. nat_lt row 29 ≡ b → takes_of row ≡ k.Int ∷ k.Int ∷ []) [
       | true ↦ λ e. let same : row ≡ 28 = grind (arith, nat_tests) in ap takes_of same
       | false ↦ λ e. let same : row ≡ 29 = grind (arith, nat_tests) in ap takes_of same
+    ] refl
+
+-- rows that stand one after the other and give values of one kind
+abbrev give_from : Kind → ℕ → ℕ → Type 0
+give_from kind low zero = Unit {0}
+give_from kind low (suc n) = (gives_of low ≡ kind) × give_from kind (suc low) n
+
+gives_within : (kind : Kind) (low n row : ℕ) → give_from kind low n → low ≤ row → row < low + n → gives_of row ≡ kind
+gives_within kind low zero row h l u = absurd (omega (arith, l, u))
+gives_within kind low (suc n) row h l u =
+    elim (nat_le row low) as (λ b. nat_le row low ≡ b → gives_of row ≡ kind) [
+      | true ↦ λ e. let same : row ≡ low = grind (arith, nat_tests) in ap gives_of same ∙ h.0
+      | false ↦ λ e. gives_within kind (suc low) n row h.1 (grind (arith, nat_tests)) (omega (arith, u))
+    ] refl
+
+pub sizes_give : (row : ℕ) → 23 ≤ row → row < 26 → gives_of row ≡ k.Int
+unfolding gives_of operators
+sizes_give row = gives_within k.Int 23 3 row (refl, (refl, (refl, tt)))
+
+pub writers_give : (row : ℕ) → 26 ≤ row → row < 28 → gives_of row ≡ k.Text
+unfolding gives_of operators
+writers_give row = gives_within k.Text 26 2 row (refl, (refl, tt))
+
+pub later_give : (row : ℕ) → 28 ≤ row → (row ≡ 32 → ⊥) → gives_of row ≡ k.Int
+unfolding gives_of operators
+later_give row low other =
+    elim (nat_lt row 32) as (λ b. nat_lt row 32 ≡ b → gives_of row ≡ k.Int) [
+      | true ↦ λ e. gives_within k.Int 28 4 row (refl, (refl, (refl, (refl, tt)))) low (grind (arith, nat_tests))
+      | false ↦ λ e. elim (nat_lt row 34) as (λ b. nat_lt row 34 ≡ b → gives_of row ≡ k.Int) [
+        | true ↦ λ f. let same : row ≡ 33 = grind (arith, nat_tests, other) in ap gives_of same
+        | false ↦ λ f. ap (λ (o : Operator). o.gives) (get_or_past operators row no_operator (grind (arith, nat_tests)))
+      ] refl
     ] refl
 
 -- past the table nothing is given

@@ -20,7 +20,7 @@ use Rattle.service_eval.specs.declared.code.Code.{Code}
 use Rattle.service_eval.specs.declared.machine.Machine.{Machine}
 use Rattle.service_eval.specs.declared.stop.Stop.{Stop}
 use Rattle.service_eval.specs.declared.stop.Stop.TheVariants as stop
-use Rattle.service_eval.specs.declared.work.Ending.TheVariants as ending
+use Rattle.service_eval.specs.declared.work.StatementEnd.TheVariants as ending
 use Rattle.service_eval.specs.declared.work.Variable.{Variable}
 use Rattle.service_eval.specs.declared.work.Variable.TheVariants as variable
 use Rattle.service_eval.specs.inner.Answers.{Gives, made, told}

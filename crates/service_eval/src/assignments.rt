@@ -15,13 +15,13 @@ ghost use Rattle.service_eval.specs.inner.Ready.{Ready};
 ghost use Rattle.service_eval.specs.inner.Turns.{mach, AtOnce, IsNext, Goes};
 ghost use Rattle.wave_base.specs.declared.limits.TheConstants.{TICKS};
 
-use crate::changes::change;
+use crate::changes::{change, set_variable};
 use crate::code::Code;
 use crate::edits::Edit;
 use crate::eval::found;
 use crate::machine::Machine;
 use crate::stop::Stop;
-use crate::work::{Ending, Variable, Work};
+use crate::work::{StatementEnd, Variable, Work};
 use context_tree::Tree;
 use resolved_service::{Action, Expr, Stmt};
 use wave_base::{Span, Value};
@@ -93,7 +93,7 @@ fn set(
     ensures memory { WhereWanting result (MayWantAtOnce code.entry contexts.old m.old (step_in at (assignment.Set variable e.entry))) }
 {
     match found(code, contexts, m, e) {
-        Ok(Some(value)) => told(change(code, contexts, m, at, variable, Edit::Set(value))),
+        Ok(Some(value)) => told(set_variable(code, contexts, m, at, variable, value)),
         Ok(None) => Ok(false),
         Err(e) => Err(e),
     }
@@ -119,7 +119,7 @@ fn put(
             m,
             at,
             variable,
-            Edit::Put(key, value),
+            &mut Edit::Put(key, value),
         )),
         Ok(None) => Ok(false),
         Err(e) => Err(e),
@@ -140,7 +140,7 @@ fn cut(
     ensures memory { WhereWanting result (MayWantAtOnce code.entry contexts.old m.old (step_in at (assignment.Cut variable key.entry))) }
 {
     match found(code, contexts, m, key) {
-        Ok(Some(key)) => told(change(code, contexts, m, at, variable, Edit::Cut(key))),
+        Ok(Some(key)) => told(change(code, contexts, m, at, variable, &mut Edit::Cut(key))),
         Ok(None) => Ok(false),
         Err(e) => Err(e),
     }
@@ -193,15 +193,15 @@ pub fn begin_assignment<'s>(
     let base = m.height();
     match change {
         Assignment::Set(variable, e) => {
-            let last = Work::Finish(at, Ending::Set(variable), base);
+            let last = Work::Finish(at, StatementEnd::Set(variable), base);
             m.push_two(Work::Eval(e), last)
         }
         Assignment::Put(variable, key, e) => {
-            let last = Work::Finish(at, Ending::Put(variable), base);
+            let last = Work::Finish(at, StatementEnd::Put(variable), base);
             m.push_three(Work::Eval(key), Work::Eval(e), last)
         }
         Assignment::Cut(variable, key) => {
-            let last = Work::Finish(at, Ending::Cut(variable), base);
+            let last = Work::Finish(at, StatementEnd::Cut(variable), base);
             m.push_two(Work::Eval(key), last)
         }
     }

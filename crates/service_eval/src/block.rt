@@ -18,7 +18,7 @@ use crate::finish::finish;
 use crate::machine::Machine;
 use crate::parts::first_of;
 use crate::stop::Stop;
-use crate::work::{Branches, Ending, ForLoop, Variable, WhileLoop, Work};
+use crate::work::{Branches, ForLoop, StatementEnd, Variable, WhileLoop, Work};
 use context_tree::Tree;
 use resolved_service::{Action, Expr, Stmt};
 use wave_base::Span;
@@ -106,7 +106,7 @@ fn begin_other<'s>(
     let base = m.height();
     match &stmt.action {
         Action::If(test, body, other) => {
-            let ending = Ending::Branch(Branches {
+            let ending = StatementEnd::Branch(Branches {
                 body: body.as_slice(),
                 other: else_of(other),
             });
@@ -125,13 +125,13 @@ fn begin_other<'s>(
             };
             begin_for(code, contexts, m, from, to, cycle)
         }
-        Action::Require(e) => begin_one(code, contexts, m, at, e, Ending::Require),
-        Action::Send(label, e) => begin_one(code, contexts, m, at, e, Ending::Send(label)),
+        Action::Require(e) => begin_one(code, contexts, m, at, e, StatementEnd::Require),
+        Action::Send(label, e) => begin_one(code, contexts, m, at, e, StatementEnd::Send(label)),
         Action::Spawn(event, args) => m.push_two(
             Work::Evals(args.as_slice()),
-            Work::Finish(at, Ending::Spawn(*event), base),
+            Work::Finish(at, StatementEnd::Spawn(*event), base),
         ),
-        Action::Do(e) => m.push_two(Work::Eval(e), Work::Finish(at, Ending::Drop, base)),
+        Action::Do(e) => m.push_two(Work::Eval(e), Work::Finish(at, StatementEnd::Drop, base)),
         Action::Return(value) => begin_return(code, contexts, m, at, value),
         Action::Finish(value) => begin_finish(code, contexts, m, at, value),
         _ => unreachable!(),
@@ -145,7 +145,7 @@ fn begin_one<'s>(
     m: &mut Machine<'s>,
     at: Span,
     e: &'s Expr,
-    ending: Ending<'s>,
+    ending: StatementEnd<'s>,
 ) -> Result<(), Stop>
     requires { AreNext code contexts.old m.old (i.Eval (tree_of e.now) ∷ i.Finish at (end_of ending) (length m.old.values.items) ∷ []) }
     ensures { GoOn code.entry contexts.old m.old (i.Eval (tree_of e.now) ∷ i.Finish at (end_of ending.entry) (length m.old.values.items) ∷ []) result contexts.new m.new }
@@ -173,7 +173,7 @@ fn begin_return<'s>(
     ensures { Goes code.entry contexts.old m.old (i.Begin (Return at (option_map tree_of value.now))) result contexts.new m.new }
 {
     match value {
-        Some(e) => begin_one(code, contexts, m, at, e, Ending::Return),
+        Some(e) => begin_one(code, contexts, m, at, e, StatementEnd::Return),
         None => give_back(code, contexts, m, None),
     }
 }
@@ -190,7 +190,7 @@ fn begin_finish<'s>(
     ensures { Goes code.entry contexts.old m.old (i.Begin (Finish at (option_map tree_of value.now))) result contexts.new m.new }
 {
     match value {
-        Some(e) => begin_one(code, contexts, m, at, e, Ending::Finish),
+        Some(e) => begin_one(code, contexts, m, at, e, StatementEnd::Finish),
         None => Err(Stop::Ended(None)),
     }
 }
@@ -210,11 +210,11 @@ fn begin_for<'s>(
     let at = cycle.at;
     let base = m.height();
     let slot = cycle.counter as usize;
-    let last = Work::Finish(at, Ending::Set(Variable::Local(slot + 1)), base);
+    let last = Work::Finish(at, StatementEnd::Set(Variable::Local(slot + 1)), base);
     match m.push_three(Work::Eval(to), last, Work::Counts(cycle, false)) {
         Ok(()) => m.push_two(
             Work::Eval(from),
-            Work::Finish(at, Ending::Set(Variable::Local(slot)), base),
+            Work::Finish(at, StatementEnd::Set(Variable::Local(slot)), base),
         ),
         Err(e) => Err(e),
     }

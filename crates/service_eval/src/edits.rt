@@ -26,11 +26,12 @@ pub enum Edit {
 }
 
 impl Edit {
-    /// Changes one of some values; nothing changes where it is not there. Memory is asked for by a new key alone.
+    /// Changes one of some values; nothing changes where it is not there. A value that is set is taken from the edit. Memory is
+    /// asked for by a new key alone.
     #[inline(always)]
-    pub fn apply_at(self, values: &mut Vec<Value>, i: usize, at: Span) -> Result<(), Stop>
-        ensures revises { Revises self at values.old.items i result values.new.items }
-        ensures memory { WhereWanting result (PutsNewKey self (get_or values.old.items i nothing)) }
+    pub fn apply_at(&mut self, values: &mut Vec<Value>, i: usize, at: Span) -> Result<(), Stop>
+        ensures revises { Revises self.old at values.old.items i result values.new.items }
+        ensures memory { WhereWanting result (PutsNewKey self.old (get_or values.old.items i nothing)) }
     {
         if i < values.len() {
             self.apply(&mut values[i], at)
@@ -42,17 +43,17 @@ impl Edit {
 
     // Changes a value.
     #[inline(always)]
-    fn apply(self, value: &mut Value, at: Span) -> Result<(), Stop>
-        ensures alters { Alters (edited self value.old) at value.old result value.new }
-        ensures memory { WhereWanting result (PutsNewKey self value.old) }
+    fn apply(&mut self, value: &mut Value, at: Span) -> Result<(), Stop>
+        ensures alters { Alters (edited self.old value.old) at value.old result value.new }
+        ensures memory { WhereWanting result (PutsNewKey self.old value.old) }
     {
         match self {
             Edit::Set(new) => {
-                *value = new;
+                std::mem::swap(value, new);
                 Ok(())
             }
-            Edit::Put(key, new) => put(value, &key, &new, at),
-            Edit::Cut(key) => cut(value, &key, at),
+            Edit::Put(key, new) => put(value, key, new, at),
+            Edit::Cut(key) => cut(value, key, at),
         }
     }
 }

@@ -3,19 +3,19 @@
 ghost use Rattle.resolved_service.specs.Steps.{steps_in};
 ghost use Rattle.service_eval.specs.inner.Machines.{own};
 ghost use Rattle.service_eval.specs.inner.Wants.{WhereWanting, IsNewKey, MayWantAtEnd, value_of};
-ghost use Rattle.service_eval.specs.declared.work.Ending.TheVariants as ending;
+ghost use Rattle.service_eval.specs.declared.work.StatementEnd.TheVariants as ending;
 ghost use Rattle.service_eval.specs.inner.Items as i;
 ghost use Rattle.service_eval.specs.inner.Items.{end_of};
 ghost use Rattle.service_eval.specs.inner.Turns.{IsNext, Goes};
 
 use crate::calls::give_back;
-use crate::changes::change;
+use crate::changes::{change, set_variable};
 use crate::code::Code;
 use crate::edits::Edit;
 use crate::machine::Machine;
 use crate::stop::Stop;
 use crate::trace::trapped;
-use crate::work::{Branches, Ending, Variable, Work};
+use crate::work::{Branches, StatementEnd, Variable, Work};
 use context_tree::Tree;
 use wave_base::{Span, TrapKind, Txt};
 
@@ -25,7 +25,7 @@ pub fn finish<'s>(
     contexts: &mut Tree,
     m: &mut Machine<'s>,
     at: Span,
-    ending: Ending<'s>,
+    ending: StatementEnd<'s>,
     base: usize,
 ) -> Result<(), Stop>
     requires { IsNext code contexts.old m.old (i.Finish at (end_of ending) base) }
@@ -33,16 +33,16 @@ pub fn finish<'s>(
     ensures memory { WhereWanting result (MayWantAtEnd code.entry contexts.old m.old base (end_of ending.entry)) }
 {
     match ending {
-        Ending::Set(variable) => set(code, contexts, m, at, variable, base),
-        Ending::Put(variable) => put(code, contexts, m, at, variable, base),
-        Ending::Cut(variable) => cut(code, contexts, m, at, variable, base),
-        Ending::Branch(branches) => branch(code, contexts, m, at, branches, base),
-        Ending::Require => demand(code, contexts, m, at, base),
-        Ending::Send(label) => send(code, contexts, m, at, label, base),
-        Ending::Spawn(event) => spawn(code, contexts, m, at, event, base),
-        Ending::Drop => forget(code, contexts, m, at, base),
-        Ending::Return => return_with(code, contexts, m, at, base),
-        Ending::Finish => finish_with(code, contexts, m, at, base),
+        StatementEnd::Set(variable) => set(code, contexts, m, at, variable, base),
+        StatementEnd::Put(variable) => put(code, contexts, m, at, variable, base),
+        StatementEnd::Cut(variable) => cut(code, contexts, m, at, variable, base),
+        StatementEnd::Branch(branches) => branch(code, contexts, m, at, branches, base),
+        StatementEnd::Require => demand(code, contexts, m, at, base),
+        StatementEnd::Send(label) => send(code, contexts, m, at, label, base),
+        StatementEnd::Spawn(event) => spawn(code, contexts, m, at, event, base),
+        StatementEnd::Drop => forget(code, contexts, m, at, base),
+        StatementEnd::Return => return_with(code, contexts, m, at, base),
+        StatementEnd::Finish => finish_with(code, contexts, m, at, base),
     }
 }
 
@@ -60,7 +60,7 @@ fn set<'s>(
     ensures memory { WhereWanting result ⊥ }
 {
     let value = m.take(base);
-    change(code, contexts, m, at, variable, Edit::Set(value))
+    set_variable(code, contexts, m, at, variable, value)
 }
 
 // The variable's map has the pair.
@@ -77,7 +77,7 @@ fn put<'s>(
     ensures memory { WhereWanting result (IsNewKey (value_of code.entry contexts.old m.old variable) (own 0 base m.old.values.items)) }
 {
     let (key, value) = m.take_two(base);
-    change(code, contexts, m, at, variable, Edit::Put(key, value))
+    change(code, contexts, m, at, variable, &mut Edit::Put(key, value))
 }
 
 // The variable's map has the key no more.
@@ -94,7 +94,7 @@ fn cut<'s>(
     ensures memory { WhereWanting result ⊥ }
 {
     let key = m.take(base);
-    change(code, contexts, m, at, variable, Edit::Cut(key))
+    change(code, contexts, m, at, variable, &mut Edit::Cut(key))
 }
 
 // The statements for the value of a test.

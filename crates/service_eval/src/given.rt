@@ -6,11 +6,26 @@ ghost use Rattle.wave_base.specs.declared.trap.TrapKind.{TrapKind};
 ghost use Rattle.wave_base.specs.declared.value.Kind.{Kind};
 ghost use Rattle.wave_base.specs.declared.value.Value.{Value};
 
-use value_ops::rows::{
-    ABS, ADD, AT, DIV, EQ, GE, GT, HAS, KEY, LE, LEN, LT, MAX, MIN, MUL, NE, NEG, NUM, REM, SIZE,
-    SUB, SUM,
-};
-use wave_base::{TrapKind, Value};
+use crate::stop::Stop;
+use value_ops::OpError;
+use value_ops::rows::*;
+use wave_base::{Kind, TrapKind, Value};
+
+/// The kind of what a row gives.
+#[inline(always)]
+#[tactic(auto, unfolding(value_ops::specs::Operators::gives_of, value_ops::specs::Operators::operators))]
+pub fn kind_given(row: usize) -> Kind
+    ensures { result ≡ gives_of row }
+{
+    match row {
+        NOT | EQ | NE | LT | LE | GT | GE => Kind::Bool,
+        BEQ | BNE | TEQ | TNE | TLT => Kind::Bool,
+        HAS | STARTS => Kind::Bool,
+        CAT | STR | PART => Kind::Text,
+        PUT | CUT => Kind::Map,
+        _ => Kind::Int,
+    }
+}
 
 /// Whether a row gives an int of two ints.
 #[inline(always)]
@@ -93,6 +108,43 @@ pub fn asks(row: usize) -> bool
     }
 }
 
+/// Whether a row says something of two truth values.
+#[inline(always)]
+#[tactic(auto, unfolding(value_ops::specs::Operators::takes_of, value_ops::specs::Operators::operators))]
+pub fn compares_flags(row: usize) -> bool
+    ensures { IsTrue result → takes_of row ≡ Kind.Bool ∷ Kind.Bool ∷ [] }
+{
+    match row {
+        BEQ | BNE => true,
+        _ => false,
+    }
+}
+
+/// Whether a row says something of two texts.
+#[inline(always)]
+#[tactic(auto, unfolding(value_ops::specs::Operators::takes_of, value_ops::specs::Operators::gives_of, value_ops::specs::Operators::operators))]
+pub fn compares_texts(row: usize) -> bool
+    ensures takes { IsTrue result → takes_of row ≡ Kind.Text ∷ Kind.Text ∷ [] }
+    ensures gives { IsTrue result → gives_of row ≡ Kind.Bool }
+{
+    match row {
+        TEQ | TNE | TLT | STARTS => true,
+        _ => false,
+    }
+}
+
+/// Whether a row gives a text of two texts.
+#[inline(always)]
+#[tactic(auto, unfolding(value_ops::specs::Operators::takes_of, value_ops::specs::Operators::operators))]
+pub fn joins(row: usize) -> bool
+    ensures { IsTrue result → takes_of row ≡ Kind.Text ∷ Kind.Text ∷ [] }
+{
+    match row {
+        CAT => true,
+        _ => false,
+    }
+}
+
 /// The int that was given, if one was.
 #[inline(always)]
 pub fn int_in(given: Result<Value, TrapKind>) -> Option<i64>
@@ -112,5 +164,27 @@ pub fn flag_in(given: Result<Value, TrapKind>) -> Option<bool>
     match given {
         Ok(Value::Bool(b)) => Some(b),
         _ => None,
+    }
+}
+
+/// The value that an operator gave, if it did.
+#[inline(always)]
+pub fn given(answer: Result<Value, Stop>) -> Option<Value>
+    ensures { IfSome result (λ v. answer ≡ Ok v) }
+{
+    match answer {
+        Ok(value) => Some(value),
+        Err(_) => None,
+    }
+}
+
+/// The same of an answer that has no place.
+#[inline(always)]
+pub fn answered(answer: Result<Value, OpError>) -> Option<Value>
+    ensures { IfSome result (λ v. answer ≡ Ok v) }
+{
+    match answer {
+        Ok(value) => Some(value),
+        Err(_) => None,
     }
 }

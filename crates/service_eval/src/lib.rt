@@ -13,6 +13,7 @@ mod event;
 mod fields;
 mod finish;
 mod given;
+mod held;
 mod look;
 mod loops;
 mod machine;
@@ -22,6 +23,7 @@ mod plain;
 mod rows;
 mod run;
 mod stop;
+mod texts;
 mod trace;
 mod work;
 

@@ -19,11 +19,12 @@ use crate::fields::item;
 use crate::machine::Machine;
 use crate::operand::is_true;
 use crate::parts::first_of;
-use crate::rows::apply_two;
+use crate::rows::{apply_two, trapping};
 use crate::stop::Stop;
 use crate::work::{ForLoop, WhileLoop, Work};
 use context_tree::Tree;
 use resolved_service::Stmt;
+use value_ops::apply_ints;
 use value_ops::rows::{ADD, LT};
 use wave_base::{Span, Value};
 
@@ -353,9 +354,13 @@ fn is_below(code: Code<'_>, m: &Machine<'_>, at: Span, slot: usize) -> Result<Va
 
 // What `counter + 1` gives.
 #[inline(always)]
+#[tactic(auto, unfolding(value_ops::specs::Operators::takes_of, value_ops::specs::Operators::operators))]
 fn one_more(code: Code<'_>, m: &Machine<'_>, at: Span, slot: usize) -> Result<Value, Stop>
     ensures { Gives (apply_row row_add (get_or m.now.locals.items slot nothing ∷ Int (pos 1) ∷ [])) at result }
 {
     let counter = item(m.locals.as_slice(), slot);
-    apply_two(code.alloc, ADD, counter.value(), &Value::Int(1), at)
+    match counter.value() {
+        Value::Int(n) => trapping(apply_ints(ADD, *n, 1), at),
+        other => apply_two(code.alloc, ADD, other, &Value::Int(1), at),
+    }
 }

@@ -1,31 +1,51 @@
-//! Ints and truth values that expressions have, found without values of their own: where neither a call nor a trap is met.
+//! Ints, truth values and texts that expressions have, found at once: where neither a call nor a trap is met.
 
-ghost use Rattle.std.specs.Prelude.{◌≡◌, map, get_or, Ok, IfSome};
-ghost use Rattle.context_tree.specs.Contexts.{tree_of as shown};
+ghost use Rattle.std.specs.Prelude.{◌≡◌, map, option_map, Ok, IfSome};
 ghost use Rattle.resolved_service.specs.View.{Op, tree, no_trees, tree_of, trees_of};
-ghost use Rattle.resolved_service.specs.World.{nothing};
 ghost use Rattle.service_eval.specs.inner.Turns.{IsWorth};
 ghost use Rattle.wave_base.specs.declared.value.Value.{Value};
 
-use crate::given::{asks, compares, flag_in, int_in, measures, reads_int, reckons, turns_int};
-use crate::look::{View, above};
+use crate::given::{
+    asks, compares, compares_flags, compares_texts, flag_in, int_in, kind_given, measures,
+    reads_int, reckons, turns_int,
+};
+use crate::held::held;
+use crate::look::View;
 use crate::rows::apply_one;
 use crate::stop::Stop;
+use crate::texts::text_of;
 use resolved_service::{Expr, Node};
-use value_ops::{apply_int, apply_ints, read_map};
-use wave_base::{Path, Span, Value};
+use std::alloc::Global;
+use value_ops::{apply_int, apply_ints, compare_flags, compare_texts, read_map};
+use wave_base::{Kind, Span, Value};
 
-/// The int or the truth value that an expression has, if it is found so.
+/// The int, the truth value or the text that an expression has, if it is found so: whatever a constant or a variable has,
+/// and what operators give of those.
 #[inline(always)]
 pub fn plain<'v>(view: &View<'v, '_>, e: &'v Expr) -> Option<Value>
     ensures { IfSome result (λ v. IsWorth view.now (tree_of e.now) v) }
 {
-    match number(view, e) {
-        Some(n) => Some(Value::Int(n)),
-        None => match flag(view, e) {
-            Some(b) => Some(Value::Bool(b)),
+    match &e.node {
+        Node::Op(row, args) => plain_of(view, *row, args.as_slice(), e.at),
+        Node::And(_, _) => truth(flag(view, e)),
+        Node::Or(_, _) => truth(flag(view, e)),
+        _ => match held(view, e) {
+            Some(value) => copied(view.code.alloc, value),
             None => None,
         },
+    }
+}
+
+// What an operator gives: a row says of which kind that is, so that no operand is looked at as another.
+#[inline(always)]
+fn plain_of<'v>(view: &View<'v, '_>, row: u16, args: &'v [Expr], at: Span) -> Option<Value>
+    ensures { IfSome result (λ v. IsWorth view.now (Op at row (trees_of (map tree_of args.now))) v) }
+{
+    match kind_given(row as usize) {
+        Kind::Int => int(number_of(view, row, args, at)),
+        Kind::Bool => truth(flag_of(view, row, args, at)),
+        Kind::Text => text_of(view, row, args, at),
+        Kind::Map => None,
     }
 }
 
@@ -105,6 +125,7 @@ fn number_of_two<'v>(
 }
 
 /// The truth value that an expression has.
+#[cycle(flag)]
 pub fn flag<'v>(view: &View<'v, '_>, e: &'v Expr) -> Option<bool>
     ensures { IfSome result (λ b. IsWorth view.now (tree_of e.now) (Value.Bool b)) }
 {
@@ -127,15 +148,28 @@ pub fn flag<'v>(view: &View<'v, '_>, e: &'v Expr) -> Option<bool>
     }
 }
 
+#[cycle(flag)]
 fn flag_of<'v>(view: &View<'v, '_>, row: u16, args: &'v [Expr], at: Span) -> Option<bool>
     ensures { IfSome result (λ b. IsWorth view.now (Op at row (trees_of (map tree_of args.now))) (Value.Bool b)) }
 {
     match args {
+        [a] => flag_of_one(view, row, a, at),
         [a, b] => flag_of_two(view, row, a, b, at),
         _ => None,
     }
 }
 
+#[cycle(flag)]
+fn flag_of_one<'v>(view: &View<'v, '_>, row: u16, a: &'v Expr, at: Span) -> Option<bool>
+    ensures { IfSome result (λ b. IsWorth view.now (Op at row (tree (tree_of a.now) no_trees)) (Value.Bool b)) }
+{
+    match flag(view, a) {
+        Some(b) => flag_found(apply_one(view.code.alloc, row as usize, &Value::Bool(b), at)),
+        None => None,
+    }
+}
+
+#[cycle(flag)]
 fn flag_of_two<'v>(
     view: &View<'v, '_>,
     row: u16,
@@ -153,7 +187,30 @@ fn flag_of_two<'v>(
             },
             None => None,
         }
-    } else if asks(row as usize) {
+    } else if compares_flags(row as usize) {
+        match flag(view, a) {
+            Some(first) => match flag(view, b) {
+                Some(second) => Some(compare_flags(row as usize, first, second)),
+                None => None,
+            },
+            None => None,
+        }
+    } else {
+        flag_of_held(view, row, a, b, at)
+    }
+}
+
+// The same of a map and an int, or of two texts, which are looked at where they are kept.
+fn flag_of_held<'v>(
+    view: &View<'v, '_>,
+    row: u16,
+    a: &'v Expr,
+    b: &'v Expr,
+    at: Span,
+) -> Option<bool>
+    ensures { IfSome result (λ r. IsWorth view.now (Op at row (tree (tree_of a.now) (tree (tree_of b.now) no_trees))) (Value.Bool r)) }
+{
+    if asks(row as usize) {
         match held(view, a) {
             Some(Value::Map(map)) => match number(view, b) {
                 Some(key) => flag_in(read_map(row as usize, map, key)),
@@ -161,44 +218,17 @@ fn flag_of_two<'v>(
             },
             _ => None,
         }
+    } else if compares_texts(row as usize) {
+        match held(view, a) {
+            Some(Value::Str(first)) => match held(view, b) {
+                Some(Value::Str(second)) => Some(compare_texts(row as usize, first, second)),
+                _ => None,
+            },
+            _ => None,
+        }
     } else {
         None
     }
-}
-
-// Where the value of a constant or a variable is kept.
-fn held<'v>(view: &View<'v, '_>, e: &'v Expr) -> Option<&'v Value>
-    ensures { IfSome result (λ v. IsWorth view.now (tree_of e.now) v.now) }
-{
-    match &e.node {
-        Node::Const(value) => Some(value),
-        Node::Local(slot) => kept(view.m.locals.as_slice(), *slot as usize),
-        Node::Field(f) => kept_field(view, &view.m.path, *f as usize),
-        Node::Above(level, f) => {
-            let path = above(&view.m.path, *level as usize);
-            kept_field(view, &path, *f as usize)
-        }
-        _ => None,
-    }
-}
-
-// A field of a context that is there.
-#[inline(always)]
-fn kept_field<'v>(view: &View<'v, '_>, path: &Path, field: usize) -> Option<&'v Value>
-    ensures { IfSome result (λ v. v.now ≡ get_or ((shown view.now.code.shape.now view.now.contexts.now).fields path.now) field nothing) }
-{
-    match view.contexts.get_near(view.m.near, path) {
-        Some(record) => kept(record.fields.as_slice(), field),
-        None => None,
-    }
-}
-
-// One of some values.
-#[inline(always)]
-fn kept(values: &[Value], at: usize) -> Option<&Value>
-    ensures { IfSome result (λ v. v.now ≡ get_or values.now at nothing) }
-{
-    values.get(at)
 }
 
 // The int that an operator gave.
@@ -208,5 +238,52 @@ fn int_found(given: Result<Value, Stop>) -> Option<i64>
     match given {
         Ok(Value::Int(n)) => Some(n),
         _ => None,
+    }
+}
+
+// The truth value that an operator gave.
+fn flag_found(given: Result<Value, Stop>) -> Option<bool>
+    ensures { IfSome result (λ b. given ≡ Ok (Value.Bool b)) }
+{
+    match given {
+        Ok(Value::Bool(b)) => Some(b),
+        _ => None,
+    }
+}
+
+// The int as a value.
+#[inline(always)]
+fn int(found: Option<i64>) -> Option<Value>
+    ensures { result ≡ option_map Value.Int found }
+{
+    match found {
+        Some(n) => Some(Value::Int(n)),
+        None => None,
+    }
+}
+
+// The truth value as a value.
+#[inline(always)]
+fn truth(found: Option<bool>) -> Option<Value>
+    ensures { result ≡ option_map Value.Bool found }
+{
+    match found {
+        Some(b) => Some(Value::Bool(b)),
+        None => None,
+    }
+}
+
+// A value equal to this one, if there is memory for it.
+#[inline(always)]
+fn copied(alloc: Global, value: &Value) -> Option<Value>
+    ensures { IfSome result (λ v. v ≡ value.now) }
+{
+    match value {
+        Value::Int(n) => Some(Value::Int(*n)),
+        Value::Bool(b) => Some(Value::Bool(*b)),
+        _ => match value.copy(alloc) {
+            Ok(value) => Some(value),
+            Err(_) => None,
+        },
     }
 }

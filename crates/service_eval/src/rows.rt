@@ -189,9 +189,9 @@ fn placed(answer: Result<Value, OpError>, at: Span) -> Result<Value, Stop>
     }
 }
 
-// The answer of an operator that takes no memory, at a place.
+/// The answer of an operator that takes no memory, at a place.
 #[inline(always)]
-fn trapping(answer: Result<Value, TrapKind>, at: Span) -> Result<Value, Stop>
+pub fn trapping(answer: Result<Value, TrapKind>, at: Span) -> Result<Value, Stop>
     ensures { Gives answer at result }
 {
     match answer {

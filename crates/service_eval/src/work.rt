@@ -54,7 +54,7 @@ pub struct Callee {
 
 /// What a statement does with the values of its expressions.
 #[derive(Drop)]
-pub enum Ending<'s> {
+pub enum StatementEnd<'s> {
     /// Gives the variable the value.
     Set(Variable),
     /// Puts a pair into the variable's map: the key, and then what it has.
@@ -110,7 +110,7 @@ pub enum Work<'s> {
     /// Statements, one after the other.
     Block(&'s [Stmt]),
     /// The rest of a statement whose expressions have their values.
-    Finish(Span, Ending<'s>, usize),
+    Finish(Span, StatementEnd<'s>, usize),
     /// The turns of a `while`.
     Turns(WhileLoop<'s>),
     /// The same, where the test has its value.

@@ -5,11 +5,11 @@ use Rattle.wave_base.specs.declared.value.Value.{Value}
 use Rattle.resolved_service.specs.Steps.{Step, Steps, no_steps, Else, no_else, otherwise, steps_in}
 use Rattle.resolved_service.specs.View.{Tree, Trees, tree_of, trees_of}
 use Rattle.service_eval.specs.declared.work.Caller.{Caller}
-use Rattle.service_eval.specs.declared.work.Ending.{Ending}
+use Rattle.service_eval.specs.declared.work.StatementEnd.{StatementEnd}
 use Rattle.service_eval.specs.declared.work.ForLoop.{ForLoop}
 use Rattle.service_eval.specs.declared.work.WhileLoop.{WhileLoop}
 use Rattle.service_eval.specs.declared.work.Variable.TheVariants as variable
-use Rattle.service_eval.specs.declared.work.Ending.TheVariants as ending
+use Rattle.service_eval.specs.declared.work.StatementEnd.TheVariants as ending
 use Rattle.service_eval.specs.declared.work.Work.{Work}
 use Rattle.service_eval.specs.declared.work.Work.TheVariants as work
 
@@ -39,7 +39,7 @@ pub data Item : Type 0 where
   Counts Again : (at : Span) (counter : ℕ) (body : Steps) → Item
   Return : (locals values : List Value) (up : Bool) → Item
 
-abbrev pub end_of : Ending → End
+abbrev pub end_of : StatementEnd → End
 end_of (ending.Set (variable.Local s)) = SetLocal s
 end_of (ending.Set (variable.Field f)) = SetField f
 end_of (ending.Put (variable.Local s)) = PutLocal s

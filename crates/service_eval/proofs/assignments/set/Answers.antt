@@ -23,9 +23,9 @@ returns-in-Ok-Some-clause-does c =
     let found = rw c.in-Ok-Some.field-0-is at c.in-Ok-Some.ensures.finds in
     let x = c.in-Ok-Some.value in
     let step = step_in at (assignment.Set v c.args.e) in
-    subst (λ r. AtOnce code c.args.contexts.now c.args.m.now step r c.change.new.contexts c.change.new.m) (sym c.told.ensures)
-    (told_once code c.args.contexts.now c.change.new.contexts c.args.m.now c.change.new.m step (changing M.path at v (edit.Set x)) c.change.result
-    (one_found k TICKS M.path step M.state (tree_of c.args.e.now) (λ x. changing M.path at v (edit.Set x)) (set_means k TICKS M.path at M.state v c.args.e) x found) c.change.ensures.does)
+    subst (λ r. AtOnce code c.args.contexts.now c.args.m.now step r c.set_variable.new.contexts c.set_variable.new.m) (sym c.told.ensures)
+    (told_once code c.args.contexts.now c.set_variable.new.contexts c.args.m.now c.set_variable.new.m step (changing M.path at v (edit.Set x)) c.set_variable.result
+    (one_found k TICKS M.path step M.state (tree_of c.args.e.now) (λ x. changing M.path at v (edit.Set x)) (set_means k TICKS M.path at M.state v c.args.e) x found) c.set_variable.ensures.does)
 
 pub returns-in-Err-clause-does : goal.returns-in-Err-clause-does
 returns-in-Err-clause-does c =
@@ -38,7 +38,7 @@ returns-in-Err-clause-does c =
 pub returns-in-Ok-Some-clause-memory : goal.returns-in-Ok-Some-clause-memory
 returns-in-Ok-Some-clause-memory c =
     let P = MayWantAtOnce c.args.code c.args.contexts.now c.args.m.now (step_in c.args.at (assignment.Set c.args.variable c.args.e)) in
-    subst (λ r. WhereWanting r P) (sym c.told.ensures) (told_said c.change.result (λ h. absurd h) c.change.ensures.memory)
+    subst (λ r. WhereWanting r P) (sym c.told.ensures) (told_said c.set_variable.result (λ h. absurd h) c.set_variable.ensures.memory)
 
 pub returns-in-Err-clause-memory : goal.returns-in-Err-clause-memory
 returns-in-Err-clause-memory c = said_of {A = Bool} (Err c.in-Err.e) (set_wants c.args.code c.args.contexts.now c.args.m.now c.args.at c.args.variable c.args.e) c.in-Err.ensures.memory

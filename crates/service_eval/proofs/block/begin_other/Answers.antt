@@ -6,21 +6,16 @@ use Rattle.service_eval.specs.inner.Items as i
 use Rattle.service_eval.specs.inner.Items.{Eval, Evals, Block, Begin, Finish, Turns, Counts, else_steps}
 use Rattle.service_eval.specs.inner.Machines.{on_top, comes_to}
 use Rattle.service_eval.specs.inner.Turns.{mach, IsNext, Goes}
-use Rattle.resolved_service.specs.Fits.{FitsSteps, FitsElse}
-use Rattle.wave_base.specs.declared.shape.Shape.{Shape}
+use Rattle.resolved_service.specs.Fits.{FitsSteps}
 use Rattle.wave_base.specs.Shapes.{class_of}
-use Rattle.resolved_service.specs.declared.service.Method.{Method}
 use Rattle.service_eval.specs.inner.Weight.{load}
 use Rattle.service_eval.proofs.LighterTurns.{if_lighter, one_lighter, while_lighter, spawn_lighter}
 use Rattle.service_eval.proofs.BlockLemmas as l
+use Rattle.service_eval.proofs.ElseLemmas.{fits_else}
 use Rattle.service_eval.proofs.BlockTurns.{step_turn, at_step, to_parts, from_parts}
 use Rattle.service_eval.proofs.ReadyLemmas.{ready_with}
 use Rattle.service_eval.proofs.StepRows.{if_step, while_step, for_step, spawn_step}
 use Rattle.service_eval.proofs.block.begin_other.Goals as goal
-
-fits_else : (shape : Shape) (methods : List Method) (class : ℕ) (other : s.Else) → FitsElse shape methods class other → FitsSteps shape methods class (else_steps other)
-fits_else shape methods class s.no_else h = tt
-fits_else shape methods class (s.otherwise ss) h = h
 
 pub begin_one-requires : goal.begin_one-requires
 begin_one-requires c =

@@ -3,7 +3,7 @@ use Rattle.context_tree.specs.Contexts.{tree_of as shown}
 use Rattle.wave_base.specs.declared.limits.TheConstants.{TICKS}
 use Rattle.resolved_service.specs.Meaning.{called}
 use Rattle.service_eval.specs.declared.edits.Edit.TheVariants as edit
-use Rattle.service_eval.specs.declared.work.Ending.TheVariants as ending
+use Rattle.service_eval.specs.declared.work.StatementEnd.TheVariants as ending
 use Rattle.service_eval.specs.inner.Changes.{changing}
 use Rattle.service_eval.specs.inner.Items.{end_of}
 use Rattle.service_eval.specs.inner.Machines.{Mach}

@@ -3,7 +3,7 @@ use Rattle.context_tree.specs.Contexts.{tree_of as shown}
 use Rattle.wave_base.specs.declared.limits.TheConstants.{TICKS}
 use Rattle.resolved_service.specs.Meaning.{called}
 use Rattle.service_eval.specs.declared.edits.Edit.TheVariants as edit
-use Rattle.service_eval.specs.declared.work.Ending.TheVariants as ending
+use Rattle.service_eval.specs.declared.work.StatementEnd.TheVariants as ending
 use Rattle.service_eval.specs.inner.Changes.{changing}
 use Rattle.service_eval.specs.inner.Items.{end_of}
 use Rattle.service_eval.specs.inner.Machines.{Mach}
@@ -13,8 +13,8 @@ use Rattle.service_eval.proofs.ChangeLemmas.{set_ends, change_turn}
 use Rattle.service_eval.proofs.ReadyLemmas.{ready_with}
 use Rattle.service_eval.proofs.finish.set.Goals as goal
 
-pub change-requires : goal.change-requires
-change-requires c =
+pub set_variable-requires : goal.set_variable-requires
+set_variable-requires c =
     let T = shown c.args.code.shape.now c.args.contexts.now in
     subst (Ready c.args.code.shape.now c.args.code.methods.now) (sym (c.take-value.ensures.rest T)) (ready_with _ _ _ _ _ c.requires c.requires.items.1)
 
@@ -26,10 +26,10 @@ returns-clause-goes c =
     let at = c.args.at in
     let v = c.args.variable in
     let took = c.take-value.ensures.rest T in
-    let does : Does code c.args.contexts.now c.take-value.new.self (changing M.path at v (edit.Set c.take-value.result)) c.change.result c.change.new.contexts c.change.new.m =
-    subst (λ p. Does code c.args.contexts.now c.take-value.new.self (changing p at v (edit.Set c.take-value.result)) c.change.result c.change.new.contexts c.change.new.m) (ap (λ (x : Mach). x.path) took) c.change.ensures.does in
-    change_turn code c.args.contexts.now c.change.new.contexts c.args.m.now c.take-value.new.self c.change.new.m at c.args.base (end_of (ending.Set v)) (changing M.path at v (edit.Set c.take-value.result)) c.change.result took
+    let does : Does code c.args.contexts.now c.take-value.new.self (changing M.path at v (edit.Set c.take-value.result)) c.set_variable.result c.set_variable.new.contexts c.set_variable.new.m =
+    subst (λ p. Does code c.args.contexts.now c.take-value.new.self (changing p at v (edit.Set c.take-value.result)) c.set_variable.result c.set_variable.new.contexts c.set_variable.new.m) (ap (λ (x : Mach). x.path) took) c.set_variable.ensures.does in
+    change_turn code c.args.contexts.now c.set_variable.new.contexts c.args.m.now c.take-value.new.self c.set_variable.new.m at c.args.base (end_of (ending.Set v)) (changing M.path at v (edit.Set c.take-value.result)) c.set_variable.result took
     (set_ends (called code.methods.now TICKS) TICKS M.path at M.state (drop c.args.base M.values) v ∙ ap (λ x. changing M.path at v (edit.Set x) M.state) (sym c.take-value.ensures.value)) does
 
 pub returns-clause-memory : goal.returns-clause-memory
-returns-clause-memory c = c.change.ensures.memory
+returns-clause-memory c = c.set_variable.ensures.memory

@@ -12,7 +12,7 @@ returns-else-i-len-clause-revises c =
     let past : length vs ≤ c.args.i = omega (arith, c.if-i-len.false, c.len.ensures) in
     record {
       value = c.apply-else-i-len.new.value;
-      alters = subst (λ v. Alters (edited c.args.self v) c.args.at v c.apply-else-i-len.result c.apply-else-i-len.new.value) (sym (get_or_past vs c.args.i nothing past)) c.apply-else-i-len.ensures.alters;
+      alters = subst (λ v. Alters (edited c.args.self.now v) c.args.at v c.apply-else-i-len.result c.apply-else-i-len.new.value) (sym (get_or_past vs c.args.i nothing past)) c.apply-else-i-len.ensures.alters;
       list = sym (set_past vs c.args.i c.apply-else-i-len.new.value past);
     }
 
@@ -20,4 +20,4 @@ pub returns-else-i-len-clause-memory : goal.returns-else-i-len-clause-memory
 returns-else-i-len-clause-memory c =
     let vs = c.args.values.now.items in
     let past : length vs ≤ c.args.i = omega (arith, c.if-i-len.false, c.len.ensures) in
-    subst (λ v. WhereWanting c.apply-else-i-len.result (PutsNewKey c.args.self v)) (sym (get_or_past vs c.args.i nothing past)) c.apply-else-i-len.ensures.memory
+    subst (λ v. WhereWanting c.apply-else-i-len.result (PutsNewKey c.args.self.now v)) (sym (get_or_past vs c.args.i nothing past)) c.apply-else-i-len.ensures.memory

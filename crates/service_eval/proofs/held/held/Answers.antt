@@ -8,7 +8,7 @@ use Rattle.service_eval.specs.inner.Turns.{IsWorth}
 use Rattle.wave_base.specs.declared.limits.TheConstants.{TICKS}
 use Rattle.wave_base.specs.Starts.{shown_fields}
 use Rattle.service_eval.proofs.PlainLemmas.{if_some}
-use Rattle.service_eval.proofs.plain.held.Goals as goal
+use Rattle.service_eval.proofs.held.held.Goals as goal
 
 pub returns-in-Field : goal.returns-in-Field
 unfolding read_field
