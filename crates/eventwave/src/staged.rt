@@ -44,7 +44,7 @@ pub fn stage_alone<K: Sink>(
     }
 }
 
-/// Runs a script with policies by workers, and lists it. The lines of each piece are written while it is run.
+/// Runs a script with policies by workers, and lists it. The lines of a piece are written before the next one is known, and while workers run it.
 pub fn stage_together<R: Threads + Wait + Sync, K: Sink + Send, G: Gate + Sync>(
     team: &Team<R, G>,
     engine: Engine,

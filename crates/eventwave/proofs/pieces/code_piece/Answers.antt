@@ -9,5 +9,5 @@ live_piece-requires-clause-can g c = (c.args.service.now, c.args.plan.workers, r
 
 pub returns-clause-behind : goal.returns-clause-behind
 returns-clause-behind g c =
-    let e = c.in_ok-live_piece.ensures in
+    let e = c.in_ok-stages.ensures in
     record { program = refl; after = e.after; staged = e.staged; trapped = e.trapped }
