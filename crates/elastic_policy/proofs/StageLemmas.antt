@@ -16,7 +16,7 @@ use Rattle.script_reader.specs.declared.elastic.Elastic.{Elastic}
 use Rattle.script_reader.specs.declared.elastic.Part.{Part}
 use Rattle.script_reader.specs.Elastics.{IsPart, IsElastic}
 use Rattle.elastic_policy.specs.Moves.{policy_moves}
-use Rattle.elastic_policy.specs.Stages.{Staged, Turn, no_loads, first_staged, batches_alone, part_turn, batches_turn, next_of, ArePlaced, FitsHosts, IsStaged}
+use Rattle.elastic_policy.specs.Stages.{Staged, Turn, no_loads, first_staged, batches_alone, part_turn, batches_turn, next_of, with_no_loads, ArePlaced, FitsHosts, IsStaged}
 
 -- ---- contexts that nothing entered
 
@@ -54,13 +54,8 @@ first_is shape elastic start loads left n s k l p h =
     let count : loads ≡ no_loads (length (first_start shape).places) = l ∙ ap no_loads (k ∙ ap (λ x. length x.places) s) in
     subst IsStaged (sym (λ i. record { hosts = elastic.hosts; start = s i; loads = count i; left = p i })) (first_fits shape elastic h)
 
--- where nothing was run, nothing is loaded
-pub none_entered : (shape : Shape) (elastic : Elastic) (s : Staged) → s ≡ first_staged shape elastic → s.loads ≡ no_loads (length s.start.places)
-none_entered shape elastic s e = ap (λ (s : Staged). s.loads) e ∙ ap (λ (s : Staged). no_loads (length s.start.places)) (sym e)
-
-pub shots_ordered : (shape : Shape) (elastic : Elastic) (s : Staged) → s ≡ first_staged shape elastic → IsStrictlySortedBy path_cmp (map (λ x. x.path) s.start.shots)
-unfolding IsStrictlySortedBy
-shots_ordered shape elastic s e = subst (λ (s : Staged). IsStrictlySortedBy path_cmp (map (λ x. x.path) s.start.shots)) (sym e) (tt, tt)
+pub fits_unloaded : (s : Staged) → IsStaged s → IsStaged (with_no_loads s)
+fits_unloaded s h = record { some_host = h.some_host; few_hosts = h.few_hosts; placed = unloaded s.hosts s.start.places s.loads h.placed; policies = h.policies }
 
 -- ---- one part's turn
 

@@ -78,6 +78,10 @@ passed s = record {
 abbrev pub staged_after : Staged → Finished → Staged
 staged_after s done = record { hosts = s.hosts; start = start_after s.start done; loads = done.loads; left = s.left }
 
+-- the same where no ticket entered any context yet: a piece that is next runs from there as well, and leaves the same behind it
+abbrev pub with_no_loads : Staged → Staged
+with_no_loads s = record { hosts = s.hosts; start = s.start; loads = no_loads (length s.start.places); left = s.left }
+
 -- ---- what policies may be asked with
 
 -- contexts in path order, each on one of so many hosts, with their loads

@@ -3,10 +3,12 @@
 
 mod live;
 mod plan;
+mod progress;
 mod stages;
 mod sums;
 mod turn;
 
 pub use live::LiveStages;
 pub use plan::plan_moves;
+pub use progress::Progress;
 pub use stages::Stages;

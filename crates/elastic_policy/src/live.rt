@@ -1,16 +1,16 @@
 //! A script with policies, as it is run on one tree of contexts that is changed in place.
 
-ghost use Rattle.std.specs.Prelude.{◌≡◌, ◌≤◌, IfOk, OnOk};
+ghost use Rattle.std.specs.Prelude.{◌≡◌, ◌≤◌, map, IfOk, OnOk};
 ghost use Rattle.std.specs.List.{zip};
+ghost use Rattle.std.specs.List.Sorted.{IsStrictlySortedBy};
 ghost use Rattle.wave_base.specs.declared.limits.TheConstants.{HOSTS};
+ghost use Rattle.wave_base.specs.Paths.{path_cmp};
 ghost use Rattle.wave_base.specs.Scripts.{IsPolicy, IsScript};
 ghost use Rattle.wave_base.specs.Starts.{IsStart};
 ghost use Rattle.script_fold.specs.Lives.{IsTold};
 ghost use Rattle.script_fold.specs.Runs.{finished_of};
 ghost use Rattle.elastic_policy.specs.Moves.{moves_of, policy_moves};
-ghost use Rattle.wave_base.specs.declared.shape.Shape.{Shape};
-ghost use Rattle.script_reader.specs.declared.elastic.Elastic.{Elastic};
-ghost use Rattle.elastic_policy.specs.Stages.{first_staged, piece_of, passed, staged_after, ArePlaced, FitsHosts, IsStaged, MayFollow};
+ghost use Rattle.elastic_policy.specs.Stages.{piece_of, passed, staged_after, with_no_loads, ArePlaced, FitsHosts, IsStaged, MayFollow};
 
 use crate::plan::plan_moves;
 use crate::stages::{Stages, one_batch};
@@ -19,7 +19,7 @@ use script_reader::Part;
 use std::alloc::Global;
 use std::collections::VecDeque;
 use std::marker::Model;
-use wave_base::{Line, OutOfMemory, Policy, Script, Seq, Start, Ticket};
+use wave_base::{Finished, Line, OutOfMemory, Policy, Script, Seq, Start, Ticket};
 
 /// A script with policies as it is run piece by piece on a Start that is kept: what a piece costs does not grow with the contexts that it leaves
 /// alone.
@@ -86,11 +86,12 @@ fn part_moves(
 }
 
 impl LiveStages {
-    /// Where nothing was run yet.
+    /// From where these stand, to run what is next: what the piece before loaded is forgotten.
     pub fn begin(alloc: Global, stages: Stages) -> Result<LiveStages, OutOfMemory>
         requires staged { IsStaged stages }
-        requires first { (shape : Shape) × (elastic : Elastic) × (stages ≡ first_staged shape elastic) }
-        ensures { IfOk result (λ s. s ≡ stages) }
+        requires shots { IsStrictlySortedBy path_cmp (map (λ x. x.path) stages.start.shots) }
+        ensures same { IfOk result (λ s. s ≡ with_no_loads stages) }
+        ensures staged { IfOk result IsStaged }
     {
         let (hosts, start, left) = stages.into_parts();
         Ok(LiveStages {
@@ -107,11 +108,46 @@ impl LiveStages {
         self.live.next()
     }
 
-    /// What the next piece begins with.
-    pub fn start(&self, alloc: Global) -> Result<Start, OutOfMemory>
-        ensures { IfOk result (λ s. s ≡ self.now.start) }
+    /// The same, where what the piece before loaded is forgotten.
+    pub fn forget_loads(self) -> LiveStages
+        requires { IsStaged self }
+        ensures same { result ≡ with_no_loads self }
+        ensures staged { IsStaged result }
     {
-        self.live.start(alloc)
+        let LiveStages {
+            hosts,
+            mut live,
+            left,
+        } = self;
+        live.forget_loads();
+        LiveStages { hosts, live, left }
+    }
+
+    /// The same on a Start of its own.
+    pub fn keep(self, alloc: Global) -> Result<Stages, OutOfMemory>
+        ensures { IfOk result (λ s. s ≡ self) }
+    {
+        let LiveStages { hosts, live, left } = self;
+        let next = live.next();
+        let nothing = Told {
+            results: Seq::new(alloc),
+            made: Seq::new(alloc),
+            names: Seq::new(alloc),
+        };
+        let Finished {
+            results: _,
+            made: _,
+            names: _,
+            places,
+            shots,
+            loads,
+        } = live.finished(alloc, nothing)?;
+        let start = Start {
+            shots,
+            places,
+            next,
+        };
+        Ok(Stages::from_parts(hosts, start, loads, left))
     }
 
     /// The next piece, where one is left: the moves that a policy asks for, or a part's batches. What has no line is passed by.

@@ -99,6 +99,23 @@ impl Stages {
         (self.hosts, self.start, self.left)
     }
 
+    /// So many hosts, what the next piece begins with, the tickets of the piece before that entered each context, and what is left to be run.
+    pub(crate) fn from_parts(
+        hosts: u8,
+        start: Start,
+        loads: Seq<u64>,
+        left: VecDeque<Part>,
+    ) -> Stages
+        ensures { result ≡ record { hosts = hosts; start = start; loads = loads; left = left.items } }
+    {
+        Stages {
+            hosts,
+            start,
+            loads,
+            left,
+        }
+    }
+
     /// What the next piece begins with.
     pub fn start(&self) -> &Start
         ensures { result.now ≡ self.now.start }

@@ -7,19 +7,15 @@ use Rattle.std.proofs.KnownBytes.{Appends-nil, Appends-trans}
 use Rattle.std.specs.List.{concat, slice_get}
 use Rattle.std.specs.Option.{option_and_then, option_map_or}
 use Rattle.wave_base.specs.declared.finished.Finished.{Finished}
-use Rattle.wave_base.specs.declared.numbers.Ticket.{Ticket}
 use Rattle.wave_base.specs.declared.outcome.EventResult.{EventResult}
 use Rattle.wave_base.specs.declared.shape.Shape.{Shape}
 use Rattle.wave_base.specs.declared.script.Script.{Script}
 use Rattle.wave_base.specs.declared.start.Start.{Start}
-use Rattle.wave_base.specs.Scripts.{IsScript}
-use Rattle.wave_base.specs.Starts.{IsStart}
 use Rattle.wave_io.specs.Streams.{AppendsFront}
 use Rattle.resolved_service.specs.declared.service.Resolved.{Resolved}
 use Rattle.service_code.specs.declared.program.Program.{Program}
 use Rattle.script_fold.specs.declared.told.Told.{Told}
 use Rattle.script_fold.specs.Lives.{IsTold}
-use Rattle.wave_meaning.specs.Meaning.{IsFit, results_at}
 use Rattle.plan_actors.specs.Plans.{Plan}
 use Rattle.listing_out.specs.Listing.{lines_from, shown_from}
 use Rattle.script_reader.specs.declared.elastic.Elastic.{Elastic}
@@ -36,8 +32,8 @@ use Rattle.due_stages.specs.Listed.{IsFrontListed, IsListedTo, IsPieceListed, Is
 use Rattle.due_answer.specs.declared.task.Engine.{Engine}
 use Rattle.due_answer.specs.Tasks.{workers_of}
 use Rattle.eventwave.specs.inner.Engines.{CanMake}
-use Rattle.eventwave.specs.inner.Stages.{elastic_of, listing_of, piece_plan}
-use Rattle.eventwave.proofs.MadeLemmas.{evaluated, front_behind, lines_by}
+use Rattle.eventwave.specs.inner.Stages.{CanRunPiece, elastic_of, listing_of, piece_plan}
+use Rattle.eventwave.proofs.MadeLemmas.{front_behind, lines_by}
 
 -- ---- whether an event trapped
 
@@ -140,38 +136,17 @@ module _ (work : StagedWork) where
         few = piece.few;
       }
 
-      pub can_make_it : (start : Start) → start ≡ now.start → CanMake work.service plan start
+      can_make_it : (start : Start) → start ≡ now.start → CanMake work.service plan start
       can_make_it start from = subst (CanMake work.service plan) (sym (from ∙ start_is)) (subst (λ (p : Plan). CanMake work.service p s.start) (sym plan_is) can_piece)
 
       same_ran : ran_by plan.program now.start plan.script ≡ ran_by work.program s.start script
       same_ran = λ i. ran_by (plan_is i).program (start_is i) (plan_is i).script
 
-      -- the evaluator gives the same, on the shape of the program
-      pub by_evaluator : (shape : Shape) → shape ≡ work.program.shape → results_at shape work.service now.start script ≡ ran_by work.program s.start script
-      by_evaluator shape e = (λ i. results_at (e i) work.service (start_is i) script) ∙ sym (evaluated work.service (piece_plan work.program script engine) s.start can_piece)
-
-      pub evaluator_fits : (shape : Shape) → shape ≡ work.program.shape → IsFit shape work.service
-      evaluator_fits shape e = subst (λ x. IsFit x work.service) (sym e) (piece.code.typed.shape_is, piece.code.fits)
-
-      pub script_fits : (shape : Shape) → shape ≡ work.program.shape → IsScript shape script
-      script_fits shape e = subst (λ x. IsScript x script) (sym e) can_piece.fits.script
-
-      pub start_fits : (shape : Shape) → shape ≡ work.program.shape → IsStart shape script.hosts now.start
-      start_fits shape e = subst (λ (x : Shape × Start). IsStart x.0 script.hosts x.1) (sym (λ i. (e i, start_is i))) piece.begins
-
-      pub follows_evaluated : (shape : Shape) → shape ≡ work.program.shape → MayFollow now (results_at shape work.service now.start script)
-      follows_evaluated shape e = subst (MayFollow now) (sym (by_evaluator shape e)) (subst (λ x. MayFollow x (ran_by work.program s.start script)) (sym behind) piece.follows)
-
-      pub first_evaluated : (first : Ticket) → first ≡ now.start.next → 1 ≤ first.0
-      first_evaluated first f = subst (λ (t : Ticket). 1 ≤ t.0) (sym (f ∙ ap (λ (x : Start). x.next) start_is)) piece.begins.first_next
-
-      pub few_evaluated : (shape : Shape) → shape ≡ work.program.shape → (results : List EventResult) → results ≡ (results_at shape work.service now.start script).results → length results ≤ 2 ^ 32 - 1
-      few_evaluated shape e results r =
-          let same : length results ≡ length (ran_by work.program s.start script).results = ap length r ∙ ap (λ (f : Finished). length f.results) (by_evaluator shape e) in
-          omega (arith, same, piece.few, piece.begins.first_next)
-
-      pub may_follow : MayFollow now (ran_by plan.program now.start plan.script)
+      may_follow : MayFollow now (ran_by plan.program now.start plan.script)
       may_follow = subst (MayFollow now) (sym same_ran) (subst (λ x. MayFollow x (ran_by work.program s.start script)) (sym behind) piece.follows)
+
+      pub can_run : IsStaged now → CanRunPiece work.service plan now
+      can_run staged = record { can = can_make_it now.start refl; staged = staged; follows = may_follow }
 
       same_events : (start : Start) → start ≡ now.start → lines_by plan start ≡ events_from work.program.shape s.start.next.0 (ran_by work.program s.start script)
       same_events start from = λ i. lines_by (plan_is i) ((from ∙ start_is) i)
@@ -186,16 +161,6 @@ module _ (work : StagedWork) where
           let lines = subst (λ xs. Appends mid new (take front.0 xs)) (same_events start from) front.1 in
           let whole = within work.service work.program (elastic_of work.stages) s h.text trapped script front.0 piece places in
           (whole.0, subst (Appends old new) whole.1 (Appends-trans old mid new h.text _ h.written lines))
-
-      -- the lines of what the evaluator gave
-      pub evaluated_lines : (shape : Shape) (first : ℕ) → shape ≡ work.program.shape → first ≡ now.start.next.0 → events_from shape first (results_at shape work.service now.start script) ≡ lines_by plan now.start
-      evaluated_lines shape first e f = λ i. events_from ((e ∙ ap (λ (p : Plan). p.program.shape) (sym plan_is)) i) (f i) ((by_evaluator shape e ∙ sym same_ran) i)
-
-      pub after_evaluated : (shape : Shape) (after : Staged) → shape ≡ work.program.shape → after ≡ staged_after now (results_at shape work.service now.start script) → after ≡ staged_after now (ran_by plan.program now.start plan.script)
-      after_evaluated shape after e is = is ∙ ap (staged_after now) (by_evaluator shape e ∙ sym same_ran)
-
-      pub traps_evaluated : (shape : Shape) (results : List EventResult) → shape ≡ work.program.shape → results ≡ (results_at shape work.service now.start script).results → any_trap results ≡ any_trap (ran_by plan.program now.start plan.script).results
-      traps_evaluated shape results e r = ap any_trap r ∙ ap (λ (f : Finished). any_trap f.results) (by_evaluator shape e ∙ sym same_ran)
 
       -- and behind it
       pub has_come : (program' : Program) (start : Start) (after : Staged) (t : Bool) (new : Option (List ℕ)) → program' ≡ plan.program → start ≡ now.start → after ≡ staged_after now (ran_by plan.program now.start plan.script) → IsStaged after

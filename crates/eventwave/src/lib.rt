@@ -6,7 +6,9 @@ mod alone;
 mod ending;
 mod engines;
 mod giving;
+mod light;
 mod made;
+mod pieces;
 mod pouring;
 mod reading;
 mod response;
@@ -14,5 +16,6 @@ mod staged;
 mod team;
 mod together;
 mod top;
+mod way;
 
 pub use top::{eventwave, eventwave_alone, start};

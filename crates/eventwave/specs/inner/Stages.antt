@@ -2,22 +2,26 @@
 use Rattle.std.specs.Prelude.{◌≡◌, Bool, Some}
 use Rattle.wave_base.specs.declared.script.Script.{Script}
 use Rattle.wave_base.specs.declared.start.Start.{Start}
+use Rattle.resolved_service.specs.declared.service.Resolved.{Resolved}
 use Rattle.service_code.specs.declared.program.Program.{Program}
 use Rattle.script_reader.specs.declared.elastic.Elastic.{Elastic}
 use Rattle.plan_actors.specs.Plans.{Plan}
 use Rattle.command_words.specs.declared.command.Command.{Command}
 use Rattle.command_words.specs.declared.command.Places.{Places}
 use Rattle.command_words.specs.Inputs.{runs_workers}
-use Rattle.elastic_policy.specs.Stages.{Staged}
+use Rattle.elastic_policy.specs.Progress.{come_to}
+use Rattle.elastic_policy.specs.Stages.{Staged, IsStaged, MayFollow, staged_after}
 use Rattle.due_parts.specs.declared.answer.Answer.{Answer}
 use Rattle.due_parts.specs.Runs.{nearest_workers}
+use Rattle.due_parts.specs.Told.{any_trap}
 use Rattle.due_stages.specs.declared.work.StagedWork.{StagedWork}
 use Rattle.due_stages.specs.Accepted.{CanStage}
 use Rattle.due_stages.specs.Elastic.{listed_of}
 use Rattle.due_answer.specs.declared.task.Engine.{Engine}
 use Rattle.due_answer.specs.Tasks.{staged_of, workers_of}
 use Rattle.eventwave.specs.declared.made.Made.{Made}
-use Rattle.eventwave.specs.inner.Engines.{IsMade}
+use Rattle.eventwave.specs.declared.pieces.Behind.{Behind}
+use Rattle.eventwave.specs.inner.Engines.{CanMake, IsMade, given_by}
 
 -- the script with policies of which no piece was run
 abbrev pub elastic_of : Staged → Elastic
@@ -44,3 +48,16 @@ piece_plan program script engine = record { program = program; script = script; 
 pub record IsPieceMade (engine : Engine) (plan : Plan) (start : Start) (it : Made) : Type 0 where
   pub workers : plan.workers ≡ nearest_workers (workers_of engine)
   pub made : IsMade engine plan start it
+
+-- it can be run from where the script has come, which stands without it, and the script may go on behind it
+pub record CanRunPiece (service : Resolved) (plan : Plan) (s : Staged) : Type 0 where
+  pub can : CanMake service plan s.start
+  pub staged : IsStaged s
+  pub follows : MayFollow s (given_by plan s.start)
+
+-- what is behind it
+pub record IsBehind (plan : Plan) (s : Staged) (behind : Behind) : Type 0 where
+  pub program : behind.program ≡ plan.program
+  pub after : come_to behind.stages ≡ staged_after s (given_by plan s.start)
+  pub staged : IsStaged (come_to behind.stages)
+  pub trapped : behind.trapped ≡ any_trap (given_by plan s.start).results

@@ -38,14 +38,25 @@ impl Gate for Crowd {
     }
 }
 
+const FOUR: &[u8] =
+    b"request buy(1,1,1)\nrequest buy(1,2,1)\nrequest buy(1,3,1)\nrequest buy(1,4,1)\n";
+
+/// The same, and a policy.
+const FOUR_AND_POLICY: &[u8] = b"request buy(1,1,1)
+request buy(1,2,1)
+request buy(1,3,1)
+request buy(1,4,1)
+settle
+balance by 1
+";
+
 // Whether four events that buy at four stalls miss each other, and how many came: by workers they meet.
 fn four_buy<R: Threads + Wait + Sync>(
     rt: &R,
     alloc: Global,
     words: &str,
+    script: &[u8],
 ) -> Result<(u64, u64), OutOfMemory> {
-    let script =
-        b"request buy(1,1,1)\nrequest buy(1,2,1)\nrequest buy(1,3,1)\nrequest buy(1,4,1)\n";
     let input = joined(alloc, MARKET, script)?;
     let gate = Crowd {
         many: 4,
@@ -66,7 +77,10 @@ fn four_segments_are_out_at_once(rt: HostRuntime) -> Result<(), Fail> {
         "run",
         "trace --workers 16",
     ] {
-        assert_eq!(rt; four_buy(&rt, alloc, words)?, (0, 4));
+        assert_eq!(rt; four_buy(&rt, alloc, words, FOUR)?, (0, 4));
+    }
+    for words in ["run --workers 4", "run --workers 16"] {
+        assert_eq!(rt; four_buy(&rt, alloc, words, FOUR_AND_POLICY)?, (0, 4));
     }
     Ok(())
 }
@@ -81,7 +95,7 @@ fn a_schedule_has_no_workers(rt: HostRuntime) -> Result<(), Fail> {
         "run --workers 16 --schedule newest",
         "trace --schedule 5",
     ] {
-        assert_eq!(rt; four_buy(&rt, alloc, words)?, (0, 0));
+        assert_eq!(rt; four_buy(&rt, alloc, words, FOUR)?, (0, 0));
     }
     Ok(())
 }

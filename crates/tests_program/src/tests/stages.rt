@@ -226,6 +226,145 @@ const EMPTY: Staged = Staged {
     last: b"done 0\n",
 };
 
+/// A service with a loop, whose events create none.
+const TOWN: &[u8] = b"service Town {
+  var built: int = 0;
+  context House[int] { var rooms: int = 1; method build() { rooms = rooms + 1; } }
+  event build(a: int, b: int): int {
+    here { for i in a to b { House[i].build(); } built = built + b - a; }
+    reply built;
+  }
+  event add(i: int): int { down House[i] { rooms = rooms + 1; } reply rooms; }
+}
+";
+
+/// A service with a loop, in which an event creates others.
+const MILL: &[u8] = b"service Mill {
+  var ground: int = 0;
+  context Stone[int] { var turns: int = 0; }
+  event grind(s: int, n: int): int {
+    here { for i in 0 to n { spawn turn(s); } }
+    down Stone[s] { turns = turns + 1; }
+    reply turns;
+  }
+  event turn(s: int): int { down Stone[s] { turns = turns + 10; } reply turns; }
+}
+";
+
+/// No batch has two events, so that only one worker could ever run at a time, though the service has a loop.
+const SINGLE: Staged = Staged {
+    service: TOWN,
+    script: b"hosts 2
+request build(0,3)
+settle
+request add(1)
+settle
+balance by 1
+request add(1)
+settle
+drain 0 to 1
+snapshot
+",
+    status: 0,
+    lines: b"#1 build = 3
+#2 add = 3
+#3 moved / to 1
+#4 add = 4
+#5 moved /House[0] to 1
+#6 moved /House[1] to 1
+#7 moved /House[2] to 1
+#8 snapshot 4
+#8 at / built=3
+#8 at /House[0] rooms=2
+#8 at /House[1] rooms=4
+#8 at /House[2] rooms=2
+",
+    places: b"place / 1
+place /House[0] 1
+place /House[1] 1
+place /House[2] 1
+",
+    last: b"done 8\n",
+};
+
+/// Batches of two events and pieces of moves or of one event by turns.
+const BY_TURNS: Staged = Staged {
+    service: TOWN,
+    script: b"hosts 3
+request build(0,2)
+request add(1)
+settle
+balance by 1
+request add(0)
+request add(1)
+settle
+drain 1 to 2
+request add(0)
+settle
+balance by 4
+snapshot
+request build(1,3)
+settle
+drain 0 to 1
+request add(2)
+",
+    status: 0,
+    lines: b"#1 build = 2
+#2 add = 3
+#3 moved / to 1
+#4 add = 3
+#5 add = 4
+#6 moved / to 2
+#7 add = 4
+#8 snapshot 3
+#8 at / built=2
+#8 at /House[0] rooms=4
+#8 at /House[1] rooms=4
+#9 build = 4
+#10 moved /House[0] to 1
+#11 moved /House[1] to 1
+#12 add = 3
+",
+    places: b"place / 2
+place /House[0] 1
+place /House[1] 1
+place /House[2] 2
+",
+    last: b"done 12\n",
+};
+
+/// The one event of a batch creates others, which workers share.
+const CREATED_BY_ONE: Staged = Staged {
+    service: MILL,
+    script: b"hosts 2
+request grind(1,2)
+settle
+balance by 1
+request grind(2,1)
+settle
+drain 0 to 1
+request turn(1)
+",
+    status: 0,
+    lines: b"#1 grind = 1
+#1 made #2
+#1 made #3
+#2 turn = 11
+#3 turn = 21
+#4 moved / to 1
+#5 grind = 1
+#5 made #6
+#6 turn = 11
+#7 moved /Stone[1] to 1
+#8 turn = 31
+",
+    places: b"place / 1
+place /Stone[1] 1
+place /Stone[2] 1
+",
+    last: b"done 8\n",
+};
+
 // The lines of the events, the places or none, and the last line.
 fn listed(alloc: Global, staged: &Staged, places: &[u8]) -> Result<Vec<u8>, OutOfMemory> {
     let mut text = Vec::from_slice(alloc, staged.lines)?;
@@ -248,7 +387,7 @@ fn lists<R: Abort + Threads + Wait + Sync>(
     holds(rt, alloc, &row)
 }
 
-const STAGED: [Staged; 8] = [
+const STAGED: [Staged; 11] = [
     BALANCED,
     DRAINED,
     LOADED,
@@ -257,6 +396,9 @@ const STAGED: [Staged; 8] = [
     TRAPPED_LAST,
     CREATED,
     EMPTY,
+    SINGLE,
+    BY_TURNS,
+    CREATED_BY_ONE,
 ];
 
 #[test]
@@ -342,17 +484,20 @@ fn policies_are_refused_in_order(rt: HostRuntime) -> Result<(), Fail> {
     Ok(())
 }
 
-#[test]
-fn each_write_of_a_script_with_policies_fails(rt: HostRuntime) -> Result<(), Fail> {
-    let alloc = rt.alloc();
-    let input = joined(alloc, BALANCED.service, BALANCED.script)?;
-    let whole = listed(alloc, &BALANCED, BALANCED.places)?;
+// Each write of a listing of this script fails once: what was written before is a front of it, and longer than where the write before failed.
+fn each_write_fails<R: Abort + Threads + Wait + Sync>(
+    rt: &R,
+    alloc: Global,
+    staged: &Staged,
+) -> Result<(), OutOfMemory> {
+    let input = joined(alloc, staged.service, staged.script)?;
+    let whole = listed(alloc, staged, staged.places)?;
     let note: &[u8] = b"WriteFault\n";
     for (_, words) in ENGINES {
         let mut written = 0;
         for failing_write in 1..(whole.len() as u64).div_ceil(16) + 1 {
             let (status, out, notes) = broken(
-                &rt,
+                rt,
                 alloc,
                 words,
                 input.as_slice(),
@@ -365,6 +510,17 @@ fn each_write_of_a_script_with_policies_fails(rt: HostRuntime) -> Result<(), Fai
             assert!(rt; failing_write == 1 || out.bytes().len() > written);
             written = out.bytes().len();
         }
+    }
+    Ok(())
+}
+
+const WRITTEN: [Staged; 2] = [BALANCED, BY_TURNS];
+
+#[test]
+fn each_write_of_a_script_with_policies_fails(rt: HostRuntime) -> Result<(), Fail> {
+    let alloc = rt.alloc();
+    for staged in &WRITTEN {
+        each_write_fails(&rt, alloc, staged)?;
     }
     Ok(())
 }

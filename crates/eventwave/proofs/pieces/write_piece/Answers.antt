@@ -7,7 +7,7 @@ use Rattle.wave_io.specs.Streams.{AppendsFront}
 use Rattle.listing_out.proofs.SinkLemmas.{on_err}
 use Rattle.due_parts.specs.Told.{any_trap}
 use Rattle.eventwave.proofs.StageLemmas.{told_lines, trap_test}
-use Rattle.eventwave.proofs.staged.write_piece.Goals as goal
+use Rattle.eventwave.proofs.pieces.write_piece.Goals as goal
 
 -- what is written of it
 abbrev written : Told → Finished

@@ -4,7 +4,7 @@ use Rattle.wave_base.specs.declared.finished.Finished.{Finished}
 use Rattle.elastic_policy.specs.Stages.{MayFollow, staged_after}
 use Rattle.due_parts.specs.Told.{any_trap}
 use Rattle.eventwave.proofs.StageLemmas.{trap_test}
-use Rattle.eventwave.proofs.staged.go_on.Goals as goal
+use Rattle.eventwave.proofs.pieces.go_on.Goals as goal
 
 pub after-requires-clause-follows : goal.after-requires-clause-follows
 after-requires-clause-follows c = subst (MayFollow c.args.stages.now) (sym c.requires.made.made.done) c.requires.follows

@@ -1,7 +1,7 @@
 use Rattle.std.proofs.Common.{rules, ◌≡◌, ◌∙◌, ap}
 use Rattle.due_parts.specs.Runs.{nearest_workers}
 use Rattle.due_answer.specs.Tasks.{workers_of}
-use Rattle.eventwave.proofs.staged.piece_plan.Goals as goal
+use Rattle.eventwave.proofs.pieces.piece_plan.Goals as goal
 
 pub returns : goal.returns
 returns c =

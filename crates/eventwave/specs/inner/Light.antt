@@ -1,0 +1,38 @@
+-- Pieces of a script that only one worker could ever run at a time.
+use Rattle.std.specs.Prelude.{ℕ, Bool, true, false, not, ◌&&◌, ◌||◌, nat_le, List, count_by}
+use Rattle.std.specs.List.{list_any, list_all}
+use Rattle.wave_base.specs.declared.script.Line.{Line}
+use Rattle.wave_base.specs.declared.script.Line.TheVariants.{Move}
+use Rattle.service_code.specs.declared.instr.Instr.{Instr}
+use Rattle.service_code.specs.declared.instr.Instr.TheVariants.{Spawn}
+use Rattle.service_code.specs.declared.program.Program.{Program}
+use Rattle.wave_effects.specs.Loops.{has_loops}
+use Rattle.plan_actors.specs.Plans.{Plan}
+
+-- an instruction creates an event
+abbrev pub is_spawn : Instr → Bool
+is_spawn (Spawn event) = true
+is_spawn _ = false
+
+-- some instruction does
+abbrev pub has_spawn : List Instr → Bool
+has_spawn code = list_any is_spawn code
+
+-- some instruction of some function does
+abbrev pub has_spawns : Program → Bool
+has_spawns program = list_any (λ f. has_spawn f.code) program.functions
+
+abbrev pub is_no_move : Line → Bool
+is_no_move (Move path to) = false
+is_no_move _ = true
+
+-- a batch has one line at most that is no move
+abbrev pub is_single : List Line → Bool
+is_single batch = nat_le (count_by is_no_move batch) 1
+
+abbrev pub are_single : List (List Line) → Bool
+are_single batches = list_all is_single batches
+
+-- No gate may hold a worker; and no segment takes long, so that no other worker is called, or no batch has two events and none creates another.
+abbrev pub is_light : Bool → Plan → Bool
+is_light may_hold plan = not may_hold && (not (has_loops plan.program) || (are_single plan.script.batches && not (has_spawns plan.program)))
