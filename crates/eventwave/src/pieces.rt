@@ -1,4 +1,4 @@
-//! A piece of a script with policies, run and listed: by the evaluator, by a drive, or by workers.
+//! A piece of a script with policies, run and listed: on one tree of contexts, by a drive of the machine, or by workers.
 
 ghost use Rattle.std.specs.Prelude.{◌≡◌, ◌≤◌, ◌-◌, ◌^◌, ℕ, length, false, true, IfOk, IsErrOf, OnErr, OnOk};
 ghost use Rattle.std.specs.Io.KnownBytes.{Appends};

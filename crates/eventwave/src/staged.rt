@@ -5,15 +5,14 @@ ghost use Rattle.std.specs.Prelude.{◌≡◌, ◌≤◌, option_copied, true, f
 ghost use Rattle.std.specs.Io.KnownBytes.{Appends};
 ghost use Rattle.wave_io.specs.Causes.{Rose};
 ghost use Rattle.wave_io.specs.Streams.{AppendsFront};
-ghost use Rattle.due_stages.specs.Accepted.{CanStage};
 ghost use Rattle.due_stages.specs.Listed.{end_from, placed};
 ghost use Rattle.eventwave.specs.inner.Parts.{SomeGave};
-ghost use Rattle.eventwave.specs.inner.Stages.{IsStagedBy, elastic_of, listing_of};
+ghost use Rattle.eventwave.specs.inner.Stages.{IsStagedBy, listing_of};
 
 use crate::ending::{Ending, broken_off};
 use crate::pieces::piece_plan;
 use crate::team::Team;
-use crate::way::{Alone, Together, Way};
+use crate::way::{run_piece_alone, run_piece_together};
 use command_words::Places;
 use due_answer::Engine;
 use due_stages::{StagedWork, pieces_are_listed};
@@ -37,8 +36,7 @@ pub fn stage_alone<K: Sink>(
     ensures gave { SomeGave (λ a. a ≡ listing_of work places) (K.written out.old) (K.written out.new) result }
     ensures fault { result ≡ Ending.WriteFault → Rose (K.faults out.old) (K.faults out.new) }
 {
-    let way = Alone { alloc, engine };
-    match list_pieces(alloc, &way, engine, places, work, out) {
+    match list_alone(alloc, engine, places, work, out) {
         Ok(status) => Ending::Answered(status, Seq::new(alloc)),
         Err(error) => broken_off(error),
     }
@@ -56,25 +54,21 @@ pub fn stage_together<R: Threads + Wait + Sync, K: Sink + Send, G: Gate + Sync>(
     ensures gave { SomeGave (λ a. a ≡ listing_of work places) (K.written out.old) (K.written out.new) result }
     ensures fault { result ≡ Ending.WriteFault → Rose (K.faults out.old) (K.faults out.new) }
 {
-    let way = Together { team, engine };
-    match list_pieces(team.alloc, &way, engine, places, work, out) {
+    match list_together(team, engine, places, work, out) {
         Ok(status) => Ending::Answered(status, Seq::new(team.alloc)),
         Err(error) => broken_off(error),
     }
 }
 
-// The pieces, one after the other, each from where the one before ended, and what ends the listing. It gives the status.
-fn list_pieces<K: Sink, W: Way<K>>(
+// The pieces, one after the other, on this thread, and what ends the listing. It gives the status.
+fn list_alone<K: Sink>(
     alloc: Global,
-    way: &W,
     engine: Engine,
     places: Places,
     work: StagedWork,
     out: &mut K,
 ) -> Result<u8, ListError>
-    requires sound { W.sound way.now }
-    requires engine { W.engine way.now ≡ engine }
-    requires can { CanStage (elastic_of work.stages) work }
+    requires { IsStagedBy false places engine work }
     ensures status { IfOk result (λ status. status ≡ (listing_of work places).status) }
     ensures lines { OnOk result (Appends (K.written out.old) (K.written out.new) (listing_of work places).text) }
     ensures front { OnErr result (AppendsFront (K.written out.old) (K.written out.new) (listing_of work places).text) }
@@ -90,13 +84,53 @@ fn list_pieces<K: Sink, W: Way<K>>(
     let mut trapped = false;
     while let Some(script) = stages.next(alloc)? {
         let plan = piece_plan(code, script, engine);
-        let behind = way.run_piece(&service, plan, stages, out)?;
+        let behind = run_piece_alone(alloc, engine, &service, plan, stages, out)?;
         trapped |= behind.trapped;
         code = behind.program;
         stages = behind.stages;
     }
     let stages = stages.kept(alloc)?;
     write_behind(alloc, places, &code.program().shape, stages.start(), out)?;
+    Ok(u8::from(trapped))
+}
+
+// The same by workers.
+fn list_together<R: Threads + Wait + Sync, K: Sink + Send, G: Gate + Sync>(
+    team: &Team<R, G>,
+    engine: Engine,
+    places: Places,
+    work: StagedWork,
+    out: &mut K,
+) -> Result<u8, ListError>
+    requires { IsStagedBy true places engine work }
+    ensures status { IfOk result (λ status. status ≡ (listing_of work places).status) }
+    ensures lines { OnOk result (Appends (K.written out.old) (K.written out.new) (listing_of work places).text) }
+    ensures front { OnErr result (AppendsFront (K.written out.old) (K.written out.new) (listing_of work places).text) }
+    ensures fault { IsErrOf result ListError.WriteFault → Rose (K.faults out.old) (K.faults out.new) }
+{
+    pieces_are_listed();
+    let StagedWork {
+        service,
+        program: mut code,
+        stages,
+    } = work;
+    let mut stages = Progress::Kept(stages);
+    let mut trapped = false;
+    while let Some(script) = stages.next(team.alloc)? {
+        let plan = piece_plan(code, script, engine);
+        let behind = run_piece_together(team, engine, &service, plan, stages, out)?;
+        trapped |= behind.trapped;
+        code = behind.program;
+        stages = behind.stages;
+    }
+    let stages = stages.kept(team.alloc)?;
+    write_behind(
+        team.alloc,
+        places,
+        &code.program().shape,
+        stages.start(),
+        out,
+    )?;
     Ok(u8::from(trapped))
 }
 

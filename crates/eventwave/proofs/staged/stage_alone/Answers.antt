@@ -4,11 +4,7 @@ use Rattle.eventwave.specs.declared.ending.Ending.TheVariants.{Answered}
 use Rattle.eventwave.specs.inner.Parts.{SomeGave, broken_off}
 use Rattle.eventwave.specs.inner.Stages.{listing_of}
 use Rattle.eventwave.proofs.GivingLemmas.{broken_gave, broken_write, gives_it}
-use Rattle.eventwave.proofs.TaskLemmas.{stages_run}
 use Rattle.eventwave.proofs.staged.stage_alone.Goals as goal
-
-pub list_pieces-requires-clause-sound : goal.list_pieces-requires-clause-sound
-list_pieces-requires-clause-sound g c = stages_run c.requires.command _ c.args.places c.args.engine c.requires.who c.requires.asked
 
 pub returns-in-Ok-clause-gave : goal.returns-in-Ok-clause-gave
 returns-in-Ok-clause-gave g c =

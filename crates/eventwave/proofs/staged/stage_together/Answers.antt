@@ -1,15 +1,10 @@
 use Rattle.std.proofs.Common.{◌≡◌, ◌∙◌, Err, ap, refl, subst, sym}
 use Rattle.due_parts.specs.declared.answer.Answer.{Answer}
 use Rattle.eventwave.specs.declared.ending.Ending.TheVariants.{Answered}
-use Rattle.eventwave.specs.inner.Engines.{is_alone}
 use Rattle.eventwave.specs.inner.Parts.{SomeGave, broken_off}
 use Rattle.eventwave.specs.inner.Stages.{listing_of}
 use Rattle.eventwave.proofs.GivingLemmas.{broken_gave, broken_write, gives_it}
-use Rattle.eventwave.proofs.TaskLemmas.{stages_run}
 use Rattle.eventwave.proofs.staged.stage_together.Goals as goal
-
-pub list_pieces-requires-clause-sound : goal.list_pieces-requires-clause-sound
-list_pieces-requires-clause-sound g c = ap is_alone (stages_run c.requires.command _ c.args.places c.args.engine c.requires.who c.requires.asked)
 
 pub returns-in-Ok-clause-gave : goal.returns-in-Ok-clause-gave
 returns-in-Ok-clause-gave g c =

@@ -2,7 +2,7 @@ use Rattle.std.proofs.Common.{◌≤◌}
 use Rattle.elastic_policy.specs.Progress.{come_to}
 use Rattle.due_stages.specs.Listed.{turns_left}
 use Rattle.eventwave.proofs.StageLemmas.{HasCome}
-use Rattle.eventwave.proofs.staged.list_pieces.Given as goal
+use Rattle.eventwave.proofs.staged.list_alone.Given as goal
 
 abbrev pub invariant-loop-stages : goal.invariant-loop-stages
 invariant-loop-stages g l = record {

@@ -3,11 +3,9 @@ use Rattle.wave_effects.specs.Plans.{plan_of}
 use Rattle.elastic_policy.specs.Progress.{come_to}
 use Rattle.elastic_policy.specs.Stages.{Staged}
 use Rattle.listing_out.proofs.SinkLemmas.{on_err}
-use Rattle.due_answer.specs.declared.task.Engine.{Engine}
-use Rattle.due_answer.specs.Tasks.{workers_of}
-use Rattle.due_parts.specs.Runs.{nearest_workers}
 use Rattle.eventwave.proofs.StageLemmas.{can_run, come_front, end_front, end_status, end_whole, fewer_turns, has_begun, has_come, its_workers, next_piece, piece_front, some_ticket, status_is}
-use Rattle.eventwave.proofs.staged.list_pieces.Goals as goal
+use Rattle.eventwave.proofs.TaskLemmas.{stages_run}
+use Rattle.eventwave.proofs.staged.list_alone.Goals as goal
 
 pub loop-stages-init : goal.loop-stages-init
 loop-stages-init g c = record {
@@ -22,18 +20,20 @@ pub returns-in_err-script-clause-front : goal.returns-in_err-script-clause-front
 returns-in_err-script-clause-front g c =
     on_err c.from_residual.result (come_front _ _ _ _ _ _ c.args.places c.pieces_are_listed.ensures.front c.loop-stages.invariant.come)
 
-pub run_piece-requires-clause-can : goal.run_piece-requires-clause-can
-run_piece-requires-clause-can g c =
+pub run_piece_alone-requires-clause-can : goal.run_piece_alone-requires-clause-can
+run_piece_alone-requires-clause-can g c =
     let come = c.loop-stages.invariant.come in
     let piece = next_piece _ _ _ _ _ _ come c.in-Some.script _ c.pieces_are_listed.ensures.piece c.in_ok-script.ensures.piece c.in-Some.is in
     can_run _ _ _ _ _ _ come c.in-Some.script c.args.engine (plan_of c.piece_plan-plan.result) _ piece c.piece_plan-plan.ensures c.in_ok-script.ensures.left c.in_ok-script.ensures.staged
 
-pub run_piece-requires-clause-workers : goal.run_piece-requires-clause-workers
-run_piece-requires-clause-workers g c =
+pub run_piece_alone-requires-clause-alone : goal.run_piece_alone-requires-clause-alone
+run_piece_alone-requires-clause-alone g c = stages_run c.requires.command _ c.args.places c.args.engine c.requires.who c.requires.asked
+
+pub run_piece_alone-requires-clause-workers : goal.run_piece_alone-requires-clause-workers
+run_piece_alone-requires-clause-workers g c =
     let come = c.loop-stages.invariant.come in
     let piece = next_piece _ _ _ _ _ _ come c.in-Some.script _ c.pieces_are_listed.ensures.piece c.in_ok-script.ensures.piece c.in-Some.is in
     its_workers _ _ _ _ _ _ come c.in-Some.script c.args.engine (plan_of c.piece_plan-plan.result) _ piece c.piece_plan-plan.ensures c.in_ok-script.ensures.left
-    ∙ ap (λ (e : Engine). nearest_workers (workers_of e)) (sym c.requires.engine)
 
 pub returns-in_err-behind-clause-front : goal.returns-in_err-behind-clause-front
 returns-in_err-behind-clause-front g c =
@@ -48,7 +48,7 @@ loop-stages-preserved g c =
     let b = c.in_ok-behind.ensures.behind in
     record {
       come = has_come _ _ _ _ _ _ come c.in-Some.script c.args.engine (plan_of c.piece_plan-plan.result) _ piece c.piece_plan-plan.ensures c.in_ok-script.ensures.left _ (come_to c.next.new.self).start _ _ _ b.program refl b.after b.staged b.trapped c.in_ok-behind.ensures.lines;
-      later = omega (arith, c.loop-stages.invariant.later, c.run_piece.ensures.later);
+      later = omega (arith, c.loop-stages.invariant.later, c.run_piece_alone.ensures.later);
     }
 
 pub loop-stages-smaller : goal.loop-stages-smaller
