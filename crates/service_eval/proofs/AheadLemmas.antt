@@ -2,12 +2,10 @@
 use Rattle.std.proofs.Common.{◌≡◌, ◌≤◌, ℕ, true, false, List, ◌∷◌, ◌++◌, Option, Some, None, Bool, Result, Ok, Err, Bor, IfOk, IfErr, refl, sym, ap, subst, ◌∙◌, arith}
 use Rattle.wave_base.specs.declared.limits.TheConstants.{TICKS}
 use Rattle.wave_base.specs.declared.path.Path.{Path}
-use Rattle.wave_base.specs.declared.shape.Shape.{Shape}
 use Rattle.wave_base.specs.declared.span.Span.{Span}
 use Rattle.wave_base.specs.declared.value.Value.{Value}
 use Rattle.wave_base.specs.Shapes.{class_of}
 use Rattle.context_tree.specs.Contexts.{Contexts}
-use Rattle.resolved_service.specs.declared.service.Method.{Method}
 use Rattle.resolved_service.specs.declared.stmt.Stmt.{Stmt}
 use Rattle.resolved_service.specs.Fits.{FitsSteps}
 use Rattle.resolved_service.specs.Meaning.{State, Outcome, Done, Trapped, Left, Act, and_then, give, choose, value, effect, effects, else_effect, called}
@@ -24,7 +22,7 @@ use Rattle.service_eval.specs.inner.Turns.{mach, Does, AtOnce, GoesTo}
 use Rattle.service_eval.specs.Worlds.{Holds}
 use Rattle.service_eval.specs.inner.Traces.{Traps}
 use Rattle.service_eval.specs.inner.Ahead.{Advances, AdvancesBy, StopsIn, Stands, Chooses}
-use Rattle.service_eval.specs.inner.Weight.{steps_weight, load}
+use Rattle.service_eval.specs.inner.Weight.{load}
 use Rattle.service_eval.proofs.ElseLemmas.{fits_else, else_weighs, else_is}
 use Rattle.service_eval.proofs.FinishTurns.{goes_from}
 use Rattle.service_eval.proofs.Outcomes.{traps_then, fails_through}

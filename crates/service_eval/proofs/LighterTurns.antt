@@ -8,13 +8,13 @@ use Rattle.resolved_service.specs.declared.service.Last.{Last}
 use Rattle.resolved_service.specs.declared.service.Method.{Method}
 use Rattle.resolved_service.specs.Meaning.{State}
 use Rattle.resolved_service.specs.Steps as s
-use Rattle.resolved_service.specs.Steps.{Step, Steps, step, Else, steps_in}
+use Rattle.resolved_service.specs.Steps.{Step, Steps, step, Else}
 use Rattle.resolved_service.specs.View.{Tree, Trees, no_trees, tree, Op, And, Or, Call as CallOf, Child as ChildOf}
 use Rattle.service_eval.specs.declared.work.Caller.{Caller}
 use Rattle.service_eval.specs.inner.Items as i
 use Rattle.service_eval.specs.inner.Items.{Item, Eval, Evals, Apply, AndThen, OrElse, Invoke, Child, Block, Begin, Finish, Turns, Check, Counts, Again, Return, End, Branch, else_steps, return_of, to_return}
 use Rattle.service_eval.specs.inner.Machines.{Mach, on_top, with_value, cut_to, in_state, back_to, started, with_last}
-use Rattle.service_eval.specs.inner.Weight.{tree_weight, step_weight, steps_weight, item_weight, items_weight, last_weight, methods_weight, load}
+use Rattle.service_eval.specs.inner.Weight.{tree_weight, step_weight, item_weight, items_weight, last_weight, methods_weight, load}
 use Rattle.service_eval.proofs.ElseLemmas.{else_weighs}
 use Rattle.service_eval.proofs.WeightLemmas.{tree_weighs, items_less, lighter, no_heavier, lighter_ticked, method_weighs, turn_weighs}
 

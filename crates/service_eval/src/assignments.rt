@@ -6,7 +6,7 @@ ghost use Rattle.resolved_service.specs.Meaning.{value, called};
 ghost use Rattle.resolved_service.specs.Steps.{step_of};
 ghost use Rattle.resolved_service.specs.View.{tree_of};
 ghost use Rattle.service_eval.specs.declared.assignments.Assignment.TheVariants as assignment;
-ghost use Rattle.service_eval.specs.inner.Answers.{told, FindsTwo};
+ghost use Rattle.service_eval.specs.inner.Answers.{told, Finds, FindsTwo};
 ghost use Rattle.service_eval.specs.inner.Wants.{WhereWanting, MayWantToFind, MayWantAtOnce};
 ghost use Rattle.service_eval.specs.inner.Changes.{step_in, IsOther};
 ghost use Rattle.service_eval.specs.inner.Items as i;
@@ -19,7 +19,9 @@ use crate::changes::{change, set_variable};
 use crate::code::Code;
 use crate::edits::Edit;
 use crate::eval::found;
+use crate::look::View;
 use crate::machine::Machine;
+use crate::plain::number;
 use crate::stop::Stop;
 use crate::work::{StatementEnd, Variable, Work};
 use context_tree::Tree;
@@ -139,15 +141,56 @@ fn cut(
     ensures does { AtOnce code.entry contexts.old m.old (step_in at (assignment.Cut variable key.entry)) result contexts.new m.new }
     ensures memory { WhereWanting result (MayWantAtOnce code.entry contexts.old m.old (step_in at (assignment.Cut variable key.entry))) }
 {
-    match found(code, contexts, m, key) {
+    match found_key(code, contexts, m, key) {
         Ok(Some(key)) => told(change(code, contexts, m, at, variable, &mut Edit::Cut(key))),
         Ok(None) => Ok(false),
         Err(e) => Err(e),
     }
 }
 
-// The values of two expressions, where no call is met.
+// The key of a map, where no call is met: an int, if it is any.
+#[inline(always)]
+fn found_key(
+    code: Code<'_>,
+    contexts: &Tree,
+    m: &Machine<'_>,
+    key: &Expr,
+) -> Result<Option<Value>, Stop>
+    ensures finds { Finds (value (called code.entry.methods.now TICKS) m.now.path (tree_of key.now) (state_of (shown code.entry.shape.now contexts.now) m.now)) (state_of (shown code.entry.shape.now contexts.now) m.now) result }
+    ensures memory { WhereWanting result (MayWantToFind code.entry contexts.now m.now (tree_of key.now)) }
+{
+    let view = View { code, contexts, m };
+    match number(&view, key) {
+        Some(n) => Ok(Some(Value::Int(n))),
+        None => found(code, contexts, m, key),
+    }
+}
+
+// The values of two expressions, where no call is met: mostly two ints.
+#[inline(always)]
 fn found_two(
+    code: Code<'_>,
+    contexts: &Tree,
+    m: &Machine<'_>,
+    a: &Expr,
+    b: &Expr,
+) -> Result<Option<(Value, Value)>, Stop>
+    ensures finds { FindsTwo (value (called code.entry.methods.now TICKS) m.now.path (tree_of a.now) (state_of (shown code.entry.shape.now contexts.now) m.now)) (value (called code.entry.methods.now TICKS) m.now.path (tree_of b.now)) (state_of (shown code.entry.shape.now contexts.now) m.now) result }
+    ensures memory { WhereWanting result (MayWantToFind code.entry contexts.now m.now (tree_of a.now) ⊎ MayWantToFind code.entry contexts.now m.now (tree_of b.now)) }
+{
+    let view = View { code, contexts, m };
+    match number(&view, a) {
+        Some(first) => match number(&view, b) {
+            Some(second) => Ok(Some((Value::Int(first), Value::Int(second)))),
+            None => found_any_two(code, contexts, m, a, b),
+        },
+        None => found_any_two(code, contexts, m, a, b),
+    }
+}
+
+// The same, for whatever values.
+#[inline(never)]
+fn found_any_two(
     code: Code<'_>,
     contexts: &Tree,
     m: &Machine<'_>,
