@@ -1,6 +1,6 @@
 -- A piece of a script with policies, by whatever runs it.
-use Rattle.std.proofs.Common.{◌≡◌, ◌∙◌, ◌≤◌, ◌-◌, ◌^◌, arith, Bool, true, false, List, ℕ, length, Option, ap, refl, sym, subst}
-use Rattle.std.specs.Io.KnownBytes.{Appends}
+use Rattle.std.proofs.Common.{◌≡◌, ◌∙◌, ◌≤◌, ◌-◌, ◌^◌, arith, Bool, false, List, ℕ, length, Option, ap, refl, sym, subst}
+use Rattle.std.proofs.KnownBytes.{Appends-nil}
 use Rattle.std.specs.List.Sorted.{IsStrictlySortedBy}
 use Rattle.std.specs.Prelude.{map}
 use Rattle.wave_base.specs.declared.finished.Finished.{Finished}
@@ -11,6 +11,7 @@ use Rattle.wave_base.specs.declared.start.Start.{Start}
 use Rattle.wave_base.specs.Paths.{path_cmp}
 use Rattle.wave_base.specs.Scripts.{IsScript}
 use Rattle.wave_base.specs.Starts.{IsStart}
+use Rattle.wave_io.specs.Streams.{AppendsFront}
 use Rattle.resolved_service.specs.declared.service.Resolved.{Resolved}
 use Rattle.script_fold.specs.Lines.{Meaning}
 use Rattle.script_fold.specs.Runs.{finished_of}
@@ -28,6 +29,10 @@ use Rattle.eventwave.specs.declared.made.Made.{Made}
 use Rattle.eventwave.specs.inner.Engines.{CanMake, IsMade, given_by, is_alone}
 use Rattle.eventwave.specs.inner.Stages.{CanRunPiece, IsBehind, IsPieceMade}
 use Rattle.eventwave.proofs.MadeLemmas.{evaluated, lines_by}
+
+-- before anything was written
+pub nothing_yet : (out : Option (List ℕ)) (bytes : List ℕ) → AppendsFront out out bytes
+nothing_yet out bytes = (0, Appends-nil out)
 
 -- an engine that doesn't run on the thread of the caller is a number of workers
 pub crewed : (engine : Engine) → is_alone engine ≡ false → Workers (workers_of engine) ≡ engine

@@ -1,5 +1,5 @@
 -- A script with policies that is run and listed piece by piece: what was written is a front of its listing, and in the end all of it.
-use Rattle.std.proofs.Common.{◌≡◌, ◌∙◌, ℕ, ◌+◌, ◌-◌, ◌^◌, arith, ◌≤◌, ◌<◌, Bool, true, false, List, [], ◌∷◌, ◌++◌, length, Option, Some, None, ap, refl, sym, subst}
+use Rattle.std.proofs.Common.{◌≡◌, ◌∙◌, ℕ, ◌+◌, ◌≤◌, ◌<◌, Bool, true, false, List, [], ◌∷◌, ◌++◌, Option, Some, None, ap, refl, sym, subst}
 use Rattle.std.specs.Prelude.{◌||◌, ◌==◌, if◌then◌else◌, take}
 use mir.Val.{bool_byte as from_bool}
 use Rattle.std.specs.Io.KnownBytes.{Appends}
@@ -20,7 +20,7 @@ use Rattle.plan_actors.specs.Plans.{Plan}
 use Rattle.listing_out.specs.Listing.{lines_from, shown_from}
 use Rattle.script_reader.specs.declared.elastic.Elastic.{Elastic}
 use Rattle.command_words.specs.declared.command.Places.{Places}
-use Rattle.elastic_policy.specs.Stages.{Staged, IsStaged, MayFollow, first_staged, passed, piece_of, staged_after}
+use Rattle.elastic_policy.specs.Stages.{Staged, IsStaged, MayFollow, passed, piece_of, staged_after}
 use Rattle.due_parts.specs.declared.answer.Answer.{Answer}
 use Rattle.due_parts.specs.Told.{any_trap}
 use Rattle.due_parts.specs.Runs.{nearest_workers}

@@ -76,17 +76,17 @@ pub fn evaluate_piece<K: Sink>(
     ensures later { K.faults out.old ≤ K.faults out.new }
 {
     let Plan {
-        program,
+        program: code,
         script,
         workers: _,
     } = plan;
     let runner = Evaluator {
-        shape: &program.program().shape,
+        shape: &code.program().shape,
         service,
     };
-    let (stages, trapped) = live_piece(alloc, &runner, &program, script, stages, out)?;
+    let (stages, trapped) = live_piece(alloc, &runner, &code, script, stages, out)?;
     Ok(Behind {
-        program,
+        program: code,
         stages: Progress::Live(stages),
         trapped,
     })
@@ -108,17 +108,17 @@ pub fn code_piece<K: Sink>(
     ensures later { K.faults out.old ≤ K.faults out.new }
 {
     let Plan {
-        program,
+        program: code,
         script,
         workers: _,
     } = plan;
     let runner = CodeRunner {
-        program: &program,
+        program: &code,
         service,
     };
-    let (stages, trapped) = live_piece(alloc, &runner, &program, script, stages, out)?;
+    let (stages, trapped) = live_piece(alloc, &runner, &code, script, stages, out)?;
     Ok(Behind {
-        program,
+        program: code,
         stages: Progress::Live(stages),
         trapped,
     })

@@ -3,8 +3,11 @@ use Rattle.std.specs.Io.KnownBytes.{Appends}
 use Rattle.wave_io.specs.Streams.{AppendsFront}
 use Rattle.wave_effects.specs.Plans.{plan_of}
 use Rattle.listing_out.proofs.SinkLemmas.{on_err}
-use Rattle.eventwave.proofs.PieceLemmas.{kept_behind, kept_can, kept_follows, kept_lines, kept_made, kept_staged}
+use Rattle.eventwave.proofs.PieceLemmas.{kept_behind, kept_can, kept_follows, kept_lines, kept_made, kept_staged, nothing_yet}
 use Rattle.eventwave.proofs.pieces.drive_piece.Goals as goal
+
+pub returns-in_err-stages-clause-front : goal.returns-in_err-stages-clause-front
+returns-in_err-stages-clause-front g c = on_err c.from_residual.result (nothing_yet (g.K.Sink.written c.args.out.now) _)
 
 pub run_alone-requires-clause-can : goal.run_alone-requires-clause-can
 run_alone-requires-clause-can g c = kept_can _ _ _ c.requires.can _ c.in_ok-stages.ensures c.start.result.now c.start.ensures

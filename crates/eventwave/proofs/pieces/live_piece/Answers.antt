@@ -4,8 +4,11 @@ use Rattle.wave_io.specs.Streams.{AppendsFront}
 use Rattle.service_code.specs.declared.program.Program.{Program}
 use Rattle.script_fold.specs.Runs.{finished_of}
 use Rattle.listing_out.proofs.SinkLemmas.{on_err}
-use Rattle.eventwave.proofs.PieceLemmas.{live_after, live_few, live_follows, live_lines, live_script, live_start, live_ticket, live_traps, shots_ordered}
+use Rattle.eventwave.proofs.PieceLemmas.{live_after, live_few, live_follows, live_lines, live_script, live_start, live_ticket, live_traps, nothing_yet, shots_ordered}
 use Rattle.eventwave.proofs.pieces.live_piece.Goals as goal
+
+pub returns-in_err-stages-clause-front : goal.returns-in_err-stages-clause-front
+returns-in_err-stages-clause-front g c = on_err c.from_residual.result (nothing_yet (g.K.Sink.written c.args.out.now) _)
 
 pub live-requires-clause-staged : goal.live-requires-clause-staged
 live-requires-clause-staged g c = c.requires.can.3.staged

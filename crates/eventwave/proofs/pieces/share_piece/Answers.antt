@@ -6,8 +6,11 @@ use Rattle.listing_out.proofs.SinkLemmas.{on_err}
 use Rattle.due_answer.specs.declared.task.Engine.{Engine}
 use Rattle.due_answer.specs.Tasks.{workers_of}
 use Rattle.eventwave.specs.inner.Engines.{IsMade}
-use Rattle.eventwave.proofs.PieceLemmas.{crewed, kept_behind, kept_can, kept_follows, kept_lines, kept_made, kept_staged}
+use Rattle.eventwave.proofs.PieceLemmas.{crewed, kept_behind, kept_can, kept_follows, kept_lines, kept_made, kept_staged, nothing_yet}
 use Rattle.eventwave.proofs.pieces.share_piece.Goals as goal
+
+pub returns-in_err-stages-clause-front : goal.returns-in_err-stages-clause-front
+returns-in_err-stages-clause-front g c = on_err c.from_residual.result (nothing_yet (g.K.Sink.written c.args.out.now) _)
 
 pub run_together-requires-clause-fits : goal.run_together-requires-clause-fits
 run_together-requires-clause-fits g c κs within = c.requires.can.1.can.fits

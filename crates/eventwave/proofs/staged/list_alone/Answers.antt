@@ -1,4 +1,4 @@
-use Rattle.std.proofs.Common.{◌≡◌, ◌∙◌, ap, arith, refl, sym}
+use Rattle.std.proofs.Common.{◌∙◌, ap, arith, refl, sym}
 use Rattle.wave_effects.specs.Plans.{plan_of}
 use Rattle.elastic_policy.specs.Progress.{come_to}
 use Rattle.elastic_policy.specs.Stages.{Staged}

@@ -1,4 +1,4 @@
-use Rattle.std.proofs.Common.{◌≡◌, ◌∙◌, ap, arith, refl, sym}
+use Rattle.std.proofs.Common.{◌∙◌, ap, arith, refl, sym}
 use Rattle.wave_effects.specs.Plans.{plan_of}
 use Rattle.elastic_policy.specs.Progress.{come_to}
 use Rattle.elastic_policy.specs.Stages.{Staged}
@@ -22,16 +22,16 @@ returns-in_err-script-clause-front g c =
     on_err c.from_residual.result (come_front _ _ _ _ _ _ c.args.places c.pieces_are_listed.ensures.front c.loop-stages.invariant.come)
 
 pub run_piece_together-requires-clause-can : goal.run_piece_together-requires-clause-can
-run_piece_together-requires-clause-can g c =
+run_piece_together-requires-clause-can g c κs within =
     let come = c.loop-stages.invariant.come in
     let piece = next_piece _ _ _ _ _ _ come c.in-Some.script _ c.pieces_are_listed.ensures.piece c.in_ok-script.ensures.piece c.in-Some.is in
     can_run _ _ _ _ _ _ come c.in-Some.script c.args.engine (plan_of c.piece_plan-plan.result) _ piece c.piece_plan-plan.ensures c.in_ok-script.ensures.left c.in_ok-script.ensures.staged
 
 pub run_piece_together-requires-clause-crewed : goal.run_piece_together-requires-clause-crewed
-run_piece_together-requires-clause-crewed g c = ap is_alone (stages_run c.requires.command _ c.args.places c.args.engine c.requires.who c.requires.asked)
+run_piece_together-requires-clause-crewed g c κs within = ap is_alone (stages_run c.requires.command _ c.args.places c.args.engine c.requires.who c.requires.asked)
 
 pub run_piece_together-requires-clause-workers : goal.run_piece_together-requires-clause-workers
-run_piece_together-requires-clause-workers g c =
+run_piece_together-requires-clause-workers g c κs within =
     let come = c.loop-stages.invariant.come in
     let piece = next_piece _ _ _ _ _ _ come c.in-Some.script _ c.pieces_are_listed.ensures.piece c.in_ok-script.ensures.piece c.in-Some.is in
     its_workers _ _ _ _ _ _ come c.in-Some.script c.args.engine (plan_of c.piece_plan-plan.result) _ piece c.piece_plan-plan.ensures c.in_ok-script.ensures.left
