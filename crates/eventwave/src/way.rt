@@ -10,6 +10,7 @@ ghost use Rattle.elastic_policy.specs.Progress.{come_to};
 ghost use Rattle.due_parts.specs.Runs.{nearest_workers};
 ghost use Rattle.due_answer.specs.Tasks.{workers_of};
 ghost use Rattle.eventwave.specs.inner.Engines.{is_alone};
+ghost use Rattle.eventwave.specs.inner.Light.{has_begun};
 ghost use Rattle.eventwave.specs.inner.Stages.{CanRunPiece, IsBehind};
 
 use crate::light::is_light;
@@ -49,7 +50,7 @@ pub fn run_piece_alone<K: Sink>(
     }
 }
 
-/// The same by workers; but a light piece by its code on this thread.
+/// The same by workers; but a light piece by its code on this thread, once a piece was run: a script without policies, which is one piece, is the workers'.
 pub fn run_piece_together<R: Threads + Wait + Sync, K: Sink + Send, G: Gate + Sync>(
     team: &Team<R, G>,
     engine: Engine,
@@ -67,9 +68,19 @@ pub fn run_piece_together<R: Threads + Wait + Sync, K: Sink + Send, G: Gate + Sy
     ensures fault { IsErrOf result ListError.WriteFault → Rose (K.faults out.old) (K.faults out.new) }
     ensures later { K.faults out.old ≤ K.faults out.new }
 {
-    if is_light(&plan, team.gate.may_hold()) {
+    if has_begun(&stages) && is_light(&plan, team.gate.may_hold()) {
         code_piece(team.alloc, service, plan, stages, out)
     } else {
         share_piece(team, engine, plan, stages, out)
+    }
+}
+
+// Whether a piece was run before that gave a ticket.
+fn has_begun(stages: &Progress) -> bool
+    ensures { result ≡ has_begun (come_to stages.now) }
+{
+    match stages {
+        Progress::Kept(stages) => stages.start().next.0 > 1,
+        Progress::Live(stages) => stages.first_ticket().0 > 1,
     }
 }

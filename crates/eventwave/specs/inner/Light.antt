@@ -1,5 +1,5 @@
 -- Pieces of a script that only one worker could ever run at a time.
-use Rattle.std.specs.Prelude.{Bool, true, false, not, ◌&&◌, ◌||◌, nat_le, List, count_by}
+use Rattle.std.specs.Prelude.{Bool, true, false, not, ◌&&◌, ◌||◌, nat_le, nat_lt, List, count_by}
 use Rattle.std.specs.List.{list_any, list_all}
 use Rattle.wave_base.specs.declared.script.Line.{Line}
 use Rattle.wave_base.specs.declared.script.Line.TheVariants.{Move}
@@ -8,6 +8,7 @@ use Rattle.service_code.specs.declared.instr.Instr.TheVariants.{Spawn}
 use Rattle.service_code.specs.declared.program.Program.{Program}
 use Rattle.wave_effects.specs.Loops.{has_loops}
 use Rattle.plan_actors.specs.Plans.{Plan}
+use Rattle.elastic_policy.specs.Stages.{Staged}
 
 -- an instruction creates an event
 abbrev pub is_spawn : Instr → Bool
@@ -36,3 +37,7 @@ are_single batches = list_all is_single batches
 -- No gate may hold a worker; and no segment takes long, so that no other worker is called, or no batch has two events and none creates another.
 abbrev pub is_light : Bool → Plan → Bool
 is_light may_hold plan = not may_hold && (not (has_loops plan.program) || (are_single plan.script.batches && not (has_spawns plan.program)))
+
+-- some piece gave a ticket before
+abbrev pub has_begun : Staged → Bool
+has_begun s = nat_lt 1 s.start.next.0
